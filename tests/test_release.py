@@ -119,6 +119,13 @@ def test_every_file_has_the_licenses_and_no_path_of_this_machine(releases):
         assert [name for name, data in files.items() if str(ROOT).encode() in data] == [], path.name
 
 
+def test_a_folder_with_other_files_is_left_alone(tmp_path):
+    (tmp_path / "letter").write_text("Dear")
+    ended = subprocess.run([sys.executable, ROOT / "release", tmp_path], capture_output=True, text=True)
+    assert (ended.returncode, ended.stderr) == (1, f"release: {tmp_path} has other files than those of a release\n")
+    assert (tmp_path / "letter").read_text() == "Dear"
+
+
 MODULE = types.ModuleType("release")
 MODULE.__file__ = str(ROOT / "release")
 exec((ROOT / "release").read_text(), MODULE.__dict__)
@@ -312,6 +319,14 @@ def test_the_report_of_the_readme(file, bare, tmp_path):
     examples = shown(part[1].split("`+` marks")[0]).splitlines()
     lines = iter((ended.stdout + ended.stderr).splitlines())
     assert len(examples) > 5 and [line for line in examples if line not in lines] == []
+
+
+@pytest.mark.parametrize("name, words", [("robots_audit", ["--version"]), ("robots_verdict", [])])
+def test_a_program_on_an_older_processor(name, words):
+    if not shutil.which("qemu-x86_64"):
+        pytest.skip("qemu-x86_64 is missing")
+    result = run(Path(shutil.which("qemu-x86_64")), ["-cpu", "Conroe", program(name), *words], b"a\n\n")
+    assert (result.status, result.out) == (127, "") and "this machine lacks a feature of x86-64-v2" in result.err
 
 
 def test_manual_pages_name_the_options_of_help():
