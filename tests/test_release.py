@@ -35,13 +35,16 @@ if MISSING:
 
 @pytest.fixture(scope="module")
 def releases(objects, tmp_path_factory):
-    """Two folders with the same release, made at once."""
+    """Two folders with the same release, made at once, the second one by a user with other settings."""
     crates = re.findall(r"^robots_audit: (.*)$", (ROOT / "crates.txt").read_text(), re.M)[0].split()
     for name, below in {"robots_audit": crates, "robots_verdict": ["robots_io", "texting_robots"]}.items():
         sources = [name, *(it for it in below if (CRATES / it).is_dir())]
         assert is_built(program(name), *sources), f"{name} is older than its sources: run `rt ci`, or `rt run` in its folder"
     folders = [tmp_path_factory.mktemp(name) for name in ("one", "another-folder")]
-    made = [subprocess.Popen([sys.executable, ROOT / "release", it], stdout=subprocess.PIPE, stderr=subprocess.STDOUT, text=True) for it in folders]
+    made = []
+    for folder, umask, settings in zip(folders, [0o022, 0o077], [{}, {"TZ": "Asia/Tokyo", "CFLAGS": "-O0", "LC_ALL": "C"}]):
+        words = [sys.executable, ROOT / "release", folder]
+        made.append(subprocess.Popen(words, stdout=subprocess.PIPE, stderr=subprocess.STDOUT, text=True, env=os.environ | settings, umask=umask))
     for it in made:
         out, _ = it.communicate(timeout=300)
         assert it.returncode == 0, out
