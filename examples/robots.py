@@ -8,6 +8,7 @@ The shared object is the one that ROBOTS_SO names, else librobots_c.so next to t
 import ctypes
 import os
 import threading
+import weakref
 from ctypes import POINTER, byref, c_char_p, c_int32, c_int64, c_size_t, c_uint64, c_void_p
 
 OK, NOT_UTF8, OUT_OF_MEMORY, BUFFER_TOO_SMALL, NO_DELAY, NO_ADDRESS, OVERLONG_RULE = range(0, -7, -1)
@@ -61,7 +62,8 @@ def check(status, line=0):
 
 
 def text(data):
-    data = data.encode("utf-8", "surrogateescape") if isinstance(data, str) else data
+    """What is in a str or a buffer, as a bytes of just this type, and its length: so no method of another type decides how much is read."""
+    data = str.encode(data, "utf-8", "surrogateescape") if isinstance(data, str) else memoryview(data).tobytes()
     return data, len(data)
 
 
@@ -98,7 +100,7 @@ def decide(agent, file, urls):
     if not urls:
         return []
     out, line = (c_int64 * len(urls))(), c_size_t()
-    check(library.robots_decide(*text(agent), *text(file), *joined(urls), out, len(urls), byref(line)), line.value)
+    check(library.robots_decide(*text(agent), *text(file), *joined(urls), out, len(out), byref(line)), line.value)
     return list(out)
 
 
@@ -136,21 +138,20 @@ def address(url):
 
 
 class Opened:
-    """What a call opens, for `with`. A lock lets one thread at a time call the library with it."""
+    """What a call opens, for `with`. One call at a time uses it: threads take turns. A signal handler of Python runs between two calls of
+    its thread, so it may take the turn of its thread. What is closed is freed when no call uses it any more."""
 
-    def __init__(self, handle, close):
-        self.handle, self.free, self.lock = handle, close, threading.Lock()
+    def __init__(self, handle, free):
+        self.handle, self.lock = handle, threading.RLock()
+        weakref.finalize(handle, free, c_void_p(handle.value))
 
     def open(self):
-        if not self.handle:
+        if self.handle is None:
             raise ValueError("it is closed")
         return self.handle
 
     def close(self):
-        with self.lock:
-            if self.handle:
-                self.free(self.handle)
-            self.handle = c_void_p()
+        self.handle = None
 
     def __enter__(self):
         return self
@@ -185,7 +186,7 @@ class Robot(Opened):
             return []
         out = (c_int64 * len(urls))()
         with self.lock:
-            check(library.robots_query_many(self.open(), *joined(urls), out, len(urls)))
+            check(library.robots_query_many(self.open(), *joined(urls), out, len(out)))
         return list(out)
 
     def delay(self):

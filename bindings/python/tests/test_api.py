@@ -134,7 +134,8 @@ def test_agents_that_are_not_named_share_the_group_of_all():
     for agent in ["", "*", "OtherBot", "Ferris", "bötbot"]:
         assert robots.verdicts(["/all", "/ferris"], agent) == [Verdict(False, 2), Verdict(True, None)]
     assert robots.verdicts(["/all", "/ferris"], "FERRISBOT") == [Verdict(True, None), Verdict(False, 4)]
-    assert robots._robots[""] == robots._robots["OtherBot"] == robots._robots["Ferris"] != robots._robots["FERRISBOT"]
+    kept = robots._site.robots
+    assert kept[""] == kept["OtherBot"] == kept["Ferris"] != kept["FERRISBOT"]
 
 
 def test_any_number_of_agents():
@@ -142,7 +143,7 @@ def test_any_number_of_agents():
     for number in range(2500):
         assert robots.verdict("/all", f"a{number}") == ((True, None) if number == 7 else (False, 2))
     assert robots.verdict("/seven", "A7") == Verdict(False, 4)
-    assert len(robots._robots) <= 1000
+    assert len(robots._site.robots) <= 1000
 
 
 # ---- files
@@ -162,6 +163,29 @@ def test_bodies_of_text():
     for body in [None, 3, ["User-agent: *"]]:
         with pytest.raises(TypeError):
             Robots(body)
+
+
+@pytest.mark.parametrize(
+    "front, back, lost",
+    [
+        ("User-agent: *\nDisallow: /a # ", "", None),
+        ("User-agent: *\nDisallow: /a", "", "rule"),
+        ("User-agent: *\nDisallow", ": /a", "rule"),
+        ("User-agent: *", "\nDisallow: /a", "rule"),
+        ("User-agent", ": *\nDisallow: /a\nUser-agent: other", "rule"),
+        ("User-agent: *\nCrawl-delay: 1", "\nDisallow: /a", "delay"),
+        ("User-agent: *\nDisallow: /a\nSitemap: /s", "", "sitemap"),
+    ],
+)
+def test_what_a_byte_costs_that_is_not_utf8(front, back, lost):
+    """In a comment nothing, and elsewhere what its line says."""
+    whole, robots = Robots(front + back), Robots(front.encode() + b"\xff" + back.encode())
+    for name, results in {
+        "rule": [it.allowed("/a", "FerrisBot") for it in (whole, robots)],
+        "delay": [it.delay("FerrisBot") for it in (whole, robots)],
+        "sitemap": [it.sitemaps for it in (whole, robots)],
+    }.items():
+        assert (results[0] == results[1]) == (name != lost), name
 
 
 def test_a_body_that_changes_later():
@@ -281,7 +305,7 @@ def test_product_tokens(user_agent, token):
 def test_pickles_and_copies():
     shop = Robots(SHOP)
     shop.allowed("/", "FerrisBot")
-    for protocol in range(2, pickle.HIGHEST_PROTOCOL + 1):
+    for protocol in range(pickle.HIGHEST_PROTOCOL + 1):
         assert pickle.loads(pickle.dumps(shop, protocol)).verdict("/search", "FerrisBot") == Verdict(False, 2)
     for again in [copy.copy(shop), copy.deepcopy(shop)]:
         assert again.verdict("/search", "FerrisBot") == Verdict(False, 2)
@@ -293,9 +317,26 @@ class OwnRobots(Robots):
     pass
 
 
+class FetchedRobots(Robots):
+    __slots__ = ("host",)
+
+    def __init__(self, host, body):
+        super().__init__(body)
+        self.host, self.seconds = host, [3]
+
+
 def test_pickles_of_a_subclass():
     own = pickle.loads(pickle.dumps(OwnRobots(SHOP)))
     assert type(own) is type(copy.copy(own)) is OwnRobots and own.verdict("/search", "FerrisBot") == Verdict(False, 2)
+
+
+@pytest.mark.parametrize("again", [copy.copy, copy.deepcopy, lambda robots: pickle.loads(pickle.dumps(robots))])
+def test_a_subclass_keeps_its_attributes(again):
+    fetched = FetchedRobots("example.com", SHOP)
+    fetched.allowed("/", "SlowBot")
+    made = again(fetched)
+    assert type(made) is FetchedRobots and (made.host, made.seconds) == ("example.com", [3]) and not made.allowed("/", "SlowBot")
+    assert (made.seconds is fetched.seconds) == (again is copy.copy)
 
 
 IN_A_WORKER = """

@@ -45,7 +45,9 @@ FILES = {
     "a rule that is too long": OVERLONG,
 }
 TABLE = {row[0]: row[1:] for row in tables((package.PACKAGE / "README.md").read_text()) if row[0] in FILES}
+WITHOUT_MEMORY = ["__main__.WithoutMemoryToParse", "__main__.WithoutMemoryToDecide"]
 STATUSES = {"rules with status 404": 404, "a page with status 503": 503}
+MANY_RULES = RULES + b"".join(b"Disallow: /none/%d\n" % number for number in range(20_000))
 TWO_GROUPS = b"User-agent: *\nDisallow: /public/\nUser-agent: FerrisBot\nDisallow: /private/"
 
 
@@ -90,6 +92,7 @@ def crawls():
     wanted = {(name, parser): (file, USER_AGENT) for name, file in FILES.items() for parser in (OURS, PROTEGO, URLLIB)}
     wanted |= {("as a browser", parser): (TWO_GROUPS, BROWSER) for parser in (OURS, PROTEGO)}
     wanted["as a browser, with its name", OURS] = TWO_GROUPS, BROWSER | {"ROBOTSTXT_USER_AGENT": "FerrisBot"}
+    wanted |= {("many rules", parser): (MANY_RULES, USER_AGENT) for parser in (OURS, *WITHOUT_MEMORY)}
     wanted |= {(name, OURS): (body, USER_AGENT) for name, body in zip(STATUSES, [RULES, b"<html>sorry</html>"])}
     fetched = {case: [] for case in wanted}
     with contextlib.ExitStack() as sites:
@@ -122,6 +125,60 @@ def test_a_user_agent_like_a_browsers(crawls):
     """Protego looks for a group's name anywhere in the User-Agent; this parser takes its front, or ROBOTSTXT_USER_AGENT."""
     assert crawls[0]["as a browser", OURS] == ["/", "/private/x", "/private/y"]
     assert crawls[0]["as a browser", PROTEGO] == crawls[0]["as a browser, with its name", OURS] == RESPECTED
+
+
+NO_TOKEN = "User-Agent %r: the group of this crawler isn't found in a robots.txt file, unless ROBOTSTXT_USER_AGENT is its product token"
+
+
+def test_a_warning_that_such_a_user_agent_has_no_product_token(crawls, caplog, monkeypatch):
+    """Once, and not for a crawler that gives its name."""
+    assert crawls[1].count("WARNING: User-Agent") == crawls[1].count("WARNING: " + NO_TOKEN % BROWSER["USER_AGENT"]) == 1
+    monkeypatch.setattr(RobotParser, "_has_warned", False)
+    for user_agent in ["FerrisBot/1.0", "Mozilla", "", b" Mozilla/5.0 (X11)", "Mozilla/5.0"]:
+        RobotParser.from_crawler(None, RULES).allowed("https://example.com/", user_agent)
+    assert [record.getMessage() for record in caplog.records] == [NO_TOKEN % " Mozilla/5.0 (X11)"]
+
+
+def test_without_memory_nothing_is_fetched(crawls):
+    """Scrapy would fetch everything after an error in `from_crawler`."""
+    fetched, log = crawls
+    assert [fetched["many rules", parser] for parser in (OURS, *WITHOUT_MEMORY)] == [RESPECTED, [], []]
+    for message in ["a robots.txt file can't be parsed, out of memory: nothing is fetched from its site", r"http://\S+: out of memory: it isn't fetched"]:
+        assert len(re.findall(f"WARNING: .*{message}", log)) == 1
+    assert "MemoryError" not in log
+
+
+@pytest.mark.parametrize("call", ["parse", "decide"])
+def test_each_allocation_of_the_parser_fails(call):
+    """From the first, from the second, and so on: then the parser denies."""
+    pytest.importorskip("_testcapi")
+    assert package.run(["-c", ALLOCATIONS_FAIL, call]) == "right\n"
+
+
+ALLOCATIONS_FAIL = """
+import logging, sys
+from _testcapi import remove_mem_hooks, set_nomemory
+from texting_robots.scrapy import RobotParser
+
+logging.disable()
+BODY, denied = b"User-agent: a\\nDisallow: /b", 0
+parse = RobotParser.from_crawler
+for number in range(50):
+    parser = parse(None, BODY)
+    if sys.argv[1] == "parse":
+        set_nomemory(number, 0)
+        parser = parse(None, BODY)
+        remove_mem_hooks()
+        allowed = parser.allowed("/", "a")
+    else:
+        allowed = parser.allowed
+        set_nomemory(number, 0)
+        allowed = allowed("/", "a")
+        remove_mem_hooks()
+    denied += not allowed
+assert 3 < denied < 50, denied
+print("right")
+"""
 
 
 def test_scrapy_gives_the_parser_the_body_of_every_status(crawls):

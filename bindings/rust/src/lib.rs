@@ -60,13 +60,9 @@ impl Robot {
     }
 
     /// Whether the crawler may fetch this: an absolute URL or a path. Any other text, such as `example.com/a`, is compared with the rules
-    /// too, and usually allowed.
-    ///
-    /// # Panics
-    ///
-    /// If an allocation fails. [`Robot::decision`] returns an error then.
+    /// too, and usually allowed. If an allocation fails, it may not, and [`Robot::decision`] returns an error.
     pub fn allowed(&self, url: &str) -> bool {
-        self.rules.query(url).expect("a URL is compared with the rules") >= 0
+        matches!(self.rules.query(url), Ok(result) if result >= 0)
     }
 
     /// As [`Robot::allowed`], with the line that decides.

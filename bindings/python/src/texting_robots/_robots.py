@@ -21,6 +21,7 @@ _AGENTS_KEPT: Final = 1000
 """For so many agents a Robots keeps what the file says to them, so that it doesn't grow forever."""
 
 _Body = Union[bytes, bytearray, memoryview, str]
+_FRONT: Final = re.compile(r"\s*([^\s/(),;:]+)")
 _query: Final = lib.robot_query
 _NO_RESULT: Final = lib.NO_RESULT
 _LAST_FAILURE: Final = _NO_RESULT - lib.ROBOTS_OVERLONG_RULE
@@ -65,7 +66,7 @@ def product_token(user_agent: str) -> str:
 
     The front of a User-Agent like a browser's is ``Mozilla``. Such a crawler gives its name itself.
     """
-    front = re.match(r"\s*([^\s/(),;:]+)", user_agent)
+    front = _FRONT.match(user_agent)
     return front[1] if front else "*"
 
 
@@ -82,25 +83,20 @@ class Robots:
     ``surrogateescape`` made of other bytes becomes these again. A ``url`` is a whole URL, or a path. An ``agent`` is a product token
     without a version (see `product_token`).
 
-    It can be shared by threads, which take turns, and pickled, as its bytes. Don't fork a process while another thread uses it: in the
-    child its lock could stay taken.
+    It can be shared by threads, which take turns, copied, and pickled, as its bytes. Don't use it in the child of a fork if the process
+    had other threads.
 
     The methods raise `OverlongRule` if the file can't be used for the agent; `AgentError`, which is a TypeError and a ValueError, for
     an agent with ``/``; TypeError for what isn't a ``str``, and for one ``str`` in place of several; ValueError for a lone surrogate;
     and MemoryError.
     """
 
-    __slots__ = ("__weakref__", "_body", "_robots", "_site")
-
     def __init__(self, body: _Body) -> None:
         if isinstance(body, str):
-            body = body.encode("utf-8", "surrogateescape")
+            body = str.encode(body, "utf-8", "surrogateescape")
         elif not isinstance(body, (bytes, bytearray, memoryview)):
             raise TypeError(f"a file is bytes or a str, not {type(body).__name__}")
-        self._body = bytes(body)[:FILE_LIMIT]
-        self._site = _opened(lib.site_open(self._body, len(self._body)), lib.site_close)
-        # what the file says to each agent that was asked about; closed when nothing refers to it
-        self._robots: dict[str, CData] = {}
+        self._site = _Site(_file(body))
 
     def allowed(self, url: str, agent: str) -> bool:
         """Whether the crawler may fetch the URL."""
@@ -116,7 +112,7 @@ class Robots:
     def verdicts(self, urls: Iterable[str], agent: str) -> list[Verdict]:
         """The verdict for each URL, in their order: faster than one by one."""
         urls = _several(urls, "URLs")
-        robot = self._robots.get(agent) or self._robot(agent)
+        robot = self._site.robot(agent)
         text = _joined(urls)
         if text is None:
             return [self.verdict(url, agent) for url in urls]
@@ -137,7 +133,7 @@ class Robots:
             return [[self._verdict_or_none(url, agent) for url in urls] for agent in agents]
         width, length = len(urls), len(urls) * len(agents)
         results = ffi.new("int64_t[]", length)
-        _check(lib.site_matrix(self._site, agents_text, len(agents_text), urls_text, len(urls_text), results, length))
+        _check(lib.site_matrix(self._site.opened, agents_text, len(agents_text), urls_text, len(urls_text), results, length))
         numbers = ffi.unpack(results, length)
         verdicts = {number: None if number == _NO_RESULT else _verdict(number) for number in set(numbers)}
         return [[verdicts[number] for number in numbers[start : start + width]] for start in range(0, length, width)]
@@ -153,7 +149,7 @@ class Robots:
     def delay_microseconds(self, agent: str) -> int | None:
         """The delay in microseconds, exactly, or None."""
         name, microseconds = _name(agent), ffi.new("uint64_t *")
-        status = lib.site_delay(self._site, name, len(name), microseconds)
+        status = lib.site_delay(self._site.opened, name, len(name), microseconds)
         if status == lib.ROBOTS_NO_DELAY:
             return None
         _check(status)
@@ -163,30 +159,21 @@ class Robots:
     def sitemaps(self) -> list[str]:
         """The sitemaps, which are the same for every crawler, in the file's order; also empty ones, but none that isn't UTF-8."""
         # for sitemaps the length of the file is always enough room
-        return _written(lambda *out: lib.site_sitemaps(self._site, *out), len(self._body)).split("\n")[:-1]
+        return _written(lambda *out: lib.site_sitemaps(self._site.opened, *out), len(self._site.body)).split("\n")[:-1]
 
     @property
     def agents(self) -> list[str]:
         """The names in the file's user-agent lines, ``*`` too, in its order; of names that differ only in case the first."""
-        return _written(lambda *out: lib.site_agents(self._site, *out), 256).split("\n")[:-1]
+        return _written(lambda *out: lib.site_agents(self._site.opened, *out), 256).split("\n")[:-1]
 
     def _result(self, url: str, agent: str) -> int:
         """0 or the line that allows the URL, or minus the line that denies it."""
-        robot = self._robots.get(agent) or self._robot(agent)
+        robot = self._site.robot(agent)
         text = str.encode(url)
         result = _query(robot, text, len(text))
         if result <= _LAST_FAILURE:
             _check(_NO_RESULT - result, robot)
         return result
-
-    def _robot(self, agent: str) -> CData:
-        """What the file says to an agent that isn't among `_robots`. The library shares it among all agents that no line names."""
-        name = _name(agent)
-        robot = _opened(lib.robot_open(self._site, name, len(name)), lib.robot_close)
-        if len(self._robots) >= _AGENTS_KEPT:
-            self._robots.clear()
-        self._robots[agent] = robot
-        return robot
 
     def _verdict_or_none(self, url: str, agent: str) -> Verdict | None:
         try:
@@ -194,11 +181,38 @@ class Robots:
         except OverlongRule:
             return None
 
-    def __reduce__(self) -> tuple[type[Robots], tuple[bytes]]:
-        return type(self), (self._body,)
-
     def __repr__(self) -> str:
-        return f"<{type(self).__name__} of {len(self._body)} bytes>"
+        return f"<{type(self).__name__} of {len(self._site.body)} bytes>"
+
+
+class _Site:
+    """What C has read of a file, and what the file says to each agent that was asked about. Both are closed when nothing refers to them.
+
+    Copied and pickled as its bytes, so that a `Robots` is with all its attributes, as other objects.
+    """
+
+    __slots__ = ("body", "opened", "robots")
+
+    def __init__(self, body: bytes) -> None:
+        self.body = body
+        self.opened = _opened(lib.site_open(body, len(body)), lib.site_close)
+        self.robots: dict[str, CData] = {}
+
+    def robot(self, agent: str) -> CData:
+        """What the file says to an agent. A `str` of another type may have its own equality, so its robot isn't looked up."""
+        return (type(agent) is str and self.robots.get(agent)) or self._open(agent)
+
+    def _open(self, agent: str) -> CData:
+        """Opens a robot. The library shares it among all agents that no line names."""
+        name = _name(agent)
+        robot = _opened(lib.robot_open(self.opened, name, len(name)), lib.robot_close)
+        if len(self.robots) >= _AGENTS_KEPT:
+            self.robots.clear()
+        self.robots[str(name, "utf-8")] = robot
+        return robot
+
+    def __reduce__(self) -> tuple[type[_Site], tuple[bytes]]:
+        return _Site, (self.body,)
 
 
 class Matrix:
@@ -225,14 +239,26 @@ class Matrix:
         the agent: agent by agent, in the order of the constructor's arguments. ``body`` is the file, as received."""
         if not isinstance(body, bytes):
             raise TypeError(f"a file is bytes, not {type(body).__name__}")
-        body_length, length = bytes.__len__(body), len(self._pairs)  # a subclass may have another len()
+        file, length = _file(body), len(self._pairs)
         results = ffi.new("int64_t[]", length)
-        _check(lib.robots_matrix(self._agents, len(self._agents), body, body_length, self._urls, len(self._urls), results, length))
+        _check(lib.robots_matrix(self._agents, len(self._agents), file, len(file), self._urls, len(self._urls), results, length))
         return [
             (agent, url, None if result == _NO_RESULT else -result)
             for (agent, url), result in zip(self._pairs, ffi.unpack(results, length))
             if result < 0
         ]
+
+
+# C is given a bytes of just this type, with its len(): no method of another type decides how much is read. `str.encode` and `str.join`
+# make such a bytes and such a str of any str.
+
+
+def _file(body: bytes | bytearray | memoryview) -> bytes:
+    """The bytes of a file that count, however they lie in memory."""
+    if type(body) is not bytes:
+        with memoryview(body) as view:
+            body = view.tobytes()
+    return body[:FILE_LIMIT]
 
 
 def _several(texts: Iterable[str], what: str) -> list[str]:
