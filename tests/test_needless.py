@@ -2,6 +2,7 @@
 
 import json
 import random
+import re
 
 import pytest
 from support import run
@@ -19,18 +20,20 @@ def block_of(some):
     return names + rules + ["Crawl-delay: 1"] * some.randrange(2)
 
 
-def report_on(lines, *options):
-    return json.loads(run("robots_audit", ["--json", *options, *CRAWLERS, *URLS], "\n".join(lines).encode()).out)
+def report_on(file, *options):
+    return json.loads(run("robots_audit", ["--json", *options, *CRAWLERS, *URLS], file).out)
 
 
 def found_in(lines):
     """The numbers of the lines that are reported."""
-    return [it["line"] for it in report_on(lines, "--needless", "--only", "needless-rule")["warnings"]]
+    file = lines if isinstance(lines, bytes) else "\n".join(lines).encode()
+    return [it["line"] for it in report_on(file, "--needless", "--only", "needless-rule")["warnings"]]
 
 
 def verdicts_on(lines):
     """Of each crawler, the group and whether each URL is allowed."""
-    return [(agent["group"], [verdict["allowed"] for verdict in agent["verdicts"]]) for agent in report_on(lines)["agents"]]
+    agents = report_on("\n".join(lines).encode())["agents"]
+    return [(agent["group"], [verdict["allowed"] for verdict in agent["verdicts"]]) for agent in agents]
 
 
 @pytest.mark.parametrize("seed", range(40))
@@ -41,6 +44,35 @@ def test_deleting_the_reported_lines_changes_no_verdict(seed):
     assert numbers == sorted(set(numbers))
     left = [line for number, line in enumerate(lines, 1) if number not in numbers]
     assert verdicts_on(left) == verdicts_on(lines)
+
+
+def results_of(file):
+    """The sitemaps; and of each crawler, its delay, whether the file is rejected, and whether each URL is allowed."""
+    report = report_on(file)
+    agents = [
+        (it["delay"], it["rejected"] is None, [verdict["allowed"] for verdict in it["verdicts"]]) for it in report["agents"]
+    ]
+    return report["sitemaps"], agents
+
+
+MARK = b"\xEF\xBB\xBF"
+OTHER_LINES = [b"", b"", MARK + b"Disallow: /", b"\xBFAllow: /a", b"Sitemap: https://example.com/s", b"# comment"]
+LINE_ENDS = [b"\n", b"\n", b"\r\n", b"\r", b"\r\r\n", b"\0", b"\r\0", b"\n\r\n"]
+# what is between line ends, and the line end: any number of CRs, and then at most one LF or NUL
+WHOLE_LINE = re.compile(rb"[^\r\n\0]*(?:\r*[\n\0]|\r+)|[^\r\n\0]+")
+
+
+@pytest.mark.parametrize("seed", range(40))
+def test_deleting_the_reported_bytes_changes_nothing(seed):
+    some = random.Random(seed)
+    lines = [line.encode() for _ in range(some.randrange(1, 4)) for line in block_of(some)][some.randrange(3) :]
+    for line in some.choices(OTHER_LINES, k=some.randrange(6)):
+        lines.insert(some.randrange(len(lines) + 1), line)
+    mark = some.choice([b"", MARK])
+    text = b"".join(line + some.choice(LINE_ENDS) for line in lines).lstrip(MARK)
+    numbers = found_in(mark + text)
+    left = b"".join(line for number, line in enumerate(WHOLE_LINE.findall(text), 1) if number not in numbers)
+    assert results_of(mark + left) == results_of(left) == results_of(mark + text)
 
 
 def test_some_lines_are_reported():

@@ -1,16 +1,16 @@
 -- The audit of a file: its lines, what applies to each requested crawler, and the warnings.
-use Rattle.std.specs.Prelude.{◌≡◌, ℕ, Bool, false, List, [], ◌∷◌, ◌++◌, Option, Some, None, codes}
-use Rattle.std.specs.Prelude.{count_by, filter, is_none, is_some, map, not, sum_by, if◌then◌else◌}
+use Rattle.std.specs.Prelude.{◌≡◌, ℕ, Bool, false, true, List, [], ◌∷◌, ◌++◌, Option, Some, None, codes}
+use Rattle.std.specs.Prelude.{count_by, filter, is_none, is_some, map, not, sum_by, take, if◌then◌else◌}
 use Rattle.std.specs.List.{AllZip, list_all, list_any}
 use Rattle.std.specs.Str.{is_utf8}
 use Rattle.texting_robots.specs.Callers.{IsFirstOverlong, IsRejected, LineValue, Label, PlacedRule, UserAgent}
-use Rattle.texting_robots.specs.Callers.{delay_for, is_named, lines_read, placed_rules}
+use Rattle.texting_robots.specs.Callers.{delay_for, file_limit, is_named, lines_read, placed_rules}
 use Rattle.texting_robots.specs.{Agents.is_among, Group.is_agent}
 use Rattle.texting_robots.specs.declared.decision.Decision.{Decision}
 use Rattle.robots_io.specs.Verdicts.{IsDecisionOn}
 use Rattle.audit_core.specs.declared.group.Group.{Group}
 use Rattle.audit_core.specs.declared.group.Group.TheVariants.{Everyone, Named, Nobody, Star}
-use Rattle.robots_needless.specs.Needless.{AreFound}
+use Rattle.robots_needless.specs.Deleted.{AreFoundIn}
 use Rattle.robots_needless.specs.declared.needless.NeedlessRule.{NeedlessRule}
 use Rattle.robots_warnings.specs.Facts.{facts_of, is_too_large}
 use Rattle.robots_warnings.specs.File.{labels_for}
@@ -121,8 +121,9 @@ rejects_some agents = list_any (λ (agent : AgentValue). is_some agent.rejected)
 -- whichever crawler the report is about, since deleting only some of them could change a verdict.
 pub record IsAuditOf (requested : RequestValue) (file : List ℕ) (audit : AuditValue) : Type 0 where
   pub needless : List NeedlessRule
-  pub needless_are : AreFound (lines_read file) needless
+  pub needless_are : AreFoundIn (take file_limit file) needless
   pub unrequested : requested.has_needless ≡ false → needless ≡ []
+  pub too_large : is_too_large file ≡ true → needless ≡ []
   pub labels_are : audit.labels ≡ labels_requested requested file
   pub agents_are : AllZip (IsAgentAudit requested.urls (lines_read file))
       (agents_requested requested.agents (lines_read file)) audit.agents

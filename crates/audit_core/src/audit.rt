@@ -235,7 +235,7 @@ pub fn audit_of<'a, 'b>(
     let site = Site::new(alloc, file)?;
     let has_agents = facts.kinds.user_agent;
     let agents = agent_audits(alloc, &names, file, &site, has_agents, &request.urls)?;
-    let needless = needless_rules(alloc, request.has_needless, &site)?;
+    let needless = needless_rules(alloc, request.has_needless, facts.is_too_large, &site)?;
     let all = warnings_of(
         alloc, request, &names, file, facts, &labels, &site, &needless,
     )?;

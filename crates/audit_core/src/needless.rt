@@ -1,7 +1,6 @@
 //! Warnings about rules that can be deleted, which `robots_needless` finds.
-ghost use Rattle.std.specs.Prelude.{◌≡◌, ◌∷◌, [], IfOk, OnOk, false, map};
-ghost use Rattle.texting_robots.specs.Callers.{file_lines};
-ghost use Rattle.robots_needless.specs.Needless.{AreFound};
+ghost use Rattle.std.specs.Prelude.{◌≡◌, ◌∷◌, [], IfOk, OnOk, false, map, true};
+ghost use Rattle.robots_needless.specs.Deleted.{AreFoundIn};
 ghost use Rattle.robots_warnings.specs.Internal.{Adds};
 ghost use Rattle.audit_core.specs.Needless.{cause_of, detail_of, needless_warning};
 
@@ -59,16 +58,19 @@ pub(crate) fn add_needless(
     Ok(())
 }
 
-/// The rules of the file that can be deleted together, if they are looked for; otherwise none.
+/// The rules of the file that can be deleted together, if they are looked for and the whole file is read; otherwise
+/// none, since deleting lines would let more of the file be read.
 pub(crate) fn needless_rules(
     alloc: Global,
     is_requested: bool,
+    is_too_large: bool,
     site: &Site,
 ) -> Result<Vec<NeedlessRule>, AllocError>
-    ensures found { IfOk result (λ found. AreFound (file_lines site.now) found.items) }
+    ensures found { IfOk result (λ found. AreFoundIn site.now found.items) }
     ensures unrequested { IfOk result (λ found. is_requested ≡ false → found.items ≡ []) }
+    ensures too_large { IfOk result (λ found. is_too_large ≡ true → found.items ≡ []) }
 {
-    if is_requested {
+    if is_requested && !is_too_large {
         needless_lines(alloc, site)
     } else {
         Ok(Vec::new(alloc))

@@ -1,12 +1,12 @@
 -- Every file has an audit, and without `--needless` only one.
 use Rattle.std.proofs.Common.{◌≡◌, ◌⊎◌, ℕ, suc, Bool, false, true, List, [], ◌∷◌, ◌++◌, Contains, ap, ap₂}
-use Rattle.std.proofs.Common.{arith, inl, inr, None, Option, Some, refl, subst, sym, ◌∙◌}
+use Rattle.std.proofs.Common.{arith, inl, inr, None, Option, Some, refl, subst, sym, take, ◌∙◌}
 use Rattle.std.specs.Bool.{Decides}
 use Rattle.std.specs.List.{All, AllZip}
 use Rattle.std.proofs.lemmas.Bool.{false≢true}
 use Rattle.std.proofs.lemmas.List.Elements.{All-cons, All-head, All-nil, All-tail}
 use Rattle.texting_robots.specs.Callers.{IsFirstOverlong, IsOverlong, IsRejected, LineValue, PlacedRule, Rule}
-use Rattle.texting_robots.specs.Callers.{delay_for, lines_read, placed_rules, prepared, unplaced}
+use Rattle.texting_robots.specs.Callers.{delay_for, file_limit, lines_read, placed_rules, prepared, unplaced}
 use Rattle.texting_robots.specs.declared.decision.Decision.{Decision}
 use Rattle.texting_robots.proofs.BestLemmas.{each_text_answered}
 use Rattle.texting_robots.proofs.ExampleLemmas.{overlong_decides}
@@ -274,8 +274,9 @@ some_audit requested file =
       },
       record {
         needless = [];
-        needless_are = nothing_found lines [] refl;
+        needless_are = nothing_found (take file_limit file) [] refl;
         unrequested = λ off. refl;
+        too_large = λ large. refl;
         labels_are = refl;
         agents_are = are;
         warnings_are = refl;

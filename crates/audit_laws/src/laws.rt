@@ -1,5 +1,5 @@
 //! Theorems about the specification, each written as the contract of an empty function.
-ghost use Rattle.std.specs.Prelude.{All, Any, Bool, codes, Contains, false, if◌then◌else◌, IsTrue, List};
+ghost use Rattle.std.specs.Prelude.{[], All, Any, Bool, codes, Contains, false, if◌then◌else◌, IsTrue, List};
 ghost use Rattle.std.specs.Prelude.{not, slice_get, Some, take, true, ℕ, ◌+◌, ◌↔◌, ◌∷◌, ◌≡◌, ◌≢◌};
 ghost use Rattle.std.specs.List.{count_by};
 ghost use Rattle.std.specs.Str.{byte, is_utf8, IsUtf8, str_to_ascii_lowercase};
@@ -10,6 +10,7 @@ ghost use Rattle.texting_robots.specs.Callers.{PlacedRule, prepared, RobotValue,
 ghost use Rattle.texting_robots.specs.Callers.{delay_for, rules_for, unplaced, UserAgent};
 ghost use Rattle.texting_robots.specs.Labels.{IsInOwnGroup};
 ghost use Rattle.texting_robots.specs.Verdict.{robots_file};
+ghost use Rattle.robots_needless.specs.Deleted.{HaveSameRobot, IsLeftOf};
 ghost use Rattle.robots_needless.specs.Needless.{lines_without, numbers_of};
 ghost use Rattle.robots_rfc9309.specs.Rfc9309.{Group, IsFile};
 ghost use Rattle.robots_syntax.specs.Syntax.{IsRobotStated};
@@ -57,6 +58,15 @@ pub fn needless_lines_decide_nothing()
         → (agent : List ℕ) → is_named agent (lines_read file) ≡ false → (text : List ℕ) (answer : Bool)
         → IsVerdict (rules_for agent (lines_read file)) text answer
         ↔ IsVerdict (rules_for agent (lines_without (numbers_of is.needless) (lines_read file))) text answer }
+{}
+
+/// If an audit with `--needless` warns of needless lines, and exactly these are deleted from the file, with their line
+/// ends, `Robot::new` gives each crawler the same as before: every verdict, the delay, the sitemaps, and whether the file
+/// is rejected. A byte order mark that the file begins with may stay, or be deleted too.
+pub fn needless_lines_can_be_deleted()
+    ensures { (requested : RequestValue) (file left : List ℕ) (audit : AuditValue) (agent : List ℕ)
+        → (is : IsAuditOf requested file audit) → is.needless ≢ [] → IsLeftOf (numbers_of is.needless) file left
+        → IsUtf8 agent → HaveSameRobot agent (take file_limit file) (take file_limit left) }
 {}
 
 /// If a report says that the file has RFC 9309 syntax, whichever warnings it leaves out, the whole file follows the

@@ -1,34 +1,33 @@
 -- Rules that can be removed from a file: each block that has rules keeps one, so the other lines apply to the
 -- same crawlers.
-use Rattle.std.proofs.Common.{◌≡◌, inl, inr, ℕ, ◌+◌, ◌==◌, Bool, true, false, not, ◌||◌, List, [], ◌∷◌}
-use Rattle.std.proofs.Common.{Option, Some, None, ap, sym, refl, ◌∙◌, cond, filter, map, if◌then◌else◌}
+use Rattle.std.proofs.Common.{◌≡◌, ◌⊎◌, inl, inr, ℕ, ◌+◌, ◌==◌, Bool, true, false, not, ◌||◌, List, [], ◌∷◌}
+use Rattle.std.proofs.Common.{Option, Some, None, ap, ap₂, sym, refl, ◌∙◌, cond, filter, filter_map, map}
+use Rattle.std.proofs.Common.{if◌then◌else◌, slice_get}
 use Rattle.std.specs.List.{cons_option, enumerate_from, list_any}
-use Rattle.std.specs.{Option.option_map_or}
+use Rattle.std.specs.{Option.option_map_or, Option.option_or}
 use Rattle.std.proofs.lemmas.Bool.{cases_Bool, false≢true}
 use Rattle.texting_robots.specs.Line.{LineValue, UserAgent, Allow, Disallow, Sitemap, CrawlDelay, Raw}
+use Rattle.texting_robots.specs.Line.{delay_in}
 use Rattle.texting_robots.specs.Group.{group_name, is_agent, is_agent_named}
 use Rattle.texting_robots.specs.Rules.{PlacedRule, Rule, unplaced}
-use Rattle.texting_robots.specs.Executable.{placed_in, placed_rules, rule_in, rules_for}
-use Rattle.texting_robots.specs.Internal.Group.{from_captured, placed, start_of, step}
+use Rattle.texting_robots.specs.Executable.{captured_delays, delay_before_agents, delay_for, placed_in}
+use Rattle.texting_robots.specs.Executable.{placed_rules, rule_in, rules_for, sitemap_in, sitemaps_in}
+use Rattle.texting_robots.specs.Internal.Group.{from_captured, if_captured, placed, start_of, step}
 use Rattle.texting_robots.specs.declared.groups.GroupTracker.{GroupTracker}
-use Rattle.texting_robots.proofs.CapturedLemmas.{captured_walked, given_captured, rules_are}
+use Rattle.texting_robots.proofs.CapturedLemmas.{captured_walked, cond_same, delays_are, given_captured}
+use Rattle.texting_robots.proofs.CapturedLemmas.{rules_are}
+use Rattle.texting_robots.proofs.RulesLemmas.{before_agent, before_agents}
 use Rattle.robots_needless.specs.declared.blocks.Block.{Block}
-use Rattle.robots_needless.specs.Blocks.{block_after, is_rule, keep_blocks_from, no_rule, with_rule}
+use Rattle.robots_needless.specs.Blocks.{block_after, is_rule, keep_blocks_from, left_from, no_rule}
+use Rattle.robots_needless.specs.Blocks.{with_rule}
 use Rattle.robots_needless.specs.Needless.{lines_without, without}
 
--- the lines that are left of those from a position on
-abbrev left_from : (ℕ → Bool) → ℕ → List LineValue → List LineValue
-left_from gone position [] = []
-left_from gone position (line ∷ lines) =
-    if gone (position + 1) then left_from gone (position + 1) lines
-    else line ∷ left_from gone (position + 1) lines
-
-abbrev among : List ℕ → ℕ → Bool
+abbrev pub among : List ℕ → ℕ → Bool
 among numbers n = list_any (λ number. number == n) numbers
 
-left_are : (numbers : List ℕ) (position : ℕ) (lines : List LineValue)
-    → map (λ (p : ℕ × LineValue). p.1)
-    (filter (λ (p : ℕ × LineValue). not (among numbers (p.0 + 1))) (enumerate_from position lines))
+pub left_are : {A : Type 0} (numbers : List ℕ) (position : ℕ) (lines : List A)
+    → map (λ (p : ℕ × A). p.1)
+    (filter (λ (p : ℕ × A). not (among numbers (p.0 + 1))) (enumerate_from position lines))
     ≡ left_from (among numbers) position lines
 left_are numbers position [] = refl
 left_are numbers position (line ∷ lines) = elim (cases_Bool (among numbers (position + 1))) [
@@ -67,89 +66,96 @@ not_false : (b : Bool) → not b ≡ false → b ≡ true
 not_false true is = refl
 not_false false is = sym is
 
-module _ (gone : ℕ → Bool) (name : List ℕ) where
-  -- what the lines that are left give is what is left of what all lines give
-  abbrev SameRules : GroupTracker → GroupTracker → ℕ → List LineValue → Type 0
-  SameRules tracker other position lines =
-      given_captured rule_in name other (left_from gone position lines)
-      ≡ unplaced (filter (λ (p : PlacedRule). not (gone p.line))
-      (from_captured placed_in name tracker position lines))
+-- a rule is neither a user-agent line, nor a delay, nor a sitemap
+pub no_agent : (line : LineValue) → is_rule line ≡ true → is_agent line ≡ false
+no_agent (UserAgent value) is = sym is
+no_agent line is = refl
 
-  abbrev Later : ℕ → List LineValue → Type 0
-  Later position lines = (block : Block) (tracker other : GroupTracker) → AreAlike block tracker other
-      → keep_blocks_from gone block position lines ≡ true → SameRules tracker other position lines
+no_delay : (line : LineValue) → is_rule line ≡ true → delay_in line ≡ None
+no_delay (CrawlDelay delay) is = absurd (false≢true is)
+no_delay line is = refl
+
+no_sitemap : (line : LineValue) → is_rule line ≡ true → sitemap_in line ≡ None
+no_sitemap (Sitemap value) is = absurd (false≢true is)
+no_sitemap line is = refl
+
+module _ (gone : ℕ → Bool) (name : List ℕ) where
+  -- the next line goes, or it stays; the same then holds of the lines after it
+  record IsNext (tracker other : GroupTracker) (position : ℕ) (line : LineValue)
+      (lines : List LineValue) : Type 0 where
+    next : Block
+    keeps : keep_blocks_from gone next (position + 1) lines ≡ true
+    either : ((gone (position + 1) ≡ true) × (is_rule line ≡ true)
+        × AreAlike next (step name tracker line) other)
+        ⊎ ((gone (position + 1) ≡ false) × AreAlike next (step name tracker line) (step name other line))
 
   module _ (block : Block) (tracker other : GroupTracker) (alike : AreAlike block tracker other)
-      (position : ℕ) (line : LineValue) (lines : List LineValue) (later : Later (position + 1) lines) where
-    -- the line stays
-    line_stays : gone (position + 1) ≡ false → (next : Block)
-        → AreAlike next (step name tracker line) (step name other line)
-        → keep_blocks_from gone next (position + 1) lines ≡ true
-        → SameRules tracker other position (line ∷ lines)
-    line_stays stays next after keeps =
-        let left = given_captured rule_in name (step name other line) (left_from gone (position + 1) lines) in
-        let rest = from_captured placed_in name (step name tracker line) (position + 1) lines in
-        rw stays (ap (λ b. cons_option (cond b (rule_in line) None) left) (sym alike.captured)
-        ∙ one_stays gone position tracker.captured (rule_in line) left rest stays
-        (later next (step name tracker line) (step name other line) after keeps))
-
+      (position : ℕ) (line : LineValue) (lines : List LineValue) where
     -- a rule
-    rule_line : ((t : GroupTracker)
+    rule_line : is_rule line ≡ true → ((t : GroupTracker)
         → ◌≡◌ {A = GroupTracker} (step name t line) (record { captured = t.captured; named = false }))
         → ((g : Bool) → block_after block g line ≡ Some (with_rule block g))
         → keep_blocks_from gone block position (line ∷ lines) ≡ true
-        → SameRules tracker other position (line ∷ lines)
-    rule_line moves after keeps = elim (cases_Bool (gone (position + 1))) [
-      | inr stays ↦
-          line_stays stays (with_rule block false)
-          (rw (moves tracker, moves other) (record {
+        → IsNext tracker other position line lines
+    rule_line rule moves after keeps = elim (cases_Bool (gone (position + 1))) [
+      | inr stays ↦ record {
+        next = with_rule block false;
+        keeps = rw (stays, after false) at keeps;
+        either = inr (
+          stays,
+          rw (moves tracker, moves other) (record {
             captured = alike.captured;
             named = λ _. refl;
             unnamed = λ _. refl;
-          }))
-          (rw (stays, after false) at keeps)
-      | inl goes ↦
-          let moved = step name tracker line in
-          let next : AreAlike (with_rule block true) moved other = rw (moves tracker) (record {
+          }),
+        );
+      }
+      | inl goes ↦ record {
+        next = with_rule block true;
+        keeps = rw (goes, after true) at keeps;
+        either = inl (
+          goes,
+          rule,
+          rw (moves tracker) (record {
             captured = alike.captured;
             named = λ none. sym (alike.unnamed (not_false block.has_rule none));
             unnamed = alike.unnamed;
-          }) in
-          let rest = from_captured placed_in name moved (position + 1) lines in
-          rw goes (later (with_rule block true) moved other next (rw (goes, after true) at keeps)
-          ∙ one_goes gone position tracker.captured (rule_in line) rest goes)
+          }),
+        );
+      }
     ]
 
     -- neither a rule nor a user-agent line
     other_line : ((g : Bool) → block_after block g line ≡ (if g then None else Some block))
         → AreAlike block (step name tracker line) (step name other line)
         → keep_blocks_from gone block position (line ∷ lines) ≡ true
-        → SameRules tracker other position (line ∷ lines)
+        → IsNext tracker other position line lines
     other_line after next keeps = elim (cases_Bool (gone (position + 1))) [
       | inl goes ↦ absurd (false≢true (rw (goes, after true) at keeps))
-      | inr stays ↦ line_stays stays block next (rw (stays, after false) at keeps)
+      | inr stays ↦ record {
+        next = block;
+        keeps = rw (stays, after false) at keeps;
+        either = inr (stays, next);
+      }
     ]
 
-  same_rules : (position : ℕ) (lines : List LineValue) → Later position lines
-  same_rules position [] block tracker other alike keeps = refl
-  same_rules position (Allow value ∷ lines) block tracker other alike keeps =
-      rule_line block tracker other alike position (Allow value) lines (same_rules (position + 1) lines)
-      (λ t. refl) (λ g. refl) keeps
-  same_rules position (Disallow value ∷ lines) block tracker other alike keeps =
-      rule_line block tracker other alike position (Disallow value) lines (same_rules (position + 1) lines)
-      (λ t. refl) (λ g. refl) keeps
-  same_rules position (CrawlDelay delay ∷ lines) block tracker other alike keeps =
-      other_line block tracker other alike position (CrawlDelay delay) lines (same_rules (position + 1) lines)
-      (λ g. refl) (record { captured = alike.captured; named = λ _. refl; unnamed = λ _. refl }) keeps
-  same_rules position (Sitemap value ∷ lines) block tracker other alike keeps =
-      other_line block tracker other alike position (Sitemap value) lines (same_rules (position + 1) lines)
-      (λ g. refl)
+  next_line : (block : Block) (tracker other : GroupTracker) → AreAlike block tracker other
+      → (position : ℕ) (line : LineValue) (lines : List LineValue)
+      → keep_blocks_from gone block position (line ∷ lines) ≡ true → IsNext tracker other position line lines
+  next_line block tracker other alike position (Allow value) lines keeps =
+      rule_line block tracker other alike position (Allow value) lines refl (λ t. refl) (λ g. refl) keeps
+  next_line block tracker other alike position (Disallow value) lines keeps =
+      rule_line block tracker other alike position (Disallow value) lines refl (λ t. refl) (λ g. refl) keeps
+  next_line block tracker other alike position (CrawlDelay delay) lines keeps =
+      other_line block tracker other alike position (CrawlDelay delay) lines (λ g. refl)
+      (record { captured = alike.captured; named = λ _. refl; unnamed = λ _. refl }) keeps
+  next_line block tracker other alike position (Sitemap value) lines keeps =
+      other_line block tracker other alike position (Sitemap value) lines (λ g. refl)
       (record { captured = alike.captured; named = alike.named; unnamed = alike.unnamed }) keeps
-  same_rules position (Raw body ∷ lines) block tracker other alike keeps =
-      other_line block tracker other alike position (Raw body) lines (same_rules (position + 1) lines)
-      (λ g. refl)
+  next_line block tracker other alike position (Raw body) lines keeps =
+      other_line block tracker other alike position (Raw body) lines (λ g. refl)
       (record { captured = alike.captured; named = alike.named; unnamed = alike.unnamed }) keeps
-  same_rules position (UserAgent value ∷ lines) block tracker other alike keeps =
+  next_line block tracker other alike position (UserAgent value) lines keeps =
       elim (cases_Bool (gone (position + 1))) [
         | inl goes ↦ absurd (false≢true (rw goes at keeps))
         | inr stays ↦ elim (cases_Bool block.is_lost) [
@@ -157,30 +163,90 @@ module _ (gone : ℕ → Bool) (name : List ℕ) where
           | inr left ↦
               let named = alike.named left in
               let here = is_agent_named name (UserAgent value) in
-              line_stays block tracker other alike position (UserAgent value) lines
-              (same_rules (position + 1) lines) stays no_rule (record {
-                captured = ap (λ b. here || b) named;
-                named = λ _. ap (λ b. here || b) named;
-                unnamed = λ wrong. absurd (false≢true wrong);
-              })
-              (rw (stays, left) at keeps)
+              record {
+                next = no_rule;
+                keeps = rw (stays, left) at keeps;
+                either = inr (
+                  stays,
+                  record {
+                    captured = ap (λ b. here || b) named;
+                    named = λ _. ap (λ b. here || b) named;
+                    unnamed = λ wrong. absurd (false≢true wrong);
+                  },
+                );
+              }
         ]
       ]
 
--- ---- user-agent lines stay
+  -- what the lines that are left give is what is left of what all lines give
+  same_rules : (position : ℕ) (lines : List LineValue) (block : Block) (tracker other : GroupTracker)
+      → AreAlike block tracker other → keep_blocks_from gone block position lines ≡ true
+      → given_captured rule_in name other (left_from gone position lines)
+      ≡ unplaced (filter (λ (p : PlacedRule). not (gone p.line))
+      (from_captured placed_in name tracker position lines))
+  same_rules position [] block tracker other alike keeps = refl
+  same_rules position (line ∷ lines) block tracker other alike keeps =
+      let is = next_line block tracker other alike position line lines keeps in
+      let moved = step name tracker line in
+      let rest = from_captured placed_in name moved (position + 1) lines in
+      elim is.either [
+        | inl (goes, rule, after) ↦
+            rw goes (same_rules (position + 1) lines is.next moved other after is.keeps
+            ∙ one_goes gone position tracker.captured (rule_in line) rest goes)
+        | inr (stays, after) ↦
+            let left = given_captured rule_in name (step name other line)
+            (left_from gone (position + 1) lines) in
+            rw stays (ap (λ b. cons_option (cond b (rule_in line) None) left) (sym alike.captured)
+            ∙ one_stays gone position tracker.captured (rule_in line) left rest stays
+            (same_rules (position + 1) lines is.next moved (step name other line) after is.keeps))
+      ]
 
-no_agent : (line : LineValue) → is_rule line ≡ true → is_agent line ≡ false
-no_agent (UserAgent value) is = sym is
-no_agent (Allow value) is = refl
-no_agent (Disallow value) is = refl
-no_agent (CrawlDelay delay) is = refl
-no_agent (Sitemap value) is = refl
-no_agent (Raw body) is = refl
+  -- no delay goes
+  same_delays : (position : ℕ) (lines : List LineValue) (block : Block) (tracker other : GroupTracker)
+      → AreAlike block tracker other → keep_blocks_from gone block position lines ≡ true
+      → given_captured delay_in name other (left_from gone position lines)
+      ≡ given_captured delay_in name tracker lines
+  same_delays position [] block tracker other alike keeps = refl
+  same_delays position (line ∷ lines) block tracker other alike keeps =
+      let is = next_line block tracker other alike position line lines keeps in
+      let moved = step name tracker line in
+      elim is.either [
+        | inl (goes, rule, after) ↦
+            rw (goes, no_delay line rule, cond_same {X = Option ℕ} tracker.captured None)
+            (same_delays (position + 1) lines is.next moved other after is.keeps)
+        | inr (stays, after) ↦
+            let left = given_captured delay_in name (step name other line)
+            (left_from gone (position + 1) lines) in
+            rw stays (ap (λ b. cons_option (cond b (delay_in line) None) left) (sym alike.captured)
+            ∙ ap (cons_option (if_captured tracker (delay_in line)))
+            (same_delays (position + 1) lines is.next moved (step name other line) after is.keeps))
+      ]
+
+-- ---- user-agent lines stay
 
 some_next : {X : Type 0} (found : Option X) (test : X → Bool) → option_map_or test found false ≡ true
     → (x : X) × (found ≡ Some x) × (test x ≡ true)
 some_next None test is = absurd (false≢true is)
 some_next (Some x) test is = (x, refl, is)
+
+-- the next line goes, and is a rule, or it stays
+goes_or_stays : (gone : ℕ → Bool) (block : Block) (position : ℕ) (line : LineValue) (lines : List LineValue)
+    → keep_blocks_from gone block position (line ∷ lines) ≡ true
+    → (next : Block) × (keep_blocks_from gone next (position + 1) lines ≡ true)
+    × (((gone (position + 1) ≡ true) × (is_rule line ≡ true)) ⊎ (gone (position + 1) ≡ false))
+goes_or_stays gone block position line lines keeps =
+    let (next, after, rest) = some_next (block_after block (gone (position + 1)) line)
+    (λ (b : Block). keep_blocks_from gone b (position + 1) lines) keeps in (
+      next,
+      rest,
+      elim (cases_Bool (gone (position + 1))) [
+        | inr stays ↦ inr stays
+        | inl goes ↦ elim (cases_Bool (is_rule line)) [
+          | inl rule ↦ inl (goes, rule)
+          | inr not_rule ↦ absurd (false≢true (rw (goes, not_rule) at keeps))
+        ]
+      ],
+    )
 
 any_left : (gone : ℕ → Bool) (test : LineValue → Bool)
     → ((line : LineValue) → is_agent line ≡ false → test line ≡ false) → (block : Block) (position : ℕ)
@@ -188,24 +254,46 @@ any_left : (gone : ℕ → Bool) (test : LineValue → Bool)
     → list_any test (left_from gone position lines) ≡ list_any test lines
 any_left gone test others block position [] keeps = refl
 any_left gone test others block position (line ∷ lines) keeps =
-    let (next, after, rest) = some_next (block_after block (gone (position + 1)) line)
-    (λ (b : Block). keep_blocks_from gone b (position + 1) lines) keeps in
+    let (next, rest, either) = goes_or_stays gone block position line lines keeps in
     let same = any_left gone test others next (position + 1) lines rest in
-    elim (cases_Bool (gone (position + 1))) [
+    elim either [
       | inr stays ↦ rw stays (ap (λ b. test line || b) same)
-      | inl goes ↦ elim (cases_Bool (is_rule line)) [
-        | inl rule ↦ rw (goes, others line (no_agent line rule)) same
-        | inr not_rule ↦ absurd (false≢true (rw (goes, not_rule) at keeps))
+      | inl (goes, rule) ↦ rw (goes, others line (no_agent line rule)) same
+    ]
+
+-- what no rule gives
+given_left : {X : Type 0} (gone : ℕ → Bool) (given : LineValue → Option X)
+    → ((line : LineValue) → is_rule line ≡ true → given line ≡ None) → (block : Block) (position : ℕ)
+    (lines : List LineValue) → keep_blocks_from gone block position lines ≡ true
+    → filter_map given (left_from gone position lines) ≡ filter_map given lines
+given_left gone given none block position [] keeps = refl
+given_left gone given none block position (line ∷ lines) keeps =
+    let (next, rest, either) = goes_or_stays gone block position line lines keeps in
+    let same = given_left gone given none next (position + 1) lines rest in
+    elim either [
+      | inr stays ↦ rw stays (ap (cons_option (given line)) same)
+      | inl (goes, rule) ↦ rw (goes, none line rule) same
+    ]
+
+early_left : (gone : ℕ → Bool) (block : Block) (position : ℕ) (lines : List LineValue)
+    → keep_blocks_from gone block position lines ≡ true
+    → filter_map delay_in (before_agent (left_from gone position lines))
+    ≡ filter_map delay_in (before_agent lines)
+early_left gone block position [] keeps = refl
+early_left gone block position (line ∷ lines) keeps =
+    let (next, rest, either) = goes_or_stays gone block position line lines keeps in
+    let same = early_left gone next (position + 1) lines rest in
+    elim either [
+      | inl (goes, rule) ↦ rw (goes, no_agent line rule, no_delay line rule) same
+      | inr stays ↦ elim (cases_Bool (is_agent line)) [
+        | inl agent ↦ rw (stays, agent) refl
+        | inr other ↦ rw (stays, other) (ap (cons_option (delay_in line)) same)
       ]
     ]
 
 others_unnamed : (name : List ℕ) (line : LineValue) → is_agent line ≡ false → is_agent_named name line ≡ false
 others_unnamed name (UserAgent value) is = absurd (false≢true (sym is))
-others_unnamed name (Allow value) is = refl
-others_unnamed name (Disallow value) is = refl
-others_unnamed name (CrawlDelay delay) is = refl
-others_unnamed name (Sitemap value) is = refl
-others_unnamed name (Raw body) is = refl
+others_unnamed name line is = refl
 
 -- ---- all lines of a file
 
@@ -218,26 +306,59 @@ module _ (gone : ℕ → Bool) (lines : List LineValue)
   same_start : start_of (left_from gone 0 lines) ≡ start_of lines
   same_start = rw (any_left gone is_agent (λ line other. other) no_rule 0 lines keeps) refl
 
+  start_alike : AreAlike no_rule (start_of lines) (start_of lines)
+  start_alike = record {
+    captured = refl;
+    named = λ _. refl;
+    unnamed = λ wrong. absurd (false≢true wrong);
+  }
+
   rules_left : (agent : List ℕ) → rules_for agent (left_from gone 0 lines)
       ≡ unplaced (filter (λ (p : PlacedRule). not (gone p.line)) (placed_rules agent lines))
   rules_left agent =
       let name = group_name agent lines in
       let start = start_of lines in
-      let walked = captured_walked placed_in name lines in
-      let alike : AreAlike no_rule start start = record {
-        captured = refl;
-        named = λ _. refl;
-        unnamed = λ wrong. absurd (false≢true wrong);
-      } in
       rules_are agent (left_from gone 0 lines)
-      ∙ rw (same_name agent, same_start, walked)
-      (same_rules gone name 0 lines no_rule start start alike keeps)
+      ∙ rw (same_name agent, same_start, captured_walked placed_in name lines)
+      (same_rules gone name 0 lines no_rule start start start_alike keeps)
 
-pub deleted : (numbers : List ℕ) (lines : List LineValue)
-    → keep_blocks_from (among numbers) no_rule 0 lines ≡ true → (agent : List ℕ)
-    → rules_for agent (lines_without numbers lines) ≡ unplaced (without numbers (placed_rules agent lines))
-deleted numbers lines keeps agent =
-    ap (λ ls. rules_for agent ls) (left_are numbers 0 lines) ∙ rules_left (among numbers) lines keeps agent
+  captured_left : (agent : List ℕ)
+      → captured_delays agent (left_from gone 0 lines) ≡ captured_delays agent lines
+  captured_left agent =
+      let start = start_of lines in
+      rw (delays_are agent (left_from gone 0 lines), delays_are agent lines, same_name agent, same_start)
+      (same_delays gone (group_name agent lines) 0 lines no_rule start start start_alike keeps)
+
+  before_left : delay_before_agents (left_from gone 0 lines) ≡ delay_before_agents lines
+  before_left =
+      let left = left_from gone 0 lines in
+      rw (
+        any_left gone is_agent (λ line other. other) no_rule 0 lines keeps,
+        before_agents left,
+        before_agents lines,
+        early_left gone no_rule 0 lines keeps,
+      ) refl
+
+  delays_left : (agent : List ℕ) → delay_for agent (left_from gone 0 lines) ≡ delay_for agent lines
+  delays_left agent = ap₂ (λ delays early. option_or (slice_get delays 0) early) (captured_left agent)
+      before_left
+
+  sitemaps_left : sitemaps_in (left_from gone 0 lines) ≡ sitemaps_in lines
+  sitemaps_left = given_left gone sitemap_in no_sitemap no_rule 0 lines keeps
+
+module _ (numbers : List ℕ) (lines : List LineValue)
+    (keeps : keep_blocks_from (among numbers) no_rule 0 lines ≡ true) where
+  pub deleted : (agent : List ℕ)
+      → rules_for agent (lines_without numbers lines) ≡ unplaced (without numbers (placed_rules agent lines))
+  deleted agent =
+      ap (λ ls. rules_for agent ls) (left_are numbers 0 lines) ∙ rules_left (among numbers) lines keeps agent
+
+  pub delays_stay : (agent : List ℕ) → delay_for agent (lines_without numbers lines) ≡ delay_for agent lines
+  delays_stay agent =
+      ap (λ ls. delay_for agent ls) (left_are numbers 0 lines) ∙ delays_left (among numbers) lines keeps agent
+
+  pub sitemaps_stay : sitemaps_in (lines_without numbers lines) ≡ sitemaps_in lines
+  sitemaps_stay = ap sitemaps_in (left_are numbers 0 lines) ∙ sitemaps_left (among numbers) lines keeps
 
 both_next : (F G : Block → Bool) (found : Option Block) → ((b : Block) → F b ≡ G b)
     → option_map_or F found false ≡ option_map_or G found false

@@ -1,7 +1,7 @@
 -- Which rules are left without those in some lines.
 use Rattle.std.proofs.Common.{◌≡◌, ◌≢◌, ◌≤◌, ◌↔◌, inl, inr, ℕ, zero, suc, ◌==◌, Bool, true}
 use Rattle.std.proofs.Common.{List, [], ◌∷◌, ◌++◌, All, IsPermutation, ap, sym, refl, ◌∙◌, arith}
-use Rattle.std.proofs.Common.{if◌then◌else◌}
+use Rattle.std.proofs.Common.{if◌then◌else◌, map}
 use Rattle.std.specs.List.{Contains, filter, list_any, sum_by}
 use Rattle.std.proofs.lemmas.Bool.{cases_Bool, eqb-true, false≢true, ne_eqb, or_cases}
 use Rattle.std.proofs.lemmas.Bool.Decides.{Decides-eqb}
@@ -53,9 +53,40 @@ hit_once n (first ∷ rules) placed (zero, below, at) line =
 hit_once n (first ∷ rules) placed (suc k, below, at) line =
     omega (arith, sum_by-cons (hit n) first rules, hit_once n rules placed (k, omega arith, at) line)
 
+-- ---- members
+
+pub to_map : {A B : Type 0} (f : A → B) (xs : List A) (x : A) → Contains xs x → Contains (map f xs) (f x)
+to_map f [] x (k, below, at) = absurd (omega arith)
+to_map f (z ∷ xs) x (zero, below, at) = (0, omega arith, ap f at)
+to_map f (z ∷ xs) x (suc k, below, at) =
+    let (j, less, is) = to_map f xs x (k, omega arith, at) in (suc j, omega arith, is)
+
+pub of_map : {A B : Type 0} (f : A → B) (xs : List A) (y : B) → Contains (map f xs) y
+    → (x : A) × Contains xs x × (f x ≡ y)
+of_map f [] y (k, below, at) = absurd (omega arith)
+of_map f (x ∷ xs) y (zero, below, at) = (x, (0, omega arith, refl), at)
+of_map f (x ∷ xs) y (suc k, below, at) =
+    let (z, (j, less, has), is) = of_map f xs y (k, omega arith, at) in (z, (suc j, omega arith, has), is)
+
+pub named_in : (n : ℕ) (numbers : List ℕ) → Contains numbers n → list_any (λ number. number == n) numbers ≡ true
+named_in n [] (k, below, at) = absurd (omega arith)
+named_in n (first ∷ numbers) (zero, below, at) = rw ((Decides-eqb first n).1 at) refl
+named_in n (first ∷ numbers) (suc k, below, at) = elim (cases_Bool (first == n)) [
+  | inl here ↦ rw here refl
+  | inr other ↦ rw other (named_in n numbers (k, omega arith, at))
+]
+
+pub in_named : (n : ℕ) (numbers : List ℕ) → list_any (λ number. number == n) numbers ≡ true → Contains numbers n
+in_named n [] is = cc
+in_named n (first ∷ numbers) is =
+    elim (or_cases (first == n) (list_any (λ number. number == n) numbers) is) [
+      | inl here ↦ (0, omega arith, eqb-true first n here)
+      | inr later ↦ let (k, below, at) = in_named n numbers later in (suc k, omega arith, at)
+    ]
+
 -- ---- filters
 
-in_cons : (first : PlacedRule) (rules : List PlacedRule) (placed : PlacedRule) → Contains rules placed
+pub in_cons : {A : Type 0} (first : A) (rules : List A) (placed : A) → Contains rules placed
     → Contains (first ∷ rules) placed
 in_cons first rules placed (k, below, at) = (suc k, omega arith, at)
 
@@ -80,8 +111,8 @@ in_filter test (first ∷ rules) placed has = elim (cases_Bool (test first)) [
       (in_cons first rules placed listed, is)
 ]
 
-pub to_filter : (test : PlacedRule → Bool) (rules : List PlacedRule) (placed : PlacedRule)
-    → Contains rules placed → test placed ≡ true → Contains (filter test rules) placed
+pub to_filter : {A : Type 0} (test : A → Bool) (rules : List A) (placed : A) → Contains rules placed
+    → test placed ≡ true → Contains (filter test rules) placed
 to_filter test [] placed (k, below, at) is = absurd (omega arith)
 to_filter test (first ∷ rules) placed (zero, below, at) is =
     let passes : test first ≡ true = ap test at ∙ is in rw passes (0, omega arith, at)

@@ -5,8 +5,9 @@ use Rattle.std.proofs.Common.{length, take}
 use Rattle.std.proofs.Math.Dec.{eqb}
 use Rattle.std.specs.Cmp.Lexicographic.{bytes_decides, pointwise}
 use Rattle.std.proofs.lemmas.List.{take-append-drop, take-take, take_all, take_at, take_more}
-use Rattle.std.proofs.lemmas.Bool.{cases_lt}
-use Rattle.texting_robots.specs.Pattern.{Matches, MatchesWith}
+use Rattle.std.proofs.lemmas.Bool.{cases_lt, false≢true}
+use Rattle.std.proofs.lemmas.List.Elements.{All-contains}
+use Rattle.texting_robots.specs.Pattern.{IsOverlong, Matches, MatchesWith, dollar}
 use Rattle.texting_robots.specs.Rules.{PlacedRule, Rule, unplaced}
 use Rattle.texting_robots.specs.Internal.Entries.{rank}
 use Rattle.texting_robots.proofs.{BestLemmas.placed_of, PatternLemmas.in_front}
@@ -25,6 +26,12 @@ pub hash_more : (h : ℕ) (pattern : List ℕ) (i d : ℕ) → i < length patter
     → next_hash (hash_from h (take i pattern)) (get_or pattern i d) ≡ hash_from h (take (i + 1) pattern)
 hash_more h pattern i d below =
     rw (take_more pattern i d below) (sym (hash_push h (take i pattern) (get_or pattern i d)))
+
+-- ---- a plain pattern has no dollar
+
+pub plain_accepted : (pattern : List ℕ) → All IsPlainByte pattern → ¬ IsOverlong pattern
+plain_accepted pattern plain (has, long) =
+    absurd (false≢true (sym (All-contains IsPlainByte pattern dollar plain has).1))
 
 -- ---- patterns that begin with one another
 

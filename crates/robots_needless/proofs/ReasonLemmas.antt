@@ -1,8 +1,8 @@
 -- When a rule can go: its rivals, and the rules that cover it.
 use Rattle.std.proofs.Common.{◌≡◌, ◌≤◌, ◌⊎◌, inl, inr, Option, Some, None, false, ℕ, zero, suc, Bool, true}
-use Rattle.std.proofs.Common.{List, [], ◌∷◌, ◌++◌, subst, refl, arith}
+use Rattle.std.proofs.Common.{List, [], ◌∷◌, ◌++◌, All, IfSome, subst, refl, arith}
 use Rattle.std.specs.List.{Contains}
-use Rattle.std.proofs.lemmas.List.Elements.{Contains-append_cases}
+use Rattle.std.proofs.lemmas.List.Elements.{All-push, Contains-append_cases}
 use Rattle.texting_robots.specs.Line.{LineValue}
 use Rattle.texting_robots.specs.Rules.{PlacedRule, Rule, unplaced}
 use Rattle.std.specs.Option.{IsSomeAnd}
@@ -107,3 +107,12 @@ pub overlong_some : (value pattern : List ℕ) (allows : Bool) (line : ℕ) → 
     → pattern ≡ escaped value → IsOverlong pattern
     → IsSomeAnd (placed line (rule_with value allows)) (λ (placed : PlacedRule). IsOverlong placed.rule.0)
 overlong_some value pattern allows line utf8 is overlong = rw utf8 (rw is at overlong)
+
+-- one more rule that isn't overlong
+pub accepted_more : (old new : List PlacedRule) (found : Option PlacedRule) (rule : PlacedRule)
+    → found ≡ Some rule → new ≡ old ++ rule ∷ []
+    → IfSome found (λ (placed : PlacedRule). ¬ IsOverlong placed.rule.0)
+    → All (λ (placed : PlacedRule). ¬ IsOverlong placed.rule.0) old
+    → All (λ (placed : PlacedRule). ¬ IsOverlong placed.rule.0) new
+accepted_more old new found rule is added here before =
+    rw added (All-push (λ (placed : PlacedRule). ¬ IsOverlong placed.rule.0) old rule before (rw is at here))

@@ -1,5 +1,5 @@
 -- What is found for several crawlers: rules that are needless for each of them.
-use Rattle.std.proofs.Common.{◌≡◌, ◌↔◌, inl, inr, ℕ, zero, suc, ◌==◌, true, false, List, [], ◌∷◌, ◌++◌, All}
+use Rattle.std.proofs.Common.{◌≡◌, ◌↔◌, inl, inr, ℕ, zero, suc, ◌==◌, Bool, true, false, List, [], ◌∷◌, ◌++◌, All}
 use Rattle.std.proofs.Common.{◌+◌, ◌<◌, Some, get_or, length, take, ap, sym, refl, subst, ◌∙◌, arith, codes}
 use Rattle.std.proofs.Common.{filter, map}
 use Rattle.std.specs.BTreeMap.{IsOrdered, Updates, get, keys}
@@ -7,56 +7,29 @@ use Rattle.std.specs.BTreeSet.{BTreeSet, contains}
 use Rattle.std.specs.List.{Contains, enumerate_from, list_any}
 use Rattle.std.specs.{Ordering.eq_by_cmp, Ordering.nat_cmp}
 use Rattle.std.specs.Cmp.{nat_cmp_total}
-use Rattle.std.proofs.lemmas.Bool.{cases_Bool, eqb-true, false≢true, or_cases}
-use Rattle.std.proofs.lemmas.Bool.Decides.{Decides-eqb}
+use Rattle.std.proofs.lemmas.Bool.{cases_Bool, false≢true}
 use Rattle.std.proofs.lemmas.List.{take_more}
 use Rattle.std.proofs.lemmas.List.Elements.{All-contains, Contains-append_cases, Contains-append_left}
 use Rattle.std.proofs.lemmas.List.Elements.{All-map, All-nil, Contains-push, Contains-push_cases}
 use Rattle.std.proofs.lemmas.List.Sorted.{Contains-permutation, IsPermutation-sym}
 use Rattle.std.proofs.lemmas.Map.Lookups.{exact_unsigned}
 use Rattle.std.proofs.lemmas.Map.Views.{All-found, btree_map_contains_key_iff, tells_apart}
-use Rattle.texting_robots.specs.Callers.{LineValue, PlacedRule, agents_in, placed_rules, rules_for, unplaced}
+use Rattle.texting_robots.specs.Callers.{IsOverlong, IsRejected, LineValue, PlacedRule, Rule, agents_in}
+use Rattle.texting_robots.specs.Callers.{delay_for, file_bodies, file_lines, placed_rules, rules_for}
+use Rattle.texting_robots.specs.Callers.{sitemaps_in, unplaced}
 use Rattle.texting_robots.specs.Verdict.{IsDenied}
 use Rattle.robots_needless.specs.declared.needless.NeedlessRule.{NeedlessRule}
 use Rattle.robots_needless.specs.declared.needless.Reason.{Reason}
-use Rattle.robots_needless.specs.Blocks.{KeepBlocks, is_found, no_rule}
+use Rattle.texting_robots.proofs.{BestLemmas.placed_of, HeldLemmas.rejection_is_computed}
+use Rattle.robots_needless.specs.Blocks.{KeepBlocks, is_found, left_from, no_rule}
+use Rattle.robots_needless.specs.Deleted.{AreFoundIn, begin_with_mark}
 use Rattle.robots_needless.specs.Internal.{AddsFound, AddsLines, AddsNumber, AreFree, AreReasons, AreSettled}
 use Rattle.robots_needless.specs.Internal.{Grow, Has, HasLine, IsReducedTo, IsSettled, Reasons, rule_at}
 use Rattle.robots_needless.specs.Needless.{AreFound, AreNeedless, IsFound, IsFoundFor, numbers_of, without}
-use Rattle.robots_needless.proofs.BlockLemmas.{deleted, same_test}
-use Rattle.robots_needless.proofs.DistinctLemmas.{in_filter, to_filter}
+use Rattle.robots_needless.proofs.BlockLemmas.{among, deleted, delays_stay, left_are, same_test, sitemaps_stay}
+use Rattle.robots_needless.proofs.DistinctLemmas.{in_filter, in_named, named_in, of_map, to_filter, to_map}
+use Rattle.robots_needless.proofs.KeptLemmas.{all_keep}
 use Rattle.robots_needless.proofs.TogetherLemmas.{both_ways, denied_same, verdicts}
-
--- ---- members
-
-to_map : {A B : Type 0} (f : A → B) (xs : List A) (x : A) → Contains xs x → Contains (map f xs) (f x)
-to_map f [] x (k, below, at) = absurd (omega arith)
-to_map f (z ∷ xs) x (zero, below, at) = (0, omega arith, ap f at)
-to_map f (z ∷ xs) x (suc k, below, at) =
-    let (j, less, is) = to_map f xs x (k, omega arith, at) in (suc j, omega arith, is)
-
-of_map : {A B : Type 0} (f : A → B) (xs : List A) (y : B) → Contains (map f xs) y
-    → (x : A) × Contains xs x × (f x ≡ y)
-of_map f [] y (k, below, at) = absurd (omega arith)
-of_map f (x ∷ xs) y (zero, below, at) = (x, (0, omega arith, refl), at)
-of_map f (x ∷ xs) y (suc k, below, at) =
-    let (z, (j, less, has), is) = of_map f xs y (k, omega arith, at) in (z, (suc j, omega arith, has), is)
-
-named_in : (n : ℕ) (numbers : List ℕ) → Contains numbers n → list_any (λ number. number == n) numbers ≡ true
-named_in n [] (k, below, at) = absurd (omega arith)
-named_in n (first ∷ numbers) (zero, below, at) = rw ((Decides-eqb first n).1 at) refl
-named_in n (first ∷ numbers) (suc k, below, at) = elim (cases_Bool (first == n)) [
-  | inl here ↦ rw here refl
-  | inr other ↦ rw other (named_in n numbers (k, omega arith, at))
-]
-
-in_named : (n : ℕ) (numbers : List ℕ) → list_any (λ number. number == n) numbers ≡ true → Contains numbers n
-in_named n [] is = cc
-in_named n (first ∷ numbers) is =
-    elim (or_cases (first == n) (list_any (λ number. number == n) numbers) is) [
-      | inl here ↦ (0, omega arith, eqb-true first n here)
-      | inr later ↦ let (k, below, at) = in_named n numbers later in (suc k, omega arith, at)
-    ]
 
 -- ---- one more line
 
@@ -134,11 +107,25 @@ no_reasons lines found empty line reason at = let wrong = rw empty at at in cc
 
 -- ---- one crawler
 
+-- none of the rules is overlong
+abbrev pub AreAccepted : List PlacedRule → Type 0
+AreAccepted rules = All (λ (placed : PlacedRule). ¬ IsOverlong placed.rule.0) rules
+
+not_rejected : (agent : List ℕ) (lines : List LineValue) → AreAccepted (placed_rules agent lines)
+    → ¬ IsRejected agent lines
+not_rejected agent lines all rejected =
+    let rules = placed_rules agent lines in
+    let (k, rule, below, at, overlong) = (rejection_is_computed agent lines).0 rejected in
+    let (placed, listed, is) = placed_of rules rule (k, below, at) in
+    All-contains (λ (one : PlacedRule). ¬ IsOverlong one.rule.0) rules placed all listed
+    (subst (λ (r : Rule). IsOverlong r.0) (sym is) overlong)
+
 module _ (rules left : List PlacedRule) (found : List NeedlessRule) (old new : Reasons)
     (stayed stays : BTreeSet ℕ) (adds : AddsFound old new found)
     (lines_stay : AddsLines stayed stays left) where
-  pub settled_by : IsReducedTo rules left (numbers_of found) → IsSettled rules new stays
-  settled_by is = record {
+  pub settled_by : AreAccepted rules → IsReducedTo rules left (numbers_of found) → IsSettled rules new stays
+  settled_by accepted is = record {
+    accepted = accepted;
     left = left;
     removed = is.removed;
     same = is.same;
@@ -168,6 +155,7 @@ module _ (rules left : List PlacedRule) (found : List NeedlessRule) (old new : R
 pub settled_grows : (rules : List PlacedRule) (old new : Reasons) (stayed stays : BTreeSet ℕ)
     → Grow old new stayed stays → IsSettled rules old stayed → IsSettled rules new stays
 settled_grows rules old new stayed stays grow is = record {
+  accepted = is.accepted;
   left = is.left;
   removed = is.removed;
   same = is.same;
@@ -299,30 +287,61 @@ pub are_found : (lines : List LineValue) (found : Reasons) (stays : BTreeSet ℕ
     → list ≡ map rule_at found.entries → AreFree list stays
     → AreSettled lines (codes "*" ∷ agents_in lines) found stays → All (IsFoundFor lines) list
     → KeepBlocks found lines → AreFound lines list
-are_found lines found stays list are free settled reasons keep = record {
-  together = λ agent has.
-      settled_needless found stays list are free (placed_rules agent lines) (settled agent has);
-  deleted = deleted (numbers_of list) lines
-      (same_test (λ n. list_any (λ number. number == n) (numbers_of list)) (is_found found)
-      (is_key found list are) no_rule 0 lines ∙ keep);
-  reasons = reasons;
+are_found lines found stays list are free settled reasons keep =
+    let numbers = numbers_of list in
+    let keeps =
+    same_test (among numbers) (is_found found) (is_key found list are) no_rule 0 lines ∙ keep in
+    record {
+      together = λ agent has.
+          settled_needless found stays list are free (placed_rules agent lines) (settled agent has);
+      deleted = deleted numbers lines keeps;
+      delays = delays_stay numbers lines keeps;
+      sitemaps = sitemaps_stay numbers lines keeps;
+      blocks = all_keep lines list keeps reasons;
+      accepted = λ some agent has. not_rejected agent lines (settled agent has).accepted;
+      reasons = reasons;
+    }
+
+same_left : {A : Type 0} (one other : ℕ → Bool) → ((n : ℕ) → one n ≡ other n) → (position : ℕ)
+    (lines : List A) → left_from one position lines ≡ left_from other position lines
+same_left one other same position [] = refl
+same_left one other same position (line ∷ lines) =
+    rw (same (position + 1), same_left one other same (position + 1) lines) refl
+
+pub are_found_in : (text : List ℕ) (found : Reasons) (list : List NeedlessRule)
+    → list ≡ map rule_at found.entries → AreFound (file_lines text) list
+    → begin_with_mark (left_from (is_found found) 0 (file_bodies text)) ≡ false → AreFoundIn text list
+are_found_in text found list are lines front = record {
+  lines = lines;
+  front = λ some. ap begin_with_mark (left_are (numbers_of list) 0 (file_bodies text)
+      ∙ same_left (among (numbers_of list)) (is_found found) (is_key found list are) 0 (file_bodies text))
+      ∙ front;
 }
 
 all_left : (rules : List PlacedRule) → without [] rules ≡ rules
 all_left [] = refl
 all_left (rule ∷ rules) = ap (λ rs. rule ∷ rs) (all_left rules)
 
-all_lines : (position : ℕ) (lines : List LineValue)
-    → map (λ (p : ℕ × LineValue). p.1)
-    (filter (λ (p : ℕ × LineValue). true) (enumerate_from position lines)) ≡ lines
+all_lines : {A : Type 0} (position : ℕ) (lines : List A)
+    → map (λ (p : ℕ × A). p.1) (filter (λ (p : ℕ × A). true) (enumerate_from position lines)) ≡ lines
 all_lines position [] = refl
 all_lines position (line ∷ lines) = ap (λ ls. line ∷ ls) (all_lines (position + 1) lines)
 
-pub nothing_found : (lines : List LineValue) (list : List NeedlessRule) → list ≡ [] → AreFound lines list
-nothing_found lines list none = rw none (record {
+nothing_in_lines : (lines : List LineValue) → AreFound lines []
+nothing_in_lines lines = record {
   together = λ agent has text answer.
       rw (all_left (placed_rules agent lines)) (λ is. is, λ is. is);
   deleted = λ agent.
       rw (all_left (placed_rules agent lines)) (ap (λ ls. rules_for agent ls) (all_lines 0 lines));
+  delays = λ agent. ap (λ ls. delay_for agent ls) (all_lines 0 lines);
+  sitemaps = ap sitemaps_in (all_lines 0 lines);
+  blocks = λ number (k, below, at). absurd (omega arith);
+  accepted = λ some. absurd (some refl);
   reasons = All-nil (IsFoundFor lines);
+}
+
+pub nothing_found : (text : List ℕ) (list : List NeedlessRule) → list ≡ [] → AreFoundIn text list
+nothing_found text list none = rw none (record {
+  lines = nothing_in_lines (file_lines text);
+  front = λ some. absurd (some refl);
 })

@@ -4,7 +4,7 @@ use Rattle.std.specs.Prelude.{◌≡◌, ℕ, ◌+◌, Bool, true, false, not, L
 use Rattle.std.specs.Prelude.{if◌then◌else◌}
 use Rattle.std.specs.{BTreeMap.get, Option.is_some, Option.option_map_or, Ordering.nat_cmp}
 use Rattle.texting_robots.specs.{Group.is_agent, Line.LineValue}
-use Rattle.texting_robots.specs.Line.{Allow, Disallow}
+pub use Rattle.robots_needless.specs.Needless.{is_rule}
 use Rattle.robots_needless.specs.declared.blocks.Block.{Block}
 use Rattle.robots_needless.specs.Internal.{Reasons}
 
@@ -17,12 +17,6 @@ abbrev pub with_rule : Block → Bool → Block
 with_rule block gone =
     if gone then record { is_lost = not block.has_rule; has_rule = block.has_rule }
     else record { is_lost = false; has_rule = true }
-
--- an Allow or a Disallow
-abbrev pub is_rule : LineValue → Bool
-is_rule (Allow value) = true
-is_rule (Disallow value) = true
-is_rule line = false
 
 -- one more line; none if a line is removed that isn't a rule, or all rules above a user-agent line are
 abbrev pub block_after : Block → Bool → LineValue → Option Block
@@ -38,6 +32,13 @@ keep_blocks_from gone block position [] = not block.is_lost
 keep_blocks_from gone block position (line ∷ lines) =
     option_map_or (λ (next : Block). keep_blocks_from gone next (position + 1) lines)
     (block_after block (gone (position + 1)) line) false
+
+-- the lines that are left of those from a position on
+abbrev pub left_from : {A : Type 0} → (ℕ → Bool) → ℕ → List A → List A
+left_from gone position [] = []
+left_from gone position (line ∷ lines) =
+    if gone (position + 1) then left_from gone (position + 1) lines
+    else line ∷ left_from gone (position + 1) lines
 
 -- whether a line is found
 abbrev pub is_found : Reasons → ℕ → Bool

@@ -1,11 +1,12 @@
 -- How the check compares patterns, and when it finds a rule needless.
 use Rattle.std.specs.Prelude.{◌≡◌, ◌≢◌, ◌⊎◌, ◌↔◌, ℕ, ◌<◌, ◌≤◌, ◌==◌, true, false, List, [], ◌∷◌}
 use Rattle.std.specs.Prelude.{◌++◌, All, Contains, IsPermutation, None, Option, Some, length, slice_index}
-use Rattle.std.specs.Prelude.{if◌then◌else◌}
+use Rattle.std.specs.Prelude.{if◌then◌else◌, ◌&&◌, Bool, bytes_eq, codes}
 use Rattle.std.specs.BTreeMap.{BTreeMap, get}
 use Rattle.std.specs.BTreeSet.{BTreeSet, contains}
 use Rattle.std.specs.{Option.IsSome, Ordering.nat_cmp}
-use Rattle.texting_robots.specs.Callers.{IsDenied, LineValue, PlacedRule, Rule, placed_rules, unplaced}
+use Rattle.texting_robots.specs.Callers.{IsDenied, IsOverlong, LineValue, PlacedRule, Rule, placed_rules}
+use Rattle.texting_robots.specs.Callers.{unplaced}
 use Rattle.texting_robots.specs.Pattern.{dollar, star}
 use Rattle.robots_needless.specs.declared.needless.NeedlessRule.{NeedlessRule}
 use Rattle.robots_needless.specs.declared.needless.Reason.{Reason}
@@ -27,6 +28,10 @@ generic (b ∷ q) =
 abbrev pub IsMatcherOf : List ℕ → Option (List ℕ) → Type 0
 IsMatcherOf pattern None = All IsPlainByte pattern
 IsMatcherOf pattern (Some regex) = regex ≡ pattern
+
+-- `Allow: /` or an empty Disallow
+abbrev pub allows_all : Rule → Bool
+allows_all rule = rule.1 && bytes_eq rule.0 (codes "/")
 
 -- from this floor on, the other rule is no rival of the rule: it isn't of the other kind, or doesn't rank
 -- below the rule and at least as high as the floor, or matches no text that the rule matches
@@ -119,8 +124,9 @@ pub record AddsFound (old new : Reasons) (rules : List NeedlessRule) : Type 0 wh
       → (get nat_cmp old line ≡ Some reason) ⊎ Contains rules (record { line = line; reason = reason })
 
 -- the rules, without some in the lines that are found, are those left, which are in lines
--- that stay, and deny the same texts
+-- that stay, and deny the same texts; none of the rules is overlong
 pub record IsSettled (rules : List PlacedRule) (found : Reasons) (stays : BTreeSet ℕ) : Type 0 where
+  pub accepted : All (λ (placed : PlacedRule). ¬ IsOverlong placed.rule.0) rules
   pub left : List PlacedRule
   pub removed : List PlacedRule
   pub same : IsPermutation rules (left ++ removed)

@@ -1,4 +1,5 @@
 pub mod Needless
+pub mod Deleted
 pub mod Internal
 pub mod Blocks
 pub mod Prefixes

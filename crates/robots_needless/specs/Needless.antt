@@ -1,13 +1,14 @@
 -- Rules that can be removed without changing a verdict.
 use Rattle.std.specs.Prelude.{◌≡◌, ◌≢◌, ◌↔◌, ◌≤◌, ◌<◌, ℕ, ◌+◌, ◌==◌, length, not}
-use Rattle.std.specs.Prelude.{All, AllPairs, Bool, true, Contains, List, [], ◌∷◌, codes, filter, map}
+use Rattle.std.specs.Prelude.{All, AllPairs, Bool, false, true, Contains, IsTrue, List, [], ◌∷◌, codes, filter, map}
 use Rattle.std.specs.List.{enumerate_from, list_any}
 use Rattle.robots_needless.specs.declared.needless.NeedlessRule.{NeedlessRule}
 use Rattle.robots_needless.specs.declared.needless.Reason.{Reason}
 use Rattle.robots_needless.specs.declared.needless.Reason.TheVariants as reasons
-use Rattle.texting_robots.specs.Callers.{IsVerdict, LineValue, Matches, PlacedRule, Rule, agents_in}
-use Rattle.texting_robots.specs.Callers.{placed_rules, robots_file, rules_for, unplaced}
-use Rattle.texting_robots.specs.Internal.Entries.{rank}
+use Rattle.texting_robots.specs.Callers.{IsRejected, IsVerdict, LineValue, Matches, PlacedRule, Rule, agents_in}
+use Rattle.texting_robots.specs.Callers.{delay_for, placed_rules, robots_file, rules_for, sitemaps_in, unplaced}
+use Rattle.texting_robots.specs.{Group.is_agent, Group.passes_at, Internal.Entries.rank}
+use Rattle.texting_robots.specs.Line.{Allow, Disallow}
 
 -- the lines of the rules
 abbrev pub lines_of : List PlacedRule → List ℕ
@@ -80,11 +81,28 @@ IsFound rules found =
     × IsReason rules placed found.reason
 
 -- the lines without those with these numbers, counted from 1
-abbrev pub lines_without : List ℕ → List LineValue → List LineValue
-lines_without numbers lines =
-    map (λ (p : ℕ × LineValue). p.1)
-    (filter (λ (p : ℕ × LineValue). not (list_any (λ number. number == p.0 + 1) numbers))
-    (enumerate_from 0 lines))
+abbrev pub lines_without : {A : Type 0} → List ℕ → List A → List A
+lines_without {A = A} numbers lines =
+    map (λ (p : ℕ × A). p.1)
+    (filter (λ (p : ℕ × A). not (list_any (λ number. number == p.0 + 1) numbers)) (enumerate_from 0 lines))
+
+-- the line is an Allow or a Disallow
+abbrev pub is_rule : LineValue → Bool
+is_rule (Allow value) = true
+is_rule (Disallow value) = true
+is_rule line = false
+
+-- the line with this number is a rule, and another rule in its block, that is, with no user-agent line
+-- between them, is in none of the lines with these numbers
+pub record KeepsRule (numbers : List ℕ) (lines : List LineValue) (number : ℕ) : Type 0 where
+  pub position : ℕ
+  pub number_is : number ≡ position + 1
+  pub rule : IsTrue (passes_at is_rule lines position)
+  pub other : ℕ
+  pub stays : ¬ Contains numbers (other + 1)
+  pub other_rule : IsTrue (passes_at is_rule lines other)
+  pub below : (k : ℕ) → position < k → k < other → ¬ IsTrue (passes_at is_agent lines k)
+  pub above : (k : ℕ) → other < k → k < position → ¬ IsTrue (passes_at is_agent lines k)
 
 -- the same for the rules of some crawler in these lines of a file
 abbrev pub IsFoundFor : List LineValue → NeedlessRule → Type 0
@@ -95,7 +113,15 @@ pub record AreFound (lines : List LineValue) (found : List NeedlessRule) : Type 
   -- `*`, and each crawler that the file names
   pub together : (agent : List ℕ) → Contains (codes "*" ∷ agents_in lines) agent
       → AreNeedless (placed_rules agent lines) (numbers_of found)
-  -- deleting their lines from the file removes them from each crawler's rules, and no other rules
+  -- deleting their lines removes them from each crawler's rules, and no other rules, delays and sitemaps
   pub deleted : (agent : List ℕ) → rules_for agent (lines_without (numbers_of found) lines)
       ≡ unplaced (without (numbers_of found) (placed_rules agent lines))
+  pub delays : (agent : List ℕ) → delay_for agent (lines_without (numbers_of found) lines)
+      ≡ delay_for agent lines
+  pub sitemaps : sitemaps_in (lines_without (numbers_of found) lines) ≡ sitemaps_in lines
+  -- each block keeps a rule, as other parsers may ignore delays
+  pub blocks : (number : ℕ) → Contains (numbers_of found) number → KeepsRule (numbers_of found) lines number
+  -- if there are any, no such crawler has an overlong rule
+  pub accepted : found ≢ [] → (agent : List ℕ) → Contains (codes "*" ∷ agents_in lines) agent
+      → ¬ IsRejected agent lines
   pub reasons : All (IsFoundFor lines) found

@@ -1,7 +1,10 @@
 //! Theorems about the specification. Each is the contract of an empty function.
-ghost use Rattle.std.specs.Prelude.{◌≡◌, ◌≢◌, ◌↔◌, ◌∷◌, ◌++◌, ℕ, All, Bool, Contains, IsPermutation, List, codes, false};
-ghost use Rattle.texting_robots.specs.Callers.{IsVerdict, LineValue, Matches, PlacedRule, agents_in, is_named, placed_rules, rules_for};
+ghost use Rattle.std.specs.Prelude.{◌≡◌, ◌≢◌, ◌↔◌, ◌∷◌, ◌++◌, ℕ, All, Bool, Contains, IsPermutation, List, [], codes, false};
+ghost use Rattle.std.specs.Str.{IsUtf8};
+ghost use Rattle.texting_robots.specs.Callers.{IsVerdict, LineValue, Matches, PlacedRule, agents_in, is_named, placed_rules};
+ghost use Rattle.texting_robots.specs.Callers.{rules_for};
 ghost use Rattle.robots_needless.specs.declared.needless.NeedlessRule.{NeedlessRule};
+ghost use Rattle.robots_needless.specs.Deleted.{AreFoundIn, AreWholeLines, HaveSameRobot, IsLeftOf};
 ghost use Rattle.robots_needless.specs.Examples as example;
 ghost use Rattle.robots_needless.specs.Internal.{CanGoInTurn, fresh, generic};
 ghost use Rattle.robots_needless.specs.Needless.{AreDistinct, AreFound, AreNeedless, Covers, lines_of, lines_without, numbers_of};
@@ -29,6 +32,19 @@ pub fn deleting_changes_no_verdict()
         → Contains (codes "*" ∷ agents_in lines) agent → (text : List ℕ) (answer : Bool)
         → IsVerdict (rules_for agent lines) text answer
         ↔ IsVerdict (rules_for agent (lines_without (numbers_of found) lines)) text answer }
+{}
+
+/// If the found lines are deleted from a file, with their line ends, each crawler's robot has the same verdicts,
+/// delay and sitemaps, and whether the file is rejected for it stays the same. The byte order mark of the file may
+/// stay, or be deleted too.
+pub fn deleting_changes_no_robot()
+    ensures { (file left : List ℕ) (found : List NeedlessRule) (agent : List ℕ) → AreFoundIn file found
+        → found ≢ [] → IsLeftOf (numbers_of found) file left → IsUtf8 agent → HaveSameRobot agent file left }
+{}
+
+/// Each file is cut into whole lines, so that there is a file that is left if lines are deleted.
+pub fn each_file_has_whole_lines()
+    ensures { (file : List ℕ) → (whole : List (List ℕ)) × AreWholeLines whole file }
 {}
 
 /// A crawler that no user-agent line names has the rules of `*`, so they don't change for it either.

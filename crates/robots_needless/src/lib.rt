@@ -2,6 +2,7 @@
 #![tactic(auto)]
 
 mod blocks;
+mod front;
 mod generic;
 pub mod laws;
 pub mod lines;

@@ -1,11 +1,13 @@
 //! Which lines of a file have rules that are needless for every crawler.
-ghost use Rattle.std.specs.Prelude.{◌≡◌, ◌∷◌, All, Contains, IfOk, IsTrue, List, OnOk, codes, map, ℕ};
-ghost use Rattle.texting_robots.specs.Callers.{LineValue, agents_in, file_lines, placed_rules};
-ghost use Rattle.robots_needless.specs.Blocks.{KeepBlocks};
+ghost use Rattle.std.specs.Prelude.{◌≡◌, ◌∷◌, All, Contains, IfOk, IsTrue, List, OnOk, codes, false, map, ℕ};
+ghost use Rattle.texting_robots.specs.Callers.{LineValue, agents_in, file_bodies, file_lines, placed_rules};
+ghost use Rattle.robots_needless.specs.Blocks.{KeepBlocks, is_found, left_from};
 ghost use Rattle.robots_needless.specs.Internal.{AddsFound, AddsLines, AddsNumber, AreFree, AreReasons, AreSettled, Grow, IsSettled, rule_at};
-ghost use Rattle.robots_needless.specs.Needless.{AreFound, IsFoundFor};
+ghost use Rattle.robots_needless.specs.Deleted.{AreFoundIn, begin_with_mark};
+ghost use Rattle.robots_needless.specs.Needless.{IsFoundFor};
 
 use crate::blocks::{add_lost, keep_blocks};
+use crate::front::left_begin_with_mark;
 use crate::needless::{Budget, NeedlessRule, Numbers, Reason};
 use crate::plain::settle;
 use crate::rule::{Rule, rules_for};
@@ -155,7 +157,7 @@ fn listed(alloc: Global, found: &BTreeMap<usize, Reason>) -> Result<Vec<Needless
 
 /// No rules.
 fn nothing(alloc: Global) -> Vec<NeedlessRule>
-    ensures { (lines : List LineValue) → AreFound lines result.items }
+    ensures { (text : List ℕ) → AreFoundIn text result.items }
 {
     Vec::new(alloc)
 }
@@ -172,20 +174,23 @@ fn are_free(rules: &[NeedlessRule], stays: &Numbers) -> bool
     true
 }
 
-/// Whether the rules can be removed: none is in a line that stays, and each block that has rules keeps one.
+/// Whether the rules can be removed: none is in a line that stays, each block that has rules keeps one, and what
+/// is left doesn't begin with a byte of the byte order mark.
 fn can_be_removed(rules: &[NeedlessRule], findings: &Findings, text: &[u8]) -> bool
     ensures free { IsTrue result → AreFree rules.now findings.now.stays }
     ensures keep { IsTrue result → KeepBlocks findings.now.found (file_lines text.now) }
+    ensures front { IsTrue result
+        → begin_with_mark (left_from (is_found findings.now.found) 0 (file_bodies text.now)) ≡ false }
 {
     if !are_free(rules, &findings.stays) {
         return false;
     }
-    keep_blocks(text, &findings.found)
+    keep_blocks(text, &findings.found) && !left_begin_with_mark(text, &findings.found)
 }
 
 /// The needless rules of all crawlers, in order, or none if lines are still found to be needed in the last round.
 fn settled_lines(alloc: Global, site: &Site) -> Result<Vec<NeedlessRule>, Error>
-    ensures { IfOk result (λ found. AreFound (file_lines site.now) found.items) }
+    ensures { IfOk result (λ found. AreFoundIn site.now found.items) }
 {
     let mut budget = Budget::whole();
     let mut stays = BTreeSet::new(alloc);
@@ -204,13 +209,14 @@ fn settled_lines(alloc: Global, site: &Site) -> Result<Vec<NeedlessRule>, Error>
 /// The lines of rules that can be removed together without changing a verdict of any crawler, in order. There
 /// may be more: a rule that several others replace only together isn't found, nor is the last one of a block,
 /// and a bounded number of bytes is compared. None is found if a rule is too long, so that the file is
-/// rejected for a crawler, or if crawlers need each other's rules in too many ways.
+/// rejected for a crawler, if crawlers need each other's rules in too many ways, or if what is left would begin
+/// with a byte of the byte order mark.
 ///
 /// # Errors
 ///
 /// `AllocError` if an allocation fails.
 pub fn needless_lines(alloc: Global, site: &Site) -> Result<Vec<NeedlessRule>, AllocError>
-    ensures { IfOk result (λ found. AreFound (file_lines site.now) found.items) }
+    ensures { IfOk result (λ found. AreFoundIn site.now found.items) }
 {
     match settled_lines(alloc, site) {
         Ok(found) => Ok(found),

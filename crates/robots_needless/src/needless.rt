@@ -1,7 +1,9 @@
 //! Which rules of a crawler are needless.
-ghost use Rattle.std.specs.Prelude.{◌≡◌, ◌≢◌, ◌≤◌, ◌++◌, All, Contains, IfOk, IfSome, IsPermutation, IsTrue, List};
+ghost use Rattle.std.specs.Prelude.{◌≡◌, ◌≢◌, ◌≤◌, ◌++◌, ◌+◌, ◌&&◌, All, Contains, IfOk, IfSome, IsPermutation, IsTrue, List};
+ghost use Rattle.std.specs.Prelude.{false, nat_lt, not};
+ghost use Rattle.std.specs.{BTreeSet.contains, Ordering.nat_cmp};
 ghost use Rattle.texting_robots.specs.Callers.{PlacedRule, unplaced};
-ghost use Rattle.robots_needless.specs.Internal.{AreAmong, CanGo, HasNoRival, IsNoRival, IsReducedTo, CanReplace};
+ghost use Rattle.robots_needless.specs.Internal.{AreAmong, CanGo, HasNoRival, IsNoRival, IsReducedTo, CanReplace, allows_all};
 ghost use Rattle.robots_needless.specs.Needless.{IsFound, IsReason, Overrules, TakesPrecedence, numbers_of};
 
 use crate::rule::Rule;
@@ -45,12 +47,18 @@ pub(crate) struct Budget {
 
 impl Budget {
     /// Nothing was compared yet.
-    pub(crate) fn whole() -> Self {
+    pub(crate) fn whole() -> Self
+        ensures { result.left ≡ 50000000 }
+    {
         Budget { left: BUDGET }
     }
 
     /// Whether so many bytes may still be compared. They are subtracted, and so is one more for the call.
-    pub(crate) fn spend(&mut self, bytes: usize) -> bool {
+    pub(crate) fn spend(&mut self, bytes: usize) -> bool
+        ensures enough { result ≡ nat_lt bytes self.old.left }
+        ensures less { IsTrue result → self.new.left + (bytes + 1) ≡ self.old.left }
+        ensures same { result ≡ false → self.new.left ≡ self.old.left }
+    {
         if bytes >= self.left {
             return false;
         }
@@ -195,7 +203,9 @@ pub(crate) fn reason_among(
 
 /// Whether the rule is in none of the lines that stay, and isn't `Allow: /` or an empty
 /// Disallow, which are meant as they are.
-pub(crate) fn may_go(stays: &Numbers, rule: &Rule) -> bool {
+pub(crate) fn may_go(stays: &Numbers, rule: &Rule) -> bool
+    ensures { result ≡ (not (contains nat_cmp stays.now rule.now.line) && not (allows_all rule.now.rule)) }
+{
     !stays.contains(&rule.line()) && !rule.allows_all()
 }
 

@@ -1,5 +1,6 @@
 //! A crawler's rules, prepared for comparison with each other.
-ghost use Rattle.std.specs.Prelude.{◌≡◌, ◌↔◌, ◌++◌, ◌<◌, ◌^◌, All, IfErr, IfOk, IsTrue, option_map, string_bytes};
+ghost use Rattle.std.specs.Prelude.{◌≡◌, ◌↔◌, ◌++◌, ◌<◌, ◌^◌, All, IfErr, IfOk, IfSome, IsTrue, OnOk, length, option_map};
+ghost use Rattle.std.specs.Prelude.{string_bytes};
 ghost use Rattle.texting_robots.specs.Callers.{IsFileRejected, IsMemoryErrorOr, IsOverlong, Matches, escaped, file_lines, placed_rules};
 ghost use Rattle.std.specs.Option.{IsSomeAnd};
 ghost use Rattle.std.specs.Str.{is_utf8};
@@ -7,7 +8,7 @@ ghost use Rattle.texting_robots.specs.Executable.{rule_with};
 ghost use Rattle.texting_robots.specs.Internal.Entries.{rank};
 ghost use Rattle.texting_robots.specs.Internal.Group.{placed};
 ghost use Rattle.texting_robots.specs.Internal.Site.{rule_of, tag_of};
-ghost use Rattle.robots_needless.specs.Internal.{IsMatcherOf, fresh};
+ghost use Rattle.robots_needless.specs.Internal.{IsMatcherOf, allows_all, fresh, generic};
 ghost use Rattle.robots_needless.specs.Needless.{AreApart, Covers, MatchesNothing, rank_of};
 ghost use Rattle.robots_needless.specs.Prefixes.{IsPlain};
 
@@ -85,7 +86,9 @@ impl Rule {
     }
 
     /// How many bytes of it are compared with another rule.
-    pub(crate) fn cost(&self) -> usize {
+    pub(crate) fn cost(&self) -> usize
+        ensures { result ≡ length (generic self.now.rule.0) }
+    {
         self.generic_text.len()
     }
 
@@ -115,7 +118,9 @@ impl Rule {
     }
 
     /// Whether it is `Allow: /` or an empty Disallow, which say that all is allowed.
-    pub(crate) fn allows_all(&self) -> bool {
+    pub(crate) fn allows_all(&self) -> bool
+        ensures { result ≡ allows_all self.now.rule }
+    {
         self.is_allow && self.pattern.as_str() == "/"
     }
 
@@ -158,6 +163,7 @@ fn pattern_of(alloc: Global, value: &[u8]) -> Result<String, AllocError>
 /// The matcher of a pattern, unless the pattern has no star and no dollar.
 fn matcher_of(alloc: Global, pattern: &str) -> Result<Option<Box<MinRegex>>, Error>
     ensures matcher { IfOk result (λ made. IsMatcherOf pattern.now (option_map (λ matcher. matcher.value) made)) }
+    ensures accepted { OnOk result (¬ IsOverlong pattern.now) }
     ensures rejected { IfErr result (IsMemoryErrorOr (IsOverlong pattern.now)) }
 {
     if is_plain(pattern.as_bytes()) {
@@ -175,6 +181,7 @@ fn rule_with(
     line: usize,
 ) -> Result<Option<Rule>, Error>
     ensures rule { IfOk result (λ rule. rule ≡ placed line (rule_with value.now is_allow)) }
+    ensures accepted { IfOk result (λ rule. IfSome rule (λ placed. ¬ IsOverlong placed.rule.0)) }
     ensures rejected { IfErr result (IsMemoryErrorOr
         (IsSomeAnd (placed line (rule_with value.now is_allow)) (λ placed. IsOverlong placed.rule.0))) }
 {
@@ -200,6 +207,7 @@ fn rule_with(
 /// The rule in the line, if it has one.
 fn rule_in(alloc: Global, line: &GroupLine<'_>) -> Result<Option<Rule>, Error>
     ensures rule { IfOk result (λ rule. rule ≡ rule_of (tag_of line.now)) }
+    ensures accepted { IfOk result (λ rule. IfSome rule (λ placed. ¬ IsOverlong placed.rule.0)) }
     ensures rejected { IfErr result (IsMemoryErrorOr
         (IsSomeAnd (rule_of (tag_of line.now)) (λ placed. IsOverlong placed.rule.0))) }
 {
@@ -213,6 +221,7 @@ fn rule_in(alloc: Global, line: &GroupLine<'_>) -> Result<Option<Rule>, Error>
 /// The rules that apply to the crawler, in file order.
 pub(crate) fn rules_for(alloc: Global, site: &Site, agent: &str) -> Result<Vec<Rule>, Error>
     ensures rules { IfOk result (λ rules. rules.items ≡ placed_rules agent.now (file_lines site.now)) }
+    ensures accepted { IfOk result (λ rules. All (λ placed. ¬ IsOverlong placed.rule.0) rules.items) }
     ensures rejected { IfErr result (IsMemoryErrorOr (IsFileRejected agent.now site.now)) }
 {
     let mut rules = Vec::new(alloc);

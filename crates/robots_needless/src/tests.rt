@@ -63,6 +63,26 @@ fn rules_that_never_decide_are_found(rt: HostRuntime) {
 }
 
 #[test]
+fn the_first_of_equal_rules_is_named(rt: HostRuntime) {
+    check_case(
+        &rt,
+        b"User-agent: *\nDisallow: /a\nDisallow: /a\nDisallow: /a\n",
+        &[
+            found(3, Reason::NeverDecides(2)),
+            found(4, Reason::NeverDecides(2)),
+        ],
+    );
+    check_case(
+        &rt,
+        b"User-agent: *\nDisallow: /*b\nDisallow: /*b\nDisallow: /*b\n",
+        &[
+            found(3, Reason::NeverDecides(2)),
+            found(4, Reason::NeverDecides(2)),
+        ],
+    );
+}
+
+#[test]
 fn rules_between_are_rivals(rt: HostRuntime) {
     // `/abc` is denied, although `/ab` is allowed
     check_case(
@@ -165,6 +185,12 @@ fn a_block_keeps_a_rule(rt: HostRuntime) {
         b"User-agent: A\nAllow: /a\nAllow: /b\n\nUser-agent: B\nDisallow: /\n",
         &[found(2, Reason::AllowedAnyway)],
     );
+    // the last block, too
+    check_case(
+        &rt,
+        b"User-agent: *\nAllow: /a\nAllow: /b\n",
+        &[found(2, Reason::AllowedAnyway)],
+    );
     // crawlers that ignore delays would give A the rules of B
     check_case(
         &rt,
@@ -175,5 +201,36 @@ fn a_block_keeps_a_rule(rt: HostRuntime) {
         &rt,
         b"User-agent: A\nAllow: /a\nCrawl-delay: 1\n\nUser-agent: B\nDisallow: /\n",
         NONE,
+    );
+}
+
+#[test]
+fn no_delay_or_rejection_changes(rt: HostRuntime) {
+    // without its rule, a would get the delay of b
+    check_case(
+        &rt,
+        b"User-agent: a\nAllow: /x\nUser-agent: b\nCrawl-delay: 5\n",
+        NONE,
+    );
+}
+
+#[test]
+fn no_line_becomes_the_first_one_with_a_mark(rt: HostRuntime) {
+    // without line 1, the mark in line 2 isn't read, and `/` is denied
+    check_case(
+        &rt,
+        b"Disallow: /ab\n\xEF\xBB\xBFDisallow: /\nDisallow: /a\n",
+        NONE,
+    );
+    // a part of the mark isn't read either
+    check_case(
+        &rt,
+        b"\xEF\xBB\xBFDisallow: /ab\n\xBFDisallow: /\nDisallow: /a\n",
+        NONE,
+    );
+    check_case(
+        &rt,
+        b"\xEF\xBB\xBFDisallow: /ab\nDisallow: /a\n\xEF\xBB\xBFDisallow: /\n",
+        &[found(1, Reason::NotNeeded(2))],
     );
 }

@@ -36,6 +36,8 @@ returns-clause-ok c =
       needless = c.in_ok-needless.needless.items;
       needless_are = rw c.in_ok-site.ensures at c.in_ok-needless.ensures.found;
       unrequested = c.in_ok-needless.ensures.unrequested;
+      too_large = λ large. c.in_ok-needless.ensures.too_large
+          (ap (λ facts. facts.is_too_large) c.facts_of-facts.ensures ∙ large);
       labels_are = rw c.labeling_agent.ensures at c.in_ok-labels.ensures;
       agents_are = rw (c.deref-4.ensures.value, names, c.deref-5.ensures.value) at c.in_ok-agents.ensures.ok;
       warnings_are = rw (c.deref-9.ensures.value, all) at c.in_ok-warnings.ensures;

@@ -1,0 +1,167 @@
+-- The lines of what is left of a file are those that stay, but for some empty ones, which are ignored: a line
+-- end without LF and an empty line with LF after it become one line end.
+use Rattle.std.proofs.Common.{◌≡◌, ◌≢◌, inl, inr, ℕ, zero, suc, ◌+◌, Bool, not, List, [], ◌∷◌}
+use Rattle.std.proofs.Common.{◌++◌, All, ap, sym, refl, ◌∙◌, append_assoc, append-nil, filter, map}
+use Rattle.std.proofs.Common.{replicate}
+use Rattle.std.specs.List.{AllByRecursion as Each}
+use Rattle.std.proofs.lemmas.Bool.{cases_Bool, ne_eqb}
+use Rattle.std.proofs.lemmas.List.{Elements.All-head, Elements.All-tail}
+use Rattle.std.proofs.lemmas.List.{Elements.recursion_from_All}
+use Rattle.texting_robots.specs.Cut.{IsBodyByte, IsCut, IsLineEnd, Pair, cr, joined, lf}
+use Rattle.texting_robots.specs.Internal.{Cut.bodies_of, Line.line_of, Statement.statement_of}
+use Rattle.texting_robots.specs.Line.{LineValue, Raw, is_raw}
+use Rattle.texting_robots.proofs.CrLfLemmas.{body_byte, body_return, body_step, step}
+use Rattle.texting_robots.proofs.CutLemmas.{cut_nil}
+use Rattle.robots_needless.specs.Blocks.{left_from}
+
+abbrev pub pair_body : Pair → List ℕ
+pair_body pair = pair.body
+
+-- the lines with these contents that aren't ignored
+abbrev pub meant : List (List ℕ) → List LineValue
+meant bodies = filter (λ (line : LineValue). not (is_raw line)) (map line_of bodies)
+
+meant_next : (first : List ℕ) (bodies others : List (List ℕ)) → meant bodies ≡ meant others
+    → meant (first ∷ bodies) ≡ meant (first ∷ others)
+meant_next first bodies others same = elim (cases_Bool (is_raw (line_of first))) [
+  | inl raw ↦ rw raw same
+  | inr other ↦ rw other (ap (λ lines. line_of first ∷ lines) same)
+]
+
+empty_line : line_of [] ≡ Raw []
+unfolding line_of statement_of
+empty_line = refl
+
+meant_empty : (bodies : List (List ℕ)) → meant ([] ∷ bodies) ≡ meant bodies
+meant_empty bodies = rw empty_line refl
+
+-- ---- a line end, and what follows it
+
+-- the contents of a text that begins with a line end: an empty one, and those of the rest, perhaps without an
+-- empty one
+record IsEnded (text rest : List ℕ) : Type 0 where
+  later : List (List ℕ)
+  bodies : bodies_of text ≡ [] ∷ later
+  same : meant later ≡ meant (bodies_of rest)
+
+after_return : (bodies : List (List ℕ)) → (later : List (List ℕ)) × (body_return bodies ≡ [] ∷ later)
+    × (meant later ≡ meant bodies)
+after_return [] = ([], refl, refl)
+after_return ([] ∷ bodies) = (bodies, refl, sym (meant_empty bodies))
+after_return ((b ∷ first) ∷ bodies) = ((b ∷ first) ∷ bodies, refl, refl)
+
+one_return : (rest : List ℕ) → IsEnded (cr ∷ rest) rest
+one_return rest =
+    let (later, is, same) = after_return (bodies_of rest) in
+    record { later = later; bodies = step cr rest ∙ is; same = same }
+
+more_return : (text rest : List ℕ) → IsEnded text rest → IsEnded (cr ∷ text) rest
+more_return text rest is = record {
+  later = is.later;
+  bodies = step cr text ∙ ap body_return is.bodies;
+  same = is.same;
+}
+
+returns_end : (k : ℕ) (rest : List ℕ) → IsEnded (replicate (suc k) cr ++ rest) rest
+returns_end zero rest = one_return rest
+returns_end (suc k) rest = more_return (replicate (suc k) cr ++ rest) rest (returns_end k rest)
+
+feed_end : (k : ℕ) (rest : List ℕ) → IsEnded ((replicate k cr ++ lf ∷ []) ++ rest) rest
+feed_end zero rest = record { later = bodies_of rest; bodies = step lf rest; same = refl }
+feed_end (suc k) rest = more_return ((replicate k cr ++ lf ∷ []) ++ rest) rest (feed_end k rest)
+
+-- a content before it
+at_body : (b : ℕ) (bodies : List (List ℕ)) → IsBodyByte b → body_step b bodies ≡ body_byte b bodies
+at_body b bodies other = rw (ne_eqb b lf other.1, ne_eqb b cr other.0) refl
+
+body_first : (bytes text : List ℕ) (later : List (List ℕ)) → Each IsBodyByte bytes
+    → bodies_of text ≡ [] ∷ later → bodies_of (bytes ++ text) ≡ bytes ∷ later
+body_first [] text later all is = is
+body_first (b ∷ bytes) text later all is =
+    step b (bytes ++ text) ∙ at_body b _ all.0 ∙ ap (body_byte b) (body_first bytes text later all.1 is)
+
+body_last : (b : ℕ) (bytes : List ℕ) → Each IsBodyByte (b ∷ bytes) → bodies_of (b ∷ bytes) ≡ (b ∷ bytes) ∷ []
+body_last b [] all = step b [] ∙ at_body b _ all.0 ∙ ap (λ pairs. body_byte b (map pair_body pairs)) cut_nil
+body_last b (c ∷ bytes) all =
+    step b (c ∷ bytes) ∙ at_body b _ all.0 ∙ ap (body_byte b) (body_last c bytes all.1)
+
+-- ---- pairs of a cut, and those that are left of them
+
+pub record IsPair (pair : Pair) (later : List Pair) : Type 0 where
+  pub body : Each IsBodyByte pair.body
+  pub ending : IsLineEnd pair.ending
+  pub last : pair.ending ≡ [] → (later ≡ []) × (pair.body ≢ [])
+
+abbrev pub ArePairs : List Pair → Type 0
+ArePairs [] = Unit {0}
+ArePairs (pair ∷ later) = IsPair pair later × ArePairs later
+
+pub cut_pairs : (pairs : List Pair) (text : List ℕ) → IsCut pairs text → ArePairs pairs
+cut_pairs [] text is = tt
+cut_pairs (pair ∷ later) text is = (
+  record {
+    body = recursion_from_All IsBodyByte pair.body
+        (All-head (λ p. All IsBodyByte p.body) pair later is.bodies);
+    ending = All-head (λ p. IsLineEnd p.ending) pair later is.endings;
+    last = is.empty_ending [] later pair refl;
+  },
+  cut_pairs later (joined later) (record {
+    whole = refl;
+    bodies = All-tail (λ p. All IsBodyByte p.body) pair later is.bodies;
+    endings = All-tail (λ p. IsLineEnd p.ending) pair later is.endings;
+    empty_ending = λ front back p e. is.empty_ending (pair ∷ front) back p (ap (λ l. pair ∷ l) e);
+    open_ending =
+        λ front back p next e. is.open_ending (pair ∷ front) back p next (ap (λ l. pair ∷ l) e);
+  }),
+)
+
+pub pairs_left : (gone : ℕ → Bool) (position : ℕ) (pairs : List Pair) → ArePairs pairs
+    → ArePairs (left_from gone position pairs)
+pairs_left gone position [] are = tt
+pairs_left gone position (pair ∷ later) (is, are) =
+    let left = pairs_left gone (position + 1) later are in
+    elim (cases_Bool (gone (position + 1))) [
+      | inl goes ↦ rw goes left
+      | inr stays ↦ rw stays (
+        record {
+          body = is.body;
+          ending = is.ending;
+          last = λ none.
+              let (no_more, some) = is.last none in
+              (ap (left_from gone (position + 1)) no_more, some);
+        },
+        left,
+      )
+    ]
+
+-- the contents of what the pairs are, joined
+first_pair : (bytes ending rest : List ℕ) (later : List (List ℕ)) → Each IsBodyByte bytes → IsLineEnd ending
+    → (ending ≡ [] → (rest ≡ []) × (bytes ≢ [])) → meant (bodies_of rest) ≡ meant later
+    → (ending ≡ [] → later ≡ [])
+    → meant (bodies_of ((bytes ++ ending) ++ rest)) ≡ meant (bytes ∷ later)
+first_pair bytes ending rest later all end last same none = at bytes ending all end last none
+  where
+    ended : (bytes ending : List ℕ) → Each IsBodyByte bytes → IsEnded (ending ++ rest) rest
+        → meant (bodies_of ((bytes ++ ending) ++ rest)) ≡ meant (bytes ∷ later)
+    ended bytes ending all is =
+        ap (λ text. meant (bodies_of text)) (append_assoc bytes ending rest)
+        ∙ ap meant (body_first bytes (ending ++ rest) is.later all is.bodies)
+        ∙ meant_next bytes is.later later (is.same ∙ same)
+
+    at : (bytes ending : List ℕ) → Each IsBodyByte bytes → IsLineEnd ending
+        → (ending ≡ [] → (rest ≡ []) × (bytes ≢ [])) → (ending ≡ [] → later ≡ [])
+        → meant (bodies_of ((bytes ++ ending) ++ rest)) ≡ meant (bytes ∷ later)
+    at [] ending all (zero, inl e) last none = absurd ((last e).1 refl)
+    at (b ∷ bytes) ending all (zero, inl e) last none =
+        rw (e, (last e).0, none e, append-nil bytes, append-nil bytes)
+        (ap meant (body_last b bytes all))
+    at bytes ending all (suc k, inl e) last none = rw e (ended bytes (replicate (suc k) cr) all (returns_end k rest))
+    at bytes ending all (k, inr e) last none = rw e (ended bytes (replicate k cr ++ lf ∷ []) all (feed_end k rest))
+
+pub meant_joined : (pairs : List Pair) → ArePairs pairs → meant (bodies_of (joined pairs)) ≡ meant (map pair_body pairs)
+meant_joined [] are = ap (λ pairs. meant (map pair_body pairs)) cut_nil
+meant_joined (pair ∷ later) (is, are) =
+    first_pair pair.body pair.ending (joined later) (map pair_body later) is.body is.ending
+    (λ none. let (no_more, some) = is.last none in (ap joined no_more, some))
+    (meant_joined later are)
+    (λ none. ap (map pair_body) (is.last none).0)

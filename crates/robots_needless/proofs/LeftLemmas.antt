@@ -1,0 +1,266 @@
+-- If the found lines are deleted from a file, each crawler's robot stays the same.
+use Rattle.std.proofs.Common.{◌≡◌, ◌≢◌, ◌≤◌, ◌↔◌, inl, inr, ℕ, zero, suc, ◌+◌, ◌==◌, ◌||◌, Bool, true, false, not}
+use Rattle.std.proofs.Common.{List, [], ◌∷◌, ◌++◌, Any, IsUtf8, ap, ap₂, sym, refl, subst, ◌∙◌, arith}
+use Rattle.std.proofs.Common.{filter, length, length-append, map}
+use Rattle.std.specs.List.{concat}
+use Rattle.std.proofs.lemmas.Bool.{cases_Bool, false≢true}
+use Rattle.std.proofs.lemmas.List.{map-append}
+use Rattle.texting_robots.specs.Callers.{HasLines, IsOverlong, IsRejected, IsRobotOf, IsVerdict, LineValue}
+use Rattle.texting_robots.specs.Callers.{PlacedRule, RobotValue, Rule, file_bodies}
+use Rattle.texting_robots.specs.Callers.{file_lines, nul_as_lf, placed_rules, rules_for}
+use Rattle.texting_robots.specs.Callers.{unplaced}
+use Rattle.texting_robots.specs.Cut.{IsLineEnd, Pair, joined}
+use Rattle.texting_robots.specs.Internal.{Cut.bodies_of, Cut.cut, Line.line_of}
+use Rattle.texting_robots.specs.{Laws.Same, Line.is_raw, Line.without_front}
+use Rattle.texting_robots.proofs.{BestLemmas.placed_of, CutLemmas.is_cut, CutLemmas.only_cut, GivenLemmas.delay_is_computed}
+use Rattle.texting_robots.proofs.{GivenLemmas.sitemaps_are_computed, HeldLemmas.rejection_is_computed}
+use Rattle.texting_robots.proofs.{LawLemmas.raw_changes_nothing, MainTheoremLemmas.answers_computed}
+use Rattle.texting_robots.proofs.{MainTheoremLemmas.of_lines}
+use Rattle.texting_robots.proofs.LineLemmas.{each_text_has_its_lines, front_is_end, front_read}
+use Rattle.robots_needless.specs.declared.needless.NeedlessRule.{NeedlessRule}
+use Rattle.robots_needless.specs.Blocks.{left_from}
+use Rattle.robots_needless.specs.Deleted.{AreAlike, AreFoundIn, AreWholeLines, HaveSameRobot, IsLeftOf, begin_with_mark}
+use Rattle.robots_needless.specs.Needless.{AreNeedless, lines_without, numbers_of, without}
+use Rattle.robots_needless.proofs.BlockLemmas.{among, left_are}
+use Rattle.robots_needless.proofs.DeletedLemmas.{ArePairs, cut_pairs, meant, meant_joined, pair_body}
+use Rattle.robots_needless.proofs.DeletedLemmas.{pairs_left}
+use Rattle.robots_needless.proofs.MarkLemmas.{IsUnmarked, mark_of, mark_off, mark_read}
+use Rattle.robots_needless.proofs.{DistinctLemmas.in_filter, NameLemmas.star_or_named}
+use Rattle.robots_needless.proofs.TogetherLemmas.{both_ways, unplaced_of}
+
+-- ---- what is left behind it
+
+neither : (a b : Bool) → (a || b) ≡ false → (a ≡ false) × (b ≡ false)
+neither false b none = (refl, none)
+neither true b none = absurd (false≢true (sym none))
+
+unmarked : (pairs : List Pair) → ArePairs pairs → begin_with_mark (map pair_body pairs) ≡ false
+    → IsUnmarked (joined pairs)
+unmarked [] are none = record { first = refl; second = refl; third = refl }
+unmarked (pair ∷ later) (is, are) none = at pair.body pair.ending is.ending is.last none
+  where
+    at : (bytes ending : List ℕ) → IsLineEnd ending → (ending ≡ [] → (later ≡ []) × (bytes ≢ []))
+        → begin_with_mark (bytes ∷ map pair_body later) ≡ false
+        → IsUnmarked ((bytes ++ ending) ++ joined later)
+    at (b ∷ bytes) ending end last none =
+        let (one, rest) = neither (b == 0xEF) ((b == 0xBB) || (b == 0xBF)) none in
+        let (two, three) = neither (b == 0xBB) (b == 0xBF) rest in
+        record { first = rw one refl; second = rw two refl; third = rw three refl }
+    at [] ending (zero, inl e) last none = absurd ((last e).1 refl)
+    at [] ending (suc k, inl e) last none = rw e (record { first = refl; second = refl; third = refl })
+    at [] ending (zero, inr e) last none = rw e (record { first = refl; second = refl; third = refl })
+    at [] ending (suc k, inr e) last none = rw e (record { first = refl; second = refl; third = refl })
+
+map_left : {A B : Type 0} (f : A → B) (gone : ℕ → Bool) (position : ℕ) (lines : List A)
+    → map f (left_from gone position lines) ≡ left_from gone position (map f lines)
+map_left f gone position [] = refl
+map_left f gone position (line ∷ lines) = elim (cases_Bool (gone (position + 1))) [
+  | inl goes ↦ rw goes (map_left f gone (position + 1) lines)
+  | inr stays ↦ rw stays (ap (λ ls. f line ∷ ls) (map_left f gone (position + 1) lines))
+]
+
+map_concat : (f : ℕ → ℕ) (texts : List (List ℕ)) → map f (concat texts) ≡ concat (map (map f) texts)
+map_concat f [] = refl
+map_concat f (text ∷ texts) =
+    map-append f text (concat texts) ∙ ap (λ t. map f text ++ t) (map_concat f texts)
+
+abbrev bytes_of : Pair → List ℕ
+bytes_of pair = pair.body ++ pair.ending
+
+joined_bytes : (pairs : List Pair) → concat (map bytes_of pairs) ≡ joined pairs
+joined_bytes [] = refl
+joined_bytes (pair ∷ later) = ap (λ t. bytes_of pair ++ t) (joined_bytes later)
+
+module _ (numbers file left : List ℕ) (is : IsLeftOf numbers file left)
+    (front : begin_with_mark (lines_without numbers (file_bodies file)) ≡ false) where
+  abbrev gone : ℕ → Bool
+  gone = among numbers
+
+  abbrev kept : List Pair
+  kept = left_from gone 0 is.lines.pairs
+
+  kept_pairs : ArePairs kept
+  kept_pairs = pairs_left gone 0 is.lines.pairs (cut_pairs is.lines.pairs _ is.lines.is_cut)
+
+  bodies_kept : lines_without numbers (file_bodies file) ≡ map pair_body kept
+  bodies_kept =
+      left_are numbers 0 (file_bodies file)
+      ∙ ap (λ pairs. left_from gone 0 (map pair_body pairs)) (sym (only_cut _ is.lines.pairs is.lines.is_cut))
+      ∙ sym (map_left pair_body gone 0 is.lines.pairs)
+
+  text_left : map nul_as_lf (concat (lines_without numbers is.whole)) ≡ joined kept
+  text_left =
+      map_concat nul_as_lf (lines_without numbers is.whole)
+      ∙ ap concat (ap (map (map nul_as_lf)) (left_are numbers 0 is.whole)
+      ∙ map_left (map nul_as_lf) gone 0 is.whole ∙ ap (left_from gone 0) is.lines.read
+      ∙ sym (map_left bytes_of gone 0 is.lines.pairs))
+      ∙ joined_bytes kept
+
+  without_mark : without_front (map nul_as_lf left) ≡ joined kept
+  without_mark =
+      let mark = mark_of file is.mark is.front in
+      let rest = concat (lines_without numbers is.whole) in
+      let read : map nul_as_lf (is.mark ++ rest) ≡ is.mark ++ joined kept =
+      map-append nul_as_lf is.mark rest ∙ rw (mark_read is.mark mark, text_left) refl in
+      ap (λ text. without_front (map nul_as_lf text)) is.rest ∙ ap without_front read
+      ∙ mark_off is.mark (joined kept) mark
+      (unmarked kept kept_pairs (sym (ap begin_with_mark bodies_kept) ∙ front))
+
+  -- the lines that aren't ignored are the same
+  same_lines : filter (λ (line : LineValue). not (is_raw line)) (file_lines left)
+      ≡ filter (λ (line : LineValue). not (is_raw line)) (lines_without numbers (file_lines file))
+  same_lines =
+      ap (λ text. meant (bodies_of text)) without_mark ∙ meant_joined kept kept_pairs
+      ∙ sym (ap (filter (λ (line : LineValue). not (is_raw line))) (left_are numbers 0 (file_lines file)
+      ∙ sym (map_left line_of gone 0 (file_bodies file)) ∙ ap (map line_of) (sym (left_are numbers 0 (file_bodies file))
+      ∙ bodies_kept)))
+
+  pub same_result : (agent : List ℕ) → Same agent (file_lines left) agent (lines_without numbers (file_lines file))
+  same_result agent = raw_changes_nothing agent _ _ same_lines
+
+-- ---- each file has such lines
+
+split_read : (f : ℕ → ℕ) (text front back : List ℕ) → map f text ≡ front ++ back
+    → (one : List ℕ) × (two : List ℕ) × (text ≡ one ++ two) × (map f one ≡ front) × (map f two ≡ back)
+split_read f text [] back is = ([], text, refl, refl, is)
+split_read f [] (b ∷ front) back is = cc
+split_read f (a ∷ text) (b ∷ front) back is =
+    let first : f a ≡ b = cc in
+    let rest : map f text ≡ front ++ back = cc in
+    let (one, two, whole, fits, left) = split_read f text front back rest in
+    (a ∷ one, two, ap (λ t. a ∷ t) whole, ap₂ (λ x t. x ∷ t) first fits, left)
+
+whole_of : (pairs : List Pair) (text : List ℕ) → map nul_as_lf text ≡ joined pairs
+    → (whole : List (List ℕ)) × (map (λ line. map nul_as_lf line) whole ≡ map bytes_of pairs)
+    × (concat whole ≡ text)
+whole_of [] [] is = ([], refl, refl)
+whole_of [] (b ∷ text) is = cc
+whole_of (pair ∷ later) text is =
+    let (one, two, whole, fits, left) = split_read nul_as_lf text (bytes_of pair) (joined later) is in
+    let (lines, read, all) = whole_of later two left in (
+      one ∷ lines,
+      ap₂ (λ line rest. line ∷ rest) fits read,
+      ap (λ t. one ++ t) all ∙ sym whole,
+    )
+
+pub some_lines : (file : List ℕ) → (whole : List (List ℕ)) × AreWholeLines whole file
+some_lines file =
+    let text = without_front (map nul_as_lf file) in
+    let (whole, read, all) = whole_of (cut text) (without_front file)
+    (front_read file ∙ sym (is_cut text).whole) in
+    (whole, record { pairs = cut text; is_cut = is_cut text; read = read; joined = all })
+
+-- ---- it isn't longer
+
+concat_within : (gone : ℕ → Bool) (position : ℕ) (lines : List (List ℕ))
+    → length (concat (left_from gone position lines)) ≤ length (concat lines)
+concat_within gone position [] = omega arith
+concat_within gone position (line ∷ lines) =
+    let less = concat_within gone (position + 1) lines in
+    let all = length-append line (concat lines) in
+    elim (cases_Bool (gone (position + 1))) [
+      | inl goes ↦ rw goes (omega (arith, less, all))
+      | inr stays ↦ rw stays (omega (
+        arith,
+        less,
+        all,
+        length-append line (concat (left_from gone (position + 1) lines)),
+      ))
+    ]
+
+pub left_within : (numbers file left : List ℕ) → IsLeftOf numbers file left → length left ≤ length file
+left_within numbers file left is =
+    let rest = concat (lines_without numbers is.whole) in
+    let less : length rest ≤ length (without_front file) =
+    rw (left_are numbers 0 is.whole, ← is.lines.joined) (concat_within (among numbers) 0 is.whole) in
+    let (mark, whole) = front_is_end file in
+    let all = ap length whole ∙ length-append mark (without_front file) in
+    let both = ap length is.rest ∙ length-append is.mark rest in
+    elim is.front [
+      | inl none ↦ let no_mark = ap length none in omega (arith, less, all, both, no_mark)
+      | inr same ↦
+          let front = sym (length-append is.mark (without_front file)) ∙ ap length same in
+          omega (arith, less, both, front)
+    ]
+
+-- ---- robots
+
+of_file : (file : List ℕ) (P : List LineValue → Type 0)
+    → HasLines file P → P (file_lines file)
+of_file file P is = of_lines file P is (file_lines file) ((each_text_has_its_lines (map nul_as_lf file) _).1 refl)
+
+rejected_alike : (agent other : List ℕ) (lines others : List LineValue)
+    → rules_for agent lines ≡ rules_for other others → IsRejected agent lines → IsRejected other others
+rejected_alike agent other lines others same rejected =
+    (rejection_is_computed other others).1 (subst (Any (λ (rule : Rule). IsOverlong rule.0)) same
+    ((rejection_is_computed agent lines).0 rejected))
+
+-- a rule that stays is one of all
+stays_rejected : (agent : List ℕ) (lines less : List LineValue) (numbers : List ℕ)
+    → rules_for agent less ≡ unplaced (without numbers (placed_rules agent lines))
+    → IsRejected agent less → IsRejected agent lines
+stays_rejected agent lines less numbers are rejected =
+    let rules = placed_rules agent lines in
+    let (k, rule, below, at, overlong) = rw are at ((rejection_is_computed agent less).0 rejected) in
+    let (placed, listed, is) = placed_of (without numbers rules) rule (k, below, at) in
+    let (i, less_than, here) = unplaced_of rules placed (in_filter _ rules placed listed).0 in
+    (rejection_is_computed agent lines).1
+    (i, placed.rule, less_than, here, subst (λ (r : Rule). IsOverlong r.0) (sym is) overlong)
+
+module _ (file left : List ℕ) (found : List NeedlessRule) (are : AreFoundIn file found) (some : found ≢ [])
+    (is : IsLeftOf (numbers_of found) file left) (agent : List ℕ)
+    (utf8 : IsUtf8 agent) where
+  abbrev lines : List LineValue
+  lines = file_lines file
+
+  abbrev less : List LineValue
+  less = lines_without (numbers_of found) lines
+
+  same_as_less : Same agent (file_lines left) agent less
+  same_as_less = same_result (numbers_of found) file left is (are.front some) agent
+
+  needless : AreNeedless (placed_rules agent lines) (numbers_of found)
+  needless =
+      let (name, has, same) = star_or_named agent lines utf8 in
+      subst (λ (rules : List PlacedRule). AreNeedless rules (numbers_of found)) (sym same)
+      (are.lines.together name has)
+
+  verdicts_stay : (text : List ℕ) (answer : Bool)
+      → IsVerdict (rules_for agent lines) text answer ↔ IsVerdict (rules_for agent (file_lines left)) text answer
+  verdicts_stay text answer =
+      both_ways (rw (are.lines.deleted agent) (needless text answer))
+      ((same_as_less.0.verdict text answer).1, (same_as_less.0.verdict text answer).0)
+
+  accepted : ¬ IsRejected agent lines
+  accepted rejected =
+      let (name, has, same) = star_or_named agent lines utf8 in
+      are.lines.accepted some name has (rejected_alike agent name lines lines (ap unplaced same) rejected)
+
+  accepted_left : ¬ IsRejected agent (file_lines left)
+  accepted_left rejected =
+      accepted (stays_rejected agent lines less (numbers_of found) (are.lines.deleted agent)
+      (same_as_less.0.rejection.0 rejected))
+
+  robots_alike : (one two : RobotValue) → IsRobotOf agent lines one → IsRobotOf agent (file_lines left) two
+      → AreAlike one two
+  robots_alike one two is_one is_two = record {
+    delay = (delay_is_computed agent lines one.delay).0 is_one.delay ∙ sym (are.lines.delays agent)
+        ∙ sym same_as_less.0.delay ∙ sym ((delay_is_computed agent _ two.delay).0 is_two.delay);
+    sitemaps = (sitemaps_are_computed lines one.sitemaps).0 is_one.sitemaps ∙ sym are.lines.sitemaps
+        ∙ sym same_as_less.1 ∙ sym ((sitemaps_are_computed _ two.sitemaps).0 is_two.sitemaps);
+    verdicts = λ text answer.
+        let first = (answers_computed agent lines one.rules is_one.rules).verdicts text answer in
+        let second = (answers_computed agent _ two.rules is_two.rules).verdicts text answer in
+        both_ways first (both_ways (verdicts_stay text answer) (second.1, second.0));
+  }
+
+  pub same_robot : HaveSameRobot agent file left
+  same_robot = record {
+    rejection = (
+      λ rejected. absurd (accepted (of_file file (IsRejected agent) rejected)),
+      λ rejected. absurd (accepted_left (of_file left (IsRejected agent) rejected)),
+    );
+    robots = λ one two is_one is_two.
+        robots_alike one two (of_file file (λ ls. IsRobotOf agent ls one) is_one)
+        (of_file left (λ ls. IsRobotOf agent ls two) is_two);
+  }
