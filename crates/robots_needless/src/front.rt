@@ -1,4 +1,5 @@
-//! Whether what is left of a file would begin with a byte of the byte order mark, which isn't read there.
+//! Whether the first line that stays begins with a byte of the byte order mark, which isn't read at the start of
+//! a file.
 ghost use Rattle.std.specs.Prelude.{◌≡◌, ◌∷◌, []};
 ghost use Rattle.texting_robots.specs.Callers.{file_bodies};
 ghost use Rattle.robots_needless.specs.Blocks.{is_found, left_from};

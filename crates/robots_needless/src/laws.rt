@@ -34,9 +34,9 @@ pub fn deleting_changes_no_verdict()
         ↔ IsVerdict (rules_for agent (lines_without (numbers_of found) lines)) text answer }
 {}
 
-/// If the found lines are deleted from a file, with their line ends, each crawler's robot has the same verdicts,
-/// delay and sitemaps, and whether the file is rejected for it stays the same. The byte order mark of the file may
-/// stay, or be deleted too.
+/// If the found lines are deleted from the bytes of a file, with their line ends, each crawler's robot of all its
+/// bytes has the same verdicts, delay and sitemaps, and whether the file is rejected for it stays the same. The
+/// byte order mark of the file may stay, or be deleted too.
 pub fn deleting_changes_no_robot()
     ensures { (file left : List ℕ) (found : List NeedlessRule) (agent : List ℕ) → AreFoundIn file found
         → found ≢ [] → IsLeftOf (numbers_of found) file left → IsUtf8 agent → HaveSameRobot agent file left }

@@ -174,8 +174,8 @@ fn are_free(rules: &[NeedlessRule], stays: &Numbers) -> bool
     true
 }
 
-/// Whether the rules can be removed: none is in a line that stays, each block that has rules keeps one, and what
-/// is left doesn't begin with a byte of the byte order mark.
+/// Whether the rules can be removed: none is in a line that stays, each block that has rules keeps one, and the
+/// first line that stays doesn't begin with a byte of the byte order mark.
 fn can_be_removed(rules: &[NeedlessRule], findings: &Findings, text: &[u8]) -> bool
     ensures free { IsTrue result → AreFree rules.now findings.now.stays }
     ensures keep { IsTrue result → KeepBlocks findings.now.found (file_lines text.now) }
@@ -209,8 +209,9 @@ fn settled_lines(alloc: Global, site: &Site) -> Result<Vec<NeedlessRule>, Error>
 /// The lines of rules that can be removed together without changing a verdict of any crawler, in order. There
 /// may be more: a rule that several others replace only together isn't found, nor is the last one of a block,
 /// and a bounded number of bytes is compared. None is found if a rule is too long, so that the file is
-/// rejected for a crawler, if crawlers need each other's rules in too many ways, or if what is left would begin
-/// with a byte of the byte order mark.
+/// rejected for a crawler, if crawlers need each other's rules in too many ways, or if the first line that stays
+/// begins with a byte of the byte order mark. The bytes are those that the site has read: if the file is larger
+/// than its limit, deleting lines from it lets others be read.
 ///
 /// # Errors
 ///
