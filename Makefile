@@ -1,0 +1,7 @@
+.PHONY: check dist
+
+check:
+	./check
+
+dist:
+	./release
