@@ -83,8 +83,8 @@ class Robots:
     ``surrogateescape`` made of other bytes becomes these again. A ``url`` is a whole URL, or a path. An ``agent`` is a product token
     without a version (see `product_token`).
 
-    It can be shared by threads, which take turns, copied, and pickled, as its bytes. Don't use it in the child of a fork if the process
-    had other threads.
+    It can be shared by threads, which take turns, and pickled, as its bytes and the attributes of a subclass. Don't use it in the child
+    of a fork if the process had other threads.
 
     The methods raise `OverlongRule` if the file can't be used for the agent; `AgentError`, which is a TypeError and a ValueError, for
     an agent with ``/``; TypeError for what isn't a ``str``, and for one ``str`` in place of several; ValueError for a lone surrogate;
@@ -188,7 +188,7 @@ class Robots:
 class _Site:
     """What C has read of a file, and what the file says to each agent that was asked about. Both are closed when nothing refers to them.
 
-    Copied and pickled as its bytes, so that a `Robots` is with all its attributes, as other objects.
+    It is pickled as its bytes, and so a `Robots` as any object is, with all its attributes.
     """
 
     __slots__ = ("body", "opened", "robots")
