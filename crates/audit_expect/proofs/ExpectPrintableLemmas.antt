@@ -71,7 +71,8 @@ google_printable agent url allowed Nobody = search (append_printable true, ascii
 
 reason_printable : (checked : CheckedValue) → IsPrintable (reason_text checked)
 reason_printable checked =
-    let (agent, url) = (checked.expectation.agent, checked.expectation.url) in
+    let agent = checked.expectation.agent in
+    let url = checked.expectation.url in
     let allowed = checked.expectation.allowed in
     either_printable true (fails_here checked) (finding_text agent url allowed checked.finding)
     (google_text agent url allowed checked.google) (finding_printable agent url allowed checked.finding)
@@ -172,7 +173,8 @@ google_quiet agent url allowed Nobody =
 
 reason_quiet : (checked : CheckedValue) → IsQuiet (reason_text checked)
 reason_quiet checked =
-    let (agent, url) = (checked.expectation.agent, checked.expectation.url) in
+    let agent = checked.expectation.agent in
+    let url = checked.expectation.url in
     let allowed = checked.expectation.allowed in
     either IsQuiet (fails_here checked) (finding_text agent url allowed checked.finding)
     (google_text agent url allowed checked.google) (finding_quiet agent url allowed checked.finding)

@@ -1,5 +1,5 @@
 -- The other reading of an empty Disallow: which lines are empty Disallows, and what decides without their rules.
-use Rattle.std.proofs.Common.{◌≡◌, ◌≢◌, ◌⊎◌, ◌↔◌, ◌∙◌, ℕ, zero, suc, ◌+◌, ◌<◌, ◌&&◌, ◌==◌, Bool, true, false, not}
+use Rattle.std.proofs.Common.{◌≡◌, ◌≢◌, ◌⊎◌, ◌↔◌, ◌∙◌, ℕ, zero, suc, ◌+◌, ◌-◌, ◌<◌, ◌&&◌, ◌==◌, Bool, true, false, not}
 use Rattle.std.proofs.Common.{List, [], ◌∷◌, ◌++◌, Contains, Option, Some, None, ap, arith, cond, filter, inl, inr}
 use Rattle.std.proofs.Common.{length, map, refl, slice_get, slice_index_or, subst, sym, take}
 use Rattle.std.specs.Bool.{Decides}
@@ -8,8 +8,11 @@ use Rattle.std.specs.Option.{option_map_or}
 use Rattle.std.proofs.lemmas.Bool.{cases_Bool, eqb-true, false≢true}
 use Rattle.std.proofs.lemmas.List.{take_more}
 use Rattle.std.proofs.lemmas.List.Elements.{All-contains, All-contains_itself, All-filter, Contains-push}
-use Rattle.std.proofs.lemmas.List.Elements.{Contains-append_left, Contains-push_cases, filter_passes}
-use Rattle.texting_robots.specs.Callers.{IsBetter, IsDecidingLine, IsDecidingRule, IsOverlong, IsRejected}
+use Rattle.std.proofs.lemmas.List.Elements.{Contains-append_left, Contains-get_or, Contains-push_cases}
+use Rattle.std.proofs.lemmas.List.Elements.{filter_passes}
+use Rattle.std.proofs.lemmas.Option.{some_pair_parts}
+use Rattle.texting_robots.specs.Callers.{IsBetter, IsDecidingLine, IsDecidingRule, IsDenied, IsOverlong}
+use Rattle.texting_robots.specs.Callers.{IsRejected}
 use Rattle.texting_robots.specs.Callers.{IsVerdict, LineValue, Matches, PlacedRule, placed_rules, robots_file}
 use Rattle.texting_robots.specs.Callers.{Rule, rules_for, unplaced}
 use Rattle.texting_robots.specs.Statement.{IsStatement}
@@ -28,7 +31,8 @@ use Rattle.texting_robots.proofs.StatementLemmas.{found_statement, statement_fou
 use Rattle.texting_robots.proofs.VerdictLemmas.{one_verdict}
 use Rattle.robots_io.specs.Verdicts.{IsDecisionOn}
 use Rattle.audit_expect.specs.OtherReading.{AreOthers, IsEmptyDisallow, IsOtherDecision}
-use Rattle.audit_expect.specs.Internal.OtherReading.{IsDecidedBy, IsPreferred, decision_with, is_allow}
+use Rattle.audit_expect.specs.Internal.OtherReading.{IsDecidedBy, IsPreferred, begins_with_d, decision_with}
+use Rattle.audit_expect.specs.Internal.OtherReading.{is_allow, is_marked}
 use Rattle.audit_expect.specs.Internal.OtherReading.{is_disallow, is_empty_at, is_empty_disallow, is_other}
 
 both : (a b : Bool) → (a && b) ≡ true → (a ≡ true) × (b ≡ true)
@@ -80,7 +84,8 @@ module _ (body : List ℕ) where
       tailed : (found : Kind) (tail : Option (List ℕ)) → kind_by (skip_blanks body) ≡ Some found
           → tail_as found (skip_blanks body) ≡ tail → found ≡ kind
       tailed found None by none = let never = sym stated ∙ no_tail found by none in cc
-      tailed found (Some tail) by is = let same = sym (of_tail found tail by is) ∙ stated in cc
+      tailed found (Some tail) by is =
+          (some_pair_parts found kind (value_of tail) value (sym (of_tail found tail by is) ∙ stated)).0
 
       at : (found : Option Kind) → kind_by (skip_blanks body) ≡ found → found ≡ Some kind
       at None none = let never = sym stated ∙ no_kind none in cc
@@ -89,20 +94,21 @@ module _ (body : List ℕ) where
   other_kind : (kind : Kind) (value : List ℕ) → statement_of body ≡ Some (kind, value)
       → is_disallow (Some kind) ≡ false → is_empty_disallow body ≡ true → ⊥
   other_kind kind value stated other is =
-      let begins = (both _ _ is).1 in
-      false≢true (sym other ∙ rw (kind_stated kind value stated) at begins)
+      let begins : is_disallow (kind_by (skip_blanks body)) ≡ true = (both (is_allow (line_of body)) _ is).1 in
+      false≢true (sym other ∙ (ap is_disallow (sym (kind_stated kind value stated)) ∙ begins))
 
   -- a line that begins as a Disallow, but is read as an Allow, is an empty Disallow
   pub empty_stated : is_empty_disallow body ≡ true → IsStatement Disallow [] body
   empty_stated is = at (statement_of body) refl
     where
+      read : is_allow (line_of body) ≡ true
+      read = (both (is_allow (line_of body)) (begins_with_d body) is).0
+
       at : (found : Option (Kind × List ℕ)) → statement_of body ≡ found → IsStatement Disallow [] body
-      at None none =
-          let read = (both _ _ is).0 in absurd (false≢true (rw (line_raw body none) at read))
+      at None none = absurd (false≢true (ap is_allow (sym (line_raw body none)) ∙ read))
       at (Some (Disallow, [])) stated = found_statement Disallow [] body stated
       at (Some (Disallow, b ∷ value)) stated =
-          let read = (both _ _ is).0 in
-          absurd (false≢true (rw (line_stated body Disallow (b ∷ value) stated) at read))
+          absurd (false≢true (ap is_allow (sym (line_stated body Disallow (b ∷ value) stated)) ∙ read))
       at (Some (UserAgent, value)) stated = absurd (other_kind UserAgent value stated refl is)
       at (Some (Allow, value)) stated = absurd (other_kind Allow value stated refl is)
       at (Some (Sitemap, value)) stated = absurd (other_kind Sitemap value stated refl is)
@@ -113,22 +119,33 @@ module _ (body : List ℕ) where
       let stated = statement_found Disallow [] body is in
       rw (line_stated body Disallow [] stated, kind_stated Disallow [] stated) refl
 
+-- an item of such a list of marks
+indexed : (bodies : List (List ℕ)) (place : ℕ) → slice_index_or (map is_empty_disallow bodies) place false
+    ≡ option_map_or is_empty_disallow (slice_get bodies place) false
+indexed [] place = refl
+indexed (body ∷ bodies) zero = refl
+indexed (body ∷ bodies) (suc place) = indexed bodies place
+
 at_stated : (bodies : List (List ℕ)) (number : ℕ) → is_empty_at bodies number ≡ true
     → IsEmptyDisallow bodies number
 at_stated bodies zero is = cc
 at_stated bodies (suc position) is = by (slice_get bodies position) refl
   where
+    marked : option_map_or is_empty_disallow (slice_get bodies position) false ≡ true
+    marked = sym (indexed bodies position) ∙ is
+
     by : (found : Option (List ℕ)) → slice_get bodies position ≡ found
         → IsEmptyDisallow bodies (suc position)
-    by None none = absurd (false≢true (rw none at is))
-    by (Some body) found = (position, body, omega arith, found, empty_stated body (rw found at is))
+    by None none = absurd (false≢true (rw none at marked))
+    by (Some body) found = (position, body, omega arith, found, empty_stated body (rw found at marked))
 
 stated_at : (bodies : List (List ℕ)) (number : ℕ) → IsEmptyDisallow bodies number
     → is_empty_at bodies number ≡ true
 stated_at bodies zero (position, body, numbered, found, is) = absurd (omega (arith, numbered))
 stated_at bodies (suc number) (position, body, numbered, found, is) =
     let same : number ≡ position = omega (arith, numbered) in
-    rw (same, found) (stated_empty body is)
+    indexed bodies number ∙ ap (λ place. option_map_or is_empty_disallow (slice_get bodies place) false) same
+    ∙ ap (λ found. option_map_or is_empty_disallow found false) found ∙ stated_empty body is
 
 -- ---- the other rules
 
@@ -282,43 +299,40 @@ decision_found rules text (Some placed) differs is = record {
 }
 
 module _ (bodies : List (List ℕ)) (rules : List PlacedRule) (text : List ℕ) where
-  others : List PlacedRule
-  others = others_of bodies rules
-
-  among : (placed : PlacedRule) → Contains others placed → Contains rules placed
+  among : (placed : PlacedRule) → Contains (others_of bodies rules) placed → Contains rules placed
   among placed has = (held (is_other bodies) rules placed has).0
 
   -- no rule decides
   unchanged_none : (allowed : Bool) → IsVerdict (unplaced rules) text allowed → IsDecidingLine rules text None
-      → IsVerdict (unplaced others) text allowed × IsDecidingLine others text None
+      → IsVerdict (unplaced (others_of bodies rules)) text allowed × IsDecidingLine (others_of bodies rules) text None
   unchanged_none allowed verdict (inl same) =
-      let always = λ (rules : List Rule) (denied : IsDenied rules text). absurd (denied.0 same) in
+      let always : (rules : List Rule) → IsVerdict rules text true = λ rules denied. denied.0 same in
       let allows = one_verdict (unplaced rules) text allowed true verdict (always (unplaced rules)) in
-      (rw allows (always (unplaced others)), inl same)
+      (rw allows (always (unplaced (others_of bodies rules))), inl same)
   unchanged_none allowed verdict (inr none) =
       let allows = one_verdict (unplaced rules) text allowed true verdict (none_denies rules text none) in
-      let nowhere = λ (placed : PlacedRule) (has : Contains others placed). none placed (among placed has) in
-      (rw allows (none_denies others text nowhere), inr nowhere)
+      let nowhere = λ (placed : PlacedRule) (has : Contains (others_of bodies rules) placed). none placed (among placed has) in
+      (rw allows (none_denies (others_of bodies rules) text nowhere), inr nowhere)
 
   -- a rule decides that isn't that of an empty Disallow
   unchanged_some : (allowed : Bool) (line : ℕ) → IsVerdict (unplaced rules) text allowed
       → IsDecidingLine rules text (Some line) → is_empty_at bodies line ≡ false
-      → IsVerdict (unplaced others) text allowed × IsDecidingLine others text (Some line)
+      → IsVerdict (unplaced (others_of bodies rules)) text allowed × IsDecidingLine (others_of bodies rules) text (Some line)
   unchanged_some allowed line verdict (differs, placed, is, at) other =
       let decides = verdict_by rules text placed placed.rule.1 is refl differs in
       let kind = one_verdict (unplaced rules) text allowed placed.rule.1 verdict decides in
       let passes : is_other bodies placed ≡ true = rw (at, other) refl in
-      let too : IsDecidingRule others text placed = record {
+      let too : IsDecidingRule (others_of bodies rules) text placed = record {
         listed = kept (is_other bodies) rules placed is.listed passes;
         matches = is.matches;
         best = λ better has matches. is.best better (among better has) matches;
       } in
-      (verdict_by others text placed allowed too (sym kind) differs, (differs, placed, too, at))
+      (verdict_by (others_of bodies rules) text placed allowed too (sym kind) differs, (differs, placed, too, at))
 
   pub unchanged : (decision : Decision) → IsDecisionOn rules text decision
       → option_map_or (is_empty_at bodies) decision.line false ≡ false
       → IsOtherDecision bodies rules text decision
-  unchanged decision is other = by decision.line is.deciding other
+  unchanged decision is other = by decision.line is.deciding other refl
     where
       by : (line : Option ℕ) → IsDecidingLine rules text line
           → option_map_or (is_empty_at bodies) line false ≡ false → line ≡ decision.line
@@ -326,21 +340,21 @@ module _ (bodies : List (List ℕ)) (rules : List PlacedRule) (text : List ℕ) 
       by None deciding other same =
           let (verdict, none) = unchanged_none decision.allowed is.verdict deciding in
           record {
-            others = others;
+            others = others_of bodies rules;
             are = others_are bodies rules;
-            decided = record { verdict = verdict; deciding = subst (IsDecidingLine others text) same none };
+            decided = record { verdict = verdict; deciding = subst (IsDecidingLine (others_of bodies rules) text) same none };
           }
       by (Some line) deciding other same =
           let (verdict, some) = unchanged_some decision.allowed line is.verdict deciding other in
           record {
-            others = others;
+            others = others_of bodies rules;
             are = others_are bodies rules;
-            decided = record { verdict = verdict; deciding = subst (IsDecidingLine others text) same some };
+            decided = record { verdict = verdict; deciding = subst (IsDecidingLine (others_of bodies rules) text) same some };
           }
 
   pub decided_otherwise : (decision : Decision) → IsDecisionOn (others_of bodies rules) text decision
       → IsOtherDecision bodies rules text decision
-  decided_otherwise decision is = record { others = others; are = others_are bodies rules; decided = is }
+  decided_otherwise decision is = record { others = others_of bodies rules; are = others_are bodies rules; decided = is }
 
 -- if the file isn't rejected, none of the other rules is overlong
 pub others_accepted : (bodies : List (List ℕ)) (agent : List ℕ) (lines : List LineValue)
@@ -349,5 +363,17 @@ pub others_accepted : (bodies : List (List ℕ)) (agent : List ℕ) (lines : Lis
 others_accepted bodies agent lines accepted =
     let rules = placed_rules agent lines in
     All-filter (is_other bodies) (λ (placed : PlacedRule). ¬ IsOverlong placed.rule.0) rules
-    (λ k placed below overlong. accepted ((rejection_is_computed agent lines).1
-    (any_unplaced (λ (rule : Rule). IsOverlong rule.0) rules (k, _, below, refl, overlong))))
+    (λ k placed below. each (slice_index_or rules k placed) (Contains-get_or rules k placed below))
+  where
+    each : (placed : PlacedRule) → Contains (placed_rules agent lines) placed → ¬ IsOverlong placed.rule.0
+    each placed (k, below, at) overlong =
+        accepted ((rejection_is_computed agent lines).1 (any_unplaced (λ (rule : Rule). IsOverlong rule.0)
+        (placed_rules agent lines) (k, placed, below, at, overlong)))
+
+-- the mark of a line, by its index
+pub marked : (marks : List Bool) (line : ℕ) (found : Bool) → (line == 0) ≡ false
+    → found ≡ slice_index_or marks (line - 1) false → found ≡ is_marked marks line
+marked marks zero found some at = cc
+marked marks (suc place) found some at =
+    let before : suc place - 1 ≡ place = omega arith in
+    at ∙ ap (λ place. slice_index_or marks place false) before

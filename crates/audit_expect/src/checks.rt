@@ -1,6 +1,6 @@
 //! What a robots.txt file says about an expectation, here and at Google, and whether the expectation fails.
 ghost use Rattle.std.specs.Prelude.{◌≡◌, IfErr, IfOk, map, take};
-ghost use Rattle.texting_robots.specs.Callers.{bodies_read, file_limit};
+ghost use Rattle.texting_robots.specs.Callers.{IsRobotOfFile, bodies_read, file_limit};
 ghost use Rattle.audit_expect.specs.Expectations.{IsAtGoogle, IsChecked, IsFindingOn, fails, fails_at, fails_at_google, fails_here, is_unexpected};
 ghost use Rattle.audit_core.specs.Internal.{IsReading};
 ghost use Rattle.audit_expect.specs.Internal.Expectations.{checked_value};
@@ -13,8 +13,8 @@ use audit_core::audit::{Reading, read_for};
 use audit_core::fault::Fault;
 use robots_warnings::google::{gets_googlebots, gets_nobodys};
 use std::alloc::Global;
-use texting_robots::Site;
 use texting_robots::robot::Decision;
+use texting_robots::{Robot, Site};
 
 /// What a file says about a URL for a crawler.
 #[derive(Drop)]
@@ -44,6 +44,28 @@ pub(crate) struct Checked<'a> {
     pub(crate) google: AtGoogle,
 }
 
+/// The decisions of a file on a URL for a crawler with this robot, where `empty` tells of each line whether it is an empty
+/// Disallow.
+fn decided_on(
+    alloc: Global,
+    agent: &str,
+    url: &str,
+    robot: &Robot,
+    file: &[u8],
+    site: &Site,
+    empty: &[bool],
+) -> Result<Finding, Fault>
+    requires robot { IsRobotOfFile agent.now (take file_limit file.now) robot.now }
+    requires site { site.now ≡ take file_limit file.now }
+    requires empty { empty.now ≡ map is_empty_disallow (bodies_read file.now) }
+    ensures ok { IfOk result (IsFindingOn file.now agent.now url.now) }
+    ensures fault { IfErr result (λ fault. fault ≡ Fault.Memory) }
+{
+    let decision = decision_on(alloc, robot, url)?;
+    let other = other_decision(alloc, agent, url, &decision, site, empty)?;
+    Ok(Finding::Decided(decision, other))
+}
+
 /// What a file says about a URL for a crawler, where `reading` is how it is read for the crawler, and `empty` tells of
 /// each line whether it is an empty Disallow.
 fn finding_on(
@@ -63,11 +85,7 @@ fn finding_on(
 {
     match reading {
         Reading::Rejected(line) => Ok(Finding::Rejected(*line)),
-        Reading::Accepted(robot) => {
-            let decision = decision_on(alloc, robot, url)?;
-            let other = other_decision(alloc, agent, url, &decision, site, empty)?;
-            Ok(Finding::Decided(decision, other))
-        }
+        Reading::Accepted(robot) => decided_on(alloc, agent, url, robot, file, site, empty),
     }
 }
 

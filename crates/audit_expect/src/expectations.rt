@@ -135,7 +135,7 @@ fn push_other_decision(
     ensures fault { IfErr result (λ fault. fault ≡ Fault.Memory) }
 {
     text.push_str("where an empty Disallow is no rule, as for RFC 9309 and Google, ")?;
-    push_decision_text(alloc, text, url, decision)
+    Ok(push_decision_text(alloc, text, url, decision)?)
 }
 
 /// Appends which decision isn't the expected one.

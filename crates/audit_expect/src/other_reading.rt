@@ -1,5 +1,5 @@
 //! The other reading of an empty Disallow. Here it is an Allow of `/`; for RFC 9309 and Google it is no rule.
-ghost use Rattle.std.specs.Prelude.{◌≡◌, ◌↔◌, All, Decides, IfErr, IfOk, IsTrue, List, ℕ, false, filter, map, option_map};
+ghost use Rattle.std.specs.Prelude.{◌≡◌, ◌↔◌, All, Decides, IfErr, IfOk, IsTrue, false, filter, map, option_map};
 ghost use Rattle.std.specs.Option.{option_map_or};
 ghost use Rattle.texting_robots.specs.Callers.{IsBetter, IsOverlong, IsRejected, Matches, PlacedRule, by_value, file_bodies, file_lines, placed_rules};
 ghost use Rattle.texting_robots.specs.Internal.Line.{line_of};
@@ -7,7 +7,7 @@ ghost use Rattle.texting_robots.specs.Internal.Statement.{skip_blanks};
 ghost use Rattle.robots_io.specs.Verdicts.{IsDecisionOn};
 ghost use Rattle.audit_core.specs.Asked.{asked_target};
 ghost use Rattle.audit_expect.specs.OtherReading.{IsOtherDecision};
-ghost use Rattle.audit_expect.specs.Internal.OtherReading.{IsDecidedBy, IsPreferred, begins_with_d, decision_with, is_empty_at, is_empty_disallow, is_other};
+ghost use Rattle.audit_expect.specs.Internal.OtherReading.{IsDecidedBy, IsPreferred, begins_with_d, decision_with, is_empty_disallow, is_marked, is_other};
 
 use audit_core::asked::asked_target;
 use audit_core::fault::Fault;
@@ -44,7 +44,7 @@ fn begins_with_d(body: &[u8]) -> bool
 
 /// Whether a line with this content is an empty Disallow, which is read as an Allow.
 fn is_empty_disallow(line: Line<'_>, body: &[u8]) -> bool
-    requires { by_value line.entry ≡ line_of body.now }
+    requires { by_value line ≡ line_of body.now }
     ensures { result ≡ is_empty_disallow body.now }
 {
     match line {
@@ -68,14 +68,14 @@ pub(crate) fn empty_disallows(alloc: Global, site: &Site) -> Result<Vec<bool>, A
     Ok(found)
 }
 
-/// Whether the line with this number is an empty Disallow.
-fn is_empty_at(empty: &[bool], line: usize) -> bool
-    ensures { (bodies : List (List ℕ)) → empty.now ≡ map is_empty_disallow bodies → result ≡ is_empty_at bodies line }
+/// Whether the line with this number is marked.
+fn is_marked(marks: &[bool], line: usize) -> bool
+    ensures { result ≡ is_marked marks.now line }
 {
     if line == 0 {
         return false;
     }
-    match empty.get(line - 1) {
+    match marks.get(line - 1) {
         Some(is) => *is,
         None => false,
     }
@@ -93,7 +93,7 @@ fn other_rules(
         ≡ filter (is_other (file_bodies site.now)) (placed_rules agent.now (file_lines site.now))) }
 {
     let mut rules = rules_for(alloc, site, agent)?;
-    rules.retain(|rule| !is_empty_at(empty, rule.line));
+    rules.retain(|rule| !is_marked(empty, rule.line));
     Ok(rules)
 }
 
@@ -183,13 +183,12 @@ fn decision_of(alloc: Global, rules: &[Rule], target: &str) -> Result<Decision, 
     Ok(decision_with(rule))
 }
 
-/// Whether the line that decides is an empty Disallow.
-fn is_by_empty_disallow(decision: &Decision, empty: &[bool]) -> bool
-    ensures { (bodies : List (List ℕ)) → empty.now ≡ map is_empty_disallow bodies
-        → result ≡ option_map_or (is_empty_at bodies) decision.now.line false }
+/// Whether the line that decides is marked.
+fn is_by_marked(decision: &Decision, marks: &[bool]) -> bool
+    ensures { result ≡ option_map_or (is_marked marks.now) decision.now.line false }
 {
     match decision.line {
-        Some(line) => is_empty_at(empty, line),
+        Some(line) => is_marked(marks, line),
         None => false,
     }
 }
@@ -211,10 +210,11 @@ pub(crate) fn other_decision(
         (asked_target url.now)) }
     ensures fault { IfErr result (λ fault. fault ≡ Fault.Memory) }
 {
-    if !is_by_empty_disallow(decision, empty) {
+    if !is_by_marked(decision, empty) {
         return Ok(*decision);
     }
     let target = asked_target(alloc, url)?;
     let rules = other_rules(alloc, site, agent, empty)?;
-    decision_of(alloc, &rules, &target)
+    let other = decision_of(alloc, &rules, &target)?;
+    Ok(other)
 }

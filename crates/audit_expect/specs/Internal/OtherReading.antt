@@ -1,7 +1,6 @@
 -- The other reading of an empty Disallow as the code finds it.
 use Rattle.std.specs.Prelude.{◌≡◌, ◌⊎◌, ℕ, zero, suc, ◌&&◌, Bool, false, true, not, List, Option, Some, None}
-use Rattle.std.specs.Prelude.{Contains, slice_get}
-use Rattle.std.specs.Option.{option_map_or}
+use Rattle.std.specs.Prelude.{Contains, map, slice_index_or}
 use Rattle.texting_robots.specs.Callers.{Allow, IsBetter, IsDecidingRule, LineValue, Matches, PlacedRule}
 use Rattle.texting_robots.specs.declared.decision.Decision.{Decision}
 use Rattle.texting_robots.specs.declared.parser.statement.Kind.{Kind}
@@ -25,10 +24,14 @@ begins_with_d body = is_disallow (kind_by (skip_blanks body))
 abbrev pub is_empty_disallow : List ℕ → Bool
 is_empty_disallow body = is_allow (line_of body) && begins_with_d body
 
--- this is so of the line with this number, counted from 1, of lines with these contents
+-- the line with this number, counted from 1, is marked
+abbrev pub is_marked : List Bool → ℕ → Bool
+is_marked marks zero = false
+is_marked marks (suc position) = slice_index_or marks position false
+
+-- of the lines with these contents, the one with this number is an empty Disallow
 abbrev pub is_empty_at : List (List ℕ) → ℕ → Bool
-is_empty_at bodies zero = false
-is_empty_at bodies (suc position) = option_map_or is_empty_disallow (slice_get bodies position) false
+is_empty_at bodies number = is_marked (map is_empty_disallow bodies) number
 
 -- the rule's line isn't an empty Disallow
 abbrev pub is_other : List (List ℕ) → PlacedRule → Bool
