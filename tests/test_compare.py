@@ -89,6 +89,17 @@ crawler Googlebot /cart: allow -> deny 6
     assert outcome(compare(tmp_path, OLD, NEW, "Googlebot", *urls)) == (1, GOOGLEBOT + lines, "")
 
 
+def test_a_url_is_asked_without_its_fragment(tmp_path):
+    """In a path, `#` is a byte like others."""
+    lines = """crawler Ferris: - Disallow: /a$ (line 1)
+crawler Ferris https://e.com/a#b: deny 1 -> allow
+crawler Ferris https://e.com/a#c: deny 1 -> allow
+"""
+    (tmp_path / "list.txt").write_bytes(b"https://e.com/a#c\n/a#c\n")
+    words = ["--urls", "list.txt", "Ferris", "https://e.com/a#b", "/a#b"]
+    assert outcome(compare(tmp_path, b"Disallow: /a$", b"", *words)) == (1, lines, "")
+
+
 def test_urls_in_a_file(tmp_path):
     """They come after those of the command line, and only those whose verdict differs have a line."""
     (tmp_path / "list.txt").write_bytes(b"# pages\n/\n /cart \r\nhttps://shop.example/search/milk\n")

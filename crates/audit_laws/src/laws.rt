@@ -6,7 +6,7 @@ ghost use Rattle.std.specs.Str.{byte, is_utf8, IsUtf8, str_to_ascii_lowercase};
 ghost use Rattle.texting_robots.specs.Callers.{Allow, AreLabelsOf, AreRulesFor, Disallow, escaped};
 ghost use Rattle.texting_robots.specs.Callers.{file_limit, file_lines, HoldsRule, is_named, IsDecidingLine};
 ghost use Rattle.texting_robots.specs.Callers.{IsDenied, IsRobotOfFile, IsVerdict, Label, LineValue, Matches};
-ghost use Rattle.texting_robots.specs.Callers.{PlacedRule, prepared, RobotValue, Rule, agents_in, lines_read};
+ghost use Rattle.texting_robots.specs.Callers.{PlacedRule, RobotValue, Rule, agents_in, lines_read};
 ghost use Rattle.texting_robots.specs.Callers.{bodies_read, delay_for, rules_for, unplaced, UserAgent};
 ghost use Rattle.texting_robots.specs.Labels.{IsInOwnGroup};
 ghost use Rattle.texting_robots.specs.Verdict.{robots_file};
@@ -27,6 +27,7 @@ ghost use Rattle.robots_warnings.specs.Tokens.{has_space_around};
 ghost use Rattle.robots_warnings.specs.Urls.{is_invalid_url};
 ghost use Rattle.robots_warnings.specs.Warnings.{position_warnings, warned_at};
 ghost use Rattle.robots_warnings.specs.declared.table.Cause.TheVariants.{TwoDelays};
+ghost use Rattle.audit_core.specs.Asked.{asked_target};
 ghost use Rattle.audit_core.specs.Audit.{AuditValue, IsAuditOf};
 ghost use Rattle.audit_core.specs.Request.{RequestValue};
 ghost use Rattle.audit_core.specs.Syntax.{is_standard};
@@ -221,7 +222,7 @@ pub fn missing_slash()
 
 /// A URL with `invalid-url` is matched as the escaped string.
 pub fn invalid_url()
-    ensures { (url : List ℕ) → is_invalid_url url ≡ true → prepared url ≡ escaped url }
+    ensures { (url : List ℕ) → is_invalid_url url ≡ true → asked_target url ≡ escaped url }
 {}
 
 /// A crawler's name with `space-around-agent` matches no user-agent line, in any file.

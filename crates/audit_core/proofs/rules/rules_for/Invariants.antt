@@ -2,7 +2,7 @@ use Rattle.std.proofs.Common.{◌≡◌, ◌++◌}
 use Rattle.std.specs.List.{filter_map}
 use Rattle.texting_robots.specs.Callers.{file_lines, placed_rules}
 use Rattle.texting_robots.specs.Internal.Site.{rule_of}
-use Rattle.audit_compare.proofs.rule_sets.rules_for.Given as goal
+use Rattle.audit_core.proofs.rules.rules_for.Given as goal
 
 abbrev pub invariant-loop-line : goal.invariant-loop-line
 invariant-loop-line l = record {
