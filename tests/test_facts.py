@@ -191,7 +191,7 @@ def test_one_version_of_the_repository():
 
 def test_least_versions_of_python_and_rust():
     python = re.search(r'requires-python = ">=([\d.]+)"', (ROOT / "bindings/python/pyproject.toml").read_text())[1]
-    assert re.findall(r"CPython ([\d.]+\d) or later", joined(BINDINGS["python"])) == [python]
+    assert re.findall(r"CPython ([\d.]+\d), or later", joined(BINDINGS["python"])) == [python]
     rust = re.search(r'rust-version = "([\d.]+)"', (ROOT / "bindings/rust/Cargo.toml").read_text())[1]
     assert re.findall(r"Rust ([\d.]+\d) or later", joined(BINDINGS["rust"])) == [rust]
 
