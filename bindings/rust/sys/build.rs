@@ -32,6 +32,7 @@ fn from_repository() -> PathBuf {
     let library = root.join("crates/robots_c");
     let proved = library.join("out/librobots_c.a");
     println!("cargo:rerun-if-changed={}", proved.display());
+    println!("cargo:rerun-if-changed={}", root.join("bindings/c/robots.c").display());
     if !proved.is_file() {
         run(Command::new("rt").arg("lib").current_dir(library));
     }
