@@ -7,6 +7,7 @@ PROVED(robots_version);
 PROVED(robots_open);
 PROVED(robots_query);
 PROVED(robots_query_many);
+PROVED(robots_share);
 PROVED(robots_query_delay);
 PROVED(robots_close);
 PROVED(robots_decide);
@@ -21,8 +22,15 @@ PROVED(robots_site_delay);
 PROVED(robots_site_sitemaps);
 PROVED(robots_site_agents);
 PROVED(robots_site_is_named);
+PROVED(robots_site_share);
 PROVED(robots_site_close);
 PROVED(robots_address);
+PROVED(robots_may_fetch);
+PROVED(robots_line);
+
+/* The proved function has a length for the results, too. */
+extern int32_t proved_robots_query_batch(const robots *robot, const void *urls, size_t urls_len, const size_t *ends, size_t n,
+                                         int64_t *results, size_t results_len);
 
 /* An address in place of NULL. The length is 0, so nothing is read or written there. */
 static int64_t nowhere;
@@ -70,10 +78,22 @@ int32_t robots_query_many(const robots *robot, const char *urls, size_t urls_len
     return proved_robots_query_many(robot, AT(urls), urls_len, AT(results), results_len);
 }
 
+int32_t robots_query_batch(const robots *robot, const void *urls, size_t urls_len, const size_t *ends, size_t n, int64_t *results) {
+    return proved_robots_query_batch(robot, AT(urls), urls_len, AT(ends), n, AT(results), n);
+}
+
 int32_t robots_query_delay(const robots *robot, uint64_t *microseconds) {
     uint64_t delay = 0;
     int32_t status = proved_robots_query_delay(robot, &delay);
     return with_delay(status, microseconds, delay);
+}
+
+int32_t robots_share(const robots *robot, robots **other) {
+    robots *opened = NULL;
+    int32_t status = proved_robots_share(robot, &opened);
+    if (status == ROBOTS_OK)
+        *other = opened;
+    return status;
 }
 
 void robots_close(robots *robot) { proved_robots_close(robot); }
@@ -153,10 +173,36 @@ int32_t robots_site_is_named(const robots_site *site, const char *agent, size_t 
     return proved_robots_site_is_named(site, AT(agent), agent_len);
 }
 
+int32_t robots_site_share(const robots_site *site, robots_site **other) {
+    robots_site *opened = NULL;
+    int32_t status = proved_robots_site_share(site, &opened);
+    if (status == ROBOTS_OK)
+        *other = opened;
+    return status;
+}
+
 void robots_site_close(robots_site *site) { proved_robots_site_close(site); }
 
 int32_t robots_address(const char *url, size_t url_len, char *out, size_t out_len, size_t *len) {
     size_t length = 0;
     int32_t status = proved_robots_address(AT(url), url_len, AT(out), out_len, &length);
     return with_length(status, len, length);
+}
+
+int robots_may_fetch(int64_t result) { return proved_robots_may_fetch(result); }
+
+int64_t robots_line(int64_t result) { return proved_robots_line(result); }
+
+const char *robots_status_text(int32_t status) {
+    switch (status) {
+    case ROBOTS_OK: return "no error";
+    case ROBOTS_NOT_UTF8: return "the agent or a URL isn't UTF-8";
+    case ROBOTS_OUT_OF_MEMORY: return "out of memory";
+    case ROBOTS_BUFFER_TOO_SMALL: return "the buffer is too small";
+    case ROBOTS_NO_DELAY: return "the file has no delay for this crawler";
+    case ROBOTS_NO_ADDRESS: return "the URL has no robots.txt file";
+    case ROBOTS_OVERLONG_RULE: return "a rule is too long: the file can't be used for this crawler";
+    case ROBOTS_INVALID_ENDS: return "the places where the URLs end are invalid";
+    default: return "unknown status";
+    }
 }
