@@ -158,6 +158,75 @@ static struct outcome query_with(const robots *robot, size_t room) {
     return results(robots_query_many(robot, ROBOTS_STRING(urls), out, room), out, 7);
 }
 
+/* The same URLs in a text without line feeds, and where each ends in it. */
+static struct outcome batch_with(const robots *robot) {
+    char joined[sizeof urls];
+    size_t ends[COUNT], length = 0, count = 0;
+    int64_t out[COUNT + 1];
+    memset(out, 0x77, sizeof out);
+    for (const char *at = urls; *at != '\0'; at++)
+        if (*at == '\n')
+            ends[count++] = length;
+        else
+            joined[length++] = *at;
+    ends[count++] = length;
+    return results(robots_query_batch(robot, joined, length, ends, count, out), out, 7);
+}
+
+/* Opens a robot and another handle on it, closes the first, and queries with the other. */
+static struct outcome keep_shared(void) {
+    robots *robot = NULL, *other = NULL;
+    robots_site *site = NULL, *same = NULL;
+    int32_t status = robots_open(ROBOTS_STRING("Bot"), FILE_OF(file), &robot, NULL);
+    if (status == ROBOTS_OK)
+        status = robots_share(robot, &other);
+    if (status == ROBOTS_OK)
+        status = robots_site_open(FILE_OF(file), &site);
+    if (status == ROBOTS_OK)
+        status = robots_site_share(site, &same);
+    robots_close(robot);
+    robots_site_close(site);
+    struct outcome outcome = {status, false, same == NULL};
+    if (status == ROBOTS_OK) {
+        bool known = other != robot && same != site && robots_site_is_named(same, "a", 1) == 1;
+        outcome = batch_with(other);
+        outcome.right &= known;
+    }
+    robots_close(other);
+    robots_site_close(same);
+    return outcome;
+}
+
+/* URLs with the places where they end. Line 1 of the file denies any URL with a line feed, which is escaped as %0A. */
+static void try_batch(void) {
+    static const struct {
+        const char *name, *text;
+        size_t length, count, ends[4];
+        int32_t status;
+        int64_t wanted[4];
+    } cases[] = {
+        {"no URLs", "/a", 2, 0, {0}, ROBOTS_OK, {77, 77, 77, 77}},
+        {"an empty URL", "", 0, 1, {0}, ROBOTS_OK, {0, 77, 77, 77}},
+        {"a line feed in a URL", "/a\nb/a", 6, 2, {4, 6}, ROBOTS_OK, {-1, 0, 77, 77}},
+        {"an empty URL between two", "/\n/b", 4, 3, {2, 2, 4}, ROBOTS_OK, {-1, 0, 0, 77}},
+        {"a text after the last URL", "/b/\n", 4, 1, {2}, ROBOTS_OK, {0, 77, 77, 77}},
+        {"ends that decrease", "/a/b", 4, 2, {3, 2}, ROBOTS_INVALID_ENDS, {77, 77, 77, 77}},
+        {"an end after the text", "/a/b", 4, 2, {2, 5}, ROBOTS_INVALID_ENDS, {77, 77, 77, 77}},
+        {"a URL that isn't UTF-8", "/a\xFF/b", 5, 2, {3, 5}, ROBOTS_NOT_UTF8, {77, 77, 77, 77}},
+        {"a character in two URLs", "/\xC3\xA9", 3, 2, {2, 3}, ROBOTS_NOT_UTF8, {77, 77, 77, 77}},
+        {"ends that are invalid before what isn't UTF-8", "\xFF/b", 3, 2, {1, 4}, ROBOTS_INVALID_ENDS, {77, 77, 77, 77}},
+    };
+    robots *robot = NULL;
+    bool opened = robots_open("Bot", 3, "Disallow: /*%0A\nAllow: /c\n", 26, &robot, NULL) == ROBOTS_OK;
+    for (size_t i = 0; i < sizeof cases / sizeof *cases; i++) {
+        int64_t out[4] = {77, 77, 77, 77};
+        bool is = opened && robots_query_batch(robot, cases[i].text, cases[i].length, cases[i].ends, cases[i].count, out) == cases[i].status;
+        tell(cases[i].name, is && memcmp(out, cases[i].wanted, sizeof out) == 0);
+    }
+    tell("no URLs at all", opened && robots_query_batch(robot, NULL, 0, NULL, 0, NULL) == ROBOTS_OK);
+    robots_close(robot);
+}
+
 /* Opens a robot, queries it, and closes it. What needs no memory is never reported as out of memory. */
 static struct outcome keep(void) {
     robots *robot = NULL;
@@ -341,6 +410,10 @@ static void try_examples(void) {
     tell("a site", is(keep_site(), ROBOTS_OK));
     try_site();
     try_small_buffers();
+    try_batch();
+    tell("handles on the same robot and site", is(keep_shared(), ROBOTS_OK));
+    tell("results and their lines", robots_may_fetch(0) == 1 && robots_may_fetch(3) == 1 && robots_may_fetch(-2) == 0
+        && robots_line(0) == 0 && robots_line(3) == 3 && robots_line(-2) == 2);
     tell("the version", robots_version() == ROBOTS_VERSION);
 }
 
@@ -374,6 +447,7 @@ int main(void) {
         fail_each("an address", whole_address, all_later);
         fail_each("a robot", keep, all_later);
         fail_each("a site", keep_site, all_later);
+        fail_each("shared handles and a batch", keep_shared, all_later);
     }
     printf("%d passed, %d failed\n", passed, failed);
     return failed != 0;

@@ -122,7 +122,13 @@ int main(void) {
     is(results[0] + results[1], -2);
     is(robots_query_delay(robot, &delay), ROBOTS_OK);
     is((int64_t)delay, 1000000);
+    is(robots_share(robot, &own), ROBOTS_OK);
     robots_close(robot);
+    free(results);
+    results = malloc(4 * sizeof *results);
+    is(robots_query_batch(own, "/a/b", 4, (size_t[]){2, 4}, 2, results), ROBOTS_OK);
+    is(results[0] + results[1], -2);
+    robots_close(own);
     is(robots_site_open(FILE, &site), ROBOTS_OK);
     is(robots_site_robot(site, "Bot", 3, &own, &line), ROBOTS_OK);
     robots_close(own);
@@ -178,8 +184,9 @@ def test_library_packaged_in_a_folder_with_any_name(tmp_path, name):
 
 
 def test_each_call_of_the_header_is_exported(shared_object):
-    """And nothing else: the proved functions, which don't take NULL, aren't."""
-    header = re.sub(r"/\*.*?\*/|^static inline .*$", "", (LIBRARY / "robots.h").read_text(), flags=re.S | re.M)
+    """And nothing else: the proved functions, which don't take NULL, aren't. None is inline, so other languages can bind each."""
+    header = re.sub(r"/\*.*?\*/", "", (LIBRARY / "robots.h").read_text(), flags=re.S)
+    assert "inline" not in header
     names = subprocess.run(["nm", "-D", "--defined-only", shared_object], capture_output=True, text=True).stdout
     assert sorted(re.findall(r"^\w+ T (\w+)", names, re.M)) == sorted(re.findall(r"\b(robots_\w+)\(", header))
 
@@ -275,13 +282,14 @@ def test_program_built_by_cmake(request, tmp_path, folder, target):
 
 
 def test_texts_of_statuses(robots):
-    """The header and examples/robots.py have the same ones, in the order of the statuses."""
+    """bindings/c/robots.c and examples/robots.py have the same ones, in the order of the statuses."""
     header = (LIBRARY / "robots.h").read_text()
     numbers = {name: int(number) for name, number in re.findall(r"^    (ROBOTS_\w+) = (-?\d+)\b", header, re.M)}
-    texts = {numbers[name]: text for name, text in re.findall(r'case (ROBOTS_\w+): return "([^"]*)";', header)}
-    assert sorted(texts) == sorted(numbers.values()) == [*range(-6, 1)]
+    source = (ROOT / "bindings/c/robots.c").read_text()
+    texts = {numbers[name]: text for name, text in re.findall(r'case (ROBOTS_\w+): return "([^"]*)";', source)}
+    assert sorted(texts) == sorted(numbers.values()) == [*range(-7, 1)]
     assert [texts[-number] for number in range(6)] == robots.TEXTS
-    names = dict(NOT_UTF8="isn't UTF-8", OUT_OF_MEMORY="out of memory", BUFFER_TOO_SMALL="too small", NO_DELAY="no delay", NO_ADDRESS="no robots.txt", OVERLONG_RULE="too long")
+    names = dict(NOT_UTF8="isn't UTF-8", OUT_OF_MEMORY="out of memory", BUFFER_TOO_SMALL="too small", NO_DELAY="no delay", NO_ADDRESS="no robots.txt", OVERLONG_RULE="too long", INVALID_ENDS="invalid")
     assert all(text in texts[numbers[f"ROBOTS_{name}"]] for name, text in names.items())
 
 

@@ -1,5 +1,6 @@
 /* The calls of robots.h. Each is the proved function of the same name, which the Makefile renames to proved_robots_.., but for two things
- * that no contract grants: a text or a buffer of length 0 and a line may be NULL, and a variable for a result may be uninitialized. */
+ * that no contract grants: a text or a buffer of length 0 and a line may be NULL, and a variable for a result may be uninitialized.
+ * A buffer is passed as it is. */
 #include "robots.h"
 
 #define PROVED(name) extern __typeof__(name) proved_##name
@@ -7,6 +8,7 @@ PROVED(robots_version);
 PROVED(robots_open);
 PROVED(robots_query);
 PROVED(robots_query_many);
+PROVED(robots_share);
 PROVED(robots_query_delay);
 PROVED(robots_close);
 PROVED(robots_decide);
@@ -21,12 +23,19 @@ PROVED(robots_site_delay);
 PROVED(robots_site_sitemaps);
 PROVED(robots_site_agents);
 PROVED(robots_site_is_named);
+PROVED(robots_site_share);
 PROVED(robots_site_close);
 PROVED(robots_address);
+PROVED(robots_may_fetch);
+PROVED(robots_line);
 
-/* An address in place of NULL. The length is 0, so nothing is read or written there. */
+/* The proved function has a length for the results, too. */
+extern int32_t proved_robots_query_batch(const robots *robot, const void *urls, size_t urls_len, const size_t *ends, size_t n,
+                                         int64_t *results, size_t results_len);
+
+/* A text or a buffer, with an address in place of NULL if the length is 0, so that nothing is read or written there. */
 static int64_t nowhere;
-#define AT(pointer) ((pointer) != NULL ? (pointer) : (void *)&nowhere)
+#define AT(pointer, length) ((pointer) != NULL || (length) != 0 ? (pointer) : (void *)&nowhere), (length)
 
 /* What a call that returned this status wrote. */
 static int32_t with_line(int32_t status, size_t *line, size_t number) {
@@ -52,7 +61,7 @@ uint32_t robots_version(void) { return proved_robots_version(); }
 int32_t robots_open(const char *agent, size_t agent_len, const void *file, size_t file_len, robots **robot, size_t *line) {
     robots *opened = NULL;
     size_t number = 0;
-    int32_t status = proved_robots_open(AT(agent), agent_len, AT(file), file_len, &opened, &number);
+    int32_t status = proved_robots_open(AT(agent, agent_len), AT(file, file_len), &opened, &number);
     if (status == ROBOTS_OK)
         *robot = opened;
     return with_line(status, line, number);
@@ -60,14 +69,18 @@ int32_t robots_open(const char *agent, size_t agent_len, const void *file, size_
 
 int32_t robots_query(const robots *robot, const char *url, size_t url_len, int64_t *result) {
     int64_t number = 0;
-    int32_t status = proved_robots_query(robot, AT(url), url_len, &number);
+    int32_t status = proved_robots_query(robot, AT(url, url_len), &number);
     if (status == ROBOTS_OK)
         *result = number;
     return status;
 }
 
 int32_t robots_query_many(const robots *robot, const char *urls, size_t urls_len, int64_t *results, size_t results_len) {
-    return proved_robots_query_many(robot, AT(urls), urls_len, AT(results), results_len);
+    return proved_robots_query_many(robot, AT(urls, urls_len), AT(results, results_len));
+}
+
+int32_t robots_query_batch(const robots *robot, const void *urls, size_t urls_len, const size_t *ends, size_t n, int64_t *results) {
+    return proved_robots_query_batch(robot, AT(urls, urls_len), AT(ends, n), AT(results, n));
 }
 
 int32_t robots_query_delay(const robots *robot, uint64_t *microseconds) {
@@ -76,42 +89,50 @@ int32_t robots_query_delay(const robots *robot, uint64_t *microseconds) {
     return with_delay(status, microseconds, delay);
 }
 
+int32_t robots_share(const robots *robot, robots **other) {
+    robots *opened = NULL;
+    int32_t status = proved_robots_share(robot, &opened);
+    if (status == ROBOTS_OK)
+        *other = opened;
+    return status;
+}
+
 void robots_close(robots *robot) { proved_robots_close(robot); }
 
 int32_t robots_decide(const char *agent, size_t agent_len, const void *file, size_t file_len, const char *urls, size_t urls_len,
                       int64_t *results, size_t results_len, size_t *line) {
     size_t number = 0;
     int32_t status =
-        proved_robots_decide(AT(agent), agent_len, AT(file), file_len, AT(urls), urls_len, AT(results), results_len, &number);
+        proved_robots_decide(AT(agent, agent_len), AT(file, file_len), AT(urls, urls_len), AT(results, results_len), &number);
     return with_line(status, line, number);
 }
 
 int32_t robots_matrix(const char *agents, size_t agents_len, const void *file, size_t file_len, const char *urls, size_t urls_len,
                       int64_t *results, size_t results_len) {
-    return proved_robots_matrix(AT(agents), agents_len, AT(file), file_len, AT(urls), urls_len, AT(results), results_len);
+    return proved_robots_matrix(AT(agents, agents_len), AT(file, file_len), AT(urls, urls_len), AT(results, results_len));
 }
 
 int32_t robots_delay(const char *agent, size_t agent_len, const void *file, size_t file_len, uint64_t *microseconds) {
     uint64_t delay = 0;
-    int32_t status = proved_robots_delay(AT(agent), agent_len, AT(file), file_len, &delay);
+    int32_t status = proved_robots_delay(AT(agent, agent_len), AT(file, file_len), &delay);
     return with_delay(status, microseconds, delay);
 }
 
 int32_t robots_sitemaps(const void *file, size_t file_len, char *out, size_t out_len, size_t *len) {
     size_t length = 0;
-    int32_t status = proved_robots_sitemaps(AT(file), file_len, AT(out), out_len, &length);
+    int32_t status = proved_robots_sitemaps(AT(file, file_len), AT(out, out_len), &length);
     return with_length(status, len, length);
 }
 
 int32_t robots_agents(const void *file, size_t file_len, char *out, size_t out_len, size_t *len) {
     size_t length = 0;
-    int32_t status = proved_robots_agents(AT(file), file_len, AT(out), out_len, &length);
+    int32_t status = proved_robots_agents(AT(file, file_len), AT(out, out_len), &length);
     return with_length(status, len, length);
 }
 
 int32_t robots_site_open(const void *file, size_t file_len, robots_site **site) {
     robots_site *opened = NULL;
-    int32_t status = proved_robots_site_open(AT(file), file_len, &opened);
+    int32_t status = proved_robots_site_open(AT(file, file_len), &opened);
     if (status == ROBOTS_OK)
         *site = opened;
     return status;
@@ -120,7 +141,7 @@ int32_t robots_site_open(const void *file, size_t file_len, robots_site **site) 
 int32_t robots_site_robot(const robots_site *site, const char *agent, size_t agent_len, robots **robot, size_t *line) {
     robots *opened = NULL;
     size_t number = 0;
-    int32_t status = proved_robots_site_robot(site, AT(agent), agent_len, &opened, &number);
+    int32_t status = proved_robots_site_robot(site, AT(agent, agent_len), &opened, &number);
     if (status == ROBOTS_OK)
         *robot = opened;
     return with_line(status, line, number);
@@ -128,35 +149,61 @@ int32_t robots_site_robot(const robots_site *site, const char *agent, size_t age
 
 int32_t robots_site_matrix(const robots_site *site, const char *agents, size_t agents_len, const char *urls, size_t urls_len,
                            int64_t *results, size_t results_len) {
-    return proved_robots_site_matrix(site, AT(agents), agents_len, AT(urls), urls_len, AT(results), results_len);
+    return proved_robots_site_matrix(site, AT(agents, agents_len), AT(urls, urls_len), AT(results, results_len));
 }
 
 int32_t robots_site_delay(const robots_site *site, const char *agent, size_t agent_len, uint64_t *microseconds) {
     uint64_t delay = 0;
-    int32_t status = proved_robots_site_delay(site, AT(agent), agent_len, &delay);
+    int32_t status = proved_robots_site_delay(site, AT(agent, agent_len), &delay);
     return with_delay(status, microseconds, delay);
 }
 
 int32_t robots_site_sitemaps(const robots_site *site, char *out, size_t out_len, size_t *len) {
     size_t length = 0;
-    int32_t status = proved_robots_site_sitemaps(site, AT(out), out_len, &length);
+    int32_t status = proved_robots_site_sitemaps(site, AT(out, out_len), &length);
     return with_length(status, len, length);
 }
 
 int32_t robots_site_agents(const robots_site *site, char *out, size_t out_len, size_t *len) {
     size_t length = 0;
-    int32_t status = proved_robots_site_agents(site, AT(out), out_len, &length);
+    int32_t status = proved_robots_site_agents(site, AT(out, out_len), &length);
     return with_length(status, len, length);
 }
 
 int32_t robots_site_is_named(const robots_site *site, const char *agent, size_t agent_len) {
-    return proved_robots_site_is_named(site, AT(agent), agent_len);
+    return proved_robots_site_is_named(site, AT(agent, agent_len));
+}
+
+int32_t robots_site_share(const robots_site *site, robots_site **other) {
+    robots_site *opened = NULL;
+    int32_t status = proved_robots_site_share(site, &opened);
+    if (status == ROBOTS_OK)
+        *other = opened;
+    return status;
 }
 
 void robots_site_close(robots_site *site) { proved_robots_site_close(site); }
 
 int32_t robots_address(const char *url, size_t url_len, char *out, size_t out_len, size_t *len) {
     size_t length = 0;
-    int32_t status = proved_robots_address(AT(url), url_len, AT(out), out_len, &length);
+    int32_t status = proved_robots_address(AT(url, url_len), AT(out, out_len), &length);
     return with_length(status, len, length);
+}
+
+int robots_may_fetch(int64_t result) { return proved_robots_may_fetch(result); }
+
+int64_t robots_line(int64_t result) { return proved_robots_line(result); }
+
+const char *robots_status_text(int32_t status) {
+    switch (status) {
+    case ROBOTS_OK: return "no error";
+    case ROBOTS_NOT_UTF8: return "the agent or a URL isn't UTF-8";
+    case ROBOTS_OUT_OF_MEMORY: return "out of memory";
+    case ROBOTS_BUFFER_TOO_SMALL: return "the buffer is too small";
+    case ROBOTS_NO_DELAY: return "the file has no delay for this crawler";
+    case ROBOTS_NO_ADDRESS: return "the URL has no robots.txt file";
+    case ROBOTS_OVERLONG_RULE: return "a rule is too long: the file can't be used for this crawler";
+    case ROBOTS_INVALID_ENDS: return "the places where the URLs end are invalid";
+    default: return "unknown status";
+    }
 }

@@ -27,8 +27,9 @@
  *
  * STATUS. Each call that returns int32_t returns 0 (ROBOTS_OK) or a negative status; robots_site_is_named returns 1 too. Where the status
  * isn't 0, nothing is written, except where the call's comment says so, and nothing stays allocated. A text that isn't UTF-8 is found
- * first, then a buffer that is too small for the results of URLs; neither needs memory. ROBOTS_OUT_OF_MEMORY can replace any other status,
- * but not from a call that is documented not to allocate.
+ * first, then a buffer that is too small for the results of URLs; neither needs memory (in robots_query_batch, ends that are invalid are
+ * found first and need none). ROBOTS_OUT_OF_MEMORY can replace any other status than these, and never comes from a call that is documented
+ * not to allocate.
  *
  * OUTPUTS. A variable or a buffer that a call writes may be uninitialized; what is in it is never read. `line` may be NULL.
  *
@@ -38,19 +39,21 @@
  * MEMORY comes from malloc, realloc and free. A call frees what it allocates, except for a robot or a site that it opens. Another
  * allocator: define rattle_alloc, rattle_realloc and rattle_dealloc in your program, before the archive (docs/GUIDE.md).
  *
- * THREADS. The rule, which is the toolchain's: for each robot or site one call at a time, and between calls of two threads a lock, or the
- * start or the end of a thread; all other calls may overlap. The library has no global state. Calls that overlap on one robot or site,
- * against the rule, only read it, which is proved, and in tests they had no data race. No call may run in a signal handler, nor in the
- * child of a fork if the process had several threads.
+ * THREADS. A pointer to a robot or a site is a handle. The rule: each handle, one call at a time; different handles, also shared ones, may
+ * be used at the same time. So give each thread its own handle: robots_share and robots_site_share open another one on the same data,
+ * copy nothing and need no lock afterwards. If a handle goes from one thread to another, a lock, or the start or the end of a thread, is
+ * between their calls. The library has no global state. No call may run in a signal handler, nor in the child of a fork if the process
+ * had several threads.
  *
  * PRECONDITIONS, which nothing checks: each pointer is valid for its length; the buffers that a call writes overlap none of its
- * other arguments; nobody writes to the texts during a call; a robot is one that robots_open or robots_site_robot opened, and a site one
- * that robots_site_open opened; each is closed once, when no call uses it. Robots and sites don't need each other, nor the texts that
- * they were opened with. No call keeps a pointer to a text.
+ * other arguments; nobody writes to the texts during a call; a robot is one that robots_open, robots_site_robot or robots_share opened,
+ * and a site one that robots_site_open or robots_site_share opened; each is closed once, when no call uses it, in any order. Robots and
+ * sites don't need each other, nor the texts that they were opened with. No call keeps a pointer to a text.
  *
- * PROOF. crates/robots_c/src/lib.rt has a contract for each call, from the file's bytes to every number written. That NULL and uninitialized
- * outputs are allowed isn't in the contracts: bindings/c/robots.c replaces NULL by an address, and that is tested. docs/PROOFS.md states what
- * is proved and what is tested. The compiled library is for Linux on x86-64-v2 processors (SSE4.1). */
+ * PROOF. crates/robots_c/src/lib.rt has a contract for each call, from the file's bytes to every number written. That NULL and
+ * uninitialized outputs are allowed isn't in the contracts: bindings/c/robots.c replaces NULL by an address, and single outputs by
+ * variables of its own, and that is tested. docs/PROOFS.md states what is proved and what is tested. The compiled library is for Linux on
+ * x86-64-v2 processors (SSE4.1). */
 #ifndef ROBOTS_H
 #define ROBOTS_H
 #include <stddef.h>
@@ -67,8 +70,10 @@
 
 #if defined(__GNUC__) || defined(__clang__)
 #define ROBOTS_CHECK __attribute__((warn_unused_result))
+#define ROBOTS_NONNULL(...) __attribute__((nonnull(__VA_ARGS__))) /* these parameters, counted from 1, aren't NULL */
 #else
 #define ROBOTS_CHECK
+#define ROBOTS_NONNULL(...)
 #endif
 
 #ifdef __cplusplus
@@ -82,8 +87,9 @@ enum robots_status {
     ROBOTS_BUFFER_TOO_SMALL = -3, /* the results don't fit into the buffer */
     ROBOTS_NO_DELAY = -4,         /* the file has no delay for this crawler */
     ROBOTS_NO_ADDRESS = -5,       /* the text isn't a URL of http or https with a host */
-    ROBOTS_OVERLONG_RULE = -6     /* a rule for this crawler contains '$' and has more than 4,096 bytes when escaped, each run of
+    ROBOTS_OVERLONG_RULE = -6,    /* a rule for this crawler contains '$' and has more than 4,096 bytes when escaped, each run of
                                    * stars counted as one: the file can't be used for this crawler. What to do then is its policy. */
+    ROBOTS_INVALID_ENDS = -7      /* the places where URLs end decrease, or one is after the end of the text */
 };
 
 /* A file as one crawler reads it: its rules and delay. */
@@ -103,19 +109,31 @@ uint32_t robots_version(void);
 
 /* Reads a file for a crawler, and writes a new robot to *robot, which robots_close frees. If the status is ROBOTS_OVERLONG_RULE, and only
  * then, *line is written, unless `line` is NULL: the number of the first line with such a rule. */
-ROBOTS_CHECK int32_t robots_open(const char *agent, size_t agent_len, const void *file, size_t file_len, robots **robot, size_t *line);
+ROBOTS_CHECK int32_t robots_open(const char *agent, size_t agent_len, const void *file, size_t file_len, robots **robot,
+                                 size_t *line) ROBOTS_NONNULL(5);
 
 /* Writes the result for one URL. It doesn't allocate for the empty text, a path in which nothing has to be escaped, and most URLs. */
-ROBOTS_CHECK int32_t robots_query(const robots *robot, const char *url, size_t url_len, int64_t *result);
+ROBOTS_CHECK int32_t robots_query(const robots *robot, const char *url, size_t url_len, int64_t *result) ROBOTS_NONNULL(1, 4);
 
 /* Writes the results for many URLs, in their order. `urls` has one '\n' between one URL and the next, so n of them are n + 1 URLs, and the
  * empty text is one empty URL; for a URL that contains '\n' use robots_query. If there are more URLs than `results_len`, the status is
  * ROBOTS_BUFFER_TOO_SMALL. What is in `results` after the last result isn't touched. */
-ROBOTS_CHECK int32_t robots_query_many(const robots *robot, const char *urls, size_t urls_len, int64_t *results, size_t results_len);
+ROBOTS_CHECK int32_t robots_query_many(const robots *robot, const char *urls, size_t urls_len, int64_t *results,
+                                       size_t results_len) ROBOTS_NONNULL(1);
+
+/* robots_query_many for URLs that stand one after another in a text, without '\n': URL i is the bytes of `urls` from ends[i - 1], or from 0
+ * for i = 0, up to but not including ends[i], so that arrays of Arrow and NumPy need no copy. A URL may contain any byte, '\n' too, and n
+ * may be 0. `results` has room for n numbers. If the ends decrease, or one is more than `urls_len`, the status is ROBOTS_INVALID_ENDS. */
+ROBOTS_CHECK int32_t robots_query_batch(const robots *robot, const void *urls, size_t urls_len, const size_t *ends, size_t n,
+                                        int64_t *results) ROBOTS_NONNULL(1);
 
 /* Writes how many microseconds the crawler waits between two requests. A file may ask for UINT64_MAX: limit the number before you add
  * it to a time. It doesn't allocate: the status is ROBOTS_OK or ROBOTS_NO_DELAY. */
-ROBOTS_CHECK int32_t robots_query_delay(const robots *robot, uint64_t *microseconds);
+ROBOTS_CHECK int32_t robots_query_delay(const robots *robot, uint64_t *microseconds) ROBOTS_NONNULL(1, 2);
+
+/* Opens another handle on the same robot for another thread, and writes it to *other, which robots_close frees too. It copies nothing:
+ * the status is ROBOTS_OK or ROBOTS_OUT_OF_MEMORY. The last handle that is closed frees the data. */
+ROBOTS_CHECK int32_t robots_share(const robots *robot, robots **other) ROBOTS_NONNULL(1, 2);
 
 /* Frees a robot, or does nothing if `robot` is NULL. */
 void robots_close(robots *robot);
@@ -133,69 +151,62 @@ ROBOTS_CHECK int32_t robots_matrix(const char *agents, size_t agents_len, const 
                                    size_t urls_len, int64_t *results, size_t results_len);
 
 /* robots_query_delay without a robot. No rule of the file matters, so it never returns ROBOTS_OVERLONG_RULE. */
-ROBOTS_CHECK int32_t robots_delay(const char *agent, size_t agent_len, const void *file, size_t file_len, uint64_t *microseconds);
+ROBOTS_CHECK int32_t robots_delay(const char *agent, size_t agent_len, const void *file, size_t file_len,
+                                  uint64_t *microseconds) ROBOTS_NONNULL(5);
 
 /* Writes the sitemaps, which are the same for every crawler, each with '\n' at its end, and their length in bytes to *len. At
  * ROBOTS_BUFFER_TOO_SMALL *len is the length that is needed: call with (NULL, 0, &len) to get it. A buffer of file_len bytes is
  * always large enough. An empty sitemap is written, and one that isn't UTF-8 is left out. No rule of the file matters. */
-ROBOTS_CHECK int32_t robots_sitemaps(const void *file, size_t file_len, char *out, size_t out_len, size_t *len);
+ROBOTS_CHECK int32_t robots_sitemaps(const void *file, size_t file_len, char *out, size_t out_len, size_t *len) ROBOTS_NONNULL(5);
 
 /* Writes the names in the file's user-agent lines, as robots_sitemaps writes sitemaps: in the file's order, `*` like any other, and of
  * names that differ only in the case of ASCII letters the first. A name that isn't UTF-8 is left out. */
-ROBOTS_CHECK int32_t robots_agents(const void *file, size_t file_len, char *out, size_t out_len, size_t *len);
+ROBOTS_CHECK int32_t robots_agents(const void *file, size_t file_len, char *out, size_t out_len, size_t *len) ROBOTS_NONNULL(5);
 
 /* Reads a file for all crawlers, and writes a new site to *site, which robots_site_close frees. The status is ROBOTS_OK or
  * ROBOTS_OUT_OF_MEMORY: a rule that is too long is an error only for the crawlers that it applies to. */
-ROBOTS_CHECK int32_t robots_site_open(const void *file, size_t file_len, robots_site **site);
+ROBOTS_CHECK int32_t robots_site_open(const void *file, size_t file_len, robots_site **site) ROBOTS_NONNULL(3);
 
 /* robots_open for a site, with the same robot, errors and line. The robot stays open when the site is closed. */
-ROBOTS_CHECK int32_t robots_site_robot(const robots_site *site, const char *agent, size_t agent_len, robots **robot, size_t *line);
+ROBOTS_CHECK int32_t robots_site_robot(const robots_site *site, const char *agent, size_t agent_len, robots **robot,
+                                       size_t *line) ROBOTS_NONNULL(1, 4);
 
 /* robots_matrix for a site. */
 ROBOTS_CHECK int32_t robots_site_matrix(const robots_site *site, const char *agents, size_t agents_len, const char *urls,
-                                        size_t urls_len, int64_t *results, size_t results_len);
+                                        size_t urls_len, int64_t *results, size_t results_len) ROBOTS_NONNULL(1);
 
 /* robots_delay for a site. It doesn't allocate. */
-ROBOTS_CHECK int32_t robots_site_delay(const robots_site *site, const char *agent, size_t agent_len, uint64_t *microseconds);
+ROBOTS_CHECK int32_t robots_site_delay(const robots_site *site, const char *agent, size_t agent_len,
+                                       uint64_t *microseconds) ROBOTS_NONNULL(1, 4);
 
 /* robots_sitemaps for a site. */
-ROBOTS_CHECK int32_t robots_site_sitemaps(const robots_site *site, char *out, size_t out_len, size_t *len);
+ROBOTS_CHECK int32_t robots_site_sitemaps(const robots_site *site, char *out, size_t out_len, size_t *len) ROBOTS_NONNULL(1, 4);
 
 /* robots_agents for a site. */
-ROBOTS_CHECK int32_t robots_site_agents(const robots_site *site, char *out, size_t out_len, size_t *len);
+ROBOTS_CHECK int32_t robots_site_agents(const robots_site *site, char *out, size_t out_len, size_t *len) ROBOTS_NONNULL(1, 4);
 
 /* Returns 1 if a user-agent line names the crawler, 0 if none does, or ROBOTS_NOT_UTF8. All crawlers that none names have the robot of
  * `*`, so they can share it. It doesn't allocate. */
-ROBOTS_CHECK int32_t robots_site_is_named(const robots_site *site, const char *agent, size_t agent_len);
+ROBOTS_CHECK int32_t robots_site_is_named(const robots_site *site, const char *agent, size_t agent_len) ROBOTS_NONNULL(1);
+
+/* robots_share for a site; robots_site_close frees *other. */
+ROBOTS_CHECK int32_t robots_site_share(const robots_site *site, robots_site **other) ROBOTS_NONNULL(1, 2);
 
 /* Frees a site, or does nothing if `site` is NULL. */
 void robots_site_close(robots_site *site);
 
 /* Writes the address of the robots.txt file of the site of an http or https URL, in ASCII with no NUL at its end, and its length to *len.
  * At ROBOTS_BUFFER_TOO_SMALL *len is the length that is needed. */
-ROBOTS_CHECK int32_t robots_address(const char *url, size_t url_len, char *out, size_t out_len, size_t *len);
+ROBOTS_CHECK int32_t robots_address(const char *url, size_t url_len, char *out, size_t out_len, size_t *len) ROBOTS_NONNULL(5);
 
-/* Whether the crawler may fetch the URL with this result. */
-static inline int robots_may_fetch(int64_t result) { return result >= 0; }
+/* Whether the crawler may fetch the URL with this result: 1 if it may, and 0 if it may not. */
+int robots_may_fetch(int64_t result);
 
 /* The number of the line that this result follows from, or 0 if no line decides. */
-static inline int64_t robots_line(int64_t result) {
-    return result == ROBOTS_NO_RESULT ? 0 : result < 0 ? -result : result;
-}
+int64_t robots_line(int64_t result);
 
 /* What a status means, in English. */
-static inline const char *robots_status_text(int32_t status) {
-    switch (status) {
-    case ROBOTS_OK: return "no error";
-    case ROBOTS_NOT_UTF8: return "the agent or a URL isn't UTF-8";
-    case ROBOTS_OUT_OF_MEMORY: return "out of memory";
-    case ROBOTS_BUFFER_TOO_SMALL: return "the buffer is too small";
-    case ROBOTS_NO_DELAY: return "the file has no delay for this crawler";
-    case ROBOTS_NO_ADDRESS: return "the URL has no robots.txt file";
-    case ROBOTS_OVERLONG_RULE: return "a rule is too long: the file can't be used for this crawler";
-    default: return "unknown status";
-    }
-}
+const char *robots_status_text(int32_t status);
 
 #ifdef __cplusplus
 }

@@ -33,7 +33,8 @@ impl Decision {
 
 /// A robots.txt file as one crawler reads it.
 ///
-/// Threads can share it, and none waits for another. [What is proved](crate#what-is-proved) states the C library's rule for threads.
+/// Threads can share it, and then wait for each other's calls. So give each thread a clone: it has the same rules, not a copy of them, and
+/// no thread waits.
 pub struct Robot {
     /// How long the crawler waits between two requests, if the file specifies that. It may be half a million years, so limit it before
     /// you add it to a time.
@@ -75,6 +76,18 @@ impl Robot {
     }
 }
 
+impl Clone for Robot {
+    /// The same rules for another thread. They aren't copied; the sitemaps are.
+    ///
+    /// # Panics
+    ///
+    /// If an allocation fails.
+    fn clone(&self) -> Robot {
+        let rules = self.rules.share().expect("memory for a handle");
+        Robot { delay: self.delay, sitemaps: self.sitemaps.clone(), rules }
+    }
+}
+
 impl fmt::Debug for Robot {
     fn fmt(&self, f: &mut fmt::Formatter<'_>) -> fmt::Result {
         f.debug_struct("Robot").field("delay", &self.delay).field("sitemaps", &self.sitemaps).finish_non_exhaustive()
@@ -83,7 +96,8 @@ impl fmt::Debug for Robot {
 
 /// A robots.txt file that is read once for many crawlers.
 ///
-/// Threads can share it, and none waits for another. [What is proved](crate#what-is-proved) states the C library's rule for threads.
+/// Threads can share it, and then wait for each other's calls. So give each thread a clone: it has the same file, not a copy of it, and no
+/// thread waits.
 pub struct Site {
     /// The sitemaps that the file lists, in its order: also empty ones, but none that isn't UTF-8.
     pub sitemaps: Vec<String>,
@@ -151,6 +165,17 @@ impl Site {
     /// Whether a user-agent line names this crawler. All that none names have the same robot, so they can share it.
     pub fn is_named(&self, agent: &str) -> bool {
         self.lines.is_named(agent)
+    }
+}
+
+impl Clone for Site {
+    /// The same file for another thread. It isn't copied; the sitemaps are.
+    ///
+    /// # Panics
+    ///
+    /// If an allocation fails.
+    fn clone(&self) -> Site {
+        Site { sitemaps: self.sitemaps.clone(), lines: self.lines.share().expect("memory for a handle") }
     }
 }
 

@@ -100,7 +100,7 @@ def test_the_lines_of_the_readme_in_another_crate(installed, tmp_path):
     cargo("run", cwd=tmp_path, env=os.environ | {"ROBOTS_C": str(installed), "CARGO_TARGET_DIR": str(tmp_path / "target")})
 
 
-TYPES = {"size_t": "usize", "int32_t": "i32", "uint32_t": "u32", "int64_t": "i64", "uint64_t": "u64", "char": "c_char", "void": "c_void"}
+TYPES = {"int": "i32", "size_t": "usize", "int32_t": "i32", "uint32_t": "u32", "int64_t": "i64", "uint64_t": "u64", "char": "c_char", "void": "c_void"}
 
 
 def in_rust(declared):
@@ -116,14 +116,15 @@ def test_the_raw_crate_has_the_calls_and_constants_of_the_header():
     header = re.sub(r"/\*.*?\*/", "", (LIBRARY / "robots.h").read_text(), flags=re.S)
     raw = (CRATE / "sys/src/lib.rs").read_text()
     found = {name: [" ".join(it.split()) for it in words.split(",") if it] for name, words in re.findall(r"pub fn (\w+)\(([^)]*)\)", raw)}
-    declared = re.findall(r"^(?:ROBOTS_CHECK )?(\w+) (robots_\w+)\(([^)]*)\);", header, re.M)
-    assert len(declared) >= 20
+    declared = re.findall(r"^(?:ROBOTS_CHECK )?(const \w+ \*|\w+ )(robots_\w+)\(([^)]*)\)(?:\s+ROBOTS_NONNULL\([\d, ]+\))?;", header, re.M)
+    assert len(declared) >= 25
     assert found == {name: [in_rust(it) for it in words.split(",") if it != "void"] for _, name, words in declared}
     for kind, name, _ in declared:
-        assert re.search(rf"pub fn {name}\([^)]*\){'' if kind == 'void' else f' -> {TYPES[kind]}'};", raw)
+        result = in_rust(f"{kind} result").removeprefix("result: ")
+        assert re.search(rf"pub fn {name}\([^)]*\){'' if result == 'c_void' else f' -> {re.escape(result)}'};", raw)
     numbers = re.findall(r"^(?:    |#define )(ROBOTS_\w+)(?: =)? (-?\d+)\b,?", header, re.M)
     constants = re.findall(r"^pub const (ROBOTS_\w+): \w+ = (-?\d+);", raw.replace("_000", "000"), re.M)
-    assert set(constants) - set(numbers) == {("ROBOTS_VERSION", "10000")} and len(constants) == 9
+    assert set(constants) - set(numbers) == {("ROBOTS_VERSION", "10000")} and len(constants) == 10
 
 
 def test_the_readme_keeps_the_rules_of_the_documents():

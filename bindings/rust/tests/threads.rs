@@ -37,6 +37,21 @@ fn threads_share_robots_and_a_site() {
 }
 
 #[test]
+fn each_thread_has_a_clone_and_they_are_closed_in_any_order() {
+    let robots = [Robot::new("other", FILE).unwrap(), Robot::new("own", FILE).unwrap()];
+    let site = Site::new(FILE).unwrap();
+    let threads: Vec<_> = (0..16)
+        .map(|number| {
+            let (site, own) = (site.clone(), number % 2 == 1);
+            let robot = robots[usize::from(own)].clone();
+            thread::spawn(move || (0..100 + number).all(|_| is_right(&robot.clone(), &site, own)))
+        })
+        .collect();
+    drop((robots, site));
+    assert!(threads.into_iter().all(|it| it.join().unwrap()));
+}
+
+#[test]
 fn they_go_to_another_thread_and_are_closed_there() {
     for _ in 0..50 {
         let (site, robot) = (Site::new(FILE).unwrap(), Robot::new("own", FILE).unwrap());

@@ -17,6 +17,9 @@ use denote.RawPtr.{Ptr, block_ptr, null_ptr}
 use denote.Struct.Lending.{lent_at, Lends-lies}
 use Rattle.texting_robots.proofs.robot.Robot.TheLaws as Robot-laws
 use Rattle.texting_robots.proofs.site.Site.TheLaws as Site-laws
+use Rattle.texting_robots.specs.contracts.robot.Robot as Robot-type
+use Rattle.texting_robots.specs.contracts.site.Site as Site-type
+use Rattle.robots_c.proofs.shared.Shared.TheLaws as Shared-laws
 use Rattle.robots_c.specs.File.{IsRobotFor, IsRobotOfSomeFile, bytes_read}
 use Rattle.robots_c.specs.Kept.{Robots, Sites, opened_at, owned_at, owned_or_null}
 
@@ -59,12 +62,14 @@ module _ {M : Type 1} {𝓤 : Ura M} (𝓛 : Logic 𝓤) where
   pub robots_can_be_lent : (agent site : List ℕ) (at : Ptr)
       → ent 𝓤 (sem 𝓛 (opened_at Robots (IsRobotFor agent site) at))
       (CanBeLent 𝓛 Robots (IsRobotFor agent site) at)
-  robots_can_be_lent agent site = can_be_lent Robots Robot-laws.the_row_laws refl (IsRobotFor agent site)
+  robots_can_be_lent agent site = can_be_lent Robots
+      (Shared-laws.the_row_laws Robot-type.the_row Robot-laws.the_row_laws) refl (IsRobotFor agent site)
 
   -- what `robots_site_open` gives
   pub sites_can_be_lent : (site : List ℕ) (at : Ptr) → ent 𝓤 (sem 𝓛 (opened_at Sites (λ x. x ≡ site) at))
       (CanBeLent 𝓛 Sites (λ x. x ≡ site) at)
-  sites_can_be_lent site = can_be_lent Sites Site-laws.the_row_laws refl (λ x. x ≡ site)
+  sites_can_be_lent site = can_be_lent Sites
+      (Shared-laws.the_row_laws Site-type.the_row Site-laws.the_row_laws) refl (λ x. x ≡ site)
 
 -- and such a robot is one that the queries take
 pub queries_take_it : (agent file : List ℕ) (x : Robots.Denot) → IsRobotFor agent (bytes_read file) x

@@ -1,3 +1,4 @@
+pub mod BatchLemmas
 pub mod KeptSteps
 pub mod LendingLemmas
 pub mod MatrixLemmas

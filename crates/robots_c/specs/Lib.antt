@@ -1,3 +1,4 @@
+pub mod Batch
 pub mod File
 pub mod Kept
 pub mod Results

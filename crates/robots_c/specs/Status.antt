@@ -8,12 +8,11 @@ use Rattle.robots_c.specs.File.{HasDelay}
 use Rattle.robots_c.specs.Results.{items_in}
 use Rattle.robots_c.specs.declared.fault.Fault.{Fault}
 use Rattle.robots_c.specs.declared.fault.Fault.TheVariants.{Memory, NoAddress, NoDelay, BufferTooSmall}
-use Rattle.robots_c.specs.declared.fault.Fault.TheVariants.{NotUtf8}
-use Rattle.robots_c.specs.declared.fault.Fault.TheVariants.{Overlong}
+use Rattle.robots_c.specs.declared.fault.Fault.TheVariants.{InvalidEnds, NotUtf8, Overlong}
 
 -- ---- statuses
 
--- -1 to -6
+-- -1 to -7
 abbrev pub status_of : Fault → ℤ
 status_of NotUtf8 = negsuc 0
 status_of Memory = negsuc 1
@@ -21,6 +20,7 @@ status_of BufferTooSmall = negsuc 2
 status_of NoDelay = negsuc 3
 status_of NoAddress = negsuc 4
 status_of (Overlong line) = negsuc 5
+status_of InvalidEnds = negsuc 6
 
 -- the status is 0, or that of an error for which Why holds
 abbrev pub HasFault : (Fault → Type 0) → ℤ → Type 0
@@ -52,9 +52,9 @@ IsWhyNoRobot agent site Memory = IsUtf8 agent
 IsWhyNoRobot agent site (Overlong line) = IsUtf8 agent × IsOverlongLine agent site line
 IsWhyNoRobot agent site _ = ⊥
 
--- making a site
-abbrev pub IsWhyNoSite : Fault → Type 0
-IsWhyNoSite fault = fault ≡ Memory
+-- making a site, or another handle on what is open
+abbrev pub IsWhyNoHandle : Fault → Type 0
+IsWhyNoHandle fault = fault ≡ Memory
 
 -- the results for the URLs in a string, with this capacity for numbers
 abbrev pub IsWhyNoResults : List ℕ → ℕ → Fault → Type 0

@@ -16,6 +16,8 @@ pub(crate) enum Fault {
     NoAddress,
     /// The file is rejected for the crawler, as the rule in this line is too long.
     Overlong(usize),
+    /// The places where URLs end decrease, or one is after the end of the text.
+    InvalidEnds,
 }
 
 impl Fault {
@@ -33,6 +35,7 @@ impl Fault {
             Fault::NoDelay => -4,
             Fault::NoAddress => -5,
             Fault::Overlong(_) => -6,
+            Fault::InvalidEnds => -7,
         }
     }
 

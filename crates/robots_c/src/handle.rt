@@ -1,16 +1,17 @@
 //! A robot that C keeps between calls.
 ghost use Rattle.std.specs.Prelude.{◌≡◌, ◌≢◌, Option, Some, None, IfErr, IfOk, pos};
 ghost use Rattle.robots_c.specs.File.{GivesRobot, IsRobotFor, bytes_read};
-ghost use Rattle.robots_c.specs.Status.{HasFault, HasFaultAt, IsWhyNoRobot, IsWhyNone};
+ghost use Rattle.robots_c.specs.Status.{HasFault, HasFaultAt, IsWhyNoHandle, IsWhyNoRobot, IsWhyNone};
 
 use crate::fault::Fault;
 use crate::file::robot_of;
 use crate::kept::{Handle, Kept};
-use std::alloc::Global;
+use crate::shared::Shared;
+use std::alloc::{AllocError, Global};
 use texting_robots::Robot;
 
 /// Frees a robot that C returns.
-pub(crate) fn close(robot: Handle<Robot>) {
+pub(crate) fn close(robot: Handle<Shared<Robot>>) {
     drop(robot.into_box());
 }
 
@@ -18,13 +19,13 @@ pub(crate) fn close(robot: Handle<Robot>) {
 pub(crate) fn for_any_thread<T: Send + Sync>(_: &T) {}
 
 /// The robot of a file, in a box. It can be sent to other threads, and queried by several threads at once.
-fn open(alloc: Global, agent: &[u8], file: &[u8]) -> Result<Box<Robot>, Fault>
+fn open(alloc: Global, agent: &[u8], file: &[u8]) -> Result<Box<Shared<Robot>>, Fault>
     ensures ok { IfOk result (λ robot. IsRobotFor agent.now (bytes_read file.now) robot.value) }
     ensures fault { IfErr result (IsWhyNoRobot agent.now (bytes_read file.now)) }
 {
-    let robot = robot_of(alloc, agent, file)?;
-    for_any_thread(&robot);
-    Ok(Box::new(alloc, robot)?)
+    let robot = Shared::boxed(alloc, robot_of(alloc, agent, file)?)?;
+    for_any_thread(&*robot);
+    Ok(robot)
 }
 
 /// Opens the robot of a file for C. If that fails, the pointer is `at`, and the line of a
@@ -33,9 +34,9 @@ pub(crate) fn opened(
     alloc: Global,
     agent: &[u8],
     file: &[u8],
-    at: *mut Robot,
+    at: *mut Shared<Robot>,
     line: &mut usize,
-) -> Kept<Robot>
+) -> Kept<Shared<Robot>>
     ensures opened { result.status ≡ pos 0
         → GivesRobot agent.now (bytes_read file.now) (λ robot. result.value ≡ Some robot) }
     ensures kept { result.status ≢ pos 0 → result.at ≡ at }
@@ -47,13 +48,29 @@ pub(crate) fn opened(
     }
 }
 
+/// Opens another handle on the robot for C. If that fails, the pointer is `at`.
+pub(crate) fn shared(
+    alloc: Global,
+    robot: &Shared<Robot>,
+    at: *mut Shared<Robot>,
+) -> Kept<Shared<Robot>>
+    ensures opened { result.status ≡ pos 0 → result.value ≡ Some robot.now }
+    ensures kept { result.status ≢ pos 0 → result.at ≡ at }
+    ensures why { HasFault IsWhyNoHandle result.status }
+{
+    match robot.boxed_again(alloc) {
+        Ok(robot) => Kept::boxed(0, robot),
+        Err(AllocError) => Kept::nothing(Fault::Memory.status(), at),
+    }
+}
+
 /// Writes the delay of a robot. It doesn't allocate.
-pub(crate) fn query_delay(robot: &Robot, out: &mut u64) -> i32
+pub(crate) fn query_delay(robot: &Shared<Robot>, out: &mut u64) -> i32
     ensures written { result ≡ pos 0 → robot.now.delay ≡ Some out.new }
     ensures kept { result ≢ pos 0 → out.new ≡ out.old }
     ensures why { HasFault (IsWhyNone robot.now.delay) result }
 {
-    match robot.delay {
+    match robot.get().delay {
         Some(delay) => {
             *out = delay;
             0

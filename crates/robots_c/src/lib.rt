@@ -6,35 +6,40 @@
 //! long, if they fail for this reason. `robots_site_is_named` writes nothing and returns its result.
 #![tactic(auto)]
 
-ghost use Rattle.std.specs.Prelude.{◌≡◌, ◌≢◌, ◌⊎◌, ℕ, List, Some, length, pos};
+ghost use Rattle.std.specs.Prelude.{◌≡◌, ◌≢◌, ◌⊎◌, ℕ, List, Some, if◌then◌else◌, length, pos, unwrap_or};
 ghost use Rattle.std.specs.Borrow.{sem};
 ghost use base.Fml.{Lft, Share, fall, flft};
 ghost use denote.Struct.Lending.{lent_at};
+ghost use Rattle.robots_c.specs.Batch.{IsBatchPutIn, IsWhyNoBatch};
 ghost use Rattle.robots_c.specs.File.{AreAgents, AreSitemaps, GivesRobot, HasDelay, IsRobotFor, IsRobotOfSomeFile};
 ghost use Rattle.robots_c.specs.File.{IsSiteOfSomeFile, bytes_read};
 ghost use Rattle.robots_c.specs.Kept.{Robots, Sites, opened_at, owned_or_null};
-ghost use Rattle.robots_c.specs.Results.{ArePutIn, HasResult, IsMatrixPutIn};
+ghost use Rattle.robots_c.specs.Results.{ArePutIn, HasResult, IsMatrixPutIn, is_allowed, line_named, no_result};
 ghost use Rattle.robots_c.specs.Status.{HasFault, HasFaultAt, IsAddress, IsWhyNoAddress, IsWhyNoDelay, IsWhyNoDelayOf};
-ghost use Rattle.robots_c.specs.Status.{IsWhyNoMatrix, IsWhyNoResult, IsWhyNoResults, IsWhyNoRobot, IsWhyNoSite, IsWhyNone};
+ghost use Rattle.robots_c.specs.Status.{IsWhyNoMatrix, IsWhyNoResult, IsWhyNoResults, IsWhyNoRobot, IsWhyNoHandle, IsWhyNone};
 ghost use Rattle.robots_c.specs.Status.{IsWhyUndecided, SaysNamed, status_of};
 ghost use Rattle.robots_c.specs.Text.{IsTooLong, IsWritten};
 ghost use Rattle.texting_robots.specs.Callers.{RobotValue};
 
+mod batch;
 mod fault;
 mod file;
 mod handle;
 mod kept;
 mod matrix;
 mod overlong;
+mod shared;
 mod site;
 mod texts;
 mod urls;
 
+use batch::query_batch;
 use fault::Fault;
 use file::delay_of;
-use handle::{close, opened, query_delay};
+use handle::{close, opened, query_delay, shared};
 use kept::{Handle, Kept};
-use matrix::{matrix_by, matrix_of};
+use matrix::{NO_RESULT, matrix_by, matrix_of};
+use shared::Shared;
 use std::alloc::{AllocError, Global};
 use texting_robots::{Robot, Site};
 use texts::{address, agents_of, put, sitemaps_of};
@@ -180,7 +185,7 @@ pub extern "C" fn robots_open(
     ensures why { HasFaultAt (IsWhyNoRobot agent.now (bytes_read file.now)) result line.old line.new }
     ensures* opened { sem 𝓛 (fall (result ≡ pos 0) (λ _. opened_at Robots (IsRobotFor agent.now (bytes_read file.now)) out.new)) }
 {
-    let Kept { status, at } = opened(alloc, agent, file, *out as *mut Robot, line);
+    let Kept { status, at } = opened(alloc, agent, file, *out as *mut Shared<Robot>, line);
     *out = at as *mut u8;
     status
 }
@@ -202,7 +207,7 @@ pub unsafe extern "C" fn robots_query(
     ensures why { HasFault (IsWhyNoResult url.now) result }
     ensures* lent { sem 𝓛 (flft g.0 g.1) }
 {
-    query(alloc, &*(robot as *const Robot), url, out)
+    query(alloc, &*(robot as *const Shared<Robot>), url, out)
 }
 
 /// Writes the results for many URLs, as `robots_decide` does. The robot is borrowed, as in `robots_query`.
@@ -221,7 +226,28 @@ pub unsafe extern "C" fn robots_query_many(
     ensures why { HasFault (IsWhyNoResults urls.now (length out.old)) result }
     ensures* lent { sem 𝓛 (flft g.0 g.1) }
 {
-    query_many(alloc, &*(robot as *const Robot), urls, out)
+    query_many(alloc, &*(robot as *const Shared<Robot>), urls, out)
+}
+
+/// Writes the results for many URLs, as `robots_query_many` does. The URLs are the parts of one text that
+/// end at these places, each from the end before it.
+#[unsafe(no_mangle)]
+pub unsafe extern "C" fn robots_query_batch(
+    alloc: Global,
+    robot: *const u8,
+    urls: &[u8],
+    ends: &[usize],
+    out: &mut [i64],
+) -> i32
+    ghost g: { Lft × Share × RobotValue }
+    requires robot { IsRobotOfSomeFile g.2 }
+    requires* lent { sem 𝓛 (lent_at Robots robot g.2 g.0) ∗ sem 𝓛 (flft g.0 g.1) }
+    ensures written { result ≡ pos 0 → IsBatchPutIn g.2.rules urls.now ends.now out.old out.new }
+    ensures kept { result ≢ pos 0 → out.new ≡ out.old }
+    ensures why { HasFault (IsWhyNoBatch urls.now ends.now (length out.old)) result }
+    ensures* lent { sem 𝓛 (flft g.0 g.1) }
+{
+    query_batch(alloc, &*(robot as *const Shared<Robot>), urls, ends, out)
 }
 
 /// Writes a robot's delay, as `robots_delay` does. The robot is borrowed, as in
@@ -235,7 +261,27 @@ pub unsafe extern "C" fn robots_query_delay(robot: *const u8, out: &mut u64) -> 
     ensures why { HasFault (IsWhyNone g.2.delay) result }
     ensures* lent { sem 𝓛 (flft g.0 g.1) }
 {
-    query_delay(&*(robot as *const Robot), out)
+    query_delay(&*(robot as *const Shared<Robot>), out)
+}
+
+/// Writes a pointer to another handle on the same robot, which C owns from then on. The robot is borrowed, as
+/// in `robots_query`.
+#[unsafe(no_mangle)]
+pub unsafe extern "C" fn robots_share(alloc: Global, robot: *const u8, out: &mut *mut u8) -> i32
+    ghost g: { Lft × Share × RobotValue }
+    requires* lent { sem 𝓛 (lent_at Robots robot g.2 g.0) ∗ sem 𝓛 (flft g.0 g.1) }
+    ensures kept { result ≢ pos 0 → out.new ≡ out.old }
+    ensures why { HasFault IsWhyNoHandle result }
+    ensures* opened { sem 𝓛 (fall (result ≡ pos 0) (λ _. opened_at Robots (λ other. other ≡ g.2) out.new)) }
+    ensures* lent { sem 𝓛 (flft g.0 g.1) }
+{
+    let Kept { status, at } = shared(
+        alloc,
+        &*(robot as *const Shared<Robot>),
+        *out as *mut Shared<Robot>,
+    );
+    *out = at as *mut u8;
+    status
 }
 
 /// Frees a robot that `robots_open` or `robots_site_robot` opened. If the pointer is null, it does nothing.
@@ -248,7 +294,7 @@ pub unsafe extern "C" fn robots_close(alloc: Global, robot: *mut u8)
         return;
     }
     close(Handle {
-        at: robot as *mut Robot,
+        at: robot as *mut Shared<Robot>,
         alloc,
     })
 }
@@ -258,10 +304,10 @@ pub unsafe extern "C" fn robots_close(alloc: Global, robot: *mut u8)
 #[unsafe(no_mangle)]
 pub extern "C" fn robots_site_open(alloc: Global, file: &[u8], out: &mut *mut u8) -> i32
     ensures kept { result ≢ pos 0 → out.new ≡ out.old }
-    ensures why { HasFault IsWhyNoSite result }
+    ensures why { HasFault IsWhyNoHandle result }
     ensures* opened { sem 𝓛 (fall (result ≡ pos 0) (λ _. opened_at Sites (λ site. site ≡ bytes_read file.now) out.new)) }
 {
-    let Kept { status, at } = site::opened(alloc, file, *out as *mut Site);
+    let Kept { status, at } = site::opened(alloc, file, *out as *mut Shared<Site>);
     *out = at as *mut u8;
     status
 }
@@ -285,9 +331,9 @@ pub unsafe extern "C" fn robots_site_robot(
 {
     let Kept { status, at } = site::robot_opened(
         alloc,
-        &*(site as *const Site),
+        &*(site as *const Shared<Site>),
         agent,
-        *out as *mut Robot,
+        *out as *mut Shared<Robot>,
         line,
     );
     *out = at as *mut u8;
@@ -311,7 +357,7 @@ pub unsafe extern "C" fn robots_site_matrix(
     ensures why { HasFault (IsWhyNoMatrix agents.now urls.now (length out.old)) result }
     ensures* lent { sem 𝓛 (flft g.0 g.1) }
 {
-    matrix_by(alloc, &*(site as *const Site), agents, urls, out)
+    matrix_by(alloc, &*(site as *const Shared<Site>), agents, urls, out)
 }
 
 /// Writes a crawler's delay, as `robots_delay` does. The site is borrowed, as in
@@ -325,7 +371,7 @@ pub unsafe extern "C" fn robots_site_delay(site: *const u8, agent: &[u8], out: &
     ensures why { HasFault (IsWhyNoDelayOf agent.now g.2) result }
     ensures* lent { sem 𝓛 (flft g.0 g.1) }
 {
-    site::delay(&*(site as *const Site), agent, out)
+    site::delay(&*(site as *const Shared<Site>), agent, out)
 }
 
 /// Writes the sitemaps, as `robots_sitemaps` does. The site is borrowed, as in `robots_site_robot`.
@@ -345,7 +391,7 @@ pub unsafe extern "C" fn robots_site_sitemaps(
     ensures why { (result ≡ pos 0) ⊎ ((result ≡ status_of Fault.BufferTooSmall) ⊎ (result ≡ status_of Fault.Memory)) }
     ensures* lent { sem 𝓛 (flft g.0 g.1) }
 {
-    site::sitemaps(alloc, &*(site as *const Site), out, len)
+    site::sitemaps(alloc, &*(site as *const Shared<Site>), out, len)
 }
 
 /// Writes the names in user-agent lines, as `robots_agents` does. The site is
@@ -366,7 +412,7 @@ pub unsafe extern "C" fn robots_site_agents(
     ensures why { (result ≡ pos 0) ⊎ ((result ≡ status_of Fault.BufferTooSmall) ⊎ (result ≡ status_of Fault.Memory)) }
     ensures* lent { sem 𝓛 (flft g.0 g.1) }
 {
-    site::agents(alloc, &*(site as *const Site), out, len)
+    site::agents(alloc, &*(site as *const Shared<Site>), out, len)
 }
 
 /// Whether a user-agent line names the crawler: 1 if one does, 0 if none does, so that the crawler has the
@@ -379,7 +425,27 @@ pub unsafe extern "C" fn robots_site_is_named(site: *const u8, agent: &[u8]) -> 
     ensures named { SaysNamed agent.now g.2 result }
     ensures* lent { sem 𝓛 (flft g.0 g.1) }
 {
-    site::is_named(&*(site as *const Site), agent)
+    site::is_named(&*(site as *const Shared<Site>), agent)
+}
+
+/// Writes a pointer to another handle on the same site, which C owns from then on. The site is borrowed, as
+/// in `robots_site_robot`.
+#[unsafe(no_mangle)]
+pub unsafe extern "C" fn robots_site_share(alloc: Global, site: *const u8, out: &mut *mut u8) -> i32
+    ghost g: { Lft × Share × List ℕ }
+    requires* lent { sem 𝓛 (lent_at Sites site g.2 g.0) ∗ sem 𝓛 (flft g.0 g.1) }
+    ensures kept { result ≢ pos 0 → out.new ≡ out.old }
+    ensures why { HasFault IsWhyNoHandle result }
+    ensures* opened { sem 𝓛 (fall (result ≡ pos 0) (λ _. opened_at Sites (λ other. other ≡ g.2) out.new)) }
+    ensures* lent { sem 𝓛 (flft g.0 g.1) }
+{
+    let Kept { status, at } = site::shared(
+        alloc,
+        &*(site as *const Shared<Site>),
+        *out as *mut Shared<Site>,
+    );
+    *out = at as *mut u8;
+    status
 }
 
 /// Frees a site that `robots_site_open` opened. If the pointer is null, it does nothing.
@@ -392,7 +458,30 @@ pub unsafe extern "C" fn robots_site_close(alloc: Global, site: *mut u8)
         return;
     }
     site::close(Handle {
-        at: site as *mut Site,
+        at: site as *mut Shared<Site>,
         alloc,
     })
+}
+
+/// Whether the crawler may fetch the URL with this result: 1 if it may, and 0 if it may not.
+#[unsafe(no_mangle)]
+pub extern "C" fn robots_may_fetch(number: i64) -> i32
+    ensures { result ≡ (if is_allowed number then pos 1 else pos 0) }
+{
+    i32::from(number >= 0)
+}
+
+/// The number of the line that decides, and 0 if none decides or there is no result.
+#[unsafe(no_mangle)]
+pub extern "C" fn robots_line(number: i64) -> i64
+    ensures line { number ≢ no_result → result ≡ pos (unwrap_or (line_named number) 0) }
+    ensures no_result { number ≡ no_result → result ≡ pos 0 }
+{
+    if number >= 0 {
+        number
+    } else if number == NO_RESULT {
+        0
+    } else {
+        -number
+    }
 }

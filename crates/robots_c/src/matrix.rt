@@ -9,12 +9,13 @@ ghost use Rattle.texting_robots.specs.Callers.{prepared};
 
 use crate::fault::Fault;
 use crate::file::text_of;
+use crate::shared::Shared;
 use crate::urls::{count_items, number_on};
 use std::alloc::{AllocError, Global};
 use texting_robots::{Error, Robot, Site};
 
 /// The number in the row of a crawler for which the file is rejected.
-const NO_RESULT: i64 = i64::MIN;
+pub(crate) const NO_RESULT: i64 = i64::MIN;
 
 /// The match target of a URL.
 fn target_of(alloc: Global, url: &str) -> Result<String, AllocError>
@@ -193,7 +194,7 @@ fn matrix_in(
 /// Writes the matrix of the crawlers and URLs in two strings, from a site.
 pub(crate) fn matrix_by(
     alloc: Global,
-    site: &Site,
+    site: &Shared<Site>,
     agents: &[u8],
     urls: &[u8],
     out: &mut [i64],
@@ -203,7 +204,7 @@ pub(crate) fn matrix_by(
     ensures kept { result ≢ pos 0 → out.new ≡ out.old }
     ensures why { HasFault (IsWhyNoMatrix agents.now urls.now (length out.old)) result }
 {
-    match matrix_in(alloc, site, agents, urls, out.len()) {
+    match matrix_in(alloc, site.get(), agents, urls, out.len()) {
         Ok(numbers) => {
             out[..numbers.len()].copy_from_slice(&numbers);
             0

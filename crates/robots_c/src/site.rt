@@ -1,7 +1,7 @@
 //! A site that C keeps between calls: a file that is read once for all crawlers.
 ghost use Rattle.std.specs.Prelude.{◌≡◌, ◌≢◌, ◌⊎◌, Some, IfErr, IfOk, length, pos};
 ghost use Rattle.robots_c.specs.File.{AreAgents, AreSitemaps, GivesRobot, HasDelay, IsRobotFor, bytes_read};
-ghost use Rattle.robots_c.specs.Status.{HasFault, HasFaultAt, IsWhyNoDelayOf, IsWhyNoRobot, IsWhyNoSite};
+ghost use Rattle.robots_c.specs.Status.{HasFault, HasFaultAt, IsWhyNoDelayOf, IsWhyNoHandle, IsWhyNoRobot};
 ghost use Rattle.robots_c.specs.Status.{SaysNamed, status_of};
 ghost use Rattle.robots_c.specs.Text.{IsTooLong, IsWritten};
 
@@ -10,30 +10,31 @@ use crate::file::{delay_in, text_of};
 use crate::handle::for_any_thread;
 use crate::kept::{Handle, Kept};
 use crate::overlong::first_overlong_line;
+use crate::shared::Shared;
 use crate::texts::{agents_in, put, sitemaps_in};
 use std::alloc::{AllocError, Global};
 use texting_robots::{Error, Robot, Site};
 
 /// Frees a site that C returns.
-pub(crate) fn close(site: Handle<Site>) {
+pub(crate) fn close(site: Handle<Shared<Site>>) {
     drop(site.into_box());
 }
 
 /// The site of a file, in a box. It can be sent to other threads, and queried by several threads at once.
-fn open(alloc: Global, file: &[u8]) -> Result<Box<Site>, Fault>
+fn open(alloc: Global, file: &[u8]) -> Result<Box<Shared<Site>>, Fault>
     ensures ok { IfOk result (λ site. site.value ≡ bytes_read file.now) }
-    ensures fault { IfErr result IsWhyNoSite }
+    ensures fault { IfErr result IsWhyNoHandle }
 {
-    let site = Site::new(alloc, file)?;
-    for_any_thread(&site);
-    Ok(Box::new(alloc, site)?)
+    let site = Shared::boxed(alloc, Site::new(alloc, file)?)?;
+    for_any_thread(&*site);
+    Ok(site)
 }
 
 /// Opens the site of a file for C. If that fails, the pointer is `at`.
-pub(crate) fn opened(alloc: Global, file: &[u8], at: *mut Site) -> Kept<Site>
+pub(crate) fn opened(alloc: Global, file: &[u8], at: *mut Shared<Site>) -> Kept<Shared<Site>>
     ensures opened { result.status ≡ pos 0 → result.value ≡ Some (bytes_read file.now) }
     ensures kept { result.status ≢ pos 0 → result.at ≡ at }
-    ensures why { HasFault IsWhyNoSite result.status }
+    ensures why { HasFault IsWhyNoHandle result.status }
 {
     match open(alloc, file) {
         Ok(site) => Kept::boxed(0, site),
@@ -41,14 +42,30 @@ pub(crate) fn opened(alloc: Global, file: &[u8], at: *mut Site) -> Kept<Site>
     }
 }
 
+/// Opens another handle on the site for C. If that fails, the pointer is `at`.
+pub(crate) fn shared(
+    alloc: Global,
+    site: &Shared<Site>,
+    at: *mut Shared<Site>,
+) -> Kept<Shared<Site>>
+    ensures opened { result.status ≡ pos 0 → result.value ≡ Some site.now }
+    ensures kept { result.status ≢ pos 0 → result.at ≡ at }
+    ensures why { HasFault IsWhyNoHandle result.status }
+{
+    match site.boxed_again(alloc) {
+        Ok(site) => Kept::boxed(0, site),
+        Err(AllocError) => Kept::nothing(Fault::Memory.status(), at),
+    }
+}
+
 /// A crawler's robot, in a box. If the file is rejected, the error has the line of the rule that is too long.
-fn robot(alloc: Global, site: &Site, agent: &[u8]) -> Result<Box<Robot>, Fault>
+fn robot(alloc: Global, site: &Site, agent: &[u8]) -> Result<Box<Shared<Robot>>, Fault>
     ensures ok { IfOk result (λ robot. IsRobotFor agent.now site.now robot.value) }
     ensures fault { IfErr result (IsWhyNoRobot agent.now site.now) }
 {
     let agent = text_of(agent)?;
     match site.robot(alloc, agent) {
-        Ok(robot) => Ok(Box::new(alloc, robot)?),
+        Ok(robot) => Ok(Shared::boxed(alloc, robot)?),
         Err(Error::InvalidRule) => Err(Fault::Overlong(first_overlong_line(
             alloc,
             agent,
@@ -62,28 +79,28 @@ fn robot(alloc: Global, site: &Site, agent: &[u8]) -> Result<Box<Robot>, Fault>
 /// rule that is too long is written.
 pub(crate) fn robot_opened(
     alloc: Global,
-    site: &Site,
+    site: &Shared<Site>,
     agent: &[u8],
-    at: *mut Robot,
+    at: *mut Shared<Robot>,
     line: &mut usize,
-) -> Kept<Robot>
+) -> Kept<Shared<Robot>>
     ensures opened { result.status ≡ pos 0 → GivesRobot agent.now site.now (λ robot. result.value ≡ Some robot) }
     ensures kept { result.status ≢ pos 0 → result.at ≡ at }
     ensures why { HasFaultAt (IsWhyNoRobot agent.now site.now) result.status line.old line.new }
 {
-    match robot(alloc, site, agent) {
+    match robot(alloc, site.get(), agent) {
         Ok(robot) => Kept::boxed(0, robot),
         Err(fault) => Kept::nothing(fault.status_at(line), at),
     }
 }
 
 /// Writes a crawler's delay. It doesn't allocate.
-pub(crate) fn delay(site: &Site, agent: &[u8], out: &mut u64) -> i32
+pub(crate) fn delay(site: &Shared<Site>, agent: &[u8], out: &mut u64) -> i32
     ensures written { result ≡ pos 0 → HasDelay agent.now site.now (Some out.new) }
     ensures kept { result ≢ pos 0 → out.new ≡ out.old }
     ensures why { HasFault (IsWhyNoDelayOf agent.now site.now) result }
 {
-    match delay_in(site, agent) {
+    match delay_in(site.get(), agent) {
         Ok(delay) => {
             *out = delay;
             0
@@ -93,39 +110,39 @@ pub(crate) fn delay(site: &Site, agent: &[u8], out: &mut u64) -> i32
 }
 
 /// Writes the sitemaps, as `robots_sitemaps` does.
-pub(crate) fn sitemaps(alloc: Global, site: &Site, out: &mut [u8], len: &mut usize) -> i32
+pub(crate) fn sitemaps(alloc: Global, site: &Shared<Site>, out: &mut [u8], len: &mut usize) -> i32
     ensures written { result ≡ pos 0 → IsWritten (AreSitemaps site.now) out.old out.new len.new }
     ensures buffer_too_small { result ≡ status_of Fault.BufferTooSmall → IsTooLong (AreSitemaps site.now) (length out.old) len.new }
     ensures length_kept { result ≢ pos 0 → result ≢ status_of Fault.BufferTooSmall → len.new ≡ len.old }
     ensures kept { result ≢ pos 0 → out.new ≡ out.old }
     ensures why { (result ≡ pos 0) ⊎ ((result ≡ status_of Fault.BufferTooSmall) ⊎ (result ≡ status_of Fault.Memory)) }
 {
-    match sitemaps_in(alloc, site) {
+    match sitemaps_in(alloc, site.get()) {
         Ok(text) => put(&text, out, len),
         Err(AllocError) => Fault::Memory.status(),
     }
 }
 
 /// Writes the names in user-agent lines, as `robots_agents` does.
-pub(crate) fn agents(alloc: Global, site: &Site, out: &mut [u8], len: &mut usize) -> i32
+pub(crate) fn agents(alloc: Global, site: &Shared<Site>, out: &mut [u8], len: &mut usize) -> i32
     ensures written { result ≡ pos 0 → IsWritten (AreAgents site.now) out.old out.new len.new }
     ensures buffer_too_small { result ≡ status_of Fault.BufferTooSmall → IsTooLong (AreAgents site.now) (length out.old) len.new }
     ensures length_kept { result ≢ pos 0 → result ≢ status_of Fault.BufferTooSmall → len.new ≡ len.old }
     ensures kept { result ≢ pos 0 → out.new ≡ out.old }
     ensures why { (result ≡ pos 0) ⊎ ((result ≡ status_of Fault.BufferTooSmall) ⊎ (result ≡ status_of Fault.Memory)) }
 {
-    match agents_in(alloc, site) {
+    match agents_in(alloc, site.get()) {
         Ok(text) => put(&text, out, len),
         Err(AllocError) => Fault::Memory.status(),
     }
 }
 
 /// 1 if a user-agent line names the crawler, 0 if none does, and -1 if the crawler's name isn't UTF-8.
-pub(crate) fn is_named(site: &Site, agent: &[u8]) -> i32
+pub(crate) fn is_named(site: &Shared<Site>, agent: &[u8]) -> i32
     ensures { SaysNamed agent.now site.now result }
 {
     match text_of(agent) {
-        Ok(agent) => i32::from(site.is_named(agent)),
+        Ok(agent) => i32::from(site.get().is_named(agent)),
         Err(fault) => fault.status(),
     }
 }

@@ -8,6 +8,7 @@ ghost use Rattle.texting_robots.specs.Callers.{IsAllocationFree};
 
 use crate::fault::Fault;
 use crate::file::{robot_of, text_of};
+use crate::shared::Shared;
 use std::alloc::{AllocError, Global};
 use texting_robots::{Decision, Error, Robot};
 
@@ -140,13 +141,13 @@ fn results_of(alloc: Global, robot: &Robot, urls: &[u8], capacity: usize) -> Res
 }
 
 /// Writes the result for one URL.
-pub(crate) fn query(alloc: Global, robot: &Robot, url: &[u8], out: &mut i64) -> i32
+pub(crate) fn query(alloc: Global, robot: &Shared<Robot>, url: &[u8], out: &mut i64) -> i32
     requires { IsRobotOfSomeFile robot.now }
     ensures written { result ≡ pos 0 → HasResult robot.now.rules url.now out.new }
     ensures kept { result ≢ pos 0 → out.new ≡ out.old }
     ensures why { HasFault (IsWhyNoResult url.now) result }
 {
-    match result_for(alloc, robot, url) {
+    match result_for(alloc, robot.get(), url) {
         Ok(number) => {
             *out = number;
             0
@@ -156,13 +157,13 @@ pub(crate) fn query(alloc: Global, robot: &Robot, url: &[u8], out: &mut i64) -> 
 }
 
 /// Writes the results for the URLs in a string.
-pub(crate) fn query_many(alloc: Global, robot: &Robot, urls: &[u8], out: &mut [i64]) -> i32
+pub(crate) fn query_many(alloc: Global, robot: &Shared<Robot>, urls: &[u8], out: &mut [i64]) -> i32
     requires { IsRobotOfSomeFile robot.now }
     ensures written { result ≡ pos 0 → ArePutIn robot.now.rules urls.now out.old out.new }
     ensures kept { result ≢ pos 0 → out.new ≡ out.old }
     ensures why { HasFault (IsWhyNoResults urls.now (length out.old)) result }
 {
-    match results_of(alloc, robot, urls, out.len()) {
+    match results_of(alloc, robot.get(), urls, out.len()) {
         Ok(numbers) => {
             out[..numbers.len()].copy_from_slice(&numbers);
             0

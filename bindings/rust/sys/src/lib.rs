@@ -14,6 +14,7 @@ pub const ROBOTS_BUFFER_TOO_SMALL: i32 = -3;
 pub const ROBOTS_NO_DELAY: i32 = -4;
 pub const ROBOTS_NO_ADDRESS: i32 = -5;
 pub const ROBOTS_OVERLONG_RULE: i32 = -6;
+pub const ROBOTS_INVALID_ENDS: i32 = -7;
 pub const ROBOTS_NO_RESULT: i64 = i64::MIN;
 
 /// A file as one crawler reads it: its rules and delay.
@@ -39,7 +40,10 @@ extern "C" {
     pub fn robots_query(robot: *const robots, url: *const c_char, url_len: usize, result: *mut i64) -> i32;
     pub fn robots_query_many(robot: *const robots, urls: *const c_char, urls_len: usize,
                              results: *mut i64, results_len: usize) -> i32;
+    pub fn robots_query_batch(robot: *const robots, urls: *const c_void, urls_len: usize, ends: *const usize, n: usize,
+                              results: *mut i64) -> i32;
     pub fn robots_query_delay(robot: *const robots, microseconds: *mut u64) -> i32;
+    pub fn robots_share(robot: *const robots, other: *mut *mut robots) -> i32;
     pub fn robots_close(robot: *mut robots);
 
     pub fn robots_decide(agent: *const c_char, agent_len: usize, file: *const c_void, file_len: usize,
@@ -61,7 +65,12 @@ extern "C" {
     pub fn robots_site_sitemaps(site: *const robots_site, out: *mut c_char, out_len: usize, len: *mut usize) -> i32;
     pub fn robots_site_agents(site: *const robots_site, out: *mut c_char, out_len: usize, len: *mut usize) -> i32;
     pub fn robots_site_is_named(site: *const robots_site, agent: *const c_char, agent_len: usize) -> i32;
+    pub fn robots_site_share(site: *const robots_site, other: *mut *mut robots_site) -> i32;
     pub fn robots_site_close(site: *mut robots_site);
 
     pub fn robots_address(url: *const c_char, url_len: usize, out: *mut c_char, out_len: usize, len: *mut usize) -> i32;
+
+    pub fn robots_may_fetch(result: i64) -> i32;
+    pub fn robots_line(result: i64) -> i64;
+    pub fn robots_status_text(status: i32) -> *const c_char;
 }

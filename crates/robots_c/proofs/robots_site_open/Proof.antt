@@ -35,7 +35,7 @@ use Rattle.std.proofs.raw_atomic.Walks.{proved_at, leaves}
 use Rattle.std_alloc.proofs.ResultValues.{and_tt}
 use Rattle.robots_c.specs.File.{bytes_read}
 use Rattle.robots_c.specs.Kept.{Sites, opened_at}
-use Rattle.robots_c.specs.Status.{HasFault, IsWhyNoSite}
+use Rattle.robots_c.specs.Status.{HasFault, IsWhyNoHandle}
 use Rattle.robots_c.specs.contracts.site.opened as callee
 use Rattle.robots_c.proofs.site.opened.Met.{met}
 use Rattle.robots_c.proofs.KeptSteps.{Row, kept_out, owned_then}
@@ -50,7 +50,7 @@ abbrev Opened : List ℕ → (Row Sites).Denot → Type 0
 Opened file r = r.status ≡ pos 0 → r.value ≡ Some (bytes_read file)
 
 abbrev Why : (Row Sites).Denot → Type 0
-Why r = HasFault IsWhyNoSite r.status
+Why r = HasFault IsWhyNoHandle r.status
 
 pub robots_site_open_spec : {M : Type 1} → statement M
 robots_site_open_spec 𝓤 𝓛 𝓜 𝓡 wired =

@@ -1,0 +1,90 @@
+-- URLs in one text, each with the place where it ends: what a loop over these places keeps.
+use Rattle.std.proofs.Common.{◌≡◌, ◌<◌, ◌≤◌, ◌+◌, ◌-◌, ◌∙◌, ℕ, ℤ, List, [], ◌∷◌, ◌++◌, IsUtf8, ap, append-nil}
+use Rattle.std.proofs.Common.{arith, drop, length, refl, slice_index_or, subst, sym, take}
+use Rattle.std.specs.List.{All, AllZip}
+use Rattle.std.proofs.lemmas.List.{append_assoc, drop_more}
+use Rattle.std.proofs.lemmas.List.Elements.{All-head, All-tail}
+use Rattle.texting_robots.specs.Callers.{PlacedRule}
+use Rattle.robots_c.specs.Batch.{Ascend, IsWhyNoBatch, IsWhyNotEach, pieces}
+use Rattle.robots_c.specs.Results.{HasResult}
+use Rattle.robots_c.specs.Status.{IsWhyNoResult}
+use Rattle.robots_c.specs.declared.fault.Fault.{Fault}
+use Rattle.robots_c.specs.declared.fault.Fault.TheVariants.{BufferTooSmall, InvalidEnds, Memory, NoAddress}
+use Rattle.robots_c.specs.declared.fault.Fault.TheVariants.{NoDelay, NotUtf8, Overlong}
+
+-- ---- the places that are left
+
+pub left_at : (ends : List ℕ) (at end : ℕ) → (at < length ends) × (end ≡ slice_index_or ends at end)
+    → drop at ends ≡ end ∷ drop (at + 1) ends
+left_at ends at end (below, here) =
+    drop_more ends at end below ∙ ap (λ e. e ∷ drop (at + 1) ends) (sym here)
+
+-- these places ascend if and only if all do
+pub record SameAscent (ends : List ℕ) (limit least : ℕ) (left : List ℕ) : Type 0 where
+  pub all : Ascend least left limit → Ascend 0 ends limit
+  pub these : Ascend 0 ends limit → Ascend least left limit
+
+pub next_ascent : (ends : List ℕ) (limit least end : ℕ) (left : List ℕ) → least ≤ end → end ≤ limit
+    → SameAscent ends limit least (end ∷ left) → SameAscent ends limit end left
+next_ascent ends limit least end left above below same = record {
+  all = λ later. same.all (above, below, later);
+  these = λ whole. (same.these whole).2;
+}
+
+-- ---- the results so far
+
+-- with the results for the URLs that are left, they are the results for all URLs
+pub record SoFar (rules : List PlacedRule) (text ends : List ℕ) (start : ℕ) (left : List ℕ)
+    (numbers : List ℤ) : Type 0 where
+  pub ascend : Ascend start left (length text)
+  pub utf8 : All IsUtf8 (pieces text 0 ends) → All IsUtf8 (pieces text start left)
+  pub results : (later : List ℤ) → AllZip (HasResult rules) (pieces text start left) later
+      → AllZip (HasResult rules) (pieces text 0 ends) (numbers ++ later)
+
+pub none_so_far : (rules : List PlacedRule) (text ends : List ℕ) → Ascend 0 ends (length text)
+    → SoFar rules text ends 0 ends []
+none_so_far rules text ends are = record { ascend = are; utf8 = λ all. all; results = λ later is. is }
+
+pub one_more_end : (rules : List PlacedRule) (text ends : List ℕ) (start end : ℕ) (left : List ℕ)
+    (numbers : List ℤ) (number : ℤ) → SoFar rules text ends start (end ∷ left) numbers
+    → HasResult rules (take (end - start) (drop start text)) number
+    → SoFar rules text ends end left (numbers ++ number ∷ [])
+one_more_end rules text ends start end left numbers number so has = record {
+  ascend = so.ascend.2;
+  utf8 = λ all. All-tail IsUtf8 _ _ (so.utf8 all);
+  results = λ later are. subst (AllZip (HasResult rules) (pieces text 0 ends))
+      (sym (append_assoc numbers (number ∷ []) later)) (so.results (number ∷ later) (has, are));
+}
+
+pub all_so_far : (rules : List PlacedRule) (text ends : List ℕ) (start : ℕ) (numbers : List ℤ)
+    → SoFar rules text ends start [] numbers → AllZip (HasResult rules) (pieces text 0 ends) numbers
+all_so_far rules text ends start numbers so =
+    subst (AllZip (HasResult rules) (pieces text 0 ends)) (append-nil numbers) (so.results [] tt)
+
+pub count_pieces : (text : List ℕ) (start : ℕ) (ends : List ℕ) → length (pieces text start ends) ≡ length ends
+count_pieces text start [] = refl
+count_pieces text start (end ∷ ends) = omega (arith, count_pieces text end ends)
+
+-- ---- why there are no results
+
+pub why_not_each : (rules : List PlacedRule) (text ends : List ℕ) (start end : ℕ) (left : List ℕ)
+    (numbers : List ℤ) (fault : Fault) → SoFar rules text ends start (end ∷ left) numbers
+    → IsWhyNoResult (take (end - start) (drop start text)) fault → IsWhyNotEach (pieces text 0 ends) fault
+why_not_each rules text ends start end left numbers NotUtf8 so why =
+    λ all. why (All-head IsUtf8 _ _ (so.utf8 all))
+why_not_each rules text ends start end left numbers Memory so why = tt
+why_not_each rules text ends start end left numbers BufferTooSmall so why = absurd why
+why_not_each rules text ends start end left numbers NoDelay so why = absurd why
+why_not_each rules text ends start end left numbers NoAddress so why = absurd why
+why_not_each rules text ends start end left numbers (Overlong line) so why = absurd why
+why_not_each rules text ends start end left numbers InvalidEnds so why = absurd why
+
+pub why_no_batch : (text ends : List ℕ) (capacity : ℕ) (fault : Fault) → Ascend 0 ends (length text)
+    → length ends ≤ capacity → IsWhyNotEach (pieces text 0 ends) fault → IsWhyNoBatch text ends capacity fault
+why_no_batch text ends capacity NotUtf8 are room why = (are, room, why)
+why_no_batch text ends capacity Memory are room why = (are, room, why)
+why_no_batch text ends capacity BufferTooSmall are room why = absurd why
+why_no_batch text ends capacity NoDelay are room why = absurd why
+why_no_batch text ends capacity NoAddress are room why = absurd why
+why_no_batch text ends capacity (Overlong line) are room why = absurd why
+why_no_batch text ends capacity InvalidEnds are room why = absurd why

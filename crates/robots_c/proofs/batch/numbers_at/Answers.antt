@@ -1,0 +1,33 @@
+use Rattle.std.proofs.Common.{SFits, rules, w64, ◌∙◌}
+use Rattle.std.proofs.lemmas.Int.{to_z-of_z}
+use Rattle.std.proofs.lemmas.List.{drop_all, drop_more}
+use Rattle.std.proofs.lemmas.Result.{err_from_is_err_and}
+use Rattle.robots_c.proofs.BatchLemmas.{all_so_far, count_pieces, one_more_end, why_not_each}
+use Rattle.robots_c.proofs.NumberLemmas.{as_many}
+use Rattle.robots_c.proofs.batch.numbers_at.Goals as goal
+
+pub returns-in_err-number-clause-fault : goal.returns-in_err-number-clause-fault
+returns-in_err-number-clause-fault c =
+    let failed = c.from_residual-in_err-number in
+    let p = err_from_is_err_and failed.result failed.ensures.1 in
+    let left = drop_more c.args.ends.now c.loop-end.end-index 0 c.loop-end-test.true in
+    let so = rw left at c.loop-end.invariant in
+    rw (p.1, p.2) (why_not_each _ _ _ _ _ _ _ _ so c.in_err-number.ensures.fault)
+
+pub loop-end-preserved : goal.loop-end-preserved
+loop-end-preserved c =
+    let left = drop_more c.args.ends.now c.loop-end.end-index 0 c.loop-end-test.true in
+    let so = rw left at c.loop-end.invariant in
+    let fits : SFits w64 c.in_ok-number.number = search rules in
+    rw (c.in_ok-push.ensures.items, to_z-of_z w64 c.in_ok-number.number fits)
+    (one_more_end _ _ _ _ _ _ _ _ so c.in_ok-number.ensures.ok)
+
+pub returns-clause-ok : goal.returns-clause-ok
+returns-clause-ok c =
+    let so = rw (drop_all c.loop-end.end-index c.args.ends.now (search rules)) at c.loop-end.invariant in
+    all_so_far _ _ _ _ _ so
+
+pub returns-clause-count : goal.returns-clause-count
+returns-clause-count c =
+    let so = rw (drop_all c.loop-end.end-index c.args.ends.now (search rules)) at c.loop-end.invariant in
+    as_many _ _ _ (all_so_far _ _ _ _ _ so) ∙ count_pieces _ _ _

@@ -1,0 +1,40 @@
+-- URLs in one text, each with the place where it ends.
+use Rattle.std.specs.Prelude.{ℕ, ◌-◌, ◌<◌, ◌≤◌, ℤ, IsUtf8, List, [], ◌∷◌, drop, length, take}
+use Rattle.std.specs.List.{All, AllZip}
+use Rattle.texting_robots.specs.Callers.{PlacedRule}
+use Rattle.robots_c.specs.Results.{HasResult}
+use Rattle.robots_c.specs.Text.{IsPutIn}
+use Rattle.robots_c.specs.declared.fault.Fault.{Fault}
+use Rattle.robots_c.specs.declared.fault.Fault.TheVariants.{BufferTooSmall, InvalidEnds, Memory, NotUtf8}
+
+-- the parts of the text that end at these places, the first from `start` on and each other from the end
+-- before it
+abbrev pub pieces : List ℕ → ℕ → List ℕ → List (List ℕ)
+pieces text start [] = []
+pieces text start (end ∷ ends) = take (end - start) (drop start text) ∷ pieces text end ends
+
+-- each place is at least the one before it, the first at least `least`, and none is above the limit
+abbrev pub Ascend : ℕ → List ℕ → ℕ → Type 0
+Ascend least [] limit = Unit {0}
+Ascend least (end ∷ ends) limit = (least ≤ end) × (end ≤ limit) × Ascend end ends limit
+
+-- the results for the URLs that end at these places are written to the start of the buffer, in order
+abbrev pub IsBatchPutIn : List PlacedRule → List ℕ → List ℕ → List ℤ → List ℤ → Type 0
+IsBatchPutIn rules text ends old new =
+    (numbers : List ℤ) × AllZip (HasResult rules) (pieces text 0 ends) numbers × IsPutIn old new numbers
+
+-- ---- why there are no results
+
+-- for these URLs, with enough room
+abbrev pub IsWhyNotEach : List (List ℕ) → Fault → Type 0
+IsWhyNotEach urls NotUtf8 = ¬ All IsUtf8 urls
+IsWhyNotEach urls Memory = Unit {0}
+IsWhyNotEach urls _ = ⊥
+
+-- for the URLs that end at these places, with this capacity for numbers: the places are checked first, then
+-- the room
+abbrev pub IsWhyNoBatch : List ℕ → List ℕ → ℕ → Fault → Type 0
+IsWhyNoBatch text ends capacity InvalidEnds = ¬ Ascend 0 ends (length text)
+IsWhyNoBatch text ends capacity BufferTooSmall = Ascend 0 ends (length text) × (capacity < length ends)
+IsWhyNoBatch text ends capacity fault =
+    Ascend 0 ends (length text) × (length ends ≤ capacity) × IsWhyNotEach (pieces text 0 ends) fault

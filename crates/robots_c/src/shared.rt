@@ -1,0 +1,47 @@
+//! What several handles of C share.
+ghost use Rattle.std.specs.Prelude.{◌≡◌, IfOk};
+
+use std::alloc::{AllocError, Global};
+use std::marker::Model;
+use std::sync::Arc;
+
+/// A value that several handles share. Nobody writes to it, and the last of them frees it.
+#[derive(Drop)]
+pub(crate) struct Shared<T> {
+    value: Arc<T, Global>,
+}
+
+impl<T> Model for Shared<T> {
+    ghost use Rattle.std_alloc.specs.Arc.{arc_value};
+
+    ghost Value = { T };
+
+    ghost view = { λ s. arc_value s.value };
+}
+
+impl<T> Shared<T> {
+    /// The value.
+    pub(crate) fn get(&self) -> &T
+        ensures { result.now ≡ self.now }
+    {
+        &self.value
+    }
+}
+
+impl<T: Drop> Shared<T> {
+    /// The value in a box, as its first handle keeps it.
+    pub(crate) fn boxed(alloc: Global, value: T) -> Result<Box<Shared<T>>, AllocError>
+        ensures { IfOk result (λ handle. handle.value ≡ value) }
+    {
+        let value = Arc::new(alloc, value)?;
+        Ok(Box::new(alloc, Shared { value })?)
+    }
+
+    /// The same value in another box, as another handle keeps it.
+    pub(crate) fn boxed_again(&self, alloc: Global) -> Result<Box<Shared<T>>, AllocError>
+        ensures { IfOk result (λ handle. handle.value ≡ self.now) }
+    {
+        let value = Arc::try_clone(&self.value)?;
+        Ok(Box::new(alloc, Shared { value })?)
+    }
+}

@@ -1,0 +1,247 @@
+"""Handles of the C library that share a robot or a site, URLs with the places where they end, and programs in C++ and Go."""
+
+import ctypes
+import os
+import random
+import re
+import shutil
+import subprocess
+from pathlib import Path
+
+import pytest
+from library import LIBRARY, random_case
+from support import CC, ROOT, Result, compiled, run
+from test_c_library import STRICT, needs
+
+TOOLS = {
+    "sanitizer": ["-fsanitize=thread", "-DMAIN_CLOSES_LAST"],
+    "helgrind": ["valgrind", "-q", "--tool=helgrind", "--error-exitcode=9"],
+    "memcheck": ["valgrind", "-q", "--error-exitcode=9", "--leak-check=full", "--errors-for-leak-kinds=all"],
+}
+
+
+@pytest.mark.parametrize("tool", TOOLS)
+def test_threads_query_through_handles_of_their_own(objects, tmp_path, tool):
+    """ThreadSanitizer sees what the program does, but not the count that decides who frees the data, so there the last handle is closed
+    after the threads have ended; helgrind and memcheck see what the library does too, and there handles are closed in any order."""
+    under, sanitizer = (TOOLS[tool], []) if tool != "sanitizer" else ([], TOOLS[tool])
+    needs(CC, *sanitizer, "-xc")
+    if under and not shutil.which("valgrind"):
+        pytest.skip("valgrind is missing")
+    (tmp_path / "threads.c").write_text(THREADS)
+    words = [*under, compiled(tmp_path / "threads", *STRICT, "-g", *sanitizer, "-pthread", tmp_path / "threads.c", *objects)]
+    assert run(Path(shutil.which(words[0])), words[1:]) == Result(0, b"", b"")
+
+
+THREADS = r"""
+#include "robots.h"
+#include <pthread.h>
+#include <stdbool.h>
+#define FILE_TEXT "User-agent: *\nDisallow: /a\nCrawl-delay: 3\nSitemap: b"
+enum { COUNT = 16 };
+struct thread { robots *robot; robots_site *site; int number, right; pthread_t id; };
+static bool asks(const robots *robot, const robots_site *site) {
+    int64_t results[2];
+    uint64_t delay;
+    char text[2];
+    size_t len, ends[] = {2, 5};
+    return robots_query_batch(robot, "/a/\xC3\xA9", 5, ends, 2, results) == ROBOTS_OK && results[0] == -2 && results[1] == 0
+        && robots_query_many(robot, "/a\n/b", 5, results, 2) == ROBOTS_OK && results[0] == -2 && results[1] == 0
+        && robots_query(robot, "/a", 2, results) == ROBOTS_OK && results[0] == -2
+        && robots_query_delay(robot, &delay) == ROBOTS_OK && delay == 3000000
+        && robots_site_matrix(site, "A\nB", 3, "/a", 2, results, 2) == ROBOTS_OK && results[0] == -2 && results[1] == -2
+        && robots_site_delay(site, "A", 1, &delay) == ROBOTS_OK && robots_site_is_named(site, "A", 1) == 0
+        && robots_site_sitemaps(site, text, 2, &len) == ROBOTS_OK && robots_site_agents(site, text, 2, &len) == ROBOTS_OK;
+}
+/* Every other thread opens further handles and closes those that it was given before these; the others end one after another. */
+static void *query(void *given) {
+    struct thread *my = given;
+    robots *other = NULL;
+    robots_site *same = NULL;
+    for (int i = 0; i < 20; i++)
+        my->right += asks(my->robot, my->site);
+    if (my->number % 2 == 0) {
+        my->right += robots_share(my->robot, &other) == ROBOTS_OK && robots_site_share(my->site, &same) == ROBOTS_OK;
+        robots_close(my->robot);
+        robots_site_close(my->site);
+        my->right += asks(other, same);
+        robots_site_close(same);
+        robots_close(other);
+    } else {
+        for (int i = 0; i < my->number * 7 % COUNT; i++)
+            my->right -= !asks(my->robot, my->site);
+        my->right += 2;
+        robots_site_close(my->site);
+        robots_close(my->robot);
+    }
+    return NULL;
+}
+int main(void) {
+    struct thread threads[COUNT] = {{0}};
+    robots *robot = NULL;
+    robots_site *site = NULL;
+    int32_t status = robots_site_open(FILE_TEXT, sizeof FILE_TEXT - 1, &site);
+    status |= robots_site_robot(site, "Bot", 3, &robot, NULL);
+    for (int i = 0; i < COUNT; i++) {
+        threads[i].number = i;
+        status |= robots_share(robot, &threads[i].robot) | robots_site_share(site, &threads[i].site);
+        status |= pthread_create(&threads[i].id, NULL, query, &threads[i]);
+    }
+#ifndef MAIN_CLOSES_LAST
+    robots_close(robot);
+    robots_site_close(site);
+#endif
+    for (int i = 0; i < COUNT; i++) {
+        status |= pthread_join(threads[i].id, NULL);
+        status |= threads[i].right != 22;
+    }
+#ifdef MAIN_CLOSES_LAST
+    robots_close(robot);
+    robots_site_close(site);
+#endif
+    return status != 0;
+}
+"""
+
+
+def test_batches_of_random_files(robots, shared_object):
+    """What robots_query_many writes for the same URLs, and what robots_query writes for URLs with line feeds."""
+    chance, library = random.Random(7), ctypes.CDLL(str(shared_object))
+    for _ in range(300):
+        agent, file, urls = random_case(chance)
+        with robots.Robot(agent, file) as robot:
+            wanted = robot.query_many(urls)
+            assert batch(library, robot, urls) == (robots.OK, wanted)
+            joined = ["\n".join(urls), *urls]
+            assert batch(library, robot, joined) == (robots.OK, [robot.query(joined[0]), *wanted])
+
+
+def batch(library, robot, urls):
+    texts = [url.encode() for url in urls]
+    ends, out = (ctypes.c_size_t * len(urls))(), (ctypes.c_int64 * len(urls))()
+    for number in range(len(urls)):
+        ends[number] = sum(map(len, texts[: number + 1]))
+    joined = b"".join(texts)
+    status = library.robots_query_batch(robot.handle, joined, ctypes.c_size_t(len(joined)), ends, ctypes.c_size_t(len(urls)), out)
+    return status, [*out]
+
+
+def test_null_is_reported_where_it_is_forbidden(tmp_path):
+    """The compiler warns of it, by the header alone, for each parameter that isn't a text, a buffer or `line`."""
+    needs(CC, "-xc")
+    header = re.sub(r"/\*.*?\*/", "", (LIBRARY / "robots.h").read_text(), flags=re.S)
+    calls = re.findall(r"\b(robots_\w+)\(([^)]*)\)\s+ROBOTS_NONNULL\(([\d, ]+)\)", header)
+    assert len(calls) >= 18
+    for name, parameters, numbers in calls:
+        pointers = [number for number, it in enumerate(parameters.split(","), 1) if "*" in it]
+        outputs = {number for number in pointers if re.search(r"\*(robot|other|site|result|microseconds|len)$", parameters.split(",")[number - 1].strip())}
+        assert {int(it) for it in numbers.split(",")} == outputs, name
+        source = tmp_path / f"{name}.c"
+        zeros = ", ".join("0" for _ in parameters.split(","))
+        source.write_text(f'#include "robots.h"\nint main(void) {{ return {name}({zeros}); }}\n')
+        ended = subprocess.run([CC, "-std=c11", "-Wnonnull", *STRICT, "-fsyntax-only", source], capture_output=True, text=True)
+        assert ended.returncode != 0 and "onnull" in ended.stderr, name
+
+
+@pytest.mark.parametrize("sanitizers", [[], ["-g", "-fsanitize=address,undefined", "-fno-sanitize-recover=all"]], ids=["plain", "sanitized"])
+def test_called_from_cplusplus(objects, tmp_path, sanitizers):
+    needs("g++", *sanitizers, "-xc++")
+    (tmp_path / "program.cpp").write_text(CPLUSPLUS)
+    words = ["g++", "-std=c++11", "-Wall", "-Wextra", *STRICT, *sanitizers, tmp_path / "program.cpp", *objects, "-pthread", "-o", tmp_path / "program"]
+    subprocess.run(words, check=True)
+    assert run(tmp_path / "program") == Result(0, b"1 -2 0 -2\n", b"")
+
+
+CPLUSPLUS = r"""
+#include "robots.h"
+#include <iostream>
+#include <memory>
+#include <string>
+#include <thread>
+#include <vector>
+struct Close { void operator()(robots *robot) const { robots_close(robot); } };
+using Robot = std::unique_ptr<robots, Close>;
+static Robot opened(const std::string &agent, const std::string &file) {
+    robots *robot = nullptr;
+    return Robot(robots_open(agent.data(), agent.size(), file.data(), file.size(), &robot, nullptr) == ROBOTS_OK ? robot : nullptr);
+}
+static Robot shared(const Robot &robot) {
+    robots *other = nullptr;
+    return Robot(robots_share(robot.get(), &other) == ROBOTS_OK ? other : nullptr);
+}
+int main() {
+    Robot robot = opened("Bot", "User-agent: *\nDisallow: /a");
+    if (!robot) return 2;
+    int64_t one = 0;
+    std::vector<int64_t> many(2), batch(2);
+    const std::string urls = "/b\n/a", joined = "/a\n/b";
+    const std::vector<std::size_t> ends = {2, 5};
+    if (robots_query(robot.get(), "/b", 2, &one) != ROBOTS_OK) return 3;
+    if (robots_query_many(robot.get(), urls.data(), urls.size(), many.data(), many.size()) != ROBOTS_OK) return 4;
+    Robot other = shared(robot);
+    robot.reset();
+    int32_t status = ROBOTS_OUT_OF_MEMORY;
+    std::thread([&] { status = robots_query_batch(other.get(), joined.data(), joined.size(), ends.data(), ends.size(), batch.data()); }).join();
+    std::cout << robots_may_fetch(one) << ' ' << many[1] << ' ' << batch[1] << ' ' << batch[0] << '\n';
+    return status == ROBOTS_OK && robots_status_text(status) == std::string("no error") ? 0 : 5;
+}
+"""
+
+
+def test_called_from_go(installed, tmp_path):
+    if not shutil.which("go"):
+        pytest.skip("go is missing")
+    (tmp_path / "go.mod").write_text("module caller\n\ngo 1.18\n")
+    (tmp_path / "main.go").write_text(GO)
+    flags = {"CGO_ENABLED": "1", "CGO_CFLAGS": f"-I{installed}/include", "CGO_LDFLAGS": f"{installed}/lib/librobots_c.a", "CC": CC}
+    caches = {"GOCACHE": f"{tmp_path}/cache", "GOPATH": f"{tmp_path}/path", "GOFLAGS": "-mod=mod", "GOPROXY": "off", "GO111MODULE": "on"}
+    ended = subprocess.run(["go", "build", "-o", "program"], cwd=tmp_path, env=os.environ | flags | caches, capture_output=True, text=True)
+    assert ended.returncode == 0, ended.stderr
+    assert run(tmp_path / "program") == Result(0, b"true 0 [0 -2] [-2 0]\n", b"")
+
+
+GO = r"""
+package main
+
+// #include "robots.h"
+import "C"
+
+import (
+	"fmt"
+	"os"
+	"unsafe"
+)
+
+func text(s string) (*C.char, C.size_t) { return (*C.char)(unsafe.Pointer(&[]byte(s)[0])), C.size_t(len(s)) }
+
+func must(status C.int32_t) {
+	if status != C.ROBOTS_OK {
+		fmt.Fprintln(os.Stderr, C.GoString(C.robots_status_text(status)))
+		os.Exit(1)
+	}
+}
+
+func main() {
+	agent, agentLen := text("Bot")
+	file, fileLen := text("User-agent: *\nDisallow: /a")
+	var robot, other *C.robots
+	must(C.robots_open(agent, agentLen, unsafe.Pointer(file), fileLen, &robot, nil))
+	var one C.int64_t
+	url, urlLen := text("/b")
+	must(C.robots_query(robot, url, urlLen, &one))
+	many := make([]C.int64_t, 2)
+	urls, urlsLen := text("/b\n/a")
+	must(C.robots_query_many(robot, urls, urlsLen, &many[0], 2))
+	must(C.robots_share(robot, &other))
+	C.robots_close(robot)
+	done := make(chan []C.int64_t)
+	go func() {
+		batch, ends := make([]C.int64_t, 2), []C.size_t{2, 4}
+		joined, joinedLen := text("/a/b")
+		must(C.robots_query_batch(other, unsafe.Pointer(joined), joinedLen, &ends[0], 2, &batch[0]))
+		C.robots_close(other)
+		done <- batch
+	}()
+	fmt.Println(C.robots_may_fetch(one) == 1, C.robots_line(one), many, <-done)
+}
+"""
