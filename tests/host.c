@@ -227,6 +227,10 @@ static void try_site(void) {
     strcpy(text + start + 4095, "\nUser-agent: B\nDisallow: /b");
     tell("a site with a rule that is too long", robots_site_open(ROBOTS_STRING(text), &site) == ROBOTS_OK && site != NULL);
     tell("no robot of a site", robots_site_robot(site, "long", 4, &robot, &line) == ROBOTS_OVERLONG_RULE && robot == NULL && line == 2);
+    tell("no robot of a site, and no line", robots_site_robot(site, "long", 4, &robot, NULL) == ROBOTS_OVERLONG_RULE && robot == NULL);
+    tell("no robot", robots_open("long", 4, ROBOTS_STRING(text), &robot, &line) == ROBOTS_OVERLONG_RULE && robot == NULL && line == 2);
+    tell("no robot, and no line", robots_open("long", 4, ROBOTS_STRING(text), &robot, NULL) == ROBOTS_OVERLONG_RULE && robot == NULL);
+    tell("no verdicts, and no line", robots_decide("long", 4, ROBOTS_STRING(text), "/", 1, out, 4, NULL) == ROBOTS_OVERLONG_RULE && out[0] == 77);
     tell("a robot of what isn't UTF-8", robots_site_robot(site, "\xFF", 1, &robot, &line) == ROBOTS_NOT_UTF8 && robot == NULL && line == 2);
     tell("no delay of a site", robots_site_delay(site, "Long", 4, &wait) == ROBOTS_NO_DELAY && wait == 77);
     tell("a delay of what isn't UTF-8", robots_site_delay(site, "\xFF", 1, &wait) == ROBOTS_NOT_UTF8 && wait == 77);
@@ -243,6 +247,58 @@ static void try_site(void) {
     tell("crawlers of a site with a byte too little room", opened && is(list_agents(site, 3), ROBOTS_BUFFER_TOO_SMALL));
     robots_site_close(site);
     robots_site_close(NULL);
+}
+
+/* NULL with length 0 is the empty text in each call, and `line` may be NULL where a file can be used, too. */
+static void try_null(void) {
+    int64_t out = 77;
+    uint64_t wait = 77;
+    size_t length = 7;
+    robots *robot = NULL;
+    robots_site *site = NULL;
+    bool opened = robots_open(NULL, 0, NULL, 0, &robot, NULL) == ROBOTS_OK && robot != NULL;
+    tell("a robot of empty texts", opened);
+    tell("a query of the empty text", opened && robots_query(robot, NULL, 0, &out) == ROBOTS_OK && out == 0);
+    tell("queries of the empty text", opened && robots_query_many(robot, NULL, 0, &out, 1) == ROBOTS_OK && out == 0);
+    tell("queries into an empty buffer", opened && robots_query_many(robot, NULL, 0, NULL, 0) == ROBOTS_BUFFER_TOO_SMALL);
+    robots_close(robot);
+    tell("verdicts of empty texts", robots_decide(NULL, 0, NULL, 0, NULL, 0, &out, 1, NULL) == ROBOTS_OK && out == 0);
+    tell("no delay of the empty text", robots_delay(NULL, 0, NULL, 0, &wait) == ROBOTS_NO_DELAY && wait == 77);
+    tell("sitemaps of the empty text", robots_sitemaps(NULL, 0, NULL, 0, &length) == ROBOTS_OK && length == 0);
+    length = 7;
+    tell("crawlers of the empty text", robots_agents(NULL, 0, NULL, 0, &length) == ROBOTS_OK && length == 0);
+    length = 7;
+    tell("no address of the empty text", robots_address(NULL, 0, NULL, 0, &length) == ROBOTS_NO_ADDRESS && length == 7);
+    opened = robots_site_open(NULL, 0, &site) == ROBOTS_OK && site != NULL;
+    tell("a site of the empty text", opened);
+    robot = NULL;
+    tell("its robot", opened && robots_site_robot(site, NULL, 0, &robot, NULL) == ROBOTS_OK && robot != NULL);
+    robots_close(robot);
+    tell("its matrix", opened && robots_site_matrix(site, NULL, 0, NULL, 0, &out, 1) == ROBOTS_OK && out == 0);
+    tell("its matrix in an empty buffer", opened && robots_site_matrix(site, NULL, 0, NULL, 0, NULL, 0) == ROBOTS_BUFFER_TOO_SMALL);
+    tell("no delay", opened && robots_site_delay(site, NULL, 0, &wait) == ROBOTS_NO_DELAY && wait == 77);
+    tell("its sitemaps", opened && robots_site_sitemaps(site, NULL, 0, &length) == ROBOTS_OK && length == 0);
+    length = 7;
+    tell("its crawlers", opened && robots_site_agents(site, NULL, 0, &length) == ROBOTS_OK && length == 0);
+    tell("not named", opened && robots_site_is_named(site, NULL, 0) == 0);
+    robots_site_close(site);
+}
+
+/* A buffer that is too small for the results of URLs is found before anything is allocated. */
+static void try_small_buffers(void) {
+    int64_t out = 77;
+    size_t line = 7;
+    robots *robot = NULL;
+    robots_site *site = NULL;
+    bool opened = robots_open("Bot", 3, FILE_OF(file), &robot, &line) == ROBOTS_OK && robots_site_open(FILE_OF(file), &site) == ROBOTS_OK;
+    long before = allocations;
+    tell("verdicts", robots_decide("Bot", 3, FILE_OF(file), "/a\n/b", 5, &out, 1, &line) == ROBOTS_BUFFER_TOO_SMALL && out == 77);
+    tell("a matrix", robots_matrix("A\nB", 3, FILE_OF(file), "/a", 2, &out, 1) == ROBOTS_BUFFER_TOO_SMALL && out == 77);
+    tell("queries", opened && robots_query_many(robot, "/a\n/b", 5, &out, 1) == ROBOTS_BUFFER_TOO_SMALL && out == 77);
+    tell("a matrix of a site", opened && robots_site_matrix(site, "A\nB", 3, "/a", 2, &out, 1) == ROBOTS_BUFFER_TOO_SMALL && out == 77);
+    tell("nothing was allocated for them", allocations == before && line == 7);
+    robots_close(robot);
+    robots_site_close(site);
 }
 
 static void try_examples(void) {
@@ -267,6 +323,7 @@ static void try_examples(void) {
     tell("a matrix with a number too little room", is(matrix_with(NULL, "Bot\nOther", 2 * COUNT - 1), ROBOTS_BUFFER_TOO_SMALL));
     tell("a matrix, a crawler that isn't UTF-8", is(matrix_with(NULL, "Bot\n\xFF", 2 * COUNT), ROBOTS_NOT_UTF8));
     tell("a matrix of empty texts", robots_matrix(NULL, 0, NULL, 0, NULL, 0, &out, 1) == ROBOTS_OK && out == 0);
+    try_null();
     tell("no result", !robots_may_fetch(ROBOTS_NO_RESULT) && robots_line(ROBOTS_NO_RESULT) == 0);
     tell("an address", is(whole_address(), ROBOTS_OK));
     tell("an address with a byte too little room", is(find_address(page, sizeof address - 2), ROBOTS_BUFFER_TOO_SMALL));
@@ -283,6 +340,7 @@ static void try_examples(void) {
     robots_close(NULL);
     tell("a site", is(keep_site(), ROBOTS_OK));
     try_site();
+    try_small_buffers();
     tell("the version", robots_version() == ROBOTS_VERSION);
 }
 

@@ -52,24 +52,25 @@ def archive():
     return ARCHIVE
 
 
-@pytest.fixture(scope="session")
-def objects():
-    """What a program over the library is linked with: the archive, and the toolchain's calls of malloc, realloc and free."""
-    return [archive(), kit() / "c/liblibc_c.a"]
-
-
 def make(*words, **options):
     """What `make` in bindings/c ends with."""
     return subprocess.run(["make", "-C", ROOT / "bindings/c", f"CC={CC}", *words], capture_output=True, text=True, **options)
 
 
 @pytest.fixture(scope="session")
-def installed(objects, tmp_path_factory):
+def installed(tmp_path_factory):
     """The folder into which bindings/c/Makefile installs the library."""
+    archive()
     folder = tmp_path_factory.mktemp("installed")
     ended = make("install", f"PREFIX={folder}", f"OUT={folder}/out")
     assert ended.returncode == 0, ended.stderr
     return folder
+
+
+@pytest.fixture(scope="session")
+def objects(installed):
+    """What a program over the library is linked with."""
+    return [installed / "lib/librobots_c.a"]
 
 
 @pytest.fixture(scope="session")

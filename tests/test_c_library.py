@@ -13,7 +13,7 @@ from decimal import Decimal
 from pathlib import Path
 
 import pytest
-from library import LIBRARY, make, random_case
+from library import LIBRARY, archive, kit, make, random_case
 from support import CC, ROOT, Result, cases_of, compiled, input_of, program, run, shown, spelled, wanted_of
 
 STRICT = ["-Wpedantic", "-Werror", f"-I{LIBRARY}"]
@@ -87,6 +87,75 @@ int main(void) {
 """
 
 
+def test_outputs_may_be_uninitialized(objects, tmp_path):
+    """memcheck reports each decision on a value that nothing wrote, and each block that stays allocated."""
+    if not shutil.which("valgrind"):
+        pytest.skip("valgrind is missing")
+    (tmp_path / "outputs.c").write_text(OUTPUTS)
+    program = compiled(tmp_path / "outputs", *STRICT, "-g", "-Wno-maybe-uninitialized", tmp_path / "outputs.c", *objects)
+    words = ["-q", "--error-exitcode=9", "--leak-check=full", "--errors-for-leak-kinds=all", program]
+    assert run(Path(shutil.which("valgrind")), words) == Result(0, b"", b"")
+
+
+OUTPUTS = r"""
+#include "robots.h"
+#include <stdlib.h>
+#define FILE_OF(text) (text), sizeof(text) - 1
+#define FILE FILE_OF("User-agent: *\nDisallow: /a\nCrawl-delay: 1\nSitemap: b")
+/* The sum decides the status: each value was written by a call. */
+static int wrong;
+static void is(int64_t value, int64_t wanted) { wrong += value != wanted; }
+int main(void) {
+    robots *robot, *own;
+    robots_site *site;
+    int64_t result, *results = malloc(4 * sizeof *results);
+    uint64_t delay;
+    size_t line, len;
+    char *out = malloc(64);
+    if (!results || !out)
+        return 2;
+    is(robots_open("Bot", 3, FILE, &robot, &line), ROBOTS_OK);
+    is(robots_query(robot, "/a", 2, &result), ROBOTS_OK);
+    is(result, -2);
+    is(robots_query(robot, "/\xC3\xA9", 3, &result), ROBOTS_OK);
+    is(robots_query_many(robot, "/a\n/\xC3\xA9", 6, results, 4), ROBOTS_OK);
+    is(results[0] + results[1], -2);
+    is(robots_query_delay(robot, &delay), ROBOTS_OK);
+    is((int64_t)delay, 1000000);
+    robots_close(robot);
+    is(robots_site_open(FILE, &site), ROBOTS_OK);
+    is(robots_site_robot(site, "Bot", 3, &own, &line), ROBOTS_OK);
+    robots_close(own);
+    free(results);
+    results = malloc(4 * sizeof *results);
+    is(robots_site_matrix(site, "A\nB", 3, "/a", 2, results, 4), ROBOTS_OK);
+    is(results[0] + results[1], -4);
+    is(robots_site_delay(site, "Bot", 3, &delay), ROBOTS_OK);
+    is(robots_site_sitemaps(site, out, 64, &len), ROBOTS_OK);
+    is((int64_t)len + out[0] + out[1], 2 + 'b' + '\n');
+    is(robots_site_agents(site, out, 1, &len), ROBOTS_BUFFER_TOO_SMALL);
+    is((int64_t)len, 2);
+    is(robots_site_agents(site, out, 64, &len), ROBOTS_OK);
+    robots_site_close(site);
+    free(results);
+    results = malloc(4 * sizeof *results);
+    is(robots_decide("Bot", 3, FILE, "/a\n/b", 5, results, 4, &line), ROBOTS_OK);
+    is(results[0] + results[1], -2);
+    is(robots_matrix("A\nB", 3, FILE, "/a", 2, results, 4), ROBOTS_OK);
+    is(robots_matrix("A\nB", 3, FILE, "/a\n/b\n/c", 8, results, 4), ROBOTS_BUFFER_TOO_SMALL);
+    is(robots_delay("Bot", 3, FILE, &delay), ROBOTS_OK);
+    is(robots_delay("Bot", 3, "", 0, &delay), ROBOTS_NO_DELAY);
+    is(robots_sitemaps(FILE, out, 64, &len), ROBOTS_OK);
+    is(robots_agents(FILE, out, 64, &len), ROBOTS_OK);
+    is(robots_address(FILE_OF("https://example.com/a"), out, 64, &len), ROBOTS_OK);
+    is(robots_address("mailto:a", 8, out, 64, &len), ROBOTS_NO_ADDRESS);
+    free(results);
+    free(out);
+    return wrong;
+}
+"""
+
+
 def test_header_in_cplusplus(objects, tmp_path):
     needs("g++", "-xc++")
     source = tmp_path / "program.cpp"
@@ -99,13 +168,20 @@ def test_header_in_cplusplus(objects, tmp_path):
 
 
 @pytest.mark.parametrize("name", ["job@2", "a,b", "a=b", "[a]", "a(b)", "\u00e9"])
-def test_library_packaged_in_a_folder_with_any_name(objects, tmp_path, name):
+def test_library_packaged_in_a_folder_with_any_name(tmp_path, name):
     """Nothing is written outside of the folder, as `ar` does that is given such names in a script."""
+    archives = [tmp_path / name / "librobots_c.a", archive(), kit() / "c/liblibc_c.a"]
     ended = make(f"OUT={tmp_path / name}")
     assert (ended.returncode, ended.stderr, [*tmp_path.iterdir()]) == (0, "", [tmp_path / name])
-    archives = [tmp_path / name / "librobots_c.a", *objects]
     members = [subprocess.run(["ar", "t", it], capture_output=True, text=True).stdout.split() for it in archives]
-    assert sorted(members[0]) == sorted(members[1] + members[2]) and all(members)
+    assert sorted(members[0]) == sorted([*members[1], *members[2], "robots.o"]) and all(members)
+
+
+def test_each_call_of_the_header_is_exported(shared_object):
+    """And nothing else: the proved functions, which don't take NULL, aren't."""
+    header = re.sub(r"/\*.*?\*/|^static inline .*$", "", (LIBRARY / "robots.h").read_text(), flags=re.S | re.M)
+    names = subprocess.run(["nm", "-D", "--defined-only", shared_object], capture_output=True, text=True).stdout
+    assert sorted(re.findall(r"^\w+ T (\w+)", names, re.M)) == sorted(re.findall(r"\b(robots_\w+)\(", header))
 
 
 @pytest.fixture

@@ -1,9 +1,8 @@
 /* robots.h: what a robots.txt file means for a crawler: the URLs that it may fetch, its delay, and the sitemaps.
  *
  *     robots *robot = NULL;
- *     size_t line;
  *     int64_t result;
- *     int32_t status = robots_open(ROBOTS_STRING("MyBot"), file, file_len, &robot, &line);
+ *     int32_t status = robots_open(ROBOTS_STRING("MyBot"), file, file_len, &robot, NULL);
  *     if (status != ROBOTS_OK)
  *         fprintf(stderr, "robots.txt: %s\n", robots_status_text(status));
  *     else if (robots_query(robot, ROBOTS_STRING("https://example.com/a"), &result) == ROBOTS_OK && robots_may_fetch(result))
@@ -27,9 +26,11 @@
  * compared with the rules, usually matches none, and then may be fetched. Check URLs before you query them.
  *
  * STATUS. Each call that returns int32_t returns 0 (ROBOTS_OK) or a negative status; robots_site_is_named returns 1 too. Where the status
- * isn't 0, nothing is written, except where the call's comment says so, and nothing stays allocated. If two errors apply, either may be the
- * status. ROBOTS_OUT_OF_MEMORY can replace every other status, but not for text that isn't UTF-8, and not from a call that is documented
- * not to allocate.
+ * isn't 0, nothing is written, except where the call's comment says so, and nothing stays allocated. A text that isn't UTF-8 is found
+ * first, then a buffer that is too small for the results of URLs; neither needs memory. ROBOTS_OUT_OF_MEMORY can replace any other status,
+ * but not from a call that is documented not to allocate.
+ *
+ * OUTPUTS. A variable or a buffer that a call writes may be uninitialized; what is in it is never read. `line` may be NULL.
  *
  * RESULT. The result for a URL is a number: 0 if the crawler may fetch it and no line decides, n if line n of the file allows it, and -n if
  * line n denies it. Lines count from 1. Don't write `if (result)`: use robots_may_fetch(result) and robots_line(result).
@@ -37,19 +38,19 @@
  * MEMORY comes from malloc, realloc and free. A call frees what it allocates, except for a robot or a site that it opens. Another
  * allocator: define rattle_alloc, rattle_realloc and rattle_dealloc in your program, before the archive (docs/GUIDE.md).
  *
- * THREADS. The library has no global state: calls may run on any number of threads at once, with the same texts too. No call may run in
- * a signal handler. Calls on one open robot or site only read it. Proved: such a call borrows it, so any number of them may overlap, and
- * it may go from thread to thread (Rattle's `Sync` and `Send`). Tested: calls on four threads have no data race (ThreadSanitizer,
- * helgrind). The toolchain's rule for C, which is stricter: one call at a time for one robot or site, with a lock, a thread's start or
- * its end between calls on two threads. A lock around all calls on that robot or site keeps the rule.
+ * THREADS. The rule, which is the toolchain's: for each robot or site one call at a time, and between calls of two threads a lock, or the
+ * start or the end of a thread; all other calls may overlap. The library has no global state. Calls that overlap on one robot or site,
+ * against the rule, only read it, which is proved, and in tests they had no data race. No call may run in a signal handler, nor in the
+ * child of a fork if the process had several threads.
  *
  * PRECONDITIONS, which nothing checks: each pointer is valid for its length; the buffers that a call writes overlap none of its
  * other arguments; nobody writes to the texts during a call; a robot is one that robots_open or robots_site_robot opened, and a site one
  * that robots_site_open opened; each is closed once, when no call uses it. Robots and sites don't need each other, nor the texts that
  * they were opened with. No call keeps a pointer to a text.
  *
- * PROOF. crates/robots_c/src/lib.rt has a contract for each call, from the file's bytes to every number written. docs/PROOFS.md states
- * what is proved and what is tested. The compiled library is for Linux on x86-64-v2 processors (SSE4.1). */
+ * PROOF. crates/robots_c/src/lib.rt has a contract for each call, from the file's bytes to every number written. That NULL and uninitialized
+ * outputs are allowed isn't in the contracts: bindings/c/robots.c replaces NULL by an address, and that is tested. docs/PROOFS.md states what
+ * is proved and what is tested. The compiled library is for Linux on x86-64-v2 processors (SSE4.1). */
 #ifndef ROBOTS_H
 #define ROBOTS_H
 #include <stddef.h>
@@ -101,7 +102,7 @@ typedef struct robots_site robots_site;
 uint32_t robots_version(void);
 
 /* Reads a file for a crawler, and writes a new robot to *robot, which robots_close frees. If the status is ROBOTS_OVERLONG_RULE, and only
- * then, *line is written: the number of the first line with such a rule. */
+ * then, *line is written, unless `line` is NULL: the number of the first line with such a rule. */
 ROBOTS_CHECK int32_t robots_open(const char *agent, size_t agent_len, const void *file, size_t file_len, robots **robot, size_t *line);
 
 /* Writes the result for one URL. It doesn't allocate for the empty text, a path in which nothing has to be escaped, and most URLs. */

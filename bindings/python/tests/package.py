@@ -57,7 +57,8 @@ def run(words, **options):
 needs("cffi", "pip", "setuptools", "wheel")
 if not Path(sysconfig.get_path("include"), "Python.h").is_file():
     pytest.skip(f"{sys.executable} has no Python.h", allow_module_level=True)
-SOURCES = [archive(), PACKAGE.parent / "c/Makefile", *(PACKAGE / name for name in ("pyproject.toml", "setup.py", "README.md"))]
+SOURCES = [archive(), PACKAGE.parent / "c/Makefile", PACKAGE.parent / "c/robots.c"]
+SOURCES += [PACKAGE / name for name in ("pyproject.toml", "setup.py", "README.md")]
 SOURCES += [*(PACKAGE / "native").iterdir(), *(PACKAGE / "src/texting_robots").glob("*.*")]
 with locked(PACKAGE):
     if not SITE.is_dir() or max(it.stat().st_mtime for it in SOURCES) > SITE.stat().st_mtime:

@@ -12,7 +12,7 @@ from pathlib import Path
 
 import package
 import pytest
-from library import LIBRARY
+from library import LIBRARY, archive
 from support import ROOT
 from test_documents import PRIVATE_WORDS, anchors, prose, tables
 
@@ -88,15 +88,15 @@ def test_a_wheel_for_a_free_threaded_cpython_has_its_own_abi(monkeypatch):
     assert given_to_setup(monkeypatch, "66.1.1", {"Py_GIL_DISABLED": 1})["options"] == {}
 
 
-def test_the_library_comes_from_a_repository_whose_folder_has_a_space(objects, tmp_path):
+def test_the_library_comes_from_a_repository_whose_folder_has_a_space(tmp_path):
     root = tmp_path / "my crawler"
     for name in ["bindings/c", "bindings/python/native"]:
         shutil.copytree(ROOT / name, root / name)
     (root / "crates/robots_c/out").mkdir(parents=True)
     shutil.copy(LIBRARY / "robots.h", root / "crates/robots_c")
-    shutil.copy(objects[0], root / "crates/robots_c/out")
+    shutil.copy(archive(), root / "crates/robots_c/out")
     package.run([root / "bindings/python/native/build.py"])
-    assert (root / "bindings/python/build/c/librobots_c.a").stat().st_size > objects[0].stat().st_size
+    assert (root / "bindings/python/build/c/librobots_c.a").stat().st_size > archive().stat().st_size
 
 
 def test_a_library_that_is_not_where_robots_c_says(tmp_path):

@@ -13,8 +13,9 @@ pub(crate) struct Robot(NonNull<sys::robots>);
 /// A site that is open until this value is dropped.
 pub(crate) struct Site(NonNull<sys::robots_site>);
 
-// SAFETY: a robot and a site are blocks of memory that belong to no thread, and a call only reads them, so any number of calls may overlap.
-// robots.h states both as proved: in Rattle, as in Rust, each call borrows a value whose type is `Send` and `Sync`.
+// SAFETY: a robot and a site are blocks of memory that belong to no thread, and a call only reads them, which robots.h states as proved: in
+// Rattle, as in Rust, each call borrows a value whose type is `Send` and `Sync`. So any number of calls may overlap; the toolchain's rule for
+// calls from C doesn't cover that, and tests do.
 unsafe impl Send for Robot {}
 unsafe impl Sync for Robot {}
 unsafe impl Send for Site {}

@@ -34,7 +34,7 @@ impl Decision {
 
 /// A robots.txt file as one crawler reads it.
 ///
-/// Threads can share it, and none waits for another.
+/// Threads can share it, and none waits for another. [What is proved](crate#what-is-proved) states the C library's rule for threads.
 pub struct Robot {
     /// How long the crawler waits between two requests, if the file specifies that. It may be half a million years, so limit it before
     /// you add it to a time.
@@ -99,7 +99,7 @@ impl fmt::Debug for Robot {
 
 /// A robots.txt file that is read once for many crawlers.
 ///
-/// Threads can share it, and none waits for another.
+/// Threads can share it, and none waits for another. [What is proved](crate#what-is-proved) states the C library's rule for threads.
 pub struct Site {
     /// The sitemaps that the file lists, in its order: also empty ones, but none that isn't UTF-8.
     pub sitemaps: Vec<String>,

@@ -42,6 +42,7 @@ fn from_repository() -> PathBuf {
     }
     let proved = library.join("out/librobots_c.a");
     println!("cargo:rerun-if-changed={}", proved.display());
+    println!("cargo:rerun-if-changed={}", root.join("bindings/c/robots.c").display());
     if !proved.is_file() {
         run(Command::new("rt").arg("lib").current_dir(library));
     }

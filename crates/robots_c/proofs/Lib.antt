@@ -1,4 +1,5 @@
 pub mod KeptSteps
+pub mod LendingLemmas
 pub mod MatrixLemmas
 pub mod NumberLemmas
 pub mod WalkSteps

@@ -79,15 +79,12 @@ rows_length site targets (agent ∷ agents) numbers (row, later, is, are, whole)
       rows_length site targets agents later are,
     )
 
-pub as_many_rows : (site : List ℕ) (targets : List (List ℕ)) (agents' agents urls' urls : List ℕ)
-    (numbers : List ℤ) → AreRows site targets (items_in agents') numbers
-    → targets ≡ map prepared (items_in urls') → agents' ≡ agents → urls' ≡ urls
+pub as_many_rows : (site : List ℕ) (targets : List (List ℕ)) (agents urls : List ℕ) (numbers : List ℤ)
+    → AreRows site targets (items_in agents) numbers → targets ≡ map prepared (items_in urls)
     → length numbers ≡ length (items_in agents) * length (items_in urls)
-as_many_rows site targets agents' agents urls' urls numbers are prepared_are agents_are urls_are =
-    rows_length site targets (items_in agents') numbers are
-    ∙ ap (λ text. length (items_in text) * length targets) agents_are
-    ∙ ap (λ n. length (items_in agents) * n) (ap length prepared_are ∙ length-map (items_in urls') prepared
-    ∙ ap (λ text. length (items_in text)) urls_are)
+as_many_rows site targets agents urls numbers are prepared_are =
+    rows_length site targets (items_in agents) numbers are
+    ∙ ap (λ n. length (items_in agents) * n) (ap length prepared_are ∙ length-map (items_in urls) prepared)
 
 -- ---- crawlers that the site doesn't name
 

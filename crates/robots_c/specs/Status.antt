@@ -1,5 +1,5 @@
 -- The statuses that C functions return, and their causes.
-use Rattle.std.specs.Prelude.{◌≡◌, ◌⊎◌, ℕ, ◌*◌, ◌<◌, ℤ, pos, negsuc, List}
+use Rattle.std.specs.Prelude.{◌≡◌, ◌⊎◌, ℕ, ◌*◌, ◌<◌, ◌≤◌, ℤ, pos, negsuc, List}
 use Rattle.std.specs.Prelude.{Option, None, Ok, Err, IsUtf8, if◌then◌else◌, length}
 use Rattle.texting_robots.specs.Callers.{IsFirstOverlong, IsAllocationFree, file_lines, is_named}
 use Rattle.texting_robots.specs.Callers.{placed_rules, robots_address}
@@ -37,7 +37,8 @@ abbrev pub HasFaultAt : (Fault → Type 0) → ℤ → ℕ → ℕ → Type 0
 HasFaultAt Why status old new = ((status ≡ pos 0) × (new ≡ old))
     ⊎ ((fault : Fault) × Why fault × (status ≡ status_of fault) × (new ≡ line_after fault old))
 
--- ---- the cause of each error, by task; an allocation can fail wherever one is made
+-- ---- the cause of each error, by task: texts are checked first, then the room for results, then an
+-- allocation can fail wherever one is made
 
 -- this is the number, counted from 1, of the first line with a rule that applies to the crawler and is too
 -- long
@@ -58,22 +59,23 @@ IsWhyNoSite fault = fault ≡ Memory
 -- the results for the URLs in a string, with this capacity for numbers
 abbrev pub IsWhyNoResults : List ℕ → ℕ → Fault → Type 0
 IsWhyNoResults text capacity NotUtf8 = ¬ IsUtf8 text
-IsWhyNoResults text capacity Memory = IsUtf8 text
+IsWhyNoResults text capacity Memory = IsUtf8 text × (length (items_in text) ≤ capacity)
 IsWhyNoResults text capacity BufferTooSmall = IsUtf8 text × (capacity < length (items_in text))
 IsWhyNoResults text capacity _ = ⊥
 
 -- making a robot from a file, and its results
 abbrev pub IsWhyUndecided : List ℕ → List ℕ → List ℕ → ℕ → Fault → Type 0
 IsWhyUndecided agent site text capacity NotUtf8 = (¬ IsUtf8 agent) ⊎ (¬ IsUtf8 text)
-IsWhyUndecided agent site text capacity Memory = IsUtf8 agent × IsUtf8 text
 IsWhyUndecided agent site text capacity BufferTooSmall = IsUtf8 agent
     × IsWhyNoResults text capacity BufferTooSmall
-IsWhyUndecided agent site text capacity fault = IsUtf8 text × IsWhyNoRobot agent site fault
+IsWhyUndecided agent site text capacity fault = IsUtf8 text × (length (items_in text) ≤ capacity)
+    × IsWhyNoRobot agent site fault
 
 -- the results of many crawlers for many URLs; a rule that is too long isn't an error
 abbrev pub IsWhyNoMatrix : List ℕ → List ℕ → ℕ → Fault → Type 0
 IsWhyNoMatrix agents urls capacity NotUtf8 = (¬ IsUtf8 agents) ⊎ (¬ IsUtf8 urls)
-IsWhyNoMatrix agents urls capacity Memory = IsUtf8 agents × IsUtf8 urls
+IsWhyNoMatrix agents urls capacity Memory =
+    IsUtf8 agents × IsUtf8 urls × (length (items_in agents) * length (items_in urls) ≤ capacity)
 IsWhyNoMatrix agents urls capacity BufferTooSmall =
     IsUtf8 agents × IsUtf8 urls × (capacity < length (items_in agents) * length (items_in urls))
 IsWhyNoMatrix agents urls capacity _ = ⊥

@@ -1,5 +1,6 @@
 //! The results of many crawlers for many URLs.
-ghost use Rattle.std.specs.Prelude.{◌≡◌, ◌≢◌, ◌≤◌, IfErr, IfOk, IfSome, codes, length, map, pos, string_bytes};
+ghost use Rattle.std.specs.Prelude.{◌≡◌, ◌≢◌, ◌<◌, ◌≤◌, ◌*◌, IfErr, IfOk, IfSome, IsUtf8, MatchBool, codes, length, map, pos};
+ghost use Rattle.std.specs.Prelude.{string_bytes};
 ghost use Rattle.std.specs.List.{AllZip};
 ghost use Rattle.robots_c.specs.File.{IsSiteOfSomeFile, bytes_read};
 ghost use Rattle.robots_c.specs.Results.{AreRows, HasMatrix, IsMatrixPutIn, IsResultOn, IsRow, LinesFit, items_in};
@@ -8,7 +9,7 @@ ghost use Rattle.texting_robots.specs.Callers.{prepared};
 
 use crate::fault::Fault;
 use crate::file::text_of;
-use crate::urls::number_on;
+use crate::urls::{count_items, number_on};
 use std::alloc::{AllocError, Global};
 use texting_robots::{Error, Robot, Site};
 
@@ -112,27 +113,45 @@ fn rows_of(
     Ok(numbers)
 }
 
-/// The matrix of the crawlers and URLs in two strings, if there is capacity for it.
-fn matrix(
-    alloc: Global,
-    site: &Site,
-    agents: &[u8],
-    urls: &[u8],
-    capacity: usize,
-) -> Result<Vec<i64>, Fault>
+/// The matrix of the crawlers and URLs in two strings, with a number for each of both.
+fn matrix(alloc: Global, site: &Site, agents: &str, urls: &str) -> Result<Vec<i64>, AllocError>
     requires { IsSiteOfSomeFile site.now }
-    ensures ok { IfOk result (λ numbers. HasMatrix site.now agents.now urls.now numbers.items) }
-    ensures capacity { IfOk result (λ numbers. length numbers.items ≤ capacity) }
+    ensures rows { IfOk result (λ numbers. AreRows site.now (map prepared (items_in urls.now)) (items_in agents.now) numbers.items) }
+    ensures count { IfOk result (λ numbers. length numbers.items ≡ length (items_in agents.now) * length (items_in urls.now)) }
+{
+    let targets = targets_of(alloc, urls)?;
+    let numbers = rows_of(alloc, site, agents, &targets)?;
+    Ok(numbers)
+}
+
+/// Whether there is capacity for a number for each crawler and URL in two strings.
+fn fits(agents: &str, urls: &str, capacity: usize) -> bool
+    ensures { MatchBool result (length (items_in agents.now) * length (items_in urls.now) ≤ capacity)
+        (capacity < length (items_in agents.now) * length (items_in urls.now)) }
+{
+    match count_items(agents).checked_mul(count_items(urls)) {
+        Some(count) => count <= capacity,
+        None => false,
+    }
+}
+
+/// The crawlers and the URLs as strings, if there is capacity for their results.
+fn texts_of<'a>(
+    agents: &'a [u8],
+    urls: &'a [u8],
+    capacity: usize,
+) -> Result<(&'a str, &'a str), Fault>
+    ensures texts { IfOk result (λ texts. (texts.0.now ≡ agents.now) × (texts.1.now ≡ urls.now)) }
+    ensures utf8 { IfOk result (λ _. IsUtf8 agents.now × IsUtf8 urls.now) }
+    ensures capacity { IfOk result (λ _. length (items_in agents.now) * length (items_in urls.now) ≤ capacity) }
     ensures fault { IfErr result (IsWhyNoMatrix agents.now urls.now capacity) }
 {
     let agents = text_of(agents)?;
     let urls = text_of(urls)?;
-    let targets = targets_of(alloc, urls)?;
-    let numbers = rows_of(alloc, site, agents, &targets)?;
-    if capacity < numbers.len() {
+    if !fits(agents, urls, capacity) {
         return Err(Fault::BufferTooSmall);
     }
-    Ok(numbers)
+    Ok((agents, urls))
 }
 
 /// The matrix of the crawlers and URLs in two strings, from a file.
@@ -147,10 +166,27 @@ pub(crate) fn matrix_of(
     ensures capacity { IfOk result (λ numbers. length numbers.items ≤ capacity) }
     ensures fault { IfErr result (IsWhyNoMatrix agents.now urls.now capacity) }
 {
-    text_of(agents)?;
-    text_of(urls)?;
+    let (agents, urls) = texts_of(agents, urls, capacity)?;
     let site = Site::new(alloc, file)?;
-    let numbers = matrix(alloc, &site, agents, urls, capacity)?;
+    let numbers = matrix(alloc, &site, agents, urls)?;
+    Ok(numbers)
+}
+
+/// The matrix of the crawlers and URLs in two strings, from a site.
+fn matrix_in(
+    alloc: Global,
+    site: &Site,
+    agents: &[u8],
+    urls: &[u8],
+    capacity: usize,
+) -> Result<Vec<i64>, Fault>
+    requires { IsSiteOfSomeFile site.now }
+    ensures ok { IfOk result (λ numbers. HasMatrix site.now agents.now urls.now numbers.items) }
+    ensures capacity { IfOk result (λ numbers. length numbers.items ≤ capacity) }
+    ensures fault { IfErr result (IsWhyNoMatrix agents.now urls.now capacity) }
+{
+    let (agents, urls) = texts_of(agents, urls, capacity)?;
+    let numbers = matrix(alloc, site, agents, urls)?;
     Ok(numbers)
 }
 
@@ -167,7 +203,7 @@ pub(crate) fn matrix_by(
     ensures kept { result ≢ pos 0 → out.new ≡ out.old }
     ensures why { HasFault (IsWhyNoMatrix agents.now urls.now (length out.old)) result }
 {
-    match matrix(alloc, site, agents, urls, out.len()) {
+    match matrix_in(alloc, site, agents, urls, out.len()) {
         Ok(numbers) => {
             out[..numbers.len()].copy_from_slice(&numbers);
             0

@@ -1,8 +1,8 @@
 //! The results for URLs.
-ghost use Rattle.std.specs.Prelude.{◌≡◌, ◌≢◌, ◌⊎◌, ◌<◌, ◌≤◌, ◌^◌, IfErr, IfOk, IfSome, length, pos};
+ghost use Rattle.std.specs.Prelude.{◌≡◌, ◌≢◌, ◌<◌, ◌≤◌, ◌==◌, ◌^◌, IfErr, IfOk, IfSome, IsUtf8, count_by, length, pos};
 ghost use Rattle.std.specs.List.{AllZip};
 ghost use Rattle.robots_c.specs.File.{GivesRobot, IsRobotOfSomeFile, bytes_read};
-ghost use Rattle.robots_c.specs.Results.{ArePutIn, HasResult, HasResults, IsResult, IsResultOn, LinesFit, number_of, items_in};
+ghost use Rattle.robots_c.specs.Results.{ArePutIn, HasResult, HasResults, IsResult, IsResultOn, LinesFit, number_of, items_in, lf};
 ghost use Rattle.robots_c.specs.Status.{HasFault, IsWhyNoResult, IsWhyNoResults, IsWhyUndecided};
 ghost use Rattle.texting_robots.specs.Callers.{IsAllocationFree};
 
@@ -70,19 +70,41 @@ fn numbers_for(alloc: Global, robot: &Robot, urls: &str) -> Result<Vec<i64>, All
     Ok(numbers)
 }
 
-/// The results for the URLs in a string, if there is capacity for them.
-fn results_for(alloc: Global, robot: &Robot, urls: &str, capacity: usize) -> Result<Vec<i64>, Fault>
+/// The results for the URLs in a string, one for each.
+fn results_for(alloc: Global, robot: &Robot, urls: &str) -> Result<Vec<i64>, AllocError>
     requires { IsRobotOfSomeFile robot.now }
-    ensures ok { IfOk result (λ numbers. AllZip (IsResult robot.now.rules) (items_in urls.now) numbers.items) }
-    ensures capacity { IfOk result (λ numbers. length numbers.items ≤ capacity) }
-    ensures fault { IfErr result (λ fault. (fault ≡ Fault.Memory)
-        ⊎ ((fault ≡ Fault.BufferTooSmall) × (capacity < length (items_in urls.now)))) }
+    ensures results { IfOk result (λ numbers. AllZip (IsResult robot.now.rules) (items_in urls.now) numbers.items) }
+    ensures count { IfOk result (λ numbers. length numbers.items ≡ length (items_in urls.now)) }
 {
     let numbers = numbers_for(alloc, robot, urls)?;
-    if capacity < numbers.len() {
+    Ok(numbers)
+}
+
+/// How many LFs a text has.
+fn count_feeds(text: &[u8]) -> usize
+    ensures value { result ≡ count_by (λ byte. byte == lf) text.now }
+    ensures within { result ≤ length text.now }
+{
+    text.iter().filter(|byte| **byte == b'\n').count()
+}
+
+/// How many items a string has, which are separated by LF.
+pub(crate) fn count_items(text: &str) -> usize
+    ensures { result ≡ length (items_in text.now) }
+{
+    count_feeds(text.as_bytes()) + 1
+}
+
+/// The URLs as a string, if there is capacity for their results.
+fn urls_of<'a>(urls: &'a [u8], capacity: usize) -> Result<&'a str, Fault>
+    ensures ok { IfOk result (λ text. (text.now ≡ urls.now) × IsUtf8 urls.now × (length (items_in urls.now) ≤ capacity)) }
+    ensures fault { IfErr result (IsWhyNoResults urls.now capacity) }
+{
+    let text = text_of(urls)?;
+    if capacity < count_items(text) {
         return Err(Fault::BufferTooSmall);
     }
-    Ok(numbers)
+    Ok(text)
 }
 
 /// The results of a file for the URLs in a string, if there is capacity for them.
@@ -98,9 +120,10 @@ pub(crate) fn decide(
     ensures capacity { IfOk result (λ numbers. length numbers.items ≤ capacity) }
     ensures fault { IfErr result (IsWhyUndecided agent.now (bytes_read file.now) urls.now capacity) }
 {
-    let urls = text_of(urls)?;
+    text_of(agent)?;
+    let urls = urls_of(urls, capacity)?;
     let robot = robot_of(alloc, agent, file)?;
-    let numbers = results_for(alloc, &robot, urls, capacity)?;
+    let numbers = results_for(alloc, &robot, urls)?;
     Ok(numbers)
 }
 
@@ -111,8 +134,8 @@ fn results_of(alloc: Global, robot: &Robot, urls: &[u8], capacity: usize) -> Res
     ensures capacity { IfOk result (λ numbers. length numbers.items ≤ capacity) }
     ensures fault { IfErr result (IsWhyNoResults urls.now capacity) }
 {
-    let urls = text_of(urls)?;
-    let numbers = results_for(alloc, robot, urls, capacity)?;
+    let urls = urls_of(urls, capacity)?;
+    let numbers = results_for(alloc, robot, urls)?;
     Ok(numbers)
 }
 

@@ -1,11 +1,12 @@
 -- Plain rules that begin a plain rule are its only rivals.
 use Rattle.std.proofs.Common.{◌≡◌, ◌<◌, ◌≤◌, inl, inr, ℕ, ◌+◌, Bool, true, false, not, List, [], ◌∷◌, ◌++◌}
 use Rattle.std.proofs.Common.{All, IsTrue, ap, sym, subst, refl, ◌↔◌, ◌∙◌, append-nil, arith, drop, get_or}
-use Rattle.std.proofs.Common.{length, take}
+use Rattle.std.proofs.Common.{None, Option, Some, length, nat_eq, take}
+use Rattle.std.specs.{HashMap.get, Option.option_or}
 use Rattle.std.proofs.Math.Dec.{eqb}
 use Rattle.std.specs.Cmp.Lexicographic.{bytes_decides, pointwise}
 use Rattle.std.proofs.lemmas.List.{take-append-drop, take-take, take_all, take_at, take_more}
-use Rattle.std.proofs.lemmas.Bool.{cases_lt, false≢true}
+use Rattle.std.proofs.lemmas.Bool.{cases_eq, cases_lt, false≢true}
 use Rattle.std.proofs.lemmas.List.Elements.{All-contains}
 use Rattle.texting_robots.specs.Pattern.{IsOverlong, Matches, MatchesWith, dollar}
 use Rattle.texting_robots.specs.Rules.{PlacedRule, Rule, unplaced}
@@ -13,8 +14,8 @@ use Rattle.texting_robots.specs.Internal.Entries.{rank}
 use Rattle.texting_robots.proofs.{BestLemmas.placed_of, PatternLemmas.in_front}
 use Rattle.robots_needless.specs.Internal.{HasNoRival, IsNoRival}
 use Rattle.robots_needless.specs.Needless.{AreApart}
-use Rattle.robots_needless.specs.Prefixes.{AreIndexed, HasPlace, IsAbove, IsPlainByte, Places, hash_from}
-use Rattle.robots_needless.specs.Prefixes.{next_hash, seed}
+use Rattle.robots_needless.specs.Prefixes.{AreIndexed, HasPlace, IsAbove, IsLongestPlace, IsPlainByte, Places, hash_from}
+use Rattle.robots_needless.specs.Prefixes.{next_hash, place_of_beginning, seed}
 
 -- ---- hashes
 
@@ -26,6 +27,33 @@ pub hash_more : (h : ℕ) (pattern : List ℕ) (i d : ℕ) → i < length patter
     → next_hash (hash_from h (take i pattern)) (get_or pattern i d) ≡ hash_from h (take (i + 1) pattern)
 hash_more h pattern i d below =
     rw (take_more pattern i d below) (sym (hash_push h (take i pattern) (get_or pattern i d)))
+
+-- ---- the longest beginning
+
+module _ {S : Type 0} (places : Places S) (pattern : List ℕ) (allows : Bool) where
+  pub longest_first : (found : Option ℕ) → get nat_eq places (seed allows) ≡ found
+      → IsLongestPlace places pattern allows 0 found
+  longest_first None is = λ k least. let none : k ≡ 0 = omega arith in rw none is
+  longest_first (Some place) is = (0, omega arith, is, λ j from to. absurd (omega arith))
+
+  pub longest_more : (i : ℕ) (old found : Option ℕ) → IsLongestPlace places pattern allows i old
+      → place_of_beginning places pattern allows (i + 1) ≡ found
+      → IsLongestPlace places pattern allows (i + 1) (option_or found old)
+  longest_more i old (Some place) before is =
+      (i + 1, omega arith, is, λ j from to. absurd (omega arith))
+  longest_more i None None before is = λ k most. elim (cases_eq k (i + 1)) [
+    | inl same ↦ rw same is
+    | inr other ↦ before k (omega arith)
+  ]
+  longest_more i (Some place) None (k, most, at, none) is = (
+    k,
+    omega arith,
+    at,
+    λ j from to. elim (cases_eq j (i + 1)) [
+      | inl same ↦ rw same is
+      | inr other ↦ none j from (omega arith)
+    ],
+  )
 
 -- ---- a plain pattern has no dollar
 

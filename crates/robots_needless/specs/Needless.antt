@@ -80,6 +80,10 @@ IsFound rules found =
     (placed : PlacedRule) × Contains rules placed × (placed.line ≡ found.line)
     × IsReason rules placed found.reason
 
+-- the same for the rules of some crawler in these lines of a file
+abbrev pub IsFoundFor : List LineValue → NeedlessRule → Type 0
+IsFoundFor lines found = (agent : List ℕ) × IsFound (placed_rules agent lines) found
+
 -- the lines without those with these numbers, counted from 1
 abbrev pub lines_without : {A : Type 0} → List ℕ → List A → List A
 lines_without {A = A} numbers lines =
@@ -103,10 +107,6 @@ pub record KeepsRule (numbers : List ℕ) (lines : List LineValue) (number : ℕ
   pub other_rule : IsTrue (passes_at is_rule lines other)
   pub below : (k : ℕ) → position < k → k < other → ¬ IsTrue (passes_at is_agent lines k)
   pub above : (k : ℕ) → other < k → k < position → ¬ IsTrue (passes_at is_agent lines k)
-
--- the same for the rules of some crawler in these lines of a file
-abbrev pub IsFoundFor : List LineValue → NeedlessRule → Type 0
-IsFoundFor lines found = (agent : List ℕ) × IsFound (placed_rules agent lines) found
 
 -- the found rules of a file with these lines: every crawler's rules have the same verdicts without them
 pub record AreFound (lines : List LineValue) (found : List NeedlessRule) : Type 0 where

@@ -1,6 +1,6 @@
 -- Plain rules by the hashes of their patterns.
 use Rattle.std.specs.Prelude.{◌≡◌, ℕ, ◌+◌, ◌*◌, ◌%◌, ◌<◌, ◌≤◌, ◌==◌, All, Bool, false, not, List, [], ◌∷◌}
-use Rattle.std.specs.Prelude.{Contains, length, slice_index_or, take, if◌then◌else◌}
+use Rattle.std.specs.Prelude.{Contains, None, Option, Some, length, slice_index_or, take, if◌then◌else◌}
 use Rattle.std.specs.HashMap.{HashMap, get}
 use Rattle.std.specs.{Prelude.nat_eq, Option.IsSome}
 use Rattle.texting_robots.specs.Callers.{PlacedRule}
@@ -25,6 +25,18 @@ Places S = HashMap ℕ ℕ S
 -- the map has the hash
 abbrev pub HasPlace : {S : Type 0} → Places S → ℕ → Type 0
 HasPlace places hash = IsSome (get nat_eq places hash)
+
+-- the place of a rule of this kind whose pattern is the first k bytes of this one
+abbrev pub place_of_beginning : {S : Type 0} → Places S → List ℕ → Bool → ℕ → Option ℕ
+place_of_beginning places pattern allows k = get nat_eq places (hash_from (seed allows) (take k pattern))
+
+-- the place of the longest one of at most n bytes, if there is one
+abbrev pub IsLongestPlace : {S : Type 0} → Places S → List ℕ → Bool → ℕ → Option ℕ → Type 0
+IsLongestPlace places pattern allows n None =
+    (k : ℕ) → k ≤ n → place_of_beginning places pattern allows k ≡ None
+IsLongestPlace places pattern allows n (Some place) =
+    (k : ℕ) × (k ≤ n) × (place_of_beginning places pattern allows k ≡ Some place)
+    × ((j : ℕ) → k < j → j ≤ n → place_of_beginning places pattern allows j ≡ None)
 
 -- neither a star nor a dollar
 abbrev pub IsPlainByte : ℕ → Type 0

@@ -2,7 +2,7 @@
 //! no dollar: it matches the texts that begin with it.
 ghost use Rattle.std.specs.Prelude.{◌≡◌, ◌≤◌, All, IsTrue, ◌<◌, ◌+◌, ◌^◌, length, not};
 ghost use Rattle.texting_robots.specs.Internal.Entries.{rank};
-ghost use Rattle.robots_needless.specs.Prefixes.{HasPlace, IsAbove, IsPlainByte, hash_from, next_hash, seed};
+ghost use Rattle.robots_needless.specs.Prefixes.{HasPlace, IsAbove, IsLongestPlace, IsPlainByte, hash_from, next_hash, seed};
 
 use std::collections::HashMap;
 
@@ -89,7 +89,9 @@ pub(crate) fn floor_above_beginnings(
 }
 
 /// The index of the longest rule of this kind in the map whose pattern begins this one, or is the same.
-pub(crate) fn longest_beginning(places: &Places, pattern: &[u8], is_allow: bool) -> Option<usize> {
+pub(crate) fn longest_beginning(places: &Places, pattern: &[u8], is_allow: bool) -> Option<usize>
+    ensures { IsLongestPlace places.now pattern.now is_allow (length pattern.now) result }
+{
     let mut hash = seed(is_allow);
     let mut place = places.get(&hash).copied();
     for byte in pattern {

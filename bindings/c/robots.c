@@ -1,0 +1,162 @@
+/* The calls of robots.h. Each is the proved function of the same name, which the Makefile renames to proved_robots_.., but for two things
+ * that no contract grants: a text or a buffer of length 0 and a line may be NULL, and a variable for a result may be uninitialized. */
+#include "robots.h"
+
+#define PROVED(name) extern __typeof__(name) proved_##name
+PROVED(robots_version);
+PROVED(robots_open);
+PROVED(robots_query);
+PROVED(robots_query_many);
+PROVED(robots_query_delay);
+PROVED(robots_close);
+PROVED(robots_decide);
+PROVED(robots_matrix);
+PROVED(robots_delay);
+PROVED(robots_sitemaps);
+PROVED(robots_agents);
+PROVED(robots_site_open);
+PROVED(robots_site_robot);
+PROVED(robots_site_matrix);
+PROVED(robots_site_delay);
+PROVED(robots_site_sitemaps);
+PROVED(robots_site_agents);
+PROVED(robots_site_is_named);
+PROVED(robots_site_close);
+PROVED(robots_address);
+
+/* An address in place of NULL. The length is 0, so nothing is read or written there. */
+static int64_t nowhere;
+#define AT(pointer) ((pointer) != NULL ? (pointer) : (void *)&nowhere)
+
+/* What a call that returned this status wrote. */
+static int32_t with_line(int32_t status, size_t *line, size_t number) {
+    if (status == ROBOTS_OVERLONG_RULE && line != NULL)
+        *line = number;
+    return status;
+}
+
+static int32_t with_length(int32_t status, size_t *len, size_t length) {
+    if (status == ROBOTS_OK || status == ROBOTS_BUFFER_TOO_SMALL)
+        *len = length;
+    return status;
+}
+
+static int32_t with_delay(int32_t status, uint64_t *microseconds, uint64_t delay) {
+    if (status == ROBOTS_OK)
+        *microseconds = delay;
+    return status;
+}
+
+uint32_t robots_version(void) { return proved_robots_version(); }
+
+int32_t robots_open(const char *agent, size_t agent_len, const void *file, size_t file_len, robots **robot, size_t *line) {
+    robots *opened = NULL;
+    size_t number = 0;
+    int32_t status = proved_robots_open(AT(agent), agent_len, AT(file), file_len, &opened, &number);
+    if (status == ROBOTS_OK)
+        *robot = opened;
+    return with_line(status, line, number);
+}
+
+int32_t robots_query(const robots *robot, const char *url, size_t url_len, int64_t *result) {
+    int64_t number = 0;
+    int32_t status = proved_robots_query(robot, AT(url), url_len, &number);
+    if (status == ROBOTS_OK)
+        *result = number;
+    return status;
+}
+
+int32_t robots_query_many(const robots *robot, const char *urls, size_t urls_len, int64_t *results, size_t results_len) {
+    return proved_robots_query_many(robot, AT(urls), urls_len, AT(results), results_len);
+}
+
+int32_t robots_query_delay(const robots *robot, uint64_t *microseconds) {
+    uint64_t delay = 0;
+    int32_t status = proved_robots_query_delay(robot, &delay);
+    return with_delay(status, microseconds, delay);
+}
+
+void robots_close(robots *robot) { proved_robots_close(robot); }
+
+int32_t robots_decide(const char *agent, size_t agent_len, const void *file, size_t file_len, const char *urls, size_t urls_len,
+                      int64_t *results, size_t results_len, size_t *line) {
+    size_t number = 0;
+    int32_t status =
+        proved_robots_decide(AT(agent), agent_len, AT(file), file_len, AT(urls), urls_len, AT(results), results_len, &number);
+    return with_line(status, line, number);
+}
+
+int32_t robots_matrix(const char *agents, size_t agents_len, const void *file, size_t file_len, const char *urls, size_t urls_len,
+                      int64_t *results, size_t results_len) {
+    return proved_robots_matrix(AT(agents), agents_len, AT(file), file_len, AT(urls), urls_len, AT(results), results_len);
+}
+
+int32_t robots_delay(const char *agent, size_t agent_len, const void *file, size_t file_len, uint64_t *microseconds) {
+    uint64_t delay = 0;
+    int32_t status = proved_robots_delay(AT(agent), agent_len, AT(file), file_len, &delay);
+    return with_delay(status, microseconds, delay);
+}
+
+int32_t robots_sitemaps(const void *file, size_t file_len, char *out, size_t out_len, size_t *len) {
+    size_t length = 0;
+    int32_t status = proved_robots_sitemaps(AT(file), file_len, AT(out), out_len, &length);
+    return with_length(status, len, length);
+}
+
+int32_t robots_agents(const void *file, size_t file_len, char *out, size_t out_len, size_t *len) {
+    size_t length = 0;
+    int32_t status = proved_robots_agents(AT(file), file_len, AT(out), out_len, &length);
+    return with_length(status, len, length);
+}
+
+int32_t robots_site_open(const void *file, size_t file_len, robots_site **site) {
+    robots_site *opened = NULL;
+    int32_t status = proved_robots_site_open(AT(file), file_len, &opened);
+    if (status == ROBOTS_OK)
+        *site = opened;
+    return status;
+}
+
+int32_t robots_site_robot(const robots_site *site, const char *agent, size_t agent_len, robots **robot, size_t *line) {
+    robots *opened = NULL;
+    size_t number = 0;
+    int32_t status = proved_robots_site_robot(site, AT(agent), agent_len, &opened, &number);
+    if (status == ROBOTS_OK)
+        *robot = opened;
+    return with_line(status, line, number);
+}
+
+int32_t robots_site_matrix(const robots_site *site, const char *agents, size_t agents_len, const char *urls, size_t urls_len,
+                           int64_t *results, size_t results_len) {
+    return proved_robots_site_matrix(site, AT(agents), agents_len, AT(urls), urls_len, AT(results), results_len);
+}
+
+int32_t robots_site_delay(const robots_site *site, const char *agent, size_t agent_len, uint64_t *microseconds) {
+    uint64_t delay = 0;
+    int32_t status = proved_robots_site_delay(site, AT(agent), agent_len, &delay);
+    return with_delay(status, microseconds, delay);
+}
+
+int32_t robots_site_sitemaps(const robots_site *site, char *out, size_t out_len, size_t *len) {
+    size_t length = 0;
+    int32_t status = proved_robots_site_sitemaps(site, AT(out), out_len, &length);
+    return with_length(status, len, length);
+}
+
+int32_t robots_site_agents(const robots_site *site, char *out, size_t out_len, size_t *len) {
+    size_t length = 0;
+    int32_t status = proved_robots_site_agents(site, AT(out), out_len, &length);
+    return with_length(status, len, length);
+}
+
+int32_t robots_site_is_named(const robots_site *site, const char *agent, size_t agent_len) {
+    return proved_robots_site_is_named(site, AT(agent), agent_len);
+}
+
+void robots_site_close(robots_site *site) { proved_robots_site_close(site); }
+
+int32_t robots_address(const char *url, size_t url_len, char *out, size_t out_len, size_t *len) {
+    size_t length = 0;
+    int32_t status = proved_robots_address(AT(url), url_len, AT(out), out_len, &length);
+    return with_length(status, len, length);
+}
