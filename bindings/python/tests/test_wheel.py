@@ -156,8 +156,7 @@ names: List[str] = robots.sitemaps + robots.agents
 own: Own = Own.parse("")
 named: bool = own.is_named("a")
 errors: List[Type[RobotsError]] = [AgentError, OverlongRuleError, UrlError]
-for buffer in (bytearray(), memoryview(b""), mmap(-1, 1), array("b")):
-    Robots(buffer), Robots.parse(buffer), Matrix({"/"}, ["a"]).denials(buffer)
+Robots(bytearray()), Robots(memoryview(b"")), Robots.parse(mmap(-1, 1)), Matrix({"/"}, ["a"]).denials(array("b"))
 """
 
 
