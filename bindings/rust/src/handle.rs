@@ -94,12 +94,6 @@ impl Robot {
         Ok(result)
     }
 
-    /// The results for a text with a line feed between one URL and the next.
-    pub(crate) fn query_many(&self, urls: &str, results: &mut [i64]) -> Result<(), Error> {
-        let (urls, urls_len, len) = (urls.as_ptr().cast(), urls.len(), results.len());
-        check(unsafe { sys::robots_query_many(self.0.as_ptr(), urls, urls_len, results.as_mut_ptr(), len) }, 0)
-    }
-
     /// In microseconds.
     pub(crate) fn delay(&self) -> Option<u64> {
         let mut delay = 0;

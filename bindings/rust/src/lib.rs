@@ -75,19 +75,14 @@ impl Robot {
         self.rules.query(url).map(Decision::of)
     }
 
-    /// [`Robot::decision`] for each URL, in their order: faster than one by one.
+    /// [`Robot::decision`] for each URL, in their order.
     ///
     /// # Errors
     ///
     /// [`Error::OutOfMemory`].
-    pub fn decisions(&self, urls: &[impl AsRef<str>]) -> Result<Vec<Decision>, Error> {
-        let text = match joined(urls) {
-            Some(text) => text,
-            None => return urls.iter().map(|url| self.decision(url.as_ref())).collect(),
-        };
-        let mut results = vec![0; urls.len()];
-        self.rules.query_many(&text, &mut results)?;
-        Ok(results.into_iter().map(Decision::of).collect())
+    pub fn decisions<U: AsRef<str>>(&self, urls: impl IntoIterator<Item = U>) -> Result<Vec<Decision>, Error> {
+        // robots_query_many wants one text with all URLs, which takes longer to make than a call for each takes
+        urls.into_iter().map(|url| self.decision(url.as_ref())).collect()
     }
 }
 

@@ -84,17 +84,10 @@ fn decisions_for_many_urls() {
     let ferris = robot("FerrisBot", SHOP);
     let urls: Vec<String> = (0..1000).map(|n| format!("https://example.com/search/{n}")).collect();
     assert_eq!(ferris.decisions(&urls), Ok(vec![denied(2); 1000]));
-    assert_eq!(ferris.decisions(&["/search/tea", "/search/help", "/"]), Ok(vec![denied(2), allowed(3), ALLOWED]));
-    for (urls, decisions) in [
-        (&["/search/a\nb", "/"][..], vec![denied(2), ALLOWED]),
-        (&["/search\n/"], vec![denied(2)]),
-        (&["", "/search"], vec![ALLOWED, denied(2)]),
-        (&["/search", ""], vec![denied(2), ALLOWED]),
-        (&[""], vec![ALLOWED]),
-        (&[], vec![]),
-    ] {
-        assert_eq!(ferris.decisions(urls), Ok(decisions), "{urls:?}");
-    }
+    assert_eq!(ferris.decisions(["/search/tea", "/search/help", "/"]), Ok(vec![denied(2), allowed(3), ALLOWED]));
+    assert_eq!(ferris.decisions("/search\n/search/help".lines()), Ok(vec![denied(2), allowed(3)]));
+    assert_eq!(ferris.decisions(["/search\n/", ""]), Ok(vec![denied(2), ALLOWED]));
+    assert_eq!(ferris.decisions(&[] as &[String]), Ok(vec![]));
 }
 
 #[test]
