@@ -178,11 +178,9 @@ impl fmt::Debug for Site {
 
 /// The texts with a line feed between one and the next, or `None` if there is none, or one contains a line feed.
 fn joined(texts: &[impl AsRef<str>]) -> Option<String> {
-    if texts.is_empty() || texts.iter().any(|text| text.as_ref().contains('\n')) {
-        return None;
-    }
     let texts: Vec<&str> = texts.iter().map(AsRef::as_ref).collect();
-    Some(texts.join("\n"))
+    let can_be_joined = !texts.is_empty() && texts.iter().all(|text| !text.contains('\n'));
+    can_be_joined.then(|| texts.join("\n"))
 }
 
 /// The address of the robots.txt file for a URL of http or https.

@@ -31,7 +31,7 @@ _LAST_FAILURE: Final = _NO_RESULT - lib.ROBOTS_OVERLONG_RULE
 
 
 class RobotsError(Exception):
-    """The base of the errors below."""
+    """The base of this package's errors: `OverlongRuleError`, `AgentError` and `UrlError`."""
 
 
 class OverlongRuleError(RobotsError):
@@ -98,8 +98,8 @@ class Robots:
     of a fork if the process had other threads.
 
     The methods raise `OverlongRuleError` if the file can't be used for the agent, and `AgentError`, also a TypeError and a ValueError,
-    for an agent with ``/``: each is a `RobotsError`. As others do, they raise TypeError for what isn't a ``str``, and for one ``str`` in
-    place of several, ValueError for a lone surrogate, and MemoryError.
+    for an agent with ``/``: each is a `RobotsError`. What isn't a ``str``, and one ``str`` in place of several, is a TypeError, a lone
+    surrogate a ValueError, and a failed allocation a MemoryError.
     """
 
     def __init__(self, body: _Body) -> None:
