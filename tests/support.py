@@ -94,13 +94,14 @@ WARNINGS = documented_warnings()
 OF_A_URL = {"not-a-url-or-path", "invalid-url"}
 OF_A_CRAWLER = {"empty-agent", "space-around-agent", "version-in-agent", "googlebot-group", "google-ignores-star"}
 OF_RULES = {"replaces-star"}
+OF_A_LINE = {"allowed-and-disallowed", "empty-disallow"}
 NEEDLESS = ["never", "nothing", "allowed", "covered"]  # in the order of the messages of `needless-rule`
 
 
 def level_and_text(name, detail=""):
     """The documented level and message of a warning. Its detail is the field name that may be meant; the level, if the name has two; how
-    many rules it is about; the kind of a needless rule, possibly with the line of another one; the name of one of several crawlers, in
-    quotes; or else the URL that the warning is about."""
+    many rules it is about; the line of another rule; the kind of a needless rule, possibly with such a line; the name of one of several
+    crawlers, in quotes; or else the URL that the warning is about."""
     if name == "needless-rule":
         kind, _, other = detail.partition(" ")
         level, text = WARNINGS[name][NEEDLESS.index(kind)]
@@ -111,6 +112,8 @@ def level_and_text(name, detail=""):
     level, text = WARNINGS[name][-1]
     if name in OF_RULES:
         return level, f"{text} ({detail} in all)"
+    if name in OF_A_LINE:
+        return level, f"{text} (see line {detail})"
     if name in OF_A_CRAWLER:
         return level, f"crawler {detail}: {text}" if detail else text
     return level, f"URL '{detail}': {text}" if name in OF_A_URL else text

@@ -246,6 +246,14 @@ def test_robots_verdict_reads_at_most_1048576_times(failing_heap, size):
     assert (result, program.reads) == (ended, 1_048_576)
 
 
+@pytest.mark.parametrize("size", [1_048_575, 1_048_576], ids=["at the end", "a byte before it"])
+def test_robots_audit_reads_at_most_1048576_times(failing_heap, size):
+    program = Failing(failing_heap, "robots_audit", ["-q", "a"], b"Disallow: /" + b" " * (size - 11), PIECE=1)
+    result = program()
+    ended = (0, "") if size == 1_048_575 else (2, "robots_audit: cannot read standard input\n")
+    assert (result.status, result.err if result.status else "", program.reads) == (*ended, 1_048_576)
+
+
 SIZES = sorted({max(2**power + more, 1) for power in range(17) for more in (-1, 0, 1)})
 
 # By what has a size: the crawler, the URLs and the file of a run, and the verdicts that both programs print.
@@ -275,3 +283,92 @@ def test_no_size_is_out_of_memory(what):
         assert (audit.status, audit.out.endswith("\n" + verdicts)) == (1, True), (size, audit.err)
         as_json = run("robots_audit", ["--json", agent, *urls], file.encode())
         assert (as_json.status, len(json.loads(as_json.out)["agents"][0]["verdicts"])) == (1, len(urls)), (size, as_json.err)
+
+
+USAGE = "usage: robots_audit [-f FILE] [OPTIONS] AGENT [URL].."
+DENIED = "group: everyone (the file has no User-agent line; all rules are applied)\ndelay: none\ndeny 1 /b\n"
+
+
+def error(message):
+    """The status, the output and the end of the message after an error."""
+    return 2, "", f"robots_audit: {message}\n"
+
+
+# By what of an audit has a size: the arguments and the input of a run, its status, its output, and the end of its message.
+OF_AN_AUDIT = {
+    "the number of crawlers": lambda size: (["-q", *["--agent=a"] * size, "/b"], "Disallow: /", (1, DENIED * size, "")),
+    "the number of compared crawlers": lambda size: (
+        ["--compare", "/dev/null", *["--agent=a"] * size], "User-agent: b",
+        (1, "crawler a: group everyone -> none\ncrawler a: same rules, so no URL's verdict differs\n" * size, ""),
+    ),
+    "the number of chosen names": lambda size: (["-q", *["--only=host-line"] * size, "a", "/b"], "Disallow: /", (1, DENIED, "")),
+    "a name that no warning has, explained": lambda size: (["--explain", "a" * size], "", error(f"unknown warning {'a' * size}; {USAGE}")),
+    "a name that no warning has": lambda size: (["--ignore", "a" * size, "B"], "", error(f"unknown warning {'a' * size}; {USAGE}")),
+    "the name of a missing file": lambda size: (["-f", "a" * size, "B"], "", error(f"cannot read {'a' * size}")),
+    "the name of missing URLs": lambda size: (["--urls", "a" * size, "B"], "", error(f"cannot read {'a' * size}")),
+    "the name of missing expectations": lambda size: (["--expect", "a" * size], "", error(f"cannot read {'a' * size}")),
+    "the name of a missing older file": lambda size: (["--compare", "a" * size, "B"], "", error(f"cannot read {'a' * size}")),
+    "a name that no crawler has": lambda size: (
+        ["--compare", "/dev/null", "%" * size], "",
+        error(f"{'%' * size}: AGENT isn't a product token without a version, such as Googlebot"),
+    ),
+    "neither a path nor a URL": lambda size: (
+        ["--compare", "/dev/null", "B", "b" * size], "",
+        error(f"{'b' * size}: URL is neither a path that starts with / nor a valid http:// or https:// URL"),
+    ),
+}  # fmt: skip
+
+
+@pytest.mark.parametrize("size", [1, 1_001, 65_537])
+@pytest.mark.parametrize("what", OF_AN_AUDIT)
+def test_no_size_of_an_audit_is_out_of_memory(what, size):
+    args, file, (status, out, end) = OF_AN_AUDIT[what](size)
+    result = run("robots_audit", args, file.encode(), timeout=300)
+    assert (result.status, result.out) == (status, out)
+    assert result.err.endswith(end)
+
+
+def test_many_crawlers_in_a_file():
+    """Those that it names have the rule, and `*` has none."""
+    file = "".join(f"User-agent: {number:x}\n" for number in range(10_000)) + "Disallow: /"
+    result = run("robots_audit", ["-aq", "/b"], file.encode(), timeout=300)
+    assert (result.status, result.out.count("\ndeny 10001 /b\n"), result.out.count("\nallow - /b\n")) == (1, 10_000, 1)
+
+
+EACH = {"json": '"name":"unrecognized-line"', "github": "title=unrecognized-line", "sarif": '"ruleId":"unrecognized-line"'}
+
+
+@pytest.mark.parametrize("form", EACH)
+def test_many_listed_warnings(form):
+    result = run("robots_audit", ["--format", form, "B"], b"a\n" * 65_537 + b"Disallow: /", timeout=300)
+    assert (result.status, result.out.count(EACH[form]), result.err) == (0, 65_537, "")
+
+
+# Of a file of 64 MB, its role, the arguments and its beginning, and the end of the report.
+LARGE = b"#" * 2**26
+OF_LARGE_FILES = {
+    "robots.txt": (["-q", "-f", "LARGE", "a", "/b"], b"Disallow: /\n", DENIED),
+    "standard input": (["-q", "a", "/b"], b"Disallow: /\n", DENIED),
+    "URLs": (["-q", "-f", "SMALL", "a", "--urls", "LARGE"], b"/b\n", DENIED + "0 allowed, 1 denied\n"),
+    "expectations": (["-f", "SMALL", "--expect", "LARGE"], b"allow a /b\n", "LARGE:1: a must be allowed /b, but line 1 denies it\n"),
+    "an older version": (["-f", "SMALL", "--compare", "LARGE", "a", "/b"], b"Allow: /\n", "crawler a /b: allow 1 -> deny 1\n"),
+}
+
+
+@pytest.mark.parametrize("what", OF_LARGE_FILES)
+def test_a_large_file_is_read(what, tmp_path):
+    args, beginning, end = OF_LARGE_FILES[what]
+    (tmp_path / "SMALL").write_bytes(b"Disallow: /\n")
+    (tmp_path / "LARGE").write_bytes(beginning + LARGE)
+    with (tmp_path / "LARGE").open("rb") as stdin:
+        result = run("robots_audit", args, stdin, cwd=tmp_path, timeout=300)
+    assert (result.status, result.out.endswith(end)) == (1, True), result.err
+
+
+@pytest.mark.parametrize("length", [255, 256, 1_001, 4_095])
+def test_a_file_with_a_long_path_is_read(length, tmp_path):
+    """Linux opens paths of up to 4,095 bytes."""
+    (tmp_path / "a").write_bytes(b"Disallow: /\n")
+    path = "./" * (length // 2) + "a" if length % 2 else ".//" + "./" * (length // 2 - 2) + "a"
+    result = run("robots_audit", ["-q", "-f", path, "a", "/b"], cwd=tmp_path)
+    assert (len(path), result.status, result.out) == (length, 1, DENIED), result.err

@@ -89,6 +89,17 @@ crawler Googlebot /cart: allow -> deny 6
     assert outcome(compare(tmp_path, OLD, NEW, "Googlebot", *urls)) == (1, GOOGLEBOT + lines, "")
 
 
+def test_a_url_is_asked_without_its_fragment(tmp_path):
+    """In a path, `#` is a byte like others."""
+    lines = """crawler Ferris: - Disallow: /a$ (line 1)
+crawler Ferris https://e.com/a#b: deny 1 -> allow
+crawler Ferris https://e.com/a#c: deny 1 -> allow
+"""
+    (tmp_path / "list.txt").write_bytes(b"https://e.com/a#c\n/a#c\n")
+    words = ["--urls", "list.txt", "Ferris", "https://e.com/a#b", "/a#b"]
+    assert outcome(compare(tmp_path, b"Disallow: /a$", b"", *words)) == (1, lines, "")
+
+
 def test_urls_in_a_file(tmp_path):
     """They come after those of the command line, and only those whose verdict differs have a line."""
     (tmp_path / "list.txt").write_bytes(b"# pages\n/\n /cart \r\nhttps://shop.example/search/milk\n")
@@ -223,13 +234,13 @@ def test_agent_is_missing(tmp_path):
     assert outcome(compare(tmp_path, OLD, NEW)) == (2, "", MISSING)
 
 
-@pytest.mark.parametrize("name, shown", [("", ""), ("Googlebot/2.1", "Googlebot/2.1"), ("Googlebot.2", "Googlebot.2"), ("Googlebot*", "Googlebot*"), (" Bingbot", " Bingbot"), ("a\x1bb", "a%1Bb"), ("Caf\u00e9", "Caf\u00e9")])
+@pytest.mark.parametrize("name, shown", [("", '""'), ("Googlebot/2.1", "Googlebot/2.1"), ("Googlebot.2", "Googlebot.2"), ("Googlebot*", "Googlebot*"), (" Bingbot", " Bingbot"), ("a\x1bb", "a%1Bb"), ("Caf\u00e9", "Caf\u00e9")])
 def test_name_that_no_crawler_has(tmp_path, name, shown):
     for words in ([name], ["--agent=Ferris", f"--agent={name}"]):
         assert outcome(compare(tmp_path, OLD, OLD, *words)) == (2, "", f"robots_audit: {shown}: {AGENT}\n")
 
 
-@pytest.mark.parametrize("url, shown", [("", ""), ("products/tea", "products/tea"), ("*", "*"), ("e.com/a", "e.com/a"), ("ftp://e.com/a", "ftp://e.com/a"), ("https:/a", "https:/a"), ("https://", "https://"), ("http://[1/a", "http://[1/a"), (" /a", " /a"), ("a\x1bb", "a%1Bb")])
+@pytest.mark.parametrize("url, shown", [("", '""'), ("products/tea", "products/tea"), ("*", "*"), ("e.com/a", "e.com/a"), ("ftp://e.com/a", "ftp://e.com/a"), ("https:/a", "https:/a"), ("https://", "https://"), ("http://[1/a", "http://[1/a"), (" /a", " /a"), ("a\x1bb", "a%1Bb")])
 def test_neither_a_path_nor_a_url(tmp_path, url, shown):
     for words in (["Ferris", url], ["--agents", "/", "https://e.com/a", "HTTP://e.com", url, "tea"]):
         assert outcome(compare(tmp_path, OLD, NEW, *words)) == (2, "", f"robots_audit: {shown}: {URL}\n")

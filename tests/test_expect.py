@@ -67,6 +67,43 @@ AT_GOOGLE = {
     "allowed here": (b"deny Googlebot-News /news/1", "Googlebot-News must be denied /news/1, but no rule matches it"),
 }
 
+OTHERWISE = "where an empty Disallow is no rule, as for RFC 9309 and Google, line"
+
+# a site that is closed, and a group that is added below, such as by a plugin
+CLOSED = b"User-agent: *\nDisallow: /\n\nUser-agent: *\nDisallow:\n"
+
+# files with an empty Disallow, which is an Allow of `/` here and no rule for RFC 9309 and Google, an expectation, and what is reported on it
+EMPTY_DISALLOW = {
+    "below a closed site": (CLOSED, b"allow Googlebot /", f"Googlebot must be allowed /, but {OTHERWISE} 2 denies it"),
+    "a URL": (CLOSED, b"allow Googlebot https://e.com#a", f"Googlebot must be allowed https://e.com#a, but {OTHERWISE} 2 denies it"),
+    "robots.txt": (CLOSED, b"allow Googlebot /robots.txt", None),
+    "denied in the other reading alone": (CLOSED, b"deny Googlebot /", "Googlebot must be denied /, but line 5 allows it"),
+    "a star": (b"User-agent: *\nDisallow:\nDisallow: *", b"allow Ferris /a", f"Ferris must be allowed /a, but {OTHERWISE} 3 denies it"),
+    "the first of two": (b"User-agent: *\nDisallow: *\nDisallow: /\nDisallow:", b"allow Ferris /a", f"Ferris must be allowed /a, but {OTHERWISE} 2 denies it"),
+    "written otherwise": (b"User-agent: *\nDisallow: /\n \tDISSALLOW : \t# tea", b"allow Ferris /a", f"Ferris must be allowed /a, but {OTHERWISE} 2 denies it"),
+    "two of them": (b"User-agent: *\nDisallow:\nDisallow: /\nDisallow:", b"allow Ferris /a", f"Ferris must be allowed /a, but {OTHERWISE} 3 denies it"),
+    "an empty Allow": (b"User-agent: *\nDisallow: /\nDisallow:\nAllow:", b"allow Ferris /a", f"Ferris must be allowed /a, but {OTHERWISE} 2 denies it"),
+    "an Allow of the same length below": (b"User-agent: *\nDisallow: /\nDisallow:\nAllow: /", b"allow Ferris /a", None),
+    "an Allow of the same length above": (b"User-agent: *\nAllow: *\nDisallow:\nDisallow: /", b"allow Ferris /a", None),
+    "a longer Allow": (b"User-agent: *\nDisallow: /\nDisallow:\nAllow: /a", b"allow Ferris /a", None),
+    "another path": (b"User-agent: *\nDisallow: /b\nDisallow:", b"allow Ferris /a", None),
+    "denied by a longer rule": (b"User-agent: *\nDisallow: /a\nDisallow:", b"deny Ferris /a", None),
+    "another group": (b"User-agent: GPTBot\nDisallow: /\n\nUser-agent: *\nDisallow:", b"allow Ferris /a", None),
+    "a group of its own": (b"User-agent: *\nDisallow: /\n\nUser-agent: Ferris\nDisallow:", b"allow Ferris /a", None),
+    "the end of a list of names": (b"User-agent: Ferris\nDisallow:\nUser-agent: *\nDisallow: /", b"allow Ferris /a", None),
+    "no user-agent line": (b"Disallow:\nDisallow: /", b"allow Ferris /a", f"Ferris must be allowed /a, but {OTHERWISE} 2 denies it"),
+    "the group of Googlebot": (b"User-agent: Googlebot\nDisallow: /\nDisallow:\n\nUser-agent: *\nDisallow: /b", b"allow Googlebot-News /a", f"Googlebot-News must be allowed /a, {GOOGLEBOT} Googlebot-News, and {OTHERWISE} 2 denies it"),
+    "a file past the size limit": (b"User-agent: *\nDisallow: /\nDisallow:\n" + b"#" * 512_000 + b"\nAllow: /", b"allow Ferris /a", f"Ferris must be allowed /a, but {OTHERWISE} 2 denies it"),
+    "a byte order mark and a NUL": (b"\xef\xbb\xbfUser-agent: *\nDisallow: /\0Disallow:\0", b"allow Ferris /a", f"Ferris must be allowed /a, but {OTHERWISE} 2 denies it"),
+}
+
+# a URL is asked without its fragment
+FRAGMENT = {
+    "allowed": (b"allow FerrisBot https://example.com/a#b", "FerrisBot must be allowed https://example.com/a#b, but line 2 denies it"),
+    "denied": (b"deny FerrisBot HTTP://example.com/a#b", None),
+    "robots.txt": (b"deny FerrisBot https://example.com/robots.txt#b", "FerrisBot must be denied https://example.com/robots.txt#b, but /robots.txt is always allowed"),
+}
+
 FORM = 'write "allow AGENT URL" or "deny AGENT URL"'
 NOT_UTF_8 = "the line isn't valid UTF-8"
 AGENT = "AGENT isn't a product token without a version, such as Googlebot"
@@ -133,6 +170,18 @@ def test_urls_in_the_form_that_crawlers_ask_for(tmp_path, url):
 def test_crawler_of_google(tmp_path, text, line):
     expected = (1, f"expect.txt:1: {line}\n", "") if line else (0, "1 expectation holds\n", "")
     assert outcome(check(tmp_path, text, robots=GOOGLE)) == expected
+
+
+@pytest.mark.parametrize("robots, text, line", EMPTY_DISALLOW.values(), ids=EMPTY_DISALLOW)
+def test_other_reading_of_an_empty_disallow(tmp_path, robots, text, line):
+    expected = (1, f"expect.txt:1: {line}\n", "") if line else (0, "1 expectation holds\n", "")
+    assert outcome(check(tmp_path, text, robots=robots)) == expected
+
+
+@pytest.mark.parametrize("text, line", FRAGMENT.values(), ids=FRAGMENT)
+def test_a_url_is_asked_without_its_fragment(tmp_path, text, line):
+    expected = (1, f"expect.txt:1: {line}\n", "") if line else (0, "1 expectation holds\n", "")
+    assert outcome(check(tmp_path, text, robots=b"User-agent: *\nDisallow: /a$\n")) == expected
 
 
 def test_file_that_is_rejected_for_googlebot(tmp_path):

@@ -44,6 +44,12 @@ def test_each_line_is_a_url(tmp_path, text, lines):
     assert outcome(check(tmp_path, text, "Ferris")) == (1 if "deny" in out else 0, out, "")
 
 
+def test_a_url_is_asked_without_its_fragment(tmp_path):
+    """In a path, `#` is a byte like others."""
+    out = "group: * (Ferris has no group of its own)\ndelay: none\ndeny 2 https://e.com/a#b\nallow - /a#b\n1 allowed, 1 denied\n"
+    assert outcome(check(tmp_path, b"https://e.com/a#b\n/a#b\n", "Ferris", robots=b"User-agent: *\nDisallow: /a$\n")) == (1, out, "")
+
+
 def test_urls_of_the_command_line_come_first(tmp_path):
     out = "group: * (Ferris has no group of its own)\ndelay: none\nallow - /b\nallow - /a\ndeny 2 /private/\n2 allowed, 1 denied\n"
     assert outcome(check(tmp_path, b"/a\n/private/\n", "Ferris", "/b")) == (1, out, "")

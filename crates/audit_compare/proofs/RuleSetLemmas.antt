@@ -10,13 +10,14 @@ use Rattle.std.specs.List.{AllZip}
 use Rattle.std.proofs.lemmas.Map.Text.{btree_set_updates_text}
 use Rattle.std.proofs.lemmas.Slice.Eq.{bytes_eq-Decides}
 use Rattle.texting_robots.specs.Callers.{IsDenied, IsVerdict, LineValue, PlacedRule, Rule, placed_rules}
-use Rattle.texting_robots.specs.Callers.{prepared, rules_for, unplaced}
+use Rattle.texting_robots.specs.Callers.{rules_for, unplaced}
 use Rattle.robots_warnings.proofs.NameLemmas.{any_last, either}
 use Rattle.audit_compare.specs.declared.rule_sets.RuleSet.{RuleSet}
 use Rattle.audit_compare.specs.Compare.{ComparedValue, IsCompared, delay_changes, differences, group_changes}
 use Rattle.audit_compare.specs.Compare.{has_rule, has_same_rules, is_rejected, is_same_rule, is_unchanged}
 use Rattle.audit_compare.specs.Compare.{is_in_line_of, is_same_decision, rule_line, rules_lacked}
 use Rattle.audit_compare.specs.Compare.{rules_only_in, verdict_changes}
+use Rattle.audit_core.specs.Asked.{asked_target}
 use Rattle.audit_core.specs.Audit.{IsRuling, IsVerdictOn, VerdictValue}
 use Rattle.robots_io.specs.Verdicts.{IsDecisionOn}
 use Rattle.texting_robots.specs.declared.decision.Decision.{Decision}
@@ -216,10 +217,9 @@ module _ (agent : List ℕ) (older newer : List LineValue) (compared : ComparedV
     (removed : compared.removed ≡ []) (added : compared.added ≡ [])
     (alike : (text : List ℕ) (allowed : Bool) → IsVerdict (rules_for agent older) text allowed
     → IsVerdict (rules_for agent newer) text allowed) where
-  same_decision : (url : List ℕ) (one other : Decision) → IsDecisionOn (placed_rules agent older) url one
-      → IsDecisionOn (placed_rules agent newer) url other → is_same_decision compared one other ≡ true
-  same_decision url one other is too =
-      let text = prepared url in
+  same_decision : (text : List ℕ) (one other : Decision) → IsDecisionOn (placed_rules agent older) text one
+      → IsDecisionOn (placed_rules agent newer) text other → is_same_decision compared one other ≡ true
+  same_decision text one other is too =
       let same = one_verdict (rules_for agent newer) text one.allowed other.allowed
       (alike text one.allowed is.verdict) too.verdict in
       rw (
@@ -241,7 +241,7 @@ module _ (agent : List ℕ) (older newer : List LineValue) (compared : ComparedV
   none_differs (url ∷ urls) [] others are too = absurd are
   none_differs (url ∷ urls) (one ∷ ones) [] are too = absurd too
   none_differs (url ∷ urls) (one ∷ ones) (other ∷ others) (is, more) (also, rest) =
-      rw (same_decision url one.decision other.decision is.decided also.decided)
+      rw (same_decision (asked_target url) one.decision other.decision is.decided also.decided)
       (none_differs urls ones others more rest)
 
   none_ruled : (urls : List (List ℕ)) (one other : Option ℕ) (ones others : List VerdictValue)

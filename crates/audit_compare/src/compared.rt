@@ -6,9 +6,10 @@ ghost use Rattle.audit_compare.specs.Compare.{IsCompared, rules_only_in};
 ghost use Rattle.audit_core.specs.Internal.{agent_value};
 ghost use Rattle.audit_compare.specs.Internal.Compare.{IsVersion, compared_value};
 
-use crate::rule_sets::{Rule, RuleSet, rules_for, rules_lacked};
+use crate::rule_sets::{RuleSet, rules_lacked};
 use audit_core::audit::{AgentAudit, agent_audit};
 use audit_core::fault::Fault;
+use audit_core::rules::{Rule, rules_for};
 use robots_warnings::facts::facts_of;
 use robots_warnings::file::labels_for;
 use std::alloc::{AllocError, Global};

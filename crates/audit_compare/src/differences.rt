@@ -11,10 +11,10 @@ ghost use Rattle.audit_core.specs.Internal.{agent_value, verdict_value};
 ghost use Rattle.audit_compare.specs.Internal.Compare.{compared_value};
 
 use crate::compared::Compared;
-use crate::rule_sets::Rule;
 use audit_core::audit::{AgentAudit, Verdict};
 use audit_core::delay::push_delay_text;
 use audit_core::group::Group;
+use audit_core::rules::Rule;
 use audit_core::texts::push_rejected;
 use robots_io::lines::push_number;
 use robots_io::sanitize::push_sanitized;

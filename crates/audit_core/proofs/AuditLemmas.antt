@@ -11,11 +11,12 @@ use Rattle.texting_robots.specs.Callers.{AnswerAlike, HasLines, IsDelayFor, IsRo
 use Rattle.texting_robots.specs.Callers.{PlacedRule}
 use Rattle.texting_robots.specs.Callers.{RobotValue, delay_for, file_limit, group_name, lines_read}
 use Rattle.texting_robots.specs.Callers.{label_by_value}
-use Rattle.texting_robots.specs.Callers.{placed_rules, prepared}
+use Rattle.texting_robots.specs.Callers.{placed_rules}
 use Rattle.texting_robots.specs.Labels.{label_at}
 use Rattle.texting_robots.proofs.GivenLemmas.{delay_is_computed}
 use Rattle.texting_robots.proofs.MainTheoremLemmas.{answers_computed, lines_are_read, of_lines, read_robot}
 use Rattle.robots_warnings.specs.File.{lines_of, labels_for}
+use Rattle.audit_core.specs.Asked.{asked_target}
 use Rattle.audit_core.specs.Audit.{AgentValue, IsAgentAudit, IsRuling, IsVerdictOn, VerdictValue}
 use Rattle.audit_core.specs.Audit.{agents_requested, all_allowed, allows_all, group_of, rejects_some}
 use Rattle.audit_core.specs.Internal.{agent_value, verdict_value}
@@ -96,7 +97,7 @@ verdicts_like rules others alike [] [] are = tt
 verdicts_like rules others alike [] (_ ∷ _) are = absurd are
 verdicts_like rules others alike (_ ∷ _) [] are = absurd are
 verdicts_like rules others alike (url ∷ urls) (verdict ∷ verdicts) (first, later) =
-    let text = prepared url in (
+    let text = asked_target url in (
       record {
         url_is = first.url_is;
         decided = record {

@@ -1,18 +1,27 @@
 -- Messages for errors are printable.
-use Rattle.std.proofs.Common.{◌≡◌, ℕ, true, List, [], ◌∷◌, ◌++◌, codes, refl, subst, sym}
+use Rattle.std.proofs.Common.{◌≡◌, ℕ, Bool, true, false, List, [], ◌∷◌, ◌++◌, codes, refl, subst, sym}
+use Rattle.std.specs.Prelude.{◌==◌, if◌then◌else◌, length}
 use Rattle.robots_io.specs.Lines.{lf}
-use Rattle.robots_io.specs.Sanitize.{IsPrintable}
-use Rattle.robots_io.proofs.SanitizeLemmas.{append_printable, ascii_printable}
+use Rattle.robots_io.specs.Sanitize.{IsPrintable, sanitized}
+use Rattle.robots_io.proofs.SanitizeLemmas.{append_printable, ascii_printable, sanitized_printable}
 use Rattle.audit_core.specs.declared.fault.Fault.{Fault}
 use Rattle.audit_core.specs.declared.fault.Fault.TheVariants.{Empty, File, Malformed, Memory, NotUtf8}
 use Rattle.audit_core.specs.declared.fault.Fault.TheVariants.{Read, StdinTwice, UnknownWarning, Usage}
 use Rattle.audit_core.specs.declared.fault.Fault.TheVariants.{Words, Write}
-use Rattle.audit_core.specs.Fault.{MayFail, fault_text}
+use Rattle.audit_core.specs.Fault.{MayFail, fault_text, text_shown}
 
 -- the message for an error with a name
 pub named_printable : (before name after : List ℕ) → IsPrintable before → IsPrintable name → IsPrintable after
     → IsPrintable (codes "robots_audit: " ++ (before ++ name) ++ after ++ lf ∷ [])
 named_printable before name after first is last = search (append_printable true, ascii_printable true)
+
+shown_printable : (is_empty : Bool) (text : List ℕ)
+    → IsPrintable (if is_empty then codes "\"\"" else sanitized text)
+shown_printable true text = ascii_printable true (codes "\"\"") refl
+shown_printable false text = sanitized_printable text
+
+pub text_shown_printable : (text : List ℕ) → IsPrintable (text_shown text)
+text_shown_printable text = shown_printable (length text == 0) text
 
 pub memory_printable : (fault : Fault) → fault ≡ Memory → IsPrintable (fault_text fault)
 memory_printable fault is =

@@ -1,4 +1,5 @@
 pub mod AgentLemmas
+pub mod AskedLemmas
 pub mod AuditLemmas
 pub mod DelayLemmas
 pub mod EscapeLemmas

@@ -15,6 +15,7 @@ use Rattle.robots_needless.specs.declared.needless.NeedlessRule.{NeedlessRule}
 use Rattle.robots_warnings.specs.Facts.{facts_of, is_too_large}
 use Rattle.robots_warnings.specs.File.{labels_for}
 use Rattle.robots_warnings.specs.Warnings.{WarningValue, warnings}
+use Rattle.audit_core.specs.Asked.{asked_target}
 use Rattle.audit_core.specs.Chosen.{chosen}
 use Rattle.audit_core.specs.Needless.{needless_warning}
 use Rattle.audit_core.specs.Syntax.{syntax_of}
@@ -63,10 +64,10 @@ pub record AgentValue : Type 0 where
   pub rejected : Option ℕ
   pub verdicts : List VerdictValue
 
--- the URL, and the decision of the rules on it
+-- the URL as it is given, and the decision of the rules on what crawlers ask for
 pub record IsVerdictOn (rules : List PlacedRule) (url : List ℕ) (verdict : VerdictValue) : Type 0 where
   pub url_is : verdict.url ≡ url
-  pub decided : IsDecisionOn rules url verdict.decision
+  pub decided : IsDecisionOn rules (asked_target url) verdict.decision
 
 -- either the file isn't rejected for the crawler, and these are the verdicts on the URLs; or its first
 -- overlong rule is in line `rejected`, and there are no verdicts

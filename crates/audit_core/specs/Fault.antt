@@ -1,6 +1,6 @@
 -- The message for each error, and the exit status.
 use Rattle.std.specs.Prelude.{ℕ, not, List, [], ◌∷◌, ◌++◌, Result, Ok, Err, ⊤, codes, if◌then◌else◌}
-use Rattle.std.specs.Prelude.{string_bytes, ◌≡◌}
+use Rattle.std.specs.Prelude.{length, string_bytes, ◌==◌, ◌≡◌}
 use Rattle.robots_io.specs.Lines.{lf}
 use Rattle.robots_io.specs.declared.streams.ReadFault.{ReadFault}
 use Rattle.robots_io.specs.declared.streams.ReadFault.TheVariants as read
@@ -99,7 +99,12 @@ abbrev pub fault_of_read : ReadFault → Fault
 fault_of_read read.Read = Read
 fault_of_read read.Memory = Memory
 
+-- what errors show of a text in arguments: it sanitized, or quotes for an empty one, as that of an unset
+-- variable
+abbrev pub text_shown : List ℕ → List ℕ
+text_shown text = if length text == 0 then codes "\"\"" else sanitized text
+
 -- the error reports that no warning has this name, or an allocation failed
 abbrev pub IsUnknown : List ℕ → Fault → Type 0
-IsUnknown name (UnknownWarning text) = string_bytes text ≡ sanitized name
+IsUnknown name (UnknownWarning text) = string_bytes text ≡ text_shown name
 IsUnknown name fault = fault ≡ Memory

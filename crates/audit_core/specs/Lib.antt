@@ -4,6 +4,7 @@ pub mod Texts
 pub mod Fault
 pub mod Delay
 pub mod Rows
+pub mod Asked
 pub mod Audit
 pub mod Chosen
 pub mod Color

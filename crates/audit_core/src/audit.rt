@@ -14,13 +14,13 @@ ghost use Rattle.robots_warnings.specs.Warnings.{warnings};
 ghost use Rattle.audit_core.specs.Internal.{IsReading, agent_value, audit_value, verdict_value};
 
 use crate::agents::agents_requested;
+use crate::asked::decision_on;
 use crate::chosen::chosen;
 use crate::fault::Fault;
 use crate::group::{Group, group_of};
 use crate::needless::{add_needless, needless_rules};
 use crate::request::Request;
 use crate::syntax::{Syntax, syntax_of};
-use robots_io::verdicts::decision_on;
 use robots_needless::needless::NeedlessRule;
 use robots_warnings::facts::{FileFacts, facts_of};
 use robots_warnings::file::{counted, labels_for};
@@ -88,10 +88,10 @@ fn verdicts_on<'a>(
     alloc: Global,
     robot: &Robot,
     urls: &[&'a str],
-) -> Result<Vec<Verdict<'a>>, Error>
+) -> Result<Vec<Verdict<'a>>, Fault>
     ensures ok { IfOk result (λ verdicts. AllZip (IsVerdictOn robot.now.rules) (map (λ url. url.now) urls.now)
         (map verdict_value verdicts.items)) }
-    ensures memory { IfErr result (λ error. error ≡ Error.Memory) }
+    ensures fault { IfErr result (λ fault. fault ≡ Fault.Memory) }
 {
     let mut verdicts = Vec::with_capacity(alloc, urls.len())?;
     for url in urls {
@@ -119,17 +119,16 @@ pub fn agent_audit<'a>(
     let group = group_of(agent, site, has_agents);
     let name = String::from_str(alloc, agent)?;
     match read_for(alloc, agent, file, site)? {
-        Reading::Accepted(robot) => match verdicts_on(alloc, &robot, urls) {
-            Ok(verdicts) => Ok(AgentAudit {
+        Reading::Accepted(robot) => {
+            let verdicts = verdicts_on(alloc, &robot, urls)?;
+            Ok(AgentAudit {
                 agent: name,
                 group,
                 delay: robot.delay,
                 rejected: None,
                 verdicts,
-            }),
-            Err(Error::Memory) => Err(Fault::Memory),
-            Err(Error::InvalidRobots | Error::InvalidRule) => unreachable!(),
-        },
+            })
+        }
         Reading::Rejected(line) => Ok(AgentAudit {
             agent: name,
             group,

@@ -1,6 +1,6 @@
 //! Colors of warnings on a terminal.
 ghost use Rattle.std.specs.Prelude.{◌≡◌, option_map, true};
-ghost use Rattle.audit_core.specs.Color.{requested_colors, shown_word};
+ghost use Rattle.audit_core.specs.Color.{default_colors, is_dumb, is_set, requested_colors, shown_word};
 
 use robots_warnings::level::Level;
 use std::env::{self, VarError};
@@ -39,24 +39,43 @@ pub fn requested_colors(word: Option<&str>, by_default: bool) -> bool
     }
 }
 
+/// What an environment variable contains, or why that isn't known.
+type Variable = Result<String, VarError>;
+
 /// Whether an environment variable is set and not empty, or can't be read.
-fn is_set(rt: &HostRuntime, name: &str) -> bool {
-    match env::var(rt, name) {
+fn is_set(variable: &Variable) -> bool
+    ensures { result ≡ is_set variable.now }
+{
+    match variable {
         Ok(value) => !value.is_empty(),
         Err(error) => !matches!(error, VarError::NotPresent),
     }
 }
 
-/// Whether the terminal can't show colors.
-fn is_dumb(rt: &HostRuntime) -> bool {
-    match env::var(rt, "TERM") {
+/// Whether this is the name of a terminal that can't show colors.
+fn is_dumb(name: &Variable) -> bool
+    ensures { result ≡ is_dumb name.now }
+{
+    match name {
         Ok(name) => name.as_str() == "dumb",
         Err(_) => false,
     }
 }
 
+/// Whether warnings have colors by default, with these values of NO_COLOR and TERM.
+fn default_colors(is_terminal: bool, no_color: &Variable, term: &Variable) -> bool
+    ensures { result ≡ default_colors is_terminal no_color.now term.now }
+{
+    is_terminal && !is_set(no_color) && !is_dumb(term)
+}
+
 /// Whether warnings have colors by default: if standard error is a terminal that can show them, unless NO_COLOR is set
 /// and not empty.
 pub fn colors_by_default(rt: &HostRuntime) -> bool {
-    rt.stderr().is_terminal() && !is_set(rt, "NO_COLOR") && !is_dumb(rt)
+    let is_terminal = rt.stderr().is_terminal();
+    default_colors(
+        is_terminal,
+        &env::var(rt, "NO_COLOR"),
+        &env::var(rt, "TERM"),
+    )
 }

@@ -7,8 +7,7 @@ ghost use Rattle.robots_warnings.specs.Rules.{has};
 ghost use Rattle.audit_core.specs.Crawler.{single};
 ghost use Rattle.audit_core.specs.Crawler.{IsNoCrawler, IsNoCrawlerIn, has_version, is_crawler_name, is_own_name};
 
-use crate::fault::{Fault, Flaw};
-use robots_io::sanitize::push_sanitized;
+use crate::fault::{Fault, Flaw, text_shown};
 use robots_warnings::tokens::{are_name_bytes, has_space_around};
 use std::alloc::{AllocError, Global};
 
@@ -62,9 +61,8 @@ pub fn single<'a>(agents: &[&'a str]) -> Option<&'a str>
 fn no_crawler(alloc: Global, name: &str) -> Fault
     ensures { IsNoCrawler name.now result }
 {
-    let mut shown = String::new(alloc);
-    match push_sanitized(&mut shown, name.as_bytes()) {
-        Ok(()) => Fault::Malformed(shown, Flaw::Agent),
+    match text_shown(alloc, name) {
+        Ok(text) => Fault::Malformed(text, Flaw::Agent),
         Err(AllocError) => Fault::Memory,
     }
 }

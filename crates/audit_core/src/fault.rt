@@ -1,6 +1,6 @@
 //! The end of a run: its outcome or its error, the message on standard error, and the exit status.
-ghost use Rattle.std.specs.Prelude.{◌≡◌};
-ghost use Rattle.audit_core.specs.Fault.{flaw_text, none_text, status_after, usage_after, IsUnknown};
+ghost use Rattle.std.specs.Prelude.{◌≡◌, IfOk, string_bytes};
+ghost use Rattle.audit_core.specs.Fault.{flaw_text, text_shown, none_text, status_after, usage_after, IsUnknown};
 
 use robots_io::sanitize::push_sanitized;
 use robots_io::streams::{ReadFault, WriteFault};
@@ -55,12 +55,12 @@ pub enum Fault {
     Usage,
     /// An argument isn't UTF-8.
     NotUtf8,
-    /// No warning has this name, which is sanitized.
+    /// No warning has this name, as `text_shown` shows it.
     UnknownWarning(String),
-    /// The file with this name, which is sanitized, can't be opened or read.
+    /// The file with this name, as `text_shown` shows it, can't be opened or read.
     File(String),
-    /// The line that this text names, a file's sanitized name and a number, is malformed. Or the text is a sanitized name
-    /// that no crawler has, or a sanitized text that is no URL.
+    /// The line that this text names, a file's sanitized name and a number, is malformed. Or the text is a name that no
+    /// crawler has, or one that is no URL, as `text_shown` shows it.
     Malformed(String, Flaw),
     /// The file with this name, which is sanitized, has none of these entries.
     Empty(String, Entry),
@@ -215,13 +215,25 @@ pub fn status_after(outcome: &Result<Outcome, Fault>) -> u8
     }
 }
 
+/// What errors show of a text in arguments: it sanitized, or quotes for an empty one, as that of an unset variable.
+pub fn text_shown(alloc: Global, text: &str) -> Result<String, AllocError>
+    ensures { IfOk result (λ shown. string_bytes shown ≡ text_shown text.now) }
+{
+    let mut shown = String::new(alloc);
+    if text.is_empty() {
+        shown.push_str("\"\"")?;
+    } else {
+        push_sanitized(&mut shown, text.as_bytes())?;
+    }
+    Ok(shown)
+}
+
 /// The error for a name that no warning has; `Fault::Memory` if an allocation fails.
 pub fn unknown(alloc: Global, name: &str) -> Fault
     ensures { IsUnknown name.now result }
 {
-    let mut sanitized = String::new(alloc);
-    match push_sanitized(&mut sanitized, name.as_bytes()) {
-        Ok(()) => Fault::UnknownWarning(sanitized),
+    match text_shown(alloc, name) {
+        Ok(text) => Fault::UnknownWarning(text),
         Err(AllocError) => Fault::Memory,
     }
 }

@@ -4,6 +4,7 @@
 #![tactic(auto)]
 
 pub mod agents;
+pub mod asked;
 pub mod audit;
 mod chosen;
 pub mod color;
@@ -15,6 +16,7 @@ mod needless;
 pub mod print;
 pub mod request;
 pub mod rows;
+pub mod rules;
 pub mod sitemaps;
 pub mod syntax;
 pub mod texts;

@@ -19,8 +19,8 @@ use Rattle.audit_core.specs.Crawler.{IsNoCrawler}
 use Rattle.audit_expect.specs.Expect.{MalformedLine}
 use Rattle.audit_expect.specs.Expectations.{IsEntryFault, place_text}
 use Rattle.audit_expect.specs.UrlList.{IsMalformedUrl, IsMalformedUrlIn}
-use Rattle.audit_core.specs.Fault.{fault_text, flaw_text, none_text}
-use Rattle.audit_core.proofs.FaultLemmas.{memory_printable, named_printable}
+use Rattle.audit_core.specs.Fault.{fault_text, flaw_text, text_shown, none_text}
+use Rattle.audit_core.proofs.FaultLemmas.{memory_printable, text_shown_printable, named_printable}
 
 -- it isn't a failed write
 pub entry_unwritten : {X : Type 0} (name : List ℕ) (entry : Entry) (found : Result (List X) MalformedLine)
@@ -80,14 +80,14 @@ pub no_crawler_printable : (name : List ℕ) (fault : Fault) → IsNoCrawler nam
 no_crawler_printable name fault (inl is) = memory_printable fault is
 no_crawler_printable name fault (inr (shown, named, is)) =
     subst (λ (fault : Fault). IsPrintable (fault_text fault)) (sym is)
-    (flawed_printable shown flaw.Agent (sanitized name) named (sanitized_printable name))
+    (flawed_printable shown flaw.Agent (text_shown name) named (text_shown_printable name))
 
 malformed_url_printable : (url : List ℕ) (fault : Fault) → IsMalformedUrl url fault
     → IsPrintable (fault_text fault)
 malformed_url_printable url fault (inl is) = memory_printable fault is
 malformed_url_printable url fault (inr (shown, named, is)) =
     subst (λ (fault : Fault). IsPrintable (fault_text fault)) (sym is)
-    (flawed_printable shown flaw.Url (sanitized url) named (sanitized_printable url))
+    (flawed_printable shown flaw.Url (text_shown url) named (text_shown_printable url))
 
 pub malformed_url_in_printable : (urls : List (List ℕ)) (fault : Fault) → IsMalformedUrlIn urls fault
     → IsPrintable (fault_text fault)

@@ -5,7 +5,7 @@ use Rattle.std.proofs.Common.{codes}
 use Rattle.std.proofs.Common.{decimal, filter, length, map, refl, subst, sym}
 use Rattle.std.specs.Prelude.{if◌then◌else◌}
 use Rattle.std.specs.List.{AllByRecursion as Each}
-use Rattle.texting_robots.specs.Callers.{prepared, robots_file}
+use Rattle.texting_robots.specs.Callers.{robots_file}
 use Rattle.robots_io.specs.Sanitize.{IsPrintable, sanitized}
 use Rattle.robots_io.proofs.CommandLemmas.{IsFront, IsMiddle, after_front, before_middle, decimal_middle}
 use Rattle.robots_io.proofs.CommandLemmas.{front_append, front_text, middle_text, sanitized_quiet}
@@ -18,8 +18,9 @@ use Rattle.audit_expect.specs.declared.checks.Finding.TheVariants.{Decided, Reje
 use Rattle.audit_expect.specs.Expect.{ExpectationValue}
 use Rattle.audit_expect.specs.Expectations.{CheckedValue, IsReport, decision_text, demand_text, demand_word}
 use Rattle.audit_expect.specs.Expectations.{failure_front, failure_line, fails, fails_here, finding_text}
-use Rattle.audit_expect.specs.Expectations.{google_text, place_text, reason_text}
-use Rattle.audit_expect.specs.Expectations.{holding_text, result_lines}
+use Rattle.audit_expect.specs.Expectations.{google_text, holding_text, is_unexpected, other_front, place_text}
+use Rattle.audit_expect.specs.Expectations.{reason_text, result_lines}
+use Rattle.audit_core.specs.Asked.{asked_target}
 use Rattle.audit_core.specs.Texts.{rejected_front}
 use Rattle.audit_core.proofs.ListLemmas.{each_map, either_printable}
 use Rattle.audit_core.proofs.QuietLemmas.{IsQuiet, either, rejected_front_is}
@@ -42,7 +43,7 @@ front_printable name expectation =
 decision_printable : (url : List ℕ) (allowed : Bool) (line : Option ℕ)
     → IsPrintable (decision_text url allowed line)
 decision_printable url allowed None =
-    either_printable true (bytes_eq (prepared url) robots_file) (codes "/robots.txt is always allowed")
+    either_printable true (bytes_eq (asked_target url) robots_file) (codes "/robots.txt is always allowed")
     (codes "no rule matches it") (ascii_printable true (codes "/robots.txt is always allowed") refl)
     (ascii_printable true (codes "no rule matches it") refl)
 decision_printable url true (Some line) =
@@ -50,24 +51,32 @@ decision_printable url true (Some line) =
 decision_printable url false (Some line) =
     search (append_printable true, ascii_printable true, decimal_printable true)
 
-finding_printable : (agent url : List ℕ) (finding : Finding) → IsPrintable (finding_text agent url finding)
-finding_printable agent url (Rejected line) =
+finding_printable : (agent url : List ℕ) (allowed : Bool) (finding : Finding)
+    → IsPrintable (finding_text agent url allowed finding)
+finding_printable agent url allowed (Rejected line) =
     search (append_printable true, ascii_printable true, decimal_printable true, sanitized_printable)
-finding_printable agent url (Decided decision) = decision_printable url decision.allowed decision.line
+finding_printable agent url allowed (Decided decision other) =
+    let text = decision_text url other.allowed other.line in
+    either_printable true (is_unexpected allowed decision) (decision_text url decision.allowed decision.line)
+    (other_front ++ text) (decision_printable url decision.allowed decision.line)
+    (append_printable true other_front text (ascii_printable true other_front refl)
+    (decision_printable url other.allowed other.line))
 
-google_printable : (agent url : List ℕ) (google : AtGoogle) → IsPrintable (google_text agent url google)
-google_printable agent url Same = nil_printable true
-google_printable agent url (Googlebot finding) =
+google_printable : (agent url : List ℕ) (allowed : Bool) (google : AtGoogle)
+    → IsPrintable (google_text agent url allowed google)
+google_printable agent url allowed Same = nil_printable true
+google_printable agent url allowed (Googlebot finding) =
     search (append_printable true, ascii_printable true, sanitized_printable, finding_printable)
-google_printable agent url Nobody = search (append_printable true, ascii_printable true, sanitized_printable)
+google_printable agent url allowed Nobody = search (append_printable true, ascii_printable true, sanitized_printable)
 
 reason_printable : (checked : CheckedValue) → IsPrintable (reason_text checked)
 reason_printable checked =
     let agent = checked.expectation.agent in
     let url = checked.expectation.url in
-    either_printable true (fails_here checked) (finding_text agent url checked.finding)
-    (google_text agent url checked.google) (finding_printable agent url checked.finding)
-    (google_printable agent url checked.google)
+    let allowed = checked.expectation.allowed in
+    either_printable true (fails_here checked) (finding_text agent url allowed checked.finding)
+    (google_text agent url allowed checked.google) (finding_printable agent url allowed checked.finding)
+    (google_printable agent url allowed checked.google)
 
 failure_printable : (name : List ℕ) (checked : CheckedValue) → IsPrintable (failure_line name checked)
 failure_printable name checked =
@@ -130,28 +139,35 @@ line_quiet line how is =
 
 decision_quiet : (url : List ℕ) (allowed : Bool) (line : Option ℕ) → IsQuiet (decision_text url allowed line)
 decision_quiet url allowed None =
-    either IsQuiet (bytes_eq (prepared url) robots_file) (codes "/robots.txt is always allowed")
+    either IsQuiet (bytes_eq (asked_target url) robots_file) (codes "/robots.txt is always allowed")
     (codes "no rule matches it") refl refl
 decision_quiet url true (Some line) = line_quiet line (codes " allows it")
     (front_text (codes " allows it") refl)
 decision_quiet url false (Some line) = line_quiet line (codes " denies it")
     (front_text (codes " denies it") refl)
 
-finding_quiet : (agent url : List ℕ) (finding : Finding) → IsQuiet (finding_text agent url finding)
-finding_quiet agent url (Rejected line) =
+finding_quiet : (agent url : List ℕ) (allowed : Bool) (finding : Finding)
+    → IsQuiet (finding_text agent url allowed finding)
+finding_quiet agent url allowed (Rejected line) =
     after_front (codes "the file is ") (rejected_front agent line) (front_text (codes "the file is ") refl)
     (rejected_front_is agent line).quiet
-finding_quiet agent url (Decided decision) = decision_quiet url decision.allowed decision.line
+finding_quiet agent url allowed (Decided decision other) =
+    let text = decision_text url other.allowed other.line in
+    either IsQuiet (is_unexpected allowed decision) (decision_text url decision.allowed decision.line)
+    (other_front ++ text) (decision_quiet url decision.allowed decision.line)
+    (after_front other_front text (front_text other_front refl)
+    (decision_quiet url other.allowed other.line))
 
-google_quiet : (agent url : List ℕ) (google : AtGoogle) → IsQuiet (google_text agent url google)
-google_quiet agent url Same = refl
-google_quiet agent url (Googlebot finding) =
+google_quiet : (agent url : List ℕ) (allowed : Bool) (google : AtGoogle)
+    → IsQuiet (google_text agent url allowed google)
+google_quiet agent url allowed Same = refl
+google_quiet agent url allowed (Googlebot finding) =
     let to = codes "Google applies the group Googlebot to " in
     let named = after_front to (sanitized agent) (front_text to refl) (sanitized_quiet false agent) in
-    after_front (to ++ sanitized agent ++ codes ", and ") (finding_text (codes "Googlebot") url finding)
+    after_front (to ++ sanitized agent ++ codes ", and ") (finding_text (codes "Googlebot") url allowed finding)
     (before_middle (to ++ sanitized agent) (codes ", and ") named (middle_text (codes ", and ") refl))
-    (finding_quiet (codes "Googlebot") url finding)
-google_quiet agent url Nobody =
+    (finding_quiet (codes "Googlebot") url allowed finding)
+google_quiet agent url allowed Nobody =
     let to = codes "Google doesn't apply the group * to " in
     after_front to (sanitized agent) (front_text to refl) (sanitized_quiet false agent)
 
@@ -159,9 +175,10 @@ reason_quiet : (checked : CheckedValue) → IsQuiet (reason_text checked)
 reason_quiet checked =
     let agent = checked.expectation.agent in
     let url = checked.expectation.url in
-    either IsQuiet (fails_here checked) (finding_text agent url checked.finding)
-    (google_text agent url checked.google) (finding_quiet agent url checked.finding)
-    (google_quiet agent url checked.google)
+    let allowed = checked.expectation.allowed in
+    either IsQuiet (fails_here checked) (finding_text agent url allowed checked.finding)
+    (google_text agent url allowed checked.google) (finding_quiet agent url allowed checked.finding)
+    (google_quiet agent url allowed checked.google)
 
 failure_quiet : (name : List ℕ) (checked : CheckedValue) → IsQuiet (failure_line name checked)
 failure_quiet name checked =

@@ -9,19 +9,18 @@ use Rattle.std.specs.Io.KnownBytes.{Keeps}
 use Rattle.std.proofs.lemmas.List.{length-map, map-append, take_more}
 use Rattle.std.proofs.lemmas.List.Concat.{flat_map-append}
 use Rattle.std.proofs.lemmas.List.Elements.{filter-append}
-use Rattle.texting_robots.specs.Callers.{IsFirstOverlong, lines_read, placed_rules, prepared}
+use Rattle.texting_robots.specs.Callers.{IsRejected, IsRobotOfFile, RobotValue, file_limit, lines_read}
+use Rattle.texting_robots.specs.Callers.{placed_rules}
+use Rattle.texting_robots.specs.declared.decision.Decision.{Decision}
 use Rattle.texting_robots.proofs.MainTheoremLemmas.{answers_computed, read_robot}
 use Rattle.robots_io.specs.Lines.{ended, lf}
 use Rattle.robots_io.specs.Sanitize.{IsPrintable}
+use Rattle.robots_io.specs.Verdicts.{IsDecisionOn}
 use Rattle.robots_io.proofs.SanitizeLemmas.{nil_printable}
 use Rattle.robots_io.specs.declared.streams.ReadFault.{ReadFault}
 use Rattle.robots_io.specs.declared.streams.ReadFault.TheVariants as cause
-use Rattle.audit_core.specs.declared.audit.Reading.{Reading}
-use Rattle.audit_core.specs.declared.audit.Reading.TheVariants as reading
 use Rattle.audit_expect.specs.declared.expect.Expectation.{Expectation}
-use Rattle.audit_expect.specs.declared.checks.Finding.{Finding}
 use Rattle.audit_expect.specs.declared.expectations.Results.{Results}
-use Rattle.audit_expect.specs.declared.checks.Finding.TheVariants.{Decided, Rejected}
 use Rattle.audit_core.specs.declared.fault.Entry.TheVariants as entry
 use Rattle.audit_core.specs.declared.fault.Fault.{Fault}
 use Rattle.audit_core.specs.declared.fault.Fault.TheVariants.{Memory, Write}
@@ -29,12 +28,11 @@ use Rattle.audit_core.specs.declared.fault.Outcome.{Outcome}
 use Rattle.audit_core.specs.Run.{Ends}
 use Rattle.audit_expect.specs.Expect.{ExpectationValue, expectations_in}
 use Rattle.audit_expect.specs.Expectations.{CheckedValue, Checks, IsChecked, IsEntryFault, IsFaultOf}
-use Rattle.audit_expect.specs.Expectations.{IsFindingOn, IsReport, WritesBeginning, failure_line, fails}
+use Rattle.audit_expect.specs.Expectations.{IsReport, WritesBeginning, failure_line, fails}
 use Rattle.audit_expect.specs.Expectations.{holding_text}
 use Rattle.audit_core.specs.Fault.{fault_of_read, fault_text, message_after}
-use Rattle.audit_core.specs.Internal.{IsReading}
 use Rattle.audit_expect.specs.Internal.Expect.{expectation_value}
-use Rattle.audit_expect.specs.Internal.Expectations.{AreFailuresOn, AreResultsOn, IsFindingBy, failures_at}
+use Rattle.audit_expect.specs.Internal.Expectations.{AreFailuresOn, AreResultsOn, failures_at}
 use Rattle.audit_core.proofs.RunLemmas.{bytes_are_left, bytes_left}
 use Rattle.audit_expect.proofs.EntryLemmas.{entry_printable, entry_unwritten}
 use Rattle.audit_core.proofs.FaultLemmas.{may_fail_printable}
@@ -42,20 +40,18 @@ use Rattle.audit_core.proofs.ListLemmas.{none_of, lines_empty}
 
 -- ---- findings
 
-pub finding_found : (agent file url : List ℕ) (how : Reading) (finding : Finding) → IsReading agent file how
-    → IsFindingBy how url finding → IsFindingOn (lines_read file) agent url finding
-finding_found agent file url (reading.Rejected line) (Rejected other) is by =
-    subst (IsFirstOverlong (placed_rules agent (lines_read file))) by is
-finding_found agent file url (reading.Rejected line) (Decided decision) is by = absurd by
-finding_found agent file url (reading.Accepted robot) (Rejected line) of by = absurd by
-finding_found agent file url (reading.Accepted robot) (Decided decision) of by =
+-- what the robot of a file decides is what the file's rules decide
+pub robot_found : (agent file target : List ℕ) (robot : RobotValue) (decision : Decision)
+    → IsRobotOfFile agent (take file_limit file) robot → IsDecisionOn robot.rules target decision
+    → (¬ IsRejected agent (lines_read file))
+    × IsDecisionOn (placed_rules agent (lines_read file)) target decision
+robot_found agent file target robot decision of by =
     let is = read_robot agent file robot of in
-    let alike = answers_computed agent (lines_read file) robot.rules is.rules in
-    let text = prepared url in (
+    let alike = answers_computed agent (lines_read file) robot.rules is.rules in (
       is.accepted,
       record {
-        verdict = (alike.verdicts text decision.allowed).0 by.verdict;
-        deciding = (alike.deciding text decision.line).0 by.deciding;
+        verdict = (alike.verdicts target decision.allowed).0 by.verdict;
+        deciding = (alike.deciding target decision.line).0 by.deciding;
       },
     )
 
@@ -81,7 +77,7 @@ no_failures name file report empty = record { checked = []; all = refl; found = 
 pub failures_next : (name file old new : List ℕ) (items : List Expectation) (place : ℕ) (d : Expectation)
     (next : CheckedValue) → place < length items
     → AreFailuresOn name file (map expectation_value (take place items)) old
-    → next.expectation ≡ expectation_value (slice_index_or items place d) → IsChecked (lines_read file) next
+    → next.expectation ≡ expectation_value (slice_index_or items place d) → IsChecked file next
     → new ≡ old ++ ended (failures_at name next)
     → AreFailuresOn name file (map expectation_value (take (place + 1) items)) new
 failures_next name file old new items place d next below are same is added =
@@ -95,7 +91,7 @@ failures_next name file old new items place d next below are same is added =
           same
           ∙ sym (ap (map expectation_value) (take_more items place d below)
           ∙ map-append expectation_value (take place items) (one ∷ []));
-      found = each_push (IsChecked (lines_read file)) are.checked next are.found is;
+      found = each_push (IsChecked file) are.checked next are.found is;
       whole =
           added ∙ ap (λ (t : List ℕ). t ++ ended (failures_at name next)) are.whole
           ∙ sym (failures_more name are.checked next);

@@ -5,8 +5,9 @@ use Rattle.std.specs.Prelude.{[], ◌∷◌, bytes_eq, codes, decimal, filter, i
 use Rattle.std.specs.Prelude.{string_bytes}
 use Rattle.std.specs.List.{AllByRecursion as Each}
 use Rattle.std.specs.Io.KnownBytes.{Appends, Keeps}
-use Rattle.texting_robots.specs.Callers.{IsFirstOverlong, IsRejected, LineValue, lines_read, placed_rules}
-use Rattle.texting_robots.specs.Callers.{prepared, robots_file}
+use Rattle.texting_robots.specs.Callers.{IsFirstOverlong, IsRejected, bodies_read, lines_read, placed_rules}
+use Rattle.texting_robots.specs.Callers.{robots_file}
+use Rattle.texting_robots.specs.declared.decision.Decision.{Decision}
 use Rattle.robots_io.specs.Lines.{ended}
 use Rattle.robots_io.specs.Sanitize.{sanitized}
 use Rattle.robots_io.specs.Streams.{AppendsBeginning}
@@ -22,27 +23,33 @@ use Rattle.audit_expect.specs.declared.checks.AtGoogle.{AtGoogle}
 use Rattle.audit_expect.specs.declared.checks.AtGoogle.TheVariants.{Googlebot, Nobody, Same}
 use Rattle.audit_expect.specs.declared.checks.Finding.{Finding}
 use Rattle.audit_expect.specs.declared.checks.Finding.TheVariants.{Decided, Rejected}
+use Rattle.audit_core.specs.Asked.{asked_target}
 use Rattle.audit_core.specs.Run.{Ends}
 use Rattle.audit_expect.specs.Expect.{ExpectationValue, MalformedLine, expectations_in}
+use Rattle.audit_expect.specs.OtherReading.{IsOtherDecision}
 use Rattle.audit_core.specs.Fault.{MayFail}
 use Rattle.audit_core.specs.Texts.{rejected_front}
 
 -- ---- what the robots.txt file says
 
--- the file is rejected for the crawler, and this is the line of its first overlong rule; or this is the
--- decision on the URL
-abbrev pub IsFindingOn : List LineValue → List ℕ → List ℕ → Finding → Type 0
-IsFindingOn lines agent url (Rejected line) = IsFirstOverlong (placed_rules agent lines) line
-IsFindingOn lines agent url (Decided decision) =
-    (¬ IsRejected agent lines) × IsDecisionOn (placed_rules agent lines) url decision
+-- the file is rejected for the crawler, and this is the line of its first overlong rule; or these are the
+-- decisions on the URL, where an empty Disallow is an Allow of `/`, as here, and where it is no rule
+abbrev pub IsFindingOn : List ℕ → List ℕ → List ℕ → Finding → Type 0
+IsFindingOn file agent url (Rejected line) = IsFirstOverlong (placed_rules agent (lines_read file)) line
+IsFindingOn file agent url (Decided decision other) =
+    let rules = placed_rules agent (lines_read file) in
+    (¬ IsRejected agent (lines_read file)) × IsDecisionOn rules (asked_target url) decision
+    × IsOtherDecision (bodies_read file) rules (asked_target url) other
 
 -- which of the two notes on Google's crawlers applies: neither; or Google applies the group of Googlebot, for
 -- which this is the finding, as names are compared here; or Google applies no group, so everything is allowed
-abbrev pub IsAtGoogle : List LineValue → List ℕ → List ℕ → AtGoogle → Type 0
-IsAtGoogle lines agent url Same = (gets_googlebots lines agent ≡ false) × (gets_nobodys lines agent ≡ false)
-IsAtGoogle lines agent url (Googlebot finding) =
-    (gets_googlebots lines agent ≡ true) × IsFindingOn lines (codes "Googlebot") url finding
-IsAtGoogle lines agent url Nobody = (gets_googlebots lines agent ≡ false) × (gets_nobodys lines agent ≡ true)
+abbrev pub IsAtGoogle : List ℕ → List ℕ → List ℕ → AtGoogle → Type 0
+IsAtGoogle file agent url Same =
+    (gets_googlebots (lines_read file) agent ≡ false) × (gets_nobodys (lines_read file) agent ≡ false)
+IsAtGoogle file agent url (Googlebot finding) =
+    (gets_googlebots (lines_read file) agent ≡ true) × IsFindingOn file (codes "Googlebot") url finding
+IsAtGoogle file agent url Nobody =
+    (gets_googlebots (lines_read file) agent ≡ false) × (gets_nobodys (lines_read file) agent ≡ true)
 
 -- an expectation and what the file says, here and at Google
 pub record CheckedValue : Type 0 where
@@ -50,14 +57,18 @@ pub record CheckedValue : Type 0 where
   pub finding : Finding
   pub google : AtGoogle
 
-pub record IsChecked (lines : List LineValue) (checked : CheckedValue) : Type 0 where
-  pub here : IsFindingOn lines checked.expectation.agent checked.expectation.url checked.finding
-  pub at_google : IsAtGoogle lines checked.expectation.agent checked.expectation.url checked.google
+pub record IsChecked (file : List ℕ) (checked : CheckedValue) : Type 0 where
+  pub here : IsFindingOn file checked.expectation.agent checked.expectation.url checked.finding
+  pub at_google : IsAtGoogle file checked.expectation.agent checked.expectation.url checked.google
 
--- the file is rejected for the crawler, or the decision isn't the expected one
+-- the decision isn't the expected one
+abbrev pub is_unexpected : Bool → Decision → Bool
+is_unexpected allowed decision = if allowed then not decision.allowed else decision.allowed
+
+-- the file is rejected for the crawler, or the decision isn't the expected one in one of the readings
 abbrev pub fails_at : Bool → Finding → Bool
 fails_at allowed (Rejected line) = true
-fails_at allowed (Decided decision) = if allowed then not decision.allowed else decision.allowed
+fails_at allowed (Decided decision other) = is_unexpected allowed decision || is_unexpected allowed other
 
 -- this is so of the group that applies here
 abbrev pub fails_here : CheckedValue → Bool
@@ -92,7 +103,7 @@ demand_text expectation =
 -- why a URL is allowed that no line decides; a denied URL has a line
 abbrev pub unmatched_text : List ℕ → List ℕ
 unmatched_text url =
-    if bytes_eq (prepared url) robots_file then codes "/robots.txt is always allowed"
+    if bytes_eq (asked_target url) robots_file then codes "/robots.txt is always allowed"
     else codes "no rule matches it"
 
 -- the line that decides, and how
@@ -101,24 +112,32 @@ decision_text url allowed None = unmatched_text url
 decision_text url allowed (Some line) =
     codes "line " ++ decimal line ++ (if allowed then codes " allows it" else codes " denies it")
 
-abbrev pub finding_text : List ℕ → List ℕ → Finding → List ℕ
-finding_text agent url (Rejected line) = codes "the file is " ++ rejected_front agent line
-finding_text agent url (Decided decision) = decision_text url decision.allowed decision.line
+-- what precedes it if the decision here is the expected one
+abbrev pub other_front : List ℕ
+other_front = codes "where an empty Disallow is no rule, as for RFC 9309 and Google, "
+
+-- why the decision isn't the expected one
+abbrev pub finding_text : List ℕ → List ℕ → Bool → Finding → List ℕ
+finding_text agent url allowed (Rejected line) = codes "the file is " ++ rejected_front agent line
+finding_text agent url allowed (Decided decision other) =
+    if is_unexpected allowed decision then decision_text url decision.allowed decision.line
+    else other_front ++ decision_text url other.allowed other.line
 
 -- which group Google applies, and what it says
-abbrev pub google_text : List ℕ → List ℕ → AtGoogle → List ℕ
-google_text agent url Same = []
-google_text agent url (Googlebot finding) =
+abbrev pub google_text : List ℕ → List ℕ → Bool → AtGoogle → List ℕ
+google_text agent url allowed Same = []
+google_text agent url allowed (Googlebot finding) =
     (codes "Google applies the group Googlebot to " ++ sanitized agent ++ codes ", and ")
-    ++ finding_text (codes "Googlebot") url finding
-google_text agent url Nobody = codes "Google doesn't apply the group * to " ++ sanitized agent
+    ++ finding_text (codes "Googlebot") url allowed finding
+google_text agent url allowed Nobody = codes "Google doesn't apply the group * to " ++ sanitized agent
 
 -- why an expectation fails
 abbrev pub reason_text : CheckedValue → List ℕ
 reason_text checked =
+    let expectation = checked.expectation in
     if fails_here checked
-    then finding_text checked.expectation.agent checked.expectation.url checked.finding
-    else google_text checked.expectation.agent checked.expectation.url checked.google
+    then finding_text expectation.agent expectation.url expectation.allowed checked.finding
+    else google_text expectation.agent expectation.url expectation.allowed checked.google
 
 -- where the expectation is, and what it is
 abbrev pub failure_front : List ℕ → ExpectationValue → List ℕ
@@ -145,7 +164,7 @@ result_lines name checked =
 pub record IsReport (name text file report : List ℕ) (all_hold : Bool) : Type 0 where
   pub checked : List CheckedValue
   pub all : expectations_in text ≡ Ok (map (λ (one : CheckedValue). one.expectation) checked)
-  pub found : Each (IsChecked (lines_read file)) checked
+  pub found : Each (IsChecked file) checked
   pub some : (length checked == 0) ≡ false
   pub whole : report ≡ ended (result_lines name checked)
   pub hold : all_hold ≡ (length (filter fails checked) == 0)

@@ -1,2 +1,3 @@
 pub mod Expect
 pub mod Expectations
+pub mod OtherReading

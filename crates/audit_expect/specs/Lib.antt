@@ -1,4 +1,5 @@
 pub mod Expect
 pub mod Expectations
+pub mod OtherReading
 pub mod UrlList
 pub mod Internal

@@ -5,8 +5,8 @@ use Rattle.std.specs.Global.{Global}
 use Rattle.std.specs.Char.{is_ascii_whitespace}
 use Rattle.std.specs.List.{find, prefix_len, suffix_len}
 use Rattle.std.specs.Str.{is_utf8}
-use Rattle.robots_io.specs.Sanitize.{sanitized}
 use Rattle.audit_core.specs.Request.{RequestValue}
+use Rattle.audit_core.specs.Fault.{text_shown}
 use Rattle.audit_expect.specs.Expect.{MalformedLine, entries_from, is_comment, is_path_or_url, lines}
 use Rattle.audit_core.specs.Crawler.{is_word}
 use Rattle.audit_expect.specs.Expectations.{IsEntryFault}
@@ -64,7 +64,7 @@ first_malformed urls = find (λ url. not (is_path_or_url url)) urls
 -- the error shows this URL, or an allocation failed
 abbrev pub IsMalformedUrl : List ℕ → Fault → Type 0
 IsMalformedUrl url fault = (fault ≡ Memory)
-    ⊎ ((shown : String Global) × (string_bytes shown ≡ sanitized url) × (fault ≡ Malformed shown Url))
+    ⊎ ((text : String Global) × (string_bytes text ≡ text_shown url) × (fault ≡ Malformed text Url))
 
 -- the error shows the first malformed one of these URLs, or an allocation failed
 abbrev pub IsMalformedUrlIn : List (List ℕ) → Fault → Type 0

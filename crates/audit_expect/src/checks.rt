@@ -1,26 +1,28 @@
 //! What a robots.txt file says about an expectation, here and at Google, and whether the expectation fails.
-ghost use Rattle.std.specs.Prelude.{◌≡◌, IfErr, IfOk, take};
-ghost use Rattle.texting_robots.specs.Callers.{file_limit, lines_read};
-ghost use Rattle.audit_expect.specs.Expectations.{IsAtGoogle, IsChecked, IsFindingOn, fails, fails_at, fails_at_google, fails_here};
+ghost use Rattle.std.specs.Prelude.{◌≡◌, IfErr, IfOk, map, take};
+ghost use Rattle.texting_robots.specs.Callers.{IsRobotOfFile, bodies_read, file_limit};
+ghost use Rattle.audit_expect.specs.Expectations.{IsAtGoogle, IsChecked, IsFindingOn, fails, fails_at, fails_at_google, fails_here, is_unexpected};
 ghost use Rattle.audit_core.specs.Internal.{IsReading};
-ghost use Rattle.audit_expect.specs.Internal.Expectations.{IsFindingBy, checked_value};
+ghost use Rattle.audit_expect.specs.Internal.Expectations.{checked_value};
+ghost use Rattle.audit_expect.specs.Internal.OtherReading.{is_empty_disallow};
 
 use crate::expect::Expectation;
+use crate::other_reading::other_decision;
+use audit_core::asked::decision_on;
 use audit_core::audit::{Reading, read_for};
 use audit_core::fault::Fault;
-use robots_io::verdicts::decision_on;
 use robots_warnings::google::{gets_googlebots, gets_nobodys};
 use std::alloc::Global;
 use texting_robots::robot::Decision;
-use texting_robots::{Error, Site};
+use texting_robots::{Robot, Site};
 
 /// What a file says about a URL for a crawler.
 #[derive(Drop)]
 pub(crate) enum Finding {
     /// The file is rejected for the crawler because of the rule in this line.
     Rejected(usize),
-    /// The decision on the URL.
-    Decided(Decision),
+    /// The decision on the URL, and the one where an empty Disallow is no rule.
+    Decided(Decision, Decision),
 }
 
 /// Which note on Google's crawlers applies to a crawler.
@@ -42,18 +44,48 @@ pub(crate) struct Checked<'a> {
     pub(crate) google: AtGoogle,
 }
 
-/// What a file that was read in this way says about a URL.
-fn finding_on(alloc: Global, reading: &Reading, url: &str) -> Result<Finding, Fault>
-    ensures ok { IfOk result (IsFindingBy reading.now url.now) }
+/// The decisions of a file on a URL for a crawler with this robot, where `empty` tells of each line whether it is an empty
+/// Disallow.
+fn decided_on(
+    alloc: Global,
+    agent: &str,
+    url: &str,
+    robot: &Robot,
+    file: &[u8],
+    site: &Site,
+    empty: &[bool],
+) -> Result<Finding, Fault>
+    requires robot { IsRobotOfFile agent.now (take file_limit file.now) robot.now }
+    requires site { site.now ≡ take file_limit file.now }
+    requires empty { empty.now ≡ map is_empty_disallow (bodies_read file.now) }
+    ensures ok { IfOk result (IsFindingOn file.now agent.now url.now) }
+    ensures fault { IfErr result (λ fault. fault ≡ Fault.Memory) }
+{
+    let decision = decision_on(alloc, robot, url)?;
+    let other = other_decision(alloc, agent, url, &decision, site, empty)?;
+    Ok(Finding::Decided(decision, other))
+}
+
+/// What a file says about a URL for a crawler, where `reading` is how it is read for the crawler, and `empty` tells of
+/// each line whether it is an empty Disallow.
+fn finding_on(
+    alloc: Global,
+    agent: &str,
+    url: &str,
+    reading: &Reading,
+    file: &[u8],
+    site: &Site,
+    empty: &[bool],
+) -> Result<Finding, Fault>
+    requires reading { IsReading agent.now file.now reading.now }
+    requires site { site.now ≡ take file_limit file.now }
+    requires empty { empty.now ≡ map is_empty_disallow (bodies_read file.now) }
+    ensures ok { IfOk result (IsFindingOn file.now agent.now url.now) }
     ensures fault { IfErr result (λ fault. fault ≡ Fault.Memory) }
 {
     match reading {
         Reading::Rejected(line) => Ok(Finding::Rejected(*line)),
-        Reading::Accepted(robot) => match decision_on(alloc, robot, url) {
-            Ok(decision) => Ok(Finding::Decided(decision)),
-            Err(Error::Memory) => Err(Fault::Memory),
-            Err(Error::InvalidRobots | Error::InvalidRule) => unreachable!(),
-        },
+        Reading::Accepted(robot) => decided_on(alloc, agent, url, robot, file, site, empty),
     }
 }
 
@@ -64,13 +96,15 @@ fn finding_for(
     url: &str,
     file: &[u8],
     site: &Site,
+    empty: &[bool],
 ) -> Result<Finding, Fault>
-    requires { site.now ≡ take file_limit file.now }
-    ensures ok { IfOk result (IsFindingOn (lines_read file.now) agent.now url.now) }
+    requires site { site.now ≡ take file_limit file.now }
+    requires empty { empty.now ≡ map is_empty_disallow (bodies_read file.now) }
+    ensures ok { IfOk result (IsFindingOn file.now agent.now url.now) }
     ensures fault { IfErr result (λ fault. fault ≡ Fault.Memory) }
 {
     let reading = read_for(alloc, agent, file, site)?;
-    let finding = finding_on(alloc, &reading, url)?;
+    let finding = finding_on(alloc, agent, url, &reading, file, site, empty)?;
     Ok(finding)
 }
 
@@ -81,13 +115,15 @@ fn at_google(
     url: &str,
     file: &[u8],
     site: &Site,
+    empty: &[bool],
 ) -> Result<AtGoogle, Fault>
-    requires { site.now ≡ take file_limit file.now }
-    ensures ok { IfOk result (IsAtGoogle (lines_read file.now) agent.now url.now) }
+    requires site { site.now ≡ take file_limit file.now }
+    requires empty { empty.now ≡ map is_empty_disallow (bodies_read file.now) }
+    ensures ok { IfOk result (IsAtGoogle file.now agent.now url.now) }
     ensures fault { IfErr result (λ fault. fault ≡ Fault.Memory) }
 {
     if gets_googlebots(site, agent) {
-        let finding = finding_for(alloc, "Googlebot", url, file, site)?;
+        let finding = finding_for(alloc, "Googlebot", url, file, site, empty)?;
         return Ok(AtGoogle::Googlebot(finding));
     }
     if gets_nobodys(site, agent) {
@@ -96,22 +132,26 @@ fn at_google(
     Ok(AtGoogle::Same)
 }
 
-/// What the file says about an expectation, where `reading` is how it is read for the crawler.
+/// What the file says about an expectation, where `reading` is how it is read for the crawler, and `empty` tells of each
+/// line whether it is an empty Disallow.
 pub(crate) fn checked_on<'a>(
     alloc: Global,
     expectation: &Expectation<'a>,
     reading: &Reading,
     file: &[u8],
     site: &Site,
+    empty: &[bool],
 ) -> Result<Checked<'a>, Fault>
     requires reading { IsReading expectation.now.agent.now file.now reading.now }
     requires site { site.now ≡ take file_limit file.now }
+    requires empty { empty.now ≡ map is_empty_disallow (bodies_read file.now) }
     ensures expectation { IfOk result (λ checked. checked.expectation ≡ expectation.now) }
-    ensures checked { IfOk result (λ checked. IsChecked (lines_read file.now) (checked_value checked)) }
+    ensures checked { IfOk result (λ checked. IsChecked file.now (checked_value checked)) }
     ensures fault { IfErr result (λ fault. fault ≡ Fault.Memory) }
 {
-    let finding = finding_on(alloc, reading, expectation.url)?;
-    let google = at_google(alloc, expectation.agent, expectation.url, file, site)?;
+    let (agent, url) = (expectation.agent, expectation.url);
+    let finding = finding_on(alloc, agent, url, reading, file, site, empty)?;
+    let google = at_google(alloc, agent, url, file, site, empty)?;
     Ok(Checked {
         expectation: *expectation,
         finding,
@@ -119,18 +159,25 @@ pub(crate) fn checked_on<'a>(
     })
 }
 
-/// Whether the file is rejected for the crawler, or the decision isn't the expected one.
+/// Whether the decision isn't the expected one.
+pub(crate) fn is_unexpected(allowed: bool, decision: &Decision) -> bool
+    ensures { result ≡ is_unexpected allowed decision.now }
+{
+    if allowed {
+        !decision.allowed
+    } else {
+        decision.allowed
+    }
+}
+
+/// Whether the file is rejected for the crawler, or the decision isn't the expected one in one of the readings.
 fn fails_at(allowed: bool, finding: &Finding) -> bool
     ensures { result ≡ fails_at allowed finding.now }
 {
     match finding {
         Finding::Rejected(_) => true,
-        Finding::Decided(decision) => {
-            if allowed {
-                !decision.allowed
-            } else {
-                decision.allowed
-            }
+        Finding::Decided(decision, other) => {
+            is_unexpected(allowed, decision) || is_unexpected(allowed, other)
         }
     }
 }

@@ -4,15 +4,17 @@ ghost use Rattle.texting_robots.specs.Callers.{file_limit};
 ghost use Rattle.robots_io.specs.Lines.{ended};
 ghost use Rattle.robots_io.specs.Sanitize.{sanitized};
 ghost use Rattle.audit_expect.specs.Expect.{expectations_in as specified_in};
-ghost use Rattle.audit_expect.specs.Expectations.{Checks, IsEntryFault, decision_text, demand_text, demand_word, failure_front, failure_line, finding_text, google_text, holding_text, reason_text, unmatched_text};
+ghost use Rattle.audit_expect.specs.Expectations.{Checks, IsEntryFault, decision_text, demand_text, demand_word, failure_front, failure_line, finding_text, google_text, holding_text, is_unexpected, other_front, reason_text, unmatched_text};
 ghost use Rattle.audit_core.specs.declared.fault.Entry.TheVariants as entry;
 ghost use Rattle.audit_core.specs.Internal.{IsReading};
 ghost use Rattle.audit_expect.specs.Internal.Expect.{expectation_value};
 ghost use Rattle.audit_expect.specs.Internal.Expectations.{AreFailuresOn, AreResultsOn, IsReadFor, checked_value, failures_at};
 
-use crate::checks::{AtGoogle, Checked, Finding, checked_on, fails, fails_here};
+use crate::checks::{AtGoogle, Checked, Finding, checked_on, fails, fails_here, is_unexpected};
 use crate::entries::{malformed, push_place, without_entries};
 use crate::expect::{Expectation, ParseFault, expectations_in};
+use crate::other_reading::empty_disallows;
+use audit_core::asked::asked_target;
 use audit_core::audit::{Reading, read_for};
 use audit_core::fault::{Entry, Fault, Outcome};
 use audit_core::texts::push_rejected_front;
@@ -21,8 +23,8 @@ use robots_io::sanitize::push_sanitized;
 use robots_io::streams::{read_all, write_out};
 use std::alloc::{AllocError, Global};
 use std::io::{Read, Write};
+use texting_robots::Site;
 use texting_robots::robot::Decision;
-use texting_robots::{Error, Robot, Site};
 
 /// The report on expectations.
 #[derive(Drop)]
@@ -95,11 +97,11 @@ fn unmatched_text(alloc: Global, url: &str) -> Result<&'static str, Fault>
     ensures ok { IfOk result (λ text. text.now ≡ unmatched_text url.now) }
     ensures fault { IfErr result (λ fault. fault ≡ Fault.Memory) }
 {
-    match Robot::prepare_url(alloc, url) {
-        Ok(target) if target.as_str() == "/robots.txt" => Ok("/robots.txt is always allowed"),
-        Ok(_) => Ok("no rule matches it"),
-        Err(Error::Memory) => Err(Fault::Memory),
-        Err(Error::InvalidRobots | Error::InvalidRule) => unreachable!(),
+    let target = asked_target(alloc, url)?;
+    if target.as_str() == "/robots.txt" {
+        Ok("/robots.txt is always allowed")
+    } else {
+        Ok("no rule matches it")
     }
 }
 
@@ -121,16 +123,53 @@ fn push_decision_text(
     Ok(())
 }
 
-/// Appends what the file says.
+/// Appends why a URL is allowed or denied where an empty Disallow is no rule.
+fn push_other_decision(
+    alloc: Global,
+    text: &mut String,
+    url: &str,
+    decision: &Decision,
+) -> Result<(), Fault>
+    ensures ok { OnOk result (string_bytes text.new ≡ string_bytes text.old
+        ++ (other_front ++ decision_text url.now decision.now.allowed decision.now.line)) }
+    ensures fault { IfErr result (λ fault. fault ≡ Fault.Memory) }
+{
+    text.push_str("where an empty Disallow is no rule, as for RFC 9309 and Google, ")?;
+    Ok(push_decision_text(alloc, text, url, decision)?)
+}
+
+/// Appends which decision isn't the expected one.
+fn push_decisions(
+    alloc: Global,
+    text: &mut String,
+    url: &str,
+    allowed: bool,
+    decision: &Decision,
+    other: &Decision,
+) -> Result<(), Fault>
+    ensures ok { OnOk result (string_bytes text.new ≡ string_bytes text.old
+        ++ (if is_unexpected allowed decision.now then decision_text url.now decision.now.allowed decision.now.line
+        else other_front ++ decision_text url.now other.now.allowed other.now.line)) }
+    ensures fault { IfErr result (λ fault. fault ≡ Fault.Memory) }
+{
+    if is_unexpected(allowed, decision) {
+        push_decision_text(alloc, text, url, decision)
+    } else {
+        push_other_decision(alloc, text, url, other)
+    }
+}
+
+/// Appends what the file says that isn't as expected.
 fn push_finding(
     alloc: Global,
     text: &mut String,
     agent: &str,
     url: &str,
+    allowed: bool,
     finding: &Finding,
 ) -> Result<(), Fault>
     ensures ok { OnOk result (string_bytes text.new ≡ string_bytes text.old
-        ++ finding_text agent.now url.now finding.now) }
+        ++ finding_text agent.now url.now allowed finding.now) }
     ensures fault { IfErr result (λ fault. fault ≡ Fault.Memory) }
 {
     match finding {
@@ -138,7 +177,9 @@ fn push_finding(
             text.push_str("the file is ")?;
             Ok(push_rejected_front(text, agent, *line)?)
         }
-        Finding::Decided(decision) => push_decision_text(alloc, text, url, decision),
+        Finding::Decided(decision, other) => {
+            push_decisions(alloc, text, url, allowed, decision, other)
+        }
     }
 }
 
@@ -174,17 +215,18 @@ fn push_google(
     text: &mut String,
     agent: &str,
     url: &str,
+    allowed: bool,
     google: &AtGoogle,
 ) -> Result<(), Fault>
     ensures ok { OnOk result (string_bytes text.new ≡ string_bytes text.old
-        ++ google_text agent.now url.now google.now) }
+        ++ google_text agent.now url.now allowed google.now) }
     ensures fault { IfErr result (λ fault. fault ≡ Fault.Memory) }
 {
     match google {
         AtGoogle::Same => Ok(()),
         AtGoogle::Googlebot(finding) => {
             push_googlebots(text, agent)?;
-            push_finding(alloc, text, "Googlebot", url, finding)
+            push_finding(alloc, text, "Googlebot", url, allowed, finding)
         }
         AtGoogle::Nobody => Ok(push_nobody(text, agent)?),
     }
@@ -197,10 +239,11 @@ fn push_reason(alloc: Global, text: &mut String, checked: &Checked<'_>) -> Resul
     ensures fault { IfErr result (λ fault. fault ≡ Fault.Memory) }
 {
     let (agent, url) = (checked.expectation.agent, checked.expectation.url);
+    let allowed = checked.expectation.allowed;
     if fails_here(checked) {
-        push_finding(alloc, text, agent, url, &checked.finding)
+        push_finding(alloc, text, agent, url, allowed, &checked.finding)
     } else {
-        push_google(alloc, text, agent, url, &checked.google)
+        push_google(alloc, text, agent, url, allowed, &checked.google)
     }
 }
 
@@ -264,6 +307,7 @@ fn failures(
     ensures fault { IfErr result (λ fault. fault ≡ Fault.Memory) }
 {
     let site = Site::new(alloc, file)?;
+    let empty = empty_disallows(alloc, &site)?;
     let reading = read_for(alloc, "*", file, &site)?;
     let mut latest = AgentReading {
         agent: "*",
@@ -272,7 +316,7 @@ fn failures(
     let mut report = String::new(alloc);
     for expectation in expectations {
         latest = reading_for(alloc, latest, expectation.agent, file, &site)?;
-        let checked = checked_on(alloc, expectation, &latest.reading, file, &site)?;
+        let checked = checked_on(alloc, expectation, &latest.reading, file, &site, &empty)?;
         push_if_failing(alloc, &mut report, name, &checked)?;
     }
     Ok(report)

@@ -6,4 +6,5 @@ mod checks;
 mod entries;
 mod expect;
 pub mod expectations;
+mod other_reading;
 pub mod url_list;

@@ -9,9 +9,8 @@ ghost use Rattle.audit_expect.specs.UrlList.{first_malformed, trimmed, url_in, u
 use crate::entries::{malformed, without_entries};
 use crate::expect::{ParseFault, cut, is_comment, is_path_or_url};
 use audit_core::agents::as_text;
-use audit_core::fault::{Entry, Fault, Flaw};
+use audit_core::fault::{Entry, Fault, Flaw, text_shown};
 use audit_core::request::Request;
-use robots_io::sanitize::push_sanitized;
 use robots_warnings::facts::without_mark;
 use std::alloc::{AllocError, Global};
 
@@ -110,9 +109,8 @@ pub fn with_urls<'a>(
 fn malformed_url(alloc: Global, url: &str) -> Fault
     ensures { IsMalformedUrl url.now result }
 {
-    let mut shown = String::new(alloc);
-    match push_sanitized(&mut shown, url.as_bytes()) {
-        Ok(()) => Fault::Malformed(shown, Flaw::Url),
+    match text_shown(alloc, url) {
+        Ok(text) => Fault::Malformed(text, Flaw::Url),
         Err(AllocError) => Fault::Memory,
     }
 }

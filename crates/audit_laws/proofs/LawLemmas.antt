@@ -6,7 +6,7 @@ use Rattle.std.specs.List.{All, AllZip}
 use Rattle.std.proofs.lemmas.Bool.{false≢true}
 use Rattle.std.proofs.lemmas.List.Elements.{All-cons, All-head, All-nil, All-tail}
 use Rattle.texting_robots.specs.Callers.{IsFirstOverlong, IsOverlong, IsRejected, LineValue, PlacedRule, Rule}
-use Rattle.texting_robots.specs.Callers.{delay_for, file_limit, lines_read, placed_rules, prepared, unplaced}
+use Rattle.texting_robots.specs.Callers.{delay_for, file_limit, lines_read, placed_rules, unplaced}
 use Rattle.texting_robots.specs.declared.decision.Decision.{Decision}
 use Rattle.texting_robots.proofs.BestLemmas.{each_text_answered}
 use Rattle.texting_robots.proofs.ExampleLemmas.{overlong_decides}
@@ -15,6 +15,7 @@ use Rattle.texting_robots.proofs.RulesLemmas.{none_unplaced, some_overlong}
 use Rattle.texting_robots.proofs.VerdictLemmas.{one_line_decides, one_verdict}
 use Rattle.robots_io.specs.Verdicts.{IsDecisionOn}
 use Rattle.robots_needless.proofs.SettledLemmas.{nothing_found}
+use Rattle.audit_core.specs.Asked.{asked_target}
 use Rattle.audit_core.specs.Audit.{AgentValue, AuditValue, IsAgentAudit, IsAuditOf, IsRuling}
 use Rattle.audit_core.specs.Request.{RequestValue}
 use Rattle.audit_core.specs.Audit.{IsVerdictOn}
@@ -37,10 +38,9 @@ zip_once R once (x ∷ xs) (y ∷ ys) (z ∷ zs) (one, more) (two, rest) =
     let later = zip_once R once xs ys zs more rest in
     cc
 
-decided_once : (rules : List PlacedRule) (url : List ℕ) (one two : Decision)
-    → IsDecisionOn rules url one → IsDecisionOn rules url two → one ≡ two
-decided_once rules url one two is too =
-    let text = prepared url in
+decided_once : (rules : List PlacedRule) (text : List ℕ) (one two : Decision)
+    → IsDecisionOn rules text one → IsDecisionOn rules text two → one ≡ two
+decided_once rules text one two is too =
     ap₂ (λ allowed line. record { allowed = allowed; line = line })
     (one_verdict (unplaced rules) text one.allowed two.allowed is.verdict too.verdict)
     (one_line_decides rules text one.line two.line is.deciding too.deciding)
@@ -49,7 +49,7 @@ verdict_once : (rules : List PlacedRule) (url : List ℕ) (one two : VerdictValu
     → IsVerdictOn rules url one → IsVerdictOn rules url two → one ≡ two
 verdict_once rules url one two is too =
     ap₂ (λ url decision. record { url = url; decision = decision }) (is.url_is ∙ sym too.url_is)
-    (decided_once rules url one.decision two.decision is.decided too.decided)
+    (decided_once rules (asked_target url) one.decision two.decision is.decided too.decided)
 
 -- if a list is split before its first overlong rule in two ways, it is the same rule
 cut_once : (front others : List PlacedRule) (one two : PlacedRule) (back after : List PlacedRule)
@@ -170,7 +170,7 @@ zip_some R (x ∷ xs) some =
 some_verdict : (rules : List PlacedRule) (url : List ℕ)
     → (verdict : VerdictValue) × IsVerdictOn rules url verdict
 some_verdict rules url =
-    let answered = each_text_answered rules (prepared url) in (
+    let answered = each_text_answered rules (asked_target url) in (
       record { url = url; decision = record { allowed = answered.allowed; line = answered.number } },
       record {
         url_is = refl;

@@ -1,9 +1,11 @@
 pub mod ClosedLemmas
 pub mod ConflictLemmas
+pub mod EmptyDisallowLemmas
 pub mod DelayLemmas
 pub mod LawLemmas
 pub mod LineLemmas
 pub mod NeedlessLemmas
+pub mod OverruledLemmas
 pub mod RepeatedLemmas
 pub mod ReplacedLemmas
 pub mod SpaceLemmas

@@ -12,7 +12,7 @@ use Rattle.std.proofs.lemmas.List.Elements.{Contains-append_cases}
 use Rattle.texting_robots.specs.Callers.{Allow, AreLabelsOf, CrawlDelay, Disallow, HoldsRule}
 use Rattle.texting_robots.specs.Callers.{LineValue, Label, Matches, Raw, Rule}
 use Rattle.texting_robots.specs.Callers.{Sitemap, HasMembership, UserAgent, escaped, group_name}
-use Rattle.texting_robots.specs.Callers.{file_lines, is_agent_named, is_named, prepared}
+use Rattle.texting_robots.specs.Callers.{file_lines, is_agent_named, is_named}
 use Rattle.texting_robots.specs.declared.labels.Membership.{Membership}
 use Rattle.texting_robots.specs.declared.labels.Membership.TheVariants.{Other, Ungrouped, Own}
 use Rattle.texting_robots.specs.Escape.{escape_byte, is_escaped}
@@ -25,6 +25,8 @@ use Rattle.robots_warnings.specs.NamesPastLimit.{has_new_name, is_past_limit, na
 use Rattle.robots_warnings.specs.Positions.{is_above_agents, is_outside}
 use Rattle.robots_warnings.specs.Rules.{begins_oddly, has_dollar_inside}
 use Rattle.robots_warnings.specs.Urls.{is_invalid_url}
+use Rattle.audit_core.specs.Asked.{asked_target}
+use Rattle.audit_core.proofs.AskedLemmas.{unparsed_asked}
 
 -- ---- conditions and lines
 
@@ -228,6 +230,8 @@ odd_start_matches_no_path (b ∷ value) text odd m =
 
 -- ---- URLs that can't be parsed
 
-pub invalid_url_is_escaped : (url : List ℕ) → is_invalid_url url ≡ true → prepared url ≡ escaped url
+pub invalid_url_is_escaped : (url : List ℕ) → is_invalid_url url ≡ true → asked_target url ≡ escaped url
 invalid_url_is_escaped [] is = cc
-invalid_url_is_escaped (b ∷ url) is = unparsed_prepared b url (both _ _ is).1
+invalid_url_is_escaped (b ∷ url) is =
+    let unparsable = (both _ _ is).1 in
+    unparsed_asked (b ∷ url) unparsable ∙ unparsed_prepared b url unparsable

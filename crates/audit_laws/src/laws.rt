@@ -1,13 +1,13 @@
 //! Theorems about the specification, each written as the contract of an empty function.
-ghost use Rattle.std.specs.Prelude.{[], All, Any, Bool, codes, Contains, false, if◌then◌else◌, IsTrue, List};
+ghost use Rattle.std.specs.Prelude.{[], All, Any, Bool, codes, Contains, false, if◌then◌else◌, IsSome, IsTrue, List};
 ghost use Rattle.std.specs.Prelude.{not, slice_get, Some, take, true, ℕ, ◌+◌, ◌↔◌, ◌∷◌, ◌≡◌, ◌≢◌};
 ghost use Rattle.std.specs.List.{count_by};
 ghost use Rattle.std.specs.Str.{byte, is_utf8, IsUtf8, str_to_ascii_lowercase};
 ghost use Rattle.texting_robots.specs.Callers.{Allow, AreLabelsOf, AreRulesFor, Disallow, escaped};
 ghost use Rattle.texting_robots.specs.Callers.{file_limit, file_lines, HoldsRule, is_named, IsDecidingLine};
 ghost use Rattle.texting_robots.specs.Callers.{IsDenied, IsRobotOfFile, IsVerdict, Label, LineValue, Matches};
-ghost use Rattle.texting_robots.specs.Callers.{PlacedRule, prepared, RobotValue, Rule, agents_in, lines_read};
-ghost use Rattle.texting_robots.specs.Callers.{delay_for, rules_for, unplaced, UserAgent};
+ghost use Rattle.texting_robots.specs.Callers.{PlacedRule, RobotValue, Rule, agents_in, lines_read};
+ghost use Rattle.texting_robots.specs.Callers.{bodies_read, delay_for, rules_for, unplaced, UserAgent};
 ghost use Rattle.texting_robots.specs.Labels.{IsInOwnGroup};
 ghost use Rattle.texting_robots.specs.Verdict.{robots_file};
 ghost use Rattle.robots_needless.specs.Deleted.{HaveSameRobot, IsLeftOf};
@@ -15,8 +15,9 @@ ghost use Rattle.robots_needless.specs.Needless.{lines_without, numbers_of};
 ghost use Rattle.robots_rfc9309.specs.Rfc9309.{Group, IsFile};
 ghost use Rattle.robots_syntax.specs.Syntax.{IsRobotStated};
 ghost use Rattle.robots_warnings.specs.Closed.{is_closed_for};
-ghost use Rattle.robots_warnings.specs.Conflicts.{IsConflict, is_conflict};
+ghost use Rattle.robots_warnings.specs.Conflicts.{IsConflict, IsOverruled, conflict, overruled, overruled_for};
 ghost use Rattle.robots_warnings.specs.Contents.{is_cut_to_root};
+ghost use Rattle.robots_warnings.specs.EmptyDisallows.{IsEmptyDisallow, is_empty_at, stated_rules};
 ghost use Rattle.robots_warnings.specs.NamesPastLimit.{names_past_limit};
 ghost use Rattle.robots_warnings.specs.Positions.{is_above_agents};
 ghost use Rattle.robots_warnings.specs.Repeated.{repeated};
@@ -26,6 +27,7 @@ ghost use Rattle.robots_warnings.specs.Tokens.{has_space_around};
 ghost use Rattle.robots_warnings.specs.Urls.{is_invalid_url};
 ghost use Rattle.robots_warnings.specs.Warnings.{position_warnings, warned_at};
 ghost use Rattle.robots_warnings.specs.declared.table.Cause.TheVariants.{TwoDelays};
+ghost use Rattle.audit_core.specs.Asked.{asked_target};
 ghost use Rattle.audit_core.specs.Audit.{AuditValue, IsAuditOf};
 ghost use Rattle.audit_core.specs.Request.{RequestValue};
 ghost use Rattle.audit_core.specs.Syntax.{is_standard};
@@ -81,21 +83,55 @@ pub fn syntax_is_that_of_the_standard()
 {}
 
 /// `allowed-and-disallowed` is given for a line exactly if it has a Disallow that applies to one of the crawlers reported
-/// on, and an Allow with the same pattern applies to that crawler too, where `/` and `*` are the same.
+/// on, and an Allow with the same pattern, other than an empty Disallow, applies to that crawler too, where `/` and `*` are
+/// the same. Its message names the line of such an Allow.
 pub fn allowed_and_disallowed()
-    ensures { (agents : List (List ℕ)) (lines : List LineValue) (number : ℕ)
-        → IsTrue (is_conflict agents lines number) ↔ Any (λ agent. IsConflict agent lines number) agents }
+    ensures given { (is_empty : ℕ → Bool) (agents : List (List ℕ)) (lines : List LineValue) (number other : ℕ)
+        → conflict is_empty agents lines number ≡ Some other
+        → Any (λ agent. IsConflict is_empty agent lines number other) agents }
+    ensures found { (is_empty : ℕ → Bool) (agents : List (List ℕ)) (lines : List LineValue) (agent : List ℕ)
+        (number other : ℕ) → Contains agents agent → IsConflict is_empty agent lines number other
+        → IsSome (conflict is_empty agents lines number) }
 {}
 
 /// The Disallow of an `allowed-and-disallowed` decides no verdict for the crawler to which both apply: none at all
 /// if the patterns are equal, and none on a path if they are `/` and `*`.
 pub fn allowed_and_disallowed_never_decides()
-    ensures same { (agent : List ℕ) (lines : List LineValue) (rules : List PlacedRule) (number : ℕ)
-        (text : List ℕ) → (is : IsConflict agent lines number) → is.allowed ≡ is.pattern → AreRulesFor agent lines rules
-        → ¬ IsDecidingLine rules text (Some number) }
-    ensures path { (agent : List ℕ) (lines : List LineValue) (rules : List PlacedRule) (number : ℕ)
-        (path : List ℕ) → IsConflict agent lines number → AreRulesFor agent lines rules
-        → ¬ IsDecidingLine rules (byte "/" ∷ path) (Some number) }
+    ensures same { (is_empty : ℕ → Bool) (agent : List ℕ) (lines : List LineValue) (rules : List PlacedRule)
+        (number other : ℕ) (text : List ℕ) → (is : IsConflict is_empty agent lines number other)
+        → is.allowed ≡ is.pattern → AreRulesFor agent lines rules → ¬ IsDecidingLine rules text (Some number) }
+    ensures path { (is_empty : ℕ → Bool) (agent : List ℕ) (lines : List LineValue) (rules : List PlacedRule)
+        (number other : ℕ) (path : List ℕ) → IsConflict is_empty agent lines number other
+        → AreRulesFor agent lines rules → ¬ IsDecidingLine rules (byte "/" ∷ path) (Some number) }
+{}
+
+/// The numbers of empty Disallows, as the warnings have them, are those of the Disallows without a value. The labels may be
+/// those for any crawler.
+pub fn empty_disallows()
+    ensures { (name file : List ℕ) (labels : List Label) (number : ℕ) → AreLabelsOf name (lines_read file) labels
+        → IsTrue (is_empty_at (bodies_read file) labels number) ↔ IsEmptyDisallow (bodies_read file) number }
+{}
+
+/// `empty-disallow` is given for a line exactly if it is an empty Disallow that applies to one of the crawlers reported on, a
+/// Disallow of `/` or `*` applies to that crawler too, and each Allow of these that applies to it is an empty Disallow. Its
+/// message names the line of such a Disallow.
+pub fn empty_disallow()
+    ensures given { (is_empty : ℕ → Bool) (agents : List (List ℕ)) (lines : List LineValue) (number other : ℕ)
+        → overruled is_empty agents lines number ≡ Some other
+        → Any (λ agent. IsOverruled is_empty agent lines number other) agents }
+    ensures found { (is_empty : ℕ → Bool) (agents : List (List ℕ)) (lines : List LineValue) (agent : List ℕ)
+        (number other : ℕ) → Contains agents agent → IsOverruled is_empty agent lines number other
+        → IsSome (overruled is_empty agents lines number) }
+{}
+
+/// If no line has `empty-disallow` because of the rules of a crawler, every verdict is the same for it where an empty Disallow
+/// is no rule, as RFC 9309 and Google have it: for any text.
+pub fn without_empty_disallows()
+    ensures { (is_empty : ℕ → Bool) (agent file : List ℕ) (rules : List PlacedRule)
+        → ((number : ℕ) → IsTrue (is_empty number) ↔ IsEmptyDisallow (bodies_read file) number)
+        → ((number : ℕ) → overruled_for is_empty (lines_read file) number agent ≡ None)
+        → AreRulesFor agent (lines_read file) rules → (text : List ℕ) (answer : Bool)
+        → IsVerdict (unplaced rules) text answer ↔ IsVerdict (unplaced (stated_rules is_empty rules)) text answer }
 {}
 
 /// If `closes-everything` is given because of the rules of a crawler, every path is denied to the crawler, except
@@ -186,7 +222,7 @@ pub fn missing_slash()
 
 /// A URL with `invalid-url` is matched as the escaped string.
 pub fn invalid_url()
-    ensures { (url : List ℕ) → is_invalid_url url ≡ true → prepared url ≡ escaped url }
+    ensures { (url : List ℕ) → is_invalid_url url ≡ true → asked_target url ≡ escaped url }
 {}
 
 /// A crawler's name with `space-around-agent` matches no user-agent line, in any file.

@@ -6,7 +6,6 @@ use Rattle.std.proofs.lemmas.Bool.{cases_Bool}
 use Rattle.clap.specs.declared.parser.matches.ArgMatches.{ArgMatches}
 use Rattle.robots_io.specs.Sanitize.{IsPrintable}
 use Rattle.robots_io.proofs.SanitizeLemmas.{ascii_printable, nil_printable, sanitized_lines_printable}
-use Rattle.robots_io.proofs.SanitizeLemmas.{sanitized_printable}
 use Rattle.audit_core.specs.declared.request.Request.{Request}
 use Rattle.audit_core.specs.declared.fault.Fault.{Fault}
 use Rattle.audit_core.specs.declared.fault.Fault.TheVariants.{Empty, File, Malformed, Memory, NotUtf8}
@@ -22,7 +21,8 @@ use Rattle.audit_report.specs.Explain.{Explains, MayPrint, explanation}
 use Rattle.robots_warnings.specs.Table.{is_name}
 use Rattle.audit_core.specs.Color.{IsForTerminal}
 use Rattle.robots_audit.proofs.ColorLemmas.{for_terminal, message_for_terminal}
-use Rattle.audit_core.proofs.FaultLemmas.{may_fail_printable, memory_printable, named_printable}
+use Rattle.audit_core.proofs.FaultLemmas.{may_fail_printable, memory_printable, text_shown_printable}
+use Rattle.audit_core.proofs.FaultLemmas.{named_printable}
 
 -- ---- errors
 
@@ -49,7 +49,7 @@ unreadable_printable name (UnknownWarning other) is = cc
 unreadable_printable name (File shown) is =
     named_printable (codes "cannot read ") (string_bytes shown) []
     (ascii_printable true (codes "cannot read ") refl)
-    (subst IsPrintable (sym is) (sanitized_printable name)) (nil_printable true)
+    (subst IsPrintable (sym is) (text_shown_printable name)) (nil_printable true)
 unreadable_printable name (Malformed place flaw) is = cc
 unreadable_printable name (Empty other entry) is = cc
 unreadable_printable name StdinTwice is = cc
@@ -66,7 +66,7 @@ unknown_printable name (UnknownWarning shown) is =
     let usage = codes "; usage: robots_audit [-f FILE] [OPTIONS] AGENT [URL].." in
     named_printable (codes "unknown warning ") (string_bytes shown) usage
     (ascii_printable true (codes "unknown warning ") refl)
-    (subst IsPrintable (sym is) (sanitized_printable name)) (ascii_printable true usage refl)
+    (subst IsPrintable (sym is) (text_shown_printable name)) (ascii_printable true usage refl)
 unknown_printable name (File other) is = cc
 unknown_printable name (Malformed place flaw) is = cc
 unknown_printable name (Empty other entry) is = cc

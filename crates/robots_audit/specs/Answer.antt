@@ -2,7 +2,7 @@
 -- can't observe.
 use Rattle.std.specs.Prelude.{◌≡◌, ◌≢◌, ℕ, Bool, true, false, List, [], ◌∷◌, ◌++◌, None, Option, Some, Result}
 use Rattle.std.specs.Prelude.{codes, if◌then◌else◌, is_some, not, ◌&&◌, IfErr, IfOk, IfSome, IsErrOf}
-use Rattle.std.specs.Prelude.{length, string_bytes, ◌==◌}
+use Rattle.std.specs.Prelude.{string_bytes}
 use Rattle.std.specs.List.{list_any}
 use Rattle.std.specs.Io.KnownBytes.{Appends, Keeps}
 use Rattle.robots_html.specs.Html.{document}
@@ -16,14 +16,14 @@ use Rattle.audit_core.specs.declared.fault.Fault.TheVariants.{File, Memory, Word
 use Rattle.audit_core.specs.declared.fault.Outcome.{Outcome}
 use Rattle.audit_core.specs.Request.{RequestValue, requested_by}
 use Rattle.audit_core.specs.Audit.{AuditValue, IsAuditOf, all_allowed, rejects_some, shown}
-use Rattle.audit_core.specs.Fault.{MayFail}
+use Rattle.audit_core.specs.Fault.{MayFail, text_shown}
 use Rattle.audit_formats.specs.Findings.{findings}
 use Rattle.audit_formats.specs.Github.{github_text}
 use Rattle.audit_formats.specs.Json.{json_text}
 use Rattle.audit_report.specs.Report.{listed_lines, report_lines, total_line}
 use Rattle.audit_page.specs.Page.{page}
 use Rattle.audit_formats.specs.Sarif.{sarif_text}
-use Rattle.robots_io.specs.Sanitize.{sanitized, sanitized_lines}
+use Rattle.robots_io.specs.Sanitize.{sanitized_lines}
 use Rattle.robots_warnings.specs.declared.level.Level.{Level}
 use Rattle.robots_warnings.specs.Level.{reaches}
 use Rattle.robots_warnings.specs.Table.{level_of}
@@ -136,11 +136,7 @@ abbrev pub IsRejection : List ℕ → Fault → Type 0
 IsRejection message (Words text) = string_bytes text ≡ sanitized_lines message
 IsRejection message fault = fault ≡ Memory
 
--- the name of a file in a message; an empty one, as that of an unset variable, is shown as quotes
-abbrev pub name_shown : List ℕ → List ℕ
-name_shown name = if length name == 0 then codes "\"\"" else name
-
--- the error has this name of the file that can't be read, sanitized, or an allocation failed
+-- the error shows this name of the file that can't be read, or an allocation failed
 abbrev pub IsFileUnreadable : List ℕ → Fault → Type 0
-IsFileUnreadable name (File text) = string_bytes text ≡ sanitized name
+IsFileUnreadable name (File text) = string_bytes text ≡ text_shown name
 IsFileUnreadable name fault = fault ≡ Memory

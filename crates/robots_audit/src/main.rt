@@ -19,11 +19,12 @@
 //! its level or a more serious one.
 #![tactic(auto)]
 
-ghost use Rattle.std.specs.Prelude.{IfErr, codes, true};
+ghost use Rattle.std.specs.Prelude.{◌≡◌, IfErr, codes, true};
+ghost use Rattle.std.specs.Process.{exit_status};
 ghost use Rattle.robots_io.specs.Sanitize.{IsPrintable};
 ghost use Rattle.audit_core.specs.Color.{IsForTerminal, requested_colors};
 ghost use Rattle.audit_command.specs.Command.{value_of};
-ghost use Rattle.audit_core.specs.Fault.{fault_text, message_after};
+ghost use Rattle.audit_core.specs.Fault.{fault_text, message_after, status_after};
 
 mod laws;
 mod program;
@@ -276,8 +277,14 @@ fn outcome(rt: &HostRuntime) -> Result<Outcome, Fault>
     }
 }
 
+/// Prints the message after a run, and returns the exit status.
+fn ended(rt: &HostRuntime, outcome: &Result<Outcome, Fault>) -> ExitCode
+    ensures { exit_status result ≡ status_after outcome.now }
+{
+    let _ = rt.eprint(StderrMessage { outcome });
+    ExitCode::from(status_after(outcome))
+}
+
 fn main(rt: HostRuntime) -> ExitCode {
-    let outcome = outcome(&rt);
-    let _ = rt.eprint(StderrMessage { outcome: &outcome });
-    ExitCode::from(status_after(&outcome))
+    ended(&rt, &outcome(&rt))
 }

@@ -1,13 +1,13 @@
 //! The audit of a file and the report on it, for any reader and writer, without the command line.
 ghost use Rattle.std.specs.Prelude.{◌≡◌, IfOk, Some, map, option_map, string_bytes};
-ghost use Rattle.robots_audit.specs.Answer.{Audits, IsRejection, IsFileUnreadable, has_all_urls, has_rows, name_shown};
+ghost use Rattle.robots_audit.specs.Answer.{Audits, IsRejection, IsFileUnreadable, has_all_urls, has_rows};
 ghost use Rattle.robots_audit.specs.Answer.{is_warned, leaves_out_allowed, output, message, shown_name};
 ghost use Rattle.audit_core.specs.Request.{requested_by};
 ghost use Rattle.audit_core.specs.Internal.{audit_value};
 ghost use Rattle.robots_warnings.specs.Internal.{warning_value};
 
 use audit_core::audit::{Audit, all_allowed, audit_of, rejects_some};
-use audit_core::fault::{Fault, Outcome};
+use audit_core::fault::{Fault, Outcome, text_shown};
 use audit_core::request::{Format, Request};
 use audit_formats::github::github_text;
 use audit_formats::json::json_text;
@@ -15,7 +15,7 @@ use audit_formats::sarif::sarif_text;
 use audit_page::page::page_text;
 use audit_report::denied::{shown, totals_of};
 use audit_report::report::{listed_lines, push_totals, report_text};
-use robots_io::sanitize::{push_sanitized, push_sanitized_lines};
+use robots_io::sanitize::push_sanitized_lines;
 use robots_io::streams::{read_all, write_out};
 use robots_warnings::level::Level;
 use robots_warnings::warning::Warning;
@@ -167,23 +167,12 @@ pub fn rejected(alloc: Global, text: &str) -> Fault
     }
 }
 
-/// The name of a file in a message; an empty one, as that of an unset variable, is shown as quotes.
-fn name_shown(name: &str) -> &str
-    ensures { result.now ≡ name_shown name.now }
-{
-    if name.is_empty() {
-        return "\"\"";
-    }
-    name
-}
-
 /// The error for a file with this name that can't be opened or read.
 pub fn unread(alloc: Global, name: &str) -> Fault
-    ensures { IsFileUnreadable (name_shown name.now) result }
+    ensures { IsFileUnreadable name.now result }
 {
-    let mut sanitized = String::new(alloc);
-    match push_sanitized(&mut sanitized, name_shown(name).as_bytes()) {
-        Ok(()) => Fault::File(sanitized),
+    match text_shown(alloc, name) {
+        Ok(text) => Fault::File(text),
         Err(AllocError) => Fault::Memory,
     }
 }

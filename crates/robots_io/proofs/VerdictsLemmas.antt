@@ -22,7 +22,7 @@ module _ (sanitized : List ℕ → List ℕ) (rules : List PlacedRule) where
 
   -- appending the front of the line (the verdict and the line number), then the URL and LF, appends a verdict
   -- line
-  pub adds_one : (decision : Decision) (url old mid new : List ℕ) → IsDecisionOn rules url decision
+  pub adds_one : (decision : Decision) (url old mid new : List ℕ) → IsDecisionOn rules (prepared url) decision
       → mid ≡ old ++ verdict_front decision.allowed decision.line
       → new ≡ mid ++ ended (sanitized url ∷ [])
       → AddsVerdict sanitized rules url old new

@@ -8,10 +8,10 @@ use Rattle.robots_io.specs.Lines.{ended}
 
 -- ---- decisions
 
--- the rules' verdict on the URL, and the number of the line that decides
-pub record IsDecisionOn (rules : List PlacedRule) (url : List ℕ) (decision : Decision) : Type 0 where
-  pub verdict : IsVerdict (unplaced rules) (prepared url) decision.allowed
-  pub deciding : IsDecidingLine rules (prepared url) decision.line
+-- the rules' verdict on the match target, and the number of the line that decides
+pub record IsDecisionOn (rules : List PlacedRule) (target : List ℕ) (decision : Decision) : Type 0 where
+  pub verdict : IsVerdict (unplaced rules) target decision.allowed
+  pub deciding : IsDecidingLine rules target decision.line
 
 -- ---- a line
 
@@ -32,7 +32,7 @@ verdict_front allowed number = verdict_word allowed ++ line_text number ++ codes
 pub record IsVerdictLine (sanitized : List ℕ → List ℕ) (rules : List PlacedRule) (url line : List ℕ)
     : Type 0 where
   pub decision : Decision
-  pub decided : IsDecisionOn rules url decision
+  pub decided : IsDecisionOn rules (prepared url) decision
   pub whole : line ≡ verdict_front decision.allowed decision.line ++ sanitized url
 
 -- ---- lines appended to a text

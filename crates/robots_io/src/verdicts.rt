@@ -1,6 +1,7 @@
 //! Verdicts on URLs, and how the programs print them.
 ghost use Rattle.std.specs.Prelude.{◌≡◌, ◌++◌, IfErr, IfOk, OnOk, string_bytes};
 ghost use Rattle.std.specs.Io.{StartsWith};
+ghost use Rattle.texting_robots.specs.Callers.{prepared};
 ghost use Rattle.robots_io.specs.Verdicts.{IsDecisionOn, line_text, verdict_front, verdict_word};
 
 use crate::lines::push_number;
@@ -9,26 +10,14 @@ use texting_robots::robot::Decision;
 use texting_robots::view::View;
 use texting_robots::{Error, Robot};
 
-/// The robot's decision on a URL.
+/// The robot's decision on a URL, by counted byte comparisons, within the bound that [`Robot::decision`] states. There
+/// is no prefilter, so this is usually slower than [`Robot::decide`] for a file with many rules.
 ///
 /// # Errors
 ///
 /// `Error::Memory` if an allocation fails or the URL is too long for `url`.
-pub fn decision_on(alloc: Global, robot: &Robot, url: &str) -> Result<Decision, Error>
-    ensures ok { IfOk result (IsDecisionOn robot.now.rules url.now) }
-    ensures memory { IfErr result (λ error. error ≡ Error.Memory) }
-{
-    robot.decide(alloc, url)
-}
-
-/// The same decision by counted byte comparisons, within the bound that [`Robot::decision`] states. There is
-/// no prefilter, so this is usually slower for a file with many rules.
-///
-/// # Errors
-///
-/// As for [`decision_on`].
 pub fn counted_decision_on(alloc: Global, robot: &Robot, url: &str) -> Result<Decision, Error>
-    ensures ok { IfOk result (IsDecisionOn robot.now.rules url.now) }
+    ensures ok { IfOk result (IsDecisionOn robot.now.rules (prepared url.now)) }
     ensures memory { IfErr result (λ error. error ≡ Error.Memory) }
 {
     let prepared = Robot::prepare_url(alloc, url)?;

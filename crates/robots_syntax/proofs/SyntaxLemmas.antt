@@ -60,7 +60,7 @@ module _ (named agents urls : List (List ℕ)) (file : List ℕ)
   of_positions = position_warnings labels
 
   abbrev others : List WarningValue
-  others = past_limit_warnings facts file labels ++ group_warnings true agents lines labels
+  others = past_limit_warnings facts file labels ++ group_warnings true agents (file_bodies text) lines labels
 
   silent_general : Each IsNotAboutSyntax general
   silent_general = each_front IsNotAboutSyntax general (of_lines ++ (of_positions ++ others)) silent

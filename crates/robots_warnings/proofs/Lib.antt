@@ -14,3 +14,4 @@ pub mod ReplacedLemmas
 pub mod RuleLemmas
 pub mod SpellingLemmas
 pub mod TableLemmas
+pub mod WarnedLemmas

@@ -19,8 +19,8 @@ use Rattle.texting_robots.specs.Executable.{rule_in}
 use Rattle.texting_robots.specs.Group.{is_agent, is_group}
 use Rattle.texting_robots.specs.Internal.Group.{placed}
 use Rattle.robots_warnings.specs.File.{lines_of}
-use Rattle.robots_warnings.specs.Internal.Conflicts.{Patterns}
-use Rattle.robots_warnings.specs.Internal.Replaced.{AddsDenied, HasDenied, disallow_lines, is_kept_in}
+use Rattle.robots_warnings.specs.Internal.Replaced.{AddsDenied, HasDenied, Patterns, disallow_lines}
+use Rattle.robots_warnings.specs.Internal.Replaced.{is_kept_in}
 use Rattle.robots_warnings.specs.Internal.Replaced.{is_other_name}
 use Rattle.robots_warnings.specs.declared.positions.Preceding.{Preceding}
 use Rattle.robots_warnings.specs.declared.positions.Preceding.TheVariants.{Agent, Delay, Other}

@@ -1,7 +1,8 @@
--- Rules that are both allowed and disallowed.
-use Rattle.std.specs.Prelude.{◌≡◌, ℕ, ◌==◌, Bool, true, false, not, ◌&&◌, List, Contains, bytes_eq, codes}
-use Rattle.std.specs.Prelude.{if◌then◌else◌}
-use Rattle.std.specs.List.{list_any}
+-- Rules that contradict each other: a Disallow and an Allow of the same, and a Disallow of everything beside
+-- an empty Disallow, which is an Allow of `/` here, and no rule for RFC 9309 and Google.
+use Rattle.std.specs.Prelude.{◌≡◌, ℕ, ◌==◌, Bool, true, false, not, ◌&&◌, List, [], ◌∷◌, Contains, bytes_eq}
+use Rattle.std.specs.Prelude.{Option, None, Some, codes, if◌then◌else◌, is_some}
+use Rattle.std.specs.Option.{option_or}
 use Rattle.texting_robots.specs.Callers.{AreRulesFor, LineValue, PlacedRule, placed_rules}
 
 -- the pattern as it is compared with others: `/` in place of `*`, which matches the same paths and is as
@@ -9,34 +10,94 @@ use Rattle.texting_robots.specs.Callers.{AreRulesFor, LineValue, PlacedRule, pla
 abbrev pub compared : List ℕ → List ℕ
 compared pattern = if bytes_eq pattern (codes "*") then codes "/" else pattern
 
--- the line with this number is a Disallow that applies to the crawler, as does an Allow with the same
--- pattern, where `/` and `*` are the same. An empty Disallow is an Allow of `/`
-pub record IsConflict (agent : List ℕ) (lines : List LineValue) (number : ℕ) : Type 0 where
+-- the line with this number is a Disallow that applies to the crawler, as does an Allow in the other line,
+-- which isn't an empty Disallow, with the same pattern, where `/` and `*` are the same
+pub record IsConflict (is_empty : ℕ → Bool) (agent : List ℕ) (lines : List LineValue) (number other : ℕ)
+    : Type 0 where
   pub rules : List PlacedRule
   pub are : AreRulesFor agent lines rules
   pub pattern : List ℕ
   pub allowed : List ℕ
   pub same : compared allowed ≡ compared pattern
-  pub other : ℕ
   pub disallow : Contains rules (record { rule = (pattern, false); line = number })
   pub allow : Contains rules (record { rule = (allowed, true); line = other })
+  pub stated : is_empty other ≡ false
 
--- ---- as functions; by the theorem `allowed_and_disallowed` of `audit_laws` they agree
+-- the line with this number is an empty Disallow that applies to the crawler, as does a Disallow of `/` or
+-- `*` in the other line; each Allow of these that applies to it is an empty Disallow
+pub record IsOverruled (is_empty : ℕ → Bool) (agent : List ℕ) (lines : List LineValue) (number other : ℕ)
+    : Type 0 where
+  pub rules : List PlacedRule
+  pub are : AreRulesFor agent lines rules
+  pub empty : is_empty number ≡ true
+  pub own : List ℕ
+  pub allow : Contains rules (record { rule = (own, true); line = number })
+  pub pattern : List ℕ
+  pub all : compared pattern ≡ codes "/"
+  pub disallow : Contains rules (record { rule = (pattern, false); line = other })
+  pub stated : is_empty other ≡ false
+  pub alone : (allowed : List ℕ) (at : ℕ) → compared allowed ≡ codes "/"
+      → Contains rules (record { rule = (allowed, true); line = at }) → is_empty at ≡ true
 
--- the rule is an Allow whose pattern is compared as this one
-abbrev pub allows : List ℕ → PlacedRule → Bool
-allows pattern placed = placed.rule.1 && bytes_eq (compared placed.rule.0) pattern
+-- ---- as functions; by theorems of `audit_laws` they agree
 
--- the rule is a Disallow in the line with this number, and an Allow among the rules has the same pattern
-abbrev pub is_conflict_at : List PlacedRule → ℕ → PlacedRule → Bool
-is_conflict_at rules number placed =
-    (not placed.rule.1 && list_any (allows (compared placed.rule.0)) rules) && placed.line == number
+-- the first number that the function gives
+abbrev pub first_of : {X : Type 0} → (X → Option ℕ) → List X → Option ℕ
+first_of f [] = None
+first_of f (x ∷ xs) = option_or (f x) (first_of f xs)
 
--- among the rules for this crawler
-abbrev pub is_conflict_for : List LineValue → ℕ → List ℕ → Bool
-is_conflict_for lines number agent =
-    list_any (is_conflict_at (placed_rules agent lines) number) (placed_rules agent lines)
+-- the line of the rule, if it passes the test
+abbrev pub line_if : (PlacedRule → Bool) → PlacedRule → Option ℕ
+line_if test placed = if test placed then Some placed.line else None
 
--- for at least one of these crawlers
-abbrev pub is_conflict : List (List ℕ) → List LineValue → ℕ → Bool
-is_conflict agents lines number = list_any (is_conflict_for lines number) agents
+-- the line of the first rule that passes the test
+abbrev pub first_line : (PlacedRule → Bool) → List PlacedRule → Option ℕ
+first_line test rules = first_of (line_if test) rules
+
+-- the rule is an Allow, or a Disallow
+abbrev pub is_kind : (is_allow : Bool) → PlacedRule → Bool
+is_kind is_allow placed = if is_allow then placed.rule.1 else not placed.rule.1
+
+-- a rule of this kind whose pattern is compared as this one, and which isn't an empty Disallow; `is_empty`
+-- holds for the numbers of these
+abbrev pub is_like : (is_empty : ℕ → Bool) → (is_allow : Bool) → List ℕ → PlacedRule → Bool
+is_like is_empty is_allow pattern placed =
+    not (is_empty placed.line) && (is_kind is_allow placed && bytes_eq (compared placed.rule.0) pattern)
+
+-- for a Disallow: the line of the first such Allow of the same
+abbrev pub allow_beside : (ℕ → Bool) → List PlacedRule → PlacedRule → Option ℕ
+allow_beside is_empty rules placed =
+    if placed.rule.1 then None else first_line (is_like is_empty true (compared placed.rule.0)) rules
+
+-- the line of the first Disallow of `/` or `*`, unless there is such an Allow of these
+abbrev pub overruling : (ℕ → Bool) → List PlacedRule → Option ℕ
+overruling is_empty rules =
+    if is_some (first_line (is_like is_empty true (codes "/")) rules) then None
+    else first_line (is_like is_empty false (codes "/")) rules
+
+-- for an empty Disallow: this line
+abbrev pub overruled_by : (ℕ → Bool) → List PlacedRule → PlacedRule → Option ℕ
+overruled_by is_empty rules placed =
+    if placed.rule.1 && is_empty placed.line then overruling is_empty rules else None
+
+-- for a rule in the line with this number
+abbrev pub at_line : ℕ → (PlacedRule → Option ℕ) → PlacedRule → Option ℕ
+at_line number other placed = if placed.line == number then other placed else None
+
+-- the other line of a conflict of the line with this number, for the rules of this crawler
+abbrev pub conflict_for : (ℕ → Bool) → List LineValue → ℕ → List ℕ → Option ℕ
+conflict_for is_empty lines number agent =
+    let rules = placed_rules agent lines in first_of (at_line number (allow_beside is_empty rules)) rules
+
+-- for the first of these crawlers that has one
+abbrev pub conflict : (ℕ → Bool) → List (List ℕ) → List LineValue → ℕ → Option ℕ
+conflict is_empty agents lines number = first_of (conflict_for is_empty lines number) agents
+
+-- the Disallow that the empty Disallow in the line with this number overrules, for the rules of this crawler
+abbrev pub overruled_for : (ℕ → Bool) → List LineValue → ℕ → List ℕ → Option ℕ
+overruled_for is_empty lines number agent =
+    let rules = placed_rules agent lines in first_of (at_line number (overruled_by is_empty rules)) rules
+
+-- for the first of these crawlers for which it does
+abbrev pub overruled : (ℕ → Bool) → List (List ℕ) → List LineValue → ℕ → Option ℕ
+overruled is_empty agents lines number = first_of (overruled_for is_empty lines number) agents

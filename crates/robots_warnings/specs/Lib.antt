@@ -11,6 +11,7 @@ pub mod Positions
 pub mod Contents
 pub mod Checks
 pub mod Conflicts
+pub mod EmptyDisallows
 pub mod Closed
 pub mod Google
 pub mod NamesPastLimit

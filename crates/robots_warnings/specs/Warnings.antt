@@ -7,7 +7,8 @@ use Rattle.robots_warnings.specs.declared.positions.Preceding.{Preceding}
 use Rattle.robots_warnings.specs.declared.positions.Preceding.TheVariants.{Other}
 use Rattle.robots_warnings.specs.declared.table.Cause.{Cause}
 use Rattle.robots_warnings.specs.declared.table.Cause.TheVariants.{AllowedAndDisallowed, ClosesEverything}
-use Rattle.robots_warnings.specs.declared.table.Cause.TheVariants.{EmptyAgent, GoogleIgnoresStar}
+use Rattle.robots_warnings.specs.declared.table.Cause.TheVariants.{EmptyAgent, EmptyDisallow}
+use Rattle.robots_warnings.specs.declared.table.Cause.TheVariants.{GoogleIgnoresStar}
 use Rattle.robots_warnings.specs.declared.table.Cause.TheVariants.{GooglebotGroup, GroupPastSizeLimit}
 use Rattle.robots_warnings.specs.declared.table.Cause.TheVariants.{NonstandardEscape, RepeatedRule}
 use Rattle.robots_warnings.specs.declared.table.Cause.TheVariants.{ReplacesStar, SpaceAroundAgent}
@@ -15,7 +16,8 @@ use Rattle.robots_warnings.specs.declared.table.Cause.TheVariants.{VersionInAgen
 use Rattle.robots_warnings.specs.declared.warning.Detail.{Detail}
 use Rattle.robots_warnings.specs.declared.warning.Detail.TheVariants.{Line, Rules}
 use Rattle.robots_warnings.specs.Closed.{is_closed}
-use Rattle.robots_warnings.specs.Conflicts.{is_conflict}
+use Rattle.robots_warnings.specs.Conflicts.{conflict, overruled}
+use Rattle.robots_warnings.specs.EmptyDisallows.{is_empty_at}
 use Rattle.robots_warnings.specs.Google.{googlebot_checks, like_googlebot, star_checks, ignoring_star}
 use Rattle.robots_warnings.specs.Checks.{Check, agent_checks, file_checks, line_checks, position_checks}
 use Rattle.robots_warnings.specs.Checks.{is_in_scope_of, url_checks}
@@ -99,6 +101,12 @@ abbrev pub warned_at : Cause → Option Detail → List ℕ → List WarningValu
 warned_at cause detail numbers =
     map (λ number. record { line = Some number; cause = cause; about = None; detail = detail }) numbers
 
+-- this warning about the line with this number, if there is another line that it is about
+abbrev pub warned_beside : Cause → ℕ → Option ℕ → List WarningValue
+warned_beside cause number None = []
+warned_beside cause number (Some other) =
+    record { line = Some number; cause = cause; about = None; detail = Some (Line other) } ∷ []
+
 -- ---- warnings about a part of a file or of a request
 
 -- the name of a crawler in a warning about it: none if the report is about a single crawler
@@ -151,12 +159,20 @@ past_limit_warnings facts file labels =
     if not facts.is_too_large || suppresses_line_warnings facts then []
     else warned_at GroupPastSizeLimit None (names_past_limit (lines_of labels) file)
 
--- warnings about the rules of these crawlers
-abbrev pub crawler_warnings : List (List ℕ) → List LineValue → List Label → List WarningValue
-crawler_warnings agents lines labels = flat_map
-    (λ label. warned (Some label.number) None
-    ((AllowedAndDisallowed, is_conflict agents lines label.number)
-    ∷ (ClosesEverything, is_closed agents lines label.number) ∷ [])) labels
+-- warnings about a line with this number: the Allow that wins over it, the Disallow that it overrules, and
+-- whether it closes the site, if it does
+abbrev pub rule_warnings : (allow disallow : ℕ → Option ℕ) → (closes : ℕ → Bool) → ℕ → List WarningValue
+rule_warnings allow disallow closes number =
+    warned_beside AllowedAndDisallowed number (allow number)
+    ++ (warned_beside EmptyDisallow number (disallow number)
+    ++ warned (Some number) None ((ClosesEverything, closes number) ∷ []))
+
+-- warnings about the rules of these crawlers; `is_empty` holds for the numbers of empty Disallows
+abbrev pub crawler_warnings : (is_empty : ℕ → Bool) → List (List ℕ) → List LineValue → List Label
+    → List WarningValue
+crawler_warnings is_empty agents lines labels = flat_map
+    (λ label. rule_warnings (conflict is_empty agents lines) (overruled is_empty agents lines)
+    (is_closed agents lines) label.number) labels
 
 -- warnings about one of Google's crawlers that gets the group of Googlebot, if it is among these
 abbrev pub googlebot_warnings : Bool → List (List ℕ) → List LineValue → List ℕ → List WarningValue
@@ -175,10 +191,11 @@ google_warnings everywhere agents lines =
     ++ flat_map (star_warnings everywhere agents lines) ignoring_star
 
 -- warnings about the rules of a group or of a crawler as a whole
-abbrev pub group_warnings : Bool → List (List ℕ) → List LineValue → List Label → List WarningValue
-group_warnings everywhere agents lines labels =
+abbrev pub group_warnings : Bool → List (List ℕ) → (bodies : List (List ℕ)) → List LineValue → List Label
+    → List WarningValue
+group_warnings everywhere agents bodies lines labels =
     warned_at NonstandardEscape None (nonstandard_escapes everywhere labels)
-    ++ (crawler_warnings agents lines labels
+    ++ (crawler_warnings (is_empty_at bodies labels) agents lines labels
     ++ (warned_at ReplacesStar (Some (Rules (star_count lines))) (replacing agents lines labels)
     ++ (warned_at RepeatedRule None (repeated everywhere labels)
     ++ google_warnings everywhere agents lines)))
@@ -199,4 +216,5 @@ warnings everywhere named agents urls file facts labels lines =
     general_warnings facts everywhere named urls
     ++ (file_lines_warnings facts everywhere labels (bodies_read file)
     ++ (position_warnings labels
-    ++ (past_limit_warnings facts file labels ++ group_warnings everywhere agents lines labels)))
+    ++ (past_limit_warnings facts file labels
+    ++ group_warnings everywhere agents (bodies_read file) lines labels)))

@@ -8,7 +8,7 @@ use crate::table::Cause;
 /// For each warning, in the order of [`crate::table::WARNINGS`], a file that triggers it for FerrisBot, or with
 /// the arguments in its first line, or a command. In a file, `\xFF` is a byte, and `\{512000 a}` is 512,000 times an `a`.
 #[rattlefmt::skip]
-pub(crate) static EXAMPLES: [(Cause, &str); 68] = [
+pub(crate) static EXAMPLES: [(Cause, &str); 69] = [
     // the file
     (Cause::LooksLikeHtml, "<html>\n</html>"),
     (Cause::LooksLikeUtf16, "\\xFF\\xFED\\x00"),
@@ -79,6 +79,7 @@ pub(crate) static EXAMPLES: [(Cause, &str); 68] = [
     (Cause::DelaySplitsGroup, "User-agent: a\nCrawl-delay: 1\nUser-agent: b\nDisallow: /"),
     (Cause::GroupPastSizeLimit, "\\{512000 #}\nUser-agent: a"),
     (Cause::AllowedAndDisallowed, "Allow: /a\nDisallow: /a"),
+    (Cause::EmptyDisallow, "User-agent: *\nDisallow: /\nDisallow:"),
     // the groups
     (Cause::TwoDelays, "User-agent: *\nCrawl-delay: 1\nCrawl-delay: 2"),
     (Cause::ClosesEverything, "User-agent: *\nDisallow: /"),

@@ -6,6 +6,7 @@ pub mod checks;
 mod closed;
 mod conflicts;
 pub mod contents;
+pub mod empty_disallows;
 pub mod examples;
 pub mod facts;
 pub mod field_names;

@@ -13,7 +13,7 @@ ghost use Rattle.robots_warnings.specs.Replaced.{is_first_name, is_lacking, is_p
 ghost use Rattle.robots_warnings.specs.Replaced.{star_count, star_rules};
 
 use crate::closed::is_whole_site;
-use crate::conflicts::{Patterns, pattern_of};
+use crate::conflicts::pattern_of;
 use crate::names::{Names, add_name};
 use crate::numbers::push_if;
 use crate::positions::{Preceding, name_star, preceding_with};
@@ -23,6 +23,9 @@ use std::collections::{BTreeSet, HashSet};
 use texting_robots::labels::LabeledLine;
 use texting_robots::parser::Line;
 use texting_robots::site::{GroupLine, Site};
+
+/// The patterns of rules.
+type Patterns = HashSet<String>;
 
 /// Appends the number of the line if it has a Disallow rule.
 fn add_disallow(numbers: &mut Vec<usize>, line: &GroupLine<'_>) -> Result<(), AllocError>

@@ -86,6 +86,7 @@ pub enum Cause {
     DelaySplitsGroup,
     GroupPastSizeLimit,
     AllowedAndDisallowed,
+    EmptyDisallow,
     // the groups
     TwoDelays,
     ClosesEverything,
@@ -102,7 +103,7 @@ pub enum Cause {
 
 /// The warnings with their levels, names and messages.
 #[rattlefmt::skip]
-pub static WARNINGS: [(Cause, Level, &str, &str); 68] = [
+pub static WARNINGS: [(Cause, Level, &str, &str); 69] = [
     // the file
     (Cause::LooksLikeHtml, Level::Error, "looks-like-html",
         "no usable line found; the text starts with <, so it may be an HTML page; serve a plain-text robots.txt instead"),
@@ -231,6 +232,8 @@ pub static WARNINGS: [(Cause, Level, &str, &str); 68] = [
         "this name isn't in the first 512,000 bytes, so its group is ignored; move the group up or shorten the file"),
     (Cause::AllowedAndDisallowed, Level::Warning, "allowed-and-disallowed",
         "a crawler that gets this Disallow also gets an Allow with the same path, and the Allow wins here; delete the one you don't want"),
+    (Cause::EmptyDisallow, Level::Warning, "empty-disallow",
+        "here an empty Disallow is an Allow of /, which wins over a Disallow of / or * for the same crawler; for RFC 9309 and Google it is no rule, and that Disallow applies; delete the one you don't want"),
     // the groups
     (Cause::TwoDelays, Level::Warning, "two-delays",
         "the delay differs from one above it in the same group, so it isn't used here, but other crawlers may use it; delete all but one"),
@@ -258,7 +261,7 @@ pub static WARNINGS: [(Cause, Level, &str, &str); 68] = [
 /// The warnings that aren't about the syntax of a file, but about the request, the size of the file, or what a file of
 /// the standard's grammar means. All others are about syntax, notes included.
 #[rattlefmt::skip]
-pub(crate) static NOT_ABOUT_SYNTAX: [Cause; 31] = [
+pub(crate) static NOT_ABOUT_SYNTAX: [Cause; 32] = [
     // the request
     Cause::EmptyAgent,
     Cause::SpaceAroundAgent,
@@ -284,6 +287,7 @@ pub(crate) static NOT_ABOUT_SYNTAX: [Cause; 31] = [
     Cause::DelaySplitsGroup,
     Cause::DelayAboveStar,
     Cause::AllowedAndDisallowed,
+    Cause::EmptyDisallow,
     Cause::TwoDelays,
     Cause::ClosesEverything,
     Cause::ReplacesStar,

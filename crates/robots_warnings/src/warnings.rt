@@ -1,12 +1,16 @@
 //! All warnings about a file and a request.
 ghost use Rattle.std.specs.Prelude.{◌≡◌, [], IfOk, OnOk, flat_map, if◌then◌else◌, map, option_map, string_bytes};
+ghost use Rattle.std.specs.BTreeMap.{get};
+ghost use Rattle.std.specs.BTreeSet.{contains};
+ghost use Rattle.std.specs.Ordering.{nat_cmp};
 ghost use Rattle.texting_robots.specs.Callers.{bodies_read, by_value, file_lines, label_by_value};
 ghost use Rattle.robots_warnings.specs.Checks.{directive_checks, is_directive, raw_checks, rule_checks, value_checks};
 ghost use Rattle.robots_warnings.specs.Contents.{comment_of, tail_of};
+ghost use Rattle.robots_warnings.specs.EmptyDisallows.{is_empty_at};
 ghost use Rattle.robots_warnings.specs.Internal.{Adds, warning_value};
 ghost use Rattle.robots_warnings.specs.Warnings.{agent_warnings, crawler_shown, crawler_warnings, file_lines_warnings, general_warnings};
 ghost use Rattle.robots_warnings.specs.Warnings.{google_warnings, googlebot_warnings, group_warnings, line_warnings, lines_warnings};
-ghost use Rattle.robots_warnings.specs.Warnings.{past_limit_warnings, position_warnings, star_warnings, url_warnings, warned, warned_at, warnings};
+ghost use Rattle.robots_warnings.specs.Warnings.{past_limit_warnings, position_warnings, rule_warnings, star_warnings, url_warnings, warned, warned_at, warned_beside, warnings};
 
 use crate::checks::{
     Check, agent_checks, delay_checks, delay_text_checks, field_checks, file_checks,
@@ -14,13 +18,15 @@ use crate::checks::{
     space_checks, text_checks, url_checks, user_agent_checks,
 };
 use crate::closed::closed;
-use crate::conflicts::conflicts;
+use crate::conflicts::{Others, conflicts, overruled};
 use crate::contents::split_content;
+use crate::empty_disallows::empty_disallows;
 use crate::facts::{FileFacts, suppresses_line_warnings};
 use crate::field_names::is_without_colon;
 use crate::file::{counted, is_blank};
 use crate::google::{IGNORING_STAR, LIKE_GOOGLEBOT, googlebot_checks, star_checks};
 use crate::names_past_limit::names_past_limit;
+use crate::numbers::Numbers;
 use crate::plain::{is_plain, is_plain_line};
 use crate::positions::{Preceding, first_delay, last_group, preceding_with, sole_name};
 use crate::repeated::repeated;
@@ -332,29 +338,87 @@ fn warn_past_limit(
     warn_at(found, Cause::GroupPastSizeLimit, None, &numbers)
 }
 
+/// Appends this warning about the line with this number, if there is another line that it is about.
+fn warn_beside(
+    found: &mut Found<'_>,
+    cause: Cause,
+    number: usize,
+    other: Option<usize>,
+) -> Result<(), AllocError>
+    ensures { OnOk result (Adds found.old.items found.new.items (warned_beside cause number other)) }
+{
+    let Some(line) = other else {
+        return Ok(());
+    };
+    found.push(Warning {
+        line: Some(number),
+        cause,
+        about: None,
+        detail: Some(Detail::Line(line)),
+    })?;
+    Ok(())
+}
+
+/// Appends the warnings about the line with this number.
+fn warn_of_number(
+    found: &mut Found<'_>,
+    number: usize,
+    conflicts: &Others,
+    overruled: &Others,
+    closed: &Numbers,
+) -> Result<(), AllocError>
+    ensures { OnOk result (Adds found.old.items found.new.items (rule_warnings (get nat_cmp conflicts.now)
+        (get nat_cmp overruled.now) (contains nat_cmp closed.now) number)) }
+{
+    let allow = conflicts.get(&number).copied();
+    warn_beside(found, Cause::AllowedAndDisallowed, number, allow)?;
+    let disallow = overruled.get(&number).copied();
+    warn_beside(found, Cause::EmptyDisallow, number, disallow)?;
+    let closes = closed.contains(&number);
+    warn(
+        found,
+        Some(number),
+        None,
+        &[(Cause::ClosesEverything, closes)],
+    )
+}
+
+/// Appends the warnings about these lines.
+fn warn_of_numbers(
+    found: &mut Found<'_>,
+    labels: &[LabeledLine<'_>],
+    conflicts: &Others,
+    overruled: &Others,
+    closed: &Numbers,
+) -> Result<(), AllocError>
+    ensures { OnOk result (Adds found.old.items found.new.items (flat_map (λ label. rule_warnings
+        (get nat_cmp conflicts.now) (get nat_cmp overruled.now) (contains nat_cmp closed.now) label.number)
+        (map label_by_value labels.now))) }
+{
+    for labeled in labels {
+        warn_of_number(found, labeled.number, conflicts, overruled, closed)?;
+    }
+    Ok(())
+}
+
 /// Appends the warnings about the rules of these crawlers.
 fn warn_of_crawlers(
     alloc: Global,
     found: &mut Found<'_>,
     site: &Site,
     agents: &[String],
+    file: &[u8],
     labels: &[LabeledLine<'_>],
 ) -> Result<(), AllocError>
     ensures { OnOk result (Adds found.old.items found.new.items
-        (crawler_warnings (map string_bytes agents.now) (file_lines site.now) (map label_by_value labels.now))) }
+        (crawler_warnings (is_empty_at (bodies_read file.now) (map label_by_value labels.now))
+        (map string_bytes agents.now) (file_lines site.now) (map label_by_value labels.now))) }
 {
-    let conflicts = conflicts(alloc, site, agents)?;
+    let empty = empty_disallows(alloc, labels, file)?;
+    let conflicts = conflicts(alloc, site, agents, &empty)?;
+    let overruled = overruled(alloc, site, agents, &empty)?;
     let closed = closed(alloc, site, agents)?;
-    for labeled in labels {
-        let is_conflict = conflicts.contains(&labeled.number);
-        let is_closed = closed.contains(&labeled.number);
-        let checks = [
-            (Cause::AllowedAndDisallowed, is_conflict),
-            (Cause::ClosesEverything, is_closed),
-        ];
-        warn(found, Some(labeled.number), None, &checks)?;
-    }
-    Ok(())
+    warn_of_numbers(found, labels, &conflicts, &overruled, &closed)
 }
 
 /// Appends the warnings about those of these crawlers with one of these names, which get the group of Googlebot
@@ -420,14 +484,15 @@ fn warn_of_groups(
     everywhere: bool,
     site: &Site,
     agents: &[String],
+    file: &[u8],
     labels: &[LabeledLine<'_>],
 ) -> Result<(), AllocError>
     ensures { OnOk result (Adds found.old.items found.new.items (group_warnings everywhere
-        (map string_bytes agents.now) (file_lines site.now) (map label_by_value labels.now))) }
+        (map string_bytes agents.now) (bodies_read file.now) (file_lines site.now) (map label_by_value labels.now))) }
 {
     let escapes = nonstandard_escapes(alloc, everywhere, labels)?;
     warn_at(found, Cause::NonstandardEscape, None, &escapes)?;
-    warn_of_crawlers(alloc, found, site, agents, labels)?;
+    warn_of_crawlers(alloc, found, site, agents, file, labels)?;
     let replacing = replacing(alloc, site, agents, labels)?;
     let count = star_count(alloc, site)?;
     let detail = Some(Detail::Rules(count));
@@ -460,6 +525,6 @@ pub fn warnings<'a>(
     warn_of_file_lines(alloc, &mut found, facts, everywhere, labels, file)?;
     warn_of_positions(&mut found, labels)?;
     warn_past_limit(alloc, &mut found, facts, file, labels)?;
-    warn_of_groups(alloc, &mut found, everywhere, site, agents, labels)?;
+    warn_of_groups(alloc, &mut found, everywhere, site, agents, file, labels)?;
     Ok(found)
 }

@@ -1,16 +1,10 @@
 -- Expectations and findings as the code handles them.
 use Rattle.std.specs.Prelude.{◌≡◌, ℕ, ◌==◌, List, [], ◌∷◌, filter, length, map, string_bytes}
 use Rattle.std.specs.List.{AllByRecursion as Each}
-use Rattle.texting_robots.specs.Callers.{lines_read}
 use Rattle.robots_io.specs.Lines.{ended}
 use Rattle.robots_io.specs.Sanitize.{sanitized}
-use Rattle.robots_io.specs.Verdicts.{IsDecisionOn}
-use Rattle.audit_core.specs.declared.audit.Reading.{Reading}
-use Rattle.audit_core.specs.declared.audit.Reading.TheVariants as reading
 use Rattle.audit_expect.specs.declared.expectations.AgentReading.{AgentReading}
 use Rattle.audit_expect.specs.declared.checks.Checked.{Checked}
-use Rattle.audit_expect.specs.declared.checks.Finding.{Finding}
-use Rattle.audit_expect.specs.declared.checks.Finding.TheVariants.{Decided, Rejected}
 use Rattle.audit_core.specs.declared.fault.Fault.{Fault}
 use Rattle.audit_core.specs.declared.fault.Entry.{Entry}
 use Rattle.audit_core.specs.declared.fault.Fault.TheVariants.{Empty, Malformed, Memory}
@@ -34,13 +28,6 @@ pub record IsReadFor (agent file : List ℕ) (found : AgentReading) : Type 0 whe
   pub agent_is : found.agent.now ≡ agent
   pub reading : IsReading agent file found.reading
 
--- the finding on a URL, in terms of how the file is read
-abbrev pub IsFindingBy : Reading → List ℕ → Finding → Type 0
-IsFindingBy (reading.Rejected line) url (Rejected other) = line ≡ other
-IsFindingBy (reading.Rejected line) url (Decided decision) = ⊥
-IsFindingBy (reading.Accepted robot) url (Rejected line) = ⊥
-IsFindingBy (reading.Accepted robot) url (Decided decision) = IsDecisionOn robot.rules url decision
-
 -- the line on an expectation, if it fails
 abbrev pub failures_at : List ℕ → CheckedValue → List (List ℕ)
 failures_at name checked = map (failure_line name) (filter fails (checked ∷ []))
@@ -50,7 +37,7 @@ pub record AreFailuresOn (name file : List ℕ) (expectations : List Expectation
     : Type 0 where
   pub checked : List CheckedValue
   pub all : map (λ (one : CheckedValue). one.expectation) checked ≡ expectations
-  pub found : Each (IsChecked (lines_read file)) checked
+  pub found : Each (IsChecked file) checked
   pub whole : report ≡ ended (map (failure_line name) (filter fails checked))
 
 -- the whole report on these expectations, and whether all hold
@@ -58,7 +45,7 @@ pub record AreResultsOn (name file : List ℕ) (expectations : List ExpectationV
     : Type 0 where
   pub checked : List CheckedValue
   pub all : map (λ (one : CheckedValue). one.expectation) checked ≡ expectations
-  pub found : Each (IsChecked (lines_read file)) checked
+  pub found : Each (IsChecked file) checked
   pub whole : string_bytes results.text ≡ ended (result_lines name checked)
   pub hold : results.all_hold ≡ (length (filter fails checked) == 0)
 

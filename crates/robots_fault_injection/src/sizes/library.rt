@@ -6,7 +6,7 @@ use crate::no_alloc::{allows_after, matches_after};
 use crate::sites::{lists_agents, lists_sitemap};
 use robots_examples::audit::audit;
 use robots_examples::single_query::may_fetch;
-use robots_io::verdicts::{counted_decision_on, decision_on};
+use robots_io::verdicts::counted_decision_on;
 use std::alloc::Global;
 use texting_robots::labels::{first_overlong_line, is_named, labeled_lines};
 use texting_robots::minregex::MinRegex;
@@ -42,9 +42,8 @@ fn is_closed(alloc: Global, url: &str) -> Result<bool, Error> {
 fn denies_url(alloc: Global, robot: &Robot, url: &str) -> Result<bool, Error> {
     let is_allowed = robot.allowed(alloc, url)?;
     let decided = robot.decide(alloc, url)?;
-    let uncounted = decision_on(alloc, robot, url)?;
     let counted = counted_decision_on(alloc, robot, url)?;
-    Ok(!is_allowed && decided == DENIED && uncounted == DENIED && counted == DENIED)
+    Ok(!is_allowed && decided == DENIED && counted == DENIED)
 }
 
 /// A path with this many letters that are escaped.

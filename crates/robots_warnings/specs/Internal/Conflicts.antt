@@ -1,33 +1,48 @@
--- The set of the patterns that are allowed, as they are compared.
-use Rattle.std.specs.Prelude.{◌≡◌, ℕ, Bool, false, not, ◌&&◌, ◌||◌, List, Option, String}
-use Rattle.std.specs.HashSet.{HashSet, contains_text}
+-- The lines of rules by their patterns, as they are compared.
+use Rattle.std.specs.Prelude.{◌≡◌, ℕ, ◌==◌, Bool, false, List, None, Option, Some, String, if◌then◌else◌}
+use Rattle.std.specs.Prelude.{option_and_then}
+use Rattle.std.specs.BTreeMap.{BTreeMap, get}
 use Rattle.std.specs.Global.{Global}
-use Rattle.std.specs.List.{list_any}
-use Rattle.std.specs.Option.{option_map_or}
+use Rattle.std.specs.HashMap.{HashMap, get_by_text}
+use Rattle.std.specs.Option.{option_or}
+use Rattle.std.specs.Ordering.{nat_cmp}
 use Rattle.texting_robots.specs.Callers.{PlacedRule}
-use Rattle.robots_warnings.specs.Conflicts.{allows, compared}
+use Rattle.robots_warnings.specs.Conflicts.{compared, first_line, is_kind, is_like, line_if}
 
--- a set of patterns, for any hash function
-abbrev pub Patterns : Type 0 → Type 0
-Patterns S = HashSet (String Global) S
+-- a map from patterns to lines, for any hash function
+abbrev pub Lines : Type 0 → Type 0
+Lines S = HashMap (String Global) ℕ S
 
--- the new set is the old one and the pattern of the rule, if there is one and it is an Allow
-pub record AddsAllowed {S : Type 0} (old new : Patterns S) (given : Option PlacedRule) : Type 0 where
-  pub each : (pattern : List ℕ) → contains_text new pattern
-      ≡ (contains_text old pattern || option_map_or (allows pattern) given false)
+-- the pattern of the rule as it is compared, if the rule is of this kind
+abbrev pub pattern_if : Bool → PlacedRule → Option (List ℕ)
+pattern_if is_allow placed = if is_kind is_allow placed then Some (compared placed.rule.0) else None
 
--- the set has exactly the patterns of the Allows among the rules
-pub record HasAllowed {S : Type 0} (allowed : Patterns S) (rules : List PlacedRule) : Type 0 where
-  pub each : (pattern : List ℕ) → contains_text allowed pattern ≡ list_any (allows pattern) rules
+-- the new map has the line of this rule, if there is one, it is of this kind, and the old one has no line for
+-- its pattern
+pub record AddsLine {S : Type 0} (is_empty : ℕ → Bool) (is_allow : Bool) (old new : Lines S)
+    (given : Option PlacedRule) : Type 0 where
+  pub each : (pattern : List ℕ) → get_by_text new pattern
+      ≡ option_or (get_by_text old pattern)
+      (option_and_then (line_if (is_like is_empty is_allow pattern)) given)
 
--- with the patterns of the Allows among the rules that are left, the set has those of all
-pub record AllowedWith {S : Type 0} (allowed : Patterns S) (left all : List PlacedRule) : Type 0 where
-  pub each : (pattern : List ℕ) → (contains_text allowed pattern || list_any (allows pattern) left)
-      ≡ list_any (allows pattern) all
+-- the map has the line of the first rule of this kind with each pattern
+pub record HasFirst {S : Type 0} (is_empty : ℕ → Bool) (is_allow : Bool) (lines : Lines S)
+    (rules : List PlacedRule) : Type 0 where
+  pub each : (pattern : List ℕ) → get_by_text lines pattern
+      ≡ first_line (is_like is_empty is_allow pattern) rules
 
--- there is a rule, it is a Disallow, and the set contains its pattern
-abbrev pub is_allowed_too : {S : Type 0} → Patterns S → Option PlacedRule → Bool
-is_allowed_too allowed given =
-    option_map_or
-    (λ (placed : PlacedRule). not placed.rule.1 && contains_text allowed (compared placed.rule.0))
-    given false
+-- with the rules that are left, the map has that of all
+pub record HasFirstWith {S : Type 0} (is_empty : ℕ → Bool) (is_allow : Bool) (lines : Lines S)
+    (left all : List PlacedRule) : Type 0 where
+  pub each : (pattern : List ℕ)
+      → option_or (get_by_text lines pattern) (first_line (is_like is_empty is_allow pattern) left)
+      ≡ first_line (is_like is_empty is_allow pattern) all
+
+-- the new map has this number for the line, if the old one has none
+abbrev pub Notes : BTreeMap ℕ ℕ → BTreeMap ℕ ℕ → (number : ℕ) → Option ℕ → Type 0
+Notes old new number other = (n : ℕ) → get nat_cmp new n
+    ≡ option_or (get nat_cmp old n) (if number == n then other else None)
+
+-- the line that the map has for the pattern of a Disallow
+abbrev pub allow_in : {S : Type 0} → Lines S → PlacedRule → Option ℕ
+allow_in allowed placed = option_and_then (get_by_text allowed) (pattern_if false placed)

@@ -1,16 +1,20 @@
 -- The set of the patterns of the Disallows of `*`, and that of the names of crawlers that have none of these.
 use Rattle.std.specs.Prelude.{◌≡◌, ℕ, Bool, false, not, ◌||◌, ◌&&◌, List, [], Option, None, Some, bytes_eq}
-use Rattle.std.specs.Prelude.{codes}
+use Rattle.std.specs.Prelude.{String, codes}
 use Rattle.std.specs.BTreeSet.{BTreeSet, contains}
-use Rattle.std.specs.HashSet.{contains_text}
+use Rattle.std.specs.Global.{Global}
+use Rattle.std.specs.HashSet.{HashSet, contains_text}
 use Rattle.std.specs.List.{cons_option, list_any}
 use Rattle.std.specs.Option.{option_map_or}
 use Rattle.std.specs.Str.{str_to_ascii_lowercase}
 use Rattle.texting_robots.specs.Callers.{LineValue, PlacedRule, UserAgent}
 use Rattle.robots_warnings.specs.Closed.{is_whole_site}
-use Rattle.robots_warnings.specs.Internal.Conflicts.{Patterns}
 use Rattle.robots_warnings.specs.Internal.Names.{Key, key_cmp}
 use Rattle.robots_warnings.specs.Replaced.{denies, disallow_in, lacks_all}
+
+-- a set of patterns, for any hash function
+abbrev pub Patterns : Type 0 → Type 0
+Patterns S = HashSet (String Global) S
 
 -- the new set is the old one and the pattern of the rule, if there is one and it is a Disallow
 pub record AddsDenied {S : Type 0} (old new : Patterns S) (given : Option PlacedRule) : Type 0 where

@@ -11,21 +11,21 @@ pub group_of-group-requires : goal.group_of-group-requires
 group_of-group-requires c =
     c.requires.agents ∙ sym (ap (λ text. list_any is_agent (file_lines text)) c.requires.site)
 
-pub returns-in-Ok-clause-ok : goal.returns-in-Ok-clause-ok
-returns-in-Ok-clause-ok c =
+pub returns-in_ok-verdicts-in-Accepted-clause-ok : goal.returns-in_ok-verdicts-in-Accepted-clause-ok
+returns-in_ok-verdicts-in-Accepted-clause-ok c =
     agent_made _ c.args.file.now c.args.agent.now (agent_value record {
       agent = c.in_ok-name.name;
       group = c.group_of-group.result;
       delay = c.robot.inside.delay;
       rejected = None;
-      verdicts = c.in-Ok.verdicts;
+      verdicts = c.in_ok-verdicts-in-Accepted.verdicts;
     }) c.in-Accepted.robot
     (rw c.in-Accepted.is at c.in_ok-robot.ensures.ok) c.in_ok-name.ensures.ok
     (c.group_of-group.ensures ∙ ap (λ text. group_of c.args.agent.now (file_lines text)) c.requires.site)
-    (ap (λ (r : RobotValue). r.delay) c.robot.view_is) refl c.in-Ok.ensures.ok
+    (ap (λ (r : RobotValue). r.delay) c.robot.view_is) refl c.in_ok-verdicts-in-Accepted.ensures.ok
 
-pub returns-clause-ok : goal.returns-clause-ok
-returns-clause-ok c = record {
+pub returns-in-Rejected-clause-ok : goal.returns-in-Rejected-clause-ok
+returns-in-Rejected-clause-ok c = record {
   agent_is = c.in_ok-name.ensures.ok;
   group_is = c.group_of-group.ensures
       ∙ ap (λ text. group_of c.args.agent.now (file_lines text)) c.requires.site;

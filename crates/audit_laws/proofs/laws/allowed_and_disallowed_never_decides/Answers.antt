@@ -4,10 +4,11 @@ use Rattle.audit_laws.proofs.ConflictLemmas.{conflict_never_decides, same_wins, 
 use Rattle.audit_laws.proofs.laws.allowed_and_disallowed_never_decides.Goals as goal
 
 pub returns-clause-same : goal.returns-clause-same
-returns-clause-same c agent lines rules number text is same =
-    conflict_never_decides agent lines rules number text is (same_wins is.pattern is.allowed text same)
+returns-clause-same c is_empty agent lines rules number other text is same =
+    conflict_never_decides is_empty agent lines rules number other text is
+    (same_wins is.pattern is.allowed text same)
 
 pub returns-clause-path : goal.returns-clause-path
-returns-clause-path c agent lines rules number path is =
-    conflict_never_decides agent lines rules number (byte "/" ∷ path) is
+returns-clause-path c is_empty agent lines rules number other path is =
+    conflict_never_decides is_empty agent lines rules number other (byte "/" ∷ path) is
     (wins_on_paths is.pattern is.allowed path is.same)

@@ -1,12 +1,15 @@
-use Rattle.std.proofs.Common.{◌≡◌, ◌++◌}
+use Rattle.std.specs.BTreeSet.{contains}
 use Rattle.std.specs.List.{filter_map}
+use Rattle.std.specs.Ordering.{nat_cmp}
 use Rattle.texting_robots.specs.Callers.{file_lines, placed_rules}
 use Rattle.texting_robots.specs.Internal.Site.{rule_of}
-use Rattle.audit_compare.proofs.rule_sets.rules_for.Given as goal
+use Rattle.robots_warnings.specs.Internal.Conflicts.{HasFirstWith}
+use Rattle.robots_warnings.proofs.conflicts.first_lines.Given as goal
 
 abbrev pub invariant-loop-line : goal.invariant-loop-line
 invariant-loop-line l = record {
   can_next : (goal.iterator-loop-line).can_next l.line-iterator;
   is_finite : (goal.iterator-loop-line).is_finite l.line-iterator;
-  all : l.rules.items ++ filter_map rule_of l.line-iterator ≡ placed_rules l.agent (file_lines l.site);
+  all : HasFirstWith (contains nat_cmp l.empty) l.is_allow l.lines (filter_map rule_of l.line-iterator)
+      (placed_rules l.agent (file_lines l.site));
 }

@@ -1,0 +1,220 @@
+//! The other reading of an empty Disallow. Here it is an Allow of `/`; for RFC 9309 and Google it is no rule.
+ghost use Rattle.std.specs.Prelude.{◌≡◌, ◌↔◌, All, Decides, IfErr, IfOk, IsTrue, false, filter, map, option_map};
+ghost use Rattle.std.specs.Option.{option_map_or};
+ghost use Rattle.texting_robots.specs.Callers.{IsBetter, IsOverlong, IsRejected, Matches, PlacedRule, by_value, file_bodies, file_lines, placed_rules};
+ghost use Rattle.texting_robots.specs.Internal.Line.{line_of};
+ghost use Rattle.texting_robots.specs.Internal.Statement.{skip_blanks};
+ghost use Rattle.robots_io.specs.Verdicts.{IsDecisionOn};
+ghost use Rattle.audit_core.specs.Asked.{asked_target};
+ghost use Rattle.audit_expect.specs.OtherReading.{IsOtherDecision};
+ghost use Rattle.audit_expect.specs.Internal.OtherReading.{IsDecidedBy, IsPreferred, begins_with_d, decision_with, is_empty_disallow, is_marked, is_other};
+
+use audit_core::asked::asked_target;
+use audit_core::fault::Fault;
+use audit_core::rules::{Rule, rules_for};
+use std::alloc::{AllocError, Global};
+use texting_robots::minregex::MinRegex;
+use texting_robots::parser::{Line, file_bodies, file_lines};
+use texting_robots::robot::Decision;
+use texting_robots::{Error, Site};
+
+// ---- empty Disallows
+
+/// The text without leading spaces and tabs.
+fn skip_blanks<'a>(text: &'a [u8]) -> &'a [u8]
+    ensures { result.now ≡ skip_blanks text.now }
+{
+    let mut rest = text;
+    while let [b' ' | b'\t', after @ ..] = rest {
+        rest = after;
+    }
+    rest
+}
+
+/// Whether the content of a line begins as that of a Disallow does, with a D after spaces and tabs.
+#[tactic(auto, using(crate::proofs::OtherReadingLemmas::letter_d))]
+fn begins_with_d(body: &[u8]) -> bool
+    ensures { result ≡ begins_with_d body.now }
+{
+    match skip_blanks(body).first() {
+        Some(byte) => byte.to_ascii_lowercase() == b'd',
+        None => false,
+    }
+}
+
+/// Whether a line with this content is an empty Disallow, which is read as an Allow.
+fn is_empty_disallow(line: Line<'_>, body: &[u8]) -> bool
+    requires { by_value line ≡ line_of body.now }
+    ensures { result ≡ is_empty_disallow body.now }
+{
+    match line {
+        Line::Allow(_) => begins_with_d(body),
+        _ => false,
+    }
+}
+
+/// For each line of a file, whether it is an empty Disallow.
+pub(crate) fn empty_disallows(alloc: Global, site: &Site) -> Result<Vec<bool>, AllocError>
+    ensures { IfOk result (λ found. found.items ≡ map is_empty_disallow (file_bodies site.now)) }
+{
+    let mut found = Vec::new(alloc);
+    let mut lines = file_lines(site.text());
+    for body in file_bodies(site.text()) {
+        let Some(line) = lines.next() else {
+            return Ok(found);
+        };
+        found.push(is_empty_disallow(line, body))?;
+    }
+    Ok(found)
+}
+
+/// Whether the line with this number is marked.
+fn is_marked(marks: &[bool], line: usize) -> bool
+    ensures { result ≡ is_marked marks.now line }
+{
+    if line == 0 {
+        return false;
+    }
+    match marks.get(line - 1) {
+        Some(is) => *is,
+        None => false,
+    }
+}
+
+/// The rules for a crawler that aren't those of empty Disallows.
+fn other_rules(
+    alloc: Global,
+    site: &Site,
+    agent: &str,
+    empty: &[bool],
+) -> Result<Vec<Rule>, AllocError>
+    requires { empty.now ≡ map is_empty_disallow (file_bodies site.now) }
+    ensures { IfOk result (λ rules. rules.items
+        ≡ filter (is_other (file_bodies site.now)) (placed_rules agent.now (file_lines site.now))) }
+{
+    let mut rules = rules_for(alloc, site, agent)?;
+    rules.retain(|rule| !is_marked(empty, rule.line));
+    Ok(rules)
+}
+
+// ---- the rule that decides
+
+/// Whether the pattern of a rule matches.
+fn is_match(alloc: Global, rule: &Rule, target: &str) -> Result<bool, Fault>
+    requires { ¬ IsOverlong rule.now.rule.0 }
+    ensures ok { IfOk result (λ answer. IsTrue answer ↔ Matches rule.now.rule.0 target.now) }
+    ensures fault { IfErr result (λ fault. fault ≡ Fault.Memory) }
+{
+    match MinRegex::new(alloc, &rule.pattern) {
+        Ok(pattern) => Ok(pattern.is_match(target)),
+        Err(Error::Memory) => Err(Fault::Memory),
+        Err(Error::InvalidRobots | Error::InvalidRule) => unreachable!(),
+    }
+}
+
+/// Whether the first rule takes precedence: it is longer, or as long, and an Allow for a Disallow, or in a line above.
+fn is_better(one: &Rule, other: &Rule) -> bool
+    ensures { Decides result (IsBetter one.now other.now) }
+{
+    if one.pattern.len() != other.pattern.len() {
+        return one.pattern.len() > other.pattern.len();
+    }
+    if one.is_allow != other.is_allow {
+        return one.is_allow;
+    }
+    one.line < other.line
+}
+
+/// Of a rule that matches and the one found before, the one that takes precedence.
+fn preferred<'r>(rule: &'r Rule, before: Option<&'r Rule>) -> &'r Rule
+    ensures { IsPreferred rule.entry.now (option_map (λ rule. rule.now) before.entry) result.now }
+{
+    match before {
+        Some(other) if !is_better(rule, other) => other,
+        _ => rule,
+    }
+}
+
+/// Of the rules that match, the one that takes precedence over all others.
+fn deciding_rule<'r>(
+    alloc: Global,
+    rules: &'r [Rule],
+    target: &str,
+) -> Result<Option<&'r Rule>, Fault>
+    requires { All (λ (placed : PlacedRule). ¬ IsOverlong placed.rule.0) rules.now }
+    ensures ok { IfOk result (λ found. IsDecidedBy rules.now target.now (option_map (λ rule. rule.now) found)) }
+    ensures fault { IfErr result (λ fault. fault ≡ Fault.Memory) }
+{
+    let mut best = None;
+    for rule in rules {
+        if is_match(alloc, rule, target)? {
+            best = Some(preferred(rule, best));
+        }
+    }
+    Ok(best)
+}
+
+/// The decision by this rule, or by none.
+fn decision_with(rule: Option<&Rule>) -> Decision
+    ensures { result ≡ decision_with (option_map (λ rule. rule.now) rule.entry) }
+{
+    match rule {
+        Some(rule) => Decision {
+            allowed: rule.is_allow,
+            line: Some(rule.line),
+        },
+        None => Decision {
+            allowed: true,
+            line: None,
+        },
+    }
+}
+
+/// The decision of these rules on a match target.
+fn decision_of(alloc: Global, rules: &[Rule], target: &str) -> Result<Decision, Fault>
+    requires { All (λ (placed : PlacedRule). ¬ IsOverlong placed.rule.0) rules.now }
+    ensures ok { IfOk result (IsDecisionOn rules.now target.now) }
+    ensures fault { IfErr result (λ fault. fault ≡ Fault.Memory) }
+{
+    if target == "/robots.txt" {
+        return Ok(decision_with(None));
+    }
+    let rule = deciding_rule(alloc, rules, target)?;
+    Ok(decision_with(rule))
+}
+
+/// Whether the line that decides is marked.
+fn is_by_marked(decision: &Decision, marks: &[bool]) -> bool
+    ensures { result ≡ option_map_or (is_marked marks.now) decision.now.line false }
+{
+    match decision.line {
+        Some(line) => is_marked(marks, line),
+        None => false,
+    }
+}
+
+/// The decision on a URL where an empty Disallow is no rule. `decision` is that where it is an Allow of `/`; only if
+/// such a line decides there, the other one may differ.
+pub(crate) fn other_decision(
+    alloc: Global,
+    agent: &str,
+    url: &str,
+    decision: &Decision,
+    site: &Site,
+    empty: &[bool],
+) -> Result<Decision, Fault>
+    requires empty { empty.now ≡ map is_empty_disallow (file_bodies site.now) }
+    requires accepted { ¬ IsRejected agent.now (file_lines site.now) }
+    requires decided { IsDecisionOn (placed_rules agent.now (file_lines site.now)) (asked_target url.now) decision.now }
+    ensures ok { IfOk result (IsOtherDecision (file_bodies site.now) (placed_rules agent.now (file_lines site.now))
+        (asked_target url.now)) }
+    ensures fault { IfErr result (λ fault. fault ≡ Fault.Memory) }
+{
+    if !is_by_marked(decision, empty) {
+        return Ok(*decision);
+    }
+    let target = asked_target(alloc, url)?;
+    let rules = other_rules(alloc, site, agent, empty)?;
+    let other = decision_of(alloc, &rules, &target)?;
+    Ok(other)
+}
