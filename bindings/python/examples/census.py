@@ -34,7 +34,7 @@ from collections import Counter
 from pathlib import Path
 from urllib.parse import urlsplit
 
-from texting_robots import FILE_LIMIT, Matrix, OverlongRule, Robots, robots_url
+from texting_robots import FILE_LIMIT, Matrix, OverlongRuleError, Robots, robots_url
 
 AGENTS = "GPTBot,CCBot,ClaudeBot,Google-Extended,Bingbot,Googlebot,Bytespider,PerplexityBot"
 MOST = 4_000_000
@@ -235,7 +235,7 @@ def overlong_line(body, agent, path):
     """The line of the rule for which the file can't be used for a crawler."""
     try:
         Robots(body).verdict(path, agent)
-    except OverlongRule as error:
+    except OverlongRuleError as error:
         return error.line
 
 

@@ -93,6 +93,11 @@ static int32_t site_agents(struct site *shared, char *out, size_t out_len, size_
     LOCKED(shared, robots_site_agents(shared->site, out, out_len, len));
 }
 
+static int32_t site_is_named(struct site *shared, const char *agent, size_t agent_len)
+{
+    LOCKED(shared, robots_site_is_named(shared->site, agent, agent_len));
+}
+
 /* Returns NULL if an allocation fails. A rule that is too long is kept, so that the rules aren't read again for it. */
 static struct robot *robot_new(const robots_site *site, const char *agent, size_t agent_len)
 {

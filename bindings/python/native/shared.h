@@ -20,6 +20,7 @@ int32_t site_matrix(struct site *site, const char *agents, size_t agents_len, co
 int32_t site_delay(struct site *site, const char *agent, size_t agent_len, uint64_t *microseconds);
 int32_t site_sitemaps(struct site *site, char *out, size_t out_len, size_t *len);
 int32_t site_agents(struct site *site, char *out, size_t out_len, size_t *len);
+int32_t site_is_named(struct site *site, const char *agent, size_t agent_len);
 
 struct robot;
 struct robot *robot_open(struct site *site, const char *agent, size_t agent_len);

@@ -104,8 +104,8 @@ def check_file(body, verdict=GROUP_OF_ALL, sitemaps=("/s.xml",)):
     robots = Robots(body)
     assert robots.verdict("/a", "other") == verdict and robots.sitemaps == list(sitemaps), body
     assert pickle.loads(pickle.dumps(robots)).verdict("/a", "other") == verdict
-    if isinstance(body, bytes):
-        assert Matrix(["/a"], ["other"]).denials(body) == [("other", "/a", verdict.line)]
+    if not isinstance(body, str):
+        assert Matrix(["/a"], ["other"]).denials(body) == [("other", "/a", verdict.line)] * (not verdict)
 
 
 def check_files():
@@ -130,7 +130,7 @@ def check_texts():
         assert robots.verdicts(Texts(map(Text, ["/a", "/", "/a"])), Text("other")) == [GROUP_OF_ALL, Verdict(True, None), GROUP_OF_ALL]
         assert robots.matrix(Texts([Text("/a"), "/a\n"]), Texts([Text("other"), "FerrisBot"])) == [[GROUP_OF_ALL] * 2, [OWN_GROUP] * 2]
     assert Matrix(Texts([Text("/a"), "/"]), [Text("other")]).denials(FILE) == [("other", "/a", 4)]
-    assert robots.delay(Text("other")) is None
+    assert robots.delay(Text("other")) is None and not robots.is_named(Text("other")) and robots.is_named(Text("ferrisbot"))
     assert robots_url(Text("https://example.com/a")) == "https://example.com/robots.txt" and product_token(Text("a/1")) == "a"
     errors = 0
     for call in [lambda: robots.allowed("/a", Text("a/1")), lambda: robots.delay(Text("/")), lambda: Matrix([Text("/\n")], ["a"])]:

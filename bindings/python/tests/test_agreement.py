@@ -7,7 +7,7 @@ import pytest
 import support
 from library import random_case
 
-from texting_robots import Matrix, OverlongRule, Robots, Verdict, robots_url
+from texting_robots import Matrix, OverlongRuleError, Robots, Verdict, robots_url
 
 BITS = [b"\0", b"\xff", b"\xef\xbb\xbf", b"\xe2\x80\x83", b"%41", b"*", b"$", b"\r", b"#", b":", b" "]
 BITS += [b"\nUser-agent: *\n", b"\nuseragent: bot\n", b"\nDisallow: /", b"\nAllow: ", b"\nCrawl-delay: 1.5\n", b"\nSitemap: /s\xc3\xb6.xml\n"]
@@ -54,10 +54,11 @@ def test_random_files_have_the_results_of_the_c_library_and_of_robots_verdict(ro
         assert Matrix(urls, [agent, "o"]).denials(file) == denied
         assert (ours.sitemaps, ours.agents) == (robots.sitemaps(file), robots.agents(file))
         assert ours.delay_microseconds(agent) == robots.delay(agent, file)
+        assert ours.is_named(agent) == (agent.encode().lower() in [it.encode().lower() for it in ours.agents])
         try:
             expected = [verdict_of(it) for it in robots.decide(agent, file, urls)]
         except robots.RobotsError as error:
-            with pytest.raises(OverlongRule) as raised:
+            with pytest.raises(OverlongRuleError) as raised:
                 ours.allowed(urls[0], agent)
             assert raised.value.line == error.line and printed.status == 3
             seen["overlong"] += 1

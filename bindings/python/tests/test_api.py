@@ -1,15 +1,18 @@
 """The calls of the package: results, errors, and what a Robots does as an object of Python."""
 
+import array
 import copy
+import ctypes
 import doctest
 import math
+import mmap
 import pickle
 
 import package
 import pytest
 
 import texting_robots
-from texting_robots import FILE_LIMIT, AgentError, Matrix, OverlongRule, Robots, Verdict, product_token, robots_url
+from texting_robots import FILE_LIMIT, AgentError, Matrix, OverlongRuleError, Robots, RobotsError, UrlError, Verdict, product_token, robots_url
 
 SHOP = b"""\
 User-agent: *
@@ -67,8 +70,8 @@ def test_denials():
     ]  # fmt: skip
     assert matrix.denials(OVERLONG) == [("LongBot", "/", None), ("LongBot", "/search", None), ("LongBot", "/search/help", None)]
     assert matrix.denials(b"") == matrix.denials(b"#" * (FILE_LIMIT - 1) + b"\nUser-agent: *\nDisallow: /") == []
-    for wrong in ["User-agent: *", bytearray(SHOP), None, texting_robots._native.ffi.new("char[]", 10)]:
-        with pytest.raises(TypeError, match="a file is bytes, not "):
+    for wrong in ["User-agent: *", None, [SHOP], texting_robots._native.ffi.new("char[]", 10)]:
+        with pytest.raises(TypeError, match="a bytes-like object is required, not "):
             matrix.denials(wrong)
     for urls, agents in [([], ["a"]), (["/"], []), (["/a\nb"], ["a"]), (["/"], ["a\nb"]), (["/"], ["a/1"]), (["/\ud800"], ["a"])]:
         with pytest.raises(ValueError):
@@ -118,8 +121,9 @@ def test_sitemaps_and_agents():
 def test_robots_url():
     assert robots_url("HTTPS://Bücher.example:443/ä?b#c") == "https://xn--bcher-kva.example/robots.txt"
     for url in ["", "/a", "example.com/a", "mailto:a@example.com", "ftp://example.com/", "https://"]:
-        with pytest.raises(ValueError, match=f"^{url!r} is no URL"):
-            robots_url(url)
+        for error in (UrlError, RobotsError, ValueError):
+            with pytest.raises(error, match=f"^{url!r} is no URL"):
+                robots_url(url)
     assert robots_url("https://example.com/" + "a" * 5000) == "https://example.com/robots.txt"
     assert robots_url("https://" + "a." * 1000 + "com") == "https://" + "a." * 1000 + "com/robots.txt"
 
@@ -138,6 +142,13 @@ def test_agents_that_are_not_named_share_the_group_of_all():
     assert kept[""] == kept["OtherBot"] == kept["Ferris"] != kept["FERRISBOT"]
 
 
+def test_is_named():
+    robots = Robots(SHOP + b"User-agent: b\xc3\xb6tbot\nUser-agent: \xff\nUser-agent: Long")
+    assert [robots.is_named(it) for it in ["SlowBot", "slowBOT", "b\u00f6tbot", "*", "LONG"]] == [True] * 5
+    assert [robots.is_named(it) for it in ["FerrisBot", "Slow", "SlowBot2", "b\u00d6tbot", "\u00ff", ""]] == [False] * 6
+    assert not Robots(b"Disallow: /").is_named("*") and Robots(OVERLONG).is_named("LongBot") is True
+
+
 def test_any_number_of_agents():
     robots = Robots(b"User-agent: *\nDisallow: /all\nUser-agent: a7\nDisallow: /seven")
     for number in range(2500):
@@ -149,9 +160,41 @@ def test_any_number_of_agents():
 # ---- files
 
 
-@pytest.mark.parametrize("kind", [bytes, bytearray, memoryview])
+def mapped(body):
+    made = mmap.mmap(-1, len(body))
+    made[:] = body
+    return made
+
+
+def arrow_buffer(body):
+    return pytest.importorskip("pyarrow").py_buffer(body)
+
+
+BUFFERS = [bytes, bytearray, memoryview, mapped, lambda body: array.array("b", body), (ctypes.c_char * len(SHOP)).from_buffer_copy]
+
+
+@pytest.mark.parametrize("kind", [*BUFFERS, pickle.PickleBuffer, arrow_buffer])
 def test_bodies_of_bytes(kind):
     assert Robots(kind(SHOP)).verdict("/search", "FerrisBot") == Verdict(False, 2)
+    assert Matrix(["/search"], ["FerrisBot"]).denials(kind(SHOP)) == [("FerrisBot", "/search", 2)]
+
+
+def test_no_more_than_the_limit_is_copied():
+    """Of a mapping that is larger than the memory."""
+    flags = mmap.MAP_PRIVATE | mmap.MAP_ANONYMOUS | getattr(mmap, "MAP_NORESERVE", 0x4000)
+    with mmap.mmap(-1, 1 << 40, flags=flags) as body:
+        body[: len(SHOP)] = SHOP
+        assert Robots(body).verdict("/search", "FerrisBot") == Verdict(False, 2)
+
+
+class SiteRobots(Robots):
+    pass
+
+
+@pytest.mark.parametrize("body", [SHOP, SHOP.decode(), memoryview(SHOP)])
+def test_parse(body):
+    assert Robots.parse(body).can_fetch("/search", "FerrisBot") is False
+    assert type(SiteRobots.parse(body)) is SiteRobots
 
 
 def test_bodies_of_text():
@@ -225,11 +268,12 @@ def calls_with(robots, url, agent):
 
 
 @pytest.mark.parametrize("agent", ["https://example.com/", "/ferris", "FerrisBot/1.0"])
-@pytest.mark.parametrize("error", [AgentError, TypeError, ValueError])
+@pytest.mark.parametrize("error", [AgentError, RobotsError, TypeError, ValueError])
 def test_an_agent_with_a_slash(agent, error):
     """So arguments that are swapped, and a User-Agent with a version."""
     robots = Robots(SHOP)
-    for call in [*calls_with(robots, "FerrisBot", agent), lambda: robots.delay(agent), lambda: robots.crawl_delay(agent)]:
+    calls = [lambda: robots.delay(agent), lambda: robots.crawl_delay(agent), lambda: robots.is_named(agent)]
+    for call in [*calls_with(robots, "FerrisBot", agent), *calls]:
         with pytest.raises(error, match="product token"):
             call()
 
@@ -238,7 +282,7 @@ def test_an_agent_with_a_slash(agent, error):
 def test_what_is_no_text(wrong):
     robots = Robots(SHOP)
     calls = [*calls_with(robots, "/", wrong), *calls_with(robots, wrong, "FerrisBot"), lambda: robots.delay(wrong)]
-    for call in [*calls, lambda: robots_url(wrong), lambda: product_token(wrong)]:
+    for call in [*calls, lambda: robots.is_named(wrong), lambda: robots_url(wrong), lambda: product_token(wrong)]:
         with pytest.raises(TypeError):
             call()
 
@@ -258,7 +302,7 @@ def test_one_text_in_place_of_several():
 def test_what_is_not_utf8():
     robots = Robots(SHOP)
     calls = [*calls_with(robots, "/\ud800", "FerrisBot"), *calls_with(robots, "/", "Ferris\udcff"), lambda: robots.delay("Ferris\udcff")]
-    for call in [*calls, lambda: robots_url("https://example.com/\ud800")]:
+    for call in [*calls, lambda: robots.is_named("Ferris\udcff"), lambda: robots_url("https://example.com/\ud800")]:
         with pytest.raises(ValueError):
             call()
 
@@ -267,11 +311,12 @@ def test_an_overlong_rule():
     robots = Robots(OVERLONG)
     assert not robots.allowed("/a", "FerrisBot")
     for call in calls_with(robots, "/", "longbot")[:4] * 2:
-        with pytest.raises(OverlongRule, match="line 5") as raised:
+        with pytest.raises(OverlongRuleError, match="line 5") as raised:
             call()
         assert raised.value.line == 5
     again = pickle.loads(pickle.dumps(raised.value))
-    assert type(again) is OverlongRule and again.line == 5 and str(again) == str(raised.value)
+    assert type(again) is OverlongRuleError and again.line == 5 and str(again) == str(raised.value)
+    assert isinstance(again, RobotsError)
     assert robots.matrix(["/", "/a"], ["LongBot", "FerrisBot"]) == [[None, None], [Verdict(True, None), Verdict(False, 2)]]
     assert robots.matrix(["/a\nb"], ["LongBot", "FerrisBot"]) == [[None], [Verdict(False, 2)]]
     assert (robots.delay("LongBot"), robots.agents, robots.sitemaps) == (1.0, ["*", "LongBot"], [])
@@ -342,7 +387,7 @@ def test_a_subclass_keeps_its_attributes(again):
 IN_A_WORKER = """
 from concurrent.futures import ProcessPoolExecutor
 from multiprocessing import get_context
-from texting_robots import OverlongRule, Robots
+from texting_robots import OverlongRuleError, Robots
 
 if __name__ == "__main__":
     robots = Robots(b"User-agent: a\\nDisallow: /private\\nUser-agent: b\\nDisallow: /" + b"a" * 5000 + b"$")
@@ -350,7 +395,7 @@ if __name__ == "__main__":
         print(pool.submit(robots.allowed, "/private", "a").result(), pool.submit(robots.verdict, "/private", "c").result())
         try:
             pool.submit(robots.allowed, "/private", "b").result()
-        except OverlongRule as error:
+        except OverlongRuleError as error:
             print(error.line)
 """
 

@@ -149,7 +149,7 @@ VIDEO = record_of("response", "https://a/video", b"HTTP/1.1 200 OK\r\n\r\n" + by
         (SOUND + b"WARC/1.0\r\nA: " + b"a" * 5_000_000 + SOUND, ["sound"], "unread: ValueError: a head is cut or too long"),
         (response("", b"Disallow: /") + SOUND, ["sound"], "damaged: ValueError: the URL has no host"),
         (response(".", b"Disallow: /") + SOUND, ["sound"], "damaged: ValueError: the URL has no host"),
-        (response("a b", b"Disallow: /").replace(b"a b", b"a^b") + SOUND, ["sound"], "damaged: ValueError: 'https://a^b/robots.txt' is no URL"),
+        (response("a b", b"Disallow: /").replace(b"a b", b"a^b") + SOUND, ["sound"], "damaged: UrlError: 'https://a^b/robots.txt' is no URL"),
         (response("a", b"", "ICY 200 OK") + SOUND, ["sound"], "damaged: ValueError: the response has no status"),
         (record_of("response", "https://a/robots.txt", b"HTTP/1.1 200 OK\r\nA: b\r\n") + SOUND, ["sound"], "damaged: ValueError: a head is cut"),
     ],

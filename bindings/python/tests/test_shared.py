@@ -56,6 +56,8 @@ int main(void) {
     check("a delay", site_delay(site, "x", 1, &delay) == ROBOTS_OK && delay == 1000000, 1);
     check("sitemaps", site_sitemaps(site, text, 9, &length) == ROBOTS_OK && length == 2, 1);
     check("agents", site_agents(site, text, 9, &length) == ROBOTS_OK && length == 7, 1);
+    check("named", site_is_named(site, "LONG", 4) == 1, 1);
+    check("not named", site_is_named(site, "Lon", 3) == 0, 1);
     site_close(site);
     check("without the site", robot_query(one, "/a", 2) == -2, 1);
     robot_close(one);

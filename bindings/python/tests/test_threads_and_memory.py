@@ -12,7 +12,7 @@ from concurrent.futures import ThreadPoolExecutor
 import package
 import pytest
 
-from texting_robots import Matrix, OverlongRule, Robots
+from texting_robots import Matrix, OverlongRuleError, Robots
 
 RULES = "".join(f"Disallow: /shop/{n}/*?page=\nAllow: /shop/{n}/help$\n" for n in range(100))
 LARGE = f"User-agent: *\nCrawl-delay: 2\n{RULES}User-agent: BobBot\nUser-agent: Googlebot\nDisallow: /s\n{RULES}Sitemap: /a.xml\n".encode()
@@ -149,9 +149,9 @@ def test_results_and_errors_leave_nothing():
 
     def run(times):
         for _ in range(times):
-            with pytest.raises(OverlongRule):
+            with pytest.raises(OverlongRuleError):
                 long.allowed("/", "a")
-            with pytest.raises(OverlongRule):
+            with pytest.raises(OverlongRuleError):
                 Robots(LARGE + b"Disallow: /" + b"a" * 5000 + b"$").verdicts(URLS, "Googlebot")
             assert len(long.sitemaps[0]) == 3001 and long.matrix(["/"] * 10, AGENTS) == [[None] * 10] * 4
 

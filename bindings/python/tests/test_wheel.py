@@ -1,9 +1,13 @@
 """The wheel: it installs into a virtual environment, and there the lines of the README print what they say. The README itself."""
 
+import email
 import re
+import runpy
 import shutil
 import subprocess
 import sys
+import sysconfig
+import types
 from pathlib import Path
 
 import package
@@ -47,9 +51,41 @@ def test_the_wheel_is_for_every_cpython_and_exports_nothing():
     assert sorted(it.name for it in (package.SITE / "texting_robots").iterdir() if it.suffix) == [
         "__init__.py", "_native.abi3.so", "_native.pyi", "_robots.py", "py.typed", "scrapy.py",
     ]  # fmt: skip
-    assert [it.name for it in package.SITE.glob("*.dist-info/LICENSE-*")]
+    assert sorted(it.name for it in package.SITE.glob("*.dist-info/**/LICENSE-*")) == ["LICENSE-APACHE", "LICENSE-MIT"]
     names = subprocess.run(["nm", "-D", "--defined-only", package.SITE / "texting_robots/_native.abi3.so"], capture_output=True, text=True)
     assert [line.split()[-1] for line in names.stdout.splitlines()] == ["PyInit__native"]
+
+
+def test_metadata_of_any_version_of_setuptools():
+    """As an index accepts it: a license expression, or before setuptools 77 a text, and no classifier of a license."""
+    (path,) = package.SITE.glob("*.dist-info/METADATA")
+    lines = email.message_from_string(path.read_text())
+    assert [lines[it] for it in ("License-Expression", "License") if it in lines] == ["MIT OR Apache-2.0"]
+    assert lines["Requires-Python"] == ">=3.9" and lines["Project-URL"] and "rfc9309" in lines["Keywords"]
+    classifiers = lines.get_all("Classifier")
+    assert len(classifiers) > 5 and [it for it in classifiers if it.startswith("License")] == []
+
+
+def given_to_setup(monkeypatch, version, variables):
+    """What setup.py gives to this version of setuptools, if Python has these configuration variables."""
+    given = {}
+    with monkeypatch.context() as changed:
+        changed.setitem(sys.modules, "setuptools", types.SimpleNamespace(__version__=version, setup=lambda **words: given.update(words)))
+        changed.setattr(sysconfig, "get_config_var", variables.get)
+        runpy.run_path(str(package.PACKAGE / "setup.py"))
+    return given
+
+
+@pytest.mark.parametrize("version, field", [("66.1.1", "license"), ("77.0.0", "license_expression"), ("100.1", "license_expression")])
+def test_the_field_of_the_license(monkeypatch, version, field):
+    given = given_to_setup(monkeypatch, version, {})
+    assert {it: given[it] for it in given if "license" in it} == {field: "MIT OR Apache-2.0"}
+
+
+def test_a_wheel_for_a_free_threaded_cpython_has_its_own_abi(monkeypatch):
+    for variables in ({}, {"Py_GIL_DISABLED": 0}):
+        assert given_to_setup(monkeypatch, "66.1.1", variables)["options"] == {"bdist_wheel": {"py_limited_api": "cp39"}}
+    assert given_to_setup(monkeypatch, "66.1.1", {"Py_GIL_DISABLED": 1})["options"] == {}
 
 
 def test_the_library_comes_from_a_repository_whose_folder_has_a_space(tmp_path):
@@ -101,8 +137,13 @@ def test_mypy_is_strict(tmp_path):
 
 
 CALLER = """
-from typing import List, Optional, Tuple
-from texting_robots import AgentError, Matrix, OverlongRule, Robots, Verdict, product_token, robots_url
+from array import array
+from mmap import mmap
+from typing import List, Optional, Tuple, Type
+from texting_robots import AgentError, Matrix, OverlongRuleError, Robots, RobotsError, UrlError, Verdict, product_token, robots_url
+
+class Own(Robots):
+    pass
 
 robots: Robots = Robots(b"")
 allowed: bool = robots.allowed(robots_url("https://example.com/"), product_token("a/1"))
@@ -112,6 +153,10 @@ delay: Optional[float] = robots.crawl_delay("a")
 line: Optional[int] = robots.verdict("/", "a").line
 denied: List[Tuple[str, str, Optional[int]]] = Matrix({"/"}, ["a"]).denials(b"")
 names: List[str] = robots.sitemaps + robots.agents
+own: Own = Own.parse("")
+named: bool = own.is_named("a")
+errors: List[Type[RobotsError]] = [AgentError, OverlongRuleError, UrlError]
+Robots(bytearray()), Robots(memoryview(b"")), Robots.parse(mmap(-1, 1)), Matrix({"/"}, ["a"]).denials(array("b"))
 """
 
 

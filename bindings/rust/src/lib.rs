@@ -11,7 +11,8 @@ pub use error::Error;
 /// The name of this call in `texting_robots`.
 pub use robots_url as get_robots_url;
 
-/// How many bytes of a file count: no more need be fetched.
+/// How many bytes of a file count: no more need be fetched. For a lower limit, pass a shorter slice. There is no higher one, since it is a
+/// constant of the C library.
 pub const FILE_LIMIT: usize = texting_robots_c_sys::ROBOTS_FILE_LIMIT;
 
 /// Whether a crawler may fetch a URL, and the line of the file that decides.
@@ -74,6 +75,16 @@ impl Robot {
     pub fn decision(&self, url: &str) -> Result<Decision, Error> {
         self.rules.query(url).map(Decision::of)
     }
+
+    /// [`Robot::decision`] for each URL, in their order.
+    ///
+    /// # Errors
+    ///
+    /// [`Error::OutOfMemory`].
+    pub fn decisions<U: AsRef<str>>(&self, urls: impl IntoIterator<Item = U>) -> Result<Vec<Decision>, Error> {
+        // robots_query_many wants one text with all URLs, which takes longer to make than a call for each takes
+        urls.into_iter().map(|url| self.decision(url.as_ref())).collect()
+    }
 }
 
 impl Clone for Robot {
@@ -130,19 +141,24 @@ impl Site {
     /// # Errors
     ///
     /// [`Error::OutOfMemory`].
-    pub fn matrix(&self, agents: &[&str], urls: &[&str]) -> Result<Vec<Vec<Option<Decision>>>, Error> {
-        if urls.is_empty() || agents.is_empty() || agents.iter().chain(urls).any(|text| text.contains('\n')) {
-            return agents.iter().map(|agent| self.row(agent, urls)).collect();
-        }
+    pub fn matrix(
+        &self,
+        agents: &[impl AsRef<str>],
+        urls: &[impl AsRef<str>],
+    ) -> Result<Vec<Vec<Option<Decision>>>, Error> {
+        let (agents_text, urls_text) = match (joined(agents), joined(urls)) {
+            (Some(agents_text), Some(urls_text)) => (agents_text, urls_text),
+            _ => return agents.iter().map(|agent| self.row(agent.as_ref(), urls)).collect(),
+        };
         let mut results = vec![0; agents.len() * urls.len()];
-        self.lines.matrix(&agents.join("\n"), &urls.join("\n"), &mut results)?;
+        self.lines.matrix(&agents_text, &urls_text, &mut results)?;
         let decision = |&result| (result != texting_robots_c_sys::ROBOTS_NO_RESULT).then(|| Decision::of(result));
         Ok(results.chunks(urls.len()).map(|row| row.iter().map(decision).collect()).collect())
     }
 
-    fn row(&self, agent: &str, urls: &[&str]) -> Result<Vec<Option<Decision>>, Error> {
+    fn row(&self, agent: &str, urls: &[impl AsRef<str>]) -> Result<Vec<Option<Decision>>, Error> {
         match self.robot(agent) {
-            Ok(robot) => urls.iter().map(|url| robot.decision(url).map(Some)).collect(),
+            Ok(robot) => Ok(robot.decisions(urls)?.into_iter().map(Some).collect()),
             Err(Error::OverlongRule { .. }) => Ok(vec![None; urls.len()]),
             Err(error) => Err(error),
         }
@@ -183,6 +199,13 @@ impl fmt::Debug for Site {
     fn fmt(&self, f: &mut fmt::Formatter<'_>) -> fmt::Result {
         f.debug_struct("Site").field("sitemaps", &self.sitemaps).finish_non_exhaustive()
     }
+}
+
+/// The texts with a line feed between one and the next, or `None` if there is none, or one contains a line feed.
+fn joined(texts: &[impl AsRef<str>]) -> Option<String> {
+    let texts: Vec<&str> = texts.iter().map(AsRef::as_ref).collect();
+    let can_be_joined = !texts.is_empty() && texts.iter().all(|text| !text.contains('\n'));
+    can_be_joined.then(|| texts.join("\n"))
 }
 
 /// The address of the robots.txt file for a URL of http or https.

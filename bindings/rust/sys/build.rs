@@ -1,5 +1,6 @@
 //! Links the C library. A release has it in the folder `c` of this crate. ROBOTS_C names a folder where `make install` of bindings/c has
-//! put another one, its PREFIX. In the repository, `rt lib` proves and builds it first if that hasn't been done.
+//! put another one, its PREFIX. In the repository, `rt lib` proves and builds it first if that hasn't been done. With DOCS_RS, as on docs.rs,
+//! nothing is linked, so `cargo doc` works on every platform.
 
 use std::env;
 use std::path::{Path, PathBuf};
@@ -7,9 +8,13 @@ use std::process::Command;
 
 fn main() {
     println!("cargo:rerun-if-env-changed=ROBOTS_C");
-    let (arch, os) = (env::var("CARGO_CFG_TARGET_ARCH"), env::var("CARGO_CFG_TARGET_OS"));
-    if (arch.as_deref(), os.as_deref()) != (Ok("x86_64"), Ok("linux")) {
-        fail("the C library robots_c is for Linux on x86-64 only");
+    println!("cargo:rerun-if-env-changed=DOCS_RS");
+    if env::var_os("DOCS_RS").is_some() {
+        return;
+    }
+    let [arch, os] = ["ARCH", "OS"].map(|it| env::var(format!("CARGO_CFG_TARGET_{it}")).unwrap());
+    if (&*arch, &*os) != ("x86_64", "linux") {
+        fail(&format!("the C library robots_c is for Linux on x86_64 only, and not for {os} on {arch}"));
     }
     let packed = Path::new(&env::var_os("CARGO_MANIFEST_DIR").unwrap()).join("c/librobots_c.a");
     let archive = match env::var_os("ROBOTS_C") {
@@ -32,6 +37,9 @@ fn main() {
 fn from_repository() -> PathBuf {
     let root = Path::new(&env::var_os("CARGO_MANIFEST_DIR").unwrap()).join("../../..");
     let library = root.join("crates/robots_c");
+    if !library.is_dir() {
+        fail("the C library isn't here: set ROBOTS_C to the absolute PREFIX of `make install` in bindings/c of the repository");
+    }
     let proved = library.join("out/librobots_c.a");
     println!("cargo:rerun-if-changed={}", proved.display());
     println!("cargo:rerun-if-changed={}", root.join("bindings/c/robots.c").display());

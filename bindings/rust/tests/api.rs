@@ -80,13 +80,26 @@ fn sitemaps_and_agents() {
 }
 
 #[test]
+fn decisions_for_many_urls() {
+    let ferris = robot("FerrisBot", SHOP);
+    let urls: Vec<String> = (0..1000).map(|n| format!("https://example.com/search/{n}")).collect();
+    assert_eq!(ferris.decisions(&urls), Ok(vec![denied(2); 1000]));
+    assert_eq!(ferris.decisions(["/search/tea", "/search/help", "/"]), Ok(vec![denied(2), allowed(3), ALLOWED]));
+    assert_eq!(ferris.decisions("/search\n/search/help".lines()), Ok(vec![denied(2), allowed(3)]));
+    assert_eq!(ferris.decisions(["/search\n/", ""]), Ok(vec![denied(2), ALLOWED]));
+    assert_eq!(ferris.decisions(&[] as &[String]), Ok(vec![]));
+}
+
+#[test]
 fn a_site_has_the_decisions_of_its_robots() {
     let site = Site::new(SHOP.as_bytes()).unwrap();
     for urls in [&["/search/tea", "/search/help", "", "/é"][..], &["/a\nb", "/search"], &["/"], &[]] {
         for agents in [&["FerrisBot", "SlowBot", "*", ""][..], &["a\nb", "SlowBot"], &[]] {
             let row = |agent: &&str| urls.iter().map(|url| Some(robot(agent, SHOP).decision(url).unwrap())).collect();
             let rows: Vec<Vec<_>> = agents.iter().map(row).collect();
-            assert_eq!(site.matrix(agents, urls), Ok(rows));
+            assert_eq!(site.matrix(agents, urls), Ok(rows.clone()));
+            let owned: Vec<String> = urls.iter().map(|url| url.to_string()).collect();
+            assert_eq!(site.matrix(agents, &owned), Ok(rows));
         }
     }
     assert_eq!(

@@ -100,6 +100,33 @@ def test_the_lines_of_the_readme_in_another_crate(installed, tmp_path):
     cargo("run", cwd=tmp_path, env=os.environ | {"ROBOTS_C": str(installed), "CARGO_TARGET_DIR": str(tmp_path / "target")})
 
 
+@pytest.fixture(scope="module")
+def build_script(tmp_path_factory):
+    path = tmp_path_factory.mktemp("script") / "build"
+    subprocess.run(["rustc", "--edition", "2021", CRATE / "sys/build.rs", "-o", path], check=True)
+    return path
+
+
+@pytest.mark.parametrize("arch, system", [("aarch64", "linux"), ("x86_64", "macos"), ("x86_64", "windows")])
+def test_another_platform(build_script, arch, system):
+    """The build fails with a message, and the documentation is built."""
+    target = {"CARGO_CFG_TARGET_ARCH": arch, "CARGO_CFG_TARGET_OS": system}
+    message = f"texting_robots_c-sys: the C library robots_c is for Linux on x86_64 only, and not for {system} on {arch}\n"
+    failed, documented = run(build_script, env=target), run(build_script, env=target | {"DOCS_RS": "1"})
+    assert (failed.status, failed.err) == (1, message)
+    assert (documented.status, documented.err) == (0, "") and "rustc-link" not in documented.out
+
+
+def test_documentation_without_the_c_library(tmp_path):
+    """In a folder that isn't in the repository."""
+    copied = shutil.copytree(CRATE, tmp_path / "a/b/crate", ignore=shutil.ignore_patterns("target", "tests"))
+    environment = {key: value for key, value in os.environ.items() if key != "ROBOTS_C"} | {"CARGO_TARGET_DIR": str(tmp_path / "target")}
+    cargo("doc", "--no-deps", "--workspace", cwd=copied, env=environment | {"DOCS_RS": "1", "RUSTDOCFLAGS": "-D warnings"})
+    assert (tmp_path / "target/doc/texting_robots_c/struct.Robot.html").is_file()
+    ended = subprocess.run(["cargo", "check", "--offline"], cwd=copied, env=environment, capture_output=True, text=True)
+    assert ended.returncode != 0 and "\n  texting_robots_c-sys: the C library isn't here: set ROBOTS_C" in ended.stderr
+
+
 TYPES = {"int": "i32", "size_t": "usize", "int32_t": "i32", "uint32_t": "u32", "int64_t": "i64", "uint64_t": "u64", "char": "c_char", "void": "c_void"}
 
 

@@ -14,7 +14,29 @@
     'FerrisBot'
 """
 
-from ._robots import FILE_LIMIT, AgentError, Matrix, OverlongRule, Robots, Verdict, product_token, robots_url
+from ._robots import (
+    FILE_LIMIT,
+    AgentError,
+    Matrix,
+    OverlongRuleError,
+    Robots,
+    RobotsError,
+    UrlError,
+    Verdict,
+    product_token,
+    robots_url,
+)
 
-__all__ = ["FILE_LIMIT", "AgentError", "Matrix", "OverlongRule", "Robots", "Verdict", "product_token", "robots_url"]
+__all__ = [
+    "FILE_LIMIT",
+    "AgentError",
+    "Matrix",
+    "OverlongRuleError",
+    "Robots",
+    "RobotsError",
+    "UrlError",
+    "Verdict",
+    "product_token",
+    "robots_url",
+]
 __version__ = "1.0.0"

@@ -9,6 +9,9 @@ from typing import TYPE_CHECKING, Final, NamedTuple, Union
 from ._native import ffi, lib
 
 if TYPE_CHECKING:
+    from _typeshed import ReadableBuffer  # collections.abc.Buffer, which Python has from 3.12 on
+    from typing_extensions import Self
+
     from ._native import CData
 
 if not lib.processor_fits():
@@ -20,14 +23,18 @@ FILE_LIMIT: Final = lib.ROBOTS_FILE_LIMIT
 _AGENTS_KEPT: Final = 1000
 """For so many agents a Robots keeps what the file says to them, so that it doesn't grow forever."""
 
-_Body = Union[bytes, bytearray, memoryview, str]
+_Body = Union["ReadableBuffer", str]
 _FRONT: Final = re.compile(r"\s*([^\s/(),;:]+)")
 _query: Final = lib.robot_query
 _NO_RESULT: Final = lib.NO_RESULT
 _LAST_FAILURE: Final = _NO_RESULT - lib.ROBOTS_OVERLONG_RULE
 
 
-class OverlongRule(Exception):
+class RobotsError(Exception):
+    """The base of this package's errors: `OverlongRuleError`, `AgentError` and `UrlError`."""
+
+
+class OverlongRuleError(RobotsError):
     """A rule for this crawler is too long, so the file can't be used for it. What that means is the crawler's policy.
 
     Such a rule contains ``$`` and has more than 4,096 bytes. ``line`` is the number of the first such line, counted from 1.
@@ -41,8 +48,12 @@ class OverlongRule(Exception):
         return f"the rule in line {self.line} is too long: the file can't be used for this crawler"
 
 
-class AgentError(TypeError, ValueError):
+class AgentError(RobotsError, TypeError, ValueError):
     """An agent contains ``/``, so it is a URL, which comes first, or a User-Agent with a version."""
+
+
+class UrlError(RobotsError, ValueError):
+    """A text is no URL of http or https with a host, so it has no robots.txt file."""
 
 
 class Verdict(NamedTuple):
@@ -71,7 +82,7 @@ def product_token(user_agent: str) -> str:
 
 
 def robots_url(url: str) -> str:
-    """The address of the robots.txt file for a URL of http or https. Any other text is a ValueError."""
+    """The address of the robots.txt file for a URL of http or https. Any other text is a `UrlError`."""
     text = str.encode(url)
     return _written(lambda *out: lib.robots_address(text, len(text), *out), 256, url)
 
@@ -79,24 +90,25 @@ def robots_url(url: str) -> str:
 class Robots:
     """A robots.txt file, which is parsed once for all crawlers.
 
-    ``body`` is the file: preferably its bytes as received, which needn't be UTF-8. A ``str`` is encoded as UTF-8; what
-    ``surrogateescape`` made of other bytes becomes these again. A ``url`` is a whole URL, or a path. An ``agent`` is a product token
-    without a version (see `product_token`).
+    ``body`` is the file: preferably its bytes as received, which needn't be UTF-8, in a ``bytes`` or any other buffer, which is copied. A
+    ``str`` is encoded as UTF-8; what ``surrogateescape`` made of other bytes becomes these again. A ``url`` is a whole URL, or a path. An
+    ``agent`` is a product token without a version (see `product_token`).
 
     It can be shared by threads, which take turns, and pickled, as its bytes and the attributes of a subclass. Don't use it in the child
     of a fork if the process had other threads.
 
-    The methods raise `OverlongRule` if the file can't be used for the agent; `AgentError`, which is a TypeError and a ValueError, for
-    an agent with ``/``; TypeError for what isn't a ``str``, and for one ``str`` in place of several; ValueError for a lone surrogate;
-    and MemoryError.
+    The methods raise `OverlongRuleError` if the file can't be used for the agent, and `AgentError`, also a TypeError and a ValueError,
+    for an agent with ``/``: each is a `RobotsError`. What isn't a ``str``, and one ``str`` in place of several, is a TypeError, a lone
+    surrogate a ValueError, and a failed allocation a MemoryError.
     """
 
     def __init__(self, body: _Body) -> None:
-        if isinstance(body, str):
-            body = str.encode(body, "utf-8", "surrogateescape")
-        elif not isinstance(body, (bytes, bytearray, memoryview)):
-            raise TypeError(f"a file is bytes or a str, not {type(body).__name__}")
-        self._site = _Site(_file(body))
+        self._site = _Site(_file(str.encode(body, "utf-8", "surrogateescape") if isinstance(body, str) else body))
+
+    @classmethod
+    def parse(cls, body: _Body) -> Self:
+        """The constructor by Protego's name."""
+        return cls(body)
 
     def allowed(self, url: str, agent: str) -> bool:
         """Whether the crawler may fetch the URL."""
@@ -166,6 +178,11 @@ class Robots:
         """The names in the file's user-agent lines, ``*`` too, in its order; of names that differ only in case the first."""
         return _written(lambda *out: lib.site_agents(self._site.opened, *out), 256).split("\n")[:-1]
 
+    def is_named(self, agent: str) -> bool:
+        """Whether a user-agent line names the crawler. All crawlers that none names have the rules and the delay of ``*``."""
+        name = _name(agent)
+        return lib.site_is_named(self._site.opened, name, len(name)) == 1
+
     def _result(self, url: str, agent: str) -> int:
         """0 or the line that allows the URL, or minus the line that denies it."""
         robot = self._site.robot(agent)
@@ -178,7 +195,7 @@ class Robots:
     def _verdict_or_none(self, url: str, agent: str) -> Verdict | None:
         try:
             return self.verdict(url, agent)
-        except OverlongRule:
+        except OverlongRuleError:
             return None
 
     def __repr__(self) -> str:
@@ -234,11 +251,10 @@ class Matrix:
         self._urls, self._agents = urls_text, agents_text
         self._pairs = [(agent, url) for agent in agents for url in urls]
 
-    def denials(self, body: bytes) -> list[tuple[str, str, int | None]]:
+    def denials(self, body: ReadableBuffer) -> list[tuple[str, str, int | None]]:
         """Each agent with each URL that the file denies it, and the number of the line that does, or None if the file can't be used for
-        the agent: agent by agent, in the order of the constructor's arguments. ``body`` is the file, as received."""
-        if not isinstance(body, bytes):
-            raise TypeError(f"a file is bytes, not {type(body).__name__}")
+        the agent: agent by agent, in the order of the constructor's arguments. ``body`` is the file, as received: a ``bytes``, or any
+        other buffer, which is copied."""
         file, length = _file(body), len(self._pairs)
         results = ffi.new("int64_t[]", length)
         _check(lib.robots_matrix(self._agents, len(self._agents), file, len(file), self._urls, len(self._urls), results, length))
@@ -253,12 +269,12 @@ class Matrix:
 # make such a bytes and such a str of any str.
 
 
-def _file(body: bytes | bytearray | memoryview) -> bytes:
-    """The bytes of a file that count, however they lie in memory."""
-    if type(body) is not bytes:
-        with memoryview(body) as view:
-            body = view.tobytes()
-    return body[:FILE_LIMIT]
+def _file(body: ReadableBuffer) -> bytes:
+    """The bytes of a file that count, however they lie in memory; copied, since another thread may write to a buffer."""
+    if type(body) is bytes:
+        return body[:FILE_LIMIT]
+    with memoryview(body) as view:
+        return (view[:FILE_LIMIT] if view.ndim == 1 else view).tobytes()[:FILE_LIMIT]
 
 
 def _several(texts: Iterable[str], what: str) -> list[str]:
@@ -309,7 +325,7 @@ def _check(status: int, robot: CData | None = None, url: str = "") -> None:
     if status == lib.ROBOTS_OUT_OF_MEMORY:
         raise MemoryError
     if status == lib.ROBOTS_NO_ADDRESS:
-        raise ValueError(f"{url!r} is no URL of http or https with a host, so it has no robots.txt file")
+        raise UrlError(f"{url!r} is no URL of http or https with a host, so it has no robots.txt file")
     if status == lib.ROBOTS_OVERLONG_RULE and robot is not None:
-        raise OverlongRule(lib.robot_overlong_line(robot))
+        raise OverlongRuleError(lib.robot_overlong_line(robot))
     raise AssertionError(f"robots.h: status {status}")

@@ -7,7 +7,7 @@ from typing import Any, ClassVar
 
 from scrapy.robotstxt import RobotParser as ScrapyRobotParser
 
-from . import OverlongRule, Robots, product_token
+from . import OverlongRuleError, Robots, product_token
 
 logger = logging.getLogger(__name__)
 
@@ -54,7 +54,7 @@ class RobotParser(ScrapyRobotParser):
         token = product_token(user_agent)
         try:
             return self._robots.allowed(url, token)
-        except OverlongRule as error:
+        except OverlongRuleError as error:
             if token not in self._warned:
                 self._warned.add(token)
                 _warn(self._spider, "robots.txt for %s: %s, %s: nothing is fetched", url, token, error)
