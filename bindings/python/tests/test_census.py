@@ -463,11 +463,17 @@ def test_a_terminal_shows_a_progress_bar(sources, capsys, monkeypatch):
 
 @contextlib.contextmanager
 def workers():
+    """Two workers, for at most three minutes: a test that then still waits for them fails."""
     package.needs("distributed")
     path = f"{package.SITE}:{package.PACKAGE}/examples:{package.PACKAGE}/tests"
-    with mock.patch.dict(os.environ, PYTHONPATH=path), census.client_of(2, None) as client:
-        client.wait_for_workers(2)
-        yield client
+    signal.signal(signal.SIGALRM, lambda *_: pytest.fail("the workers don't go on"))
+    signal.alarm(180)
+    try:
+        with mock.patch.dict(os.environ, PYTHONPATH=path), census.client_of(2, None) as client:
+            client.wait_for_workers(2)
+            yield client
+    finally:
+        signal.alarm(0)
 
 
 def deadly(batch, agents, paths):
