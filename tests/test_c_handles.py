@@ -29,7 +29,7 @@ def test_threads_query_through_handles_of_their_own(objects, tmp_path, tool):
     if under and not shutil.which("valgrind"):
         pytest.skip("valgrind is missing")
     (tmp_path / "threads.c").write_text(THREADS)
-    words = [*under, compiled(tmp_path / "threads", *STRICT, "-g", *sanitizer, "-pthread", tmp_path / "threads.c", *objects)]
+    words = [*under, compiled(tmp_path / "threads", *STRICT, "-gdwarf-4", *sanitizer, "-pthread", tmp_path / "threads.c", *objects)]
     assert run(Path(shutil.which(words[0])), words[1:]) == Result(0, b"", b"")
 
 

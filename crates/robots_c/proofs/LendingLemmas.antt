@@ -1,6 +1,6 @@
 -- What C opens can be lent to calls, and closed when they have ended: what `robots_open` ensures gives what
 -- `robots_query` requires, and for what that ensures again there is what `robots_close` requires. The same
--- holds of a site.
+-- holds of a site, and of each handle that `robots_share` or `robots_site_share` opens.
 use Rattle.std.proofs.Common.{◌≡◌, ℕ, List, [], ◌∷◌, refl, subst, sym}
 use seplogic.Ra.Ura.{Ura}
 use base.Fraction.{full_share}
@@ -58,18 +58,16 @@ module _ {M : Type 1} {𝓤 : Ura M} (𝓛 : Logic 𝓤) where
         check ! is $ show ! (Lent 𝓛 R at x) α $ frame ! $ frame ! $ assume ! (‵ (flft κ full_share)) $
         updating ! $ lft_end ! tt $ lent_back ! tt $ now ! $ fjoin ! $ by ! (closable at x))))
 
-  -- what `robots_open` and `robots_site_robot` give
-  pub robots_can_be_lent : (agent site : List ℕ) (at : Ptr)
-      → ent 𝓤 (sem 𝓛 (opened_at Robots (IsRobotFor agent site) at))
-      (CanBeLent 𝓛 Robots (IsRobotFor agent site) at)
-  robots_can_be_lent agent site = can_be_lent Robots
-      (Shared-laws.the_row_laws Robot-type.the_row Robot-laws.the_row_laws) refl (IsRobotFor agent site)
+  -- what `robots_open`, `robots_site_robot` and `robots_share` give
+  pub robots_can_be_lent : (P : Robots.Denot → Type 0) (at : Ptr)
+      → ent 𝓤 (sem 𝓛 (opened_at Robots P at)) (CanBeLent 𝓛 Robots P at)
+  robots_can_be_lent = can_be_lent Robots
+      (Shared-laws.the_row_laws Robot-type.the_row Robot-laws.the_row_laws) refl
 
-  -- what `robots_site_open` gives
-  pub sites_can_be_lent : (site : List ℕ) (at : Ptr) → ent 𝓤 (sem 𝓛 (opened_at Sites (λ x. x ≡ site) at))
-      (CanBeLent 𝓛 Sites (λ x. x ≡ site) at)
-  sites_can_be_lent site = can_be_lent Sites
-      (Shared-laws.the_row_laws Site-type.the_row Site-laws.the_row_laws) refl (λ x. x ≡ site)
+  -- what `robots_site_open` and `robots_site_share` give
+  pub sites_can_be_lent : (P : Sites.Denot → Type 0) (at : Ptr)
+      → ent 𝓤 (sem 𝓛 (opened_at Sites P at)) (CanBeLent 𝓛 Sites P at)
+  sites_can_be_lent = can_be_lent Sites (Shared-laws.the_row_laws Site-type.the_row Site-laws.the_row_laws) refl
 
 -- and such a robot is one that the queries take
 pub queries_take_it : (agent file : List ℕ) (x : Robots.Denot) → IsRobotFor agent (bytes_read file) x
