@@ -67,12 +67,18 @@ def text(data):
     return data, len(data)
 
 
-def joined(items):
+def several(items):
+    """URLs or crawlers in a list of its own, which no other thread makes shorter."""
     if isinstance(items, str):
         raise TypeError("URLs or crawlers are several texts, for example in a list, and not one")
-    if any("\n" in item for item in items):
+    return list(items)
+
+
+def joined(items):
+    whole = "\n".join(items)
+    if whole.count("\n") != len(items) - 1:
         raise ValueError("a URL or a crawler with a line feed: use Robot.query")
-    return text("\n".join(items))
+    return text(whole)
 
 
 def written(call, *words):
@@ -97,6 +103,7 @@ def delay_of(status, out):
 
 def decide(agent, file, urls):
     """For each URL 0, or n where line n allows it, or -n where line n denies it. A URL is a whole one, or a path."""
+    urls = several(urls)
     if not urls:
         return []
     out, line = (c_int64 * len(urls))(), c_size_t()
@@ -106,6 +113,7 @@ def decide(agent, file, urls):
 
 def matrix(agents, file, urls):
     """For each crawler the numbers of `decide`, or NO_RESULT for each URL if a rule for the crawler is too long."""
+    agents, urls = several(agents), several(urls)
     if not agents or not urls:
         return [[] for _ in agents]
     return rows_of(lambda *out: library.robots_matrix(*joined(agents), *text(file), *joined(urls), *out), agents, urls)
@@ -143,7 +151,8 @@ class Opened:
 
     def __init__(self, handle, free):
         self.handle, self.lock = handle, threading.RLock()
-        weakref.finalize(handle, free, c_void_p(handle.value))
+        # not at the end of the process, when a thread may still be in a call
+        weakref.finalize(handle, free, c_void_p(handle.value)).atexit = False
 
     def open(self):
         if self.handle is None:
@@ -182,6 +191,7 @@ class Robot(Opened):
 
     def query_many(self, urls):
         """The numbers of `decide`."""
+        urls = several(urls)
         if not urls:
             return []
         out = (c_int64 * len(urls))()
@@ -204,6 +214,7 @@ class Site(Opened):
         super().__init__(handle, library.robots_site_close)
 
     def matrix(self, agents, urls):
+        agents, urls = several(agents), several(urls)
         if not agents or not urls:
             return [[] for _ in agents]
         with self.lock:

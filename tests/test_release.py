@@ -122,8 +122,12 @@ def test_every_file_has_the_licenses_and_no_path_of_this_machine(releases):
         assert [name for name, data in files.items() if str(ROOT).encode() in data] == [], path.name
 
 
-def test_a_folder_with_other_files_is_left_alone(tmp_path):
+@pytest.mark.parametrize("release", [None, "texting_robots 1.0.0", "another release"])
+def test_a_folder_with_other_files_is_left_alone(tmp_path, release):
     (tmp_path / "letter").write_text("Dear")
+    if release:
+        (tmp_path / "RELEASE.txt").write_text(release)
+        (tmp_path / "SHA256SUMS").write_text(f"{'0' * 64}  RELEASE.txt\n" + f"{'0' * 64}  letter\n" * (release == "another release"))
     ended = subprocess.run([sys.executable, ROOT / "release", tmp_path], capture_output=True, text=True)
     assert (ended.returncode, ended.stderr) == (1, f"release: {tmp_path} has other files than those of a release\n")
     assert (tmp_path / "letter").read_text() == "Dear"

@@ -41,11 +41,29 @@ def test_a_text_has_as_many_bytes_as_there_are(robots):
             assert robot.query(Text("/a")) == robot.query(Bytes(b"/a")) == -2
 
 
-def test_results_go_into_a_buffer_that_has_room_for_them(robots):
-    with robots.Robot("x", FILE) as robot:
+def test_there_are_as_many_results_as_texts(robots):
+    with robots.Robot("x", FILE) as robot, robots.Site(FILE) as site:
         for call in [lambda urls: robots.decide("x", FILE, urls), robot.query_many]:
-            with pytest.raises(robots.RobotsError, match="too small"):
-                call(Growing(["/a"] * 1000))
+            assert call(Growing(["/a"] * 1000)) == [-2] * 1000
+        for call in [lambda agents, urls: robots.matrix(agents, FILE, urls), site.matrix]:
+            assert call(Growing(["x"] * 10), Growing(["/a"] * 100)) == [[-2] * 100] * 10
+
+
+AT_EXIT = """
+import os, sys, threading
+sys.path.insert(0, sys.argv[1])
+import robots
+
+robot, urls = robots.Robot("x", b"User-agent: *\\n" + b"Disallow: /*a*b*c\\n" * 20000), ["/" + "ab" * 200] * 1000
+threading.Thread(target=robot.query_many, args=(urls,), daemon=True).start()
+"""
+
+
+def test_a_thread_may_be_in_a_call_at_the_end(robots):
+    """What is open isn't freed then."""
+    for _ in range(3):
+        ended = subprocess.run([sys.executable, "-c", AT_EXIT, ROOT / "examples"], env=os.environ | {"MALLOC_PERTURB_": "165"}, capture_output=True, text=True)
+        assert (ended.returncode, ended.stderr) == (0, "")
 
 
 IN_A_HANDLER = """

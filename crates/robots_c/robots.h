@@ -53,7 +53,7 @@
  * PROOF. crates/robots_c/src/lib.rt has a contract for each call, from the file's bytes to every number written. That NULL and
  * uninitialized outputs are allowed isn't in the contracts: bindings/c/robots.c replaces NULL by an address, and single outputs by
  * variables of its own, and that is tested. docs/PROOFS.md states what is proved and what is tested. The compiled library is for Linux on
- * x86-64-v2 processors (SSE4.1). */
+ * x86-64-v2 processors (SSE4.2, POPCNT). */
 #ifndef ROBOTS_H
 #define ROBOTS_H
 #include <stddef.h>
@@ -121,9 +121,10 @@ ROBOTS_CHECK int32_t robots_query(const robots *robot, const char *url, size_t u
 ROBOTS_CHECK int32_t robots_query_many(const robots *robot, const char *urls, size_t urls_len, int64_t *results,
                                        size_t results_len) ROBOTS_NONNULL(1);
 
-/* robots_query_many for URLs that stand one after another in a text, without '\n': URL i is the bytes of `urls` from ends[i - 1], or from 0
- * for i = 0, up to but not including ends[i], so that arrays of Arrow and NumPy need no copy. A URL may contain any byte, '\n' too, and n
- * may be 0. `results` has room for n numbers. If the ends decrease, or one is more than `urls_len`, the status is ROBOTS_INVALID_ENDS. */
+/* robots_query_many for URLs that follow one another in a text, without '\n': URL i is the bytes of `urls` from ends[i - 1], or from 0
+ * for i = 0, up to but not including ends[i], so an array `large_string` of Arrow that isn't sliced needs no copy: pass its offsets without
+ * the first one. A URL may contain '\n', too, and n may be 0. Bytes after the last end belong to no URL. `results` has room for n numbers.
+ * If the ends decrease, or one is more than `urls_len`, the status is ROBOTS_INVALID_ENDS. */
 ROBOTS_CHECK int32_t robots_query_batch(const robots *robot, const void *urls, size_t urls_len, const size_t *ends, size_t n,
                                         int64_t *results) ROBOTS_NONNULL(1);
 

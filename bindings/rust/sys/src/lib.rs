@@ -1,4 +1,4 @@
-//! The calls of the C library `robots_c`: `crates/robots_c/robots.h` explains each of them.
+//! The calls of the C library `robots_c`. Its header `robots.h`, which is `c/robots.h` in a release, explains each of them.
 #![allow(non_camel_case_types)]
 
 use std::marker::{PhantomData, PhantomPinned};
