@@ -18,10 +18,11 @@ abbrev pub Ascend : ℕ → List ℕ → ℕ → Type 0
 Ascend least [] limit = Unit {0}
 Ascend least (end ∷ ends) limit = (least ≤ end) × (end ≤ limit) × Ascend end ends limit
 
--- the results for the URLs that end at these places are written to the start of the buffer, in order
+-- the places ascend to the text's length at most, and the results for the URLs that end at them are written
+-- to the start of the buffer, in order
 abbrev pub IsBatchPutIn : List PlacedRule → List ℕ → List ℕ → List ℤ → List ℤ → Type 0
-IsBatchPutIn rules text ends old new =
-    (numbers : List ℤ) × AllZip (HasResult rules) (pieces text 0 ends) numbers × IsPutIn old new numbers
+IsBatchPutIn rules text ends old new = Ascend 0 ends (length text)
+    × ((numbers : List ℤ) × AllZip (HasResult rules) (pieces text 0 ends) numbers × IsPutIn old new numbers)
 
 -- ---- why there are no results
 

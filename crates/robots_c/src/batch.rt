@@ -53,6 +53,7 @@ fn results_at(
     capacity: usize,
 ) -> Result<Vec<i64>, Fault>
     requires { IsRobotOfSomeFile robot.now }
+    ensures ends { IfOk result (λ _. Ascend 0 ends.now (length text.now)) }
     ensures ok { IfOk result (λ numbers. AllZip (HasResult robot.now.rules) (pieces text.now 0 ends.now) numbers.items) }
     ensures capacity { IfOk result (λ numbers. length numbers.items ≤ capacity) }
     ensures fault { IfErr result (IsWhyNoBatch text.now ends.now capacity) }
