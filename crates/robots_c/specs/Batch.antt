@@ -24,18 +24,13 @@ abbrev pub IsBatchPutIn : List PlacedRule → List ℕ → List ℕ → List ℤ
 IsBatchPutIn rules text ends old new = Ascend 0 ends (length text)
     × ((numbers : List ℤ) × AllZip (HasResult rules) (pieces text 0 ends) numbers × IsPutIn old new numbers)
 
--- ---- why there are no results
-
--- for these URLs, with enough room
-abbrev pub IsWhyNotEach : List (List ℕ) → Fault → Type 0
-IsWhyNotEach urls NotUtf8 = ¬ All IsUtf8 urls
-IsWhyNotEach urls Memory = Unit {0}
-IsWhyNotEach urls _ = ⊥
-
--- for the URLs that end at these places, with this capacity for numbers: the places are checked first, then
--- the room
+-- why there are no results for the URLs that end at these places, with this capacity for numbers: the places
+-- are checked first, then the URLs, then the room, and then an allocation can fail
 abbrev pub IsWhyNoBatch : List ℕ → List ℕ → ℕ → Fault → Type 0
 IsWhyNoBatch text ends capacity InvalidEnds = ¬ Ascend 0 ends (length text)
-IsWhyNoBatch text ends capacity BufferTooSmall = Ascend 0 ends (length text) × (capacity < length ends)
-IsWhyNoBatch text ends capacity fault =
-    Ascend 0 ends (length text) × (length ends ≤ capacity) × IsWhyNotEach (pieces text 0 ends) fault
+IsWhyNoBatch text ends capacity NotUtf8 = Ascend 0 ends (length text) × ¬ All IsUtf8 (pieces text 0 ends)
+IsWhyNoBatch text ends capacity BufferTooSmall =
+    Ascend 0 ends (length text) × All IsUtf8 (pieces text 0 ends) × (capacity < length ends)
+IsWhyNoBatch text ends capacity Memory =
+    Ascend 0 ends (length text) × All IsUtf8 (pieces text 0 ends) × (length ends ≤ capacity)
+IsWhyNoBatch text ends capacity _ = ⊥
