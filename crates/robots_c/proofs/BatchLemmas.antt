@@ -3,9 +3,9 @@ use Rattle.std.proofs.Common.{◌≡◌, ◌<◌, ◌≤◌, ◌+◌, ◌-◌, �
 use Rattle.std.proofs.Common.{arith, drop, length, refl, slice_index_or, subst, sym, take}
 use Rattle.std.specs.List.{All, AllZip}
 use Rattle.std.proofs.lemmas.List.{append_assoc, drop_more}
-use Rattle.std.proofs.lemmas.List.Elements.{All-head, All-tail}
+use Rattle.std.proofs.lemmas.List.Elements.{All-cons, All-head, All-tail}
 use Rattle.texting_robots.specs.Callers.{PlacedRule}
-use Rattle.robots_c.specs.Batch.{Ascend, IsWhyNoBatch, IsWhyNotEach, pieces}
+use Rattle.robots_c.specs.Batch.{Ascend, pieces}
 use Rattle.robots_c.specs.Results.{HasResult}
 use Rattle.robots_c.specs.Status.{IsWhyNoResult}
 use Rattle.robots_c.specs.declared.fault.Fault.{Fault}
@@ -31,19 +31,42 @@ next_ascent ends limit least end left above below same = record {
   these = λ whole. (same.these whole).2;
 }
 
+-- ---- the URLs that are left
+
+-- these URLs are UTF-8 if and only if all are
+pub record SameUtf8 (text ends : List ℕ) (start : ℕ) (left : List ℕ) : Type 0 where
+  pub ascend : Ascend start left (length text)
+  pub all : All IsUtf8 (pieces text start left) → All IsUtf8 (pieces text 0 ends)
+  pub these : All IsUtf8 (pieces text 0 ends) → All IsUtf8 (pieces text start left)
+
+pub all_left : (text ends : List ℕ) → Ascend 0 ends (length text) → SameUtf8 text ends 0 ends
+all_left text ends are = record { ascend = are; all = λ all. all; these = λ all. all }
+
+pub next_utf8 : (text ends : List ℕ) (start end : ℕ) (left : List ℕ) → SameUtf8 text ends start (end ∷ left)
+    → IsUtf8 (take (end - start) (drop start text)) → SameUtf8 text ends end left
+next_utf8 text ends start end left same is = record {
+  ascend = same.ascend.2;
+  all = λ later. same.all (All-cons IsUtf8 _ _ is later);
+  these = λ whole. All-tail IsUtf8 _ _ (same.these whole);
+}
+
+pub not_utf8 : (text ends : List ℕ) (start end : ℕ) (left : List ℕ) → SameUtf8 text ends start (end ∷ left)
+    → ¬ IsUtf8 (take (end - start) (drop start text)) → ¬ All IsUtf8 (pieces text 0 ends)
+not_utf8 text ends start end left same refused whole = refused (All-head IsUtf8 _ _ (same.these whole))
+
 -- ---- the results so far
 
 -- with the results for the URLs that are left, they are the results for all URLs
 pub record SoFar (rules : List PlacedRule) (text ends : List ℕ) (start : ℕ) (left : List ℕ)
     (numbers : List ℤ) : Type 0 where
   pub ascend : Ascend start left (length text)
-  pub utf8 : All IsUtf8 (pieces text 0 ends) → All IsUtf8 (pieces text start left)
+  pub utf8 : All IsUtf8 (pieces text start left)
   pub results : (later : List ℤ) → AllZip (HasResult rules) (pieces text start left) later
       → AllZip (HasResult rules) (pieces text 0 ends) (numbers ++ later)
 
 pub none_so_far : (rules : List PlacedRule) (text ends : List ℕ) → Ascend 0 ends (length text)
-    → SoFar rules text ends 0 ends []
-none_so_far rules text ends are = record { ascend = are; utf8 = λ all. all; results = λ later is. is }
+    → All IsUtf8 (pieces text 0 ends) → SoFar rules text ends 0 ends []
+none_so_far rules text ends are all = record { ascend = are; utf8 = all; results = λ later is. is }
 
 pub one_more_end : (rules : List PlacedRule) (text ends : List ℕ) (start end : ℕ) (left : List ℕ)
     (numbers : List ℤ) (number : ℤ) → SoFar rules text ends start (end ∷ left) numbers
@@ -51,7 +74,7 @@ pub one_more_end : (rules : List PlacedRule) (text ends : List ℕ) (start end :
     → SoFar rules text ends end left (numbers ++ number ∷ [])
 one_more_end rules text ends start end left numbers number so has = record {
   ascend = so.ascend.2;
-  utf8 = λ all. All-tail IsUtf8 _ _ (so.utf8 all);
+  utf8 = All-tail IsUtf8 _ _ so.utf8;
   results = λ later are. subst (AllZip (HasResult rules) (pieces text 0 ends))
       (sym (append_assoc numbers (number ∷ []) later)) (so.results (number ∷ later) (has, are));
 }
@@ -65,26 +88,13 @@ pub count_pieces : (text : List ℕ) (start : ℕ) (ends : List ℕ) → length 
 count_pieces text start [] = refl
 count_pieces text start (end ∷ ends) = omega (arith, count_pieces text end ends)
 
--- ---- why there are no results
+-- ---- why there is no result for a URL
 
-pub why_not_each : (rules : List PlacedRule) (text ends : List ℕ) (start end : ℕ) (left : List ℕ)
-    (numbers : List ℤ) (fault : Fault) → SoFar rules text ends start (end ∷ left) numbers
-    → IsWhyNoResult (take (end - start) (drop start text)) fault → IsWhyNotEach (pieces text 0 ends) fault
-why_not_each rules text ends start end left numbers NotUtf8 so why =
-    λ all. why (All-head IsUtf8 _ _ (so.utf8 all))
-why_not_each rules text ends start end left numbers Memory so why = tt
-why_not_each rules text ends start end left numbers BufferTooSmall so why = absurd why
-why_not_each rules text ends start end left numbers NoDelay so why = absurd why
-why_not_each rules text ends start end left numbers NoAddress so why = absurd why
-why_not_each rules text ends start end left numbers (Overlong line) so why = absurd why
-why_not_each rules text ends start end left numbers InvalidEnds so why = absurd why
-
-pub why_no_batch : (text ends : List ℕ) (capacity : ℕ) (fault : Fault) → Ascend 0 ends (length text)
-    → length ends ≤ capacity → IsWhyNotEach (pieces text 0 ends) fault → IsWhyNoBatch text ends capacity fault
-why_no_batch text ends capacity NotUtf8 are room why = (are, room, why)
-why_no_batch text ends capacity Memory are room why = (are, room, why)
-why_no_batch text ends capacity BufferTooSmall are room why = absurd why
-why_no_batch text ends capacity NoDelay are room why = absurd why
-why_no_batch text ends capacity NoAddress are room why = absurd why
-why_no_batch text ends capacity (Overlong line) are room why = absurd why
-why_no_batch text ends capacity InvalidEnds are room why = absurd why
+pub only_memory : (url : List ℕ) (fault : Fault) → IsUtf8 url → IsWhyNoResult url fault → fault ≡ Memory
+only_memory url NotUtf8 is why = absurd (why is)
+only_memory url Memory is why = refl
+only_memory url BufferTooSmall is why = absurd why
+only_memory url NoDelay is why = absurd why
+only_memory url NoAddress is why = absurd why
+only_memory url (Overlong line) is why = absurd why
+only_memory url InvalidEnds is why = absurd why

@@ -18,23 +18,19 @@ abbrev pub Ascend : ℕ → List ℕ → ℕ → Type 0
 Ascend least [] limit = Unit {0}
 Ascend least (end ∷ ends) limit = (least ≤ end) × (end ≤ limit) × Ascend end ends limit
 
--- the results for the URLs that end at these places are written to the start of the buffer, in order
+-- the places ascend to the text's length at most, and the results for the URLs that end at them are written
+-- to the start of the buffer, in order
 abbrev pub IsBatchPutIn : List PlacedRule → List ℕ → List ℕ → List ℤ → List ℤ → Type 0
-IsBatchPutIn rules text ends old new =
-    (numbers : List ℤ) × AllZip (HasResult rules) (pieces text 0 ends) numbers × IsPutIn old new numbers
+IsBatchPutIn rules text ends old new = Ascend 0 ends (length text)
+    × ((numbers : List ℤ) × AllZip (HasResult rules) (pieces text 0 ends) numbers × IsPutIn old new numbers)
 
--- ---- why there are no results
-
--- for these URLs, with enough room
-abbrev pub IsWhyNotEach : List (List ℕ) → Fault → Type 0
-IsWhyNotEach urls NotUtf8 = ¬ All IsUtf8 urls
-IsWhyNotEach urls Memory = Unit {0}
-IsWhyNotEach urls _ = ⊥
-
--- for the URLs that end at these places, with this capacity for numbers: the places are checked first, then
--- the room
+-- why there are no results for the URLs that end at these places, with this capacity for numbers: the places
+-- are checked first, then the URLs, then the room, and then an allocation can fail
 abbrev pub IsWhyNoBatch : List ℕ → List ℕ → ℕ → Fault → Type 0
 IsWhyNoBatch text ends capacity InvalidEnds = ¬ Ascend 0 ends (length text)
-IsWhyNoBatch text ends capacity BufferTooSmall = Ascend 0 ends (length text) × (capacity < length ends)
-IsWhyNoBatch text ends capacity fault =
-    Ascend 0 ends (length text) × (length ends ≤ capacity) × IsWhyNotEach (pieces text 0 ends) fault
+IsWhyNoBatch text ends capacity NotUtf8 = Ascend 0 ends (length text) × ¬ All IsUtf8 (pieces text 0 ends)
+IsWhyNoBatch text ends capacity BufferTooSmall =
+    Ascend 0 ends (length text) × All IsUtf8 (pieces text 0 ends) × (capacity < length ends)
+IsWhyNoBatch text ends capacity Memory =
+    Ascend 0 ends (length text) × All IsUtf8 (pieces text 0 ends) × (length ends ≤ capacity)
+IsWhyNoBatch text ends capacity _ = ⊥

@@ -1,12 +1,13 @@
 //! The results for URLs in one text, each with the place where it ends.
-ghost use Rattle.std.specs.Prelude.{◌≡◌, ◌≢◌, ◌≤◌, IfErr, IfOk, MatchBool, length, pos};
-ghost use Rattle.std.specs.List.{AllZip};
-ghost use Rattle.robots_c.specs.Batch.{Ascend, IsBatchPutIn, IsWhyNoBatch, IsWhyNotEach, pieces};
+ghost use Rattle.std.specs.Prelude.{◌≡◌, ◌≢◌, ◌≤◌, IfErr, IfOk, IsUtf8, MatchBool, length, pos};
+ghost use Rattle.std.specs.List.{All, AllZip};
+ghost use Rattle.robots_c.specs.Batch.{Ascend, IsBatchPutIn, IsWhyNoBatch, pieces};
 ghost use Rattle.robots_c.specs.File.{IsRobotOfSomeFile};
 ghost use Rattle.robots_c.specs.Results.{HasResult};
 ghost use Rattle.robots_c.specs.Status.{HasFault};
 
 use crate::fault::Fault;
+use crate::file::text_of;
 use crate::shared::Shared;
 use crate::urls::result_for;
 use std::alloc::Global;
@@ -26,13 +27,29 @@ fn ascend(ends: &[usize], limit: usize) -> bool
     true
 }
 
+/// Whether the URLs that end at these places are UTF-8.
+fn are_utf8(text: &[u8], ends: &[usize]) -> bool
+    requires { Ascend 0 ends.now (length text.now) }
+    ensures { MatchBool result (All IsUtf8 (pieces text.now 0 ends.now)) (¬ All IsUtf8 (pieces text.now 0 ends.now)) }
+{
+    let mut start = 0;
+    for end in ends {
+        match text_of(&text[start..*end]) {
+            Ok(_) => start = *end,
+            Err(_) => return false,
+        }
+    }
+    true
+}
+
 /// The results for the URLs that end at these places.
 fn numbers_at(alloc: Global, robot: &Robot, text: &[u8], ends: &[usize]) -> Result<Vec<i64>, Fault>
     requires robot { IsRobotOfSomeFile robot.now }
     requires ends { Ascend 0 ends.now (length text.now) }
+    requires utf8 { All IsUtf8 (pieces text.now 0 ends.now) }
     ensures ok { IfOk result (λ numbers. AllZip (HasResult robot.now.rules) (pieces text.now 0 ends.now) numbers.items) }
     ensures count { IfOk result (λ numbers. length numbers.items ≡ length ends.now) }
-    ensures fault { IfErr result (IsWhyNotEach (pieces text.now 0 ends.now)) }
+    ensures fault { IfErr result (λ fault. fault ≡ Fault.Memory) }
 {
     let mut numbers = Vec::with_capacity(alloc, ends.len())?;
     let mut start = 0;
@@ -53,12 +70,16 @@ fn results_at(
     capacity: usize,
 ) -> Result<Vec<i64>, Fault>
     requires { IsRobotOfSomeFile robot.now }
+    ensures ends { IfOk result (λ _. Ascend 0 ends.now (length text.now)) }
     ensures ok { IfOk result (λ numbers. AllZip (HasResult robot.now.rules) (pieces text.now 0 ends.now) numbers.items) }
     ensures capacity { IfOk result (λ numbers. length numbers.items ≤ capacity) }
     ensures fault { IfErr result (IsWhyNoBatch text.now ends.now capacity) }
 {
     if !ascend(ends, text.len()) {
         return Err(Fault::InvalidEnds);
+    }
+    if !are_utf8(text, ends) {
+        return Err(Fault::NotUtf8);
     }
     if capacity < ends.len() {
         return Err(Fault::BufferTooSmall);

@@ -18,7 +18,8 @@ pub(crate) fn close(robot: Handle<Shared<Robot>>) {
 /// Compiles only for a type whose values can be sent to other threads and shared between them.
 pub(crate) fn for_any_thread<T: Send + Sync>(_: &T) {}
 
-/// The robot of a file, in a box. It can be sent to other threads, and queried by several threads at once.
+/// The robot of a file, in a box. Its type can be sent to other threads and shared between them; for what C may
+/// do, see `robots.h`.
 fn open(alloc: Global, agent: &[u8], file: &[u8]) -> Result<Box<Shared<Robot>>, Fault>
     ensures ok { IfOk result (λ robot. IsRobotFor agent.now (bytes_read file.now) robot.value) }
     ensures fault { IfErr result (IsWhyNoRobot agent.now (bytes_read file.now)) }

@@ -190,8 +190,8 @@ pub extern "C" fn robots_open(
     status
 }
 
-/// Writes the result for one URL, as `robots_decide` does. The robot is borrowed, so any
-/// number of calls may read it at once.
+/// Writes the result for one URL, as `robots_decide` does. The robot is
+/// borrowed: the call only reads it; for threads see `robots.h`.
 #[unsafe(no_mangle)]
 pub unsafe extern "C" fn robots_query(
     alloc: Global,
@@ -284,7 +284,8 @@ pub unsafe extern "C" fn robots_share(alloc: Global, robot: *const u8, out: &mut
     status
 }
 
-/// Frees a robot that `robots_open` or `robots_site_robot` opened. If the pointer is null, it does nothing.
+/// Frees a robot that `robots_open`, `robots_site_robot` or `robots_share` opened. If the pointer is null, it
+/// does nothing.
 #[unsafe(no_mangle)]
 pub unsafe extern "C" fn robots_close(alloc: Global, robot: *mut u8)
     ghost value: { RobotValue }
@@ -312,8 +313,8 @@ pub extern "C" fn robots_site_open(alloc: Global, file: &[u8], out: &mut *mut u8
     status
 }
 
-/// Writes a pointer to a crawler's robot, as `robots_open` does. The site is borrowed, so any
-/// number of calls may read it at once.
+/// Writes a pointer to a crawler's robot, as `robots_open` does. The site is
+/// borrowed: the call only reads it; for threads see `robots.h`.
 #[unsafe(no_mangle)]
 pub unsafe extern "C" fn robots_site_robot(
     alloc: Global,
@@ -448,7 +449,8 @@ pub unsafe extern "C" fn robots_site_share(alloc: Global, site: *const u8, out: 
     status
 }
 
-/// Frees a site that `robots_site_open` opened. If the pointer is null, it does nothing.
+/// Frees a site that `robots_site_open` or `robots_site_share` opened. If the pointer is null, it does
+/// nothing.
 #[unsafe(no_mangle)]
 pub unsafe extern "C" fn robots_site_close(alloc: Global, site: *mut u8)
     ghost value: { List ℕ }

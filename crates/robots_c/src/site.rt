@@ -20,7 +20,8 @@ pub(crate) fn close(site: Handle<Shared<Site>>) {
     drop(site.into_box());
 }
 
-/// The site of a file, in a box. It can be sent to other threads, and queried by several threads at once.
+/// The site of a file, in a box. Its type can be sent to other threads and shared between them; for what C may
+/// do, see `robots.h`.
 fn open(alloc: Global, file: &[u8]) -> Result<Box<Shared<Site>>, Fault>
     ensures ok { IfOk result (λ site. site.value ≡ bytes_read file.now) }
     ensures fault { IfErr result IsWhyNoHandle }

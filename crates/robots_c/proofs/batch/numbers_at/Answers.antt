@@ -1,8 +1,9 @@
-use Rattle.std.proofs.Common.{SFits, rules, w64, ◌∙◌}
+use Rattle.std.proofs.Common.{IsUtf8, SFits, rules, w64, ◌∙◌}
 use Rattle.std.proofs.lemmas.Int.{to_z-of_z}
 use Rattle.std.proofs.lemmas.List.{drop_all, drop_more}
+use Rattle.std.proofs.lemmas.List.Elements.{All-head}
 use Rattle.std.proofs.lemmas.Result.{err_from_is_err_and}
-use Rattle.robots_c.proofs.BatchLemmas.{all_so_far, count_pieces, one_more_end, why_not_each}
+use Rattle.robots_c.proofs.BatchLemmas.{all_so_far, count_pieces, one_more_end, only_memory}
 use Rattle.robots_c.proofs.NumberLemmas.{as_many}
 use Rattle.robots_c.proofs.batch.numbers_at.Goals as goal
 
@@ -12,7 +13,7 @@ returns-in_err-number-clause-fault c =
     let p = err_from_is_err_and failed.result failed.ensures.1 in
     let left = drop_more c.args.ends.now c.loop-end.end-index 0 c.loop-end-test.true in
     let so = rw left at c.loop-end.invariant in
-    rw (p.1, p.2) (why_not_each _ _ _ _ _ _ _ _ so c.in_err-number.ensures.fault)
+    rw (p.1, p.2) (only_memory _ _ (All-head IsUtf8 _ _ so.utf8) c.in_err-number.ensures.fault)
 
 pub loop-end-preserved : goal.loop-end-preserved
 loop-end-preserved c =
