@@ -95,7 +95,7 @@ def test_the_lines_of_the_readme_in_another_crate(installed, tmp_path):
     (tmp_path / "src").mkdir()
     lines = code(README, "rust")[0].replace("texting_robots_c", "texting_robots").replace("# Ok", "Ok")
     (tmp_path / "src/main.rs").write_text(f"fn main() -> Result<(), texting_robots::Error> {{\n{lines}}}\n")
-    named = re.search(r"`texting_robots = (\{ package.*?\})`", README)[1].replace('".."', f'"{CRATE}"')
+    named = re.search(r"`texting_robots = (\{ package.*?\})`", README)[1].replace('version = "1.0.0"', f'path = "{CRATE}"')
     (tmp_path / "Cargo.toml").write_text(f'[package]\nname = "caller"\nversion = "0.1.0"\nedition = "2021"\n[dependencies]\ntexting_robots = {named}\n')
     cargo("run", cwd=tmp_path, env=os.environ | {"ROBOTS_C": str(installed), "CARGO_TARGET_DIR": str(tmp_path / "target")})
 
