@@ -1,32 +1,9 @@
 //! Colors of warnings on a terminal.
-ghost use Rattle.std.specs.Prelude.{◌≡◌, option_map, true};
-ghost use Rattle.audit_core.specs.Color.{default_colors, is_dumb, is_set, requested_colors, shown_word};
+ghost use Rattle.std.specs.Prelude.{◌≡◌, option_map};
+ghost use Rattle.audit_core.specs.Color.{default_colors, is_dumb, is_set, requested_colors};
 
-use robots_warnings::level::Level;
 use std::env::{self, VarError};
 use std::io::IsTerminal;
-
-/// The word for a level in its color: bold red, yellow or cyan.
-fn colored_word(level: Level) -> &'static str
-    ensures { result.now ≡ shown_word true level }
-{
-    match level {
-        Level::Error => "\x1B[1;31merror\x1B[0m",
-        Level::Warning => "\x1B[1;33mwarning\x1B[0m",
-        Level::Note => "\x1B[1;36mnote\x1B[0m",
-    }
-}
-
-/// The word for a level, in its color if there are colors.
-pub fn shown_word(has_colors: bool, level: Level) -> &'static str
-    ensures { result.now ≡ shown_word has_colors level }
-{
-    if has_colors {
-        colored_word(level)
-    } else {
-        level.word()
-    }
-}
 
 /// Whether the value of `--color` requests colors; `by_default` is what no value and `auto` mean.
 pub fn requested_colors(word: Option<&str>, by_default: bool) -> bool

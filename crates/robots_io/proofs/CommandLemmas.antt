@@ -14,13 +14,10 @@ use Rattle.std.proofs.lemmas.Bool.{or_from, or_parts, or_right}
 use Rattle.std.proofs.lemmas.Bool.Decides.{nat_tests}
 use Rattle.std.proofs.lemmas.List.Folds.{list_all-append}
 use Rattle.std.proofs.lemmas.Str.{inside_one}
-use Rattle.robots_io.specs.Sanitize.{command_start, has_command, safe_in, sanitized_in, without_commands}
-use Rattle.robots_io.specs.Sanitize.{without_hash}
+use Rattle.robots_io.specs.Sanitize.{begins_apart, command_start, ends_apart, has_command, is_front, is_other}
+use Rattle.robots_io.specs.Sanitize.{safe_in, sanitized_in, without_commands, without_hash}
 
 -- ---- sanitized texts
-
-abbrev is_other : ℕ → Bool
-is_other b = not (nat_eq 35 b)
 
 other_quiet : (text : List ℕ) → list_all is_other text ≡ true → has_command text ≡ false
 other_quiet [] are = refl
@@ -64,17 +61,6 @@ pub sanitized_quiet : (has_lines : Bool) (bytes : List ℕ) → has_command (san
 sanitized_quiet has_lines bytes = without_quiet (safe_in has_lines bytes)
 
 -- ---- seams
-
--- the text begins with a byte that isn't in the start of a command
-abbrev pub begins_apart : List ℕ → Bool
-begins_apart [] = false
-begins_apart (b ∷ text) = not (nat_eq 35 b || nat_eq 91 b)
-
--- the text doesn't end with `#`
-abbrev pub ends_apart : List ℕ → Bool
-ends_apart [] = true
-ends_apart (b ∷ []) = is_other b
-ends_apart (b ∷ c ∷ text) = ends_apart (c ∷ text)
 
 -- if the byte is `#`, then the text begins with neither `#` nor `[`
 next_apart : (b : ℕ) (text : List ℕ) → (is_other b || begins_apart text) ≡ true
@@ -144,9 +130,6 @@ pub record IsMiddle (text : List ℕ) : Type 0 where
 
 pub front_nil : IsFront []
 front_nil = record { quiet = refl; ends = refl }
-
-abbrev pub is_front : List ℕ → Bool
-is_front text = not (has_command text) && ends_apart text
 
 -- for a literal, `refl` proves the premise
 pub front_text : (text : List ℕ) → is_front text ≡ true → IsFront text

@@ -9,12 +9,7 @@ use Rattle.std.proofs.lemmas.Bool.{cases_Bool}
 use Rattle.std.proofs.lemmas.Bool.Decides.{nat_tests}
 use Rattle.robots_io.specs.Sanitize.{IsPrintable}
 use Rattle.robots_io.proofs.SanitizeLemmas.{line_printable}
-use Rattle.audit_core.specs.PlainLine.{IsPlainLine, begins_plainly}
-
--- there is such a byte
-abbrev pub starts : List ℕ → Bool
-starts [] = false
-starts (b ∷ text) = if b == 32 then starts text else not (b == 58 || b == 35)
+use Rattle.robots_text.specs.PlainLine.{IsPlainLine, begins_plainly, starts}
 
 pub starts_plainly : (text : List ℕ) → starts text ≡ true → begins_plainly text ≡ true
 starts_plainly [] is = refl

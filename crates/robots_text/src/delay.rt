@@ -1,7 +1,7 @@
 //! Formats a delay in seconds, exactly.
 ghost use Rattle.std.specs.Prelude.{◌≡◌, ◌++◌, ◌∷◌, ◌<◌, [], OnOk, string_bytes};
 ghost use Rattle.robots_io.specs.Lines.{ended};
-ghost use Rattle.audit_core.specs.Delay.{delay_line, delay_text, fraction, million, seconds};
+ghost use Rattle.robots_text.specs.Delay.{delay_line, delay_text, fraction, million, seconds};
 
 use robots_io::lines::{push_line, push_number};
 use std::alloc::AllocError;

@@ -16,3 +16,8 @@ pub record IsPlainLine (line : List ℕ) : Type 0 where
   pub printable : IsPrintableIn false line
   pub begins : IsTrue (begins_plainly line)
   pub inside : has_command line ≡ false
+
+-- the text has a byte that isn't a space, and the first one is neither `:` nor `#`
+abbrev pub starts : List ℕ → Bool
+starts [] = false
+starts (b ∷ text) = if b == 32 then starts text else not (b == 58 || b == 35)

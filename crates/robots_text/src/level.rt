@@ -1,6 +1,7 @@
-//! How serious a warning is.
-ghost use Rattle.std.specs.Prelude.{◌≡◌};
-ghost use Rattle.robots_warnings.specs.Level.{level_word, reaches};
+//! How serious a warning is, and the word for it, in color or not.
+ghost use Rattle.std.specs.Prelude.{◌≡◌, true};
+ghost use Rattle.robots_text.specs.Level.{level_word, reaches};
+ghost use Rattle.robots_text.specs.Color.{shown_word};
 
 /// How serious a warning is.
 #[derive(Clone, Copy, PartialEq, Eq)]
@@ -34,5 +35,27 @@ impl Level {
             Level::Warning => least != Level::Error,
             Level::Note => least == Level::Note,
         }
+    }
+}
+
+/// The word for a level in its color: bold red, yellow or cyan.
+fn colored_word(level: Level) -> &'static str
+    ensures { result.now ≡ shown_word true level }
+{
+    match level {
+        Level::Error => "\x1B[1;31merror\x1B[0m",
+        Level::Warning => "\x1B[1;33mwarning\x1B[0m",
+        Level::Note => "\x1B[1;36mnote\x1B[0m",
+    }
+}
+
+/// The word for a level, in its color if there are colors.
+pub fn shown_word(has_colors: bool, level: Level) -> &'static str
+    ensures { result.now ≡ shown_word has_colors level }
+{
+    if has_colors {
+        colored_word(level)
+    } else {
+        level.word()
     }
 }

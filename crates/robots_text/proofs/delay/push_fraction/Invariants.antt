@@ -1,6 +1,6 @@
 use Rattle.std.proofs.Common.{◌≡◌, ◌++◌, ◌<◌, string_bytes}
-use Rattle.audit_core.specs.Delay.{fraction, million}
-use Rattle.audit_core.proofs.delay.push_fraction.Given as goal
+use Rattle.robots_text.specs.Delay.{fraction, million}
+use Rattle.robots_text.proofs.delay.push_fraction.Given as goal
 
 -- the digits appended so far and the remaining ones are all the digits
 abbrev pub invariant-loop-rest : goal.invariant-loop-rest

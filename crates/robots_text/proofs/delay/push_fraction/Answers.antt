@@ -1,6 +1,6 @@
 use Rattle.std.proofs.Common.{arith}
-use Rattle.audit_core.proofs.DelayLemmas.{digit_added}
-use Rattle.audit_core.proofs.delay.push_fraction.Goals as goal
+use Rattle.robots_text.proofs.DelayLemmas.{digit_added}
+use Rattle.robots_text.proofs.delay.push_fraction.Goals as goal
 
 pub loop-rest-preserved : goal.loop-rest-preserved
 loop-rest-preserved c = record {

@@ -1,0 +1,4 @@
+pub mod ColorLemmas
+pub mod DelayLemmas
+pub mod PartLemmas
+pub mod PlainLemmas

@@ -1,0 +1,236 @@
+-- Every line that is made of parts is printable, and no workflow takes it for a command.
+use Rattle.std.proofs.Common.{◌∙◌, ◌==◌, ◌-◌, ap, append_assoc, append-nil, length, replicate, sym}
+use Rattle.std.proofs.Common.{◌≡◌, ℕ, true, false, List, [], ◌∷◌, ◌++◌, ◌⊎◌, Bool, codes, decimal, flat_map, inl}
+use Rattle.std.proofs.Common.{inr, map, refl, suc, zero}
+use Rattle.std.specs.List.{AllByRecursion as Each, list_all}
+use Rattle.std.proofs.lemmas.List.{length-map, map-append}
+use Rattle.std.proofs.lemmas.List.Concat.{flat_map-append}
+use Rattle.std.proofs.lemmas.Bool.{and_parts, or_right}
+use Rattle.robots_io.specs.Lines.{ended, lf}
+use Rattle.robots_io.specs.Sanitize.{IsPrintable, IsPrintableIn, begins_apart, has_command}
+use Rattle.robots_io.specs.Sanitize.{is_printable_byte, sanitized}
+use Rattle.robots_io.proofs.CommandLemmas.{IsFront, IsMiddle, after_front, blanks_front, decimal_middle}
+use Rattle.robots_io.proofs.CommandLemmas.{front_append, front_text, middle_text, sanitized_quiet, seam}
+use Rattle.robots_io.proofs.SanitizeLemmas.{append_printable, ascii_printable, blanks_printable}
+use Rattle.robots_io.proofs.SanitizeLemmas.{decimal_printable, ended_printable, nil_printable}
+use Rattle.robots_io.proofs.SanitizeLemmas.{sanitized_in_printable}
+use Rattle.robots_text.specs.Delay.{delay_text}
+use Rattle.robots_text.specs.Level.{level_word}
+use Rattle.robots_text.specs.PlainLine.{IsPlainLine, starts}
+use Rattle.robots_text.specs.Color.{shown_word}
+use Rattle.robots_text.specs.Text.{Absent, Aligned, Column, Count, Delay, Label, LevelLine, Named, NamedLine}
+use Rattle.robots_text.specs.Text.{Nothing, Number, Part, PartValue, ReportLine, Untrusted, Value, Word}
+use Rattle.robots_text.specs.Text.{blanks, level_text, line_text, named_text, part_text, parts_text}
+use Rattle.robots_text.specs.Text.{starts_line, value_text, written}
+use Rattle.robots_text.specs.declared.level.Level.{Level}
+use Rattle.robots_text.specs.declared.level.Level.TheVariants.{Error, Note, Warning}
+use Rattle.robots_text.proofs.DelayLemmas.{delay_middle, delay_printable, either}
+use Rattle.robots_text.proofs.PlainLemmas.{each_printable, starts_append, starts_blanks, starts_decimal}
+use Rattle.robots_text.proofs.PlainLemmas.{starts_plainly}
+
+-- ---- labels and values
+
+pub label_middle : (front : Label) → IsMiddle front.text
+label_middle front =
+    middle_text front.text (and_parts (list_all (is_printable_byte false) front.text) _ front.safe).1
+
+pub label_printable : (front : Label) → IsPrintableIn false front.text
+label_printable front =
+    ascii_printable false front.text (and_parts (list_all (is_printable_byte false) front.text) _ front.safe).0
+
+pub level_printable : (level : Level) → IsPrintableIn false (level_word level)
+level_printable Error = ascii_printable false (level_word Error) refl
+level_printable Warning = ascii_printable false (level_word Warning) refl
+level_printable Note = ascii_printable false (level_word Note) refl
+
+pub value_printable : (value : Value) → IsPrintableIn false (value_text value)
+value_printable Nothing = nil_printable false
+value_printable (Word word) = label_printable word
+value_printable (Untrusted bytes) = sanitized_in_printable false bytes
+value_printable (Named name) =
+    either (IsPrintableIn false) (length name == 0) (codes "\"\"") (sanitized name)
+    (ascii_printable false (codes "\"\"") refl) (sanitized_in_printable false name)
+value_printable (Number number) = decimal_printable false number
+value_printable (Delay micros) = delay_printable micros
+
+value_quiet : (value : Value) → has_command (value_text value) ≡ false
+value_quiet Nothing = refl
+value_quiet (Word word) = (label_middle word).front.quiet
+value_quiet (Untrusted bytes) = sanitized_quiet false bytes
+value_quiet (Named name) =
+    either (λ text. has_command text ≡ false) (length name == 0) (codes "\"\"") (sanitized name) refl
+    (sanitized_quiet false name)
+value_quiet (Number number) = (decimal_middle number).front.quiet
+value_quiet (Delay micros) = (delay_middle micros).front.quiet
+
+-- ---- parts
+
+-- a text without the start of a command, which can follow any other
+record IsApart (text : List ℕ) : Type 0 where
+  quiet : has_command text ≡ false
+  begins : (text ≡ []) ⊎ (begins_apart text ≡ true)
+
+-- a text begins as a label before it does
+begins_append : (one two : List ℕ) → begins_apart one ≡ true → begins_apart (one ++ two) ≡ true
+begins_append [] two is = absurd (cc)
+begins_append (b ∷ one) two is = is
+
+labelled : (front : Label) (text : List ℕ) → has_command text ≡ false → IsApart (front.text ++ text)
+labelled front text quiet = record {
+  quiet = after_front front.text text (label_middle front).front quiet;
+  begins = inr (begins_append front.text text (label_middle front).begins);
+}
+
+number_apart : (number : ℕ) → IsApart (decimal number)
+number_apart number =
+    record { quiet = (decimal_middle number).front.quiet; begins = inr (decimal_middle number).begins }
+
+aligned_begins : (n number : ℕ) → begins_apart (blanks n ++ decimal number) ≡ true
+aligned_begins zero number = (decimal_middle number).begins
+aligned_begins (suc n) number = refl
+
+nil_apart : IsApart []
+nil_apart = record { quiet = refl; begins = inl refl }
+
+part_apart : (part : PartValue) → IsApart (part_text part)
+part_apart Absent = nil_apart
+part_apart (Part front value) =
+    labelled front (value_text value) (value_quiet value)
+part_apart (Column width front value) =
+    let space = width - length front.text in
+    labelled front (blanks space ++ value_text value)
+    (after_front (blanks space) (value_text value) (blanks_front space)
+    (value_quiet value))
+part_apart (Count number) = number_apart number
+part_apart (Aligned width number) =
+    let space = width - length (decimal number) in
+    record {
+      quiet =
+          after_front (blanks space) (decimal number) (blanks_front space)
+          (decimal_middle number).front.quiet;
+      begins = inr (aligned_begins space number);
+    }
+
+joined_quiet : (one two : List ℕ) → has_command one ≡ false → IsApart two → has_command (one ++ two) ≡ false
+joined_quiet one [] is too = rw (append-nil one) is
+joined_quiet one (b ∷ two) is too = by too.begins
+  where
+    by : (b ∷ two ≡ []) ⊎ (begins_apart (b ∷ two) ≡ true) → has_command (one ++ b ∷ two) ≡ false
+    by (inl none) = absurd (cc)
+    by (inr apart) = seam one (b ∷ two) is too.quiet (or_right _ (begins_apart (b ∷ two)) apart)
+
+joined_begins : (one two : List ℕ) → (one ≡ []) ⊎ (begins_apart one ≡ true) → IsApart two
+    → (one ++ two ≡ []) ⊎ (begins_apart (one ++ two) ≡ true)
+joined_begins [] two is too = too.begins
+joined_begins (b ∷ one) two (inl none) too = absurd (cc)
+joined_begins (b ∷ one) two (inr apart) too = inr apart
+
+parts_apart : (parts : List PartValue) → IsApart (parts_text parts)
+parts_apart [] = nil_apart
+parts_apart (part ∷ parts) =
+    let one = part_apart part in
+    let rest = parts_apart parts in
+    record {
+      quiet = joined_quiet (part_text part) (parts_text parts) one.quiet rest;
+      begins = joined_begins (part_text part) (parts_text parts) one.begins rest;
+    }
+
+pub part_printable : (part : PartValue) → IsPrintableIn false (part_text part)
+part_printable Absent = nil_printable false
+part_printable (Part front value) =
+    append_printable false front.text (value_text value) (label_printable front) (value_printable value)
+part_printable (Column width front value) =
+    let space = width - length front.text in
+    append_printable false front.text (blanks space ++ value_text value) (label_printable front)
+    (append_printable false (blanks space) (value_text value) (blanks_printable false space)
+    (value_printable value))
+part_printable (Count number) = decimal_printable false number
+part_printable (Aligned width number) =
+    let space = width - length (decimal number) in
+    append_printable false (blanks space) (decimal number) (blanks_printable false space)
+    (decimal_printable false number)
+
+pub parts_printable : (parts : List PartValue) → IsPrintableIn false (parts_text parts)
+parts_printable [] = nil_printable false
+parts_printable (part ∷ parts) =
+    append_printable false (part_text part) (parts_text parts) (part_printable part)
+    (parts_printable parts)
+
+pub parts_quiet : (parts : List PartValue) → has_command (parts_text parts) ≡ false
+parts_quiet parts = (parts_apart parts).quiet
+
+-- ---- lines
+
+part_starts : (part : PartValue) → starts_line part ≡ true → starts (part_text part) ≡ true
+part_starts Absent is = absurd (cc)
+part_starts (Part front value) is = starts_append front.text (value_text value) is
+part_starts (Column width front value) is =
+    starts_append front.text (blanks (width - length front.text) ++ value_text value) is
+part_starts (Count number) is = starts_decimal number
+part_starts (Aligned width number) is =
+    starts_blanks (width - length (decimal number)) (decimal number) (starts_decimal number)
+
+pub line_plain : (line : ReportLine) → IsPlainLine (line_text line)
+line_plain line =
+    let first = part_text line.first in
+    let rest = parts_text line.rest in
+    record {
+      printable =
+          append_printable false first rest (part_printable line.first) (parts_printable line.rest);
+      begins =
+          starts_plainly (first ++ rest) (starts_append first rest (part_starts line.first line.begins));
+      inside = joined_quiet first rest (part_apart line.first).quiet (parts_apart line.rest);
+    }
+
+-- whatever a report says, its lines are plain
+pub lines_plain : (lines : List ReportLine) → Each IsPlainLine (map line_text lines)
+lines_plain [] = tt
+lines_plain (line ∷ lines) = (line_plain line, lines_plain lines)
+
+pub written_printable : (lines : List ReportLine) → IsPrintable (written lines)
+written_printable lines =
+    ended_printable (map line_text lines) (each_printable (map line_text lines) (lines_plain lines))
+
+pub written_append : (one other : List ReportLine) → written (one ++ other) ≡ written one ++ written other
+written_append one other =
+    ap ended (map-append line_text one other)
+    ∙ flat_map-append (λ (line : List ℕ). line ++ lf ∷ []) (map line_text one) (map line_text other)
+
+-- ---- lines that begin with any bytes
+
+pub named_printable : (line : NamedLine) → IsPrintableIn false (named_text line)
+named_printable line =
+    append_printable false (sanitized line.name) (parts_text line.rest)
+    (sanitized_in_printable false line.name) (parts_printable line.rest)
+
+pub named_quiet : (line : NamedLine) → has_command (named_text line) ≡ false
+named_quiet line =
+    joined_quiet (sanitized line.name) (parts_text line.rest) (sanitized_quiet false line.name)
+    (parts_apart line.rest)
+
+-- ---- lines with a level
+
+level_middle : (has_colors : Bool) (level : Level) → IsMiddle (codes ": " ++ shown_word has_colors level)
+level_middle false Error = middle_text (codes ": " ++ shown_word false Error) refl
+level_middle false Warning = middle_text (codes ": " ++ shown_word false Warning) refl
+level_middle false Note = middle_text (codes ": " ++ shown_word false Note) refl
+level_middle true Error = middle_text (codes ": " ++ shown_word true Error) refl
+level_middle true Warning = middle_text (codes ": " ++ shown_word true Warning) refl
+level_middle true Note = middle_text (codes ": " ++ shown_word true Note) refl
+
+pub level_quiet : (has_colors : Bool) (line : LevelLine) → has_command (level_text has_colors line) ≡ false
+level_quiet has_colors line =
+    let word = codes ": " ++ shown_word has_colors line.level in
+    let is = level_middle has_colors line.level in
+    let rest = parts_text line.rest in
+    let after : IsApart (word ++ rest) = record {
+      quiet = after_front word rest is.front (parts_quiet line.rest);
+      begins = inr (begins_append word rest is.begins);
+    } in
+    let place = part_apart line.place in
+    let placed : IsApart (part_text line.place ++ (word ++ rest)) = record {
+      quiet = joined_quiet (part_text line.place) (word ++ rest) place.quiet after;
+      begins = joined_begins (part_text line.place) (word ++ rest) place.begins after;
+    } in
+    joined_quiet (sanitized line.name) (part_text line.place ++ (word ++ rest))
+    (sanitized_quiet false line.name) placed

@@ -1,0 +1,6 @@
+pub mod Color
+pub mod Delay
+pub mod Level
+pub mod PlainLine
+pub mod Raw
+pub mod Text
