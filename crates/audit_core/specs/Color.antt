@@ -7,9 +7,9 @@ use Rattle.std.specs.declared.env.VarError.{VarError}
 use Rattle.std.specs.declared.env.VarError.TheVariants.{NotPresent}
 use Rattle.std.specs.List.{AllByRecursion as Each}
 use Rattle.robots_io.specs.Sanitize.{IsPrintable}
-use Rattle.robots_warnings.specs.declared.level.Level.{Level}
-use Rattle.robots_warnings.specs.declared.level.Level.TheVariants.{Error, Note, Warning}
-use Rattle.robots_warnings.specs.Level.{level_word}
+use Rattle.robots_text.specs.declared.level.Level.{Level}
+use Rattle.robots_text.specs.declared.level.Level.TheVariants.{Error, Note, Warning}
+use Rattle.robots_text.specs.Level.{level_word}
 
 -- whether the value of `--color` requests colors; `by_default` is what no value and `auto` mean
 abbrev pub requested_colors : Option (List ℕ) → (by_default : Bool) → Bool

@@ -1,19 +1,14 @@
 -- The rows of a report: one for each line of the file.
-use Rattle.std.specs.Prelude.{ℕ, ◌-◌, ◌==◌, Bool, not, List, [], ◌++◌, Some, None, codes, decimal}
-use Rattle.std.specs.Prelude.{if◌then◌else◌, is_some, length, map, replicate}
+use Rattle.std.specs.Prelude.{ℕ, ◌==◌, Bool, true, false, not, List, [], ◌∷◌, Some, None, codes, decimal}
+use Rattle.std.specs.Prelude.{is_some, length, map}
+use Rattle.std.proofs.Common.{refl}
 use Rattle.texting_robots.specs.Callers.{Allow, CrawlDelay, Disallow, LineValue, Label, Raw, Sitemap}
 use Rattle.texting_robots.specs.Callers.{UserAgent}
 use Rattle.texting_robots.specs.declared.labels.Membership.{Membership}
-use Rattle.robots_warnings.specs.File.{is_blank, space}
-use Rattle.audit_core.specs.Delay.{delay_text}
-use Rattle.robots_io.specs.Sanitize.{sanitized}
 use Rattle.texting_robots.specs.declared.labels.Membership.TheVariants.{Other, Ungrouped, Own}
-
--- ---- columns
-
--- the text, right-aligned within the width
-abbrev pub right_aligned : ℕ → List ℕ → List ℕ
-right_aligned width text = replicate (width - length text) space ++ text
+use Rattle.robots_warnings.specs.File.{is_blank}
+use Rattle.robots_text.specs.Text.{Aligned, Column, Delay, Label as Fixed, Nothing, Part, PartValue}
+use Rattle.robots_text.specs.Text.{ReportLine, Untrusted, Value, Word, label, line_from, value_text}
 
 -- the width of the column with the directives; the longest one is followed by a space
 abbrev pub word_width : ℕ
@@ -22,29 +17,40 @@ word_width = 12
 -- ---- a line of a file
 
 -- `+` in the crawler's group, `-` in another, a space in none
-abbrev pub label_text : Membership → List ℕ
-label_text Own = codes "+"
-label_text Other = codes "-"
-label_text Ungrouped = codes " "
+abbrev pub mark_of : Membership → Fixed
+mark_of Own = label (codes "+") refl
+mark_of Other = label (codes "-") refl
+mark_of Ungrouped = label (codes " ") refl
+
+-- a line that isn't a directive
+abbrev pub raw_kind : (is_blank : Bool) → Fixed
+raw_kind true = label (codes "empty") refl
+raw_kind false = label (codes "ignored") refl
 
 -- the name of the line's directive, or `empty` or `ignored`
+abbrev pub kind_of : LineValue → Fixed
+kind_of (UserAgent value) = label (codes "user-agent") refl
+kind_of (Allow value) = label (codes "allow") refl
+kind_of (Disallow value) = label (codes "disallow") refl
+kind_of (CrawlDelay delay) = label (codes "crawl-delay") refl
+kind_of (Sitemap value) = label (codes "sitemap") refl
+kind_of (Raw body) = raw_kind (is_blank body)
+
 abbrev pub kind_text : LineValue → List ℕ
-kind_text (UserAgent value) = codes "user-agent"
-kind_text (Allow value) = codes "allow"
-kind_text (Disallow value) = codes "disallow"
-kind_text (CrawlDelay delay) = codes "crawl-delay"
-kind_text (Sitemap value) = codes "sitemap"
-kind_text (Raw body) = if is_blank body then codes "empty" else codes "ignored"
+kind_text line = (kind_of line).text
 
 -- a delay in seconds, any other value sanitized
-abbrev pub value_text : LineValue → List ℕ
-value_text (UserAgent value) = sanitized value
-value_text (Allow value) = sanitized value
-value_text (Disallow value) = sanitized value
-value_text (CrawlDelay None) = []
-value_text (CrawlDelay (Some micros)) = delay_text micros
-value_text (Sitemap value) = sanitized value
-value_text (Raw body) = sanitized body
+abbrev pub line_value : LineValue → Value
+line_value (UserAgent value) = Untrusted value
+line_value (Allow value) = Untrusted value
+line_value (Disallow value) = Untrusted value
+line_value (CrawlDelay None) = Nothing
+line_value (CrawlDelay (Some micros)) = Delay micros
+line_value (Sitemap value) = Untrusted value
+line_value (Raw body) = Untrusted body
+
+abbrev pub line_value_text : LineValue → List ℕ
+line_value_text line = value_text (line_value line)
 
 -- the line has a value that is shown
 abbrev pub has_value : LineValue → Bool
@@ -56,22 +62,22 @@ has_value (Sitemap value) = not (length value == 0)
 has_value (Raw body) = not (length body == 0)
 
 -- the directive, and if the line has a value, spaces up to the next column and the value
-abbrev pub word_and_value : LineValue → List ℕ
-word_and_value line =
-    let word = kind_text line in
-    if has_value line then word ++ replicate (word_width - length word) space ++ value_text line else word
+abbrev pub kind_part : (has_value : Bool) → LineValue → PartValue
+kind_part true line = Column word_width (kind_of line) (line_value line)
+kind_part false line = Part (kind_of line) Nothing
 
--- the number, the label, the directive and the value
-abbrev pub row : ℕ → Label → List ℕ
-row width label =
-    right_aligned width (decimal label.number) ++ codes " " ++ label_text label.membership ++ codes " "
-    ++ word_and_value label.line
+-- the number, the mark, the directive and the value
+abbrev pub row : ℕ → Label → ReportLine
+row width labeled =
+    line_from (Aligned width labeled.number) refl
+    (Part (label (codes " ") refl) (Word (mark_of labeled.membership)) ∷ Part (label (codes " ") refl) Nothing
+    ∷ kind_part (has_value labeled.line) labeled.line ∷ [])
 
 -- a row for each line, the numbers right-aligned
-abbrev pub rows : List Label → List (List ℕ)
+abbrev pub rows : List Label → List ReportLine
 rows labels = map (row (length (decimal (length labels)))) labels
 
-abbrev pub membership_word : Membership → List ℕ
-membership_word Own = codes "own"
-membership_word Other = codes "other"
-membership_word Ungrouped = codes "ungrouped"
+abbrev pub membership_label : Membership → Fixed
+membership_label Own = label (codes "own") refl
+membership_label Other = label (codes "other") refl
+membership_label Ungrouped = label (codes "ungrouped") refl

@@ -1,34 +1,76 @@
--- Texts that several reports share: which group applies to a crawler, and that the file is rejected for it.
-use Rattle.std.specs.Prelude.{ℕ, List, [], ◌∷◌, ◌++◌, None, Option, Some, bytes_eq, codes, decimal}
-use Rattle.std.specs.Prelude.{if◌then◌else◌}
+-- Texts that several reports share: a delay, which group applies to a crawler, and that the file is rejected for
+-- it.
+use Rattle.std.specs.Prelude.{ℕ, Bool, true, false, List, [], ◌∷◌, ◌++◌, None, Option, Some, bytes_eq, codes}
+use Rattle.std.proofs.Common.{refl}
 use Rattle.audit_core.specs.declared.group.Group.{Group}
 use Rattle.audit_core.specs.declared.group.Group.TheVariants.{Everyone, Named, Nobody, Star}
-use Rattle.robots_io.specs.Sanitize.{sanitized}
+use Rattle.robots_text.specs.Text.{Absent, Delay, Label, Nothing, Number, Part, PartValue, ReportLine, Untrusted}
+use Rattle.robots_text.specs.Text.{Value, Word, label, line_from, parts_text, value_text}
+
+abbrev pub delay_value : Option ℕ → Value
+delay_value None = Word (label (codes "none") refl)
+delay_value (Some micros) = Delay micros
+
+-- ---- groups
+
+-- the name of the group that applies to a crawler
+abbrev pub group_value : List ℕ → Group → Value
+group_value agent Named = Untrusted agent
+group_value agent Star = Word (label (codes "*") refl)
+group_value agent Nobody = Word (label (codes "none") refl)
+group_value agent Everyone = Word (label (codes "everyone") refl)
 
 -- the file names neither the crawler nor `*`
-abbrev pub nobody_text : List ℕ → List ℕ
-nobody_text agent =
-    if bytes_eq agent (codes "*") then codes "none (no group for *; everything is allowed)"
-    else codes "none (no group for " ++ sanitized agent ++ codes " or *; everything is allowed)"
+abbrev pub nobody_part : (is_star : Bool) → List ℕ → PartValue
+nobody_part true agent = Part (label (codes " (no group for *") refl) Nothing
+nobody_part false agent = Part (label (codes " (no group for ") refl) (Untrusted agent)
+
+-- the reason, if it isn't the crawler's own group, and the end of the reason
+abbrev pub group_reason : List ℕ → Group → PartValue
+group_reason agent Named = Absent
+group_reason agent Star = Part (label (codes " (") refl) (Untrusted agent)
+group_reason agent Nobody = nobody_part (bytes_eq agent (codes "*")) agent
+group_reason agent Everyone = Part (label (codes " (the file has no User-agent line") refl) Nothing
+
+abbrev pub nobody_end : (is_star : Bool) → PartValue
+nobody_end true = Part (label (codes "; everything is allowed)") refl) Nothing
+nobody_end false = Part (label (codes " or *; everything is allowed)") refl) Nothing
+
+abbrev pub group_end : List ℕ → Group → PartValue
+group_end agent Named = Absent
+group_end agent Star = Part (label (codes " has no group of its own)") refl) Nothing
+group_end agent Nobody = nobody_end (bytes_eq agent (codes "*"))
+group_end agent Everyone = Part (label (codes "; all rules are applied)") refl) Nothing
 
 -- the group that applies to a crawler, and the reason if it isn't the crawler's own
 abbrev pub group_text : List ℕ → Group → List ℕ
-group_text agent Named = sanitized agent
-group_text agent Star = codes "* (" ++ sanitized agent ++ codes " has no group of its own)"
-group_text agent Nobody = nobody_text agent
-group_text agent Everyone = codes "everyone (the file has no User-agent line; all rules are applied)"
+group_text agent group =
+    value_text (group_value agent group)
+    ++ parts_text (group_reason agent group ∷ group_end agent group ∷ [])
+
+abbrev pub group_line : List ℕ → Group → ReportLine
+group_line agent group =
+    line_from (Part (label (codes "group: ") refl) (group_value agent group)) refl
+    (group_reason agent group ∷ group_end agent group ∷ [])
+
+-- ---- rejected files
 
 -- that the file is rejected for the crawler, and the line of its first overlong rule
-abbrev pub rejected_front : List ℕ → ℕ → List ℕ
-rejected_front agent line = codes "rejected for " ++ sanitized agent ++ codes ": line " ++ decimal line
+abbrev pub rejected_front : List ℕ → PartValue
+rejected_front agent = Part (label (codes "rejected for ") refl) (Untrusted agent)
 
--- the same with the reason
-abbrev pub rejected_text : List ℕ → ℕ → List ℕ
-rejected_text agent line =
-    rejected_front agent line
-    ++ codes ": a pattern with $ longer than 4,096 bytes isn't supported; shorten it"
+abbrev pub rejected_line_part : ℕ → PartValue
+rejected_line_part line = Part (label (codes ": line ") refl) (Number line)
+
+abbrev pub rejected_reason : PartValue
+rejected_reason =
+    Part (label (codes ": a pattern with $ longer than 4,096 bytes isn't supported; shorten it") refl) Nothing
+
+abbrev pub rejected_parts : List ℕ → ℕ → List PartValue
+rejected_parts agent line = rejected_front agent ∷ rejected_line_part line ∷ rejected_reason ∷ []
 
 -- the line about it, if the file is rejected
-abbrev pub rejected_lines : List ℕ → Option ℕ → List (List ℕ)
+abbrev pub rejected_lines : List ℕ → Option ℕ → List ReportLine
 rejected_lines agent None = []
-rejected_lines agent (Some line) = rejected_text agent line ∷ []
+rejected_lines agent (Some line) =
+    line_from (rejected_front agent) refl (rejected_line_part line ∷ rejected_reason ∷ []) ∷ []

@@ -1,5 +1,5 @@
 //! What a robots.txt file means for the crawlers that a request names: the request, the audit of a file, and
-//! how a run ends. It also has what several reports share: rows, delays, sitemaps, colors, and the texts
+//! how a run ends. It also has what several reports share: rows, sitemaps, colors, and the texts
 //! about groups, rejected files and syntax.
 #![tactic(auto)]
 
@@ -9,11 +9,10 @@ pub mod audit;
 mod chosen;
 pub mod color;
 pub mod crawler;
-pub mod delay;
+pub mod answer;
 pub mod fault;
 pub mod group;
 mod needless;
-pub mod print;
 pub mod request;
 pub mod rows;
 pub mod rules;

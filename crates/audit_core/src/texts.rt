@@ -1,65 +1,100 @@
-//! Texts that several reports share: which group applies to a crawler, and that the file is rejected for it.
-ghost use Rattle.std.specs.Prelude.{◌≡◌, ◌++◌, OnOk, string_bytes};
-ghost use Rattle.robots_io.specs.Lines.{ended};
-ghost use Rattle.audit_core.specs.Texts.{group_text, nobody_text, rejected_front, rejected_lines};
-ghost use Rattle.audit_core.specs.Texts.{rejected_text};
-ghost use Rattle.robots_io.specs.Sanitize.{sanitized};
+//! Texts that several reports share: a delay, which group applies to a crawler, and that the file is rejected for it.
+ghost use Rattle.std.specs.Prelude.{◌≡◌, ◌++◌, ◌∷◌, [], OnOk, string_bytes};
+ghost use Rattle.robots_text.specs.Raw.{raw_line, raw_text, raw_value};
+ghost use Rattle.robots_text.specs.Text.{line_text, part_text, parts_text, value_text, written};
+ghost use Rattle.audit_core.specs.Texts.{delay_value, group_end, group_line, group_reason, group_text, group_value};
+ghost use Rattle.audit_core.specs.Texts.{rejected_lines, rejected_parts};
 
 use crate::group::Group;
-use robots_io::lines::push_number;
-use robots_io::sanitize::push_sanitized;
+use robots_text::parts::{Part, Value, push_line_of, push_parts};
 use std::alloc::AllocError;
 
-/// Appends the sanitized name of a crawler between two strings.
-fn push_around(text: &mut String, before: &str, agent: &str, after: &str) -> Result<(), AllocError>
-    ensures { OnOk result (string_bytes text.new ≡ string_bytes text.old
-        ++ (before.now ++ sanitized agent.now ++ after.now)) }
+/// A delay as the value of a part.
+pub fn delay_value(delay: Option<u64>) -> Value<'static>
+    ensures { raw_value result ≡ value_text (delay_value delay) }
 {
-    text.push_str(before)?;
-    push_sanitized(text, agent.as_bytes())?;
-    text.push_str(after)
+    match delay {
+        Some(micros) => Value::Delay(micros),
+        None => Value::Word("none"),
+    }
 }
 
-/// Appends that no group applies, as the file names neither the crawler nor `*`.
-fn push_nobody(text: &mut String, agent: &str) -> Result<(), AllocError>
-    ensures { OnOk result (string_bytes text.new ≡ string_bytes text.old ++ nobody_text agent.now) }
+/// The name of the group that applies to a crawler.
+pub fn group_value<'a>(agent: &'a str, group: Group) -> Value<'a>
+    ensures { raw_value result ≡ value_text (group_value agent.entry.now group) }
 {
-    if agent == "*" {
-        return text.push_str("none (no group for *; everything is allowed)");
+    match group {
+        Group::Named => Value::Untrusted(agent.as_bytes()),
+        Group::Star => Value::Word("*"),
+        Group::Nobody => Value::Word("none"),
+        Group::Everyone => Value::Word("everyone"),
     }
-    let after = " or *; everything is allowed)";
-    push_around(text, "none (no group for ", agent, after)
+}
+
+/// The reason why this group applies, if it isn't the crawler's own.
+fn group_reason<'a>(agent: &'a str, group: Group) -> Part<'a>
+    ensures { raw_text result ≡ part_text (group_reason agent.entry.now group) }
+{
+    match group {
+        Group::Named => Part("", Value::Nothing),
+        Group::Star => Part(" (", Value::Untrusted(agent.as_bytes())),
+        Group::Nobody if agent == "*" => Part(" (no group for *", Value::Nothing),
+        Group::Nobody => Part(" (no group for ", Value::Untrusted(agent.as_bytes())),
+        Group::Everyone => Part(" (the file has no User-agent line", Value::Nothing),
+    }
+}
+
+/// The end of the reason.
+fn group_end(agent: &str, group: Group) -> &'static str
+    ensures { result.now ≡ part_text (group_end agent.now group) }
+{
+    match group {
+        Group::Named => "",
+        Group::Star => " has no group of its own)",
+        Group::Nobody if agent == "*" => "; everything is allowed)",
+        Group::Nobody => " or *; everything is allowed)",
+        Group::Everyone => "; all rules are applied)",
+    }
+}
+
+/// The group that applies to a crawler, after a label, and the reason if it isn't the crawler's own group.
+fn group_parts<'a>(label: &'static str, agent: &'a str, group: Group) -> [Part<'a>; 3]
+    ensures { raw_line result ≡ label.now ++ group_text agent.entry.now group }
+{
+    [
+        Part(label, group_value(agent, group)),
+        group_reason(agent, group),
+        Part(group_end(agent, group), Value::Nothing),
+    ]
 }
 
 /// Appends the group that applies to a crawler, and the reason if it isn't the crawler's own group.
 pub fn push_group_text(text: &mut String, agent: &str, group: Group) -> Result<(), AllocError>
     ensures { OnOk result (string_bytes text.new ≡ string_bytes text.old ++ group_text agent.now group) }
 {
-    match group {
-        Group::Named => push_sanitized(text, agent.as_bytes()),
-        Group::Star => push_around(text, "* (", agent, " has no group of its own)"),
-        Group::Nobody => push_nobody(text, agent),
-        Group::Everyone => {
-            text.push_str("everyone (the file has no User-agent line; all rules are applied)")
-        }
-    }
+    push_parts(text, &group_parts("", agent, group))
 }
 
-/// Appends that the file is rejected for the crawler because of this line.
-pub fn push_rejected_front(text: &mut String, agent: &str, line: usize) -> Result<(), AllocError>
-    ensures { OnOk result (string_bytes text.new ≡ string_bytes text.old ++ rejected_front agent.now line) }
+/// Appends the line with the group.
+pub fn push_group(text: &mut String, agent: &str, group: Group) -> Result<(), AllocError>
+    ensures { OnOk result (string_bytes text.new ≡ string_bytes text.old
+        ++ written (group_line agent.now group ∷ [])) }
 {
-    push_around(text, "rejected for ", agent, ": line ")?;
-    push_number(text, line)?;
-    Ok(())
+    push_line_of(text, &group_parts("group: ", agent, group))
 }
 
-/// Appends the same with the reason.
-pub fn push_rejected_text(text: &mut String, agent: &str, line: usize) -> Result<(), AllocError>
-    ensures { OnOk result (string_bytes text.new ≡ string_bytes text.old ++ rejected_text agent.now line) }
+/// That the file is rejected for the crawler because of this line.
+pub fn rejected_parts<'a>(agent: &'a str, line: usize) -> [Part<'a>; 3]
+    ensures { raw_line result ≡ parts_text (rejected_parts agent.entry.now line) }
 {
-    push_rejected_front(text, agent, line)?;
-    text.push_str(": a pattern with $ longer than 4,096 bytes isn't supported; shorten it")
+    [
+        Part("rejected for ", Value::Untrusted(agent.as_bytes())),
+        Part(": line ", Value::Number(line)),
+        Part(
+            ": a pattern with $ longer than 4,096 bytes isn't supported; shorten it",
+            Value::Nothing,
+        ),
+    ]
 }
 
 /// Appends the line that the file is rejected for the crawler, if it is.
@@ -69,11 +104,10 @@ pub fn push_rejected(
     rejected: Option<usize>,
 ) -> Result<(), AllocError>
     ensures { OnOk result (string_bytes text.new ≡ string_bytes text.old
-        ++ ended (rejected_lines agent.now rejected)) }
+        ++ written (rejected_lines agent.now rejected)) }
 {
-    let Some(line) = rejected else {
-        return Ok(());
-    };
-    push_rejected_text(text, agent, line)?;
-    text.push('\n')
+    match rejected {
+        Some(line) => push_line_of(text, &rejected_parts(agent, line)),
+        None => Ok(()),
+    }
 }

@@ -14,8 +14,8 @@ use Rattle.robots_io.proofs.CommandLemmas.{decimal_middle, escaped_quiet, front_
 use Rattle.robots_io.proofs.CommandLemmas.{middle_append, middle_text, sanitized_quiet}
 use Rattle.robots_io.proofs.SanitizeLemmas.{append_printable, ascii_printable, decimal_printable}
 use Rattle.robots_io.proofs.SanitizeLemmas.{ended_printable, nil_printable, sanitized_printable}
-use Rattle.robots_warnings.specs.declared.level.Level.{Level}
-use Rattle.robots_warnings.specs.declared.level.Level.TheVariants.{Error, Note, Warning}
+use Rattle.robots_text.specs.declared.level.Level.{Level}
+use Rattle.robots_text.specs.declared.level.Level.TheVariants.{Error, Note, Warning}
 use Rattle.audit_core.specs.Audit.{AuditValue}
 use Rattle.audit_formats.specs.Findings.{FindingValue, findings}
 use Rattle.audit_formats.specs.Github.{command, command_front, command_word, github_text, is_in_line}

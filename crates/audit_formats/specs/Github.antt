@@ -11,8 +11,8 @@ use Rattle.std.specs.List.{list_all}
 use Rattle.std.specs.Str.{byte}
 use Rattle.robots_io.specs.Lines.{ended}
 use Rattle.robots_io.specs.Sanitize.{sanitized}
-use Rattle.robots_warnings.specs.declared.level.Level.{Level}
-use Rattle.robots_warnings.specs.declared.level.Level.TheVariants.{Error, Note, Warning}
+use Rattle.robots_text.specs.declared.level.Level.{Level}
+use Rattle.robots_text.specs.declared.level.Level.TheVariants.{Error, Note, Warning}
 use Rattle.audit_formats.specs.Findings.{FindingValue}
 
 -- ---- escaping

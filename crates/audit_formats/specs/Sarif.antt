@@ -12,10 +12,10 @@ use Rattle.serde_json.specs.Data.{Data, array, item, member, no_items, no_member
 use Rattle.serde_json.specs.Data.{unsigned}
 use Rattle.serde_json.specs.Written.{compact_text}
 use Rattle.robots_io.specs.Lines.{lf}
-use Rattle.robots_warnings.specs.declared.level.Level.{Level}
-use Rattle.robots_warnings.specs.declared.level.Level.TheVariants.{Error, Note, Warning}
+use Rattle.robots_text.specs.declared.level.Level.{Level}
+use Rattle.robots_text.specs.declared.level.Level.TheVariants.{Error, Note, Warning}
 use Rattle.robots_warnings.specs.declared.table.Cause.{Cause}
-use Rattle.robots_warnings.specs.Level.{level_word, reaches}
+use Rattle.robots_text.specs.Level.{level_word, reaches}
 use Rattle.robots_warnings.specs.Table.{all_causes, example_of, level_of, name_of, text_of}
 use Rattle.audit_formats.specs.Findings.{FindingValue}
 use Rattle.audit_formats.specs.Json.{list_json}

@@ -9,7 +9,7 @@ ghost use Rattle.audit_formats.specs.Internal.{finding_value};
 use audit_core::audit::{AgentAudit, Audit, Verdict};
 use audit_core::texts::push_rejected_text;
 use robots_io::sanitize::push_sanitized;
-use robots_warnings::level::Level;
+use robots_text::level::Level;
 use robots_warnings::warning::{Warning, push_warning_text};
 use std::alloc::{AllocError, Global};
 

@@ -10,7 +10,7 @@ use crate::findings::{Finding, findings_of};
 use audit_core::audit::Audit;
 use itoa::Buffer;
 use robots_io::sanitize::push_sanitized;
-use robots_warnings::level::Level;
+use robots_text::level::Level;
 use std::alloc::{AllocError, Global};
 
 /// Appends a byte of a message, escaped.

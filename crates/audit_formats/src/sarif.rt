@@ -12,7 +12,7 @@ use crate::findings::{Finding, findings_of};
 use audit_core::audit::Audit;
 use audit_core::version::VERSION;
 use percent_encoding::percent_encode_byte;
-use robots_warnings::level::Level;
+use robots_text::level::Level;
 use robots_warnings::table::{Cause, causes};
 use serde_json::{Value, json};
 use std::alloc::{AllocError, Global};

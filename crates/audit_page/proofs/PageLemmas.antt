@@ -14,8 +14,8 @@ use Rattle.robots_html.proofs.WritingLemmas.{each_content, followed_content, tex
 use Rattle.robots_io.specs.Sanitize.{IsPrintable, is_printable_byte, sanitized}
 use Rattle.robots_io.proofs.SanitizeLemmas.{append_printable, ascii_printable, decimal_printable}
 use Rattle.robots_io.proofs.SanitizeLemmas.{nil_printable, sanitized_printable}
-use Rattle.robots_warnings.specs.declared.level.Level.{Level}
-use Rattle.robots_warnings.specs.declared.level.Level.TheVariants.{Error, Note, Warning}
+use Rattle.robots_text.specs.declared.level.Level.{Level}
+use Rattle.robots_text.specs.declared.level.Level.TheVariants.{Error, Note, Warning}
 use Rattle.robots_warnings.specs.Table.{level_of}
 use Rattle.robots_warnings.specs.Warnings.{WarningValue}
 use Rattle.robots_warnings.proofs.PrintableLemmas.{name_printable, text_printable, word_printable}

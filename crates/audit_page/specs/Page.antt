@@ -8,11 +8,11 @@ use Rattle.std.specs.Prelude.{codes, decimal, drop, filter, if◌then◌else◌,
 use Rattle.texting_robots.specs.Callers.{Label, LineValue, sitemaps_in}
 use Rattle.robots_html.specs.Html.{Attribute, Html, attribute, each, style, tag, text, void, ◌⊕◌}
 use Rattle.robots_io.specs.Sanitize.{sanitized}
-use Rattle.robots_warnings.specs.declared.level.Level.{Level}
-use Rattle.robots_warnings.specs.declared.level.Level.TheVariants.{Error, Note, Warning}
+use Rattle.robots_text.specs.declared.level.Level.{Level}
+use Rattle.robots_text.specs.declared.level.Level.TheVariants.{Error, Note, Warning}
 use Rattle.robots_warnings.specs.declared.table.Cause.{Cause}
 use Rattle.robots_warnings.specs.File.{lines_of}
-use Rattle.robots_warnings.specs.Level.{level_word}
+use Rattle.robots_text.specs.Level.{level_word}
 use Rattle.robots_warnings.specs.Table.{level_of}
 use Rattle.robots_warnings.specs.Warnings.{WarningValue, name_text, warning_text}
 use Rattle.audit_page.specs.declared.page.style.TheConstants.{AGENT_CAPTION, CRAWLERS}

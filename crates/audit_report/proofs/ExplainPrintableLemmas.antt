@@ -9,7 +9,7 @@ use Rattle.robots_io.proofs.SanitizeLemmas.{append_printable, ascii_printable, e
 use Rattle.robots_io.proofs.SanitizeLemmas.{flat_printable}
 use Rattle.robots_io.proofs.SanitizeLemmas.{nil_printable}
 use Rattle.robots_warnings.specs.declared.table.Cause.{Cause}
-use Rattle.robots_warnings.specs.Level.{level_word}
+use Rattle.robots_text.specs.Level.{level_word}
 use Rattle.robots_warnings.specs.Table.{all_causes, example_of, level_of, name_of, text_of}
 use Rattle.robots_warnings.proofs.PrintableLemmas.{example_printable, names_printable, texts_printable}
 use Rattle.robots_warnings.proofs.PrintableLemmas.{word_printable}

@@ -20,8 +20,8 @@ use Rattle.audit_report.specs.Listed.{most}
 use Rattle.audit_report.specs.Listed.{placed}
 use Rattle.audit_report.specs.declared.listed.More.{More}
 use Rattle.audit_report.specs.declared.listed.Numbers.{Numbers}
-use Rattle.robots_warnings.specs.declared.level.Level.{Level}
-use Rattle.robots_warnings.specs.declared.level.Level.TheVariants.{Error, Note, Warning}
+use Rattle.robots_text.specs.declared.level.Level.{Level}
+use Rattle.robots_text.specs.declared.level.Level.TheVariants.{Error, Note, Warning}
 use Rattle.robots_warnings.specs.Internal.{warning_value}
 use Rattle.robots_warnings.specs.Table.{level_of, name_of}
 use Rattle.robots_warnings.specs.Warnings.{WarningValue}

@@ -4,7 +4,7 @@ use Rattle.std.specs.Prelude.{IsErrAnd, IsErrOf, bytes_eq, codes, flat_map, ifâ—
 use Rattle.std.specs.Io.KnownBytes.{Keeps}
 use Rattle.robots_io.specs.Lines.{ended, lf}
 use Rattle.robots_warnings.specs.declared.table.Cause.{Cause}
-use Rattle.robots_warnings.specs.Level.{level_word}
+use Rattle.robots_text.specs.Level.{level_word}
 use Rattle.robots_warnings.specs.Table.{all_causes, example_of, is_name, level_of, name_of, text_of}
 use Rattle.audit_core.specs.declared.fault.Fault.{Fault}
 use Rattle.audit_core.specs.declared.fault.Fault.TheVariants.{Memory}

@@ -2,8 +2,8 @@
 use Rattle.std.specs.Prelude.{ℕ, ◌-◌, ◌==◌, ◌&&◌, Bool, true, false, List, [], ◌∷◌, ◌++◌, bytes_eq, count_by}
 use Rattle.std.specs.Prelude.{if◌then◌else◌, map}
 use Rattle.std.specs.Bool.{nat_lt}
-use Rattle.robots_warnings.specs.declared.level.Level.{Level}
-use Rattle.robots_warnings.specs.declared.level.Level.TheVariants.{Error, Note, Warning}
+use Rattle.robots_text.specs.declared.level.Level.{Level}
+use Rattle.robots_text.specs.declared.level.Level.TheVariants.{Error, Note, Warning}
 use Rattle.robots_warnings.specs.Table.{level_of, name_of}
 use Rattle.robots_warnings.specs.Warnings.{WarningValue}
 

@@ -9,7 +9,7 @@ use Rattle.audit_core.specs.Rows.{rows}
 use Rattle.audit_core.specs.Syntax.{syntax_lines}
 use Rattle.audit_report.specs.Listed.{MoreValue, listed, more}
 use Rattle.robots_io.specs.Sanitize.{sanitized}
-use Rattle.robots_warnings.specs.Level.{level_word}
+use Rattle.robots_text.specs.Level.{level_word}
 use Rattle.robots_warnings.specs.Table.{level_of}
 use Rattle.robots_warnings.specs.Warnings.{WarningValue, warning_line}
 use Rattle.audit_core.specs.Texts.{group_text, rejected_lines}

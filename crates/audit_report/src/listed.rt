@@ -5,7 +5,7 @@ ghost use Rattle.audit_report.specs.Listed.{listed, more, more_of, unlisted};
 ghost use Rattle.robots_warnings.specs.Internal.{warning_value};
 ghost use Rattle.robots_warnings.specs.Warnings.{WarningValue};
 
-use robots_warnings::level::Level;
+use robots_text::level::Level;
 use robots_warnings::warning::Warning;
 use std::alloc::{AllocError, Global};
 use std::collections::BTreeMap;

@@ -2,10 +2,10 @@
 use Rattle.std.proofs.Common.{◌≡◌, ◌≢◌, ◌∙◌, ℕ, List, IfSome, Some, Result, Ok, Err, IsErrOf, refl, subst}
 use Rattle.std.proofs.Common.{sym, drop, length, map, slice_index_or, ◌+◌, ◌<◌, ◌||◌}
 use Rattle.std.proofs.lemmas.List.{drop_more}
-use Rattle.robots_warnings.specs.declared.level.Level.{Level}
+use Rattle.robots_text.specs.declared.level.Level.{Level}
 use Rattle.robots_warnings.specs.declared.warning.Warning.{Warning}
 use Rattle.robots_warnings.specs.Internal.{warning_value}
-use Rattle.robots_warnings.specs.Level.{reaches}
+use Rattle.robots_text.specs.Level.{reaches}
 use Rattle.robots_warnings.specs.Table.{level_of}
 use Rattle.std.specs.Io.KnownBytes.{Keeps}
 use Rattle.robots_io.specs.Streams.{AppendsBeginning}

@@ -8,8 +8,8 @@ use Rattle.texting_robots.proofs.TrimLemmas.{each_append}
 use Rattle.robots_io.specs.Lines.{ended, lf}
 use Rattle.robots_io.specs.Sanitize.{IsPrintable}
 use Rattle.robots_io.proofs.SanitizeLemmas.{append_printable, ascii_printable, ended_printable, nil_printable}
-use Rattle.robots_warnings.specs.declared.level.Level.{Level}
-use Rattle.robots_warnings.specs.Level.{level_word}
+use Rattle.robots_text.specs.declared.level.Level.{Level}
+use Rattle.robots_text.specs.Level.{level_word}
 use Rattle.robots_warnings.specs.Table.{level_of}
 use Rattle.robots_warnings.specs.Warnings.{WarningValue, name_text, place_text, warning_line, warning_text}
 use Rattle.robots_warnings.proofs.PrintableLemmas.{place_printable, reported_printable, word_printable}

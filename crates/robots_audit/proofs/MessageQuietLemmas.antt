@@ -7,10 +7,10 @@ use Rattle.robots_io.specs.Sanitize.{sanitized}
 use Rattle.robots_io.proofs.CommandLemmas.{IsFront, IsMiddle, after_front, before_middle, decimal_middle}
 use Rattle.robots_io.proofs.CommandLemmas.{front_append, front_text, middle_append, middle_text}
 use Rattle.robots_io.proofs.CommandLemmas.{sanitized_quiet}
-use Rattle.robots_warnings.specs.declared.level.Level.{Level}
-use Rattle.robots_warnings.specs.declared.level.Level.TheVariants.{Error, Note, Warning}
+use Rattle.robots_text.specs.declared.level.Level.{Level}
+use Rattle.robots_text.specs.declared.level.Level.TheVariants.{Error, Note, Warning}
 use Rattle.robots_warnings.specs.declared.table.Cause.{Cause}
-use Rattle.robots_warnings.specs.Level.{level_word}
+use Rattle.robots_text.specs.Level.{level_word}
 use Rattle.robots_warnings.specs.Table.{level_of, name_of}
 use Rattle.robots_warnings.specs.Warnings.{WarningValue, name_text, place_text, warning_line, warning_text}
 use Rattle.audit_core.specs.Color.{shown_word}

@@ -24,8 +24,8 @@ use Rattle.audit_report.specs.Report.{listed_lines, report_lines, total_line}
 use Rattle.audit_page.specs.Page.{page}
 use Rattle.audit_formats.specs.Sarif.{sarif_text}
 use Rattle.robots_io.specs.Sanitize.{sanitized_lines}
-use Rattle.robots_warnings.specs.declared.level.Level.{Level}
-use Rattle.robots_warnings.specs.Level.{reaches}
+use Rattle.robots_text.specs.declared.level.Level.{Level}
+use Rattle.robots_text.specs.Level.{reaches}
 use Rattle.robots_warnings.specs.Table.{level_of}
 use Rattle.robots_warnings.specs.Warnings.{WarningValue}
 use Rattle.audit_core.specs.Run.{Ends}

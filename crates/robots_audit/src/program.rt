@@ -17,7 +17,7 @@ use audit_report::denied::{shown, totals_of};
 use audit_report::report::{listed_lines, push_totals, report_text};
 use robots_io::sanitize::push_sanitized_lines;
 use robots_io::streams::{read_all, write_out};
-use robots_warnings::level::Level;
+use robots_text::level::Level;
 use robots_warnings::warning::Warning;
 use std::alloc::{AllocError, Global};
 use std::io::{Read, Write};

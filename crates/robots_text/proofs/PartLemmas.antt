@@ -5,9 +5,10 @@ use Rattle.std.proofs.Common.{inr, map, refl, suc, zero}
 use Rattle.std.specs.List.{AllByRecursion as Each, list_all}
 use Rattle.std.proofs.lemmas.List.{length-map, map-append}
 use Rattle.std.proofs.lemmas.List.Concat.{flat_map-append}
-use Rattle.std.proofs.lemmas.Bool.{and_parts, or_right}
+use Rattle.std.specs.Prelude.{not}
+use Rattle.std.proofs.lemmas.Bool.{and_parts, not-true, or_right}
 use Rattle.robots_io.specs.Lines.{ended, lf}
-use Rattle.robots_io.specs.Sanitize.{IsPrintable, IsPrintableIn, begins_apart, has_command}
+use Rattle.robots_io.specs.Sanitize.{IsPrintable, IsPrintableIn, begins_apart, ends_apart, has_command}
 use Rattle.robots_io.specs.Sanitize.{is_printable_byte, sanitized}
 use Rattle.robots_io.proofs.CommandLemmas.{IsFront, IsMiddle, after_front, blanks_front, decimal_middle}
 use Rattle.robots_io.proofs.CommandLemmas.{front_append, front_text, middle_text, sanitized_quiet, seam}
@@ -18,8 +19,9 @@ use Rattle.robots_text.specs.Delay.{delay_text}
 use Rattle.robots_text.specs.Level.{level_word}
 use Rattle.robots_text.specs.PlainLine.{IsPlainLine, starts}
 use Rattle.robots_text.specs.Color.{shown_word}
-use Rattle.robots_text.specs.Text.{Absent, Aligned, Column, Count, Delay, Label, LevelLine, Named, NamedLine}
-use Rattle.robots_text.specs.Text.{Nothing, Number, Part, PartValue, ReportLine, Untrusted, Value, Word}
+use Rattle.robots_text.specs.Text.{Absent, Aligned, Column, Count, Delay, Fixed, Label, LevelLine, Named}
+use Rattle.robots_text.specs.Text.{NamedLine, Nothing, Number, Only, Part, PartValue, ReportLine, Untrusted}
+use Rattle.robots_text.specs.Text.{Value, Word, is_fixed}
 use Rattle.robots_text.specs.Text.{blanks, level_text, line_text, named_text, part_text, parts_text}
 use Rattle.robots_text.specs.Text.{starts_line, value_text, written}
 use Rattle.robots_text.specs.declared.level.Level.{Level}
@@ -28,15 +30,37 @@ use Rattle.robots_text.proofs.DelayLemmas.{delay_middle, delay_printable, either
 use Rattle.robots_text.proofs.PlainLemmas.{each_printable, starts_append, starts_blanks, starts_decimal}
 use Rattle.robots_text.proofs.PlainLemmas.{starts_plainly}
 
--- ---- labels and values
+-- ---- fixed texts and values
+
+-- a text without the start of a command, which can follow any other
+record IsApart (text : List ℕ) : Type 0 where
+  quiet : has_command text ≡ false
+  begins : (text ≡ []) ⊎ (begins_apart text ≡ true)
+
+fixed_parts : (text : List ℕ) → is_fixed text ≡ true
+    → IsPrintableIn false text × (begins_apart text ≡ true) × (has_command text ≡ false)
+fixed_parts text is =
+    let both = and_parts (list_all (is_printable_byte false) text) _ is in
+    let rest = and_parts (begins_apart text) (not (has_command text)) both.1 in
+    (ascii_printable false text both.0, rest.0, not-true (has_command text) rest.1)
+
+pub fixed_printable : (fixed : Fixed) → IsPrintableIn false fixed.text
+fixed_printable fixed = (fixed_parts fixed.text fixed.safe).0
+
+fixed_apart : (fixed : Fixed) → IsApart fixed.text
+fixed_apart fixed =
+    let parts = fixed_parts fixed.text fixed.safe in
+    record { quiet = parts.2; begins = inr parts.1 }
 
 pub label_middle : (front : Label) → IsMiddle front.text
 label_middle front =
-    middle_text front.text (and_parts (list_all (is_printable_byte false) front.text) _ front.safe).1
+    let both = and_parts (is_fixed front.text) (ends_apart front.text) front.safe in
+    let parts = fixed_parts front.text both.0 in
+    record { front = record { quiet = parts.2; ends = both.1 }; begins = parts.1 }
 
 pub label_printable : (front : Label) → IsPrintableIn false front.text
 label_printable front =
-    ascii_printable false front.text (and_parts (list_all (is_printable_byte false) front.text) _ front.safe).0
+    (fixed_parts front.text (and_parts (is_fixed front.text) (ends_apart front.text) front.safe).0).0
 
 pub level_printable : (level : Level) → IsPrintableIn false (level_word level)
 level_printable Error = ascii_printable false (level_word Error) refl
@@ -45,7 +69,7 @@ level_printable Note = ascii_printable false (level_word Note) refl
 
 pub value_printable : (value : Value) → IsPrintableIn false (value_text value)
 value_printable Nothing = nil_printable false
-value_printable (Word word) = label_printable word
+value_printable (Word word) = fixed_printable word
 value_printable (Untrusted bytes) = sanitized_in_printable false bytes
 value_printable (Named name) =
     either (IsPrintableIn false) (length name == 0) (codes "\"\"") (sanitized name)
@@ -55,7 +79,7 @@ value_printable (Delay micros) = delay_printable micros
 
 value_quiet : (value : Value) → has_command (value_text value) ≡ false
 value_quiet Nothing = refl
-value_quiet (Word word) = (label_middle word).front.quiet
+value_quiet (Word word) = (fixed_apart word).quiet
 value_quiet (Untrusted bytes) = sanitized_quiet false bytes
 value_quiet (Named name) =
     either (λ text. has_command text ≡ false) (length name == 0) (codes "\"\"") (sanitized name) refl
@@ -64,11 +88,6 @@ value_quiet (Number number) = (decimal_middle number).front.quiet
 value_quiet (Delay micros) = (delay_middle micros).front.quiet
 
 -- ---- parts
-
--- a text without the start of a command, which can follow any other
-record IsApart (text : List ℕ) : Type 0 where
-  quiet : has_command text ≡ false
-  begins : (text ≡ []) ⊎ (begins_apart text ≡ true)
 
 -- a text begins as a label before it does
 begins_append : (one two : List ℕ) → begins_apart one ≡ true → begins_apart (one ++ two) ≡ true
@@ -96,6 +115,7 @@ part_apart : (part : PartValue) → IsApart (part_text part)
 part_apart Absent = nil_apart
 part_apart (Part front value) =
     labelled front (value_text value) (value_quiet value)
+part_apart (Only fixed) = rw (append-nil fixed.text) (fixed_apart fixed)
 part_apart (Column width front value) =
     let space = width - length front.text in
     labelled front (blanks space ++ value_text value)
@@ -139,6 +159,7 @@ pub part_printable : (part : PartValue) → IsPrintableIn false (part_text part)
 part_printable Absent = nil_printable false
 part_printable (Part front value) =
     append_printable false front.text (value_text value) (label_printable front) (value_printable value)
+part_printable (Only fixed) = rw (append-nil fixed.text) (fixed_printable fixed)
 part_printable (Column width front value) =
     let space = width - length front.text in
     append_printable false front.text (blanks space ++ value_text value) (label_printable front)
@@ -164,6 +185,7 @@ parts_quiet parts = (parts_apart parts).quiet
 part_starts : (part : PartValue) → starts_line part ≡ true → starts (part_text part) ≡ true
 part_starts Absent is = absurd (cc)
 part_starts (Part front value) is = starts_append front.text (value_text value) is
+part_starts (Only fixed) is = starts_append fixed.text (value_text Nothing) is
 part_starts (Column width front value) is =
     starts_append front.text (blanks (width - length front.text) ++ value_text value) is
 part_starts (Count number) is = starts_decimal number

@@ -1,6 +1,6 @@
 -- A delay in seconds, exact to the microsecond.
 use Rattle.std.specs.Prelude.{ℕ, zero, suc, ◌*◌, ◌/◌, ◌%◌, ◌==◌, List, []}
-use Rattle.std.specs.Prelude.{◌++◌, Option, Some, None}
+use Rattle.std.specs.Prelude.{◌++◌}
 use Rattle.std.specs.Prelude.{codes, decimal, if◌then◌else◌}
 
 abbrev pub million : ℕ
@@ -20,7 +20,3 @@ seconds micros =
 
 abbrev pub delay_text : ℕ → List ℕ
 delay_text micros = seconds micros ++ codes " s"
-
-abbrev pub delay_line : Option ℕ → List ℕ
-delay_line None = codes "delay: none"
-delay_line (Some micros) = codes "delay: " ++ delay_text micros

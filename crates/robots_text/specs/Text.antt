@@ -1,28 +1,38 @@
 -- Lines as data: a specification makes them of parts, each of which is safe by its type. So whatever the parts
 -- are, the line is printable, and no workflow on GitHub takes it for a command.
 use Rattle.std.specs.Prelude.{◌≡◌, ℕ, ◌-◌, ◌==◌, Bool, true, false, ◌&&◌, List, [], ◌++◌, codes, decimal}
+use Rattle.std.specs.Prelude.{not}
 use Rattle.std.specs.Prelude.{flat_map, if◌then◌else◌, length, map, replicate}
 use Rattle.std.specs.List.{list_all}
 use Rattle.std.specs.Str.{byte}
 use Rattle.robots_io.specs.Lines.{ended}
-use Rattle.robots_io.specs.Sanitize.{begins_apart, is_front, is_printable_byte, sanitized}
+use Rattle.robots_io.specs.Sanitize.{begins_apart, ends_apart, has_command}
+use Rattle.robots_io.specs.Sanitize.{is_printable_byte, sanitized}
 use Rattle.robots_text.specs.Color.{shown_word}
 use Rattle.robots_text.specs.Delay.{delay_text}
 use Rattle.robots_text.specs.PlainLine.{starts}
 use Rattle.robots_text.specs.declared.level.Level.{Level}
 
--- ---- labels
+-- ---- fixed texts
 
--- printable ASCII that neither begins nor ends with a byte of the start of a command, nor contains one
-abbrev pub is_safe : List ℕ → Bool
-is_safe text = list_all (is_printable_byte false) text && (begins_apart text && is_front text)
+-- printable ASCII that doesn't begin with a byte of the start of a command, and doesn't contain one
+abbrev pub is_fixed : List ℕ → Bool
+is_fixed text = list_all (is_printable_byte false) text && (begins_apart text && not (has_command text))
 
 -- a text of the program's own; for a literal, `refl` shows that it is safe
+pub record Fixed : Type 0 where
+  pub text : List ℕ
+  pub safe : is_fixed text ≡ true
+
+-- the same, and the text doesn't end with a byte of the start of a command, so that any text can follow
+abbrev pub is_label : List ℕ → Bool
+is_label text = is_fixed text && ends_apart text
+
 pub record Label : Type 0 where
   pub text : List ℕ
-  pub safe : is_safe text ≡ true
+  pub safe : is_label text ≡ true
 
-abbrev pub label : (text : List ℕ) → is_safe text ≡ true → Label
+abbrev pub label : (text : List ℕ) → is_label text ≡ true → Label
 label text is = record { text = text; safe = is }
 
 -- ---- parts
@@ -30,11 +40,14 @@ label text is = record { text = text; safe = is }
 -- what follows a label
 pub data Value : Type 0 where
   Nothing : Value
-  Word : Label → Value
+  Word : Fixed → Value
   Untrusted : List ℕ → Value
   Named : List ℕ → Value
   Number : ℕ → Value
   Delay : ℕ → Value
+
+abbrev pub word : (text : List ℕ) → is_fixed text ≡ true → Value
+word text is = Word (record { text = text; safe = is })
 
 -- the sanitized name, or quotes for an empty one, as that of an unset variable
 abbrev pub shown_name : List ℕ → List ℕ
@@ -57,7 +70,9 @@ pub data PartValue : Type 0 where
   Absent : PartValue
   -- a label, and what follows it
   Part : Label → Value → PartValue
-  -- the same, with spaces after the label up to this column
+  -- a fixed text that nothing follows
+  Only : Fixed → PartValue
+  -- a label, and what follows it, with spaces after the label up to this column
   Column : ℕ → Label → Value → PartValue
   -- only a number
   Count : ℕ → PartValue
@@ -67,10 +82,14 @@ pub data PartValue : Type 0 where
 abbrev pub part_text : PartValue → List ℕ
 part_text Absent = []
 part_text (Part front value) = front.text ++ value_text value
+part_text (Only fixed) = fixed.text ++ value_text Nothing
 part_text (Column width front value) =
     front.text ++ (blanks (width - length front.text) ++ value_text value)
 part_text (Count number) = decimal number
 part_text (Aligned width number) = blanks (width - length (decimal number)) ++ decimal number
+
+abbrev pub only : (text : List ℕ) → is_fixed text ≡ true → PartValue
+only text is = Only (record { text = text; safe = is })
 
 abbrev pub parts_text : List PartValue → List ℕ
 parts_text parts = flat_map part_text parts
@@ -81,6 +100,7 @@ parts_text parts = flat_map part_text parts
 abbrev pub starts_line : PartValue → Bool
 starts_line Absent = false
 starts_line (Part front value) = starts front.text
+starts_line (Only fixed) = starts fixed.text
 starts_line (Column width front value) = starts front.text
 starts_line (Count number) = true
 starts_line (Aligned width number) = true

@@ -1,9 +1,8 @@
 //! Formats a delay in seconds, exactly.
-ghost use Rattle.std.specs.Prelude.{◌≡◌, ◌++◌, ◌∷◌, ◌<◌, [], OnOk, string_bytes};
-ghost use Rattle.robots_io.specs.Lines.{ended};
-ghost use Rattle.robots_text.specs.Delay.{delay_line, delay_text, fraction, million, seconds};
+ghost use Rattle.std.specs.Prelude.{◌≡◌, ◌++◌, ◌<◌, OnOk, string_bytes};
+ghost use Rattle.robots_text.specs.Delay.{delay_text, fraction, million, seconds};
 
-use robots_io::lines::{push_line, push_number};
+use robots_io::lines::push_number;
 use std::alloc::AllocError;
 
 /// Microseconds per second.
@@ -46,16 +45,4 @@ pub fn push_delay_text(text: &mut String, micros: u64) -> Result<(), AllocError>
 {
     push_seconds(text, micros)?;
     text.push_str(" s")
-}
-
-/// Appends the line with the delay.
-pub fn push_delay(text: &mut String, delay: Option<u64>) -> Result<(), AllocError>
-    ensures { OnOk result (string_bytes text.new ≡ string_bytes text.old ++ ended (delay_line delay ∷ [])) }
-{
-    let Some(micros) = delay else {
-        return push_line(text, "delay: ", "none");
-    };
-    text.push_str("delay: ")?;
-    push_delay_text(text, micros)?;
-    push_line(text, "", "")
 }

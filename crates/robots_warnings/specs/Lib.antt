@@ -1,5 +1,4 @@
 pub mod File
-pub mod Level
 pub mod Table
 pub mod Facts
 pub mod Tokens
@@ -19,4 +18,5 @@ pub mod Spellings
 pub mod Repeated
 pub mod Replaced
 pub mod Warnings
+pub mod Message
 pub mod Internal

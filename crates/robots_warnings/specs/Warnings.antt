@@ -1,6 +1,6 @@
 -- All warnings about a file and a request, in the order of output.
-use Rattle.std.specs.Prelude.{ℕ, Bool, true, false, List, [], ◌∷◌, ◌++◌, Option, Some, None}
-use Rattle.std.specs.Prelude.{codes, decimal, flat_map, if◌then◌else◌, map, not, ◌||◌}
+use Rattle.std.specs.Prelude.{ℕ, Bool, List, [], ◌∷◌, ◌++◌, Option, Some, None, flat_map}
+use Rattle.std.specs.Prelude.{if◌then◌else◌, map, not, ◌||◌}
 use Rattle.texting_robots.specs.Callers.{LineValue, Label, bodies_read}
 use Rattle.robots_warnings.specs.declared.facts.FileFacts.{FileFacts}
 use Rattle.robots_warnings.specs.declared.positions.Preceding.{Preceding}
@@ -28,8 +28,6 @@ use Rattle.robots_warnings.specs.Positions.{first_delay, last_group, preceding_w
 use Rattle.robots_warnings.specs.Repeated.{repeated}
 use Rattle.robots_warnings.specs.Replaced.{replacing, star_count}
 use Rattle.robots_warnings.specs.Spellings.{nonstandard_escapes}
-use Rattle.robots_io.specs.Sanitize.{sanitized}
-use Rattle.robots_warnings.specs.Table.{name_of, text_of}
 
 -- a warning: the number of its line, if it is about one; the reason; the URL or the crawler's name, if its
 -- message begins with one; and the number that its message ends with, if it does
@@ -38,52 +36,6 @@ pub record WarningValue : Type 0 where
   pub cause : Cause
   pub about : Option (List ℕ)
   pub detail : Option Detail
-
--- ---- as text
-
--- the name of the file, and the number of the line if the warning is about one
-abbrev pub place_text : List ℕ → Option ℕ → List ℕ
-place_text file None = sanitized file ++ codes ": "
-place_text file (Some number) = sanitized file ++ codes ":" ++ decimal number ++ codes ": "
-
--- the reason is about a crawler's name
-abbrev pub is_about_crawler : Cause → Bool
-is_about_crawler EmptyAgent = true
-is_about_crawler SpaceAroundAgent = true
-is_about_crawler VersionInAgent = true
-is_about_crawler GooglebotGroup = true
-is_about_crawler GoogleIgnoresStar = true
-is_about_crawler _ = false
-
--- what comes before the URL or the crawler's name
-abbrev pub about_word : (is_crawler : Bool) → List ℕ
-about_word true = codes "crawler '"
-about_word false = codes "URL '"
-
--- the URL or the crawler's name that a message begins with
-abbrev pub about_text : Cause → Option (List ℕ) → List ℕ
-about_text cause None = []
-about_text cause (Some name) = about_word (is_about_crawler cause) ++ sanitized name ++ codes "': "
-
-abbrev pub name_text : Cause → List ℕ
-name_text cause = codes " [" ++ name_of cause ++ codes "]"
-
--- how many rules the message is about, or the line of another rule that it is about
-abbrev pub detail_text : Option Detail → List ℕ
-detail_text None = []
-detail_text (Some (Rules count)) = codes " (" ++ (decimal count ++ codes " in all)")
-detail_text (Some (Line number)) = codes " (see line " ++ (decimal number ++ codes ")")
-
--- the message, preceded by the URL or the crawler's name, and followed by the number that it ends with
-abbrev pub warning_text : WarningValue → List ℕ
-warning_text warning =
-    about_text warning.cause warning.about ++ (text_of warning.cause ++ detail_text warning.detail)
-
--- the place, the level, the message and the name; `level` is the word for the level, possibly in color
-unfoldable pub warning_line : (file level : List ℕ) → WarningValue → List ℕ
-warning_line file level warning =
-    place_text file warning.line
-    ++ (level ++ (codes ": " ++ (warning_text warning ++ name_text warning.cause)))
 
 -- ---- warnings from checks
 

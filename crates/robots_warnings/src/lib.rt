@@ -12,7 +12,6 @@ pub mod facts;
 pub mod field_names;
 pub mod file;
 pub mod google;
-pub mod level;
 pub mod names;
 mod names_past_limit;
 mod numbers;

@@ -1,12 +1,13 @@
-//! A warning, and its text in a report.
-ghost use Rattle.std.specs.Prelude.{◌≡◌, ◌++◌, OnOk, decimal, option_map, string_bytes};
+//! A warning, and its message as the parts of a line.
+ghost use Rattle.std.specs.Prelude.{◌≡◌, ◌++◌, OnOk, option_map, string_bytes};
+ghost use Rattle.robots_text.specs.Raw.{raw_line, raw_text};
+ghost use Rattle.robots_text.specs.Text.{part_text, parts_text};
 ghost use Rattle.robots_warnings.specs.Internal.{warning_value};
-ghost use Rattle.robots_warnings.specs.Warnings.{about_text, about_word, detail_text, is_about_crawler};
-ghost use Rattle.robots_warnings.specs.Warnings.{name_text, place_text, warning_line, warning_text};
+ghost use Rattle.robots_warnings.specs.Message.{about_label, about_part, detail_end, detail_part, is_about_crawler};
+ghost use Rattle.robots_warnings.specs.Message.{message_parts, reason_part, reported_parts, warning_text};
 
 use crate::table::Cause;
-use robots_io::lines::push_number;
-use robots_io::sanitize::push_sanitized;
+use robots_text::parts::{Part, Value, push_parts};
 use std::alloc::AllocError;
 
 /// A number at the end of a message.
@@ -30,22 +31,9 @@ pub struct Warning<'a> {
     pub detail: Option<Detail>,
 }
 
-/// Appends the name of the file, and the number of the line, if there is one.
-fn push_place(text: &mut String, file: &str, line: Option<usize>) -> Result<(), AllocError>
-    ensures { OnOk result (string_bytes text.new ≡ string_bytes text.old ++ place_text file.now line) }
-{
-    push_sanitized(text, file.as_bytes())?;
-    let Some(number) = line else {
-        return text.push_str(": ");
-    };
-    text.push_str(":")?;
-    push_number(text, number)?;
-    text.push_str(": ")
-}
-
 /// What comes before the URL or the crawler's name.
-fn about_word(cause: Cause) -> &'static str
-    ensures { result.now ≡ about_word (is_about_crawler cause) }
+fn about_label(cause: Cause) -> &'static str
+    ensures { result.now ≡ (about_label (is_about_crawler cause)).text }
 {
     match cause {
         Cause::EmptyAgent
@@ -57,88 +45,86 @@ fn about_word(cause: Cause) -> &'static str
     }
 }
 
-/// Appends the URL or the crawler's name that a message begins with, if there is one.
-fn push_about(text: &mut String, cause: Cause, about: Option<&str>) -> Result<(), AllocError>
-    ensures { OnOk result (string_bytes text.new ≡ string_bytes text.old
-        ++ about_text cause (option_map (λ name. name.now) about.entry)) }
+/// The URL or the crawler's name that a message begins with, if there is one.
+fn about_part<'a>(cause: Cause, about: Option<&'a str>) -> Part<'a>
+    ensures { raw_text result ≡ part_text (about_part cause (option_map (λ name. name.now) about.entry)) }
 {
-    let Some(name) = about else {
-        return Ok(());
-    };
-    text.push_str(about_word(cause))?;
-    push_sanitized(text, name.as_bytes())?;
-    text.push_str("': ")
-}
-
-/// Appends a number between two texts.
-fn push_between(
-    text: &mut String,
-    before: &str,
-    number: usize,
-    after: &str,
-) -> Result<(), AllocError>
-    ensures { OnOk result (string_bytes text.new ≡ string_bytes text.old
-        ++ (before.now ++ (decimal number ++ after.now))) }
-{
-    text.push_str(before)?;
-    push_number(text, number)?;
-    text.push_str(after)
-}
-
-/// Appends the number that a message ends with, if it does.
-fn push_detail(text: &mut String, detail: Option<Detail>) -> Result<(), AllocError>
-    ensures { OnOk result (string_bytes text.new ≡ string_bytes text.old ++ detail_text detail) }
-{
-    match detail {
-        None => Ok(()),
-        Some(Detail::Rules(count)) => push_between(text, " (", count, " in all)"),
-        Some(Detail::Line(number)) => push_between(text, " (see line ", number, ")"),
+    match about {
+        Some(name) => Part(about_label(cause), Value::Untrusted(name.as_bytes())),
+        None => Part("", Value::Nothing),
     }
 }
 
-/// Appends the message of a warning, with the URL or the crawler's name that it begins with, and the number that
-/// it ends with.
+/// The text of the reason, which follows it.
+fn reason_part(cause: Cause, about: Option<&str>) -> Part<'static>
+    ensures { raw_text result ≡ part_text (reason_part cause (option_map (λ name. name.now) about.entry)) }
+{
+    match about {
+        Some(_) => Part("': ", Value::Word(cause.text())),
+        None => Part(cause.text(), Value::Nothing),
+    }
+}
+
+/// The number that a message ends with, if it does.
+fn detail_part(detail: Option<Detail>) -> Part<'static>
+    ensures { raw_text result ≡ part_text (detail_part detail) }
+{
+    match detail {
+        Some(Detail::Rules(count)) => Part(" (", Value::Number(count)),
+        Some(Detail::Line(number)) => Part(" (see line ", Value::Number(number)),
+        None => Part("", Value::Nothing),
+    }
+}
+
+/// What follows the number.
+fn detail_end(detail: Option<Detail>) -> Part<'static>
+    ensures { raw_text result ≡ part_text (detail_end detail) }
+{
+    match detail {
+        Some(Detail::Rules(_)) => Part(" in all)", Value::Nothing),
+        Some(Detail::Line(_)) => Part(")", Value::Nothing),
+        None => Part("", Value::Nothing),
+    }
+}
+
+/// The message of a warning, with the URL or the crawler's name that it begins with, and the number that it ends with.
+fn message_parts<'a>(warning: &Warning<'a>) -> [Part<'a>; 4]
+    ensures { raw_line result ≡ parts_text (message_parts (warning_value warning.now)) }
+{
+    [
+        about_part(warning.cause, warning.about),
+        reason_part(warning.cause, warning.about),
+        detail_part(warning.detail),
+        detail_end(warning.detail),
+    ]
+}
+
+/// Appends the message of a warning.
 pub fn push_warning_text(text: &mut String, warning: &Warning<'_>) -> Result<(), AllocError>
     ensures { OnOk result (string_bytes text.new ≡ string_bytes text.old
         ++ warning_text (warning_value warning.now)) }
 {
-    push_about(text, warning.cause, warning.about)?;
-    text.push_str(warning.cause.text())?;
-    push_detail(text, warning.detail)
+    push_parts(text, &message_parts(warning))
 }
 
-/// Appends the name of a warning in brackets.
-fn push_name(text: &mut String, cause: Cause) -> Result<(), AllocError>
-    ensures { OnOk result (string_bytes text.new ≡ string_bytes text.old ++ name_text cause) }
+/// The message of a warning, followed by its name in brackets.
+fn reported_parts<'a>(warning: &Warning<'a>) -> [Part<'a>; 6]
+    ensures { raw_line result ≡ parts_text (reported_parts (warning_value warning.now)) }
 {
-    text.push_str(" [")?;
-    text.push_str(cause.name())?;
-    text.push(']')
+    [
+        about_part(warning.cause, warning.about),
+        reason_part(warning.cause, warning.about),
+        detail_part(warning.detail),
+        detail_end(warning.detail),
+        Part(" [", Value::Word(warning.cause.name())),
+        Part("]", Value::Nothing),
+    ]
 }
 
 /// Appends the message and the name of a warning.
 pub fn push_reported(text: &mut String, warning: &Warning<'_>) -> Result<(), AllocError>
     ensures { OnOk result (string_bytes text.new ≡ string_bytes text.old
-        ++ (warning_text (warning_value warning.now) ++ name_text warning.now.cause)) }
+        ++ parts_text (reported_parts (warning_value warning.now))) }
 {
-    push_warning_text(text, warning)?;
-    push_name(text, warning.cause)
-}
-
-/// Appends a warning about the file with this name, without a line end: its place, its level, its message and its name.
-/// `level` is the word for its level, possibly in color.
-#[tactic(auto, unfolding(crate::specs::Warnings::warning_line))]
-pub fn push_warning(
-    text: &mut String,
-    file: &str,
-    level: &str,
-    warning: &Warning<'_>,
-) -> Result<(), AllocError>
-    ensures { OnOk result (string_bytes text.new ≡ string_bytes text.old
-        ++ warning_line file.now level.now (warning_value warning.now)) }
-{
-    push_place(text, file, warning.line)?;
-    text.push_str(level)?;
-    text.push_str(": ")?;
-    push_reported(text, warning)
+    push_parts(text, &reported_parts(warning))
 }

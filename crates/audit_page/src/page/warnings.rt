@@ -12,7 +12,7 @@ use crate::page::known_row::{KnownRow, push_known_row, push_new_row};
 use crate::page::parts::{numbered, push_line_link, push_simple};
 use crate::page::style::WARNING_TERM;
 use robots_html::write::{push_end, push_start, push_text};
-use robots_warnings::level::Level;
+use robots_text::level::Level;
 use robots_warnings::warning::{Warning, push_reported};
 use std::alloc::{AllocError, Global};
 

@@ -7,8 +7,8 @@ use Rattle.std.specs.Ordering.{nat_cmp}
 use Rattle.audit_report.specs.declared.listed.More.{More}
 use Rattle.audit_report.specs.declared.listed.Numbers.{Numbers}
 use Rattle.audit_report.specs.Listed.{MoreValue, count_of}
-use Rattle.robots_warnings.specs.declared.level.Level.{Level}
-use Rattle.robots_warnings.specs.declared.level.Level.TheVariants.{Error, Note, Warning}
+use Rattle.robots_text.specs.declared.level.Level.{Level}
+use Rattle.robots_text.specs.declared.level.Level.TheVariants.{Error, Note, Warning}
 use Rattle.robots_warnings.specs.Warnings.{WarningValue}
 
 abbrev pub more_value : More → MoreValue

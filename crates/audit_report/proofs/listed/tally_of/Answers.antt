@@ -3,7 +3,7 @@ use Rattle.std.specs.Bool.{nat_lt}
 use Rattle.audit_report.specs.Internal.Listed.{number_at, with_number}
 use Rattle.audit_report.specs.declared.listed.Numbers.{Numbers}
 use Rattle.audit_report.specs.Listed.{count_of, is_same_level, most}
-use Rattle.robots_warnings.specs.declared.level.Level.{Level}
+use Rattle.robots_text.specs.declared.level.Level.{Level}
 use Rattle.robots_warnings.specs.Internal.{warning_value}
 use Rattle.audit_report.proofs.ListedLemmas.{counted_next, counted_within, grown, placed_next}
 use Rattle.audit_report.proofs.listed.tally_of.Goals as goal

@@ -1,7 +1,7 @@
 use Rattle.std.proofs.Common.{[], sym, ap, ◌∙◌}
 use Rattle.std.specs.Prelude.{slice_index_or}
 use Rattle.robots_warnings.specs.Internal.{Row}
-use Rattle.robots_warnings.specs.declared.level.Level.TheVariants as level
+use Rattle.robots_text.specs.declared.level.Level.TheVariants as level
 use Rattle.robots_warnings.specs.Table.{level_of, name_of, number_of, text_of}
 use Rattle.robots_warnings.proofs.TableLemmas.{own_row, part_at}
 use Rattle.robots_warnings.proofs.table.Cause.row.Goals as goal

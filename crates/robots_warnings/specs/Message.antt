@@ -1,0 +1,96 @@
+-- The message of a warning as the parts of a line.
+use Rattle.std.specs.Prelude.{◌≡◌, ℕ, zero, suc, ◌<◌, Bool, true, false, List, [], ◌∷◌, Option, Some, None}
+use Rattle.std.specs.Prelude.{codes, length, slice_index_or}
+use Rattle.std.specs.List.{list_all}
+use Rattle.std.proofs.Common.{arith, refl}
+use Rattle.std.proofs.lemmas.Bool.{and_parts}
+use borrow.Enum.Match.{tag_small}
+use Rattle.robots_text.specs.Text.{Absent, Fixed, Label, Number, Only, Part, PartValue, Untrusted, Word}
+use Rattle.robots_text.specs.Text.{is_fixed, label, only, parts_text}
+use Rattle.robots_warnings.specs.contracts.table.Cause.{the_type}
+use Rattle.robots_warnings.specs.declared.table.Cause.{Cause}
+use Rattle.robots_warnings.specs.declared.table.Cause.TheVariants.{EmptyAgent, GoogleIgnoresStar}
+use Rattle.robots_warnings.specs.declared.table.Cause.TheVariants.{GooglebotGroup, SpaceAroundAgent}
+use Rattle.robots_warnings.specs.declared.table.Cause.TheVariants.{VersionInAgent}
+use Rattle.robots_warnings.specs.declared.warning.Detail.{Detail}
+use Rattle.robots_warnings.specs.declared.warning.Detail.TheVariants.{Line, Rules}
+use Rattle.robots_warnings.specs.Table.{all_names, all_texts, name_of, number_of, text_of}
+use Rattle.robots_warnings.specs.Warnings.{WarningValue}
+
+-- ---- fixed texts
+
+-- if all texts are safe in a line, so is the one at an index
+safe_at : (texts : List (List ℕ)) (at : ℕ) → at < length texts → list_all is_fixed texts ≡ true
+    → is_fixed (slice_index_or texts at []) ≡ true
+safe_at [] at below all = absurd (omega (arith, below))
+safe_at (text ∷ texts) zero below all = (and_parts (is_fixed text) (list_all is_fixed texts) all).0
+safe_at (text ∷ texts) (suc at) below all =
+    safe_at texts at (omega (arith, below)) (and_parts (is_fixed text) (list_all is_fixed texts) all).1
+
+pub name_safe : (cause : Cause) → is_fixed (name_of cause) ≡ true
+unfolding name_of
+name_safe cause = safe_at all_names (number_of cause) (tag_small the_type cause) refl
+
+pub text_safe : (cause : Cause) → is_fixed (text_of cause) ≡ true
+unfolding text_of
+text_safe cause = safe_at all_texts (number_of cause) (tag_small the_type cause) refl
+
+-- the name and the message of a warning
+abbrev pub fixed_name : Cause → Fixed
+fixed_name cause = record { text = name_of cause; safe = name_safe cause }
+
+abbrev pub fixed_text : Cause → Fixed
+fixed_text cause = record { text = text_of cause; safe = text_safe cause }
+
+-- ---- parts
+
+-- the reason is about a crawler's name
+abbrev pub is_about_crawler : Cause → Bool
+is_about_crawler EmptyAgent = true
+is_about_crawler SpaceAroundAgent = true
+is_about_crawler VersionInAgent = true
+is_about_crawler GooglebotGroup = true
+is_about_crawler GoogleIgnoresStar = true
+is_about_crawler _ = false
+
+-- what comes before the URL or the crawler's name
+abbrev pub about_label : (is_crawler : Bool) → Label
+about_label true = label (codes "crawler '") refl
+about_label false = label (codes "URL '") refl
+
+-- the URL or the crawler's name that a message begins with
+abbrev pub about_part : Cause → Option (List ℕ) → PartValue
+about_part cause None = Absent
+about_part cause (Some name) = Part (about_label (is_about_crawler cause)) (Untrusted name)
+
+abbrev pub reason_part : Cause → Option (List ℕ) → PartValue
+reason_part cause None = Only (fixed_text cause)
+reason_part cause (Some name) = Part (label (codes "': ") refl) (Word (fixed_text cause))
+
+-- how many rules the message is about, or the line of another rule that it is about
+abbrev pub detail_part : Option Detail → PartValue
+detail_part None = Absent
+detail_part (Some (Rules count)) = Part (label (codes " (") refl) (Number count)
+detail_part (Some (Line number)) = Part (label (codes " (see line ") refl) (Number number)
+
+abbrev pub detail_end : Option Detail → PartValue
+detail_end None = Absent
+detail_end (Some (Rules count)) = only (codes " in all)") refl
+detail_end (Some (Line number)) = only (codes ")") refl
+
+-- the message, preceded by the URL or the crawler's name, and followed by the number that it ends with
+abbrev pub message_parts : WarningValue → List PartValue
+message_parts warning =
+    about_part warning.cause warning.about ∷ reason_part warning.cause warning.about
+    ∷ detail_part warning.detail ∷ detail_end warning.detail ∷ []
+
+abbrev pub warning_text : WarningValue → List ℕ
+warning_text warning = parts_text (message_parts warning)
+
+-- the same, followed by the name of the warning
+abbrev pub reported_parts : WarningValue → List PartValue
+reported_parts warning =
+    about_part warning.cause warning.about ∷ reason_part warning.cause warning.about
+    ∷ detail_part warning.detail ∷ detail_end warning.detail
+    ∷ Part (label (codes " [") refl) (Word (fixed_name warning.cause))
+    ∷ only (codes "]") refl ∷ []
