@@ -1,13 +1,7 @@
 pub mod AgentLemmas
 pub mod AskedLemmas
 pub mod AuditLemmas
-pub mod DelayLemmas
 pub mod EscapeLemmas
 pub mod FaultLemmas
 pub mod ListLemmas
-pub mod MessageQuietLemmas
-pub mod PlainLemmas
-pub mod QuietLemmas
 pub mod RowLemmas
-pub mod RunLemmas
-pub mod TextLemmas

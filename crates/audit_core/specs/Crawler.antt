@@ -8,9 +8,8 @@ use Rattle.std.specs.Str.{byte}
 use Rattle.robots_warnings.specs.Rules.{has}
 use Rattle.robots_warnings.specs.Tokens.{has_space_around, is_name_byte}
 use Rattle.audit_core.specs.declared.fault.Fault.{Fault}
-use Rattle.audit_core.specs.declared.fault.Fault.TheVariants.{Malformed, Memory}
+use Rattle.audit_core.specs.declared.fault.Fault.TheVariants.{Argument, Memory}
 use Rattle.audit_core.specs.declared.fault.Flaw.TheVariants as flaw
-use Rattle.audit_core.specs.Fault.{text_shown}
 
 -- the name has a dot and a digit, which are those of a version, as in `Googlebot.2`
 abbrev pub has_version : List ℕ → Bool
@@ -31,7 +30,7 @@ is_crawler_name name = bytes_eq name (codes "*") || is_own_name name
 -- the error shows this name, or an allocation failed
 abbrev pub IsNoCrawler : List ℕ → Fault → Type 0
 IsNoCrawler name fault = (fault ≡ Memory)
-    ⊎ ((text : String Global) × (string_bytes text ≡ text_shown name) × (fault ≡ Malformed text flaw.Agent))
+    ⊎ ((text : String Global) × (string_bytes text ≡ name) × (fault ≡ Argument text flaw.Agent))
 
 -- the error shows one of these names, which no crawler has, or an allocation failed
 abbrev pub IsNoCrawlerIn : List (List ℕ) → Fault → Type 0

@@ -1,67 +1,81 @@
 -- The message for each error, and the exit status.
-use Rattle.std.specs.Prelude.{ℕ, not, List, [], ◌∷◌, ◌++◌, Result, Ok, Err, ⊤, codes, if◌then◌else◌}
-use Rattle.std.specs.Prelude.{length, string_bytes, ◌==◌, ◌≡◌}
-use Rattle.robots_io.specs.Lines.{lf}
+use Rattle.std.specs.Prelude.{ℕ, not, List, [], ◌∷◌, Result, Ok, Err, ⊤, codes, if◌then◌else◌}
+use Rattle.std.specs.Prelude.{string_bytes, ◌≡◌}
+use Rattle.std.proofs.Common.{refl}
+use Rattle.robots_io.specs.Sanitize.{sanitized_lines}
 use Rattle.robots_io.specs.declared.streams.ReadFault.{ReadFault}
 use Rattle.robots_io.specs.declared.streams.ReadFault.TheVariants as read
+use Rattle.robots_text.specs.Text.{Named, Number, Part, PartValue, ReportLine, Untrusted, Value, label, line_from}
+use Rattle.robots_text.specs.Text.{only, value_text, word, written}
+use Rattle.audit_core.specs.declared.answer.Outcome.{Outcome}
 use Rattle.audit_core.specs.declared.fault.Entry.{Entry}
 use Rattle.audit_core.specs.declared.fault.Entry.TheVariants.{Expectation, Url}
 use Rattle.audit_core.specs.declared.fault.Fault.{Fault}
-use Rattle.audit_core.specs.declared.fault.Fault.TheVariants.{Empty, File, Malformed, Memory, NotUtf8}
+use Rattle.audit_core.specs.declared.fault.Fault.TheVariants.{Argument, Empty, File, Malformed, Memory, NotUtf8}
 use Rattle.audit_core.specs.declared.fault.Fault.TheVariants.{Read, StdinTwice, UnknownWarning, Usage}
 use Rattle.audit_core.specs.declared.fault.Fault.TheVariants.{Words, Write}
 use Rattle.audit_core.specs.declared.fault.Flaw.{Flaw}
 use Rattle.audit_core.specs.declared.fault.Flaw.TheVariants as flaw
-use Rattle.audit_core.specs.declared.fault.Outcome.{Outcome}
-use Rattle.robots_io.specs.Sanitize.{sanitized}
+
+-- ---- messages
 
 -- what is wrong with a line of the file of `--expect` or `--urls`, or with a crawler's name or a URL in
 -- arguments
+abbrev pub flaw_value : Flaw → Value
+flaw_value flaw.Form = word (codes "write \"allow AGENT URL\" or \"deny AGENT URL\"") refl
+flaw_value flaw.NotUtf8 = word (codes "the line isn't valid UTF-8") refl
+flaw_value flaw.Agent = word (codes "AGENT isn't a product token without a version, such as Googlebot") refl
+flaw_value flaw.Url =
+    word (codes "URL is neither a path that starts with / nor a valid http:// or https:// URL") refl
+flaw_value flaw.Path = word
+    (codes "URL has a . or .. segment or a #, which crawlers resolve or drop; write the path that they ask for")
+    refl
+
 abbrev pub flaw_text : Flaw → List ℕ
-flaw_text flaw.Form = codes "write \"allow AGENT URL\" or \"deny AGENT URL\""
-flaw_text flaw.NotUtf8 = codes "the line isn't valid UTF-8"
-flaw_text flaw.Agent = codes "AGENT isn't a product token without a version, such as Googlebot"
-flaw_text flaw.Url = codes "URL is neither a path that starts with / nor a valid http:// or https:// URL"
-flaw_text flaw.Path =
-    codes "URL has a . or .. segment or a #, which crawlers resolve or drop; write the path that they ask for"
+flaw_text which = value_text (flaw_value which)
 
 -- that a file has none of these entries
-abbrev pub none_text : Entry → List ℕ
-none_text Expectation = codes "there are no expectations"
-none_text Url = codes "there are no URLs"
+abbrev pub entry_value : Entry → Value
+entry_value Expectation = word (codes "there are no expectations") refl
+entry_value Url = word (codes "there are no URLs") refl
 
--- the message for an error
-abbrev pub reason_of : Fault → List ℕ
-reason_of (Words text) = string_bytes text
-reason_of Usage = codes "missing AGENT (use --agent or --agents)"
-reason_of NotUtf8 = codes "arguments must be valid UTF-8"
-reason_of (UnknownWarning name) = codes "unknown warning " ++ string_bytes name
-reason_of (File name) = codes "cannot read " ++ string_bytes name
-reason_of (Malformed place flaw) = string_bytes place ++ codes ": " ++ flaw_text flaw
-reason_of (Empty name entry) = string_bytes name ++ codes ": " ++ none_text entry
-reason_of StdinTwice = codes "standard input can't be both robots.txt and another file (use --file)"
-reason_of Read = codes "cannot read standard input"
-reason_of Write = codes "cannot write the report"
-reason_of Memory = codes "out of memory"
+abbrev pub entry_text : Entry → List ℕ
+entry_text entry = value_text (entry_value entry)
 
--- the usage, after an error in the arguments that `clap` doesn't report
-abbrev pub usage_after : Fault → List ℕ
-usage_after (Words text) = []
-usage_after Usage = codes "; usage: robots_audit [-f FILE] [OPTIONS] AGENT [URL].."
-usage_after NotUtf8 = codes "; usage: robots_audit [-f FILE] [OPTIONS] AGENT [URL].."
-usage_after (UnknownWarning name) = codes "; usage: robots_audit [-f FILE] [OPTIONS] AGENT [URL].."
-usage_after (File name) = []
-usage_after (Malformed place flaw) = []
-usage_after (Empty name entry) = []
-usage_after StdinTwice = codes "; usage: robots_audit [-f FILE] [OPTIONS] AGENT [URL].."
-usage_after Read = []
-usage_after Write = []
-usage_after Memory = []
+-- the usage, which follows an error in the arguments that `clap` doesn't report
+abbrev pub usage : PartValue
+usage = only (codes "; usage: robots_audit [-f FILE] [OPTIONS] AGENT [URL]..") refl
 
--- the line for an error; the message of `clap` has its own line ends
+-- the message for an error, after the name of the program; `clap` has messages of its own
+abbrev pub fault_parts : Fault → List PartValue
+fault_parts (Words text) = []
+fault_parts Usage = only (codes ": missing AGENT (use --agent or --agents)") refl ∷ usage ∷ []
+fault_parts NotUtf8 = only (codes ": arguments must be valid UTF-8") refl ∷ usage ∷ []
+fault_parts (UnknownWarning name) =
+    Part (label (codes ": unknown warning ") refl) (Named (string_bytes name)) ∷ usage ∷ []
+fault_parts (File name) = Part (label (codes ": cannot read ") refl) (Named (string_bytes name)) ∷ []
+fault_parts (Malformed file line which) =
+    Part (label (codes ": ") refl) (Untrusted (string_bytes file))
+    ∷ Part (label (codes ":") refl) (Number line) ∷ Part (label (codes ": ") refl) (flaw_value which) ∷ []
+fault_parts (Argument text which) =
+    Part (label (codes ": ") refl) (Named (string_bytes text))
+    ∷ Part (label (codes ": ") refl) (flaw_value which) ∷ []
+fault_parts (Empty file entry) =
+    Part (label (codes ": ") refl) (Untrusted (string_bytes file))
+    ∷ Part (label (codes ": ") refl) (entry_value entry) ∷ []
+fault_parts StdinTwice =
+    only (codes ": standard input can't be both robots.txt and another file (use --file)") refl ∷ usage ∷ []
+fault_parts Read = only (codes ": cannot read standard input") refl ∷ []
+fault_parts Write = only (codes ": cannot write the report") refl ∷ []
+fault_parts Memory = only (codes ": out of memory") refl ∷ []
+
+abbrev pub fault_line : Fault → ReportLine
+fault_line fault = line_from (only (codes "robots_audit") refl) refl (fault_parts fault)
+
+-- the line for an error; the message of `clap` may have several lines
 abbrev pub fault_text : Fault → List ℕ
-fault_text (Words text) = string_bytes text
-fault_text fault = codes "robots_audit: " ++ reason_of fault ++ usage_after fault ++ lf ∷ []
+fault_text (Words text) = sanitized_lines (string_bytes text)
+fault_text fault = written (fault_line fault ∷ [])
 
 -- the message on standard error: the warnings, one per line, or the error
 abbrev pub message_after : Result Outcome Fault → List ℕ
@@ -87,7 +101,8 @@ MayFail Usage = ⊥
 MayFail NotUtf8 = ⊥
 MayFail (UnknownWarning name) = ⊥
 MayFail (File name) = ⊥
-MayFail (Malformed place flaw) = ⊥
+MayFail (Malformed file line which) = ⊥
+MayFail (Argument text which) = ⊥
 MayFail (Empty name entry) = ⊥
 MayFail StdinTwice = ⊥
 MayFail Read = ⊤
@@ -99,12 +114,7 @@ abbrev pub fault_of_read : ReadFault → Fault
 fault_of_read read.Read = Read
 fault_of_read read.Memory = Memory
 
--- what errors show of a text in arguments: it sanitized, or quotes for an empty one, as that of an unset
--- variable
-abbrev pub text_shown : List ℕ → List ℕ
-text_shown text = if length text == 0 then codes "\"\"" else sanitized text
-
 -- the error reports that no warning has this name, or an allocation failed
 abbrev pub IsUnknown : List ℕ → Fault → Type 0
-IsUnknown name (UnknownWarning text) = string_bytes text ≡ text_shown name
+IsUnknown name (UnknownWarning text) = string_bytes text ≡ name
 IsUnknown name fault = fault ≡ Memory

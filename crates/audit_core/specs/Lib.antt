@@ -1,8 +1,7 @@
 pub mod Request
-pub mod Run
+pub mod Answer
 pub mod Texts
 pub mod Fault
-pub mod Delay
 pub mod Rows
 pub mod Asked
 pub mod Audit
@@ -10,6 +9,5 @@ pub mod Chosen
 pub mod Color
 pub mod Syntax
 pub mod Needless
-pub mod PlainLine
 pub mod Crawler
 pub mod Internal

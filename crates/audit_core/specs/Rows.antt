@@ -7,8 +7,8 @@ use Rattle.texting_robots.specs.Callers.{UserAgent}
 use Rattle.texting_robots.specs.declared.labels.Membership.{Membership}
 use Rattle.texting_robots.specs.declared.labels.Membership.TheVariants.{Other, Ungrouped, Own}
 use Rattle.robots_warnings.specs.File.{is_blank}
-use Rattle.robots_text.specs.Text.{Aligned, Column, Delay, Label as Fixed, Nothing, Part, PartValue}
-use Rattle.robots_text.specs.Text.{ReportLine, Untrusted, Value, Word, label, line_from, value_text}
+use Rattle.robots_text.specs.Text.{Aligned, Column, Delay, Label as Front, Nothing, Part, PartValue, ReportLine}
+use Rattle.robots_text.specs.Text.{Untrusted, Value, label, line_from, only, value_text, word}
 
 -- the width of the column with the directives; the longest one is followed by a space
 abbrev pub word_width : ℕ
@@ -17,18 +17,18 @@ word_width = 12
 -- ---- a line of a file
 
 -- `+` in the crawler's group, `-` in another, a space in none
-abbrev pub mark_of : Membership → Fixed
-mark_of Own = label (codes "+") refl
-mark_of Other = label (codes "-") refl
-mark_of Ungrouped = label (codes " ") refl
+abbrev pub mark_of : Membership → Value
+mark_of Own = word (codes "+") refl
+mark_of Other = word (codes "-") refl
+mark_of Ungrouped = word (codes " ") refl
 
 -- a line that isn't a directive
-abbrev pub raw_kind : (is_blank : Bool) → Fixed
+abbrev pub raw_kind : (is_blank : Bool) → Front
 raw_kind true = label (codes "empty") refl
 raw_kind false = label (codes "ignored") refl
 
 -- the name of the line's directive, or `empty` or `ignored`
-abbrev pub kind_of : LineValue → Fixed
+abbrev pub kind_of : LineValue → Front
 kind_of (UserAgent value) = label (codes "user-agent") refl
 kind_of (Allow value) = label (codes "allow") refl
 kind_of (Disallow value) = label (codes "disallow") refl
@@ -70,14 +70,17 @@ kind_part false line = Part (kind_of line) Nothing
 abbrev pub row : ℕ → Label → ReportLine
 row width labeled =
     line_from (Aligned width labeled.number) refl
-    (Part (label (codes " ") refl) (Word (mark_of labeled.membership)) ∷ Part (label (codes " ") refl) Nothing
+    (Part (label (codes " ") refl) (mark_of labeled.membership) ∷ only (codes " ") refl
     ∷ kind_part (has_value labeled.line) labeled.line ∷ [])
 
 -- a row for each line, the numbers right-aligned
 abbrev pub rows : List Label → List ReportLine
 rows labels = map (row (length (decimal (length labels)))) labels
 
-abbrev pub membership_label : Membership → Fixed
-membership_label Own = label (codes "own") refl
-membership_label Other = label (codes "other") refl
-membership_label Ungrouped = label (codes "ungrouped") refl
+abbrev pub membership_value : Membership → Value
+membership_value Own = word (codes "own") refl
+membership_value Other = word (codes "other") refl
+membership_value Ungrouped = word (codes "ungrouped") refl
+
+abbrev pub membership_word : Membership → List ℕ
+membership_word membership = value_text (membership_value membership)

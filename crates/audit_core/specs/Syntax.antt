@@ -5,6 +5,8 @@ use Rattle.std.specs.List.{list_any}
 use Rattle.robots_warnings.specs.declared.table.Cause.{Cause}
 use Rattle.robots_warnings.specs.Table.{is_not_about_syntax}
 use Rattle.robots_warnings.specs.Warnings.{WarningValue}
+use Rattle.std.proofs.Common.{refl}
+use Rattle.robots_text.specs.Text.{PartValue, ReportLine, line_from, only, part_text}
 use Rattle.audit_core.specs.declared.syntax.Syntax.{Syntax}
 use Rattle.audit_core.specs.declared.syntax.Syntax.TheVariants.{Standard, StandardWithoutWarnings}
 use Rattle.audit_core.specs.declared.syntax.Syntax.TheVariants.{Unstated}
@@ -38,12 +40,19 @@ is_standard Unstated = false
 is_standard Standard = true
 is_standard StandardWithoutWarnings = true
 
--- the sentence about it in a report; empty if nothing is stated
+-- the sentence about it in a report
+abbrev pub sentence_part : (without_warnings : Bool) → PartValue
+sentence_part false = only (codes "no warnings about syntax: the file has RFC 9309 syntax") refl
+sentence_part true = only (codes "no warnings: the file has RFC 9309 syntax") refl
+
+-- the sentence, empty if nothing is stated
 abbrev pub sentence : Syntax → List ℕ
 sentence Unstated = []
-sentence Standard = codes "no warnings about syntax: the file has RFC 9309 syntax"
-sentence StandardWithoutWarnings = codes "no warnings: the file has RFC 9309 syntax"
+sentence Standard = part_text (sentence_part false)
+sentence StandardWithoutWarnings = part_text (sentence_part true)
 
 -- the line with this sentence
-abbrev pub syntax_lines : Syntax → List (List ℕ)
-syntax_lines syntax = if is_standard syntax then sentence syntax ∷ [] else []
+abbrev pub syntax_lines : Syntax → List ReportLine
+syntax_lines Unstated = []
+syntax_lines Standard = line_from (sentence_part false) refl [] ∷ []
+syntax_lines StandardWithoutWarnings = line_from (sentence_part true) refl [] ∷ []

@@ -4,11 +4,11 @@ use Rattle.std.specs.Prelude.{ℕ, Bool, true, false, List, [], ◌∷◌, ◌++
 use Rattle.std.proofs.Common.{refl}
 use Rattle.audit_core.specs.declared.group.Group.{Group}
 use Rattle.audit_core.specs.declared.group.Group.TheVariants.{Everyone, Named, Nobody, Star}
-use Rattle.robots_text.specs.Text.{Absent, Delay, Label, Nothing, Number, Part, PartValue, ReportLine, Untrusted}
-use Rattle.robots_text.specs.Text.{Value, Word, label, line_from, parts_text, value_text}
+use Rattle.robots_text.specs.Text.{Absent, Delay, Number, Part, PartValue, ReportLine, Untrusted, Value}
+use Rattle.robots_text.specs.Text.{label, line_from, only, parts_text, value_text, word}
 
 abbrev pub delay_value : Option ℕ → Value
-delay_value None = Word (label (codes "none") refl)
+delay_value None = word (codes "none") refl
 delay_value (Some micros) = Delay micros
 
 -- ---- groups
@@ -16,13 +16,13 @@ delay_value (Some micros) = Delay micros
 -- the name of the group that applies to a crawler
 abbrev pub group_value : List ℕ → Group → Value
 group_value agent Named = Untrusted agent
-group_value agent Star = Word (label (codes "*") refl)
-group_value agent Nobody = Word (label (codes "none") refl)
-group_value agent Everyone = Word (label (codes "everyone") refl)
+group_value agent Star = word (codes "*") refl
+group_value agent Nobody = word (codes "none") refl
+group_value agent Everyone = word (codes "everyone") refl
 
 -- the file names neither the crawler nor `*`
 abbrev pub nobody_part : (is_star : Bool) → List ℕ → PartValue
-nobody_part true agent = Part (label (codes " (no group for *") refl) Nothing
+nobody_part true agent = only (codes " (no group for *") refl
 nobody_part false agent = Part (label (codes " (no group for ") refl) (Untrusted agent)
 
 -- the reason, if it isn't the crawler's own group, and the end of the reason
@@ -30,17 +30,17 @@ abbrev pub group_reason : List ℕ → Group → PartValue
 group_reason agent Named = Absent
 group_reason agent Star = Part (label (codes " (") refl) (Untrusted agent)
 group_reason agent Nobody = nobody_part (bytes_eq agent (codes "*")) agent
-group_reason agent Everyone = Part (label (codes " (the file has no User-agent line") refl) Nothing
+group_reason agent Everyone = only (codes " (the file has no User-agent line") refl
 
 abbrev pub nobody_end : (is_star : Bool) → PartValue
-nobody_end true = Part (label (codes "; everything is allowed)") refl) Nothing
-nobody_end false = Part (label (codes " or *; everything is allowed)") refl) Nothing
+nobody_end true = only (codes "; everything is allowed)") refl
+nobody_end false = only (codes " or *; everything is allowed)") refl
 
 abbrev pub group_end : List ℕ → Group → PartValue
 group_end agent Named = Absent
-group_end agent Star = Part (label (codes " has no group of its own)") refl) Nothing
+group_end agent Star = only (codes " has no group of its own)") refl
 group_end agent Nobody = nobody_end (bytes_eq agent (codes "*"))
-group_end agent Everyone = Part (label (codes "; all rules are applied)") refl) Nothing
+group_end agent Everyone = only (codes "; all rules are applied)") refl
 
 -- the group that applies to a crawler, and the reason if it isn't the crawler's own
 abbrev pub group_text : List ℕ → Group → List ℕ
@@ -64,7 +64,7 @@ rejected_line_part line = Part (label (codes ": line ") refl) (Number line)
 
 abbrev pub rejected_reason : PartValue
 rejected_reason =
-    Part (label (codes ": a pattern with $ longer than 4,096 bytes isn't supported; shorten it") refl) Nothing
+    only (codes ": a pattern with $ longer than 4,096 bytes isn't supported; shorten it") refl
 
 abbrev pub rejected_parts : List ℕ → ℕ → List PartValue
 rejected_parts agent line = rejected_front agent ∷ rejected_line_part line ∷ rejected_reason ∷ []

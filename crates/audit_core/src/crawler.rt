@@ -7,7 +7,7 @@ ghost use Rattle.robots_warnings.specs.Rules.{has};
 ghost use Rattle.audit_core.specs.Crawler.{single};
 ghost use Rattle.audit_core.specs.Crawler.{IsNoCrawler, IsNoCrawlerIn, has_version, is_crawler_name, is_own_name};
 
-use crate::fault::{Fault, Flaw, text_shown};
+use crate::fault::{Fault, Flaw};
 use robots_warnings::tokens::{are_name_bytes, has_space_around};
 use std::alloc::{AllocError, Global};
 
@@ -61,8 +61,8 @@ pub fn single<'a>(agents: &[&'a str]) -> Option<&'a str>
 fn no_crawler(alloc: Global, name: &str) -> Fault
     ensures { IsNoCrawler name.now result }
 {
-    match text_shown(alloc, name) {
-        Ok(text) => Fault::Malformed(text, Flaw::Agent),
+    match String::from_str(alloc, name) {
+        Ok(text) => Fault::Argument(text, Flaw::Agent),
         Err(AllocError) => Fault::Memory,
     }
 }

@@ -1,26 +1,14 @@
-//! The end of a run: its outcome or its error, the message on standard error, and the exit status.
-ghost use Rattle.std.specs.Prelude.{◌≡◌, IfOk, string_bytes};
-ghost use Rattle.audit_core.specs.Fault.{flaw_text, text_shown, none_text, status_after, usage_after, IsUnknown};
+//! Errors, their messages, and the exit status.
+ghost use Rattle.std.specs.Prelude.{◌≡◌, ◌∷◌, [], IfOk, string_bytes};
+ghost use Rattle.robots_text.specs.Raw.{raw_line};
+ghost use Rattle.robots_text.specs.Text.{parts_text};
+ghost use Rattle.audit_core.specs.Fault.{IsUnknown, entry_text, fault_parts, fault_text, flaw_text, status_after};
 
-use robots_io::sanitize::push_sanitized;
+use crate::answer::Outcome;
+use robots_io::sanitize::push_sanitized_lines;
 use robots_io::streams::{ReadFault, WriteFault};
+use robots_text::parts::{Part, Value, push_line_of};
 use std::alloc::{AllocError, AllocFailed, Global};
-use std::fmt;
-
-/// The outcome of a run that wrote its report.
-#[derive(Drop)]
-pub struct Outcome {
-    /// Whether this parser rejects the file for a crawler of the report. Expectations fail then, so it is `false` after
-    /// `--expect`.
-    pub is_rejected: bool,
-    /// After an audit, whether each crawler for which the file isn't rejected may fetch every URL of the request; after
-    /// `--expect`, whether all expectations hold; after `--compare`, whether nothing differs; else `true`.
-    pub has_passed: bool,
-    /// Whether a warning is at the level of `--strict`, or at a more serious one.
-    pub is_warned: bool,
-    /// The warnings, one per line; empty if they are in the report.
-    pub warnings: String,
-}
 
 /// What is wrong with a line of the file of `--expect` or `--urls`, or with a crawler's name or a URL in arguments.
 #[derive(Clone, Copy)]
@@ -46,7 +34,7 @@ pub enum Entry {
     Url,
 }
 
-/// The error that ended a run.
+/// The error that ended a run. Texts are as they were given.
 #[derive(Drop)]
 pub enum Fault {
     /// `clap` rejects the arguments; this is its message, with the usage.
@@ -55,14 +43,15 @@ pub enum Fault {
     Usage,
     /// An argument isn't UTF-8.
     NotUtf8,
-    /// No warning has this name, as `text_shown` shows it.
+    /// No warning has this name.
     UnknownWarning(String),
-    /// The file with this name, as `text_shown` shows it, can't be opened or read.
+    /// The file with this name can't be opened or read.
     File(String),
-    /// The line that this text names, a file's sanitized name and a number, is malformed. Or the text is a name that no
-    /// crawler has, or one that is no URL, as `text_shown` shows it.
-    Malformed(String, Flaw),
-    /// The file with this name, which is sanitized, has none of these entries.
+    /// The line with this number, of the file with this name, is malformed.
+    Malformed(String, usize, Flaw),
+    /// This argument isn't the name of a crawler, or no URL.
+    Argument(String, Flaw),
+    /// The file with this name has none of these entries.
     Empty(String, Entry),
     /// Standard input would have to be both the robots.txt file and another one.
     StdinTwice,
@@ -72,55 +61,6 @@ pub enum Fault {
     Write,
     /// An allocation failed, or a URL is too long for the crate `url`.
     Memory,
-}
-
-/// The message for it.
-fn flaw_text(flaw: Flaw) -> &'static str
-    ensures { result.now ≡ flaw_text flaw }
-{
-    match flaw {
-        Flaw::Form => "write \"allow AGENT URL\" or \"deny AGENT URL\"",
-        Flaw::NotUtf8 => "the line isn't valid UTF-8",
-        Flaw::Agent => "AGENT isn't a product token without a version, such as Googlebot",
-        Flaw::Url => "URL is neither a path that starts with / nor a valid http:// or https:// URL",
-        Flaw::Path =>
-            "URL has a . or .. segment or a #, which crawlers resolve or drop; write the path that they ask for",
-    }
-}
-
-/// That a file has none of these entries.
-fn none_text(entry: Entry) -> &'static str
-    ensures { result.now ≡ none_text entry }
-{
-    match entry {
-        Entry::Expectation => "there are no expectations",
-        Entry::Url => "there are no URLs",
-    }
-}
-
-impl fmt::Display for Fault {
-    ghost use Rattle.std.specs.Prelude.{Some};
-    ghost use Rattle.audit_core.specs.Fault.{reason_of};
-
-    ghost output = { λ fault. Some (reason_of fault) };
-
-    fn fmt<W: fmt::Write>(&self, f: &mut fmt::Formatter<W>) -> fmt::Result {
-        match self {
-            Fault::Words(text) => f.write_str(text),
-            Fault::Usage => f.write_str("missing AGENT (use --agent or --agents)"),
-            Fault::NotUtf8 => f.write_str("arguments must be valid UTF-8"),
-            Fault::UnknownWarning(name) => write!(f, "unknown warning {name}"),
-            Fault::File(name) => write!(f, "cannot read {name}"),
-            Fault::Malformed(place, flaw) => write!(f, "{place}: {}", flaw_text(*flaw)),
-            Fault::Empty(name, entry) => write!(f, "{name}: {}", none_text(*entry)),
-            Fault::StdinTwice => {
-                f.write_str("standard input can't be both robots.txt and another file (use --file)")
-            }
-            Fault::Read => f.write_str("cannot read standard input"),
-            Fault::Write => f.write_str("cannot write the report"),
-            Fault::Memory => f.write_str("out of memory"),
-        }
-    }
 }
 
 impl From<AllocError> for Fault {
@@ -170,36 +110,114 @@ impl From<WriteFault> for Fault {
     }
 }
 
-/// The usage, which is appended to an error in the arguments that `clap` doesn't report.
-fn usage_after(fault: &Fault) -> &'static str
-    ensures { result.now ≡ usage_after fault.now }
+/// What is wrong.
+fn flaw_text(flaw: Flaw) -> &'static str
+    ensures { result.now ≡ flaw_text flaw }
+{
+    match flaw {
+        Flaw::Form => "write \"allow AGENT URL\" or \"deny AGENT URL\"",
+        Flaw::NotUtf8 => "the line isn't valid UTF-8",
+        Flaw::Agent => "AGENT isn't a product token without a version, such as Googlebot",
+        Flaw::Url => "URL is neither a path that starts with / nor a valid http:// or https:// URL",
+        Flaw::Path =>
+            "URL has a . or .. segment or a #, which crawlers resolve or drop; write the path that they ask for",
+    }
+}
+
+/// That a file has none of these entries.
+fn entry_text(entry: Entry) -> &'static str
+    ensures { result.now ≡ entry_text entry }
+{
+    match entry {
+        Entry::Expectation => "there are no expectations",
+        Entry::Url => "there are no URLs",
+    }
+}
+
+/// The end of a message that has no more parts.
+const NONE: Part<'static> = Part("", Value::Nothing);
+
+/// The usage, which follows an error in the arguments that `clap` doesn't report.
+const USAGE: Part<'static> = Part(
+    "; usage: robots_audit [-f FILE] [OPTIONS] AGENT [URL]..",
+    Value::Nothing,
+);
+
+/// The message for an error, which follows the program's name. `clap` has messages of its own.
+fn fault_parts(fault: &Fault) -> [Part<'_>; 3]
+    ensures { raw_line result ≡ parts_text (fault_parts fault.now) }
 {
     match fault {
-        Fault::Usage | Fault::NotUtf8 | Fault::UnknownWarning(_) | Fault::StdinTwice =>
-            "; usage: robots_audit [-f FILE] [OPTIONS] AGENT [URL]..",
-        _ => "",
+        Fault::Words(_) => [NONE, NONE, NONE],
+        Fault::Usage => [
+            Part(": missing AGENT (use --agent or --agents)", Value::Nothing),
+            USAGE,
+            NONE,
+        ],
+        Fault::NotUtf8 => [
+            Part(": arguments must be valid UTF-8", Value::Nothing),
+            USAGE,
+            NONE,
+        ],
+        Fault::UnknownWarning(name) => [
+            Part(": unknown warning ", Value::Named(name.as_bytes())),
+            USAGE,
+            NONE,
+        ],
+        Fault::File(name) => [
+            Part(": cannot read ", Value::Named(name.as_bytes())),
+            NONE,
+            NONE,
+        ],
+        Fault::Malformed(file, line, flaw) => [
+            Part(": ", Value::Untrusted(file.as_bytes())),
+            Part(":", Value::Number(*line)),
+            Part(": ", Value::Word(flaw_text(*flaw))),
+        ],
+        Fault::Argument(text, flaw) => [
+            Part(": ", Value::Named(text.as_bytes())),
+            Part(": ", Value::Word(flaw_text(*flaw))),
+            NONE,
+        ],
+        Fault::Empty(file, entry) => [
+            Part(": ", Value::Untrusted(file.as_bytes())),
+            Part(": ", Value::Word(entry_text(*entry))),
+            NONE,
+        ],
+        Fault::StdinTwice => [
+            Part(
+                ": standard input can't be both robots.txt and another file (use --file)",
+                Value::Nothing,
+            ),
+            USAGE,
+            NONE,
+        ],
+        Fault::Read => [
+            Part(": cannot read standard input", Value::Nothing),
+            NONE,
+            NONE,
+        ],
+        Fault::Write => [
+            Part(": cannot write the report", Value::Nothing),
+            NONE,
+            NONE,
+        ],
+        Fault::Memory => [Part(": out of memory", Value::Nothing), NONE, NONE],
     }
 }
 
-/// The message on standard error after a run with this result. Formatting it doesn't allocate.
-#[derive(Drop)]
-pub struct StderrMessage<'a> {
-    pub outcome: &'a Result<Outcome, Fault>,
-}
-
-impl<'a> fmt::Display for StderrMessage<'a> {
-    ghost use Rattle.std.specs.Prelude.{Some};
-    ghost use Rattle.audit_core.specs.Fault.{message_after};
-
-    ghost output = { λ message. Some (message_after message.outcome.now) };
-
-    fn fmt<W: fmt::Write>(&self, f: &mut fmt::Formatter<W>) -> fmt::Result {
-        match self.outcome {
-            Ok(outcome) => f.write_str(&outcome.warnings),
-            Err(Fault::Words(text)) => f.write_str(text),
-            Err(fault) => writeln!(f, "robots_audit: {fault}{}", usage_after(fault)),
-        }
+/// The message for an error: a line, or the message of `clap`.
+pub fn fault_text(alloc: Global, fault: &Fault) -> Result<String, AllocError>
+    ensures { IfOk result (λ text. string_bytes text ≡ fault_text fault.now) }
+{
+    let mut text = String::new(alloc);
+    if let Fault::Words(words) = fault {
+        push_sanitized_lines(&mut text, words.as_bytes())?;
+        return Ok(text);
     }
+    text.push_str("robots_audit")?;
+    push_line_of(&mut text, &fault_parts(fault))?;
+    Ok(text)
 }
 
 /// The exit status of the process.
@@ -215,24 +233,11 @@ pub fn status_after(outcome: &Result<Outcome, Fault>) -> u8
     }
 }
 
-/// What errors show of a text in arguments: it sanitized, or quotes for an empty one, as that of an unset variable.
-pub fn text_shown(alloc: Global, text: &str) -> Result<String, AllocError>
-    ensures { IfOk result (λ shown. string_bytes shown ≡ text_shown text.now) }
-{
-    let mut shown = String::new(alloc);
-    if text.is_empty() {
-        shown.push_str("\"\"")?;
-    } else {
-        push_sanitized(&mut shown, text.as_bytes())?;
-    }
-    Ok(shown)
-}
-
 /// The error for a name that no warning has; `Fault::Memory` if an allocation fails.
 pub fn unknown(alloc: Global, name: &str) -> Fault
     ensures { IsUnknown name.now result }
 {
-    match text_shown(alloc, name) {
+    match String::from_str(alloc, name) {
         Ok(text) => Fault::UnknownWarning(text),
         Err(AllocError) => Fault::Memory,
     }

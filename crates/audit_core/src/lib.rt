@@ -4,12 +4,12 @@
 #![tactic(auto)]
 
 pub mod agents;
+pub mod answer;
 pub mod asked;
 pub mod audit;
 mod chosen;
 pub mod color;
 pub mod crawler;
-pub mod answer;
 pub mod fault;
 pub mod group;
 mod needless;

@@ -1,15 +1,15 @@
 //! The rows of a report: one for each line of the file.
-ghost use Rattle.std.specs.Prelude.{◌≡◌, ◌++◌, ◌∷◌, [], OnOk, codes, decimal, length, map, replicate};
+ghost use Rattle.std.specs.Prelude.{◌≡◌, ◌++◌, ◌∷◌, [], OnOk, decimal, length, map};
 ghost use Rattle.std.specs.Prelude.{string_bytes};
 ghost use Rattle.texting_robots.specs.Callers.{by_value, label_by_value};
-ghost use Rattle.robots_io.specs.Lines.{ended};
-ghost use Rattle.robots_warnings.specs.File.{space};
-ghost use Rattle.audit_core.specs.Rows.{has_value, kind_text, label_text, right_aligned, row, rows};
-ghost use Rattle.audit_core.specs.Rows.{value_text, word_and_value, membership_word};
+ghost use Rattle.robots_text.specs.Text.{Aligned, blanks, part_text, value_text, written};
+ghost use Rattle.audit_core.specs.Rows.{has_value, kind_part, kind_text, line_value_text, mark_of, membership_word};
+ghost use Rattle.audit_core.specs.Rows.{row, rows};
 
-use crate::delay::push_delay_text;
 use itoa::Buffer;
 use robots_io::sanitize::push_sanitized;
+use robots_text::delay::push_delay_text;
+use robots_text::parts::{Part, Value, push_parts};
 use robots_warnings::file::is_blank;
 use std::alloc::AllocError;
 use texting_robots::labels::{LabeledLine, Membership};
@@ -21,7 +21,7 @@ const WORD_WIDTH: usize = 12;
 /// Appends this many spaces.
 #[tactic(auto, using(crate::proofs::RowLemmas::blanks_more))]
 fn push_blanks(text: &mut String, count: usize) -> Result<(), AllocError>
-    ensures { OnOk result (string_bytes text.new ≡ string_bytes text.old ++ replicate count space) }
+    ensures { OnOk result (string_bytes text.new ≡ string_bytes text.old ++ blanks count) }
 {
     for _ in 0..count {
         text.push(' ')?;
@@ -29,17 +29,19 @@ fn push_blanks(text: &mut String, count: usize) -> Result<(), AllocError>
     Ok(())
 }
 
-/// Appends a string, right-aligned within the width.
-fn push_right(text: &mut String, width: usize, added: &str) -> Result<(), AllocError>
-    ensures { OnOk result (string_bytes text.new ≡ string_bytes text.old ++ right_aligned width added.now) }
+/// Appends a number, right-aligned within the width.
+fn push_aligned(text: &mut String, width: usize, number: usize) -> Result<(), AllocError>
+    ensures { OnOk result (string_bytes text.new ≡ string_bytes text.old ++ part_text (Aligned width number)) }
 {
-    push_blanks(text, width.saturating_sub(added.len()))?;
-    text.push_str(added)
+    let mut buffer = Buffer::new();
+    let digits = buffer.format(number);
+    push_blanks(text, width.saturating_sub(digits.len()))?;
+    text.push_str(digits)
 }
 
-/// The label of a line: `+` in the crawler's group, `-` in another, a space in none.
-fn label_text(membership: Membership) -> &'static str
-    ensures { result.now ≡ label_text membership }
+/// The mark of a line: `+` in the crawler's group, `-` in another, a space in none.
+fn mark_of(membership: Membership) -> &'static str
+    ensures { result.now ≡ value_text (mark_of membership) }
 {
     match membership {
         Membership::Own => "+",
@@ -79,7 +81,7 @@ pub fn has_value(line: Line<'_>) -> bool
 
 /// Appends the value of a line: a delay in seconds, any other value sanitized.
 pub fn push_value(text: &mut String, line: Line<'_>) -> Result<(), AllocError>
-    ensures { OnOk result (string_bytes text.new ≡ string_bytes text.old ++ value_text (by_value line.entry)) }
+    ensures { OnOk result (string_bytes text.new ≡ string_bytes text.old ++ line_value_text (by_value line.entry)) }
 {
     match line {
         Line::UserAgent(value)
@@ -93,8 +95,9 @@ pub fn push_value(text: &mut String, line: Line<'_>) -> Result<(), AllocError>
 }
 
 /// Appends the line's directive, and if the line has a value, spaces up to the next column and the value.
-fn push_word_and_value(text: &mut String, line: Line<'_>) -> Result<(), AllocError>
-    ensures { OnOk result (string_bytes text.new ≡ string_bytes text.old ++ word_and_value (by_value line.entry)) }
+fn push_kind(text: &mut String, line: Line<'_>) -> Result<(), AllocError>
+    ensures { OnOk result (string_bytes text.new ≡ string_bytes text.old
+        ++ part_text (kind_part (has_value (by_value line.entry)) (by_value line.entry))) }
 {
     let word = kind_text(line);
     text.push_str(word)?;
@@ -105,25 +108,20 @@ fn push_word_and_value(text: &mut String, line: Line<'_>) -> Result<(), AllocErr
     Ok(())
 }
 
-/// Appends the number and the label of a line.
-fn push_front(text: &mut String, width: usize, labeled: &LabeledLine<'_>) -> Result<(), AllocError>
-    ensures { OnOk result (string_bytes text.new ≡ string_bytes text.old
-        ++ (right_aligned width (decimal labeled.now.number) ++ codes " "
-        ++ label_text labeled.now.membership ++ codes " ")) }
-{
-    push_right(text, width, Buffer::new().format(labeled.number))?;
-    text.push(' ')?;
-    text.push_str(label_text(labeled.membership))?;
-    text.push(' ')
-}
-
 /// Appends the row of a line.
 fn push_row(text: &mut String, width: usize, labeled: &LabeledLine<'_>) -> Result<(), AllocError>
     ensures { OnOk result (string_bytes text.new ≡ string_bytes text.old
-        ++ ended (row width (label_by_value labeled.now) ∷ [])) }
+        ++ written (row width (label_by_value labeled.now) ∷ [])) }
 {
-    push_front(text, width, labeled)?;
-    push_word_and_value(text, labeled.line)?;
+    push_aligned(text, width, labeled.number)?;
+    push_parts(
+        text,
+        &[
+            Part(" ", Value::Word(mark_of(labeled.membership))),
+            Part(" ", Value::Nothing),
+        ],
+    )?;
+    push_kind(text, labeled.line)?;
     text.push('\n')
 }
 
@@ -137,7 +135,7 @@ fn digits(number: usize) -> usize
 /// Appends a row for each line.
 pub fn push_rows(text: &mut String, labels: &[LabeledLine<'_>]) -> Result<(), AllocError>
     ensures { OnOk result (string_bytes text.new ≡ string_bytes text.old
-        ++ ended (rows (map label_by_value labels.now))) }
+        ++ written (rows (map label_by_value labels.now))) }
 {
     let width = digits(labels.len());
     for labeled in labels {

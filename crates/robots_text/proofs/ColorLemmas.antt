@@ -1,5 +1,5 @@
 -- With colors, lines are those without colors, in which color codes are inserted.
-use Rattle.std.proofs.Common.{◌≡◌, ℕ, Bool, true, false, List, [], ◌∷◌, ◌++◌, ap₂, append-nil, codes}
+use Rattle.std.proofs.Common.{ℕ, Bool, true, false, List, [], ◌∷◌, ◌++◌, ap₂, append-nil, codes}
 use Rattle.std.proofs.Common.{flat_map, inl, inr, map, refl, subst, sym, ◌∙◌}
 use Rattle.std.specs.List.{AllByRecursion as Each}
 use Rattle.std.proofs.lemmas.Grind.{flat_map-append}

@@ -1,21 +1,20 @@
 -- Every line that is made of parts is printable, and no workflow takes it for a command.
-use Rattle.std.proofs.Common.{◌∙◌, ◌==◌, ◌-◌, ap, append_assoc, append-nil, length, replicate, sym}
-use Rattle.std.proofs.Common.{◌≡◌, ℕ, true, false, List, [], ◌∷◌, ◌++◌, ◌⊎◌, Bool, codes, decimal, flat_map, inl}
+use Rattle.std.proofs.Common.{◌∙◌, ◌==◌, ◌-◌, ap, append-nil, length}
+use Rattle.std.proofs.Common.{◌≡◌, ℕ, true, false, List, [], ◌∷◌, ◌++◌, ◌⊎◌, Bool, codes, decimal, inl}
 use Rattle.std.proofs.Common.{inr, map, refl, suc, zero}
 use Rattle.std.specs.List.{AllByRecursion as Each, list_all}
-use Rattle.std.proofs.lemmas.List.{length-map, map-append}
+use Rattle.std.proofs.lemmas.List.{map-append}
 use Rattle.std.proofs.lemmas.List.Concat.{flat_map-append}
 use Rattle.std.specs.Prelude.{not}
 use Rattle.std.proofs.lemmas.Bool.{and_parts, not-true, or_right}
 use Rattle.robots_io.specs.Lines.{ended, lf}
 use Rattle.robots_io.specs.Sanitize.{IsPrintable, IsPrintableIn, begins_apart, ends_apart, has_command}
 use Rattle.robots_io.specs.Sanitize.{is_printable_byte, sanitized}
-use Rattle.robots_io.proofs.CommandLemmas.{IsFront, IsMiddle, after_front, blanks_front, decimal_middle}
-use Rattle.robots_io.proofs.CommandLemmas.{front_append, front_text, middle_text, sanitized_quiet, seam}
+use Rattle.robots_io.proofs.CommandLemmas.{IsMiddle, after_front, blanks_front, decimal_middle}
+use Rattle.robots_io.proofs.CommandLemmas.{middle_text, sanitized_quiet, seam}
 use Rattle.robots_io.proofs.SanitizeLemmas.{append_printable, ascii_printable, blanks_printable}
 use Rattle.robots_io.proofs.SanitizeLemmas.{decimal_printable, ended_printable, nil_printable}
 use Rattle.robots_io.proofs.SanitizeLemmas.{sanitized_in_printable}
-use Rattle.robots_text.specs.Delay.{delay_text}
 use Rattle.robots_text.specs.Level.{level_word}
 use Rattle.robots_text.specs.PlainLine.{IsPlainLine, starts}
 use Rattle.robots_text.specs.Color.{shown_word}

@@ -1,8 +1,8 @@
 -- Texts whose first byte after spaces isn't one with which a command begins, and to which others are
 -- appended.
-use Rattle.std.proofs.Common.{◌≡◌, ℕ, zero, suc, ◌/◌, ◌%◌, ◌<◌, ◌==◌, Bool, true, false, List, [], ◌∷◌, ◌++◌}
+use Rattle.std.proofs.Common.{◌≡◌, ℕ, zero, suc, ◌/◌, ◌%◌, ◌<◌, ◌==◌, true, false, List, [], ◌∷◌, ◌++◌}
 use Rattle.std.proofs.Common.{arith, decimal, inl, inr, refl, replicate}
-use Rattle.std.specs.Prelude.{if◌then◌else◌, not, ◌||◌}
+use Rattle.std.specs.Prelude.{not, ◌||◌}
 use Rattle.std.specs.Fmt.{digit_glyph, digits, digits_onto}
 use Rattle.std.specs.List.{AllByRecursion as Each}
 use Rattle.std.proofs.lemmas.Bool.{cases_Bool}

@@ -1,0 +1,29 @@
+-- What a run answers, and how its report is written. `Appends` and `Keeps` claim nothing about a writer whose
+-- bytes the specification can't observe.
+use Rattle.std.specs.Prelude.{◌≡◌, ℕ, true, false, List, [], Option, Result, Ok, Err, IfErr, IfOk, string_bytes}
+use Rattle.std.specs.Io.KnownBytes.{Appends, Keeps}
+use Rattle.robots_io.specs.Streams.{AppendsBeginning}
+use Rattle.audit_core.specs.declared.answer.Answer.{Answer}
+use Rattle.audit_core.specs.declared.answer.Outcome.{Outcome}
+use Rattle.audit_core.specs.declared.fault.Fault.{Fault}
+use Rattle.audit_core.specs.declared.fault.Fault.TheVariants.{Write}
+
+-- the answer is a text, such as the help; there are no warnings, and the exit status is 0
+pub record IsText (text : List ℕ) (answer : Answer) : Type 0 where
+  pub report : answer.report.items ≡ text
+  pub accepted : answer.outcome.is_rejected ≡ false
+  pub passed : answer.outcome.has_passed ≡ true
+  pub unwarned : answer.outcome.is_warned ≡ false
+  pub quiet : string_bytes answer.outcome.warnings ≡ []
+
+-- the report is written, or if the write fails a prefix of it
+pub record WritesReport (answer : Answer) (old new : Option (List ℕ)) (result : Result Outcome Fault)
+    : Type 0 where
+  pub ok : IfOk result (λ outcome. (outcome ≡ answer.outcome) × Appends old new answer.report.items)
+  pub fault : IfErr result (λ fault. fault ≡ Write)
+  pub beginning : AppendsBeginning old new answer.report.items
+
+-- after an error nothing is written
+abbrev pub Writes : Result Answer Fault → (old new : Option (List ℕ)) → Result Outcome Fault → Type 0
+Writes (Ok answer) old new result = WritesReport answer old new result
+Writes (Err fault) old new result = (result ≡ Err fault) × Keeps old new

@@ -1,0 +1,61 @@
+//! What a run answers: a report for standard output, an outcome for the exit status, and warnings.
+ghost use Rattle.std.specs.Prelude.{◌≡◌};
+ghost use Rattle.audit_core.specs.Answer.{IsText, Writes};
+
+use crate::fault::Fault;
+use robots_io::streams::write_out;
+use std::alloc::Global;
+use std::io::Write;
+
+/// The outcome of a run that wrote its report.
+#[derive(Drop)]
+pub struct Outcome {
+    /// Whether this parser rejects the file for a crawler of the report. Expectations fail then, so it is `false` after
+    /// `--expect`.
+    pub is_rejected: bool,
+    /// After an audit, whether each crawler for which the file isn't rejected may fetch every URL of the request; after
+    /// `--expect`, whether all expectations hold; after `--compare`, whether nothing differs; else `true`.
+    pub has_passed: bool,
+    /// Whether a warning is at the level of `--strict`, or at a more serious one.
+    pub is_warned: bool,
+    /// The warnings, one per line; empty if they are in the report.
+    pub warnings: String,
+}
+
+/// The report of a run, and its outcome.
+#[derive(Drop)]
+pub struct Answer {
+    pub report: Vec<u8>,
+    pub outcome: Outcome,
+}
+
+/// The answer that is a text, such as the help, with exit status 0.
+pub fn text_answer(alloc: Global, text: Vec<u8>) -> Answer
+    ensures { IsText text.items result }
+{
+    Answer {
+        report: text,
+        outcome: Outcome {
+            is_rejected: false,
+            has_passed: true,
+            is_warned: false,
+            warnings: String::new(alloc),
+        },
+    }
+}
+
+/// Writes the report of an answer. After an error nothing is written.
+///
+/// # Errors
+///
+/// `Fault::Write` if a write or a flush fails, or a write accepts no bytes.
+pub fn write_answer<W: Write>(
+    answer: Result<Answer, Fault>,
+    writer: &mut W,
+) -> Result<Outcome, Fault>
+    ensures { Writes answer (W.contents writer.old) (W.contents writer.new) result }
+{
+    let answer = answer?;
+    write_out(writer, &answer.report)?;
+    Ok(answer.outcome)
+}
