@@ -1,32 +1,25 @@
 -- A report is printable in each format.
 use Rattle.std.proofs.Common.{◌++◌}
-use Rattle.texting_robots.proofs.TrimLemmas.{each_append}
 use Rattle.robots_io.specs.Sanitize.{IsPrintable}
-use Rattle.robots_io.proofs.SanitizeLemmas.{ended_printable}
+use Rattle.robots_text.proofs.PartLemmas.{written_printable}
 use Rattle.audit_core.specs.declared.request.Format.{Format}
 use Rattle.audit_core.specs.declared.request.Format.TheVariants.{Github, Html, Json, Sarif, Text}
-use Rattle.robots_audit.specs.Answer.{has_rows, output, output_in, reported, shown_name, total_lines}
 use Rattle.audit_core.specs.Audit.{AuditValue}
 use Rattle.audit_core.specs.Request.{RequestValue}
 use Rattle.audit_formats.specs.Findings.{findings}
-use Rattle.audit_core.specs.PlainLine.{IsPlainLine}
-use Rattle.audit_report.specs.Report.{report_lines}
 use Rattle.audit_formats.proofs.FindingLemmas.{findings_have}
 use Rattle.audit_formats.proofs.GithubLemmas.{github_printable}
 use Rattle.audit_formats.proofs.JsonLemmas.{json_printable}
-use Rattle.audit_page.proofs.PageLemmas.{page_printable}
-use Rattle.audit_core.proofs.PlainLemmas.{each_printable}
-use Rattle.audit_report.proofs.PrintableLemmas.{report_plain, totals_plain}
 use Rattle.audit_formats.proofs.SarifLemmas.{sarif_printable}
+use Rattle.audit_page.proofs.PageLemmas.{page_printable}
+use Rattle.audit_report.specs.Report.{report_lines}
+use Rattle.robots_audit.specs.Answer.{has_rows, output, output_in, reported, shown_name, total_lines}
 
 output_in_printable : (format : Format) (requested : RequestValue) (audit : AuditValue)
     → IsPrintable (output_in format requested audit)
 output_in_printable Text requested audit =
-    let rows = has_rows requested in
-    let listed = reported requested audit in
-    ended_printable (report_lines rows listed ++ total_lines requested audit)
-    (each_printable _ (each_append IsPlainLine (report_lines rows listed) (total_lines requested audit)
-    (report_plain rows listed) (totals_plain requested.has_totals audit.agents)))
+    written_printable (report_lines (has_rows requested) (reported requested audit)
+    ++ total_lines requested.has_totals audit)
 output_in_printable Json requested audit =
     json_printable (has_rows requested) (reported requested audit)
 output_in_printable Html requested audit = page_printable requested (reported requested audit)

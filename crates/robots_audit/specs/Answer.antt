@@ -1,34 +1,37 @@
--- The result of a run. `Appends` and `Keeps` claim nothing about a writer whose bytes the specification
--- can't observe.
-use Rattle.std.specs.Prelude.{◌≡◌, ◌≢◌, ℕ, Bool, true, false, List, [], ◌∷◌, ◌++◌, None, Option, Some, Result}
-use Rattle.std.specs.Prelude.{codes, if◌then◌else◌, is_some, not, ◌&&◌, IfErr, IfOk, IfSome, IsErrOf}
-use Rattle.std.specs.Prelude.{string_bytes}
-use Rattle.std.specs.List.{list_any}
-use Rattle.std.specs.Io.KnownBytes.{Appends, Keeps}
+-- What the program answers: to an audit, and to its arguments.
+use Rattle.std.specs.Prelude.{◌≡◌, ◌⊎◌, ℕ, Bool, true, false, List, [], ◌∷◌, ◌++◌, None, Option, Some, codes}
+use Rattle.std.specs.Prelude.{if◌then◌else◌, is_some, IsTrue, map, not, ◌&&◌, string_bytes}
+use Rattle.std.specs.List.{list_all, list_any}
+use Rattle.clap.specs.declared.parser.matches.ArgMatches.{ArgMatches}
 use Rattle.robots_html.specs.Html.{document}
-use Rattle.robots_io.specs.Streams.{AppendsBeginning}
 use Rattle.robots_io.specs.Lines.{ended}
+use Rattle.robots_text.specs.Level.{reaches}
+use Rattle.robots_text.specs.Text.{ReportLine, written}
+use Rattle.robots_text.specs.declared.level.Level.{Level}
+use Rattle.robots_warnings.specs.Table.{level_of}
+use Rattle.robots_warnings.specs.WarningValue.{WarningValue}
+use Rattle.audit_core.specs.Answer.{IsText}
+use Rattle.audit_core.specs.Audit.{AuditValue, IsAuditOf, all_allowed, rejects_some, shown}
+use Rattle.audit_core.specs.Crawler.{is_crawler_name}
+use Rattle.audit_core.specs.Request.{RequestValue, requested_by}
+use Rattle.audit_core.specs.declared.answer.Answer.{Answer}
+use Rattle.audit_core.specs.declared.answer.Outcome.{Outcome}
+use Rattle.audit_core.specs.declared.fault.Fault.{Fault}
+use Rattle.audit_core.specs.declared.fault.Fault.TheVariants.{File, Memory}
 use Rattle.audit_core.specs.declared.request.Format.{Format}
 use Rattle.audit_core.specs.declared.request.Format.TheVariants.{Github, Html, Json, Sarif, Text}
 use Rattle.audit_core.specs.declared.request.Request.{Request}
-use Rattle.audit_core.specs.declared.fault.Fault.{Fault}
-use Rattle.audit_core.specs.declared.fault.Fault.TheVariants.{File, Memory, Words, Write}
-use Rattle.audit_core.specs.declared.fault.Outcome.{Outcome}
-use Rattle.audit_core.specs.Request.{RequestValue, requested_by}
-use Rattle.audit_core.specs.Audit.{AuditValue, IsAuditOf, all_allowed, rejects_some, shown}
-use Rattle.audit_core.specs.Fault.{MayFail, text_shown}
+use Rattle.audit_command.specs.Command.{IsOn, IsRequestOf, value_of}
+use Rattle.audit_compare.specs.Compare.{IsComparedAnswer}
+use Rattle.audit_expect.specs.Expectations.{IsCheckedAnswer}
+use Rattle.audit_expect.specs.UrlList.{HasUrlsIn}
 use Rattle.audit_formats.specs.Findings.{findings}
 use Rattle.audit_formats.specs.Github.{github_text}
 use Rattle.audit_formats.specs.Json.{json_text}
-use Rattle.audit_report.specs.Report.{listed_lines, report_lines, total_line}
-use Rattle.audit_page.specs.Page.{page}
 use Rattle.audit_formats.specs.Sarif.{sarif_text}
-use Rattle.robots_io.specs.Sanitize.{sanitized_lines}
-use Rattle.robots_text.specs.declared.level.Level.{Level}
-use Rattle.robots_text.specs.Level.{reaches}
-use Rattle.robots_warnings.specs.Table.{level_of}
-use Rattle.robots_warnings.specs.Warnings.{WarningValue}
-use Rattle.audit_core.specs.Run.{Ends}
+use Rattle.audit_page.specs.Page.{page}
+use Rattle.audit_report.specs.Explain.{explanation, list_text}
+use Rattle.audit_report.specs.Report.{listed_lines, report_lines, total_line}
 
 -- ---- the report and the warnings
 
@@ -42,8 +45,9 @@ shown_name None = codes "robots.txt"
 shown_name (Some name) = name
 
 -- the last line has the numbers of allowed and denied URLs, with `--urls` or `--denied`
-abbrev pub total_lines : RequestValue → AuditValue → List (List ℕ)
-total_lines requested audit = if requested.has_totals then total_line audit.agents ∷ [] else []
+abbrev pub total_lines : (has_totals : Bool) → AuditValue → List ReportLine
+total_lines true audit = total_line audit.agents ∷ []
+total_lines false audit = []
 
 -- a page has all URLs, since its tables have a row or a column for each
 abbrev pub has_all_urls : Format → Bool
@@ -64,7 +68,8 @@ reported requested audit = shown (leaves_out_allowed requested) audit
 -- the report in this format
 abbrev pub output_in : Format → RequestValue → AuditValue → List ℕ
 output_in Text requested audit =
-    ended (report_lines (has_rows requested) (reported requested audit) ++ total_lines requested audit)
+    written (report_lines (has_rows requested) (reported requested audit)
+    ++ total_lines requested.has_totals audit)
 output_in Json requested audit = json_text (has_rows requested) (reported requested audit)
 output_in Html requested audit = document (page requested (reported requested audit))
 output_in Github requested audit =
@@ -106,37 +111,71 @@ pub record IsOutcomeOf (requested : RequestValue) (audit : AuditValue) (outcome 
   pub warned : outcome.is_warned ≡ is_warned requested.strict audit.warnings
   pub warnings : string_bytes outcome.warnings ≡ message requested audit
 
--- ---- a run
+-- the answer to an audit of a file with these bytes
+pub record IsAudited (requested : RequestValue) (file : List ℕ) (answer : Answer) : Type 0 where
+  pub audit : AuditValue
+  pub of : IsAuditOf requested file audit
+  pub report : answer.report.items ≡ output requested audit
+  pub outcome : IsOutcomeOf requested audit answer.outcome
 
--- the file has an audit with this property
-abbrev pub HasAudit : RequestValue → List ℕ → (AuditValue → Type 0) → Type 0
-HasAudit requested file P = (audit : AuditValue) × IsAuditOf requested file audit × P audit
+-- ---- arguments
 
--- a run that read this file: either the report on its audit is written and the outcome is that of this audit;
--- or there is an error, and if that is a failed write, a prefix of the report is written
-pub record AuditsFile (request : Request) (ends : Ends) (result : Result Outcome Fault) (file : List ℕ)
-    : Type 0 where
-  pub ok : IfOk result (λ outcome. HasAudit (requested_by request) file (λ audit.
-      Appends ends.old ends.new (output (requested_by request) audit)
-      × IsOutcomeOf (requested_by request) audit outcome))
-  pub fault : IfErr result MayFail
-  pub beginning : IsErrOf result Write → HasAudit (requested_by request) file (λ audit.
-      AppendsBeginning ends.old ends.new (output (requested_by request) audit))
+-- The toolchain has no words for the content of a file or of standard input. So these say that there are some
+-- bytes, which were read, for which the answer is the right one.
 
--- `AuditsFile` holds for a file, which is what the reader has left if that can be observed; and after an
--- error other than a failed write nothing has been written
-pub record Audits (request : Request) (ends : Ends) (result : Result Outcome Fault) : Type 0 where
+-- the request has the URLs in a file as well, if the option `--urls` names one
+abbrev pub HasUrls : Option (List ℕ) → RequestValue → RequestValue → Type 0
+HasUrls None requested extended = extended ≡ requested
+HasUrls (Some name) requested extended = (text : List ℕ) × HasUrlsIn text requested extended
+
+-- the request that the arguments contain, with the URLs in a file
+pub record IsAsked (by_default : Bool) (matches : ArgMatches) (extended : RequestValue) : Type 0 where
+  pub request : Request
+  pub asked : IsRequestOf by_default matches request
+  pub urls : HasUrls (value_of matches (codes "urls")) (requested_by request) extended
+
+-- an audit of a file
+pub record AnswersAudit (by_default : Bool) (matches : ArgMatches) (answer : Answer) : Type 0 where
+  pub requested : RequestValue
+  pub asked : IsAsked by_default matches requested
   pub file : List ℕ
-  pub read : IfSome ends.left (λ left. file ≡ left)
-  pub reported : AuditsFile request ends result file
-  pub nothing_written : IfErr result (λ fault. fault ≢ Write → Keeps ends.old ends.new)
+  pub audited : IsAudited requested file answer
 
--- the error has the sanitized message of `clap`, or an allocation failed
-abbrev pub IsRejection : List ℕ → Fault → Type 0
-IsRejection message (Words text) = string_bytes text ≡ sanitized_lines message
-IsRejection message fault = fault ≡ Memory
+-- a check of the expectations in the file with this name
+pub record AnswersExpectations (name : List ℕ) (answer : Answer) : Type 0 where
+  pub text : List ℕ
+  pub file : List ℕ
+  pub checked : IsCheckedAnswer name text file answer
+
+-- a comparison of two files
+abbrev pub AnswersFiles : RequestValue → Answer → Type 0
+AnswersFiles requested answer = (older : List ℕ) × (newer : List ℕ)
+    × IsComparedAnswer requested.agents requested.urls older newer answer
+
+pub record AnswersComparison (matches : ArgMatches) (answer : Answer) : Type 0 where
+  pub requested : RequestValue
+  pub asked : IsAsked false matches requested
+  pub named : IsTrue (list_all is_crawler_name requested.agents)
+  pub compared : AnswersFiles requested answer
+
+-- what the options `--explain`, `--expect` and `--compare` request, in this order, or else an audit
+abbrev pub AnswersOptions : (explain expect compare : Option (List ℕ)) → (by_default : Bool) → ArgMatches
+    → Answer → Type 0
+AnswersOptions (Some name) expect compare by_default matches answer = IsText (explanation name) answer
+AnswersOptions None (Some name) compare by_default matches answer = AnswersExpectations name answer
+AnswersOptions None None (Some name) by_default matches answer = AnswersComparison matches answer
+AnswersOptions None None None by_default matches answer = AnswersAudit by_default matches answer
+
+-- the answer to these arguments; `by_default` is whether warnings have colors without `--color`
+abbrev pub Answers : (by_default : Bool) → ArgMatches → Answer → Type 0
+Answers by_default matches answer =
+    (IsOn matches (codes "list-warnings") true × IsText list_text answer)
+    ⊎ AnswersOptions (value_of matches (codes "explain")) (value_of matches (codes "expect"))
+    (value_of matches (codes "compare")) by_default matches answer
+
+-- ---- errors
 
 -- the error shows this name of the file that can't be read, or an allocation failed
 abbrev pub IsFileUnreadable : List ℕ → Fault → Type 0
-IsFileUnreadable name (File text) = string_bytes text ≡ text_shown name
+IsFileUnreadable name (File text) = string_bytes text ≡ name
 IsFileUnreadable name fault = fault ≡ Memory

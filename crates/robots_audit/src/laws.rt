@@ -1,26 +1,30 @@
 //! Theorems about what the program writes, each written as the contract of an empty function. Those about a
 //! single format, or about comparisons alone, are in the crates that write these.
-ghost use Rattle.std.specs.Prelude.{Bool, false, List, ℕ, ◌≡◌};
+ghost use Rattle.std.specs.Prelude.{Bool, false, List, map, ℕ, ◌≡◌};
 ghost use Rattle.std.specs.List.{AllByRecursion as Each};
 ghost use Rattle.robots_audit.specs.Answer.{output, message, without_colors};
 ghost use Rattle.audit_core.specs.Audit.{AgentValue, AuditValue};
 ghost use Rattle.audit_core.specs.Request.{RequestValue};
-ghost use Rattle.audit_core.specs.Color.{IsColored};
+ghost use Rattle.robots_text.specs.Color.{IsColored};
+ghost use Rattle.audit_core.specs.Fault.{fault_text};
+ghost use Rattle.audit_core.specs.declared.fault.Fault.{Fault};
 ghost use Rattle.audit_compare.specs.Compare.{ComparedValue, report_lines};
 ghost use Rattle.audit_expect.specs.Expectations.{CheckedValue, IsReport, result_lines};
 ghost use Rattle.audit_report.specs.Explain.{explanation, list_text};
-ghost use Rattle.audit_core.specs.PlainLine.{IsPlainLine};
+ghost use Rattle.robots_text.specs.PlainLine.{IsPlainLine};
+ghost use Rattle.robots_text.specs.Text.{line_text};
 ghost use Rattle.audit_report.specs.Report.{listed_lines, report_lines as audit_lines, total_line};
 ghost use Rattle.robots_io.specs.Sanitize.{has_command, IsPrintable};
-ghost use Rattle.robots_warnings.specs.Warnings.{WarningValue};
+ghost use Rattle.robots_warnings.specs.WarningValue.{WarningValue};
 
 /// Neither the output nor the message on standard error of an audit contains invalid UTF-8, a control character other
 /// than LF, a bidirectional control character or a line separator, whatever the bytes of the crawler's name, the URLs
-/// and the file, if the message has no colors.
+/// and the file, if the message has no colors. Nor does the message for any error.
 pub fn no_terminal_is_steered()
     ensures written { (requested : RequestValue) (audit : AuditValue) → IsPrintable (output requested audit) }
     ensures message { (requested : RequestValue) (audit : AuditValue) → requested.has_colors ≡ false
         → IsPrintable (message requested audit) }
+    ensures fault { (fault : Fault) → IsPrintable (fault_text fault) }
 {}
 
 /// With colors, the message on standard error is the one without colors, in which color codes are inserted: one that begins
@@ -41,9 +45,9 @@ pub fn no_other_report_steers_a_terminal()
 /// If an audit as text, or a comparison, runs in a workflow on GitHub, no line of its report is a command, whatever the
 /// names of crawlers, the URLs and the files are: none begins with `::`, even after spaces, and none contains `##[`.
 pub fn no_line_is_a_command()
-    ensures audit { (has_rows : Bool) (audit : AuditValue) → Each IsPlainLine (audit_lines has_rows audit) }
-    ensures totals { (agents : List AgentValue) → IsPlainLine (total_line agents) }
-    ensures comparison { (compared : List ComparedValue) → Each IsPlainLine (report_lines compared) }
+    ensures audit { (has_rows : Bool) (audit : AuditValue) → Each IsPlainLine (map line_text (audit_lines has_rows audit)) }
+    ensures totals { (agents : List AgentValue) → IsPlainLine (line_text (total_line agents)) }
+    ensures comparison { (compared : List ComparedValue) → Each IsPlainLine (map line_text (report_lines compared)) }
 {}
 
 /// Nor do a line of `--expect` and a line about a warning on standard error contain `##[`. They begin with the name of a

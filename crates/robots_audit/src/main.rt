@@ -19,40 +19,41 @@
 //! its level or a more serious one.
 #![tactic(auto)]
 
-ghost use Rattle.std.specs.Prelude.{◌≡◌, IfErr, codes, true};
+ghost use Rattle.std.specs.Prelude.{◌≡◌, ◌⊎◌, ◌×◌, IfOk, codes, string_bytes, true};
 ghost use Rattle.std.specs.Process.{exit_status};
-ghost use Rattle.robots_io.specs.Sanitize.{IsPrintable};
-ghost use Rattle.audit_core.specs.Color.{IsForTerminal, requested_colors};
+ghost use Rattle.clap.specs.declared.parser.matches.ArgMatches.{ArgMatches};
+ghost use Rattle.robots_text.specs.Color.{IsForTerminal};
+ghost use Rattle.audit_core.specs.Answer.{IsText};
+ghost use Rattle.audit_core.specs.Fault.{message_after, status_after};
+ghost use Rattle.audit_core.specs.Request.{requested_by};
 ghost use Rattle.audit_command.specs.Command.{value_of};
-ghost use Rattle.audit_core.specs.Fault.{fault_text, message_after, status_after};
+ghost use Rattle.robots_audit.specs.Answer.{Answers, AnswersAudit, AnswersComparison, AnswersExpectations, AnswersFiles};
 
 mod laws;
 mod program;
 
 use audit_command::command::{command, file_read, reads_stdin_twice, requested};
 use audit_compare::compare::compare;
+use audit_core::answer::{Answer, Outcome, text_answer, write_answer};
 use audit_core::color::colors_by_default;
 use audit_core::crawler::are_crawlers;
-use audit_core::fault::{Fault, Outcome, StderrMessage, status_after};
-use audit_core::print::print;
+use audit_core::fault::{Fault, fault_text, status_after};
 use audit_core::request::Request;
 use audit_expect::expectations::check;
 use audit_expect::url_list::{are_paths_or_urls, with_urls};
 use audit_report::explain::{explain, list_warnings};
 use clap::ArgMatches;
 use clap::error::ErrorKind as WordsKind;
-use program::{rejected, run, unread};
+use program::{audited, unread};
 use robots_io::streams::{ReadFault, read_all};
-use std::alloc::Global;
+use std::alloc::AllocError;
 use std::env;
 use std::fs::File;
 use std::io::ErrorKind;
 use std::process::ExitCode;
 
 /// The command line, including the program's name.
-fn words(rt: &HostRuntime) -> Result<Vec<String>, Fault>
-    ensures { IfErr result (λ fault. IsPrintable (fault_text fault)) }
-{
+fn words(rt: &HostRuntime) -> Result<Vec<String>, Fault> {
     match env::args(rt) {
         Ok(args) => Ok(args.collect(rt.alloc())?),
         Err(error) => match error.kind() {
@@ -62,67 +63,8 @@ fn words(rt: &HostRuntime) -> Result<Vec<String>, Fault>
     }
 }
 
-/// Handles what `clap` returns if the arguments request help or the version, or can't be parsed.
-fn reported(rt: &HostRuntime, error: clap::Error) -> Result<Outcome, Fault>
-    ensures { IsPrintable (message_after result) }
-{
-    let text = error.to_string(rt.alloc())?;
-    if error.use_stderr() {
-        Err(rejected(rt.alloc(), &text))
-    } else {
-        print(rt.alloc(), text.as_bytes(), &mut rt.stdout())
-    }
-}
-
-/// Audits the file with this name.
-fn audit_named(rt: &HostRuntime, request: &Request<'_>, name: &str) -> Result<Outcome, Fault>
-    ensures { IsForTerminal request.now.has_colors (message_after result) }
-{
-    let Ok(mut file) = File::open(rt, name) else {
-        return Err(unread(rt.alloc(), name));
-    };
-    let outcome = run(rt.alloc(), request, &mut file, &mut rt.stdout());
-    if let Err(Fault::Read) = &outcome {
-        return Err(unread(rt.alloc(), name));
-    }
-    outcome
-}
-
-/// Audits the file that the request names, or standard input.
-fn audit_requested(rt: &HostRuntime, request: &Request<'_>) -> Result<Outcome, Fault>
-    ensures { IsForTerminal request.now.has_colors (message_after result) }
-{
-    match request.file {
-        Some(name) => audit_named(rt, request, name),
-        None => run(rt.alloc(), request, &mut rt.stdin(), &mut rt.stdout()),
-    }
-}
-
-/// Audits that file, and checks the URLs in the file with this name too.
-fn audit_with_urls(rt: &HostRuntime, request: Request<'_>, name: &str) -> Result<Outcome, Fault>
-    ensures { IsForTerminal request.entry.has_colors (message_after result) }
-{
-    let text = read_named_or_stdin(rt, name)?;
-    let extended = with_urls(rt.alloc(), request, name, &text)?;
-    audit_requested(rt, &extended)
-}
-
-/// Audits the file that the parsed arguments name, or standard input; `has_colors` is as for `requested`.
-fn audited(rt: &HostRuntime, matches: &ArgMatches<'_>, has_colors: bool) -> Result<Outcome, Fault>
-    ensures { IsForTerminal (requested_colors (value_of matches.now (codes "color")) has_colors)
-        (message_after result) }
-{
-    let request = requested(rt.alloc(), matches, has_colors)?;
-    match matches.get_str("urls") {
-        Some(name) => audit_with_urls(rt, request, name),
-        None => audit_requested(rt, &request),
-    }
-}
-
 /// The bytes of the file with this name.
-fn read_named(rt: &HostRuntime, name: &str) -> Result<Vec<u8>, Fault>
-    ensures { IfErr result (λ fault. IsPrintable (fault_text fault)) }
-{
+fn read_named(rt: &HostRuntime, name: &str) -> Result<Vec<u8>, Fault> {
     let Ok(mut file) = File::open(rt, name) else {
         return Err(unread(rt.alloc(), name));
     };
@@ -133,143 +75,102 @@ fn read_named(rt: &HostRuntime, name: &str) -> Result<Vec<u8>, Fault>
     }
 }
 
-/// The bytes of the file with this name, or of standard input for `-`.
-fn read_named_or_stdin(rt: &HostRuntime, name: &str) -> Result<Vec<u8>, Fault>
-    ensures { IfErr result (λ fault. IsPrintable (fault_text fault)) }
-{
-    match file_read(Some(name)) {
+/// The bytes of the file with this name, or of standard input for `-` or without a name.
+fn read(rt: &HostRuntime, name: Option<&str>) -> Result<Vec<u8>, Fault> {
+    match file_read(name) {
         Some(name) => read_named(rt, name),
         None => Ok(read_all(rt.alloc(), &mut rt.stdin())?),
     }
 }
 
-/// Checks the expectations in a text, of the file `expected`, against the file with this name.
-fn check_named(rt: &HostRuntime, expected: &str, text: &[u8], name: &str) -> Result<Outcome, Fault>
-    ensures { IsPrintable (message_after result) }
+/// Audits the file that the arguments name, or standard input; `has_colors` is as for `requested`.
+fn audit(rt: &HostRuntime, matches: &ArgMatches<'_>, has_colors: bool) -> Result<Answer, Fault>
+    ensures { IfOk result (AnswersAudit has_colors matches.now) }
 {
-    let Ok(mut file) = File::open(rt, name) else {
-        return Err(unread(rt.alloc(), name));
+    let request = requested(rt.alloc(), matches, has_colors)?;
+    let Some(name) = matches.get_str("urls") else {
+        return audited(rt.alloc(), &request, &read(rt, request.file)?);
     };
-    let outcome = check(rt.alloc(), expected, text, &mut file, &mut rt.stdout());
-    if let Err(Fault::Read) = &outcome {
-        return Err(unread(rt.alloc(), name));
-    }
-    outcome
+    let text = read(rt, Some(name))?;
+    let extended = with_urls(rt.alloc(), request, name, &text)?;
+    audited(rt.alloc(), &extended, &read(rt, extended.file)?)
 }
 
-/// Checks the expectations in the file `expected` against the file that the parsed arguments name, or standard input.
-fn checked(rt: &HostRuntime, matches: &ArgMatches<'_>, expected: &str) -> Result<Outcome, Fault>
-    ensures { IsPrintable (message_after result) }
+/// Checks the expectations in the file `expected` against the file that the arguments name, or standard input.
+fn checked(rt: &HostRuntime, matches: &ArgMatches<'_>, expected: &str) -> Result<Answer, Fault>
+    ensures { IfOk result (AnswersExpectations expected.now) }
 {
     if reads_stdin_twice(matches) {
         return Err(Fault::StdinTwice);
     }
-    let text = read_named_or_stdin(rt, expected)?;
-    match file_read(matches.get_str("file")) {
-        Some(name) => check_named(rt, expected, &text, name),
-        None => check(
-            rt.alloc(),
-            expected,
-            &text,
-            &mut rt.stdin(),
-            &mut rt.stdout(),
-        ),
-    }
-}
-
-/// Compares an older file with the file with this name.
-fn compare_named(
-    rt: &HostRuntime,
-    request: &Request<'_>,
-    older: &[u8],
-    name: &str,
-) -> Result<Outcome, Fault>
-    ensures { IsPrintable (message_after result) }
-{
-    let Ok(mut file) = File::open(rt, name) else {
-        return Err(unread(rt.alloc(), name));
-    };
-    let (agents, urls) = (&request.agents, &request.urls);
-    let outcome = compare(rt.alloc(), agents, urls, older, &mut file, &mut rt.stdout());
-    if let Err(Fault::Read) = &outcome {
-        return Err(unread(rt.alloc(), name));
-    }
-    outcome
+    let text = read(rt, Some(expected))?;
+    let file = read(rt, matches.get_str("file"))?;
+    check(rt.alloc(), expected, &text, &file)
 }
 
 /// Compares the file `older` with the file that the request names, or standard input.
-fn compare_requested(rt: &HostRuntime, request: &Request<'_>, older: &str) -> Result<Outcome, Fault>
-    ensures { IsPrintable (message_after result) }
+fn compare_files(rt: &HostRuntime, request: &Request<'_>, older: &str) -> Result<Answer, Fault>
+    ensures { IfOk result (AnswersFiles (requested_by request.now)) }
 {
     are_paths_or_urls(rt.alloc(), &request.urls)?;
-    let text = read_named_or_stdin(rt, older)?;
-    match request.file {
-        Some(name) => compare_named(rt, request, &text, name),
-        None => compare(
-            rt.alloc(),
-            &request.agents,
-            &request.urls,
-            &text,
-            &mut rt.stdin(),
-            &mut rt.stdout(),
-        ),
-    }
+    let older = read(rt, Some(older))?;
+    let newer = read(rt, request.file)?;
+    compare(rt.alloc(), &request.agents, &request.urls, &older, &newer)
 }
 
-/// The same as `compare_requested`, with the URLs in the file `name` after those of the request.
-fn compare_with_urls(
-    rt: &HostRuntime,
-    request: Request<'_>,
-    older: &str,
-    name: &str,
-) -> Result<Outcome, Fault>
-    ensures { IsPrintable (message_after result) }
-{
-    let text = read_named_or_stdin(rt, name)?;
-    let extended = with_urls(rt.alloc(), request, name, &text)?;
-    compare_requested(rt, &extended, older)
-}
-
-/// Compares the file `older` with the file that the parsed arguments name, or standard input.
-fn compared_with(rt: &HostRuntime, matches: &ArgMatches<'_>, older: &str) -> Result<Outcome, Fault>
-    ensures { IsPrintable (message_after result) }
+/// Compares the file `older` with the file that the arguments name, or standard input.
+fn compared(rt: &HostRuntime, matches: &ArgMatches<'_>, older: &str) -> Result<Answer, Fault>
+    ensures { IfOk result (AnswersComparison matches.now) }
 {
     let request = requested(rt.alloc(), matches, false)?;
     are_crawlers(rt.alloc(), &request.agents)?;
-    match matches.get_str("urls") {
-        Some(name) => compare_with_urls(rt, request, older, name),
-        None => compare_requested(rt, &request, older),
-    }
+    let Some(name) = matches.get_str("urls") else {
+        return compare_files(rt, &request, older);
+    };
+    let text = read(rt, Some(name))?;
+    let extended = with_urls(rt.alloc(), request, name, &text)?;
+    compare_files(rt, &extended, older)
 }
 
-/// Does what the parsed arguments request; `has_colors` is as for `requested`.
-fn done(rt: &HostRuntime, matches: &ArgMatches<'_>, has_colors: bool) -> Result<Outcome, Fault>
-    ensures { IsForTerminal (requested_colors (value_of matches.now (codes "color")) has_colors)
-        (message_after result) }
+/// The answer to the parsed arguments; `has_colors` is as for `requested`.
+fn answered(rt: &HostRuntime, matches: &ArgMatches<'_>, has_colors: bool) -> Result<Answer, Fault>
+    ensures { IfOk result (Answers has_colors matches.now) }
 {
     if matches.get_flag("list-warnings") {
-        return list_warnings(rt.alloc(), &mut rt.stdout());
+        return list_warnings(rt.alloc());
     }
     if let Some(name) = matches.get_str("explain") {
-        return explain(rt.alloc(), name, &mut rt.stdout());
+        return explain(rt.alloc(), name);
     }
     if let Some(expected) = matches.get_str("expect") {
         return checked(rt, matches, expected);
     }
     match matches.get_str("compare") {
-        Some(older) => compared_with(rt, matches, older),
-        None => audited(rt, matches, has_colors),
+        Some(older) => compared(rt, matches, older),
+        None => audit(rt, matches, has_colors),
     }
 }
 
-/// Parses the arguments and does what they request. The message for standard error is printable apart from color codes,
-/// whatever the arguments, the file and its name are.
-fn outcome(rt: &HostRuntime) -> Result<Outcome, Fault>
-    ensures { IsForTerminal true (message_after result) }
+/// The answer if the arguments request help or the version; else the error for arguments that `clap` rejects.
+fn reported(rt: &HostRuntime, error: clap::Error) -> Result<Answer, Fault>
+    ensures { IfOk result (λ answer. IsForTerminal true (string_bytes answer.outcome.warnings)) }
+{
+    let text = error.to_string(rt.alloc())?;
+    if error.use_stderr() {
+        Err(Fault::Words(text))
+    } else {
+        Ok(text_answer(rt.alloc(), text.into_bytes()))
+    }
+}
+
+/// The answer to the command line. Its warnings are printable apart from color codes, whatever the arguments, the files
+/// and their names are.
+fn answer(rt: &HostRuntime) -> Result<Answer, Fault>
+    ensures { IfOk result (λ answer. IsForTerminal true (string_bytes answer.outcome.warnings)) }
 {
     let words = words(rt)?;
     match command(rt.alloc())?.try_get_matches_from(&words) {
-        Ok(matches) => done(rt, &matches, colors_by_default(rt)),
+        Ok(matches) => answered(rt, &matches, colors_by_default(rt)),
         Err(error) => match error.kind() {
             WordsKind::OutOfMemory => Err(Fault::Memory),
             _ => reported(rt, error),
@@ -277,14 +178,21 @@ fn outcome(rt: &HostRuntime) -> Result<Outcome, Fault>
     }
 }
 
-/// Prints the message after a run, and returns the exit status.
+/// Prints the warnings of a run or the message for its error, and returns the exit status.
 fn ended(rt: &HostRuntime, outcome: &Result<Outcome, Fault>) -> ExitCode
     ensures { exit_status result ≡ status_after outcome.now }
 {
-    let _ = rt.eprint(StderrMessage { outcome });
+    let _ = match outcome {
+        Ok(outcome) => rt.eprint(&outcome.warnings),
+        Err(fault) => match fault_text(rt.alloc(), fault) {
+            Ok(text) => rt.eprint(&text),
+            Err(AllocError) => rt.eprint("robots_audit: out of memory\n"),
+        },
+    };
     ExitCode::from(status_after(outcome))
 }
 
 fn main(rt: HostRuntime) -> ExitCode {
-    ended(&rt, &outcome(&rt))
+    let outcome = write_answer(answer(&rt), &mut rt.stdout());
+    ended(&rt, &outcome)
 }

@@ -1,13 +1,12 @@
-//! The audit of a file and the report on it, for any reader and writer, without the command line.
-ghost use Rattle.std.specs.Prelude.{◌≡◌, IfOk, Some, map, option_map, string_bytes};
-ghost use Rattle.robots_audit.specs.Answer.{Audits, IsRejection, IsFileUnreadable, has_all_urls, has_rows};
+//! The audit of a file and the report on it, without the command line, input and output.
+ghost use Rattle.std.specs.Prelude.{◌≡◌, IfErr, IfOk, Some, map, option_map, string_bytes};
+ghost use Rattle.robots_audit.specs.Answer.{IsAudited, IsFileUnreadable, has_all_urls, has_rows};
 ghost use Rattle.robots_audit.specs.Answer.{is_warned, leaves_out_allowed, output, message, shown_name};
 ghost use Rattle.audit_core.specs.Request.{requested_by};
-ghost use Rattle.audit_core.specs.Internal.{audit_value};
-ghost use Rattle.robots_warnings.specs.Internal.{warning_value};
 
+use audit_core::answer::{Answer, Outcome};
 use audit_core::audit::{Audit, all_allowed, audit_of, rejects_some};
-use audit_core::fault::{Fault, Outcome, text_shown};
+use audit_core::fault::Fault;
 use audit_core::request::{Format, Request};
 use audit_formats::github::github_text;
 use audit_formats::json::json_text;
@@ -15,17 +14,14 @@ use audit_formats::sarif::sarif_text;
 use audit_page::page::page_text;
 use audit_report::denied::{shown, totals_of};
 use audit_report::report::{listed_lines, push_totals, report_text};
-use robots_io::sanitize::push_sanitized_lines;
-use robots_io::streams::{read_all, write_out};
 use robots_text::level::Level;
 use robots_warnings::warning::Warning;
 use std::alloc::{AllocError, Global};
-use std::io::{Read, Write};
 
 /// Whether a warning is at this level, or at a more serious one.
 #[tactic(auto, using(crate::proofs::AnswerLemmas::warned_next))]
 fn has_level(least: Level, warnings: &[Warning<'_>]) -> bool
-    ensures { result ≡ is_warned (Some least) (map warning_value warnings.now) }
+    ensures { result ≡ is_warned (Some least) warnings.now }
 {
     for warning in warnings {
         if warning.cause.level().reaches(least) {
@@ -37,7 +33,7 @@ fn has_level(least: Level, warnings: &[Warning<'_>]) -> bool
 
 /// Whether a warning is at the level of `--strict`, or at a more serious one.
 fn is_warned(strict: Option<Level>, warnings: &[Warning<'_>]) -> bool
-    ensures { result ≡ is_warned strict (map warning_value warnings.now) }
+    ensures { result ≡ is_warned strict warnings.now }
 {
     match strict {
         Some(least) => has_level(least, warnings),
@@ -78,7 +74,7 @@ fn leaves_out_allowed(request: &Request<'_>) -> bool
 
 /// The report on an audit, in the requested format.
 fn output(alloc: Global, request: &Request<'_>, audit: Audit<'_, '_>) -> Result<Vec<u8>, AllocError>
-    ensures { IfOk result (λ report. report.items ≡ output (requested_by request.now) (audit_value audit.entry)) }
+    ensures { IfOk result (λ report. report.items ≡ output (requested_by request.now) audit.entry) }
 {
     let has_rows = shows_rows(request);
     let totals = totals_of(&audit.agents);
@@ -106,7 +102,7 @@ fn message(
     request: &Request<'_>,
     audit: &Audit<'_, '_>,
 ) -> Result<String, AllocError>
-    ensures { IfOk result (λ text. string_bytes text ≡ message (requested_by request.now) (audit_value audit.now)) }
+    ensures { IfOk result (λ text. string_bytes text ≡ message (requested_by request.now) audit.now) }
 {
     match request.format {
         Format::Text => listed_lines(
@@ -119,59 +115,32 @@ fn message(
     }
 }
 
-/// Reads a file to its end, audits it, and then writes the report.
-///
-/// The contract applies to a reader and a writer whose bytes the specification can observe; it claims nothing about the
-/// bytes of standard input and output.
+/// Audits a file for the crawlers and URLs of the request, and writes the report in the requested format. A file that
+/// is rejected for a crawler isn't an error: the outcome says so.
 ///
 /// # Errors
 ///
-/// `Fault::Read` if a read failed or too many would be needed, `Fault::Write` if a write or a flush failed or a write
-/// accepted no bytes, and `Fault::Memory` if an allocation failed or a URL is too long for `url`. The contract doesn't
-/// state when they occur. A file that is rejected for a crawler isn't an error: the outcome says so.
-pub fn run<R: Read, W: Write>(
-    alloc: Global,
-    request: &Request<'_>,
-    reader: &mut R,
-    writer: &mut W,
-) -> Result<Outcome, Fault>
-    ensures { Audits request.now (record {
-      left = R.remaining reader.old;
-      old = W.contents writer.old;
-      new = W.contents writer.new;
-    }) result }
+/// `Fault::Memory` if an allocation fails or a URL is too long for `url`.
+pub fn audited(alloc: Global, request: &Request<'_>, file: &[u8]) -> Result<Answer, Fault>
+    ensures ok { IfOk result (IsAudited (requested_by request.now) file.now) }
+    ensures fault { IfErr result (λ fault. fault ≡ Fault.Memory) }
 {
-    let input = read_all(alloc, reader)?;
-    let audit = audit_of(alloc, request, input.as_slice())?;
-    let warnings = message(alloc, request, &audit)?;
+    let audit = audit_of(alloc, request, file)?;
     let outcome = Outcome {
         is_rejected: rejects_some(&audit.agents),
         has_passed: all_allowed(&audit.agents),
         is_warned: is_warned(request.strict, &audit.warnings),
-        warnings,
+        warnings: message(alloc, request, &audit)?,
     };
     let report = output(alloc, request, audit)?;
-    write_out(writer, &report)?;
-    Ok(outcome)
-}
-
-/// The error for arguments that `clap` rejects with this message. The message is sanitized, as it may repeat an
-/// argument.
-pub fn rejected(alloc: Global, text: &str) -> Fault
-    ensures { IsRejection text.now result }
-{
-    let mut sanitized = String::new(alloc);
-    match push_sanitized_lines(&mut sanitized, text.as_bytes()) {
-        Ok(()) => Fault::Words(sanitized),
-        Err(AllocError) => Fault::Memory,
-    }
+    Ok(Answer { report, outcome })
 }
 
 /// The error for a file with this name that can't be opened or read.
 pub fn unread(alloc: Global, name: &str) -> Fault
     ensures { IsFileUnreadable name.now result }
 {
-    match text_shown(alloc, name) {
+    match String::from_str(alloc, name) {
         Ok(text) => Fault::File(text),
         Err(AllocError) => Fault::Memory,
     }

@@ -1,4 +1,4 @@
-use Rattle.robots_audit.proofs.ColorLemmas.{message_colored}
+use Rattle.robots_audit.proofs.MessageLemmas.{message_colored}
 use Rattle.robots_audit.proofs.laws.colors_add_only_their_codes.Goals as goal
 
 pub returns : goal.returns

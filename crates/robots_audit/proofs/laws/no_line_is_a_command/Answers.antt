@@ -1,6 +1,11 @@
-use Rattle.audit_compare.proofs.ComparePrintableLemmas.{comparison_plain}
-use Rattle.audit_report.proofs.PrintableLemmas.{report_plain, total_plain}
+use Rattle.robots_text.proofs.PartLemmas.{line_plain, lines_plain}
+use Rattle.audit_compare.specs.Compare.{report_lines}
+use Rattle.audit_report.specs.Report.{report_lines as audit_lines, total_line}
 use Rattle.robots_audit.proofs.laws.no_line_is_a_command.Goals as goal
 
 pub returns : goal.returns
-returns c = record { audit = report_plain; totals = total_plain; comparison = comparison_plain }
+returns c = record {
+  audit = λ has_rows audit. lines_plain (audit_lines has_rows audit);
+  totals = λ agents. line_plain (total_line agents);
+  comparison = λ compared. lines_plain (report_lines compared);
+}

@@ -1,6 +1,7 @@
-use Rattle.robots_audit.proofs.ColorLemmas.{message_printable}
+use Rattle.audit_core.proofs.FaultLemmas.{fault_printable}
+use Rattle.robots_audit.proofs.MessageLemmas.{message_printable}
 use Rattle.robots_audit.proofs.OutputLemmas.{output_printable}
 use Rattle.robots_audit.proofs.laws.no_terminal_is_steered.Goals as goal
 
 pub returns : goal.returns
-returns c = record { written = output_printable; message = message_printable }
+returns c = record { written = output_printable; message = message_printable; fault = fault_printable }
