@@ -14,7 +14,8 @@ use Rattle.robots_needless.specs.Deleted.{AreFoundIn}
 use Rattle.robots_needless.specs.declared.needless.NeedlessRule.{NeedlessRule}
 use Rattle.robots_warnings.specs.Facts.{facts_of, is_too_large}
 use Rattle.robots_warnings.specs.File.{labels_for}
-use Rattle.robots_warnings.specs.Warnings.{WarningValue, warnings}
+use Rattle.robots_warnings.specs.Warnings.{warnings}
+use Rattle.robots_warnings.specs.WarningValue.{WarningValue}
 use Rattle.audit_core.specs.Asked.{asked_target}
 use Rattle.audit_core.specs.Chosen.{chosen}
 use Rattle.audit_core.specs.Needless.{needless_warning}

@@ -7,7 +7,7 @@ use Rattle.robots_warnings.specs.declared.table.Cause.{Cause}
 use Rattle.robots_warnings.specs.declared.table.Cause.TheVariants as causes
 use Rattle.robots_warnings.specs.declared.warning.Detail.{Detail}
 use Rattle.robots_warnings.specs.declared.warning.Detail.TheVariants.{Line}
-use Rattle.robots_warnings.specs.Warnings.{WarningValue}
+use Rattle.robots_warnings.specs.WarningValue.{WarningValue}
 
 -- which warning a rule has that is needless for this reason
 abbrev pub cause_of : Reason → Cause

@@ -9,9 +9,8 @@ ghost use Rattle.audit_core.specs.Audit.{rejects_some};
 ghost use Rattle.audit_core.specs.Chosen.{chosen};
 ghost use Rattle.audit_core.specs.Needless.{needless_warning};
 ghost use Rattle.robots_warnings.specs.File.{lines_of, labels_for};
-ghost use Rattle.robots_warnings.specs.Internal.{warning_value};
 ghost use Rattle.robots_warnings.specs.Warnings.{warnings};
-ghost use Rattle.audit_core.specs.Internal.{IsReading, agent_value, audit_value, verdict_value};
+ghost use Rattle.audit_core.specs.Internal.{IsReading};
 
 use crate::agents::agents_requested;
 use crate::asked::decision_on;
@@ -27,6 +26,7 @@ use robots_warnings::file::{counted, labels_for};
 use robots_warnings::warning::Warning;
 use robots_warnings::warnings::warnings;
 use std::alloc::{AllocError, Global};
+use std::marker::Model;
 use texting_robots::labels::{LabeledLine, first_overlong_line};
 use texting_robots::robot::Decision;
 use texting_robots::{Error, Robot, Site};
@@ -36,6 +36,16 @@ use texting_robots::{Error, Robot, Site};
 pub struct Verdict<'a> {
     pub url: &'a str,
     pub decision: Decision,
+}
+
+impl<'a> Model for Verdict<'a> {
+    ghost use Rattle.audit_core.specs.Audit.{VerdictValue};
+
+    ghost Value = { VerdictValue };
+
+    ghost use Rattle.audit_core.specs.Internal.Views.{verdict_of};
+
+    ghost view = { verdict_of };
 }
 
 /// What a file means for one crawler.
@@ -51,6 +61,16 @@ pub struct AgentAudit<'a> {
     pub verdicts: Vec<Verdict<'a>>,
 }
 
+impl<'a> Model for AgentAudit<'a> {
+    ghost use Rattle.audit_core.specs.Audit.{AgentValue};
+
+    ghost Value = { AgentValue };
+
+    ghost use Rattle.audit_core.specs.Internal.Views.{agent_of};
+
+    ghost view = { agent_of };
+}
+
 /// The audit of a file.
 #[derive(Drop)]
 pub struct Audit<'a, 'b> {
@@ -58,6 +78,16 @@ pub struct Audit<'a, 'b> {
     pub agents: Vec<AgentAudit<'a>>,
     pub warnings: Vec<Warning<'a>>,
     pub syntax: Syntax,
+}
+
+impl<'a, 'b> Model for Audit<'a, 'b> {
+    ghost use Rattle.audit_core.specs.Audit.{AuditValue};
+
+    ghost Value = { AuditValue };
+
+    ghost use Rattle.audit_core.specs.Internal.Views.{audit_of};
+
+    ghost view = { audit_of };
 }
 
 /// A crawler's robot, or the line of the crawler's first overlong rule.
@@ -90,7 +120,7 @@ fn verdicts_on<'a>(
     urls: &[&'a str],
 ) -> Result<Vec<Verdict<'a>>, Fault>
     ensures ok { IfOk result (λ verdicts. AllZip (IsVerdictOn robot.now.rules) (map (λ url. url.now) urls.now)
-        (map verdict_value verdicts.items)) }
+        verdicts.items) }
     ensures fault { IfErr result (λ fault. fault ≡ Fault.Memory) }
 {
     let mut verdicts = Vec::with_capacity(alloc, urls.len())?;
@@ -113,7 +143,7 @@ pub fn agent_audit<'a>(
     requires agents { has_agents ≡ list_any is_agent (lines_read file.now) }
     requires site { site.now ≡ take file_limit file.now }
     ensures ok { IfOk result (λ audit. IsAgentAudit (map (λ url. url.now) urls.now) (lines_read file.now)
-        agent.now (agent_value audit)) }
+        agent.now audit) }
     ensures fault { IfErr result (λ fault. fault ≡ Fault.Memory) }
 {
     let group = group_of(agent, site, has_agents);
@@ -151,7 +181,7 @@ fn agent_audits<'a>(
     requires agents { has_agents ≡ list_any is_agent (lines_read file.now) }
     requires site { site.now ≡ take file_limit file.now }
     ensures ok { IfOk result (λ audits. AllZip (IsAgentAudit (map (λ url. url.now) urls.now) (lines_read file.now))
-        (map string_bytes agents.now) (map agent_value audits.items)) }
+        (map string_bytes agents.now) audits.items) }
     ensures fault { IfErr result (λ fault. fault ≡ Fault.Memory) }
 {
     let mut audits = Vec::with_capacity(alloc, agents.len())?;
@@ -193,7 +223,7 @@ fn warnings_of<'a>(
     site: &Site,
     needless: &[NeedlessRule],
 ) -> Result<Vec<Warning<'a>>, AllocError>
-    ensures { IfOk result (λ found. map warning_value found.items
+    ensures { IfOk result (λ found. found.items
         ≡ warnings (is_none (requested_by request.now).agent) (requested_by request.now).agents
         (map string_bytes agents.now) (requested_by request.now).urls file.now facts (map label_by_value labels.now)
         (file_lines site.now) ++ map needless_warning needless.now) }
@@ -213,8 +243,8 @@ fn warnings_chosen<'a>(
     request: &Request<'a>,
     all: &[Warning<'a>],
 ) -> Result<Vec<Warning<'a>>, AllocError>
-    ensures { IfOk result (λ found. map warning_value found.items
-        ≡ chosen (requested_by request.now).only (requested_by request.now).ignored (map warning_value all.now)) }
+    ensures { IfOk result (λ found. found.items
+        ≡ chosen (requested_by request.now).only (requested_by request.now).ignored all.now) }
 {
     chosen(alloc, &request.only, &request.ignored, all)
 }
@@ -225,7 +255,7 @@ pub fn audit_of<'a, 'b>(
     request: &Request<'a>,
     file: &'b [u8],
 ) -> Result<Audit<'a, 'b>, Fault>
-    ensures ok { IfOk result (λ audit. IsAuditOf (requested_by request.now) file.now (audit_value audit)) }
+    ensures ok { IfOk result (λ audit. IsAuditOf (requested_by request.now) file.now audit) }
     ensures fault { IfErr result (λ fault. fault ≡ Fault.Memory) }
 {
     let labels = labels_for(alloc, labeling_agent(request.agent), file)?;
@@ -252,7 +282,7 @@ pub fn audit_of<'a, 'b>(
 /// Whether all of these verdicts are "allowed".
 #[tactic(auto, using(crate::proofs::AuditLemmas::allows_next))]
 fn allows_all(verdicts: &[Verdict<'_>]) -> bool
-    ensures { result ≡ allows_all (map verdict_value verdicts.now) }
+    ensures { result ≡ allows_all verdicts.now }
 {
     for verdict in verdicts {
         if !verdict.decision.allowed {
@@ -265,7 +295,7 @@ fn allows_all(verdicts: &[Verdict<'_>]) -> bool
 /// Whether each of these crawlers may fetch all of its URLs.
 #[tactic(auto, using(crate::proofs::AuditLemmas::allowed_next))]
 pub fn all_allowed(agents: &[AgentAudit<'_>]) -> bool
-    ensures { result ≡ all_allowed (map agent_value agents.now) }
+    ensures { result ≡ all_allowed agents.now }
 {
     for agent in agents {
         if !allows_all(&agent.verdicts) {
@@ -278,7 +308,7 @@ pub fn all_allowed(agents: &[AgentAudit<'_>]) -> bool
 /// Whether the file is rejected for at least one of these crawlers.
 #[tactic(auto, using(crate::proofs::AuditLemmas::rejects_next))]
 pub fn rejects_some(agents: &[AgentAudit<'_>]) -> bool
-    ensures { result ≡ rejects_some (map agent_value agents.now) }
+    ensures { result ≡ rejects_some agents.now }
 {
     for agent in agents {
         if agent.rejected.is_some() {

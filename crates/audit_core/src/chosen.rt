@@ -1,7 +1,6 @@
 //! Which warnings are reported, chosen by name.
 ghost use Rattle.std.specs.Prelude.{◌≡◌, IfOk, map};
 ghost use Rattle.audit_core.specs.Chosen.{chosen, is_among_names, is_chosen};
-ghost use Rattle.robots_warnings.specs.Internal.{warning_value};
 
 use robots_warnings::warning::Warning;
 use std::alloc::{AllocError, Global};
@@ -34,14 +33,14 @@ pub(crate) fn chosen<'a>(
     ignored: &[&str],
     warnings: &[Warning<'a>],
 ) -> Result<Vec<Warning<'a>>, AllocError>
-    ensures { IfOk result (λ found. map warning_value found.items
+    ensures { IfOk result (λ found. found.items
         ≡ chosen (map (λ name. name.now) only.now) (map (λ name. name.now) ignored.now)
-        (map warning_value warnings.now)) }
+        warnings.now) }
 {
     let mut found = Vec::new(alloc);
     for warning in warnings {
         if is_chosen(only, ignored, warning.cause.name()) {
-            found.push(*warning)?;
+            found.push(warning.copy())?;
         }
     }
     Ok(found)

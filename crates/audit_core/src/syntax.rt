@@ -1,6 +1,5 @@
 //! What the warnings tell about the syntax of a file.
 ghost use Rattle.std.specs.Prelude.{◌≡◌, map, option_map};
-ghost use Rattle.robots_warnings.specs.Internal.{warning_value};
 ghost use Rattle.audit_core.specs.Syntax.{are_none, has_syntax_warning, is_about_syntax, is_standard, is_unstated, sentence, syntax_of};
 
 use robots_warnings::table::Cause;
@@ -52,7 +51,7 @@ fn is_about_syntax(cause: Cause) -> bool
 /// Whether one of the warnings is about syntax.
 #[tactic(auto, using(crate::proofs::AuditLemmas::syntax_next))]
 fn has_syntax_warning(warnings: &[Warning<'_>]) -> bool
-    ensures { result ≡ has_syntax_warning (map warning_value warnings.now) }
+    ensures { result ≡ has_syntax_warning warnings.now }
 {
     for warning in warnings {
         if is_about_syntax(warning.cause) {
@@ -70,14 +69,14 @@ fn is_unstated(
     warnings: &[Warning<'_>],
 ) -> bool
     ensures { result ≡ is_unstated (option_map (λ agent. agent.now) agent.entry) is_too_large is_rejected
-        (map warning_value warnings.now) }
+        warnings.now }
 {
     agent.is_some() || is_too_large || is_rejected || has_syntax_warning(warnings)
 }
 
 /// Whether there are no warnings.
 fn are_none(warnings: &[Warning<'_>]) -> bool
-    ensures { result ≡ are_none (map warning_value warnings.now) }
+    ensures { result ≡ are_none warnings.now }
 {
     warnings.is_empty()
 }
@@ -91,7 +90,7 @@ pub(crate) fn syntax_of(
     warnings: &[Warning<'_>],
 ) -> Syntax
     ensures { result ≡ syntax_of (option_map (λ agent. agent.now) agent.entry) is_too_large is_rejected
-        (map warning_value warnings.now) }
+        warnings.now }
 {
     if is_unstated(agent, is_too_large, is_rejected, warnings) {
         Syntax::Unstated

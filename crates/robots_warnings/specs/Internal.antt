@@ -7,6 +7,7 @@ pub mod Repeated
 pub mod Replaced
 pub mod Spellings
 pub mod Values
+pub mod Warned
 use Rattle.std.specs.Prelude.{◌≡◌, ℕ, ◌||◌, ◌++◌, List, Some, map, option_map, slice_get}
 use Rattle.std.specs.Borrow.{Bor}
 use Rattle.texting_robots.specs.Callers.{LineValue}
@@ -14,22 +15,12 @@ use Rattle.texting_robots.specs.Group.{is_agent}
 use Rattle.robots_warnings.specs.declared.facts.LineKinds.{LineKinds}
 use Rattle.robots_text.specs.declared.level.Level.{Level}
 use Rattle.robots_warnings.specs.declared.table.Cause.{Cause}
-use Rattle.robots_warnings.specs.declared.warning.Warning.{Warning}
 use Rattle.robots_warnings.specs.Facts.{has_text, is_extra, is_rule}
-use Rattle.robots_warnings.specs.Warnings.{WarningValue}
-
-abbrev pub warning_value : Warning → WarningValue
-warning_value warning =
-    record {
-      line = warning.line;
-      cause = warning.cause;
-      about = option_map (λ url. url.now) warning.about;
-      detail = warning.detail;
-    }
+use Rattle.robots_warnings.specs.WarningValue.{WarningValue}
 
 -- these warnings are appended
-abbrev pub Adds : List Warning → List Warning → List WarningValue → Type 0
-Adds old found more = map warning_value found ≡ map warning_value old ++ more
+abbrev pub Adds : (old found more : List WarningValue) → Type 0
+Adds old found more = found ≡ old ++ more
 
 -- the kinds so far, and that of one more line
 abbrev pub kinds_with : LineKinds → LineValue → LineKinds

@@ -17,6 +17,7 @@ pub mod NamesPastLimit
 pub mod Spellings
 pub mod Repeated
 pub mod Replaced
+pub mod WarningValue
 pub mod Warnings
 pub mod Message
 pub mod Internal

@@ -15,7 +15,7 @@ use Rattle.robots_warnings.specs.declared.table.Cause.TheVariants.{VersionInAgen
 use Rattle.robots_warnings.specs.declared.warning.Detail.{Detail}
 use Rattle.robots_warnings.specs.declared.warning.Detail.TheVariants.{Line, Rules}
 use Rattle.robots_warnings.specs.Table.{all_names, all_texts, name_of, number_of, text_of}
-use Rattle.robots_warnings.specs.Warnings.{WarningValue}
+use Rattle.robots_warnings.specs.WarningValue.{WarningValue}
 
 -- ---- fixed texts
 

@@ -28,14 +28,7 @@ use Rattle.robots_warnings.specs.Positions.{first_delay, last_group, preceding_w
 use Rattle.robots_warnings.specs.Repeated.{repeated}
 use Rattle.robots_warnings.specs.Replaced.{replacing, star_count}
 use Rattle.robots_warnings.specs.Spellings.{nonstandard_escapes}
-
--- a warning: the number of its line, if it is about one; the reason; the URL or the crawler's name, if its
--- message begins with one; and the number that its message ends with, if it does
-pub record WarningValue : Type 0 where
-  pub line : Option ℕ
-  pub cause : Cause
-  pub about : Option (List ℕ)
-  pub detail : Option Detail
+use Rattle.robots_warnings.specs.WarningValue.{WarningValue}
 
 -- ---- warnings from checks
 

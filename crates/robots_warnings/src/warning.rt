@@ -2,13 +2,13 @@
 ghost use Rattle.std.specs.Prelude.{◌≡◌, ◌++◌, OnOk, option_map, string_bytes};
 ghost use Rattle.robots_text.specs.Raw.{raw_line, raw_text};
 ghost use Rattle.robots_text.specs.Text.{part_text, parts_text};
-ghost use Rattle.robots_warnings.specs.Internal.{warning_value};
 ghost use Rattle.robots_warnings.specs.Message.{about_label, about_part, detail_end, detail_part, is_about_crawler};
 ghost use Rattle.robots_warnings.specs.Message.{message_parts, reason_part, reported_parts, warning_text};
 
 use crate::table::Cause;
 use robots_text::parts::{Part, Value, push_parts};
 use std::alloc::AllocError;
+use std::marker::Model;
 
 /// A number at the end of a message.
 #[derive(Clone, Copy)]
@@ -20,7 +20,7 @@ pub enum Detail {
 }
 
 /// A warning.
-#[derive(Clone, Copy)]
+#[derive(Drop)]
 pub struct Warning<'a> {
     /// The number of the line that the warning is about, if it is about one.
     pub line: Option<usize>,
@@ -29,6 +29,30 @@ pub struct Warning<'a> {
     pub about: Option<&'a str>,
     /// The number that the message ends with, if it does.
     pub detail: Option<Detail>,
+}
+
+impl<'a> Model for Warning<'a> {
+    ghost use Rattle.robots_warnings.specs.WarningValue.{WarningValue};
+
+    ghost Value = { WarningValue };
+
+    ghost use Rattle.robots_warnings.specs.Internal.Warned.{warning_value};
+
+    ghost view = { warning_value };
+}
+
+impl<'a> Warning<'a> {
+    /// The same warning again; a struct that has a model and a lifetime can't be `Copy`.
+    pub fn copy(&self) -> Warning<'a>
+        ensures { result ≡ self.now }
+    {
+        Warning {
+            line: self.line,
+            cause: self.cause,
+            about: self.about,
+            detail: self.detail,
+        }
+    }
 }
 
 /// What comes before the URL or the crawler's name.
@@ -89,7 +113,7 @@ fn detail_end(detail: Option<Detail>) -> Part<'static>
 
 /// The message of a warning, with the URL or the crawler's name that it begins with, and the number that it ends with.
 fn message_parts<'a>(warning: &Warning<'a>) -> [Part<'a>; 4]
-    ensures { raw_line result ≡ parts_text (message_parts (warning_value warning.now)) }
+    ensures { raw_line result ≡ parts_text (message_parts warning.now) }
 {
     [
         about_part(warning.cause, warning.about),
@@ -102,14 +126,14 @@ fn message_parts<'a>(warning: &Warning<'a>) -> [Part<'a>; 4]
 /// Appends the message of a warning.
 pub fn push_warning_text(text: &mut String, warning: &Warning<'_>) -> Result<(), AllocError>
     ensures { OnOk result (string_bytes text.new ≡ string_bytes text.old
-        ++ warning_text (warning_value warning.now)) }
+        ++ warning_text warning.now) }
 {
     push_parts(text, &message_parts(warning))
 }
 
 /// The message of a warning, followed by its name in brackets.
 fn reported_parts<'a>(warning: &Warning<'a>) -> [Part<'a>; 6]
-    ensures { raw_line result ≡ parts_text (reported_parts (warning_value warning.now)) }
+    ensures { raw_line result ≡ parts_text (reported_parts warning.now) }
 {
     [
         about_part(warning.cause, warning.about),
@@ -124,7 +148,7 @@ fn reported_parts<'a>(warning: &Warning<'a>) -> [Part<'a>; 6]
 /// Appends the message and the name of a warning.
 pub fn push_reported(text: &mut String, warning: &Warning<'_>) -> Result<(), AllocError>
     ensures { OnOk result (string_bytes text.new ≡ string_bytes text.old
-        ++ parts_text (reported_parts (warning_value warning.now))) }
+        ++ parts_text (reported_parts warning.now)) }
 {
     push_parts(text, &reported_parts(warning))
 }

@@ -7,7 +7,7 @@ ghost use Rattle.texting_robots.specs.Callers.{bodies_read, by_value, file_lines
 ghost use Rattle.robots_warnings.specs.Checks.{directive_checks, is_directive, raw_checks, rule_checks, value_checks};
 ghost use Rattle.robots_warnings.specs.Contents.{comment_of, tail_of};
 ghost use Rattle.robots_warnings.specs.EmptyDisallows.{is_empty_at};
-ghost use Rattle.robots_warnings.specs.Internal.{Adds, warning_value};
+ghost use Rattle.robots_warnings.specs.Internal.{Adds};
 ghost use Rattle.robots_warnings.specs.Warnings.{agent_warnings, crawler_shown, crawler_warnings, file_lines_warnings, general_warnings};
 ghost use Rattle.robots_warnings.specs.Warnings.{google_warnings, googlebot_warnings, group_warnings, line_warnings, lines_warnings};
 ghost use Rattle.robots_warnings.specs.Warnings.{past_limit_warnings, position_warnings, rule_warnings, star_warnings, url_warnings, warned, warned_at, warned_beside, warnings};
@@ -516,7 +516,7 @@ pub fn warnings<'a>(
     labels: &[LabeledLine<'_>],
     site: &Site,
 ) -> Result<Vec<Warning<'a>>, AllocError>
-    ensures { IfOk result (λ found. map warning_value found.items
+    ensures { IfOk result (λ found. found.items
         ≡ warnings everywhere (map (λ name. name.now) named.now) (map string_bytes agents.now)
         (map (λ url. url.now) urls.now) file.now facts (map label_by_value labels.now) (file_lines site.now)) }
 {

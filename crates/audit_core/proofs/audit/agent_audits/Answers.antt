@@ -1,7 +1,6 @@
 use Rattle.std.proofs.Common.{map, string_bytes}
 use Rattle.texting_robots.specs.Callers.{lines_read}
 use Rattle.audit_core.specs.Audit.{IsAgentAudit}
-use Rattle.audit_core.specs.Internal.{agent_value}
 use Rattle.audit_core.proofs.AuditLemmas.{zip_next}
 use Rattle.audit_core.proofs.audit.agent_audits.Goals as goal
 
@@ -9,6 +8,6 @@ pub loop-agent-preserved : goal.loop-agent-preserved
 loop-agent-preserved c =
     rw c.in_ok-push.ensures.items
     (zip_next (IsAgentAudit (map (λ url. url.now) c.args.urls.now) (lines_read c.args.file.now)) string_bytes
-    agent_value c.args.agents.now c.loop-agent.agent-index c.agent-item.result c.loop-agent.audits.items _
+    c.args.agents.now c.loop-agent.agent-index c.agent-item.result c.loop-agent.audits.items _
     c.loop-agent-test.true c.loop-agent.invariant
     (rw (c.deref.ensures, c.agent-item.is) at c.in_ok-agent_audit.ensures.ok))

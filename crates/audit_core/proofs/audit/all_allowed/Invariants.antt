@@ -1,8 +1,7 @@
 use Rattle.std.proofs.Common.{◌≡◌, drop, map}
 use Rattle.audit_core.specs.Audit.{all_allowed}
-use Rattle.audit_core.specs.Internal.{agent_value}
 use Rattle.audit_core.proofs.audit.all_allowed.Given as goal
 
 abbrev pub invariant-loop-agent : goal.invariant-loop-agent
 invariant-loop-agent l =
-    all_allowed (map agent_value (drop l.agent-index l.agents)) ≡ all_allowed (map agent_value l.agents)
+    all_allowed (drop l.agent-index l.agents) ≡ all_allowed l.agents

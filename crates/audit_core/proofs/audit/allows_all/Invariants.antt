@@ -1,9 +1,8 @@
 use Rattle.std.proofs.Common.{◌≡◌, drop, map}
 use Rattle.audit_core.specs.Audit.{allows_all}
-use Rattle.audit_core.specs.Internal.{verdict_value}
 use Rattle.audit_core.proofs.audit.allows_all.Given as goal
 
 abbrev pub invariant-loop-verdict : goal.invariant-loop-verdict
 invariant-loop-verdict l =
-    allows_all (map verdict_value (drop l.verdict-index l.verdicts))
-    ≡ allows_all (map verdict_value l.verdicts)
+    allows_all (drop l.verdict-index l.verdicts)
+    ≡ allows_all l.verdicts

@@ -1,6 +1,5 @@
 use Rattle.std.proofs.Common.{◌≡◌, ◌++◌, drop, map}
 use Rattle.audit_core.specs.Chosen.{chosen}
-use Rattle.robots_warnings.specs.Internal.{warning_value}
 use Rattle.audit_core.proofs.chosen.chosen.Given as goal
 
 -- the warnings chosen so far, and those to choose among the remaining ones, are all the chosen warnings
@@ -8,6 +7,6 @@ abbrev pub invariant-loop-warning : goal.invariant-loop-warning
 invariant-loop-warning l =
     let only = map (λ name. name.now) l.only in
     let ignored = map (λ name. name.now) l.ignored in
-    map warning_value l.found.items
-    ++ chosen only ignored (map warning_value (drop l.warning-index l.warnings))
-    ≡ chosen only ignored (map warning_value l.warnings)
+    l.found.items
+    ++ chosen only ignored (drop l.warning-index l.warnings)
+    ≡ chosen only ignored l.warnings

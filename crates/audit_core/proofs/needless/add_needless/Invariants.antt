@@ -1,9 +1,8 @@
 use Rattle.std.proofs.Common.{◌≡◌, ◌++◌, map, take}
-use Rattle.robots_warnings.specs.Internal.{warning_value}
 use Rattle.audit_core.specs.Needless.{needless_warning}
 use Rattle.audit_core.proofs.needless.add_needless.Given as goal
 
 abbrev pub invariant-loop-rule : goal.invariant-loop-rule
 invariant-loop-rule l =
-    map warning_value l.found.items
-    ≡ map warning_value l.fn.found.items ++ map needless_warning (take l.rule-index l.rules)
+    l.found.items
+    ≡ l.fn.found.items ++ map needless_warning (take l.rule-index l.rules)

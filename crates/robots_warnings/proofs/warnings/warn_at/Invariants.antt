@@ -1,9 +1,8 @@
 use Rattle.std.proofs.Common.{◌≡◌, ◌++◌, map, take}
-use Rattle.robots_warnings.specs.Internal.{warning_value}
 use Rattle.robots_warnings.specs.Warnings.{warned_at}
 use Rattle.robots_warnings.proofs.warnings.warn_at.Given as goal
 
 abbrev pub invariant-loop-number : goal.invariant-loop-number
 invariant-loop-number l =
-    map warning_value l.found.items
-    ≡ map warning_value l.fn.found.items ++ warned_at l.cause l.detail (take l.number-index l.numbers)
+    l.found.items
+    ≡ l.fn.found.items ++ warned_at l.cause l.detail (take l.number-index l.numbers)

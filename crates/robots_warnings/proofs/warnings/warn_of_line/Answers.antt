@@ -1,7 +1,6 @@
 use Rattle.std.proofs.Common.{◌++◌, Some, ap, append-nil, map, rules, sym, ◌∙◌}
 use Rattle.texting_robots.specs.Callers.{by_value}
 use Rattle.robots_warnings.specs.Checks.{is_in_scope_of}
-use Rattle.robots_warnings.specs.Internal.{warning_value}
 use Rattle.robots_warnings.proofs.PlainLineLemmas.{plain_line_has_no_warning}
 use Rattle.robots_warnings.proofs.warnings.warn_of_line.Goals as goal
 
@@ -11,5 +10,5 @@ returns-then-is_plain_line c =
     let is_in_scope = is_in_scope_of c.args.everywhere labeled.membership in
     let none = plain_line_has_no_warning (Some labeled.number) is_in_scope (by_value labeled.line)
     c.args.body.now (search rules) in
-    let found = map warning_value c.args.found.now.items in
+    let found = c.args.found.now.items in
     sym (ap (λ more. found ++ more) none ∙ append-nil found)

@@ -1,13 +1,12 @@
 use Rattle.std.proofs.Common.{◌≡◌, ◌++◌, map}
 use Rattle.texting_robots.specs.Callers.{bodies_read, label_by_value}
-use Rattle.robots_warnings.specs.Internal.{warning_value}
 use Rattle.robots_warnings.specs.Warnings.{lines_warnings}
 use Rattle.robots_warnings.proofs.warnings.warn_of_lines.Given as goal
 
 -- those found and those of the remaining lines are all warnings
 abbrev pub invariant-loop-body : goal.invariant-loop-body
 invariant-loop-body l =
-    map warning_value l.found.items
+    l.found.items
     ++ lines_warnings l.everywhere l.body-iterator (map label_by_value l.rest)
-    ≡ map warning_value l.fn.found.items
+    ≡ l.fn.found.items
     ++ lines_warnings l.everywhere (bodies_read l.file) (map label_by_value l.labels)

@@ -1,16 +1,15 @@
 use Rattle.std.proofs.Common.{◌≡◌, ◌++◌, length, map, option_map}
 use Rattle.texting_robots.specs.Callers.{label_by_value}
-use Rattle.robots_warnings.specs.Internal.{warning_value}
 use Rattle.robots_warnings.specs.Warnings.{position_warnings, positions_from}
 use Rattle.robots_warnings.proofs.warnings.warn_of_positions.Given as goal
 
 -- those found and those of the remaining lines are all warnings
 abbrev pub invariant-loop-rest : goal.invariant-loop-rest
 invariant-loop-rest l =
-    map warning_value l.found.items
+    l.found.items
     ++ positions_from l.last l.preceding (option_map (λ name. name.now) l.above) l.delay
     (map label_by_value l.rest)
-    ≡ map warning_value l.fn.found.items ++ position_warnings (map label_by_value l.labels)
+    ≡ l.fn.found.items ++ position_warnings (map label_by_value l.labels)
 
 abbrev pub decreases-loop-rest : goal.decreases-loop-rest
 decreases-loop-rest l = length l.rest

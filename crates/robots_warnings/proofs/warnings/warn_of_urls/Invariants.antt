@@ -1,10 +1,9 @@
 use Rattle.std.proofs.Common.{◌≡◌, ◌++◌, flat_map, map, take}
-use Rattle.robots_warnings.specs.Internal.{warning_value}
 use Rattle.robots_warnings.specs.Warnings.{url_warnings}
 use Rattle.robots_warnings.proofs.warnings.warn_of_urls.Given as goal
 
 abbrev pub invariant-loop-url : goal.invariant-loop-url
 invariant-loop-url l =
-    map warning_value l.found.items
-    ≡ map warning_value l.fn.found.items
+    l.found.items
+    ≡ l.fn.found.items
     ++ flat_map url_warnings (map (λ url. url.now) (take l.url-index l.urls))

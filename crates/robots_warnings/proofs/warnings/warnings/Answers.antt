@@ -1,5 +1,4 @@
 use Rattle.std.proofs.Common.{◌≡◌, List, [], ◌++◌, ap, append_assoc, map}
-use Rattle.robots_warnings.specs.Internal.{warning_value}
 use Rattle.robots_warnings.proofs.warnings.warnings.Goals as goal
 
 -- five lists appended one after the other
@@ -10,7 +9,7 @@ added none a b c d e one two three four five x y z u v w = rw (w, v, u, z, y, x)
 
 pub returns : goal.returns
 returns c =
-    added _ _ _ _ _ _ _ _ _ _ _ (ap (map warning_value) c.new-found.ensures.items)
+    added _ _ _ _ _ _ _ _ _ _ _ c.new-found.ensures.items
     c.in_ok-warn_in_general.ensures
     c.in_ok-warn_of_file_lines.ensures
     c.in_ok-warn_of_positions.ensures c.in_ok-warn_past_limit.ensures

@@ -1,0 +1,27 @@
+-- The fields of an audit and its parts as values.
+use Rattle.std.specs.Prelude.{map, string_bytes}
+use Rattle.texting_robots.specs.Callers.{label_by_value}
+use Rattle.audit_core.specs.Audit.{AgentValue, AuditValue, VerdictValue}
+use Rattle.audit_core.specs.declared.audit.AgentAudit.TheInside.{Inside as InsideAgent}
+use Rattle.audit_core.specs.declared.audit.Audit.TheInside.{Inside as InsideAudit}
+use Rattle.audit_core.specs.declared.audit.Verdict.TheInside.{Inside as InsideVerdict}
+
+abbrev pub verdict_of : InsideVerdict → VerdictValue
+verdict_of verdict = record { url = verdict.url.now; decision = verdict.decision }
+
+abbrev pub agent_of : InsideAgent → AgentValue
+agent_of audit = record {
+  agent = string_bytes audit.agent;
+  group = audit.group;
+  delay = audit.delay;
+  rejected = audit.rejected;
+  verdicts = audit.verdicts.items;
+}
+
+abbrev pub audit_of : InsideAudit → AuditValue
+audit_of audit = record {
+  labels = map label_by_value audit.labels.items;
+  agents = audit.agents.items;
+  warnings = audit.warnings.items;
+  syntax = audit.syntax;
+}
