@@ -1,12 +1,11 @@
 -- Which URLs a report lists, and how many are allowed and denied.
-use Rattle.std.proofs.Common.{◌≡◌, ◌∙◌, ℕ, suc, ◌+◌, ◌<◌, Bool, true, false, List, [], ◌∷◌, ◌++◌, ap, ap₂}
-use Rattle.std.proofs.Common.{arith, cond, count_by, drop, filter, if◌then◌else◌, length, map, not, refl}
+use Rattle.std.proofs.Common.{◌≡◌, ◌∙◌, ℕ, ◌+◌, ◌<◌, Bool, true, false, List, [], ◌∷◌, ◌++◌, ap, ap₂}
+use Rattle.std.proofs.Common.{arith, cond, count_by, drop, filter, length, map, refl}
 use Rattle.std.proofs.Common.{slice_index_or, slice_set, sym, take}
 use Rattle.std.proofs.lemmas.List.{drop-set-lt, drop_more, length-drop, length-map, map-append, take_more}
 use Rattle.std.proofs.lemmas.List.{take_more_set, Sums.length-filter, Sums.sum_by-cons}
 use Rattle.audit_core.specs.declared.audit.AgentAudit.{AgentAudit}
-use Rattle.audit_core.specs.declared.audit.Verdict.{Verdict}
-use Rattle.audit_core.specs.Audit.{AgentValue, VerdictValue, is_allowed, is_denied, total, with_denied}
+use Rattle.audit_core.specs.Audit.{AgentValue, VerdictValue, total, with_denied}
 use Rattle.audit_core.specs.Internal.{agent_value, verdict_value}
 
 -- a test of values may be made before or after the items are turned into values

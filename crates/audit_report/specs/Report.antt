@@ -4,7 +4,7 @@ use Rattle.std.specs.Prelude.{flat_map, if◌then◌else◌, map}
 use Rattle.std.proofs.Common.{refl}
 use Rattle.robots_text.specs.Level.{level_word}
 use Rattle.robots_text.specs.PlainLine.{starts}
-use Rattle.robots_text.specs.Text.{Absent, Count, Fixed, Label, LevelLine, NamedLine, Number, Only, Part}
+use Rattle.robots_text.specs.Text.{Absent, Count, Fixed, Label, LevelLine, NamedLine, Number, Part}
 use Rattle.robots_text.specs.Text.{PartValue, ReportLine, Untrusted, Value, Word, is_fixed, label, level_text}
 use Rattle.robots_text.specs.Text.{line_from, named_text, only, word}
 use Rattle.robots_text.specs.declared.level.Level.{Level}

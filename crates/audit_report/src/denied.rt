@@ -44,7 +44,10 @@ pub fn shown<'a, 'b>(denied_only: bool, audit: Audit<'a, 'b>) -> Audit<'a, 'b>
 fn count_allowed(verdicts: &[Verdict<'_>]) -> usize
     ensures { result ≡ count_by is_allowed (map verdict_value verdicts.now) }
 {
-    verdicts.iter().filter(|verdict| verdict.decision.allowed).count()
+    verdicts
+        .iter()
+        .filter(|verdict| verdict.decision.allowed)
+        .count()
 }
 
 /// How many deny.
@@ -52,7 +55,10 @@ fn count_allowed(verdicts: &[Verdict<'_>]) -> usize
 fn count_denied(verdicts: &[Verdict<'_>]) -> usize
     ensures { result ≡ count_by is_denied (map verdict_value verdicts.now) }
 {
-    verdicts.iter().filter(|verdict| !verdict.decision.allowed).count()
+    verdicts
+        .iter()
+        .filter(|verdict| !verdict.decision.allowed)
+        .count()
 }
 
 /// How many verdicts allow and deny, for all of these crawlers.

@@ -149,7 +149,10 @@ fn front_of<'a>(has_colors: bool, file: &'a str, warning: &Warning<'_>) -> [Part
     [
         Part("", Value::Untrusted(file.as_bytes())),
         place_part(warning.line),
-        Part(": ", Value::Word(shown_word(has_colors, warning.cause.level()))),
+        Part(
+            ": ",
+            Value::Word(shown_word(has_colors, warning.cause.level())),
+        ),
         Part(": ", Value::Nothing),
     ]
 }
