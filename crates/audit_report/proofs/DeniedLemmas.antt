@@ -61,13 +61,3 @@ denied_next agents old at item agent within same done is =
           ∙ map-append with_denied front (agent_value (slice_index_or old at item) ∷ [])),
       drop-set-lt (at + 1) agents at agent (omega arith) ∙ later,
     )
-
--- how many verdicts of the crawlers from index `at` on pass a test, in terms of the crawler there
-pub total_next : (test : VerdictValue → Bool) (agents : List AgentAudit) (at : ℕ) (agent : AgentAudit)
-    → at < length agents → total test (map agent_value (drop at agents))
-    ≡ count_by test (map verdict_value (slice_index_or agents at agent).verdicts.items)
-    + total test (map agent_value (drop (at + 1) agents))
-total_next test agents at agent below =
-    ap (λ rest. total test (map agent_value rest)) (drop_more agents at agent below)
-    ∙ sum_by-cons (λ (agent : AgentValue). count_by test agent.verdicts)
-    (agent_value (slice_index_or agents at agent)) (map agent_value (drop (at + 1) agents))

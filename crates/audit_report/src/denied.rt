@@ -62,7 +62,6 @@ fn count_denied(verdicts: &[Verdict<'_>]) -> usize
 }
 
 /// How many verdicts allow and deny, for all of these crawlers.
-#[tactic(auto, using(crate::proofs::DeniedLemmas::total_next))]
 pub fn totals_of(agents: &[AgentAudit<'_>]) -> Totals
     ensures allowed { result.allowed ≡ total is_allowed (map agent_value agents.now) }
     ensures denied { result.denied ≡ total is_denied (map agent_value agents.now) }
