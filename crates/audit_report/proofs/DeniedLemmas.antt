@@ -1,12 +1,11 @@
 -- Which URLs a report lists, and how many are allowed and denied.
-use Rattle.std.proofs.Common.{◌≡◌, ◌∙◌, ℕ, suc, ◌+◌, ◌<◌, Bool, true, false, List, [], ◌∷◌, ◌++◌, ap, ap₂}
-use Rattle.std.proofs.Common.{arith, cond, count_by, drop, filter, if◌then◌else◌, length, map, not, refl}
+use Rattle.std.proofs.Common.{◌≡◌, ◌∙◌, ℕ, ◌+◌, ◌<◌, Bool, true, false, List, [], ◌∷◌, ◌++◌, ap, ap₂}
+use Rattle.std.proofs.Common.{arith, cond, count_by, drop, filter, length, map, refl}
 use Rattle.std.proofs.Common.{slice_index_or, slice_set, sym, take}
-use Rattle.std.proofs.lemmas.List.{drop-set-lt, drop_more, length-drop, length-map, take_more, take_more_set}
-use Rattle.std.proofs.lemmas.List.Sums.{sum_by-cons}
+use Rattle.std.proofs.lemmas.List.{drop-set-lt, drop_more, length-drop, length-map, map-append, take_more}
+use Rattle.std.proofs.lemmas.List.{take_more_set, Sums.length-filter, Sums.sum_by-cons}
 use Rattle.audit_core.specs.declared.audit.AgentAudit.{AgentAudit}
-use Rattle.audit_core.specs.declared.audit.Verdict.{Verdict}
-use Rattle.audit_core.specs.Audit.{AgentValue, VerdictValue, is_allowed, is_denied, total, with_denied}
+use Rattle.audit_core.specs.Audit.{AgentValue, VerdictValue, total, with_denied}
 use Rattle.audit_core.specs.Internal.{agent_value, verdict_value}
 
 -- a test of values may be made before or after the items are turned into values
@@ -21,9 +20,12 @@ map_filter f test (x ∷ xs) = by (test (f x)) (map_filter f test xs)
     by true later = ap (λ ys. f x ∷ ys) later
     by false later = later
 
-map_push : {X Y : Type 0} (f : X → Y) (xs : List X) (x : X) → map f (xs ++ x ∷ []) ≡ map f xs ++ f x ∷ []
-map_push f [] x = refl
-map_push f (y ∷ ys) x = ap (λ rest. f y ∷ rest) (map_push f ys x)
+-- the same for the number of items that pass the test
+pub count_map : {X Y : Type 0} (f : X → Y) (test : Y → Bool) (xs : List X)
+    → count_by (λ x. test (f x)) xs ≡ count_by test (map f xs)
+count_map f test xs =
+    sym (length-filter (λ x. test (f x)) xs) ∙ sym (length-map (filter (λ x. test (f x)) xs) f)
+    ∙ ap length (map_filter f test xs) ∙ length-filter test (map f xs)
 
 -- the crawlers from index `at` on, and those after the one there, where two lists are the same from it on
 same_there : (agents old : List AgentAudit) (at : ℕ) (item : AgentAudit) → at < length old
@@ -52,52 +54,10 @@ denied_next agents old at item agent within same done is =
     let value : agent_value agent ≡ with_denied (agent_value (slice_index_or old at item)) =
     is ∙ ap (λ agent. with_denied (agent_value agent)) there in
     let front = map agent_value (take at old) in (
-      ap (map agent_value) (take_more_set agents at agent below) ∙ map_push agent_value (take at agents) agent
+      ap (map agent_value) (take_more_set agents at agent below) ∙ map-append agent_value (take at agents) (agent ∷ [])
           ∙ ap₂ (λ (values : List AgentValue) last. values ++ last ∷ []) done value
           ∙ sym (ap (λ agents. map with_denied (map agent_value agents)) (take_more old at item within)
-          ∙ ap (map with_denied) (map_push agent_value (take at old) (slice_index_or old at item))
-          ∙ map_push with_denied front (agent_value (slice_index_or old at item))),
+          ∙ ap (map with_denied) (map-append agent_value (take at old) (slice_index_or old at item ∷ []))
+          ∙ map-append with_denied front (agent_value (slice_index_or old at item) ∷ [])),
       drop-set-lt (at + 1) agents at agent (omega arith) ∙ later,
     )
-
--- how many verdicts allow from index `at` on, in terms of the verdict there
-pub count_next : (verdicts : List Verdict) (at : ℕ) (verdict : Verdict) → at < length verdicts
-    → count_by is_allowed (map verdict_value (drop at verdicts))
-    ≡ (if (slice_index_or verdicts at verdict).decision.allowed then 1 else 0)
-    + count_by is_allowed (map verdict_value (drop (at + 1) verdicts))
-count_next verdicts at verdict below =
-    ap (λ rest. count_by is_allowed (map verdict_value rest)) (drop_more verdicts at verdict below)
-    ∙ sum_by-cons (λ (verdict : VerdictValue). cond (is_allowed verdict) 1 0)
-    (verdict_value (slice_index_or verdicts at verdict)) (map verdict_value (drop (at + 1) verdicts))
-
-parts : (verdicts : List VerdictValue)
-    → count_by is_allowed verdicts + count_by is_denied verdicts ≡ length verdicts
-parts [] = refl
-parts (verdict ∷ verdicts) =
-    ap₂ (λ m n. m + n)
-    (sum_by-cons (λ (verdict : VerdictValue). cond (is_allowed verdict) 1 0) verdict verdicts)
-    (sum_by-cons (λ (verdict : VerdictValue). cond (is_denied verdict) 1 0) verdict verdicts)
-    ∙ by verdict.decision.allowed (count_by is_allowed verdicts) (count_by is_denied verdicts)
-    (length verdicts)
-    (parts verdicts)
-  where
-    by : (b : Bool) (allowed denied all : ℕ) → allowed + denied ≡ all
-        → (cond b 1 0 + allowed) + (cond (not b) 1 0 + denied) ≡ suc all
-    by true allowed denied all is = omega (arith, is)
-    by false allowed denied all is = omega (arith, is)
-
--- each verdict allows or denies
-pub count_parts : (verdicts : List Verdict)
-    → count_by is_allowed (map verdict_value verdicts) + count_by is_denied (map verdict_value verdicts)
-    ≡ length verdicts
-count_parts verdicts = parts (map verdict_value verdicts) ∙ length-map verdicts verdict_value
-
--- how many verdicts of the crawlers from index `at` on pass a test, in terms of the crawler there
-pub total_next : (test : VerdictValue → Bool) (agents : List AgentAudit) (at : ℕ) (agent : AgentAudit)
-    → at < length agents → total test (map agent_value (drop at agents))
-    ≡ count_by test (map verdict_value (slice_index_or agents at agent).verdicts.items)
-    + total test (map agent_value (drop (at + 1) agents))
-total_next test agents at agent below =
-    ap (λ rest. total test (map agent_value rest)) (drop_more agents at agent below)
-    ∙ sum_by-cons (λ (agent : AgentValue). count_by test agent.verdicts)
-    (agent_value (slice_index_or agents at agent)) (map agent_value (drop (at + 1) agents))

@@ -1,5 +1,4 @@
 pub mod DeniedLemmas
-pub mod ExplainPrintableLemmas
+pub mod ExplainLemmas
 pub mod ListedLemmas
-pub mod PrintableLemmas
-pub mod QuietLemmas
+pub mod ReportLemmas

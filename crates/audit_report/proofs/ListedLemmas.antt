@@ -13,9 +13,9 @@ use Rattle.std.proofs.lemmas.List.{drop_more, length-map, length-take-le, map-ap
 use Rattle.std.proofs.lemmas.List.Sums.{count_by-le-length, sum_by_push}
 use Rattle.std.proofs.lemmas.Map.Text.{btree_map_updates_str}
 use Rattle.std.proofs.lemmas.Slice.Eq.{bytes_eq-Decides}
-use Rattle.audit_report.specs.Internal.Listed.{AreCounts, more_value, no_numbers, number_at, numbers_of}
+use Rattle.audit_report.specs.Internal.Listed.{AreCounts, counted, no_numbers, number_at, numbers_of}
 use Rattle.audit_report.specs.Internal.Listed.{with_number}
-use Rattle.audit_report.specs.Listed.{MoreValue, count_like, count_of, is_one_of, is_same_level, more_of}
+use Rattle.audit_report.specs.Listed.{count_like, count_of, is_one_of, is_same_level, more_of}
 use Rattle.audit_report.specs.Listed.{most}
 use Rattle.audit_report.specs.Listed.{placed}
 use Rattle.audit_report.specs.declared.listed.More.{More}
@@ -107,7 +107,7 @@ counted_next counts new key numbers warnings at warning below is are more_at upd
 -- loop step: one more warning is appended if its place passes the test
 pub placed_next : (test : ℕ → Bool) (warnings : List Found) (at : ℕ) (warning : Found) (place : ℕ)
     (found new all : List WarningValue) → at < length warnings
-    → place ≡ count_like (warning_value (slice_index_or warnings at warning))
+    → place ≡ count_like (slice_index_or warnings at warning).cause
     (map warning_value (take at warnings))
     → new ≡ found ++ (if test place then warning_value (slice_index_or warnings at warning) ∷ [] else [])
     → found ++ placed test (map warning_value (take at warnings)) (map warning_value (drop at warnings)) ≡ all
@@ -125,24 +125,13 @@ placed_next test warnings at warning place found new all below is added so_far =
 
 -- loop step: one more name and level, and how many warnings with both aren't listed
 pub more_next : (warnings : List WarningValue) (unlisted : List Found) (at : ℕ) (warning : Found)
-    (found : List More) (one : More) (counts : BTreeMap (Bor (List ℕ)) Numbers) → AreCounts counts warnings
-    → at < length unlisted → one.name.now ≡ name_of (slice_index_or unlisted at warning).cause
-    → one.level ≡ level_of (slice_index_or unlisted at warning).cause
-    → one.number ≡ number_at (numbers_of counts one.name.now) one.level - most
-    → map more_value found ≡ map (more_of warnings) (map warning_value (take at unlisted))
-    → map more_value (found ++ one ∷ [])
+    (found : List More) (number : ℕ) (counts : BTreeMap (Bor (List ℕ)) Numbers) → AreCounts counts warnings
+    → at < length unlisted → number ≡ counted counts (slice_index_or unlisted at warning).cause - most
+    → found ≡ map (more_of warnings) (map warning_value (take at unlisted))
+    → found ++ record { cause = (slice_index_or unlisted at warning).cause; number = number } ∷ []
     ≡ map (more_of warnings) (map warning_value (take (at + 1) unlisted))
-more_next warnings unlisted at warning found one counts are below is level number so_far =
-    let item = warning_value (slice_index_or unlisted at warning) in
-    let counted : one.number ≡ count_like item warnings - most =
-    number ∙ ap (λ n. n - most) (are.each one.name.now one.level
-    ∙ ap₂ (λ (name : List ℕ) level. count_of name level warnings) is level) in
-    let same : more_value one ≡ more_of warnings item =
-    ap₂ (λ name level. record { name = name; level = level; number = one.number }) is level
-    ∙ ap (λ number. record {
-      name = name_of item.cause;
-      level = level_of item.cause;
-      number = number;
-    }) counted in
-    rw (take_more unlisted at warning below, map-append, map-append, map-append)
-    (ap₂ (λ (front : List MoreValue) last. front ++ last ∷ []) so_far same)
+more_next warnings unlisted at warning found number counts are below is so_far =
+    let cause = (slice_index_or unlisted at warning).cause in
+    rw (take_more unlisted at warning below, map-append, map-append)
+    (ap₂ (λ (front : List More) number. front ++ record { cause = cause; number = number } ∷ []) so_far
+    (is ∙ ap (λ n. n - most) (are.each (name_of cause) (level_of cause))))

@@ -2,8 +2,10 @@
 use Rattle.std.specs.Prelude.{ℕ, ◌-◌, ◌==◌, ◌&&◌, Bool, true, false, List, [], ◌∷◌, ◌++◌, bytes_eq, count_by}
 use Rattle.std.specs.Prelude.{if◌then◌else◌, map}
 use Rattle.std.specs.Bool.{nat_lt}
+use Rattle.audit_report.specs.declared.listed.More.{More}
 use Rattle.robots_text.specs.declared.level.Level.{Level}
 use Rattle.robots_text.specs.declared.level.Level.TheVariants.{Error, Note, Warning}
+use Rattle.robots_warnings.specs.declared.table.Cause.{Cause}
 use Rattle.robots_warnings.specs.Table.{level_of, name_of}
 use Rattle.robots_warnings.specs.Warnings.{WarningValue}
 
@@ -27,15 +29,15 @@ abbrev pub count_of : List ℕ → Level → List WarningValue → ℕ
 count_of name level warnings = count_by (is_one_of name level) warnings
 
 -- how many of these warnings have the name and the level of this one
-abbrev pub count_like : WarningValue → List WarningValue → ℕ
-count_like warning warnings = count_of (name_of warning.cause) (level_of warning.cause) warnings
+abbrev pub count_like : Cause → List WarningValue → ℕ
+count_like cause warnings = count_of (name_of cause) (level_of cause) warnings
 
 -- those of the warnings for which the number of warnings like them before them passes this test; the warnings
 -- `before` precede all of them
 abbrev pub placed : (ℕ → Bool) → List WarningValue → List WarningValue → List WarningValue
 placed test before [] = []
 placed test before (warning ∷ warnings) =
-    (if test (count_like warning before) then warning ∷ [] else [])
+    (if test (count_like warning.cause before) then warning ∷ [] else [])
     ++ placed test (before ++ warning ∷ []) warnings
 
 -- the first twenty warnings of each name and level
@@ -46,19 +48,11 @@ listed warnings = placed (λ place. nat_lt place most) [] warnings
 abbrev pub unlisted : List WarningValue → List WarningValue
 unlisted warnings = placed (λ place. place == most) [] warnings
 
--- a name and a level, and how many warnings with both aren't listed
-pub record MoreValue : Type 0 where
-  pub name : List ℕ
-  pub level : Level
-  pub number : ℕ
-
-abbrev pub more_of : List WarningValue → WarningValue → MoreValue
-more_of warnings warning = record {
-  name = name_of warning.cause;
-  level = level_of warning.cause;
-  number = count_like warning warnings - most;
-}
+-- how many warnings with the name and the level of this one aren't listed
+abbrev pub more_of : List WarningValue → WarningValue → More
+more_of warnings warning =
+    record { cause = warning.cause; number = count_like warning.cause warnings - most }
 
 -- each name and level with more than twenty warnings
-abbrev pub more : List WarningValue → List MoreValue
+abbrev pub more : List WarningValue → List More
 more warnings = map (more_of warnings) (unlisted warnings)

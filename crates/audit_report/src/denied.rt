@@ -40,21 +40,28 @@ pub fn shown<'a, 'b>(denied_only: bool, audit: Audit<'a, 'b>) -> Audit<'a, 'b>
 }
 
 /// How many of these verdicts allow.
-#[tactic(auto, using(crate::proofs::DeniedLemmas::count_next))]
+#[tactic(auto, using(crate::proofs::DeniedLemmas::count_map))]
 fn count_allowed(verdicts: &[Verdict<'_>]) -> usize
     ensures { result ≡ count_by is_allowed (map verdict_value verdicts.now) }
 {
-    let mut count = 0;
-    for verdict in verdicts {
-        if verdict.decision.allowed {
-            count += 1;
-        }
-    }
-    count
+    verdicts
+        .iter()
+        .filter(|verdict| verdict.decision.allowed)
+        .count()
+}
+
+/// How many deny.
+#[tactic(auto, using(crate::proofs::DeniedLemmas::count_map))]
+fn count_denied(verdicts: &[Verdict<'_>]) -> usize
+    ensures { result ≡ count_by is_denied (map verdict_value verdicts.now) }
+{
+    verdicts
+        .iter()
+        .filter(|verdict| !verdict.decision.allowed)
+        .count()
 }
 
 /// How many verdicts allow and deny, for all of these crawlers.
-#[tactic(auto, using(crate::proofs::DeniedLemmas::total_next, crate::proofs::DeniedLemmas::count_parts))]
 pub fn totals_of(agents: &[AgentAudit<'_>]) -> Totals
     ensures allowed { result.allowed ≡ total is_allowed (map agent_value agents.now) }
     ensures denied { result.denied ≡ total is_denied (map agent_value agents.now) }
@@ -64,9 +71,8 @@ pub fn totals_of(agents: &[AgentAudit<'_>]) -> Totals
         denied: 0,
     };
     for agent in agents {
-        let allowed = count_allowed(&agent.verdicts);
-        totals.allowed += allowed as u128;
-        totals.denied += (agent.verdicts.len() - allowed) as u128;
+        totals.allowed += count_allowed(&agent.verdicts) as u128;
+        totals.denied += count_denied(&agent.verdicts) as u128;
     }
     totals
 }

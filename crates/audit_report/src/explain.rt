@@ -1,44 +1,38 @@
 //! The list of all warnings, and the explanation of one.
-ghost use Rattle.std.specs.Prelude.{◌≡◌, ◌++◌, ◌∷◌, [], IfOk, OnOk, flat_map, map};
-ghost use Rattle.robots_io.specs.Lines.{ended};
-ghost use Rattle.robots_warnings.specs.Table.{all_causes, example_of};
-ghost use Rattle.audit_report.specs.Explain.{Explains, MayPrint, example_lines, explained, explained_if_named, explanation, indented, indented_byte, list_text, listed};
+ghost use Rattle.std.specs.Prelude.{◌≡◌, ◌++◌, ◌∷◌, [], IfOk, OnOk, flat_map, string_bytes};
+ghost use Rattle.robots_text.specs.Raw.{raw_line};
+ghost use Rattle.robots_text.specs.Text.{line_text, written};
+ghost use Rattle.robots_warnings.specs.Table.{example_of};
+ghost use Rattle.audit_report.specs.Explain.{Explains, MayAnswer, example_lines, explained_if_named, explanation, indented, indented_byte};
+ghost use Rattle.audit_report.specs.Explain.{list_line, list_text};
 
-use audit_core::fault::{Fault, Outcome, unknown};
-use audit_core::print::print;
+use audit_core::answer::{Answer, text_answer};
+use audit_core::fault::{Fault, unknown};
+use robots_text::parts::{Part, Value, push_line_of};
 use robots_warnings::table::{Cause, causes, is_name};
 use std::alloc::{AllocError, Global};
-use std::io::Write;
 
-/// Appends the line about a warning in the list: its level, its name and its message.
-fn push_listed(text: &mut Vec<u8>, cause: Cause) -> Result<(), AllocError>
-    ensures { OnOk result (text.new.items ≡ text.old.items ++ ended (listed cause ∷ [])) }
+/// The line about a warning in the list: its level, its name and its message.
+fn list_line(cause: Cause) -> [Part<'static>; 3]
+    ensures { raw_line result ≡ line_text (list_line cause) }
 {
-    text.extend_from_slice(cause.level().word().as_bytes())?;
-    text.extend_from_slice(b" ")?;
-    text.extend_from_slice(cause.name().as_bytes())?;
-    text.extend_from_slice(b": ")?;
-    text.extend_from_slice(cause.text().as_bytes())?;
-    text.extend_from_slice(b"\n")
-}
-
-/// Appends a line about each of these warnings.
-fn push_list(text: &mut Vec<u8>, causes: &[Cause]) -> Result<(), AllocError>
-    ensures { OnOk result (text.new.items ≡ text.old.items ++ ended (map listed causes.now)) }
-{
-    for cause in causes {
-        push_listed(text, *cause)?;
-    }
-    Ok(())
+    [
+        Part(cause.level().word(), Value::Nothing),
+        Part(" ", Value::Word(cause.name())),
+        Part(": ", Value::Word(cause.text())),
+    ]
 }
 
 /// The list of all warnings.
 fn list_text(alloc: Global) -> Result<Vec<u8>, AllocError>
     ensures { IfOk result (λ text. text.items ≡ list_text) }
 {
-    let mut text = Vec::new(alloc);
-    push_list(&mut text, &causes(alloc)?)?;
-    Ok(text)
+    let mut text = String::new(alloc);
+    let all = causes(alloc)?;
+    for cause in &all {
+        push_line_of(&mut text, &list_line(*cause))?;
+    }
+    Ok(text.into_bytes())
 }
 
 /// Appends a byte, and after LF four spaces.
@@ -73,33 +67,29 @@ fn push_example(text: &mut Vec<u8>, cause: Cause) -> Result<(), AllocError>
     text.extend_from_slice(b"\n")
 }
 
-/// Appends the line about a warning, and an example.
-fn push_explained(text: &mut Vec<u8>, cause: Cause) -> Result<(), AllocError>
-    ensures { OnOk result (text.new.items ≡ text.old.items ++ explained cause) }
+/// Appends the line about a warning.
+fn push_listed(alloc: Global, text: &mut Vec<u8>, cause: Cause) -> Result<(), AllocError>
+    ensures { OnOk result (text.new.items ≡ text.old.items ++ written (list_line cause ∷ [])) }
 {
-    push_listed(text, cause)?;
-    push_example(text, cause)
+    let mut line = String::new(alloc);
+    push_line_of(&mut line, &list_line(cause))?;
+    text.extend_from_slice(line.as_bytes())
 }
 
-/// The same if the warning has this name.
-fn push_if_named(text: &mut Vec<u8>, name: &str, cause: Cause) -> Result<(), AllocError>
+/// Appends the line about a warning and an example, if the warning has this name.
+fn push_if_named(
+    alloc: Global,
+    text: &mut Vec<u8>,
+    name: &str,
+    cause: Cause,
+) -> Result<(), AllocError>
     ensures { OnOk result (text.new.items ≡ text.old.items ++ explained_if_named name.now cause) }
 {
-    if cause.name() == name {
-        push_explained(text, cause)?;
+    if cause.name() != name {
+        return Ok(());
     }
-    Ok(())
-}
-
-/// Appends the explanations of those of these warnings that have this name.
-fn push_explanations(text: &mut Vec<u8>, name: &str, causes: &[Cause]) -> Result<(), AllocError>
-    ensures { OnOk result (text.new.items
-        ≡ text.old.items ++ flat_map (explained_if_named name.now) causes.now) }
-{
-    for cause in causes {
-        push_if_named(text, name, *cause)?;
-    }
-    Ok(())
+    push_listed(alloc, text, cause)?;
+    push_example(text, cause)
 }
 
 /// The explanations of all warnings with this name.
@@ -107,29 +97,30 @@ fn explanation(alloc: Global, name: &str) -> Result<Vec<u8>, AllocError>
     ensures { IfOk result (λ text. text.items ≡ explanation name.now) }
 {
     let mut text = Vec::new(alloc);
-    push_explanations(&mut text, name, &causes(alloc)?)?;
+    let all = causes(alloc)?;
+    for cause in &all {
+        push_if_named(alloc, &mut text, name, *cause)?;
+    }
     Ok(text)
 }
 
-/// Prints the list of all warnings.
-pub fn list_warnings<W: Write>(alloc: Global, writer: &mut W) -> Result<Outcome, Fault>
-    ensures { MayPrint list_text (W.contents writer.old) (W.contents writer.new) result }
+/// The list of all warnings as the answer.
+pub fn list_warnings(alloc: Global) -> Result<Answer, Fault>
+    ensures { MayAnswer list_text result }
 {
-    let text = list_text(alloc)?;
-    print(alloc, &text, writer)
+    Ok(text_answer(alloc, list_text(alloc)?))
 }
 
-/// Prints the explanation of the warning with this name.
+/// The explanation of the warning with this name as the answer.
 ///
 /// # Errors
 ///
 /// `Fault::UnknownWarning` if no warning has this name.
-pub fn explain<W: Write>(alloc: Global, name: &str, writer: &mut W) -> Result<Outcome, Fault>
-    ensures { Explains name.now (W.contents writer.old) (W.contents writer.new) result }
+pub fn explain(alloc: Global, name: &str) -> Result<Answer, Fault>
+    ensures { Explains name.now result }
 {
     if !is_name(name) {
         return Err(unknown(alloc, name));
     }
-    let text = explanation(alloc, name)?;
-    print(alloc, &text, writer)
+    Ok(text_answer(alloc, explanation(alloc, name)?))
 }

@@ -1,11 +1,12 @@
 //! Which warnings the text lists: the first twenty of each name and level. For the others it has their number.
 ghost use Rattle.std.specs.Prelude.{◌≡◌, ◌++◌, ◌∷◌, [], IfOk, List, OnOk, if◌then◌else◌, map};
-ghost use Rattle.audit_report.specs.Internal.Listed.{AreCounts, more_value, number_at, numbers_of, with_number};
+ghost use Rattle.audit_report.specs.Internal.Listed.{AreCounts, counted, number_at, numbers_of, with_number};
 ghost use Rattle.audit_report.specs.Listed.{listed, more, more_of, unlisted};
 ghost use Rattle.robots_warnings.specs.Internal.{warning_value};
 ghost use Rattle.robots_warnings.specs.Warnings.{WarningValue};
 
 use robots_text::level::Level;
+use robots_warnings::table::Cause;
 use robots_warnings::warning::Warning;
 use std::alloc::{AllocError, Global};
 use std::collections::BTreeMap;
@@ -13,11 +14,10 @@ use std::collections::BTreeMap;
 /// How many warnings of one name and level are listed.
 const MOST: usize = 20;
 
-/// A name and a level, and how many warnings with both aren't listed.
+/// How many warnings with the name and the level of this one aren't listed.
 #[derive(Clone, Copy)]
 pub(crate) struct More {
-    pub(crate) name: &'static str,
-    pub(crate) level: Level,
+    pub(crate) cause: Cause,
     pub(crate) number: usize,
 }
 
@@ -106,6 +106,13 @@ fn numbers_of(counts: &BTreeMap<&'static str, Numbers>, name: &str) -> Numbers
     counts.get(name).copied().unwrap_or(NONE)
 }
 
+/// How many warnings with the name and the level of this one have been counted.
+fn counted(counts: &BTreeMap<&'static str, Numbers>, cause: Cause) -> usize
+    ensures { result ≡ counted counts.now cause }
+{
+    numbers_of(counts, cause.name()).at(cause.level())
+}
+
 /// Counts the warnings with each name and level.
 fn tally_of<'a>(alloc: Global, warnings: &[Warning<'a>]) -> Result<Tally<'a>, AllocError>
     ensures counts { IfOk result (λ tally. AreCounts tally.counts (map warning_value warnings.now)) }
@@ -140,18 +147,13 @@ fn more_in(
     unlisted: &[Warning<'_>],
 ) -> Result<Vec<More>, AllocError>
     ensures { IfOk result (λ found. (warnings : List WarningValue) → AreCounts counts.now warnings
-        → map more_value found.items ≡ map (more_of warnings) (map warning_value unlisted.now)) }
+        → found.items ≡ map (more_of warnings) (map warning_value unlisted.now)) }
 {
     let mut found = Vec::with_capacity(alloc, unlisted.len())?;
     for warning in unlisted {
-        let name = warning.cause.name();
-        let level = warning.cause.level();
-        let number = numbers_of(counts, name).at(level).saturating_sub(MOST);
-        found.push(More {
-            name,
-            level,
-            number,
-        })?;
+        let cause = warning.cause;
+        let number = counted(counts, cause).saturating_sub(MOST);
+        found.push(More { cause, number })?;
     }
     Ok(found)
 }
@@ -164,7 +166,7 @@ pub(crate) fn listing_of<'a>(
 ) -> Result<Listing<'a>, AllocError>
     ensures warnings { IfOk result (λ found. map warning_value found.warnings.items
         ≡ listed (map warning_value warnings.now)) }
-    ensures more { IfOk result (λ found. map more_value found.more.items ≡ more (map warning_value warnings.now)) }
+    ensures more { IfOk result (λ found. found.more.items ≡ more (map warning_value warnings.now)) }
 {
     let tally = tally_of(alloc, warnings)?;
     let more = more_in(alloc, &tally.counts, &tally.unlisted)?;

@@ -1,64 +1,71 @@
 //! The audit as lines of text.
-ghost use Rattle.std.specs.Prelude.{◌≡◌, ◌++◌, ◌∷◌, [], IfOk, OnOk, codes, flat_map, map, string_bytes};
+ghost use Rattle.std.specs.Prelude.{◌≡◌, ◌++◌, ◌∷◌, [], IfOk, OnOk, flat_map, map, string_bytes};
 ghost use Rattle.robots_io.specs.Lines.{ended};
-ghost use Rattle.audit_report.specs.Report.{agent_lines, group_line, listed_lines, more_front, more_line};
-ghost use Rattle.audit_report.specs.Report.{report_lines, shown_warning, total_front, verdict_line};
-ghost use Rattle.audit_report.specs.Report.{warning_lines};
-ghost use Rattle.audit_core.specs.Syntax.{syntax_lines};
-ghost use Rattle.robots_io.specs.Sanitize.{sanitized};
+ghost use Rattle.robots_text.specs.Raw.{raw_line, raw_text, raw_value};
+ghost use Rattle.robots_text.specs.Text.{level_text, line_text, named_text, part_text, value_text, written};
 ghost use Rattle.robots_warnings.specs.Internal.{warning_value};
 ghost use Rattle.audit_core.specs.Internal.{agent_value, audit_value, verdict_value};
-ghost use Rattle.audit_report.specs.Internal.Listed.{more_value};
+ghost use Rattle.audit_core.specs.Syntax.{syntax_lines};
+ghost use Rattle.audit_report.specs.Report.{agent_lines, deciding, delay_line, line_about, listed_lines, more_line};
+ghost use Rattle.audit_report.specs.Report.{numbers_line, place_part, report_lines, shown_warning, verdict_label};
+ghost use Rattle.audit_report.specs.Report.{verdict_line};
 
 use crate::denied::Totals;
 use crate::listed::{More, listing_of};
 use audit_core::audit::{AgentAudit, Audit, Verdict};
-use audit_core::color::shown_word;
-use audit_core::delay::push_delay;
-use audit_core::group::Group;
 use audit_core::rows::push_rows;
 use audit_core::syntax::Syntax;
-use audit_core::texts::{push_group_text, push_rejected};
+use audit_core::texts::{delay_value, push_group, push_rejected};
 use robots_io::lines::{push_line, push_number};
-use robots_io::sanitize::push_sanitized;
-use robots_io::verdicts::push_decision;
-use robots_warnings::warning::{Warning, push_warning};
+use robots_text::level::shown_word;
+use robots_text::parts::{Part, Value, push_line_of, push_parts};
+use robots_warnings::warning::{Warning, push_reported};
 use std::alloc::{AllocError, Global};
 
-/// Appends the sanitized bytes and a line end.
-fn push_sanitized_line(text: &mut String, bytes: &[u8]) -> Result<(), AllocError>
-    ensures { OnOk result (string_bytes text.new ≡ string_bytes text.old ++ ended (sanitized bytes.now ∷ [])) }
+/// Appends the line with a crawler's delay.
+fn push_delay(text: &mut String, delay: Option<u64>) -> Result<(), AllocError>
+    ensures { OnOk result (string_bytes text.new ≡ string_bytes text.old ++ written (delay_line delay ∷ [])) }
 {
-    push_sanitized(text, bytes)?;
-    text.push('\n')
+    push_line_of(text, &[Part("delay: ", delay_value(delay))])
 }
 
-/// Appends the line with the group that applies to a crawler.
-fn push_group(text: &mut String, agent: &str, group: Group) -> Result<(), AllocError>
-    ensures { OnOk result (string_bytes text.new ≡ string_bytes text.old
-        ++ ended (group_line agent.now group ∷ [])) }
+/// Whether a URL is allowed.
+fn verdict_label(is_allowed: bool) -> &'static str
+    ensures { result.now ≡ (verdict_label is_allowed).text }
 {
-    text.push_str("group: ")?;
-    push_group_text(text, agent, group)?;
-    text.push('\n')
+    if is_allowed { "allow " } else { "deny " }
 }
 
-/// Appends the line with the verdict on a URL.
-fn push_verdict(text: &mut String, verdict: &Verdict<'_>) -> Result<(), AllocError>
-    ensures { OnOk result (string_bytes text.new ≡ string_bytes text.old
-        ++ ended (verdict_line (verdict_value verdict.now) ∷ [])) }
+/// The line that decides.
+fn deciding(line: Option<usize>) -> Value<'static>
+    ensures { raw_value result ≡ value_text (deciding line) }
 {
-    push_decision(text, &verdict.decision)?;
-    push_sanitized_line(text, verdict.url.as_bytes())
+    match line {
+        Some(line) => Value::Number(line),
+        None => Value::Word("-"),
+    }
+}
+
+/// The line with the verdict on a URL.
+fn verdict_line<'a>(verdict: &Verdict<'a>) -> [Part<'a>; 2]
+    ensures { raw_line result ≡ line_text (verdict_line (verdict_value verdict.now)) }
+{
+    [
+        Part(
+            verdict_label(verdict.decision.allowed),
+            deciding(verdict.decision.line),
+        ),
+        Part(" ", Value::Untrusted(verdict.url.as_bytes())),
+    ]
 }
 
 /// Appends a line for each verdict.
 fn push_verdicts(text: &mut String, verdicts: &[Verdict<'_>]) -> Result<(), AllocError>
     ensures { OnOk result (string_bytes text.new ≡ string_bytes text.old
-        ++ ended (map verdict_line (map verdict_value verdicts.now))) }
+        ++ written (map verdict_line (map verdict_value verdicts.now))) }
 {
     for verdict in verdicts {
-        push_verdict(text, verdict)?;
+        push_line_of(text, &verdict_line(verdict))?;
     }
     Ok(())
 }
@@ -66,7 +73,7 @@ fn push_verdicts(text: &mut String, verdicts: &[Verdict<'_>]) -> Result<(), Allo
 /// Appends the lines about a crawler: its group, its delay, whether the file is rejected for it, and its verdicts.
 fn push_agent(text: &mut String, agent: &AgentAudit<'_>) -> Result<(), AllocError>
     ensures { OnOk result (string_bytes text.new ≡ string_bytes text.old
-        ++ ended (agent_lines (agent_value agent.now))) }
+        ++ written (agent_lines (agent_value agent.now))) }
 {
     push_group(text, &agent.agent, agent.group)?;
     push_delay(text, agent.delay)?;
@@ -77,7 +84,7 @@ fn push_agent(text: &mut String, agent: &AgentAudit<'_>) -> Result<(), AllocErro
 /// Appends the lines about each crawler.
 fn push_agents(text: &mut String, agents: &[AgentAudit<'_>]) -> Result<(), AllocError>
     ensures { OnOk result (string_bytes text.new ≡ string_bytes text.old
-        ++ ended (flat_map agent_lines (map agent_value agents.now))) }
+        ++ written (flat_map agent_lines (map agent_value agents.now))) }
 {
     for agent in agents {
         push_agent(text, agent)?;
@@ -87,13 +94,12 @@ fn push_agents(text: &mut String, agents: &[AgentAudit<'_>]) -> Result<(), Alloc
 
 /// Appends the line that the file has the syntax of RFC 9309, if it is known to have it.
 fn push_syntax(text: &mut String, syntax: Syntax) -> Result<(), AllocError>
-    ensures { OnOk result (string_bytes text.new ≡ string_bytes text.old ++ ended (syntax_lines syntax)) }
+    ensures { OnOk result (string_bytes text.new ≡ string_bytes text.old ++ written (syntax_lines syntax)) }
 {
     if !syntax.is_standard() {
         return Ok(());
     }
-    text.push_str(syntax.sentence())?;
-    text.push('\n')
+    push_line(text, syntax.sentence(), "")
 }
 
 /// The report on an audit, with or without rows.
@@ -102,7 +108,7 @@ pub fn report_text(
     has_rows: bool,
     audit: &Audit<'_, '_>,
 ) -> Result<String, AllocError>
-    ensures { IfOk result (λ text. string_bytes text ≡ ended (report_lines has_rows (audit_value audit.now))) }
+    ensures { IfOk result (λ text. string_bytes text ≡ written (report_lines has_rows (audit_value audit.now))) }
 {
     let mut text = String::with_capacity(alloc, audit.labels.len())?;
     if has_rows {
@@ -113,52 +119,57 @@ pub fn report_text(
     Ok(text)
 }
 
-/// Appends two numbers of URLs, up to the last word of the line.
-fn push_total_front(text: &mut String, totals: Totals) -> Result<(), AllocError>
-    ensures { OnOk result (string_bytes text.new ≡ string_bytes text.old
-        ++ total_front totals.allowed totals.denied) }
-{
-    push_number(text, totals.allowed)?;
-    text.push_str(" allowed, ")?;
-    push_number(text, totals.denied)
-}
-
 /// Appends the line with the numbers of allowed and denied URLs.
 pub fn push_totals(text: &mut String, totals: Totals) -> Result<(), AllocError>
     ensures { OnOk result (string_bytes text.new ≡ string_bytes text.old
-        ++ ended ((total_front totals.allowed totals.denied ++ codes " denied") ∷ [])) }
+        ++ written (numbers_line totals.allowed totals.denied ∷ [])) }
 {
-    push_total_front(text, totals)?;
-    push_line(text, " denied", "")
+    push_number(text, totals.allowed)?;
+    text.push_str(" allowed, ")?;
+    push_number(text, totals.denied)?;
+    text.push_str(" denied\n")
+}
+
+// ---- warnings
+
+/// The line that a warning is about.
+fn place_part(line: Option<usize>) -> Part<'static>
+    ensures { raw_text result ≡ part_text (place_part line) }
+{
+    match line {
+        Some(line) => Part(":", Value::Number(line)),
+        None => Part("", Value::Nothing),
+    }
+}
+
+/// The file, the line and the level of a warning.
+fn front_of<'a>(has_colors: bool, file: &'a str, warning: &Warning<'_>) -> [Part<'a>; 4]
+    ensures { raw_line result ≡ level_text has_colors (line_about file.entry.now (warning_value warning.now) []) }
+{
+    [
+        Part("", Value::Untrusted(file.as_bytes())),
+        place_part(warning.line),
+        Part(
+            ": ",
+            Value::Word(shown_word(has_colors, warning.cause.level())),
+        ),
+        Part(": ", Value::Nothing),
+    ]
 }
 
 /// Appends a warning about the file with this name, its level in color if there are colors.
-fn push_shown_warning(
+fn push_warning(
     text: &mut String,
     has_colors: bool,
     file: &str,
     warning: &Warning<'_>,
 ) -> Result<(), AllocError>
     ensures { OnOk result (string_bytes text.new ≡ string_bytes text.old
-        ++ shown_warning has_colors file.now (warning_value warning.now)) }
+        ++ ended (level_text has_colors (shown_warning file.now (warning_value warning.now)) ∷ [])) }
 {
-    let level = shown_word(has_colors, warning.cause.level());
-    push_warning(text, file, level, warning)
-}
-
-/// Appends the same with a line end.
-fn push_warning_line(
-    text: &mut String,
-    has_colors: bool,
-    file: &str,
-    warning: &Warning<'_>,
-) -> Result<(), AllocError>
-    ensures { OnOk result (string_bytes text.new ≡ string_bytes text.old
-        ++ ended (shown_warning has_colors file.now (warning_value warning.now) ∷ [])) }
-{
-    push_shown_warning(text, has_colors, file, warning)?;
-    text.push('\n')?;
-    Ok(())
+    push_parts(text, &front_of(has_colors, file, warning))?;
+    push_reported(text, warning)?;
+    text.push('\n')
 }
 
 /// The warnings about the file with this name, one per line.
@@ -168,36 +179,27 @@ fn warning_lines(
     file: &str,
     warnings: &[Warning<'_>],
 ) -> Result<String, AllocError>
-    ensures { IfOk result (λ text. string_bytes text
-        ≡ ended (warning_lines has_colors file.now (map warning_value warnings.now))) }
+    ensures { IfOk result (λ text. string_bytes text ≡ ended (map (level_text has_colors)
+        (map (shown_warning file.now) (map warning_value warnings.now)))) }
 {
     let mut text = String::new(alloc);
     for warning in warnings {
-        push_warning_line(&mut text, has_colors, file, warning)?;
+        push_warning(&mut text, has_colors, file, warning)?;
     }
     Ok(text)
 }
 
-/// Appends how many more warnings there are about a file, up to their name.
-fn push_more_front(text: &mut String, file: &str, more: &More) -> Result<(), AllocError>
-    ensures { OnOk result (string_bytes text.new
-        ≡ string_bytes text.old ++ more_front file.now (more_value more.now)) }
+/// How many more warnings about a file have a level and a name.
+fn more_line<'a>(file: &'a str, more: &More) -> [Part<'a>; 5]
+    ensures { raw_line result ≡ named_text (more_line file.entry.now more.now) }
 {
-    push_sanitized(text, file.as_bytes())?;
-    text.push_str(": ")?;
-    text.push_str(more.level.word())?;
-    text.push_str(": and ")?;
-    push_number(text, more.number)?;
-    text.push_str(" more [")
-}
-
-/// Appends how many more warnings about a file have a level and a name.
-fn push_more_line(text: &mut String, file: &str, more: &More) -> Result<(), AllocError>
-    ensures { OnOk result (string_bytes text.new ≡ string_bytes text.old
-        ++ ended (more_line file.now (more_value more.now) ∷ [])) }
-{
-    push_more_front(text, file, more)?;
-    push_line(text, more.name, "]")
+    [
+        Part("", Value::Untrusted(file.as_bytes())),
+        Part(": ", Value::Word(more.cause.level().word())),
+        Part(": and ", Value::Number(more.number)),
+        Part(" more [", Value::Word(more.cause.name())),
+        Part("]", Value::Nothing),
+    ]
 }
 
 /// The warnings about the file with this name that are listed, and how many more there are.
@@ -213,7 +215,7 @@ pub fn listed_lines(
     let found = listing_of(alloc, warnings)?;
     let mut text = warning_lines(alloc, has_colors, file, &found.warnings)?;
     for more in &found.more {
-        push_more_line(&mut text, file, more)?;
+        push_line_of(&mut text, &more_line(file, more))?;
     }
     Ok(text)
 }

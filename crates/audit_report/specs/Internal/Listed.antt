@@ -4,15 +4,13 @@ use Rattle.std.specs.BTreeMap.{BTreeMap, get_by}
 use Rattle.std.specs.Borrow.{Bor}
 use Rattle.std.specs.Cmp.Lexicographic.{slice_cmp}
 use Rattle.std.specs.Ordering.{nat_cmp}
-use Rattle.audit_report.specs.declared.listed.More.{More}
 use Rattle.audit_report.specs.declared.listed.Numbers.{Numbers}
-use Rattle.audit_report.specs.Listed.{MoreValue, count_of}
+use Rattle.audit_report.specs.Listed.{count_of}
 use Rattle.robots_text.specs.declared.level.Level.{Level}
 use Rattle.robots_text.specs.declared.level.Level.TheVariants.{Error, Note, Warning}
+use Rattle.robots_warnings.specs.declared.table.Cause.{Cause}
+use Rattle.robots_warnings.specs.Table.{level_of, name_of}
 use Rattle.robots_warnings.specs.Warnings.{WarningValue}
-
-abbrev pub more_value : More → MoreValue
-more_value more = record { name = more.name.now; level = more.level; number = more.number }
 
 -- the number of warnings at this level
 abbrev pub number_at : Numbers → Level → ℕ
@@ -32,6 +30,10 @@ no_numbers = record { errors = 0; warnings = 0; notes = 0 }
 -- the numbers of a name in the map; zeros if it isn't there
 abbrev pub numbers_of : BTreeMap (Bor (List ℕ)) Numbers → List ℕ → Numbers
 numbers_of counts name = unwrap_or (get_by (λ key. slice_cmp nat_cmp name key.now) counts) no_numbers
+
+-- the number for the name and the level of a warning
+abbrev pub counted : BTreeMap (Bor (List ℕ)) Numbers → Cause → ℕ
+counted counts cause = number_at (numbers_of counts (name_of cause)) (level_of cause)
 
 -- the map has the number of these warnings with each name and level
 pub record AreCounts (counts : BTreeMap (Bor (List ℕ)) Numbers) (warnings : List WarningValue) : Type 0 where

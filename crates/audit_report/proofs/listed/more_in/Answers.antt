@@ -5,6 +5,5 @@ pub loop-warning-preserved : goal.loop-warning-preserved
 loop-warning-preserved c = λ warnings are.
     rw c.in_ok-push.ensures.items
     (more_next warnings c.args.unlisted.now c.loop-warning.warning-index _ c.loop-warning.found.items _
-    c.args.counts.now are c.loop-warning-test.true c.name-name.ensures c.level-level.ensures
-    (rw (c.at.ensures, c.numbers_of.ensures) at c.saturating_sub-number.ensures)
-    (c.loop-warning.invariant warnings are))
+    c.args.counts.now are c.loop-warning-test.true
+    (rw c.counted.ensures at c.saturating_sub-number.ensures) (c.loop-warning.invariant warnings are))
