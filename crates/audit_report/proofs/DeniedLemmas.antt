@@ -4,31 +4,10 @@ use Rattle.std.proofs.Common.{arith, cond, count_by, drop, filter, length, map, 
 use Rattle.std.proofs.Common.{slice_index_or, slice_set, sym, take}
 use Rattle.std.proofs.lemmas.List.{drop-set-lt, drop_more, length-drop, length-map, map-append, take_more}
 use Rattle.std.proofs.lemmas.List.{take_more_set, Sums.length-filter, Sums.sum_by-cons}
-use Rattle.audit_core.specs.declared.audit.AgentAudit.{AgentAudit}
-use Rattle.audit_core.specs.Audit.{AgentValue, VerdictValue, total, with_denied}
-use Rattle.audit_core.specs.Internal.{agent_value, verdict_value}
-
--- a test of values may be made before or after the items are turned into values
-pub map_filter : {X Y : Type 0} (f : X → Y) (test : Y → Bool) (xs : List X)
-    → map f (filter (λ x. test (f x)) xs) ≡ filter test (map f xs)
-map_filter f test [] = refl
-map_filter f test (x ∷ xs) = by (test (f x)) (map_filter f test xs)
-  where
-    by : (b : Bool) → map f (filter (λ x. test (f x)) xs) ≡ filter test (map f xs)
-        → map f (cond b (x ∷ filter (λ x. test (f x)) xs) (filter (λ x. test (f x)) xs))
-        ≡ cond b (f x ∷ filter test (map f xs)) (filter test (map f xs))
-    by true later = ap (λ ys. f x ∷ ys) later
-    by false later = later
-
--- the same for the number of items that pass the test
-pub count_map : {X Y : Type 0} (f : X → Y) (test : Y → Bool) (xs : List X)
-    → count_by (λ x. test (f x)) xs ≡ count_by test (map f xs)
-count_map f test xs =
-    sym (length-filter (λ x. test (f x)) xs) ∙ sym (length-map (filter (λ x. test (f x)) xs) f)
-    ∙ ap length (map_filter f test xs) ∙ length-filter test (map f xs)
+use Rattle.audit_core.specs.Audit.{AgentValue, VerdictValue, is_denied, with_denied}
 
 -- the crawlers from index `at` on, and those after the one there, where two lists are the same from it on
-same_there : (agents old : List AgentAudit) (at : ℕ) (item : AgentAudit) → at < length old
+same_there : (agents old : List AgentValue) (at : ℕ) (item : AgentValue) → at < length old
     → drop at agents ≡ drop at old
     → (at < length agents) × (slice_index_or agents at item ≡ slice_index_or old at item)
     × (drop (at + 1) agents ≡ drop (at + 1) old)
@@ -41,23 +20,28 @@ same_there agents old at item within same =
     let other = drop_more old at item within in
     (below, cc, cc)
 
+-- the same crawler, with its denied URLs alone
+pub denied_of : (one agent : AgentValue) (verdicts : List VerdictValue) → one ≡ agent
+    → verdicts ≡ filter is_denied one.verdicts → record one { verdicts = verdicts } ≡ with_denied agent
+denied_of one agent verdicts same are =
+    ap (λ (verdicts : List VerdictValue). record one { verdicts = verdicts }) are ∙ ap with_denied same
+
 -- loop step: the allowed URLs of one more crawler are left out
-pub denied_next : (agents old : List AgentAudit) (at : ℕ) (item agent : AgentAudit) → at < length old
+pub denied_next : (agents old : List AgentValue) (at : ℕ) (item agent : AgentValue) → at < length old
     → drop at agents ≡ drop at old
-    → map agent_value (take at agents) ≡ map with_denied (map agent_value (take at old))
-    → agent_value agent ≡ with_denied (agent_value (slice_index_or agents at item))
-    → (map agent_value (take (at + 1) (slice_set agents at agent))
-    ≡ map with_denied (map agent_value (take (at + 1) old)))
+    → (take at agents) ≡ map with_denied (take at old)
+    → agent ≡ with_denied ((slice_index_or agents at item))
+    → ((take (at + 1) (slice_set agents at agent))
+    ≡ map with_denied (take (at + 1) old))
     × (drop (at + 1) (slice_set agents at agent) ≡ drop (at + 1) old)
 denied_next agents old at item agent within same done is =
     let (below, there, later) = same_there agents old at item within same in
-    let value : agent_value agent ≡ with_denied (agent_value (slice_index_or old at item)) =
-    is ∙ ap (λ agent. with_denied (agent_value agent)) there in
-    let front = map agent_value (take at old) in (
-      ap (map agent_value) (take_more_set agents at agent below) ∙ map-append agent_value (take at agents) (agent ∷ [])
+    let value : agent ≡ with_denied ((slice_index_or old at item)) =
+    is ∙ ap (λ agent. with_denied agent) there in
+    let front = (take at old) in (
+      take_more_set agents at agent below
           ∙ ap₂ (λ (values : List AgentValue) last. values ++ last ∷ []) done value
-          ∙ sym (ap (λ agents. map with_denied (map agent_value agents)) (take_more old at item within)
-          ∙ ap (map with_denied) (map-append agent_value (take at old) (slice_index_or old at item ∷ []))
-          ∙ map-append with_denied front (agent_value (slice_index_or old at item) ∷ [])),
+          ∙ sym (ap (map with_denied) (take_more old at item within)
+          ∙ map-append with_denied front (slice_index_or old at item ∷ [])),
       drop-set-lt (at + 1) agents at agent (omega arith) ∙ later,
     )

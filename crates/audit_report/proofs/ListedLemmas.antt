@@ -22,17 +22,16 @@ use Rattle.audit_report.specs.declared.listed.More.{More}
 use Rattle.audit_report.specs.declared.listed.Numbers.{Numbers}
 use Rattle.robots_text.specs.declared.level.Level.{Level}
 use Rattle.robots_text.specs.declared.level.Level.TheVariants.{Error, Note, Warning}
-use Rattle.robots_warnings.specs.Internal.{warning_value}
 use Rattle.robots_warnings.specs.Table.{level_of, name_of}
-use Rattle.robots_warnings.specs.Warnings.{WarningValue}
+use Rattle.robots_warnings.specs.WarningValue.{WarningValue}
 use Rattle.robots_warnings.specs.declared.warning.Warning.{Warning as Found}
 
 -- there are at most as many warnings with a name and a level as there are warnings
 pub counted_within : (name : List ℕ) (level : Level) (warnings : List Found) (at : ℕ) → at < length warnings
-    → count_of name level (map warning_value (take at warnings)) ≤ at
+    → count_of name level (take at warnings) ≤ at
 counted_within name level warnings at below =
     let least : at ≤ length warnings = omega (arith, below) in
-    let most = count_by-le-length (is_one_of name level) (map warning_value (take at warnings)) in
+    let most = count_by-le-length (is_one_of name level) (take at warnings) in
     rw (length-map (take at warnings) warning_value, length-take-le at warnings least) at most
 
 -- nothing is counted at first
@@ -94,29 +93,29 @@ counted_last counts new key numbers warnings warning is are more_at updates = re
 pub counted_next : (counts new : BTreeMap (Bor (List ℕ)) Numbers) (key : Bor (List ℕ)) (numbers : Numbers)
     (warnings : List Found) (at : ℕ) (warning : Found) → at < length warnings
     → key.now ≡ name_of (slice_index_or warnings at warning).cause
-    → AreCounts counts (map warning_value (take at warnings))
+    → AreCounts counts (take at warnings)
     → ((level : Level) → number_at numbers level ≡ number_at (numbers_of counts key.now) level
     + (if is_same_level (level_of (slice_index_or warnings at warning).cause) level then 1 else 0))
     → Updates (λ one two. slice_cmp nat_cmp one.now two.now) counts new key (Some numbers)
-    → AreCounts new (map warning_value (take (at + 1) warnings))
+    → AreCounts new (take (at + 1) warnings)
 counted_next counts new key numbers warnings at warning below is are more_at updates =
     rw (take_more warnings at warning below, map-append)
-    (counted_last counts new key numbers (map warning_value (take at warnings))
-    (warning_value (slice_index_or warnings at warning)) is are more_at updates)
+    (counted_last counts new key numbers (take at warnings)
+    ((slice_index_or warnings at warning)) is are more_at updates)
 
 -- loop step: one more warning is appended if its place passes the test
 pub placed_next : (test : ℕ → Bool) (warnings : List Found) (at : ℕ) (warning : Found) (place : ℕ)
     (found new all : List WarningValue) → at < length warnings
     → place ≡ count_like (slice_index_or warnings at warning).cause
-    (map warning_value (take at warnings))
-    → new ≡ found ++ (if test place then warning_value (slice_index_or warnings at warning) ∷ [] else [])
-    → found ++ placed test (map warning_value (take at warnings)) (map warning_value (drop at warnings)) ≡ all
-    → new ++ placed test (map warning_value (take (at + 1) warnings))
-    (map warning_value (drop (at + 1) warnings)) ≡ all
+    (take at warnings)
+    → new ≡ found ++ (if test place then (slice_index_or warnings at warning) ∷ [] else [])
+    → found ++ placed test (take at warnings) (drop at warnings) ≡ all
+    → new ++ placed test (take (at + 1) warnings)
+    (drop (at + 1) warnings) ≡ all
 placed_next test warnings at warning place found new all below is added so_far =
-    let item = warning_value (slice_index_or warnings at warning) in
-    let later = placed test (map warning_value (take at warnings) ++ item ∷ [])
-    (map warning_value (drop (at + 1) warnings)) in
+    let item = (slice_index_or warnings at warning) in
+    let later = placed test ((take at warnings) ++ item ∷ [])
+    (drop (at + 1) warnings) in
     rw (take_more warnings at warning below, map-append)
     (ap (λ (front : List WarningValue). front ++ later) added
     ∙ append_assoc found (if test place then item ∷ [] else []) later
@@ -127,9 +126,9 @@ placed_next test warnings at warning place found new all below is added so_far =
 pub more_next : (warnings : List WarningValue) (unlisted : List Found) (at : ℕ) (warning : Found)
     (found : List More) (number : ℕ) (counts : BTreeMap (Bor (List ℕ)) Numbers) → AreCounts counts warnings
     → at < length unlisted → number ≡ counted counts (slice_index_or unlisted at warning).cause - most
-    → found ≡ map (more_of warnings) (map warning_value (take at unlisted))
+    → found ≡ map (more_of warnings) (take at unlisted)
     → found ++ record { cause = (slice_index_or unlisted at warning).cause; number = number } ∷ []
-    ≡ map (more_of warnings) (map warning_value (take (at + 1) unlisted))
+    ≡ map (more_of warnings) (take (at + 1) unlisted)
 more_next warnings unlisted at warning found number counts are below is so_far =
     let cause = (slice_index_or unlisted at warning).cause in
     rw (take_more unlisted at warning below, map-append, map-append)

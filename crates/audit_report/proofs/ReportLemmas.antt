@@ -7,7 +7,7 @@ use Rattle.robots_text.specs.Color.{IsColored, IsForTerminal}
 use Rattle.robots_text.specs.Text.{LevelLine, NamedLine, level_text, named_text}
 use Rattle.robots_text.proofs.ColorLemmas.{lines_colored, lines_for_terminal}
 use Rattle.robots_text.proofs.PartLemmas.{level_quiet, named_quiet}
-use Rattle.robots_warnings.specs.Warnings.{WarningValue}
+use Rattle.robots_warnings.specs.WarningValue.{WarningValue}
 use Rattle.audit_report.specs.Listed.{listed, more}
 use Rattle.audit_report.specs.Report.{listed_lines, more_line, shown_warning}
 

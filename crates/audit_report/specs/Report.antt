@@ -11,7 +11,7 @@ use Rattle.robots_text.specs.declared.level.Level.{Level}
 use Rattle.robots_text.specs.declared.level.Level.TheVariants.{Error, Note, Warning}
 use Rattle.robots_warnings.specs.Message.{fixed_name, reported_parts}
 use Rattle.robots_warnings.specs.Table.{level_of}
-use Rattle.robots_warnings.specs.Warnings.{WarningValue}
+use Rattle.robots_warnings.specs.WarningValue.{WarningValue}
 use Rattle.audit_core.specs.Audit.{AgentValue, AuditValue, VerdictValue, is_allowed, is_denied, total}
 use Rattle.audit_core.specs.Rows.{rows}
 use Rattle.audit_core.specs.Syntax.{syntax_lines}

@@ -1,7 +1,6 @@
 //! Which URLs a report lists, and how many are allowed and denied.
 ghost use Rattle.std.specs.Prelude.{◌≡◌, count_by, filter, map};
 ghost use Rattle.audit_core.specs.Audit.{is_allowed, is_denied, shown, total, with_denied};
-ghost use Rattle.audit_core.specs.Internal.{agent_value, audit_value, verdict_value};
 
 use audit_core::audit::{AgentAudit, Audit, Verdict};
 
@@ -14,14 +13,14 @@ pub struct Totals {
 
 /// Removes the verdicts that allow.
 fn keep_denied(verdicts: &mut Vec<Verdict<'_>>)
-    ensures { map verdict_value verdicts.new.items ≡ filter is_denied (map verdict_value verdicts.old.items) }
+    ensures { verdicts.new.items ≡ filter is_denied verdicts.old.items }
 {
     verdicts.retain(|verdict| !verdict.decision.allowed);
 }
 
 /// Removes the verdicts that allow, for each crawler.
 fn keep_all_denied(agents: &mut [AgentAudit<'_>])
-    ensures { map agent_value agents.new ≡ map with_denied (map agent_value agents.old) }
+    ensures { agents.new ≡ map with_denied agents.old }
 {
     for agent in agents.iter_mut() {
         keep_denied(&mut agent.verdicts);
@@ -30,7 +29,7 @@ fn keep_all_denied(agents: &mut [AgentAudit<'_>])
 
 /// The audit that is reported: all of it, or if `denied_only` is true that with the denied URLs alone.
 pub fn shown<'a, 'b>(denied_only: bool, audit: Audit<'a, 'b>) -> Audit<'a, 'b>
-    ensures { audit_value result ≡ shown denied_only (audit_value audit.entry) }
+    ensures { result ≡ shown denied_only audit.entry }
 {
     let mut reported = audit;
     if denied_only {
@@ -40,9 +39,8 @@ pub fn shown<'a, 'b>(denied_only: bool, audit: Audit<'a, 'b>) -> Audit<'a, 'b>
 }
 
 /// How many of these verdicts allow.
-#[tactic(auto, using(crate::proofs::DeniedLemmas::count_map))]
 fn count_allowed(verdicts: &[Verdict<'_>]) -> usize
-    ensures { result ≡ count_by is_allowed (map verdict_value verdicts.now) }
+    ensures { result ≡ count_by is_allowed verdicts.now }
 {
     verdicts
         .iter()
@@ -51,9 +49,8 @@ fn count_allowed(verdicts: &[Verdict<'_>]) -> usize
 }
 
 /// How many deny.
-#[tactic(auto, using(crate::proofs::DeniedLemmas::count_map))]
 fn count_denied(verdicts: &[Verdict<'_>]) -> usize
-    ensures { result ≡ count_by is_denied (map verdict_value verdicts.now) }
+    ensures { result ≡ count_by is_denied verdicts.now }
 {
     verdicts
         .iter()
@@ -63,8 +60,8 @@ fn count_denied(verdicts: &[Verdict<'_>]) -> usize
 
 /// How many verdicts allow and deny, for all of these crawlers.
 pub fn totals_of(agents: &[AgentAudit<'_>]) -> Totals
-    ensures allowed { result.allowed ≡ total is_allowed (map agent_value agents.now) }
-    ensures denied { result.denied ≡ total is_denied (map agent_value agents.now) }
+    ensures allowed { result.allowed ≡ total is_allowed agents.now }
+    ensures denied { result.denied ≡ total is_denied agents.now }
 {
     let mut totals = Totals {
         allowed: 0,

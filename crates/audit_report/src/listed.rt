@@ -2,8 +2,7 @@
 ghost use Rattle.std.specs.Prelude.{◌≡◌, ◌++◌, ◌∷◌, [], IfOk, List, OnOk, if◌then◌else◌, map};
 ghost use Rattle.audit_report.specs.Internal.Listed.{AreCounts, counted, number_at, numbers_of, with_number};
 ghost use Rattle.audit_report.specs.Listed.{listed, more, more_of, unlisted};
-ghost use Rattle.robots_warnings.specs.Internal.{warning_value};
-ghost use Rattle.robots_warnings.specs.Warnings.{WarningValue};
+ghost use Rattle.robots_warnings.specs.WarningValue.{WarningValue};
 
 use robots_text::level::Level;
 use robots_warnings::table::Cause;
@@ -90,11 +89,11 @@ fn push_if<'a>(
     holds: bool,
     warning: &Warning<'a>,
 ) -> Result<(), AllocError>
-    ensures { OnOk result (map warning_value found.new.items ≡ map warning_value found.old.items
-        ++ (if holds then warning_value warning.now ∷ [] else [])) }
+    ensures { OnOk result (found.new.items ≡ found.old.items
+        ++ (if holds then warning.now ∷ [] else [])) }
 {
     if holds {
-        found.push(*warning)?;
+        found.push(warning.copy())?;
     }
     Ok(())
 }
@@ -115,11 +114,11 @@ fn counted(counts: &BTreeMap<&'static str, Numbers>, cause: Cause) -> usize
 
 /// Counts the warnings with each name and level.
 fn tally_of<'a>(alloc: Global, warnings: &[Warning<'a>]) -> Result<Tally<'a>, AllocError>
-    ensures counts { IfOk result (λ tally. AreCounts tally.counts (map warning_value warnings.now)) }
-    ensures listed { IfOk result (λ tally. map warning_value tally.listed.items
-        ≡ listed (map warning_value warnings.now)) }
-    ensures unlisted { IfOk result (λ tally. map warning_value tally.unlisted.items
-        ≡ unlisted (map warning_value warnings.now)) }
+    ensures counts { IfOk result (λ tally. AreCounts tally.counts warnings.now) }
+    ensures listed { IfOk result (λ tally. tally.listed.items
+        ≡ listed warnings.now) }
+    ensures unlisted { IfOk result (λ tally. tally.unlisted.items
+        ≡ unlisted warnings.now) }
 {
     let mut counts = BTreeMap::new(alloc);
     let mut listed = Vec::new(alloc);
@@ -147,7 +146,7 @@ fn more_in(
     unlisted: &[Warning<'_>],
 ) -> Result<Vec<More>, AllocError>
     ensures { IfOk result (λ found. (warnings : List WarningValue) → AreCounts counts.now warnings
-        → found.items ≡ map (more_of warnings) (map warning_value unlisted.now)) }
+        → found.items ≡ map (more_of warnings) unlisted.now) }
 {
     let mut found = Vec::with_capacity(alloc, unlisted.len())?;
     for warning in unlisted {
@@ -164,9 +163,9 @@ pub(crate) fn listing_of<'a>(
     alloc: Global,
     warnings: &[Warning<'a>],
 ) -> Result<Listing<'a>, AllocError>
-    ensures warnings { IfOk result (λ found. map warning_value found.warnings.items
-        ≡ listed (map warning_value warnings.now)) }
-    ensures more { IfOk result (λ found. found.more.items ≡ more (map warning_value warnings.now)) }
+    ensures warnings { IfOk result (λ found. found.warnings.items
+        ≡ listed warnings.now) }
+    ensures more { IfOk result (λ found. found.more.items ≡ more warnings.now) }
 {
     let tally = tally_of(alloc, warnings)?;
     let more = more_in(alloc, &tally.counts, &tally.unlisted)?;

@@ -3,8 +3,6 @@ ghost use Rattle.std.specs.Prelude.{◌≡◌, ◌++◌, ◌∷◌, [], IfOk, On
 ghost use Rattle.robots_io.specs.Lines.{ended};
 ghost use Rattle.robots_text.specs.Raw.{raw_line, raw_text, raw_value};
 ghost use Rattle.robots_text.specs.Text.{level_text, line_text, named_text, part_text, value_text, written};
-ghost use Rattle.robots_warnings.specs.Internal.{warning_value};
-ghost use Rattle.audit_core.specs.Internal.{agent_value, audit_value, verdict_value};
 ghost use Rattle.audit_core.specs.Syntax.{syntax_lines};
 ghost use Rattle.audit_report.specs.Report.{agent_lines, deciding, delay_line, line_about, listed_lines, more_line};
 ghost use Rattle.audit_report.specs.Report.{numbers_line, place_part, report_lines, shown_warning, verdict_label};
@@ -48,7 +46,7 @@ fn deciding(line: Option<usize>) -> Value<'static>
 
 /// The line with the verdict on a URL.
 fn verdict_line<'a>(verdict: &Verdict<'a>) -> [Part<'a>; 2]
-    ensures { raw_line result ≡ line_text (verdict_line (verdict_value verdict.now)) }
+    ensures { raw_line result ≡ line_text (verdict_line verdict.now) }
 {
     [
         Part(
@@ -62,7 +60,7 @@ fn verdict_line<'a>(verdict: &Verdict<'a>) -> [Part<'a>; 2]
 /// Appends a line for each verdict.
 fn push_verdicts(text: &mut String, verdicts: &[Verdict<'_>]) -> Result<(), AllocError>
     ensures { OnOk result (string_bytes text.new ≡ string_bytes text.old
-        ++ written (map verdict_line (map verdict_value verdicts.now))) }
+        ++ written (map verdict_line verdicts.now)) }
 {
     for verdict in verdicts {
         push_line_of(text, &verdict_line(verdict))?;
@@ -73,7 +71,7 @@ fn push_verdicts(text: &mut String, verdicts: &[Verdict<'_>]) -> Result<(), Allo
 /// Appends the lines about a crawler: its group, its delay, whether the file is rejected for it, and its verdicts.
 fn push_agent(text: &mut String, agent: &AgentAudit<'_>) -> Result<(), AllocError>
     ensures { OnOk result (string_bytes text.new ≡ string_bytes text.old
-        ++ written (agent_lines (agent_value agent.now))) }
+        ++ written (agent_lines agent.now)) }
 {
     push_group(text, &agent.agent, agent.group)?;
     push_delay(text, agent.delay)?;
@@ -84,7 +82,7 @@ fn push_agent(text: &mut String, agent: &AgentAudit<'_>) -> Result<(), AllocErro
 /// Appends the lines about each crawler.
 fn push_agents(text: &mut String, agents: &[AgentAudit<'_>]) -> Result<(), AllocError>
     ensures { OnOk result (string_bytes text.new ≡ string_bytes text.old
-        ++ written (flat_map agent_lines (map agent_value agents.now))) }
+        ++ written (flat_map agent_lines agents.now)) }
 {
     for agent in agents {
         push_agent(text, agent)?;
@@ -108,7 +106,7 @@ pub fn report_text(
     has_rows: bool,
     audit: &Audit<'_, '_>,
 ) -> Result<String, AllocError>
-    ensures { IfOk result (λ text. string_bytes text ≡ written (report_lines has_rows (audit_value audit.now))) }
+    ensures { IfOk result (λ text. string_bytes text ≡ written (report_lines has_rows audit.now)) }
 {
     let mut text = String::with_capacity(alloc, audit.labels.len())?;
     if has_rows {
@@ -144,7 +142,7 @@ fn place_part(line: Option<usize>) -> Part<'static>
 
 /// The file, the line and the level of a warning.
 fn front_of<'a>(has_colors: bool, file: &'a str, warning: &Warning<'_>) -> [Part<'a>; 4]
-    ensures { raw_line result ≡ level_text has_colors (line_about file.entry.now (warning_value warning.now) []) }
+    ensures { raw_line result ≡ level_text has_colors (line_about file.entry.now warning.now []) }
 {
     [
         Part("", Value::Untrusted(file.as_bytes())),
@@ -165,7 +163,7 @@ fn push_warning(
     warning: &Warning<'_>,
 ) -> Result<(), AllocError>
     ensures { OnOk result (string_bytes text.new ≡ string_bytes text.old
-        ++ ended (level_text has_colors (shown_warning file.now (warning_value warning.now)) ∷ [])) }
+        ++ ended (level_text has_colors (shown_warning file.now warning.now) ∷ [])) }
 {
     push_parts(text, &front_of(has_colors, file, warning))?;
     push_reported(text, warning)?;
@@ -180,7 +178,7 @@ fn warning_lines(
     warnings: &[Warning<'_>],
 ) -> Result<String, AllocError>
     ensures { IfOk result (λ text. string_bytes text ≡ ended (map (level_text has_colors)
-        (map (shown_warning file.now) (map warning_value warnings.now)))) }
+        (map (shown_warning file.now) warnings.now))) }
 {
     let mut text = String::new(alloc);
     for warning in warnings {
@@ -210,7 +208,7 @@ pub fn listed_lines(
     warnings: &[Warning<'_>],
 ) -> Result<String, AllocError>
     ensures { IfOk result (λ text. string_bytes text
-        ≡ ended (listed_lines has_colors file.now (map warning_value warnings.now))) }
+        ≡ ended (listed_lines has_colors file.now warnings.now)) }
 {
     let found = listing_of(alloc, warnings)?;
     let mut text = warning_lines(alloc, has_colors, file, &found.warnings)?;

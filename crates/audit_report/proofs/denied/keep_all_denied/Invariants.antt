@@ -1,11 +1,10 @@
 use Rattle.std.proofs.Common.{◌≡◌, drop, map, take}
 use Rattle.audit_core.specs.Audit.{with_denied}
-use Rattle.audit_core.specs.Internal.{agent_value}
 use Rattle.audit_report.proofs.denied.keep_all_denied.Given as goal
 
 abbrev pub invariant-loop-agent : goal.invariant-loop-agent
 invariant-loop-agent l =
     let at = l.agent-index in record {
-      done : map agent_value (take at l.agents) ≡ map with_denied (map agent_value (take at l.fn.agents));
+      done : (take at l.agents) ≡ map with_denied (take at l.fn.agents);
       left : drop at l.agents ≡ drop at l.fn.agents;
     }

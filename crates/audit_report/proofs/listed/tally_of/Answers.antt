@@ -4,7 +4,6 @@ use Rattle.audit_report.specs.Internal.Listed.{number_at, with_number}
 use Rattle.audit_report.specs.declared.listed.Numbers.{Numbers}
 use Rattle.audit_report.specs.Listed.{count_of, is_same_level, most}
 use Rattle.robots_text.specs.declared.level.Level.{Level}
-use Rattle.robots_warnings.specs.Internal.{warning_value}
 use Rattle.audit_report.proofs.ListedLemmas.{counted_next, counted_within, grown, placed_next}
 use Rattle.audit_report.proofs.listed.tally_of.Goals as goal
 
@@ -26,7 +25,7 @@ loop-warning-preserved c =
     let level = c.level-level.result in
     let place = c.at-place.ensures ∙ ap (λ numbers. number_at numbers level) c.numbers_of-numbers.ensures
     ∙ so_far.counts.each c.name-name.result.now level
-    ∙ ap₂ (λ (name : List ℕ) level. count_of name level (map warning_value (take at warnings)))
+    ∙ ap₂ (λ (name : List ℕ) level. count_of name level (take at warnings))
     c.name-name.ensures c.level-level.ensures in
     let numbers = c.numbers_of-numbers.result in
     let more = λ (other : Level).
@@ -40,9 +39,9 @@ loop-warning-preserved c =
           c.loop-warning-test.true
           c.name-name.ensures so_far.counts more c.in_ok-insert.ensures.updates;
       listed = placed_next (λ place. nat_lt place most) warnings at _ c.at-place.result
-          (map warning_value c.loop-warning.listed.items) _ _ c.loop-warning-test.true place
+          c.loop-warning.listed.items _ _ c.loop-warning-test.true place
           c.in_ok-push_if.ensures so_far.listed;
       unlisted = placed_next (λ place. place == most) warnings at _ c.at-place.result
-          (map warning_value c.loop-warning.unlisted.items) _ _ c.loop-warning-test.true place
+          c.loop-warning.unlisted.items _ _ c.loop-warning-test.true place
           c.in_ok-push_if-2.ensures so_far.unlisted;
     }

@@ -2,16 +2,15 @@ use Rattle.std.proofs.Common.{◌≡◌, ◌++◌, ◌==◌, drop, map, take}
 use Rattle.std.specs.Bool.{nat_lt}
 use Rattle.audit_report.specs.Internal.Listed.{AreCounts}
 use Rattle.audit_report.specs.Listed.{listed, most, placed, unlisted}
-use Rattle.robots_warnings.specs.Internal.{warning_value}
 use Rattle.audit_report.proofs.listed.tally_of.Given as goal
 
 abbrev pub invariant-loop-warning : goal.invariant-loop-warning
 invariant-loop-warning l =
-    let done = map warning_value (take l.warning-index l.warnings) in
-    let left = map warning_value (drop l.warning-index l.warnings) in record {
+    let done = (take l.warning-index l.warnings) in
+    let left = (drop l.warning-index l.warnings) in record {
       counts : AreCounts l.counts done;
-      listed : map warning_value l.listed.items ++ placed (λ place. nat_lt place most) done left
-          ≡ listed (map warning_value l.warnings);
-      unlisted : map warning_value l.unlisted.items ++ placed (λ place. place == most) done left
-          ≡ unlisted (map warning_value l.warnings);
+      listed : l.listed.items ++ placed (λ place. nat_lt place most) done left
+          ≡ listed l.warnings;
+      unlisted : l.unlisted.items ++ placed (λ place. place == most) done left
+          ≡ unlisted l.warnings;
     }

@@ -1,6 +1,5 @@
 use Rattle.std.proofs.Common.{◌≡◌, ◌++◌, flat_map, map, string_bytes, take}
 use Rattle.robots_text.specs.Text.{written}
-use Rattle.audit_core.specs.Internal.{agent_value}
 use Rattle.audit_report.specs.Report.{agent_lines}
 use Rattle.audit_report.proofs.report.push_agents.Given as goal
 
@@ -8,4 +7,4 @@ abbrev pub invariant-loop-agent : goal.invariant-loop-agent
 invariant-loop-agent l =
     string_bytes l.text
     ≡ string_bytes l.fn.text
-    ++ written (flat_map agent_lines (map agent_value (take l.agent-index l.agents)))
+    ++ written (flat_map agent_lines (take l.agent-index l.agents))

@@ -1,6 +1,5 @@
 use Rattle.std.proofs.Common.{◌≡◌, ◌++◌, map, string_bytes, take}
 use Rattle.robots_text.specs.Text.{written}
-use Rattle.audit_core.specs.Internal.{verdict_value}
 use Rattle.audit_report.specs.Report.{verdict_line}
 use Rattle.audit_report.proofs.report.push_verdicts.Given as goal
 
@@ -8,4 +7,4 @@ abbrev pub invariant-loop-verdict : goal.invariant-loop-verdict
 invariant-loop-verdict l =
     string_bytes l.text
     ≡ string_bytes l.fn.text
-    ++ written (map verdict_line (map verdict_value (take l.verdict-index l.verdicts)))
+    ++ written (map verdict_line (take l.verdict-index l.verdicts))

@@ -1,11 +1,10 @@
 use Rattle.std.proofs.Common.{◌≡◌, map, string_bytes, take}
 use Rattle.robots_io.specs.Lines.{ended}
 use Rattle.robots_text.specs.Text.{level_text}
-use Rattle.robots_warnings.specs.Internal.{warning_value}
 use Rattle.audit_report.specs.Report.{shown_warning}
 use Rattle.audit_report.proofs.report.warning_lines.Given as goal
 
 abbrev pub invariant-loop-warning : goal.invariant-loop-warning
 invariant-loop-warning l =
-    let done = map warning_value (take l.warning-index l.warnings) in
+    let done = (take l.warning-index l.warnings) in
     string_bytes l.text ≡ ended (map (level_text l.has_colors) (map (shown_warning l.file) done))
