@@ -1,11 +1,10 @@
--- How expectations are checked, and the results of a run.
-use Rattle.std.proofs.Common.{◌≡◌, ◌≢◌, ◌∙◌, ℕ, ◌+◌, ◌<◌, ◌==◌, true, false, List, [], ◌∷◌, ◌++◌, IfSome}
-use Rattle.std.proofs.Common.{Result, Ok, Err, IsErrOf, ap, append-nil, filter, inl, inr, length, map, refl}
-use Rattle.std.proofs.Common.{slice_index_or, string_bytes, subst, sym, take}
+-- How expectations are checked, and the report on them.
+use Rattle.std.proofs.Common.{◌≡◌, ◌∙◌, ℕ, ◌+◌, ◌<◌, ◌==◌, Bool, true, false, List, [], ◌∷◌, ◌++◌}
+use Rattle.std.proofs.Common.{Ok, ap, append-nil, filter, inl, inr, length, map, refl}
+use Rattle.std.proofs.Common.{slice_index_or, subst, sym, take}
 use Rattle.std.specs.Prelude.{if◌then◌else◌}
 use Rattle.std.proofs.lemmas.Bool.{cases_Bool}
 use Rattle.std.specs.List.{AllByRecursion as Each}
-use Rattle.std.specs.Io.KnownBytes.{Keeps}
 use Rattle.std.proofs.lemmas.List.{length-map, map-append, take_more}
 use Rattle.std.proofs.lemmas.List.Concat.{flat_map-append}
 use Rattle.std.proofs.lemmas.List.Elements.{filter-append}
@@ -13,30 +12,20 @@ use Rattle.texting_robots.specs.Callers.{IsRejected, IsRobotOfFile, RobotValue, 
 use Rattle.texting_robots.specs.Callers.{placed_rules}
 use Rattle.texting_robots.specs.declared.decision.Decision.{Decision}
 use Rattle.texting_robots.proofs.MainTheoremLemmas.{answers_computed, read_robot}
+use Rattle.texting_robots.proofs.TrimLemmas.{each_append}
 use Rattle.robots_io.specs.Lines.{ended, lf}
-use Rattle.robots_io.specs.Sanitize.{IsPrintable}
+use Rattle.robots_io.specs.Sanitize.{IsPrintable, has_command}
 use Rattle.robots_io.specs.Verdicts.{IsDecisionOn}
-use Rattle.robots_io.proofs.SanitizeLemmas.{nil_printable}
-use Rattle.robots_io.specs.declared.streams.ReadFault.{ReadFault}
-use Rattle.robots_io.specs.declared.streams.ReadFault.TheVariants as cause
+use Rattle.robots_io.proofs.SanitizeLemmas.{ended_printable, line_printable}
+use Rattle.robots_text.specs.Text.{NamedLine, ReportLine, line_text, named_text}
+use Rattle.robots_text.proofs.PartLemmas.{line_plain, named_printable, named_quiet}
 use Rattle.audit_expect.specs.declared.expect.Expectation.{Expectation}
-use Rattle.audit_expect.specs.declared.expectations.Results.{Results}
-use Rattle.audit_core.specs.declared.fault.Entry.TheVariants as entry
-use Rattle.audit_core.specs.declared.fault.Fault.{Fault}
-use Rattle.audit_core.specs.declared.fault.Fault.TheVariants.{Memory, Write}
-use Rattle.audit_core.specs.declared.fault.Outcome.{Outcome}
-use Rattle.audit_core.specs.Run.{Ends}
 use Rattle.audit_expect.specs.Expect.{ExpectationValue, expectations_in}
-use Rattle.audit_expect.specs.Expectations.{CheckedValue, Checks, IsChecked, IsEntryFault, IsFaultOf}
-use Rattle.audit_expect.specs.Expectations.{IsReport, WritesBeginning, failure_line, fails}
-use Rattle.audit_expect.specs.Expectations.{holding_text}
-use Rattle.audit_core.specs.Fault.{fault_of_read, fault_text, message_after}
+use Rattle.audit_expect.specs.Expectations.{CheckedValue, IsChecked, IsReport, failure, failure_line, fails}
+use Rattle.audit_expect.specs.Expectations.{holding, result_lines}
 use Rattle.audit_expect.specs.Internal.Expect.{expectation_value}
-use Rattle.audit_expect.specs.Internal.Expectations.{AreFailuresOn, AreResultsOn, failures_at}
-use Rattle.audit_core.proofs.RunLemmas.{bytes_are_left, bytes_left}
-use Rattle.audit_expect.proofs.EntryLemmas.{entry_printable, entry_unwritten}
-use Rattle.audit_core.proofs.FaultLemmas.{may_fail_printable}
-use Rattle.audit_core.proofs.ListLemmas.{none_of, lines_empty}
+use Rattle.audit_expect.specs.Internal.Expectations.{AreFailuresOn, failures_at}
+use Rattle.audit_core.proofs.ListLemmas.{each_map, lines_empty, none_of}
 
 -- ---- findings
 
@@ -57,10 +46,6 @@ robot_found agent file target robot decision of by =
 
 -- ---- the report
 
-each_push : {X : Type 0} (P : X → Type 0) (xs : List X) (x : X) → Each P xs → P x → Each P (xs ++ x ∷ [])
-each_push P [] x each is = (is, tt)
-each_push P (y ∷ ys) x (first, later) is = (first, each_push P ys x later is)
-
 failures_more : (name : List ℕ) (checked : List CheckedValue) (one : CheckedValue)
     → ended (map (failure_line name) (filter fails (checked ++ one ∷ [])))
     ≡ ended (map (failure_line name) (filter fails checked)) ++ ended (failures_at name one)
@@ -69,9 +54,6 @@ failures_more name checked one =
     ∙ ap ended (map-append (failure_line name) (filter fails checked) (filter fails (one ∷ [])))
     ∙ flat_map-append (λ (line : List ℕ). line ++ lf ∷ []) (map (failure_line name) (filter fails checked))
     (failures_at name one)
-
-pub no_failures : (name file report : List ℕ) → report ≡ [] → AreFailuresOn name file [] report
-no_failures name file report empty = record { checked = []; all = refl; found = tt; whole = empty }
 
 -- loop step: one more expectation
 pub failures_next : (name file old new : List ℕ) (items : List Expectation) (place : ℕ) (d : Expectation)
@@ -91,160 +73,65 @@ failures_next name file old new items place d next below are same is added =
           same
           ∙ sym (ap (map expectation_value) (take_more items place d below)
           ∙ map-append expectation_value (take place items) (one ∷ []));
-      found = each_push (IsChecked file) are.checked next are.found is;
+      found = each_append (IsChecked file) are.checked (next ∷ []) are.found (is, tt);
       whole =
           added ∙ ap (λ (t : List ℕ). t ++ ended (failures_at name next)) are.whole
           ∙ sym (failures_more name are.checked next);
     }
 
--- whether some expectation fails, by the text of the failures
-none_fails : (name report : List ℕ) (checked : List CheckedValue)
-    → report ≡ ended (map (failure_line name) (filter fails checked))
-    → (length (filter fails checked) == 0) ≡ (length report == 0)
-none_fails name report checked is =
-    sym (ap (λ (text : List ℕ). length text == 0) is
-    ∙ lines_empty (map (failure_line name) (filter fails checked))
-    ∙ ap (λ n. n == 0) (length-map (filter fails checked) (failure_line name)))
-
-some_fail : (name file : List ℕ) (expectations : List ExpectationValue) (text : List ℕ) (results : Results)
-    → AreFailuresOn name file expectations text → (length text == 0) ≡ false
-    → string_bytes results.text ≡ text
-    → results.all_hold ≡ false → AreResultsOn name file expectations results
-some_fail name file expectations text results are some is hold =
-    let fail = none_fails name text are.checked are.whole ∙ some in
-    record {
-      checked = are.checked;
-      all = are.all;
-      found = are.found;
-      whole = rw fail (is ∙ are.whole);
-      hold = hold ∙ sym fail;
-    }
-
--- as many expectations were checked as there are
-checked_number : (items : List Expectation) (checked : List CheckedValue)
-    → map (λ (one : CheckedValue). one.expectation) checked ≡ map expectation_value items
-    → length items ≡ length checked
-checked_number items checked all =
-    sym (length-map items expectation_value) ∙ sym (ap length all)
-    ∙ length-map checked (λ (one : CheckedValue). one.expectation)
-
-all_hold : (name file : List ℕ) (items : List Expectation) (text : List ℕ) (results : Results)
-    → AreFailuresOn name file (map expectation_value items) text → (length text == 0) ≡ true
-    → string_bytes results.text ≡ text ++ ended (holding_text (length items) ∷ [])
-    → results.all_hold ≡ true → AreResultsOn name file (map expectation_value items) results
-all_hold name file items text results are empty is hold =
-    let fail = none_fails name text are.checked are.whole ∙ empty in
-    let number = checked_number items are.checked are.all in
-    record {
-      checked = are.checked;
-      all = are.all;
-      found = are.found;
-      whole =
-          rw fail (is ∙ ap (λ (front : List ℕ). front ++ ended (holding_text (length items) ∷ []))
-          (none_of text empty) ∙ ap (λ n. ended (holding_text n ∷ [])) number);
-      hold = hold ∙ sym fail;
-    }
-
-pub results_made : (name file : List ℕ) (items : List Expectation) (failures : List ℕ) (number : ℕ)
-    (results : Results) → AreFailuresOn name file (map expectation_value items) failures
-    → number ≡ length items
-    → string_bytes results.text
-    ≡ failures ++ (if length failures == 0 then ended (holding_text number ∷ []) else [])
-    → results.all_hold ≡ (length failures == 0) → AreResultsOn name file (map expectation_value items) results
-results_made name file items failures number results are counted text hold =
-    elim (cases_Bool (length failures == 0)) [
-      | inl empty ↦
-          let whole : string_bytes results.text ≡ failures ++ ended (holding_text number ∷ []) =
-          rw empty at text in
-          all_hold name file items failures results are empty
-          (whole ∙ ap (λ n. failures ++ ended (holding_text n ∷ [])) counted) (hold ∙ empty)
-      | inr some ↦
-          let whole : string_bytes results.text ≡ failures ++ [] = rw some at text in
-          some_fail name file (map expectation_value items) failures results are some
-          (whole ∙ append-nil failures) (hold ∙ some)
-    ]
-
-pub report_made : (name text file : List ℕ) (items : List Expectation) (results : Results)
+pub report_made : (name text file : List ℕ) (items : List Expectation) (failures report : List ℕ) (number : ℕ)
     → expectations_in text ≡ Ok (map expectation_value items) → (length items == 0) ≡ false
-    → AreResultsOn name file (map expectation_value items) results
-    → IsReport name text file (string_bytes results.text) results.all_hold
-report_made name text file items results is some are = record {
+    → AreFailuresOn name file (map expectation_value items) failures → number ≡ length items
+    → report ≡ failures ++ (if length failures == 0 then ended (line_text (holding number) ∷ []) else [])
+    → IsReport name text file report (length failures == 0)
+report_made name text file items failures report number is some are counted made = record {
   checked = are.checked;
   all = is ∙ ap Ok (sym are.all);
   found = are.found;
-  some = ap (λ n. n == 0) (sym (checked_number items are.checked are.all)) ∙ some;
-  whole = are.whole;
-  hold = are.hold;
+  some = ap (λ n. n == 0) (sym as_many) ∙ some;
+  whole = elim (cases_Bool (length failures == 0)) [
+    | inl empty ↦
+        let whole = rw empty at made in
+        rw (sym hold ∙ empty)
+        (whole ∙ ap (λ (front : List ℕ). front ++ ended (line_text (holding number) ∷ []))
+        (none_of failures empty) ∙ ap (λ n. ended (line_text (holding n) ∷ [])) (counted ∙ as_many))
+    | inr fail ↦ let whole = rw fail at made in rw (sym hold ∙ fail) (whole ∙ append-nil failures ∙ are.whole)
+  ];
+  hold = hold;
 }
+  where
+    -- as many expectations were checked as there are
+    as_many : length items ≡ length are.checked
+    as_many =
+        sym (length-map items expectation_value) ∙ sym (ap length are.all)
+        ∙ length-map are.checked (λ (one : CheckedValue). one.expectation)
 
--- ---- a run
+    hold : (length failures == 0) ≡ (length (filter fails are.checked) == 0)
+    hold =
+        ap (λ (text : List ℕ). length text == 0) are.whole
+        ∙ lines_empty (map (failure_line name) (filter fails are.checked))
+        ∙ ap (λ n. n == 0) (length-map (filter fails are.checked) (failure_line name))
 
-pub entry_fault : (name text : List ℕ) (fault : Fault)
-    → IsEntryFault name entry.Expectation (expectations_in text) fault
-    → IsFaultOf name text fault × (fault ≢ Write)
-entry_fault name text fault is =
-    (inl is, entry_unwritten name entry.Expectation (expectations_in text) fault is)
+-- ---- what the report contains
 
-pub read_fault : (name text : List ℕ) (why : ReadFault)
-    → IsFaultOf name text (fault_of_read why) × (fault_of_read why ≢ Write)
-read_fault name text cause.Read = (inr tt, λ same. cc)
-read_fault name text cause.Memory = (inr tt, λ same. cc)
+each_line : (P : List ℕ → Type 0) → ((line : ReportLine) → P (line_text line))
+    → ((line : NamedLine) → P (named_text line)) → (name : List ℕ) (checked : List CheckedValue)
+    → Each P (result_lines name checked)
+each_line P plain named name checked = by (length (filter fails checked) == 0)
+  where
+    by : (hold : Bool) → Each P (if hold then line_text (holding (length checked)) ∷ []
+        else map (failure_line name) (filter fails checked))
+    by true = (plain (holding (length checked)), tt)
+    by false = each_map P (failure_line name) (λ one. named (failure name one)) (filter fails checked)
 
-pub memory_fault : (name text : List ℕ) (fault : Fault) → fault ≡ Memory
-    → IsFaultOf name text fault × (fault ≢ Write)
-memory_fault name text fault is =
-    subst (λ (fault : Fault). IsFaultOf name text fault × (fault ≢ Write)) (sym is) (inr tt, λ same. cc)
+pub expect_printable : (name text file report : List ℕ) (all_hold : Bool)
+    → IsReport name text file report all_hold → IsPrintable report
+expect_printable name text file report all_hold is =
+    subst IsPrintable (sym is.whole) (ended_printable (result_lines name is.checked) (each_line IsPrintable
+    (λ line. line_printable (line_text line) (line_plain line).printable)
+    (λ line. line_printable (named_text line) (named_printable line)) name is.checked))
 
--- a run that failed before it wrote anything
-pub stopped : (name text : List ℕ) (ends : Ends) (result : Result Outcome Fault) (file : List ℕ)
-    (fault : Fault)
-    → IsErrOf result fault → IfSome ends.left (λ left. file ≡ left)
-    → IsFaultOf name text fault × (fault ≢ Write) → Keeps ends.old ends.new → Checks name text ends result
-stopped name text ends (Ok outcome) file fault is read may kept = absurd (cc)
-stopped name text ends (Err found) file fault is read may kept =
-    let same : fault ≡ found = cc in
-    record {
-      file = file;
-      read = read;
-      ok = tt;
-      fault = subst (IsFaultOf name text) same may.0;
-      beginning = λ wrote. absurd (may.1 (same ∙ cc));
-      nothing_written = λ _. kept;
-    }
-
--- such a run that didn't read the file
-pub unread : (name text : List ℕ) (ends : Ends) (result : Result Outcome Fault) (fault : Fault)
-    → IsErrOf result fault → IsFaultOf name text fault × (fault ≢ Write) → Keeps ends.old ends.new
-    → Checks name text ends result
-unread name text ends result fault is may kept =
-    stopped name text ends result (bytes_left ends.left) fault is (bytes_are_left ends.left) may kept
-
--- a run whose write failed after a prefix of the report
-pub write_failed : (name text : List ℕ) (ends : Ends) (result : Result Outcome Fault) (file : List ℕ)
-    → IsErrOf result Write → IfSome ends.left (λ left. file ≡ left) → WritesBeginning name text ends file
-    → Checks name text ends result
-write_failed name text ends (Ok outcome) file is read begun = absurd (cc)
-write_failed name text ends (Err fault) file is read begun =
-    let same : Write ≡ fault = cc in
-    record {
-      file = file;
-      read = read;
-      ok = tt;
-      fault = subst (IsFaultOf name text) same (inr tt);
-      beginning = λ _. begun;
-      nothing_written = λ other. absurd (other (sym same));
-    }
-
--- ---- the message on standard error
-
-fault_printable : (name text : List ℕ) (fault : Fault) → IsFaultOf name text fault
-    → IsPrintable (fault_text fault)
-fault_printable name text fault (inl is) =
-    entry_printable name entry.Expectation (expectations_in text) fault is
-fault_printable name text fault (inr is) = may_fail_printable fault is
-
-pub checked_printable : (name text : List ℕ) (ends : Ends) (result : Result Outcome Fault)
-    → Checks name text ends result → IsPrintable (message_after result)
-checked_printable name text ends (Ok outcome) is =
-    let (report, made, written, plain) = is.ok in subst IsPrintable (sym plain.silent) (nil_printable true)
-checked_printable name text ends (Err fault) is = fault_printable name text fault is.fault
+pub results_quiet : (name : List ℕ) (checked : List CheckedValue)
+    → Each (λ line. has_command line ≡ false) (result_lines name checked)
+results_quiet =
+    each_line (λ line. has_command line ≡ false) (λ line. (line_plain line).inside) named_quiet

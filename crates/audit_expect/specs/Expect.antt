@@ -1,11 +1,15 @@
 -- The lines of a text and the entries in them, and the expectations in the file of `--expect`, one per line.
-use Rattle.std.specs.Prelude.{ℕ, nat_eq, suc, ◌==◌, Bool, false, not, ◌&&◌, ◌||◌, List, [], ◌∷◌, Option, Some}
-use Rattle.std.specs.Prelude.{None, Result, Ok, Err, bytes_eq, codes, filter, if◌then◌else◌}
+use Rattle.std.specs.Prelude.{◌≡◌, ℕ, nat_eq, suc, ◌==◌, Bool, false, not, ◌&&◌, ◌||◌, List, [], ◌∷◌, Option, Some}
+use Rattle.std.specs.Prelude.{None, Result, Ok, Err, bytes_eq, codes, filter, if◌then◌else◌, string_bytes}
+use Rattle.std.specs.Result.{result_err}
 use Rattle.std.specs.List.{list_any, starts_with}
 use Rattle.std.specs.Str.{byte, is_utf8}
 use Rattle.robots_warnings.specs.Facts.{mark, without_start}
 use Rattle.robots_warnings.specs.Rules.{before_byte, has, somewhere}
 use Rattle.robots_warnings.specs.Urls.{is_absolute_url}
+use Rattle.audit_core.specs.declared.fault.Entry.{Entry}
+use Rattle.audit_core.specs.declared.fault.Fault.{Fault}
+use Rattle.audit_core.specs.declared.fault.Fault.TheVariants.{Empty, Malformed, Memory}
 use Rattle.audit_core.specs.declared.fault.Flaw.{Flaw}
 use Rattle.audit_core.specs.declared.fault.Flaw.TheVariants.{Agent, Form, NotUtf8, Path, Url}
 use Rattle.audit_core.specs.Crawler.{is_crawler_name, is_word}
@@ -62,6 +66,18 @@ abbrev pub entries_from : {X : Type 0} → (ℕ → List ℕ → Result (Option 
 entries_from entry number [] = Ok []
 entries_from entry number (line ∷ others) =
     before_others (entry number line) (entries_from entry (suc number) others)
+
+-- the error names the malformed line of a file with this name, or an allocation failed
+abbrev pub IsLineFault : List ℕ → Option MalformedLine → Fault → Type 0
+IsLineFault name malformed (Malformed file line flaw) =
+    (string_bytes file ≡ name) × (malformed ≡ Some (line, flaw))
+IsLineFault name malformed fault = fault ≡ Memory
+
+-- the same for the first malformed line, or the file has no such entries
+abbrev pub IsEntryFault : {X : Type 0} → List ℕ → Entry → Result (List X) MalformedLine → Fault → Type 0
+IsEntryFault name entry found (Empty file other) =
+    (string_bytes file ≡ name) × (found ≡ Ok []) × (other ≡ entry)
+IsEntryFault name entry found fault = IsLineFault name (result_err found) fault
 
 -- ---- expectations
 

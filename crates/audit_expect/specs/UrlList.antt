@@ -1,18 +1,14 @@
 -- The URLs in the file of `--urls`, one per line, and those in arguments.
-use Rattle.std.specs.Prelude.{◌≡◌, ◌⊎◌, ℕ, ◌-◌, ◌==◌, false, not, List, ◌++◌, Option, Some, None, Result, Ok}
-use Rattle.std.specs.Prelude.{Err, String, drop, if◌then◌else◌, length, string_bytes, take}
-use Rattle.std.specs.Global.{Global}
+use Rattle.std.specs.Prelude.{◌≡◌, ℕ, ◌-◌, ◌==◌, false, not, List, ◌++◌, Option, Some, None, Result, Ok}
+use Rattle.std.specs.Prelude.{Err, drop, if◌then◌else◌, length, string_bytes, take}
 use Rattle.std.specs.Char.{is_ascii_whitespace}
 use Rattle.std.specs.List.{find, prefix_len, suffix_len}
 use Rattle.std.specs.Str.{is_utf8}
 use Rattle.audit_core.specs.Request.{RequestValue}
-use Rattle.audit_core.specs.Fault.{text_shown}
 use Rattle.audit_expect.specs.Expect.{MalformedLine, entries_from, is_comment, is_path_or_url, lines}
 use Rattle.audit_core.specs.Crawler.{is_word}
-use Rattle.audit_expect.specs.Expectations.{IsEntryFault}
-use Rattle.audit_core.specs.declared.fault.Entry.TheVariants as entry
 use Rattle.audit_core.specs.declared.fault.Fault.{Fault}
-use Rattle.audit_core.specs.declared.fault.Fault.TheVariants.{Malformed, Memory}
+use Rattle.audit_core.specs.declared.fault.Fault.TheVariants.{Argument, Memory}
 use Rattle.audit_core.specs.declared.fault.Flaw.TheVariants.{NotUtf8, Url}
 use Rattle.robots_warnings.specs.Facts.{mark, without_start}
 
@@ -51,22 +47,13 @@ pub record HasUrlsIn (text : List ℕ) (requested extended : RequestValue) : Typ
   pub some : (length urls == 0) ≡ false
   pub extended_is : extended ≡ with_urls urls requested
 
--- the error is about the URLs in the text, or an allocation failed
-abbrev pub IsUrlFault : List ℕ → List ℕ → Fault → Type 0
-IsUrlFault name text fault = IsEntryFault name entry.Url (urls_in text) fault
-
 -- ---- URLs in arguments
 
 -- the first of these that is neither a path nor an http(s) URL that can be parsed
 abbrev pub first_malformed : List (List ℕ) → Option (List ℕ)
 first_malformed urls = find (λ url. not (is_path_or_url url)) urls
 
--- the error shows this URL, or an allocation failed
-abbrev pub IsMalformedUrl : List ℕ → Fault → Type 0
-IsMalformedUrl url fault = (fault ≡ Memory)
-    ⊎ ((text : String Global) × (string_bytes text ≡ text_shown url) × (fault ≡ Malformed text Url))
-
 -- the error shows the first malformed one of these URLs, or an allocation failed
-abbrev pub IsMalformedUrlIn : List (List ℕ) → Fault → Type 0
-IsMalformedUrlIn urls fault =
-    (fault ≡ Memory) ⊎ ((url : List ℕ) × (first_malformed urls ≡ Some url) × IsMalformedUrl url fault)
+abbrev pub IsUrlFault : Option (List ℕ) → Fault → Type 0
+IsUrlFault malformed (Argument text flaw) = (malformed ≡ Some (string_bytes text)) × (flaw ≡ Url)
+IsUrlFault malformed fault = fault ≡ Memory

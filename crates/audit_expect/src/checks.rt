@@ -1,10 +1,10 @@
 //! What a robots.txt file says about an expectation, here and at Google, and whether the expectation fails.
-ghost use Rattle.std.specs.Prelude.{◌≡◌, IfErr, IfOk, map, take};
+ghost use Rattle.std.specs.Prelude.{◌≡◌, IfErr, IfOk, take};
 ghost use Rattle.texting_robots.specs.Callers.{IsRobotOfFile, bodies_read, file_limit};
 ghost use Rattle.audit_expect.specs.Expectations.{IsAtGoogle, IsChecked, IsFindingOn, fails, fails_at, fails_at_google, fails_here, is_unexpected};
 ghost use Rattle.audit_core.specs.Internal.{IsReading};
 ghost use Rattle.audit_expect.specs.Internal.Expectations.{checked_value};
-ghost use Rattle.audit_expect.specs.Internal.OtherReading.{is_empty_disallow};
+ghost use Rattle.audit_expect.specs.Internal.OtherReading.{marks_of};
 
 use crate::expect::Expectation;
 use crate::other_reading::other_decision;
@@ -44,8 +44,7 @@ pub(crate) struct Checked<'a> {
     pub(crate) google: AtGoogle,
 }
 
-/// The decisions of a file on a URL for a crawler with this robot, where `empty` tells of each line whether it is an empty
-/// Disallow.
+/// The decisions of a file on a URL for a crawler with this robot, where `marks` has the empty Disallows.
 fn decided_on(
     alloc: Global,
     agent: &str,
@@ -53,21 +52,20 @@ fn decided_on(
     robot: &Robot,
     file: &[u8],
     site: &Site,
-    empty: &[bool],
+    marks: &[bool],
 ) -> Result<Finding, Fault>
     requires robot { IsRobotOfFile agent.now (take file_limit file.now) robot.now }
     requires site { site.now ≡ take file_limit file.now }
-    requires empty { empty.now ≡ map is_empty_disallow (bodies_read file.now) }
+    requires marks { marks.now ≡ marks_of (bodies_read file.now) }
     ensures ok { IfOk result (IsFindingOn file.now agent.now url.now) }
     ensures fault { IfErr result (λ fault. fault ≡ Fault.Memory) }
 {
     let decision = decision_on(alloc, robot, url)?;
-    let other = other_decision(alloc, agent, url, &decision, site, empty)?;
+    let other = other_decision(alloc, agent, url, &decision, site, marks)?;
     Ok(Finding::Decided(decision, other))
 }
 
-/// What a file says about a URL for a crawler, where `reading` is how it is read for the crawler, and `empty` tells of
-/// each line whether it is an empty Disallow.
+/// What a file says about a URL for a crawler, where `reading` is how it is read for the crawler.
 fn finding_on(
     alloc: Global,
     agent: &str,
@@ -75,17 +73,17 @@ fn finding_on(
     reading: &Reading,
     file: &[u8],
     site: &Site,
-    empty: &[bool],
+    marks: &[bool],
 ) -> Result<Finding, Fault>
     requires reading { IsReading agent.now file.now reading.now }
     requires site { site.now ≡ take file_limit file.now }
-    requires empty { empty.now ≡ map is_empty_disallow (bodies_read file.now) }
+    requires marks { marks.now ≡ marks_of (bodies_read file.now) }
     ensures ok { IfOk result (IsFindingOn file.now agent.now url.now) }
     ensures fault { IfErr result (λ fault. fault ≡ Fault.Memory) }
 {
     match reading {
         Reading::Rejected(line) => Ok(Finding::Rejected(*line)),
-        Reading::Accepted(robot) => decided_on(alloc, agent, url, robot, file, site, empty),
+        Reading::Accepted(robot) => decided_on(alloc, agent, url, robot, file, site, marks),
     }
 }
 
@@ -96,15 +94,15 @@ fn finding_for(
     url: &str,
     file: &[u8],
     site: &Site,
-    empty: &[bool],
+    marks: &[bool],
 ) -> Result<Finding, Fault>
     requires site { site.now ≡ take file_limit file.now }
-    requires empty { empty.now ≡ map is_empty_disallow (bodies_read file.now) }
+    requires marks { marks.now ≡ marks_of (bodies_read file.now) }
     ensures ok { IfOk result (IsFindingOn file.now agent.now url.now) }
     ensures fault { IfErr result (λ fault. fault ≡ Fault.Memory) }
 {
     let reading = read_for(alloc, agent, file, site)?;
-    let finding = finding_on(alloc, agent, url, &reading, file, site, empty)?;
+    let finding = finding_on(alloc, agent, url, &reading, file, site, marks)?;
     Ok(finding)
 }
 
@@ -115,15 +113,15 @@ fn at_google(
     url: &str,
     file: &[u8],
     site: &Site,
-    empty: &[bool],
+    marks: &[bool],
 ) -> Result<AtGoogle, Fault>
     requires site { site.now ≡ take file_limit file.now }
-    requires empty { empty.now ≡ map is_empty_disallow (bodies_read file.now) }
+    requires marks { marks.now ≡ marks_of (bodies_read file.now) }
     ensures ok { IfOk result (IsAtGoogle file.now agent.now url.now) }
     ensures fault { IfErr result (λ fault. fault ≡ Fault.Memory) }
 {
     if gets_googlebots(site, agent) {
-        let finding = finding_for(alloc, "Googlebot", url, file, site, empty)?;
+        let finding = finding_for(alloc, "Googlebot", url, file, site, marks)?;
         return Ok(AtGoogle::Googlebot(finding));
     }
     if gets_nobodys(site, agent) {
@@ -132,26 +130,25 @@ fn at_google(
     Ok(AtGoogle::Same)
 }
 
-/// What the file says about an expectation, where `reading` is how it is read for the crawler, and `empty` tells of each
-/// line whether it is an empty Disallow.
+/// What the file says about an expectation, where `reading` is how it is read for the crawler.
 pub(crate) fn checked_on<'a>(
     alloc: Global,
     expectation: &Expectation<'a>,
     reading: &Reading,
     file: &[u8],
     site: &Site,
-    empty: &[bool],
+    marks: &[bool],
 ) -> Result<Checked<'a>, Fault>
     requires reading { IsReading expectation.now.agent.now file.now reading.now }
     requires site { site.now ≡ take file_limit file.now }
-    requires empty { empty.now ≡ map is_empty_disallow (bodies_read file.now) }
+    requires marks { marks.now ≡ marks_of (bodies_read file.now) }
     ensures expectation { IfOk result (λ checked. checked.expectation ≡ expectation.now) }
     ensures checked { IfOk result (λ checked. IsChecked file.now (checked_value checked)) }
     ensures fault { IfErr result (λ fault. fault ≡ Fault.Memory) }
 {
     let (agent, url) = (expectation.agent, expectation.url);
-    let finding = finding_on(alloc, agent, url, reading, file, site, empty)?;
-    let google = at_google(alloc, agent, url, file, site, empty)?;
+    let finding = finding_on(alloc, agent, url, reading, file, site, marks)?;
+    let google = at_google(alloc, agent, url, file, site, marks)?;
     Ok(Checked {
         expectation: *expectation,
         finding,

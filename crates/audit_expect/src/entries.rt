@@ -1,29 +1,17 @@
 //! The errors for a file of `--expect` or `--urls` that can't be used, as a line is malformed or there are no entries.
-ghost use Rattle.std.specs.Prelude.{◌≡◌, ◌++◌, OnOk, string_bytes};
-ghost use Rattle.audit_expect.specs.Expectations.{place_text};
-ghost use Rattle.audit_expect.specs.Internal.Expectations.{IsMalformed, IsWithoutEntries};
+ghost use Rattle.std.specs.Prelude.{◌≡◌, Some};
+ghost use Rattle.audit_expect.specs.Expect.{IsLineFault};
+ghost use Rattle.audit_expect.specs.Internal.Expect.{IsWithoutEntries};
 
 use audit_core::fault::{Entry, Fault, Flaw};
-use robots_io::lines::push_number;
-use robots_io::sanitize::push_sanitized;
 use std::alloc::{AllocError, Global};
-
-/// Appends the name of a file, and the number of a line.
-pub(crate) fn push_place(text: &mut String, name: &str, number: usize) -> Result<(), AllocError>
-    ensures { OnOk result (string_bytes text.new ≡ string_bytes text.old ++ place_text name.now number) }
-{
-    push_sanitized(text, name.as_bytes())?;
-    text.push_str(":")?;
-    push_number(text, number)
-}
 
 /// The error for a malformed line; `Fault::Memory` if an allocation fails.
 pub(crate) fn malformed(alloc: Global, name: &str, number: usize, flaw: Flaw) -> Fault
-    ensures { IsMalformed name.now number flaw result }
+    ensures { IsLineFault name.now (Some (number, flaw)) result }
 {
-    let mut place = String::new(alloc);
-    match push_place(&mut place, name, number) {
-        Ok(()) => Fault::Malformed(place, flaw),
+    match String::from_str(alloc, name) {
+        Ok(file) => Fault::Malformed(file, number, flaw),
         Err(AllocError) => Fault::Memory,
     }
 }
@@ -32,9 +20,8 @@ pub(crate) fn malformed(alloc: Global, name: &str, number: usize, flaw: Flaw) ->
 pub(crate) fn without_entries(alloc: Global, name: &str, entry: Entry) -> Fault
     ensures { IsWithoutEntries name.now entry result }
 {
-    let mut shown = String::new(alloc);
-    match push_sanitized(&mut shown, name.as_bytes()) {
-        Ok(()) => Fault::Empty(shown, entry),
+    match String::from_str(alloc, name) {
+        Ok(file) => Fault::Empty(file, entry),
         Err(AllocError) => Fault::Memory,
     }
 }

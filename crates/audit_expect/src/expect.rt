@@ -7,15 +7,18 @@ ghost use Rattle.audit_expect.specs.Expect.{begins_dot_segment, entries_from, ex
 ghost use Rattle.audit_expect.specs.Expect.{expectations_in, expects, is_asked_otherwise, is_comment, is_in};
 ghost use Rattle.audit_expect.specs.Expect.{is_path, is_path_or_url, lines, parts, words};
 ghost use Rattle.audit_core.specs.Crawler.{is_word};
-ghost use Rattle.audit_expect.specs.Internal.Expect.{HasNone, IsFirstSeparator, IsParseFault, expectation_value};
+ghost use Rattle.audit_expect.specs.Expect.{IsLineFault};
+ghost use Rattle.std.specs.Result.{result_err};
+ghost use Rattle.audit_expect.specs.Internal.Expect.{HasNone, IsFirstSeparator, expectation_value};
 
+use crate::entries::malformed;
 use audit_core::agents::as_text;
 use audit_core::crawler::is_crawler_name;
-use audit_core::fault::Flaw;
+use audit_core::fault::{Fault, Flaw};
 use robots_warnings::facts::without_mark;
 use robots_warnings::rules::{before_byte, somewhere};
 use robots_warnings::urls::is_absolute_url;
-use std::alloc::{AllocError, AllocFailed, Global};
+use std::alloc::{AllocError, Global};
 
 /// What has to be allowed or denied.
 #[derive(Clone, Copy)]
@@ -26,37 +29,6 @@ pub(crate) struct Expectation<'a> {
     pub(crate) allowed: bool,
     pub(crate) agent: &'a str,
     pub(crate) url: &'a str,
-}
-
-/// Why the entries of a text can't be read.
-#[derive(Drop)]
-pub(crate) enum ParseFault {
-    /// The line with this number is malformed.
-    Malformed(usize, Flaw),
-    /// An allocation failed.
-    Memory,
-}
-
-impl From<AllocError> for ParseFault {
-    ghost use Rattle.std.specs.Prelude.{◌≡◌};
-    ghost use Rattle.audit_expect.specs.declared.expect.ParseFault.TheVariants.{Memory};
-
-    ghost from_gives = { λ _ fault. fault ≡ Memory };
-
-    fn from(_: AllocError) -> ParseFault {
-        ParseFault::Memory
-    }
-}
-
-impl<T: Drop> From<AllocFailed<T>> for ParseFault {
-    ghost use Rattle.std.specs.Prelude.{◌≡◌};
-    ghost use Rattle.audit_expect.specs.declared.expect.ParseFault.TheVariants.{Memory};
-
-    ghost from_gives = { λ _ fault. fault ≡ Memory };
-
-    fn from(_: AllocFailed<T>) -> ParseFault {
-        ParseFault::Memory
-    }
 }
 
 /// Whether the byte is one of the separators.
@@ -168,30 +140,31 @@ fn is_asked_otherwise(word: &[u8]) -> bool
 /// The expectation of a line with these three words.
 fn expects<'a>(
     alloc: Global,
+    name: &str,
     number: usize,
     word: &[u8],
     agent: &'a [u8],
     url: &'a [u8],
-) -> Result<Option<Expectation<'a>>, ParseFault>
+) -> Result<Option<Expectation<'a>>, Fault>
     ensures ok { IfOk result (λ found. expects number word.now agent.now url.now
         ≡ Ok (option_map expectation_value found)) }
-    ensures fault { IfErr result (IsParseFault (expects number word.now agent.now url.now)) }
+    ensures fault { IfErr result (IsLineFault name.now (result_err (expects number word.now agent.now url.now))) }
 {
     let allowed = word == b"allow".as_slice();
     if !allowed && word != b"deny".as_slice() {
-        return Err(ParseFault::Malformed(number, Flaw::Form));
+        return Err(malformed(alloc, name, number, Flaw::Form));
     }
     let (Some(agent), Some(url)) = (as_text(agent), as_text(url)) else {
-        return Err(ParseFault::Malformed(number, Flaw::NotUtf8));
+        return Err(malformed(alloc, name, number, Flaw::NotUtf8));
     };
     if !is_crawler_name(agent) {
-        return Err(ParseFault::Malformed(number, Flaw::Agent));
+        return Err(malformed(alloc, name, number, Flaw::Agent));
     }
     if !is_path_or_url(alloc, url.as_bytes())? {
-        return Err(ParseFault::Malformed(number, Flaw::Url));
+        return Err(malformed(alloc, name, number, Flaw::Url));
     }
     if is_asked_otherwise(url.as_bytes()) {
-        return Err(ParseFault::Malformed(number, Flaw::Path));
+        return Err(malformed(alloc, name, number, Flaw::Path));
     }
     Ok(Some(Expectation {
         number,
@@ -204,11 +177,12 @@ fn expects<'a>(
 /// The expectation of the line with this number, if it has one.
 fn expectation_in<'a>(
     alloc: Global,
+    name: &str,
     number: usize,
     line: &'a [u8],
-) -> Result<Option<Expectation<'a>>, ParseFault>
+) -> Result<Option<Expectation<'a>>, Fault>
     ensures ok { IfOk result (λ found. expectation_in number line.now ≡ Ok (option_map expectation_value found)) }
-    ensures fault { IfErr result (IsParseFault (expectation_in number line.now)) }
+    ensures fault { IfErr result (IsLineFault name.now (result_err (expectation_in number line.now))) }
 {
     let words = words(alloc, line)?;
     if words.is_empty() {
@@ -218,9 +192,9 @@ fn expectation_in<'a>(
         return Ok(None);
     }
     if words.len() != 3 {
-        return Err(ParseFault::Malformed(number, Flaw::Form));
+        return Err(malformed(alloc, name, number, Flaw::Form));
     }
-    expects(alloc, number, words[0], words[1], words[2])
+    expects(alloc, name, number, words[0], words[1], words[2])
 }
 
 /// Appends the expectation of a line, if it has one.
@@ -238,34 +212,39 @@ fn push_expectation<'a>(
 }
 
 /// The expectations in the lines of a text.
-fn line_expectations<'a>(alloc: Global, text: &'a [u8]) -> Result<Vec<Expectation<'a>>, ParseFault>
+fn line_expectations<'a>(
+    alloc: Global,
+    name: &str,
+    text: &'a [u8],
+) -> Result<Vec<Expectation<'a>>, Fault>
     ensures ok { IfOk result (λ found. entries_from expectation_in 1 (lines text.now)
         ≡ Ok (map expectation_value found.items)) }
-    ensures fault { IfErr result (IsParseFault (entries_from expectation_in 1 (lines text.now))) }
+    ensures fault { IfErr result (IsLineFault name.now (result_err (entries_from expectation_in 1 (lines text.now)))) }
 {
     let mut found = Vec::new(alloc);
     let mut rest = text;
     let mut number = 1;
     while !rest.is_empty() {
         let (line, later) = cut(b"\n", rest);
-        push_expectation(&mut found, expectation_in(alloc, number, line)?)?;
+        push_expectation(&mut found, expectation_in(alloc, name, number, line)?)?;
         rest = later;
         number += 1;
     }
     Ok(found)
 }
 
-/// The expectations in a text, possibly after a byte order mark.
+/// The expectations in the text of a file with this name, possibly after a byte order mark.
 ///
 /// # Errors
 ///
-/// `ParseFault::Malformed` for the first malformed line, and `ParseFault::Memory` if an allocation fails.
+/// `Fault::Malformed` for the first malformed line, and `Fault::Memory` if an allocation fails.
 pub(crate) fn expectations_in<'a>(
     alloc: Global,
+    name: &str,
     text: &'a [u8],
-) -> Result<Vec<Expectation<'a>>, ParseFault>
+) -> Result<Vec<Expectation<'a>>, Fault>
     ensures ok { IfOk result (λ found. expectations_in text.now ≡ Ok (map expectation_value found.items)) }
-    ensures fault { IfErr result (IsParseFault (expectations_in text.now)) }
+    ensures fault { IfErr result (IsLineFault name.now (result_err (expectations_in text.now))) }
 {
-    line_expectations(alloc, without_mark(text))
+    line_expectations(alloc, name, without_mark(text))
 }

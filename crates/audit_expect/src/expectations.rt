@@ -1,38 +1,31 @@
 //! Expectations checked against a robots.txt file, and the report on those that fail.
-ghost use Rattle.std.specs.Prelude.{◌≡◌, ◌==◌, ◌++◌, ◌∷◌, [], ◌||◌, IfErr, IfOk, Ok, OnOk, false, if◌then◌else◌, codes, decimal, length, map, string_bytes, take};
-ghost use Rattle.texting_robots.specs.Callers.{file_limit};
+ghost use Rattle.std.specs.Prelude.{◌≡◌, ◌==◌, ◌++◌, ◌∷◌, [], IfErr, IfOk, Ok, OnOk, bytes_eq, false, if◌then◌else◌, length, map, string_bytes, take};
+ghost use Rattle.texting_robots.specs.Callers.{file_limit, robots_file};
 ghost use Rattle.robots_io.specs.Lines.{ended};
 ghost use Rattle.robots_io.specs.Sanitize.{sanitized};
-ghost use Rattle.audit_expect.specs.Expect.{expectations_in as specified_in};
-ghost use Rattle.audit_expect.specs.Expectations.{Checks, IsEntryFault, decision_text, demand_text, demand_word, failure_front, failure_line, finding_text, google_text, holding_text, is_unexpected, other_front, reason_text, unmatched_text};
+ghost use Rattle.robots_text.specs.Raw.{raw_line};
+ghost use Rattle.robots_text.specs.Text.{line_text, part_text, parts_text};
 ghost use Rattle.audit_core.specs.declared.fault.Entry.TheVariants as entry;
+ghost use Rattle.audit_core.specs.Asked.{asked_target};
 ghost use Rattle.audit_core.specs.Internal.{IsReading};
+ghost use Rattle.audit_expect.specs.declared.checks.Finding.TheVariants.{Decided};
+ghost use Rattle.audit_expect.specs.Expect.{IsEntryFault, expectations_in as specified_in};
+ghost use Rattle.audit_expect.specs.Expectations.{IsAnswer, IsPlain, decides, decision_parts, demand, finding_parts, front_parts, google_parts, googlebot_parts, holding, nobody_parts, reason_parts, rejected_parts, unmatched};
 ghost use Rattle.audit_expect.specs.Internal.Expect.{expectation_value};
-ghost use Rattle.audit_expect.specs.Internal.Expectations.{AreFailuresOn, AreResultsOn, IsReadFor, checked_value, failures_at};
+ghost use Rattle.audit_expect.specs.Internal.Expectations.{AreFailuresOn, IsReadFor, checked_value, failures_at};
 
 use crate::checks::{AtGoogle, Checked, Finding, checked_on, fails, fails_here, is_unexpected};
-use crate::entries::{malformed, push_place, without_entries};
-use crate::expect::{Expectation, ParseFault, expectations_in};
+use crate::entries::without_entries;
+use crate::expect::{Expectation, expectations_in};
 use crate::other_reading::empty_disallows;
+use audit_core::answer::{Answer, Outcome};
 use audit_core::asked::asked_target;
 use audit_core::audit::{Reading, read_for};
-use audit_core::fault::{Entry, Fault, Outcome};
-use audit_core::texts::push_rejected_front;
-use robots_io::lines::push_number;
-use robots_io::sanitize::push_sanitized;
-use robots_io::streams::{read_all, write_out};
+use audit_core::fault::{Entry, Fault};
+use robots_text::parts::{Part, Value, push_line_of, push_parts};
 use std::alloc::{AllocError, Global};
-use std::io::{Read, Write};
 use texting_robots::Site;
 use texting_robots::robot::Decision;
-
-/// The report on expectations.
-#[derive(Drop)]
-struct Results {
-    text: String,
-    /// Whether all expectations hold.
-    all_hold: bool,
-}
 
 /// A crawler, and how the file is read for it.
 #[derive(Drop)]
@@ -62,8 +55,8 @@ fn reading_for<'a>(
 }
 
 /// Whether a URL must be allowed or denied, with a space on both sides.
-fn demand_word(allowed: bool) -> &'static str
-    ensures { result.now ≡ demand_word allowed }
+fn demand(allowed: bool) -> &'static str
+    ensures { result.now ≡ (demand allowed).text }
 {
     if allowed {
         " must be allowed "
@@ -72,29 +65,33 @@ fn demand_word(allowed: bool) -> &'static str
     }
 }
 
-/// Appends what must be allowed or denied.
-fn push_demand(text: &mut String, expectation: &Expectation<'_>) -> Result<(), AllocError>
-    ensures { OnOk result (string_bytes text.new ≡ string_bytes text.old
-        ++ demand_text (expectation_value expectation.now)) }
+/// Where an expectation is, and what it is.
+fn failure_front<'a>(name: &'a str, expectation: &Expectation<'a>) -> [Part<'a>; 5]
+    ensures { raw_line result ≡ sanitized name.entry.now ++ parts_text (front_parts (expectation_value expectation.now)) }
 {
-    push_sanitized(text, expectation.agent.as_bytes())?;
-    text.push_str(demand_word(expectation.allowed))?;
-    push_sanitized(text, expectation.url.as_bytes())
+    let (agent, url) = (expectation.agent, expectation.url);
+    [
+        Part("", Value::Untrusted(name.as_bytes())),
+        Part(":", Value::Number(expectation.number)),
+        Part(": ", Value::Untrusted(agent.as_bytes())),
+        Part(
+            demand(expectation.allowed),
+            Value::Untrusted(url.as_bytes()),
+        ),
+        Part(", but ", Value::Nothing),
+    ]
 }
 
-/// Appends the line that decides, and how.
-fn push_deciding_line(text: &mut String, line: usize, allowed: bool) -> Result<(), AllocError>
-    ensures { OnOk result (string_bytes text.new ≡ string_bytes text.old
-        ++ (codes "line " ++ decimal line ++ (if allowed then codes " allows it" else codes " denies it"))) }
+/// How a line decides.
+fn decides(allowed: bool) -> &'static str
+    ensures { result.now ≡ part_text (decides allowed) }
 {
-    text.push_str("line ")?;
-    push_number(text, line)?;
-    text.push_str(if allowed { " allows it" } else { " denies it" })
+    if allowed { " allows it" } else { " denies it" }
 }
 
 /// Why a URL is allowed that no line decides.
-fn unmatched_text(alloc: Global, url: &str) -> Result<&'static str, Fault>
-    ensures ok { IfOk result (λ text. text.now ≡ unmatched_text url.now) }
+fn unmatched(alloc: Global, url: &str) -> Result<&'static str, Fault>
+    ensures ok { IfOk result (λ text. text.now ≡ part_text (unmatched (bytes_eq (asked_target url.now) robots_file))) }
     ensures fault { IfErr result (λ fault. fault ≡ Fault.Memory) }
 {
     let target = asked_target(alloc, url)?;
@@ -105,37 +102,27 @@ fn unmatched_text(alloc: Global, url: &str) -> Result<&'static str, Fault>
     }
 }
 
-/// Appends why a URL is allowed or denied.
-fn push_decision_text(
+/// Appends why a URL is allowed or denied, after these words.
+fn push_decision(
     alloc: Global,
     text: &mut String,
+    front: &'static str,
     url: &str,
     decision: &Decision,
 ) -> Result<(), Fault>
     ensures ok { OnOk result (string_bytes text.new ≡ string_bytes text.old
-        ++ decision_text url.now decision.now.allowed decision.now.line) }
+        ++ (front.now ++ parts_text (decision_parts url.now decision.now.allowed decision.now.line))) }
     ensures fault { IfErr result (λ fault. fault ≡ Fault.Memory) }
 {
+    text.push_str(front)?;
     match decision.line {
-        Some(line) => push_deciding_line(text, line, decision.allowed)?,
-        None => text.push_str(unmatched_text(alloc, url)?)?,
+        Some(line) => {
+            let how = Part(decides(decision.allowed), Value::Nothing);
+            push_parts(text, &[Part("line ", Value::Number(line)), how])?;
+        }
+        None => text.push_str(unmatched(alloc, url)?)?,
     }
     Ok(())
-}
-
-/// Appends why a URL is allowed or denied where an empty Disallow is no rule.
-fn push_other_decision(
-    alloc: Global,
-    text: &mut String,
-    url: &str,
-    decision: &Decision,
-) -> Result<(), Fault>
-    ensures ok { OnOk result (string_bytes text.new ≡ string_bytes text.old
-        ++ (other_front ++ decision_text url.now decision.now.allowed decision.now.line)) }
-    ensures fault { IfErr result (λ fault. fault ≡ Fault.Memory) }
-{
-    text.push_str("where an empty Disallow is no rule, as for RFC 9309 and Google, ")?;
-    Ok(push_decision_text(alloc, text, url, decision)?)
 }
 
 /// Appends which decision isn't the expected one.
@@ -148,15 +135,28 @@ fn push_decisions(
     other: &Decision,
 ) -> Result<(), Fault>
     ensures ok { OnOk result (string_bytes text.new ≡ string_bytes text.old
-        ++ (if is_unexpected allowed decision.now then decision_text url.now decision.now.allowed decision.now.line
-        else other_front ++ decision_text url.now other.now.allowed other.now.line)) }
+        ++ parts_text (finding_parts [] url.now allowed (Decided decision.now other.now))) }
     ensures fault { IfErr result (λ fault. fault ≡ Fault.Memory) }
 {
     if is_unexpected(allowed, decision) {
-        push_decision_text(alloc, text, url, decision)
+        push_decision(alloc, text, "", url, decision)
     } else {
-        push_other_decision(alloc, text, url, other)
+        let front = "where an empty Disallow is no rule, as for RFC 9309 and Google, ";
+        push_decision(alloc, text, front, url, other)
     }
+}
+
+/// That the file is rejected.
+fn rejected_parts<'a>(agent: &'a str, line: usize) -> [Part<'a>; 2]
+    ensures { raw_line result ≡ parts_text (rejected_parts agent.entry.now line) }
+{
+    [
+        Part(
+            "the file is rejected for ",
+            Value::Untrusted(agent.as_bytes()),
+        ),
+        Part(": line ", Value::Number(line)),
+    ]
 }
 
 /// Appends what the file says that isn't as expected.
@@ -169,44 +169,38 @@ fn push_finding(
     finding: &Finding,
 ) -> Result<(), Fault>
     ensures ok { OnOk result (string_bytes text.new ≡ string_bytes text.old
-        ++ finding_text agent.now url.now allowed finding.now) }
+        ++ parts_text (finding_parts agent.now url.now allowed finding.now)) }
     ensures fault { IfErr result (λ fault. fault ≡ Fault.Memory) }
 {
     match finding {
-        Finding::Rejected(line) => {
-            text.push_str("the file is ")?;
-            Ok(push_rejected_front(text, agent, *line)?)
-        }
+        Finding::Rejected(line) => Ok(push_parts(text, &rejected_parts(agent, *line))?),
         Finding::Decided(decision, other) => {
             push_decisions(alloc, text, url, allowed, decision, other)
         }
     }
 }
 
-/// Appends that Google applies the group of Googlebot, and starts what it says.
-fn push_googlebots(text: &mut String, agent: &str) -> Result<(), AllocError>
-    ensures { OnOk result (string_bytes text.new ≡ string_bytes text.old
-        ++ (codes "Google applies the group Googlebot to " ++ sanitized agent.now ++ codes ", and ")) }
+/// That Google applies the group of Googlebot.
+fn googlebot_parts<'a>(agent: &'a str) -> [Part<'a>; 2]
+    ensures { raw_line result ≡ parts_text (googlebot_parts agent.entry.now) }
 {
-    text.push_str("Google applies the group Googlebot to ")?;
-    push_sanitized(text, agent.as_bytes())?;
-    text.push_str(", and ")
+    [
+        Part(
+            "Google applies the group Googlebot to ",
+            Value::Untrusted(agent.as_bytes()),
+        ),
+        Part(", and ", Value::Nothing),
+    ]
 }
 
-/// Appends a text and a name.
-fn push_named(text: &mut String, words: &str, name: &str) -> Result<(), AllocError>
-    ensures { OnOk result (string_bytes text.new ≡ string_bytes text.old ++ (words.now ++ sanitized name.now)) }
+/// That Google applies no group.
+fn nobody_parts<'a>(agent: &'a str) -> [Part<'a>; 1]
+    ensures { raw_line result ≡ parts_text (nobody_parts agent.entry.now) }
 {
-    text.push_str(words)?;
-    push_sanitized(text, name.as_bytes())
-}
-
-/// Appends that Google applies no group.
-fn push_nobody(text: &mut String, agent: &str) -> Result<(), AllocError>
-    ensures { OnOk result (string_bytes text.new ≡ string_bytes text.old
-        ++ (codes "Google doesn't apply the group * to " ++ sanitized agent.now)) }
-{
-    push_named(text, "Google doesn't apply the group * to ", agent)
+    [Part(
+        "Google doesn't apply the group * to ",
+        Value::Untrusted(agent.as_bytes()),
+    )]
 }
 
 /// Appends which group Google applies, and what it says.
@@ -219,23 +213,23 @@ fn push_google(
     google: &AtGoogle,
 ) -> Result<(), Fault>
     ensures ok { OnOk result (string_bytes text.new ≡ string_bytes text.old
-        ++ google_text agent.now url.now allowed google.now) }
+        ++ parts_text (google_parts agent.now url.now allowed google.now)) }
     ensures fault { IfErr result (λ fault. fault ≡ Fault.Memory) }
 {
     match google {
         AtGoogle::Same => Ok(()),
         AtGoogle::Googlebot(finding) => {
-            push_googlebots(text, agent)?;
+            push_parts(text, &googlebot_parts(agent))?;
             push_finding(alloc, text, "Googlebot", url, allowed, finding)
         }
-        AtGoogle::Nobody => Ok(push_nobody(text, agent)?),
+        AtGoogle::Nobody => Ok(push_parts(text, &nobody_parts(agent))?),
     }
 }
 
 /// Appends why an expectation fails.
 fn push_reason(alloc: Global, text: &mut String, checked: &Checked<'_>) -> Result<(), Fault>
     ensures ok { OnOk result (string_bytes text.new ≡ string_bytes text.old
-        ++ reason_text (checked_value checked.now)) }
+        ++ parts_text (reason_parts (checked_value checked.now))) }
     ensures fault { IfErr result (λ fault. fault ≡ Fault.Memory) }
 {
     let (agent, url) = (checked.expectation.agent, checked.expectation.url);
@@ -247,20 +241,6 @@ fn push_reason(alloc: Global, text: &mut String, checked: &Checked<'_>) -> Resul
     }
 }
 
-/// Appends where an expectation is, and what it is.
-fn push_failure_front(
-    text: &mut String,
-    name: &str,
-    expectation: &Expectation<'_>,
-) -> Result<(), AllocError>
-    ensures { OnOk result (string_bytes text.new ≡ string_bytes text.old
-        ++ failure_front name.now (expectation_value expectation.now)) }
-{
-    push_place(text, name, expectation.number)?;
-    text.push_str(": ")?;
-    push_demand(text, expectation)
-}
-
 /// Appends the report on an expectation that fails.
 fn push_failure(
     alloc: Global,
@@ -269,11 +249,11 @@ fn push_failure(
     checked: &Checked<'_>,
 ) -> Result<(), Fault>
     ensures ok { OnOk result (string_bytes text.new ≡ string_bytes text.old
-        ++ failure_line name.now (checked_value checked.now)) }
+        ++ (sanitized name.now ++ (parts_text (front_parts (expectation_value checked.now.expectation))
+        ++ parts_text (reason_parts (checked_value checked.now))))) }
     ensures fault { IfErr result (λ fault. fault ≡ Fault.Memory) }
 {
-    push_failure_front(text, name, &checked.expectation)?;
-    text.push_str(", but ")?;
+    push_parts(text, &failure_front(name, &checked.expectation))?;
     push_reason(alloc, text, checked)
 }
 
@@ -307,7 +287,7 @@ fn failures(
     ensures fault { IfErr result (λ fault. fault ≡ Fault.Memory) }
 {
     let site = Site::new(alloc, file)?;
-    let empty = empty_disallows(alloc, &site)?;
+    let marks = empty_disallows(alloc, &site)?;
     let reading = read_for(alloc, "*", file, &site)?;
     let mut latest = AgentReading {
         agent: "*",
@@ -316,65 +296,48 @@ fn failures(
     let mut report = String::new(alloc);
     for expectation in expectations {
         latest = reading_for(alloc, latest, expectation.agent, file, &site)?;
-        let checked = checked_on(alloc, expectation, &latest.reading, file, &site, &empty)?;
+        let checked = checked_on(alloc, expectation, &latest.reading, file, &site, &marks)?;
         push_if_failing(alloc, &mut report, name, &checked)?;
     }
     Ok(report)
 }
 
-/// Appends how many expectations hold.
-#[tactic(auto, unfolding(crate::specs::Expectations::holding_text))]
-fn push_holding_text(text: &mut String, number: usize) -> Result<(), AllocError>
-    ensures { OnOk result (string_bytes text.new ≡ string_bytes text.old ++ holding_text number) }
+/// How many expectations hold.
+fn holding(number: usize) -> [Part<'static>; 2]
+    ensures { raw_line result ≡ line_text (holding number) }
 {
     if number == 1 {
-        return text.push_str("1 expectation holds");
+        return [
+            Part("1 expectation holds", Value::Nothing),
+            Part("", Value::Nothing),
+        ];
     }
-    push_number(text, number)?;
-    text.push_str(" expectations hold")
+    [
+        Part("", Value::Number(number)),
+        Part(" expectations hold", Value::Nothing),
+    ]
 }
 
-/// Appends the line about it.
-fn push_holding(text: &mut String, number: usize) -> Result<(), AllocError>
-    ensures { OnOk result (string_bytes text.new ≡ string_bytes text.old ++ ended (holding_text number ∷ [])) }
-{
-    push_holding_text(text, number)?;
-    text.push('\n')
-}
-
-/// The whole report, made of the lines on the expectations that fail. `number` is that of all expectations.
-fn finished(failures: String, number: usize) -> Result<Results, AllocError>
-    ensures text { IfOk result (λ results. string_bytes results.text ≡ string_bytes failures
-        ++ (if length (string_bytes failures) == 0 then ended (holding_text number ∷ []) else [])) }
-    ensures hold { IfOk result (λ results. results.all_hold ≡ (length (string_bytes failures) == 0)) }
+/// The answer for these lines on the expectations that fail. `number` is that of all expectations.
+fn answer_of(alloc: Global, failures: String, number: usize) -> Result<Answer, AllocError>
+    ensures report { IfOk result (λ answer. answer.report.items ≡ string_bytes failures
+        ++ (if length (string_bytes failures) == 0 then ended (line_text (holding number) ∷ []) else [])) }
+    ensures outcome { IfOk result (λ answer. IsPlain (length (string_bytes failures) == 0) answer.outcome) }
 {
     let mut text = failures;
-    if !text.is_empty() {
-        return Ok(Results {
-            text,
-            all_hold: false,
-        });
+    let has_passed = text.is_empty();
+    if has_passed {
+        push_line_of(&mut text, &holding(number))?;
     }
-    push_holding(&mut text, number)?;
-    Ok(Results {
-        text,
-        all_hold: true,
+    Ok(Answer {
+        report: text.into_bytes(),
+        outcome: Outcome {
+            is_rejected: false,
+            has_passed,
+            is_warned: false,
+            warnings: String::new(alloc),
+        },
     })
-}
-
-/// The report on the expectations: those that fail, or else the number of those that hold.
-fn results_of(
-    alloc: Global,
-    name: &str,
-    expectations: &[Expectation<'_>],
-    file: &[u8],
-) -> Result<Results, Fault>
-    ensures ok { IfOk result (AreResultsOn name.now file.now (map expectation_value expectations.now)) }
-    ensures fault { IfErr result (λ fault. fault ≡ Fault.Memory) }
-{
-    let text = failures(alloc, name, expectations, file)?;
-    let results = finished(text, expectations.len())?;
-    Ok(results)
 }
 
 /// The expectations in this text, of a file with this name. Fails if there are none.
@@ -383,48 +346,27 @@ fn parsed<'a>(alloc: Global, name: &str, text: &'a [u8]) -> Result<Vec<Expectati
     ensures some { IfOk result (λ found. (length found.items == 0) ≡ false) }
     ensures fault { IfErr result (IsEntryFault name.now entry.Expectation (specified_in text.now)) }
 {
-    match expectations_in(alloc, text) {
-        Ok(found) if found.is_empty() => Err(without_entries(alloc, name, Entry::Expectation)),
-        Ok(found) => Ok(found),
-        Err(ParseFault::Malformed(number, flaw)) => Err(malformed(alloc, name, number, flaw)),
-        Err(ParseFault::Memory) => Err(Fault::Memory),
+    let found = expectations_in(alloc, name, text)?;
+    if found.is_empty() {
+        return Err(without_entries(alloc, name, Entry::Expectation));
     }
+    Ok(found)
 }
 
-/// Checks the expectations in a text, of a file with this name, against a robots.txt file, which is read to its end,
-/// and then writes a line for each that fails, or how many hold if none fails.
-///
-/// The contract applies to a reader and a writer whose bytes the specification can observe; it claims nothing about the
-/// bytes of standard input and output.
+/// Checks the expectations in a text, of a file with this name, against a robots.txt file. The report has a line for
+/// each that fails, or how many hold if none fails.
 ///
 /// # Errors
 ///
-/// `Fault::Malformed` if a line of the text is malformed, `Fault::Empty` if there are no expectations in it,
-/// `Fault::Read` if a read of the robots.txt file failed or too many would be needed, `Fault::Write` if a
-/// write or a flush failed or a write accepted no bytes, and `Fault::Memory` if an allocation failed or a URL
-/// is too long for `url`. The contract doesn't state when the last three occur. An expectation fails if the
-/// file is rejected for its crawler, which isn't an error.
-pub fn check<R: Read, W: Write>(
-    alloc: Global,
-    name: &str,
-    text: &[u8],
-    reader: &mut R,
-    writer: &mut W,
-) -> Result<Outcome, Fault>
-    ensures { Checks name.now text.now (record {
-      left = R.remaining reader.old;
-      old = W.contents writer.old;
-      new = W.contents writer.new;
-    }) result }
+/// `Fault::Malformed` if a line of the text is malformed, `Fault::Empty` if there are no expectations in it, and
+/// `Fault::Memory` if an allocation failed or a URL is too long for `url`. An expectation fails if the file is
+/// rejected for its crawler, which isn't an error.
+pub fn check(alloc: Global, name: &str, text: &[u8], file: &[u8]) -> Result<Answer, Fault>
+    ensures ok { IfOk result (IsAnswer name.now text.now file.now) }
+    ensures fault { IfErr result (IsEntryFault name.now entry.Expectation (specified_in text.now)) }
 {
     let expectations = parsed(alloc, name, text)?;
-    let file = read_all(alloc, reader)?;
-    let results = results_of(alloc, name, &expectations, &file)?;
-    write_out(writer, results.text.as_bytes())?;
-    Ok(Outcome {
-        is_rejected: false,
-        has_passed: results.all_hold,
-        is_warned: false,
-        warnings: String::new(alloc),
-    })
+    let failures = failures(alloc, name, &expectations, file)?;
+    let answer = answer_of(alloc, failures, expectations.len())?;
+    Ok(answer)
 }

@@ -1,81 +1,45 @@
 //! The other reading of an empty Disallow. Here it is an Allow of `/`; for RFC 9309 and Google it is no rule.
-ghost use Rattle.std.specs.Prelude.{◌≡◌, ◌↔◌, All, Decides, IfErr, IfOk, IsTrue, false, filter, map, option_map};
+ghost use Rattle.std.specs.Prelude.{◌≡◌, ◌↔◌, All, Decides, IfErr, IfOk, IsTrue, false, option_map};
 ghost use Rattle.std.specs.Option.{option_map_or};
-ghost use Rattle.texting_robots.specs.Callers.{IsBetter, IsOverlong, IsRejected, Matches, PlacedRule, by_value, file_bodies, file_lines, placed_rules};
-ghost use Rattle.texting_robots.specs.Internal.Line.{line_of};
-ghost use Rattle.texting_robots.specs.Internal.Statement.{skip_blanks};
+ghost use Rattle.texting_robots.specs.Callers.{IsBetter, IsOverlong, IsRejected, Matches, PlacedRule, file_bodies, file_lines, placed_rules};
 ghost use Rattle.robots_io.specs.Verdicts.{IsDecisionOn};
 ghost use Rattle.audit_core.specs.Asked.{asked_target};
 ghost use Rattle.audit_expect.specs.OtherReading.{IsOtherDecision};
-ghost use Rattle.audit_expect.specs.Internal.OtherReading.{IsDecidedBy, IsPreferred, begins_with_d, decision_with, is_empty_disallow, is_marked, is_other};
+ghost use Rattle.audit_expect.specs.Internal.OtherReading.{IsDecidedBy, IsPreferred, decision_with, is_marked, marks_of, others_of};
 
 use audit_core::asked::asked_target;
 use audit_core::fault::Fault;
 use audit_core::rules::{Rule, rules_for};
+use robots_warnings::empty_disallows::is_empty_disallow;
 use std::alloc::{AllocError, Global};
 use texting_robots::minregex::MinRegex;
-use texting_robots::parser::{Line, file_bodies, file_lines};
+use texting_robots::parser::{file_bodies, file_lines};
 use texting_robots::robot::Decision;
 use texting_robots::{Error, Site};
 
 // ---- empty Disallows
 
-/// The text without leading spaces and tabs.
-fn skip_blanks<'a>(text: &'a [u8]) -> &'a [u8]
-    ensures { result.now ≡ skip_blanks text.now }
-{
-    let mut rest = text;
-    while let [b' ' | b'\t', after @ ..] = rest {
-        rest = after;
-    }
-    rest
-}
-
-/// Whether the content of a line begins as that of a Disallow does, with a D after spaces and tabs.
-#[tactic(auto, using(crate::proofs::OtherReadingLemmas::letter_d))]
-fn begins_with_d(body: &[u8]) -> bool
-    ensures { result ≡ begins_with_d body.now }
-{
-    match skip_blanks(body).first() {
-        Some(byte) => byte.to_ascii_lowercase() == b'd',
-        None => false,
-    }
-}
-
-/// Whether a line with this content is an empty Disallow, which is read as an Allow.
-fn is_empty_disallow(line: Line<'_>, body: &[u8]) -> bool
-    requires { by_value line ≡ line_of body.now }
-    ensures { result ≡ is_empty_disallow body.now }
-{
-    match line {
-        Line::Allow(_) => begins_with_d(body),
-        _ => false,
-    }
-}
-
-/// For each line of a file, whether it is an empty Disallow.
+/// For each number of a line, whether this line of the file is an empty Disallow.
 pub(crate) fn empty_disallows(alloc: Global, site: &Site) -> Result<Vec<bool>, AllocError>
-    ensures { IfOk result (λ found. found.items ≡ map is_empty_disallow (file_bodies site.now)) }
+    ensures { IfOk result (λ marks. marks.items ≡ marks_of (file_bodies site.now)) }
 {
-    let mut found = Vec::new(alloc);
+    let mut marks = Vec::new(alloc);
+    marks.push(false)?;
     let mut lines = file_lines(site.text());
     for body in file_bodies(site.text()) {
         let Some(line) = lines.next() else {
-            return Ok(found);
+            return Ok(marks);
         };
-        found.push(is_empty_disallow(line, body))?;
+        marks.push(is_empty_disallow(line, body))?;
     }
-    Ok(found)
+    Ok(marks)
 }
 
 /// Whether the line with this number is marked.
-fn is_marked(marks: &[bool], line: usize) -> bool
-    ensures { result ≡ is_marked marks.now line }
+fn is_marked(marks: &[bool], number: usize) -> bool
+    ensures { result ≡ is_marked marks.now number }
 {
-    if line == 0 {
-        return false;
-    }
-    match marks.get(line - 1) {
+    match marks.get(number) {
         Some(is) => *is,
         None => false,
     }
@@ -86,14 +50,14 @@ fn other_rules(
     alloc: Global,
     site: &Site,
     agent: &str,
-    empty: &[bool],
+    marks: &[bool],
 ) -> Result<Vec<Rule>, AllocError>
-    requires { empty.now ≡ map is_empty_disallow (file_bodies site.now) }
+    requires { marks.now ≡ marks_of (file_bodies site.now) }
     ensures { IfOk result (λ rules. rules.items
-        ≡ filter (is_other (file_bodies site.now)) (placed_rules agent.now (file_lines site.now))) }
+        ≡ others_of (file_bodies site.now) (placed_rules agent.now (file_lines site.now))) }
 {
     let mut rules = rules_for(alloc, site, agent)?;
-    rules.retain(|rule| !is_marked(empty, rule.line));
+    rules.retain(|rule| !is_marked(marks, rule.line));
     Ok(rules)
 }
 
@@ -201,20 +165,20 @@ pub(crate) fn other_decision(
     url: &str,
     decision: &Decision,
     site: &Site,
-    empty: &[bool],
+    marks: &[bool],
 ) -> Result<Decision, Fault>
-    requires empty { empty.now ≡ map is_empty_disallow (file_bodies site.now) }
+    requires marks { marks.now ≡ marks_of (file_bodies site.now) }
     requires accepted { ¬ IsRejected agent.now (file_lines site.now) }
     requires decided { IsDecisionOn (placed_rules agent.now (file_lines site.now)) (asked_target url.now) decision.now }
     ensures ok { IfOk result (IsOtherDecision (file_bodies site.now) (placed_rules agent.now (file_lines site.now))
         (asked_target url.now)) }
     ensures fault { IfErr result (λ fault. fault ≡ Fault.Memory) }
 {
-    if !is_by_marked(decision, empty) {
+    if !is_by_marked(decision, marks) {
         return Ok(*decision);
     }
     let target = asked_target(alloc, url)?;
-    let rules = other_rules(alloc, site, agent, empty)?;
+    let rules = other_rules(alloc, site, agent, marks)?;
     let other = decision_of(alloc, &rules, &target)?;
     Ok(other)
 }

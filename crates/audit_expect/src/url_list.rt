@@ -1,15 +1,16 @@
 //! The URLs in the file of `--urls`, one per line, and those in arguments.
-ghost use Rattle.std.specs.Prelude.{◌≡◌, ◌==◌, IfErr, IfOk, None, Ok, OnOk, false, length, map, option_map};
+ghost use Rattle.std.specs.Prelude.{◌≡◌, ◌==◌, IfErr, IfOk, None, Ok, OnOk, Some, false, length, map, option_map};
 ghost use Rattle.audit_core.specs.Request.{requested_by};
-ghost use Rattle.audit_expect.specs.Expect.{entries_from, lines};
-ghost use Rattle.audit_expect.specs.Internal.Expect.{IsParseFault};
-ghost use Rattle.audit_expect.specs.UrlList.{HasUrlsIn, IsMalformedUrl, IsMalformedUrlIn, IsUrlFault};
+ghost use Rattle.audit_core.specs.declared.fault.Entry.TheVariants as entry;
+ghost use Rattle.audit_expect.specs.Expect.{IsEntryFault, IsLineFault, entries_from, lines};
+ghost use Rattle.std.specs.Result.{result_err};
+ghost use Rattle.audit_expect.specs.UrlList.{HasUrlsIn, IsUrlFault};
 ghost use Rattle.audit_expect.specs.UrlList.{first_malformed, trimmed, url_in, urls_in};
 
 use crate::entries::{malformed, without_entries};
-use crate::expect::{ParseFault, cut, is_comment, is_path_or_url};
+use crate::expect::{cut, is_comment, is_path_or_url};
 use audit_core::agents::as_text;
-use audit_core::fault::{Entry, Fault, Flaw, text_shown};
+use audit_core::fault::{Entry, Fault, Flaw};
 use audit_core::request::Request;
 use robots_warnings::facts::without_mark;
 use std::alloc::{AllocError, Global};
@@ -22,9 +23,14 @@ fn trimmed<'a>(line: &'a [u8]) -> &'a [u8]
 }
 
 /// The URL of the line with this number, if the line is neither blank nor a comment.
-fn url_in<'a>(number: usize, line: &'a [u8]) -> Result<Option<&'a str>, ParseFault>
+fn url_in<'a>(
+    alloc: Global,
+    name: &str,
+    number: usize,
+    line: &'a [u8],
+) -> Result<Option<&'a str>, Fault>
     ensures ok { IfOk result (λ found. url_in number line.now ≡ Ok (option_map (λ url. url.now) found)) }
-    ensures fault { IfErr result (IsParseFault (url_in number line.now)) }
+    ensures fault { IfErr result (IsLineFault name.now (result_err (url_in number line.now))) }
 {
     let line = trimmed(line);
     if is_comment(line) {
@@ -33,22 +39,22 @@ fn url_in<'a>(number: usize, line: &'a [u8]) -> Result<Option<&'a str>, ParseFau
     match as_text(line) {
         Some(url) if url.is_empty() => Ok(None),
         Some(url) => Ok(Some(url)),
-        None => Err(ParseFault::Malformed(number, Flaw::NotUtf8)),
+        None => Err(malformed(alloc, name, number, Flaw::NotUtf8)),
     }
 }
 
 /// The URLs in the lines of a text.
-fn line_urls<'a>(alloc: Global, text: &'a [u8]) -> Result<Vec<&'a str>, ParseFault>
+fn line_urls<'a>(alloc: Global, name: &str, text: &'a [u8]) -> Result<Vec<&'a str>, Fault>
     ensures ok { IfOk result (λ found. entries_from url_in 1 (lines text.now)
         ≡ Ok (map (λ url. url.now) found.items)) }
-    ensures fault { IfErr result (IsParseFault (entries_from url_in 1 (lines text.now))) }
+    ensures fault { IfErr result (IsLineFault name.now (result_err (entries_from url_in 1 (lines text.now)))) }
 {
     let mut found = Vec::new(alloc);
     let mut rest = text;
     let mut number = 1;
     while !rest.is_empty() {
         let (line, later) = cut(b"\n", rest);
-        if let Some(url) = url_in(number, line)? {
+        if let Some(url) = url_in(alloc, name, number, line)? {
             found.push(url)?;
         }
         rest = later;
@@ -57,30 +63,17 @@ fn line_urls<'a>(alloc: Global, text: &'a [u8]) -> Result<Vec<&'a str>, ParseFau
     Ok(found)
 }
 
-/// The URLs in a text, possibly after a byte order mark.
-///
-/// # Errors
-///
-/// `ParseFault::Malformed` for the first line that isn't UTF-8, and `ParseFault::Memory` if an allocation fails.
-fn urls_in<'a>(alloc: Global, text: &'a [u8]) -> Result<Vec<&'a str>, ParseFault>
-    ensures ok { IfOk result (λ found. urls_in text.now ≡ Ok (map (λ url. url.now) found.items)) }
-    ensures fault { IfErr result (IsParseFault (urls_in text.now)) }
-{
-    line_urls(alloc, without_mark(text))
-}
-
-/// The URLs in this text, of a file with this name. Fails if there are none.
-fn parsed<'a>(alloc: Global, name: &str, text: &'a [u8]) -> Result<Vec<&'a str>, Fault>
+/// The URLs in this text, possibly after a byte order mark, of a file with this name. Fails if there are none.
+fn urls_in<'a>(alloc: Global, name: &str, text: &'a [u8]) -> Result<Vec<&'a str>, Fault>
     ensures ok { IfOk result (λ found. urls_in text.now ≡ Ok (map (λ url. url.now) found.items)) }
     ensures some { IfOk result (λ found. (length found.items == 0) ≡ false) }
-    ensures fault { IfErr result (IsUrlFault name.now text.now) }
+    ensures fault { IfErr result (IsEntryFault name.now entry.Url (urls_in text.now)) }
 {
-    match urls_in(alloc, text) {
-        Ok(found) if found.is_empty() => Err(without_entries(alloc, name, Entry::Url)),
-        Ok(found) => Ok(found),
-        Err(ParseFault::Malformed(number, flaw)) => Err(malformed(alloc, name, number, flaw)),
-        Err(ParseFault::Memory) => Err(Fault::Memory),
+    let found = line_urls(alloc, name, without_mark(text))?;
+    if found.is_empty() {
+        return Err(without_entries(alloc, name, Entry::Url));
     }
+    Ok(found)
 }
 
 /// The request with the URLs in a text, of a file with this name, after its own.
@@ -96,10 +89,10 @@ pub fn with_urls<'a>(
     text: &'a [u8],
 ) -> Result<Request<'a>, Fault>
     ensures ok { IfOk result (λ extended. HasUrlsIn text.now (requested_by request.entry) (requested_by extended)) }
-    ensures fault { IfErr result (IsUrlFault name.now text.now) }
+    ensures fault { IfErr result (IsEntryFault name.now entry.Url (urls_in text.now)) }
 {
     let mut extended = request;
-    let urls = parsed(alloc, name, text)?;
+    let urls = urls_in(alloc, name, text)?;
     extended.urls.extend_from_slice(&urls)?;
     Ok(extended)
 }
@@ -107,10 +100,10 @@ pub fn with_urls<'a>(
 /// The error for a URL that is neither a path nor an http(s) URL that can be parsed; `Fault::Memory` if an allocation
 /// fails.
 fn malformed_url(alloc: Global, url: &str) -> Fault
-    ensures { IsMalformedUrl url.now result }
+    ensures { IsUrlFault (Some url.now) result }
 {
-    match text_shown(alloc, url) {
-        Ok(text) => Fault::Malformed(text, Flaw::Url),
+    match String::from_str(alloc, url) {
+        Ok(text) => Fault::Argument(text, Flaw::Url),
         Err(AllocError) => Fault::Memory,
     }
 }
@@ -119,10 +112,10 @@ fn malformed_url(alloc: Global, url: &str) -> Fault
 ///
 /// # Errors
 ///
-/// `Fault::Malformed` for this URL, and `Fault::Memory` if an allocation fails.
+/// `Fault::Argument` for this URL, and `Fault::Memory` if an allocation fails.
 pub fn are_paths_or_urls(alloc: Global, urls: &[&str]) -> Result<(), Fault>
     ensures ok { OnOk result (first_malformed (map (λ url. url.now) urls.now) ≡ None) }
-    ensures fault { IfErr result (IsMalformedUrlIn (map (λ url. url.now) urls.now)) }
+    ensures fault { IfErr result (IsUrlFault (first_malformed (map (λ url. url.now) urls.now))) }
 {
     for url in urls {
         if !is_path_or_url(alloc, url.as_bytes())? {

@@ -1,9 +1,10 @@
 -- The expectations as the code finds them.
-use Rattle.std.specs.Prelude.{◌≡◌, ℕ, ◌<◌, true, false, List, Result, Err, length, slice_index, ⊤}
+use Rattle.std.specs.Prelude.{◌≡◌, ℕ, ◌<◌, true, false, List, length, slice_index, string_bytes}
+use Rattle.audit_core.specs.declared.fault.Entry.{Entry}
+use Rattle.audit_core.specs.declared.fault.Fault.{Fault}
+use Rattle.audit_core.specs.declared.fault.Fault.TheVariants.{Empty, Memory}
 use Rattle.audit_expect.specs.declared.expect.Expectation.{Expectation}
-use Rattle.audit_expect.specs.declared.expect.ParseFault.{ParseFault}
-use Rattle.audit_expect.specs.declared.expect.ParseFault.TheVariants.{Malformed, Memory}
-use Rattle.audit_expect.specs.Expect.{ExpectationValue, MalformedLine, is_in}
+use Rattle.audit_expect.specs.Expect.{ExpectationValue, is_in}
 
 abbrev pub expectation_value : Expectation → ExpectationValue
 expectation_value expectation = record {
@@ -12,11 +13,6 @@ expectation_value expectation = record {
   agent = expectation.agent.now;
   url = expectation.url.now;
 }
-
--- the error is that of the specification, or an allocation failed
-abbrev pub IsParseFault : {X : Type 0} → Result X MalformedLine → ParseFault → Type 0
-IsParseFault specified (Malformed number flaw) = specified ≡ Err (number, flaw)
-IsParseFault specified Memory = ⊤
 
 -- the first `end` bytes of the text contain no separator
 abbrev pub HasNone : List ℕ → List ℕ → ℕ → Type 0
@@ -27,3 +23,8 @@ pub record IsFirstSeparator (separators text : List ℕ) (place : ℕ) : Type 0 
   pub within : place < length text
   pub here : is_in separators (slice_index text place) ≡ true
   pub before : HasNone separators text place
+
+-- the error names this file, in which there are no such entries, or an allocation failed
+abbrev pub IsWithoutEntries : List ℕ → Entry → Fault → Type 0
+IsWithoutEntries name entry (Empty file other) = (string_bytes file ≡ name) × (other ≡ entry)
+IsWithoutEntries name entry fault = fault ≡ Memory

@@ -7,10 +7,10 @@ use Rattle.audit_expect.proofs.other_reading.other_decision.Goals as goal
 
 pub returns-then-not-is_by_marked-clause-ok : goal.returns-then-not-is_by_marked-clause-ok
 returns-then-not-is_by_marked-clause-ok c =
-    let other : option_map_or (is_marked c.args.empty.now) c.args.decision.now.line false ≡ false =
+    let other : option_map_or (is_marked c.args.marks.now) c.args.decision.now.line false ≡ false =
     search rules in
     unchanged (file_bodies c.args.site.now) (placed_rules c.args.agent.now (file_lines c.args.site.now)) _
-    c.args.decision.now c.requires.decided (rw c.requires.empty at other)
+    c.args.decision.now c.requires.decided (rw c.requires.marks at other)
 
 pub decision_of-requires : goal.decision_of-requires
 decision_of-requires c =

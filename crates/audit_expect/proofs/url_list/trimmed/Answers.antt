@@ -1,5 +1,6 @@
-use Rattle.audit_expect.proofs.UrlListLemmas.{trimmed_is}
+use Rattle.std.proofs.Common.{refl}
+use Rattle.std.proofs.lemmas.Str.Ascii.{trim_ascii_is}
 use Rattle.audit_expect.proofs.url_list.trimmed.Goals as goal
 
 pub returns : goal.returns
-returns c = trimmed_is c.args.line.now _ c.trim_ascii.ensures.value
+returns c = trim_ascii_is c.args.line.now _ _ refl c.trim_ascii.ensures.value
