@@ -1,8 +1,8 @@
 -- The report on two files: how it is written.
-use Rattle.std.proofs.Common.{◌≡◌, ◌∙◌, ℕ, zero, suc, ◌+◌, ◌<◌, ◌==◌, ◌&&◌, ◌||◌, Bool, true, false, List, []}
-use Rattle.std.proofs.Common.{◌∷◌, ◌++◌, ap, append_assoc, append-nil, arith, drop, flat_map, length, length-append, map, refl}
+use Rattle.std.proofs.Common.{◌≡◌, ◌∙◌, ℕ, zero, suc, ◌<◌, ◌&&◌, ◌||◌, Bool, true, false, List, []}
+use Rattle.std.proofs.Common.{◌∷◌, ◌++◌, ap, append-nil, arith, drop, flat_map, length, length-append, map, refl}
 use Rattle.std.proofs.Common.{string_bytes, subst, sym}
-use Rattle.std.specs.List.{AllZip, list_all, list_any}
+use Rattle.std.specs.List.{AllZip, list_all}
 use Rattle.std.proofs.Math.Seq.{drop-nil}
 use Rattle.std.proofs.lemmas.List.{map-append}
 use Rattle.std.proofs.lemmas.List.Concat.{flat_map-append}
@@ -62,32 +62,6 @@ nothing_reported compared old new accepted is same =
     rw (accepted, none) (is ∙ ap (λ lines. old ++ written lines) none, refl)
 
 -- ---- the reports on several crawlers
-
-all_last : {X : Type 0} (test : X → Bool) (xs : List X) (x : X)
-    → list_all test (xs ++ x ∷ []) ≡ (list_all test xs && test x)
-all_last test xs x = list_all-append test xs (x ∷ []) ∙ at (list_all test xs) (test x)
-  where
-    at : (every is : Bool) → (every && (is && true)) ≡ (every && is)
-    at true true = refl
-    at true false = refl
-    at false is = refl
-
--- the report on one more crawler
-pub found_next : (before : List ComparedValue) (one : ComparedValue) (old new : Comparison) → IsFound before old
-    → string_bytes new.report ≡ string_bytes old.report ++ written (agent_lines one)
-    → new.is_rejected ≡ (old.is_rejected || is_rejected one)
-    → new.some_unchanged ≡ (old.some_unchanged || is_unchanged one)
-    → new.all_unchanged ≡ (old.all_unchanged && is_unchanged one) → IsFound (before ++ one ∷ []) new
-found_next before one old new is added rejected some every = record {
-  text =
-      added ∙ ap (λ text. text ++ written (agent_lines one)) is.text
-      ∙ sym (written_append (flat_map agent_lines before) (agent_lines one))
-      ∙ ap written (sym (flat_map-append agent_lines before (one ∷ [])
-      ∙ ap (λ lines. flat_map agent_lines before ++ lines) (append-nil (agent_lines one))));
-  rejected = rejected ∙ ap (λ is. is || is_rejected one) is.rejected ∙ sym (any_last is_rejected before one);
-  some = some ∙ ap (λ is. is || is_unchanged one) is.some ∙ sym (any_last is_unchanged before one);
-  every = every ∙ ap (λ is. is && is_unchanged one) is.every ∙ sym (all_last is_unchanged before one);
-}
 
 -- the names are those of the crawlers that were compared
 pub names_compared : (urls : List (List ℕ)) (older newer : List LineValue) (agents : List (List ℕ))

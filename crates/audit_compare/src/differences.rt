@@ -1,5 +1,5 @@
 //! The lines about what differs between two files for a crawler.
-ghost use Rattle.std.specs.Prelude.{◌≡◌, ◌++◌, ◌∷◌, [], OnOk, map, string_bytes, true};
+ghost use Rattle.std.specs.Prelude.{◌≡◌, ◌++◌, OnOk, map, string_bytes};
 ghost use Rattle.robots_text.specs.Raw.{raw_line, raw_text, raw_value};
 ghost use Rattle.robots_text.specs.Text.{line_text, part_text, value_text, written};
 ghost use Rattle.audit_compare.specs.Compare.{crawler, deciding, delay_changes, delay_line, differences, file_part, group_changes, group_line};

@@ -1,5 +1,5 @@
 //! A crawler's rules as a set, for the comparison with the rules of another file.
-ghost use Rattle.std.specs.Prelude.{◌≡◌, ℕ, IfOk, List, false, true};
+ghost use Rattle.std.specs.Prelude.{◌≡◌, ℕ, IfOk, List};
 ghost use Rattle.std.specs.BTreeSet.{contains_text};
 ghost use Rattle.texting_robots.specs.Callers.{PlacedRule};
 ghost use Rattle.audit_compare.specs.Compare.{has_rule, rules_lacked};

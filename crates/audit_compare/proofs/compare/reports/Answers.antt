@@ -4,13 +4,6 @@ use Rattle.audit_core.proofs.AuditLemmas.{zip_push}
 use Rattle.audit_compare.specs.Internal.Compare.{compared_value}
 use Rattle.audit_compare.proofs.compare.reports.Goals as goal
 
-pub loop-agent-init : goal.loop-agent-init
-loop-agent-init c = record {
-  compared = [];
-  all = tt;
-  is = record { text = c.new.ensures.bytes; rejected = refl; some = refl; every = refl };
-}
-
 pub loop-agent-preserved : goal.loop-agent-preserved
 loop-agent-preserved c =
     let before = c.loop-agent.invariant in
