@@ -1,4 +1,2 @@
 pub mod CompareLemmas
-pub mod ComparePrintableLemmas
-pub mod QuietLemmas
 pub mod RuleSetLemmas

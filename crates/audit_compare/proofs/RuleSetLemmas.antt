@@ -1,88 +1,34 @@
--- Sets of rules, and rules that other rules lack.
+-- Rules that other rules lack, and the verdicts by the same rules.
 use Rattle.std.proofs.Common.{◌≡◌, ◌∙◌, ◌↔◌, ◌||◌, ◌&&◌, ℕ, zero, suc, Bool, true, false, List, [], ◌∷◌, ◌++◌}
-use Rattle.std.proofs.Common.{Contains, None, Option, Some, String, ap, arith, bytes_eq, not, refl}
-use Rattle.std.proofs.Common.{string_bytes, subst, ◌==◌, codes, if◌then◌else◌, length, map, sym}
-use Rattle.std.specs.BTreeSet.{BTreeSet, Updates, contains_text}
-use Rattle.std.specs.Global.{Global}
-use Rattle.std.specs.String.{string_cmp}
-use Rattle.std.proofs.Math.Bool.{beq, or-false}
+use Rattle.std.proofs.Common.{Contains, None, Option, Some, ap, arith, not, refl, ⊎_elim, length-append}
+use Rattle.std.proofs.Common.{subst, ◌==◌, if◌then◌else◌, length, map, sym}
+use Rattle.std.proofs.Math.Bool.{beq}
 use Rattle.std.specs.List.{AllZip}
-use Rattle.std.proofs.lemmas.Map.Text.{btree_set_updates_text}
+use Rattle.std.proofs.lemmas.Bool.{and_parts, or_cases}
+use Rattle.std.proofs.lemmas.Bool.Decides.{nat_tests}
+use Rattle.std.proofs.lemmas.Grind.{common_steps}
+use Rattle.std.proofs.lemmas.List.{length-map}
+use Rattle.std.proofs.lemmas.List.Folds.{Any-from_list_any}
 use Rattle.std.proofs.lemmas.Slice.Eq.{bytes_eq-Decides}
 use Rattle.texting_robots.specs.Callers.{IsDenied, IsVerdict, LineValue, PlacedRule, Rule, placed_rules}
 use Rattle.texting_robots.specs.Callers.{rules_for, unplaced}
-use Rattle.robots_warnings.proofs.NameLemmas.{any_last, either}
-use Rattle.audit_compare.specs.declared.rule_sets.RuleSet.{RuleSet}
-use Rattle.audit_compare.specs.Compare.{ComparedValue, IsCompared, delay_changes, differences, group_changes}
-use Rattle.audit_compare.specs.Compare.{has_rule, has_same_rules, is_rejected, is_same_rule, is_unchanged}
-use Rattle.audit_compare.specs.Compare.{is_in_line_of, is_same_decision, rule_line, rules_lacked}
-use Rattle.audit_compare.specs.Compare.{rules_only_in, verdict_changes}
-use Rattle.audit_core.specs.Asked.{asked_target}
-use Rattle.audit_core.specs.Audit.{IsRuling, IsVerdictOn, VerdictValue}
-use Rattle.robots_io.specs.Verdicts.{IsDecisionOn}
 use Rattle.texting_robots.specs.declared.decision.Decision.{Decision}
 use Rattle.texting_robots.proofs.VerdictLemmas.{one_verdict}
-use Rattle.audit_compare.specs.Internal.Compare.{AddsRule, HasRules, contains_rule}
-use Rattle.audit_core.proofs.ListLemmas.{none_of, some_length}
-
--- ---- insertion
-
-text_added : (old new : BTreeSet (String Global)) (key : String Global) (pattern : List ℕ)
-    → Updates string_cmp old new key true
-    → contains_text new pattern ≡ (contains_text old pattern || bytes_eq (string_bytes key) pattern)
-text_added old new key pattern updates =
-    btree_set_updates_text (string_bytes key) old new true updates pattern
-    ∙ either (contains_text old pattern) (bytes_eq (string_bytes key) pattern)
-
-pub allowed_added : (old new : RuleSet) (key : String Global) (pattern : List ℕ) → string_bytes key ≡ pattern
-    → Updates string_cmp old.allowed new.allowed key true → new.denied ≡ old.denied
-    → AddsRule old new (pattern, true)
-allowed_added old new key pattern is updates same = record { each = each }
-  where
-    each : (other : Rule) → contains_rule new other
-        ≡ (contains_rule old other || is_same_rule (pattern, true) other)
-    each (text, true) =
-        text_added old.allowed new.allowed key text updates
-        ∙ ap (λ (bytes : List ℕ). contains_text old.allowed text || bytes_eq bytes text) is
-    each (text, false) =
-        ap (λ set. contains_text set text) same ∙ sym (or-false (contains_text old.denied text))
-
-pub denied_added : (old new : RuleSet) (key : String Global) (pattern : List ℕ) → string_bytes key ≡ pattern
-    → Updates string_cmp old.denied new.denied key true → new.allowed ≡ old.allowed
-    → AddsRule old new (pattern, false)
-denied_added old new key pattern is updates same = record { each = each }
-  where
-    each : (other : Rule) → contains_rule new other
-        ≡ (contains_rule old other || is_same_rule (pattern, false) other)
-    each (text, false) =
-        text_added old.denied new.denied key text updates
-        ∙ ap (λ (bytes : List ℕ). contains_text old.denied text || bytes_eq bytes text) is
-    each (text, true) =
-        ap (λ set. contains_text set text) same ∙ sym (or-false (contains_text old.allowed text))
-
-pub no_rules : (set : RuleSet) → set.allowed.keys ≡ [] → set.denied.keys ≡ [] → HasRules [] set
-no_rules set none nothing = record { each = each }
-  where
-    each : (rule : Rule) → contains_rule set rule ≡ false
-    each (text, true) = rw none refl
-    each (text, false) = rw nothing refl
-
--- loop step: one more rule
-pub rules_next : (rules : List PlacedRule) (placed : PlacedRule) (old new : RuleSet) → HasRules rules old
-    → AddsRule old new placed.rule → HasRules (rules ++ placed ∷ []) new
-rules_next rules placed old new has adds = record {
-  each = λ rule.
-      adds.each rule ∙ ap (λ is. is || is_same_rule placed.rule rule) (has.each rule)
-      ∙ sym (any_last (λ (other : PlacedRule). is_same_rule other.rule rule) rules placed);
-}
+use Rattle.robots_io.specs.Verdicts.{IsDecisionOn}
+use Rattle.audit_core.specs.Asked.{asked_target}
+use Rattle.audit_core.specs.Audit.{IsRuling, IsVerdictOn, VerdictValue}
+use Rattle.audit_core.proofs.ListLemmas.{none_of}
+use Rattle.audit_compare.specs.Compare.{ComparedValue, IsCompared, delay_changes, differences, group_changes}
+use Rattle.audit_compare.specs.Compare.{has_rule, has_same_rules, is_rejected, is_same_decision, is_same_rule}
+use Rattle.audit_compare.specs.Compare.{is_unchanged, rule_line, rules_lacked, rules_only_in, verdict_changes}
 
 -- ---- verdicts
 
 -- all rules of the first list are in the second
-abbrev pub Includes : List Rule → List Rule → Type 0
+abbrev Includes : List Rule → List Rule → Type 0
 Includes rules others = (rule : Rule) → Contains rules rule → Contains others rule
 
-pub denied_alike : (rules others : List Rule) (text : List ℕ) → Includes rules others → Includes others rules
+denied_alike : (rules others : List Rule) (text : List ℕ) → Includes rules others → Includes others rules
     → IsDenied rules text → IsDenied others text
 denied_alike rules others text there back (other, pattern, has, matches, longer) = (
   other,
@@ -92,7 +38,7 @@ denied_alike rules others text there back (other, pattern, has, matches, longer)
   λ q is. longer q (back (q, true) is),
 )
 
-pub verdict_alike : (rules others : List Rule) (text : List ℕ) (allowed : Bool) → Includes rules others
+verdict_alike : (rules others : List Rule) (text : List ℕ) (allowed : Bool) → Includes rules others
     → Includes others rules → IsVerdict rules text allowed → IsVerdict others text allowed
 verdict_alike rules others text true there back allows =
     λ denied. allows (denied_alike others rules text back there denied)
@@ -106,14 +52,10 @@ same_rule (pattern, false) (text, false) is =
     ap (λ bytes. (bytes, false)) ((bytes_eq-Decides pattern text).0 is)
 
 has_in : (rules : List PlacedRule) (rule : Rule) → has_rule rules rule ≡ true → Contains (unplaced rules) rule
-has_in [] rule is = absurd (cc)
-has_in (first ∷ rules) rule is = at (is_same_rule first.rule rule) refl is (has_in rules rule)
-  where
-    at : (same : Bool) → is_same_rule first.rule rule ≡ same → (same || has_rule rules rule) ≡ true
-        → (has_rule rules rule ≡ true → Contains (unplaced rules) rule)
-        → Contains (unplaced (first ∷ rules)) rule
-    at true same is later = (0, omega arith, same_rule first.rule rule same)
-    at false other is later = let (k, below, here) = later is in (suc k, omega arith, here)
+has_in rules rule is =
+    let found = Any-from_list_any (λ (placed : PlacedRule). is_same_rule placed.rule rule) rules is in
+    let same : found.1.rule ≡ rule = same_rule found.1.rule rule found.4 in
+    subst (Contains (unplaced rules)) same (found.0, grind (arith, common_steps), grind (arith, common_steps))
 
 none_lacked : (others rules : List PlacedRule) → rules_lacked others rules ≡ []
     → Includes (unplaced rules) (unplaced others)
@@ -146,20 +88,10 @@ same_rules_decide_alike agent older newer text allowed removed added =
 
 -- ---- what a report says
 
-nothing_in : {X : Type 0} (xs ys : List X) → (length (xs ++ ys) == 0) ≡ true
-    → ((length xs == 0) ≡ true) × ((length ys == 0) ≡ true)
-nothing_in [] ys is = (refl, is)
-nothing_in (x ∷ xs) ys is = absurd (some_length x (xs ++ ys) is)
-
-nothing_mapped : {X Y : Type 0} (f : X → Y) (xs : List X) → (length (map f xs) == 0) ≡ true
-    → (length xs == 0) ≡ true
-nothing_mapped f [] is = refl
-nothing_mapped f (x ∷ xs) is = absurd (some_length (f x) (map f xs) is)
-
-both : (one other : Bool) → (one && other) ≡ true → (one ≡ true) × (other ≡ true)
-both true true is = (refl, refl)
-both true false is = absurd (cc)
-both false other is = absurd (cc)
+no_rules_in : {X : Type 0} (before removed added after : List X)
+    → (length (before ++ (removed ++ added) ++ after) == 0) ≡ true
+    → (length removed == 0 && length added == 0) ≡ true
+no_rules_in before removed added after is = grind (arith, nat_tests, length-append)
 
 unchanged_has_same : (compared : ComparedValue) → is_unchanged compared ≡ true
     → has_same_rules compared ≡ true
@@ -167,101 +99,76 @@ unchanged_has_same compared is =
     let agent = compared.agent in
     let older = compared.older in
     let newer = compared.newer in
-    let minus = rule_line agent (codes ": - ") in
-    let plus = rule_line agent (codes ": + ") in
-    let rules = map minus compared.removed ++ map plus compared.added in
-    let before =
-    group_changes agent older.group newer.group ++ delay_changes agent older.delay newer.delay in
-    let (accepted, none) = both (not (is_rejected compared)) (length (differences compared) == 0) is in
-    let (first, verdict) =
-    nothing_in (before ++ rules) (verdict_changes compared older.verdicts newer.verdicts) none in
-    let (other, rule) = nothing_in before rules first in
-    let (removed, added) = nothing_in (map minus compared.removed) (map plus compared.added) rule in
-    rw (nothing_mapped minus compared.removed removed, nothing_mapped plus compared.added added) refl
+    let none = and_parts (not (is_rejected compared)) (length (differences compared) == 0) is in
+    let removed = map (rule_line agent false) compared.removed in
+    let added = map (rule_line agent true) compared.added in
+    rw (
+      ← length-map compared.removed (rule_line agent false),
+      ← length-map compared.added (rule_line agent true),
+    )
+    (no_rules_in
+    (group_changes agent older.group newer.group ++ delay_changes agent older.delay newer.delay) removed added
+    (verdict_changes compared older.verdicts newer.verdicts) none.1)
 
--- the same of a crawler that is reported to be unchanged or to have the same rules
-pub reported_alike : (urls : List (List ℕ)) (older newer : List LineValue) (agent : List ℕ)
-    (compared : ComparedValue) (text : List ℕ) (allowed : Bool) → IsCompared urls older newer agent compared
-    → (is_unchanged compared || has_same_rules compared) ≡ true
-    → IsVerdict (rules_for agent older) text allowed ↔ IsVerdict (rules_for agent newer) text allowed
-reported_alike urls older newer agent compared text allowed is said =
-    let (removed, added) = both (length compared.removed == 0) (length compared.added == 0)
-    (at (is_unchanged compared) refl said) in
-    same_rules_decide_alike agent older newer text allowed
-    (sym is.removed_are ∙ none_of compared.removed removed)
-    (sym is.added_are ∙ none_of compared.added added)
-  where
-    at : (unchanged : Bool) → is_unchanged compared ≡ unchanged
-        → (unchanged || has_same_rules compared) ≡ true → has_same_rules compared ≡ true
-    at true unchanged said = unchanged_has_same compared unchanged
-    at false changed said = said
-
--- ---- URLs
+beq_self : (b : Bool) → beq b b ≡ true
+beq_self true = refl
+beq_self false = refl
 
 pub no_verdicts : (compared : ComparedValue) (older : List VerdictValue)
     → verdict_changes compared older [] ≡ []
 no_verdicts compared [] = refl
 no_verdicts compared (_ ∷ _) = refl
 
-same_verdict : (one other : Bool) → one ≡ other → beq one other ≡ true
-same_verdict true true same = refl
-same_verdict true false same = absurd (cc)
-same_verdict false true same = absurd (cc)
-same_verdict false false same = refl
+module _ (urls : List (List ℕ)) (older newer : List LineValue) (agent : List ℕ) (compared : ComparedValue)
+    (is : IsCompared urls older newer agent compared) where
+  alike : (text : List ℕ) (allowed : Bool) → has_same_rules compared ≡ true
+      → IsVerdict (rules_for agent older) text allowed ↔ IsVerdict (rules_for agent newer) text allowed
+  alike text allowed same =
+      let none = and_parts (length compared.removed == 0) (length compared.added == 0) same in
+      same_rules_decide_alike agent older newer text allowed
+      (sym is.removed_are ∙ none_of compared.removed none.0) (sym is.added_are ∙ none_of compared.added none.1)
 
-in_no_line : (line : Option ℕ) → is_in_line_of [] line ≡ false
-in_no_line None = refl
-in_no_line (Some line) = refl
+  -- the same of a crawler that is reported to be unchanged or to have the same rules
+  pub reported_alike : (text : List ℕ) (allowed : Bool) → (is_unchanged compared || has_same_rules compared) ≡ true
+      → IsVerdict (rules_for agent older) text allowed ↔ IsVerdict (rules_for agent newer) text allowed
+  reported_alike text allowed said =
+      alike text allowed
+      (⊎_elim (unchanged_has_same compared) (λ same. same) (or_cases (is_unchanged compared) _ said))
 
-module _ (agent : List ℕ) (older newer : List LineValue) (compared : ComparedValue)
-    (removed : compared.removed ≡ []) (added : compared.added ≡ [])
-    (alike : (text : List ℕ) (allowed : Bool) → IsVerdict (rules_for agent older) text allowed
-    → IsVerdict (rules_for agent newer) text allowed) where
-  same_decision : (text : List ℕ) (one other : Decision) → IsDecisionOn (placed_rules agent older) text one
-      → IsDecisionOn (placed_rules agent newer) text other → is_same_decision compared one other ≡ true
-  same_decision text one other is too =
-      let same = one_verdict (rules_for agent newer) text one.allowed other.allowed
-      (alike text one.allowed is.verdict) too.verdict in
-      rw (
-        removed,
-        added,
-        in_no_line one.line,
-        in_no_line other.line,
-        same_verdict one.allowed other.allowed same,
-      )
-      refl
+  module _ (same : has_same_rules compared ≡ true) where
+    same_decision : (text : List ℕ) (one other : Decision) → IsDecisionOn (placed_rules agent older) text one
+        → IsDecisionOn (placed_rules agent newer) text other → is_same_decision compared one other ≡ true
+    same_decision text one other decided too =
+        let none = and_parts (length compared.removed == 0) (length compared.added == 0) same in
+        let verdict = one_verdict (rules_for agent newer) text one.allowed other.allowed
+        ((alike text one.allowed same).0 decided.verdict) too.verdict in
+        rw (
+          none_of compared.removed none.0,
+          none_of compared.added none.1,
+          verdict,
+          beq_self other.allowed,
+        )
+        refl
 
-  none_differs : (urls : List (List ℕ)) (ones others : List VerdictValue)
-      → AllZip (IsVerdictOn (placed_rules agent older)) urls ones
-      → AllZip (IsVerdictOn (placed_rules agent newer)) urls others
-      → verdict_changes compared ones others ≡ []
-  none_differs [] [] [] are too = refl
-  none_differs [] (one ∷ ones) others are too = absurd are
-  none_differs [] [] (other ∷ others) are too = absurd too
-  none_differs (url ∷ urls) [] others are too = absurd are
-  none_differs (url ∷ urls) (one ∷ ones) [] are too = absurd too
-  none_differs (url ∷ urls) (one ∷ ones) (other ∷ others) (is, more) (also, rest) =
-      rw (same_decision (asked_target url) one.decision other.decision is.decided also.decided)
-      (none_differs urls ones others more rest)
+    none_differs : (given : List (List ℕ)) (ones others : List VerdictValue)
+        → AllZip (IsVerdictOn (placed_rules agent older)) given ones
+        → AllZip (IsVerdictOn (placed_rules agent newer)) given others
+        → verdict_changes compared ones others ≡ []
+    none_differs given [] others are too = refl
+    none_differs given (one ∷ ones) [] are too = refl
+    none_differs [] (one ∷ ones) (other ∷ others) are too = absurd are
+    none_differs (url ∷ given) (one ∷ ones) (other ∷ others) (first, more) (second, rest) =
+        rw (same_decision (asked_target url) one.decision other.decision first.decided second.decided)
+        (none_differs given ones others more rest)
 
-  none_ruled : (urls : List (List ℕ)) (one other : Option ℕ) (ones others : List VerdictValue)
-      → IsRuling urls older agent one ones → IsRuling urls newer agent other others
-      → verdict_changes compared ones others ≡ []
-  none_ruled urls None None ones others (accepted, are) (also, too) = none_differs urls ones others are too
-  none_ruled urls (Some line) other ones others (first, none) too = rw none refl
-  none_ruled urls None (Some line) ones others is (first, none) = rw none (no_verdicts compared ones)
+    none_ruled : (one other : Option ℕ) (ones others : List VerdictValue) → IsRuling urls older agent one ones
+        → IsRuling urls newer agent other others → verdict_changes compared ones others ≡ []
+    none_ruled None None ones others (accepted, are) (also, too) = none_differs urls ones others are too
+    none_ruled (Some line) other ones others (first, none) too = rw none refl
+    none_ruled None (Some line) ones others are (first, none) = rw none (no_verdicts compared ones)
 
--- no URL is listed for a crawler that has the same rules in both files
-pub none_listed : (urls : List (List ℕ)) (older newer : List LineValue) (agent : List ℕ)
-    (compared : ComparedValue) → IsCompared urls older newer agent compared → has_same_rules compared ≡ true
-    → verdict_changes compared compared.older.verdicts compared.newer.verdicts ≡ []
-none_listed urls older newer agent compared is same =
-    let (none, nothing) = both (length compared.removed == 0) (length compared.added == 0) same in
-    let removed = none_of compared.removed none in
-    let added = none_of compared.added nothing in
-    let alike = λ (text : List ℕ) (allowed : Bool).
-    (same_rules_decide_alike agent older newer text allowed (sym is.removed_are ∙ removed)
-    (sym is.added_are ∙ added)).0 in
-    none_ruled agent older newer compared removed added alike urls compared.older.rejected
-    compared.newer.rejected compared.older.verdicts compared.newer.verdicts is.older_is.ruling
-    is.newer_is.ruling
+    -- no URL is listed for a crawler that has the same rules in both files
+    pub none_listed : verdict_changes compared compared.older.verdicts compared.newer.verdicts ≡ []
+    none_listed =
+        none_ruled compared.older.rejected compared.newer.rejected compared.older.verdicts
+        compared.newer.verdicts is.older_is.ruling is.newer_is.ruling

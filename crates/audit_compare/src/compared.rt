@@ -3,7 +3,6 @@ ghost use Rattle.std.specs.Prelude.{◌≡◌, IfErr, IfOk, map};
 ghost use Rattle.texting_robots.specs.Callers.{file_lines, lines_read};
 ghost use Rattle.audit_core.specs.Audit.{IsAgentAudit};
 ghost use Rattle.audit_compare.specs.Compare.{IsCompared, rules_only_in};
-ghost use Rattle.audit_core.specs.Internal.{agent_value};
 ghost use Rattle.audit_compare.specs.Internal.Compare.{IsVersion, compared_value};
 
 use crate::rule_sets::{RuleSet, rules_lacked};
@@ -88,7 +87,7 @@ fn audit_for<'a>(
 ) -> Result<AgentAudit<'a>, Fault>
     requires { IsVersion version.now }
     ensures ok { IfOk result (λ audit. IsAgentAudit (map (λ url. url.now) urls.now)
-        (lines_read version.now.bytes.now) agent.now (agent_value audit)) }
+        (lines_read version.now.bytes.now) agent.now audit) }
     ensures fault { IfErr result (λ fault. fault ≡ Fault.Memory) }
 {
     let (bytes, site) = (version.bytes, &version.site);

@@ -3,14 +3,14 @@ ghost use Rattle.std.specs.Prelude.{[], Bool, List, true, ℕ, ◌||◌, ◌↔�
 ghost use Rattle.texting_robots.specs.Callers.{IsVerdict, LineValue, rules_for};
 ghost use Rattle.audit_compare.specs.Compare.{ComparedValue, has_same_rules, is_unchanged, IsCompared};
 ghost use Rattle.audit_compare.specs.Compare.{report_lines, rules_only_in, verdict_changes};
-ghost use Rattle.robots_io.specs.Lines.{ended};
+ghost use Rattle.robots_text.specs.Text.{written};
 ghost use Rattle.robots_io.specs.Sanitize.{IsPrintable};
 
 /// The report of `--compare` contains neither invalid UTF-8 nor a control character other than LF, a
 /// bidirectional control character or a line separator, whatever the bytes of the files, the crawlers' names
 /// and the URLs are.
 pub fn no_comparison_steers_a_terminal()
-    ensures { (compared : List ComparedValue) → IsPrintable (ended (report_lines compared)) }
+    ensures { (compared : List ComparedValue) → IsPrintable (written (report_lines compared)) }
 {}
 
 /// If a crawler has the same rules in two files, in whatever lines, both files give each text the same verdict. So they do

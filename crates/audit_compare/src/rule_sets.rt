@@ -1,8 +1,9 @@
 //! A crawler's rules as a set, for the comparison with the rules of another file.
-ghost use Rattle.std.specs.Prelude.{◌≡◌, IfOk, List, OnOk};
+ghost use Rattle.std.specs.Prelude.{◌≡◌, ℕ, IfOk, List};
+ghost use Rattle.std.specs.BTreeSet.{contains_text};
 ghost use Rattle.texting_robots.specs.Callers.{PlacedRule};
-ghost use Rattle.audit_compare.specs.Compare.{rules_lacked};
-ghost use Rattle.audit_compare.specs.Internal.Compare.{AddsRule, HasRules, contains_rule};
+ghost use Rattle.audit_compare.specs.Compare.{has_rule, rules_lacked};
+ghost use Rattle.audit_compare.specs.Internal.Compare.{HasRules, contains_rule};
 
 use audit_core::rules::Rule;
 use std::alloc::{AllocError, Global};
@@ -15,32 +16,33 @@ pub(crate) struct RuleSet {
     denied: BTreeSet<String>,
 }
 
-impl RuleSet {
-    /// Inserts a rule.
-    fn add(&mut self, alloc: Global, rule: &Rule) -> Result<(), AllocError>
-        ensures { OnOk result (AddsRule self.old self.new rule.now.rule) }
-    {
-        let pattern = String::from_str(alloc, &rule.pattern)?;
-        if rule.is_allow {
-            self.allowed.insert(pattern)?;
-        } else {
-            self.denied.insert(pattern)?;
+/// The patterns of the rules of one kind.
+fn patterns_of(
+    alloc: Global,
+    rules: &[Rule],
+    is_allow: bool,
+) -> Result<BTreeSet<String>, AllocError>
+    ensures { IfOk result (λ patterns. (pattern : List ℕ)
+        → contains_text patterns pattern ≡ has_rule rules.now (pattern, is_allow)) }
+{
+    let mut patterns = BTreeSet::new(alloc);
+    for rule in rules {
+        if rule.is_allow != is_allow {
+            continue;
         }
-        Ok(())
+        patterns.insert(String::from_str(alloc, &rule.pattern)?)?;
     }
+    Ok(patterns)
+}
 
+impl RuleSet {
     /// The set of these rules.
     pub(crate) fn of(alloc: Global, rules: &[Rule]) -> Result<Self, AllocError>
         ensures { IfOk result (HasRules rules.now) }
     {
-        let mut set = RuleSet {
-            allowed: BTreeSet::new(alloc),
-            denied: BTreeSet::new(alloc),
-        };
-        for rule in rules {
-            set.add(alloc, rule)?;
-        }
-        Ok(set)
+        let allowed = patterns_of(alloc, rules, true)?;
+        let denied = patterns_of(alloc, rules, false)?;
+        Ok(RuleSet { allowed, denied })
     }
 
     /// Whether the set contains the rule, in whatever line.

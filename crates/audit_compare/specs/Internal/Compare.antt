@@ -1,5 +1,5 @@
 -- The comparison of two files as the code does it.
-use Rattle.std.specs.Prelude.{◌≡◌, ℕ, Bool, ◌&&◌, ◌||◌, List, ◌++◌, flat_map, if◌then◌else◌, map}
+use Rattle.std.specs.Prelude.{◌≡◌, ℕ, Bool, List, flat_map, if◌then◌else◌, map}
 use Rattle.std.specs.Prelude.{string_bytes, take}
 use Rattle.std.specs.BTreeSet.{contains_text}
 use Rattle.std.specs.List.{AllZip, list_all, list_any}
@@ -7,16 +7,13 @@ use Rattle.texting_robots.specs.Callers.{PlacedRule, Rule, file_limit, label_by_
 use Rattle.texting_robots.specs.Callers.{lines_read}
 use Rattle.texting_robots.specs.Group.{is_agent}
 use Rattle.robots_warnings.specs.File.{lines_of}
-use Rattle.robots_io.specs.Lines.{ended}
-use Rattle.audit_compare.specs.declared.compare.AgentReport.{AgentReport}
+use Rattle.robots_text.specs.Text.{written}
 use Rattle.audit_compare.specs.declared.compare.Comparison.{Comparison}
 use Rattle.audit_compare.specs.declared.compared.Compared.{Compared}
 use Rattle.audit_compare.specs.declared.compared.Version.{Version}
 use Rattle.audit_compare.specs.declared.rule_sets.RuleSet.{RuleSet}
 use Rattle.audit_compare.specs.Compare.{ComparedValue, IsCompared, agent_lines, has_rule, is_rejected}
-use Rattle.audit_core.specs.Audit.{agents_requested}
-use Rattle.audit_compare.specs.Compare.{is_same_rule, is_unchanged, report_lines}
-use Rattle.audit_core.specs.Internal.{agent_value}
+use Rattle.audit_compare.specs.Compare.{is_unchanged}
 
 -- ---- sets of rules
 
@@ -24,10 +21,6 @@ use Rattle.audit_core.specs.Internal.{agent_value}
 abbrev pub contains_rule : RuleSet → Rule → Bool
 contains_rule set rule =
     if rule.1 then contains_text set.allowed rule.0 else contains_text set.denied rule.0
-
--- a rule was inserted
-pub record AddsRule (old new : RuleSet) (rule : Rule) : Type 0 where
-  pub each : (other : Rule) → contains_rule new other ≡ (contains_rule old other || is_same_rule rule other)
 
 -- the set contains exactly these rules
 pub record HasRules (rules : List PlacedRule) (set : RuleSet) : Type 0 where
@@ -46,45 +39,23 @@ pub record IsVersion (version : Version) : Type 0 where
 abbrev pub compared_value : Compared → ComparedValue
 compared_value compared = record {
   agent = string_bytes compared.older.agent;
-  older = agent_value compared.older;
-  newer = agent_value compared.newer;
+  older = compared.older;
+  newer = compared.newer;
   removed = compared.removed.items;
   added = compared.added.items;
 }
 
--- the report on a crawler
-pub record IsReportOn (compared : ComparedValue) (report : AgentReport) : Type 0 where
-  pub text : string_bytes report.text ≡ ended (agent_lines compared)
-  pub rejected : report.is_rejected ≡ is_rejected compared
-  pub unchanged : report.is_unchanged ≡ is_unchanged compared
-
--- the report on one more crawler was added
-pub record AddsReport (old new : Comparison) (report : AgentReport) : Type 0 where
-  pub text : string_bytes new.report ≡ string_bytes old.report ++ string_bytes report.text
-  pub rejected : new.is_rejected ≡ (old.is_rejected || report.is_rejected)
-  pub some : new.some_unchanged ≡ (old.some_unchanged || report.is_unchanged)
-  pub every : new.all_unchanged ≡ (old.all_unchanged && report.is_unchanged)
-
--- what is reported is about these crawlers: these lines, and whether a file is rejected for one of them and
+-- what is found on these crawlers: the lines about each, whether a file is rejected for one of them, and
 -- whether some or all are unchanged
-pub record HasLines (compared : List ComparedValue) (lines : List (List ℕ)) (found : Comparison)
-    : Type 0 where
-  pub text : string_bytes found.report ≡ ended lines
+pub record IsFound (compared : List ComparedValue) (found : Comparison) : Type 0 where
+  pub text : string_bytes found.report ≡ written (flat_map agent_lines compared)
   pub rejected : found.is_rejected ≡ list_any is_rejected compared
   pub some : found.some_unchanged ≡ list_any is_unchanged compared
   pub every : found.all_unchanged ≡ list_all is_unchanged compared
 
--- the report on these crawlers, without its last line
-pub record IsReportUpto (urls : List (List ℕ)) (older newer : List ℕ) (agents : List (List ℕ))
+-- the crawlers with these names are compared
+pub record IsReportOn (urls : List (List ℕ)) (older newer : List ℕ) (agents : List (List ℕ))
     (found : Comparison) : Type 0 where
   pub compared : List ComparedValue
   pub all : AllZip (IsCompared urls (lines_read older) (lines_read newer)) agents compared
-  pub has : HasLines compared (flat_map agent_lines compared) found
-
--- the whole report
-pub record IsComparisonOf (agents : List (List ℕ)) (urls : List (List ℕ)) (older newer : List ℕ)
-    (found : Comparison) : Type 0 where
-  pub compared : List ComparedValue
-  pub all : AllZip (IsCompared urls (lines_read older) (lines_read newer))
-      (agents_requested agents (lines_read older ++ lines_read newer)) compared
-  pub has : HasLines compared (report_lines compared) found
+  pub is : IsFound compared found

@@ -1,15 +1,14 @@
 use Rattle.std.proofs.Common.{◌≡◌, ◌++◌, drop, map, string_bytes}
-use Rattle.robots_io.specs.Lines.{ended}
+use Rattle.robots_text.specs.Text.{written}
 use Rattle.audit_compare.specs.Compare.{verdict_changes}
-use Rattle.audit_core.specs.Internal.{verdict_value}
 use Rattle.audit_compare.specs.Internal.Compare.{compared_value}
 use Rattle.audit_compare.proofs.differences.push_verdict_changes.Given as goal
 
 abbrev pub invariant-loop-at : goal.invariant-loop-at
 invariant-loop-at l =
     string_bytes l.text
-    ++ ended (verdict_changes (compared_value l.compared) (map verdict_value (drop l.at l.older))
-    (map verdict_value (drop l.at l.newer)))
+    ++ written (verdict_changes (compared_value l.compared) (drop l.at l.older)
+    (drop l.at l.newer))
     ≡ string_bytes l.fn.text
-    ++ ended
-    (verdict_changes (compared_value l.compared) (map verdict_value l.older) (map verdict_value l.newer))
+    ++ written
+    (verdict_changes (compared_value l.compared) l.older l.newer)

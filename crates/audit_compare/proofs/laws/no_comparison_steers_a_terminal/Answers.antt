@@ -1,5 +1,6 @@
-use Rattle.audit_compare.proofs.ComparePrintableLemmas.{comparison_printable}
+use Rattle.audit_compare.specs.Compare.{report_lines}
+use Rattle.robots_text.proofs.PartLemmas.{written_printable}
 use Rattle.audit_compare.proofs.laws.no_comparison_steers_a_terminal.Goals as goal
 
 pub returns : goal.returns
-returns c = comparison_printable
+returns c = λ compared. written_printable (report_lines compared)

@@ -2,4 +2,8 @@ use Rattle.audit_compare.proofs.RuleSetLemmas.{none_listed, reported_alike, same
 use Rattle.audit_compare.proofs.laws.same_rules_decide_alike.Goals as goal
 
 pub returns : goal.returns
-returns c = record { rules = same_rules_decide_alike; reported = reported_alike; listed = none_listed }
+returns c = record {
+  rules = same_rules_decide_alike;
+  reported = λ urls older newer agent compared text allowed is. reported_alike _ _ _ _ _ is text allowed;
+  listed = none_listed;
+}
