@@ -72,6 +72,6 @@ answer_for_terminal by_default matches answer (inr is) = by _ _ _ is
         → AnswersOptions explain expect compare by_default matches answer
         → IsForTerminal true (string_bytes answer.outcome.warnings)
     by (Some name) expect compare is = text_for_terminal _ answer is
-    by None (Some name) compare is = silent answer is.checked.quiet
-    by None None (Some name) is = let (older, newer, compared) = is.compared in silent answer compared.quiet
+    by None (Some name) compare is = let (hold, report, plain) = is.checked in silent answer plain.silent
+    by None None (Some name) is = let (older, newer, compared) = is.compared in silent answer compared.silent
     by None None None is = audited_for_terminal is.requested is.file answer is.audited

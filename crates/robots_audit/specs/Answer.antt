@@ -22,8 +22,8 @@ use Rattle.audit_core.specs.declared.request.Format.{Format}
 use Rattle.audit_core.specs.declared.request.Format.TheVariants.{Github, Html, Json, Sarif, Text}
 use Rattle.audit_core.specs.declared.request.Request.{Request}
 use Rattle.audit_command.specs.Command.{IsOn, IsRequestOf, value_of}
-use Rattle.audit_compare.specs.Compare.{IsComparedAnswer}
-use Rattle.audit_expect.specs.Expectations.{IsCheckedAnswer}
+use Rattle.audit_compare.specs.Compare.{IsComparison}
+use Rattle.audit_expect.specs.Expectations.{IsAnswer}
 use Rattle.audit_expect.specs.UrlList.{HasUrlsIn}
 use Rattle.audit_formats.specs.Findings.{findings}
 use Rattle.audit_formats.specs.Github.{github_text}
@@ -145,12 +145,12 @@ pub record AnswersAudit (by_default : Bool) (matches : ArgMatches) (answer : Ans
 pub record AnswersExpectations (name : List ℕ) (answer : Answer) : Type 0 where
   pub text : List ℕ
   pub file : List ℕ
-  pub checked : IsCheckedAnswer name text file answer
+  pub checked : IsAnswer name text file answer
 
 -- a comparison of two files
 abbrev pub AnswersFiles : RequestValue → Answer → Type 0
 AnswersFiles requested answer = (older : List ℕ) × (newer : List ℕ)
-    × IsComparedAnswer requested.agents requested.urls older newer answer
+    × IsComparison requested.agents requested.urls older newer answer
 
 pub record AnswersComparison (matches : ArgMatches) (answer : Answer) : Type 0 where
   pub requested : RequestValue

@@ -38,7 +38,7 @@ pub record IsVersion (version : Version) : Type 0 where
 
 abbrev pub compared_value : Compared → ComparedValue
 compared_value compared = record {
-  agent = string_bytes compared.older.agent;
+  agent = compared.older.agent;
   older = compared.older;
   newer = compared.newer;
   removed = compared.removed.items;
