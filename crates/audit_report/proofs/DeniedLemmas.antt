@@ -3,10 +3,10 @@ use Rattle.std.proofs.Common.{◌≡◌, ◌∙◌, ℕ, ◌+◌, ◌<◌, Bool,
 use Rattle.std.proofs.Common.{arith, cond, count_by, drop, filter, length, map, refl}
 use Rattle.std.proofs.Common.{slice_index_or, slice_set, sym, take}
 use Rattle.std.proofs.lemmas.List.{drop-set-lt, drop_more, length-drop, length-map, map-append, take_more}
-use Rattle.std.proofs.lemmas.List.{take_more_set, Sums.length-filter, Sums.sum_by-cons}
+use Rattle.std.proofs.lemmas.List.{take_more_set, Sums.length-filter}
 use Rattle.audit_core.specs.declared.audit.AgentAudit.{AgentAudit}
-use Rattle.audit_core.specs.Audit.{AgentValue, VerdictValue, total, with_denied}
-use Rattle.audit_core.specs.Internal.{agent_value, verdict_value}
+use Rattle.audit_core.specs.Audit.{AgentValue, with_denied}
+use Rattle.audit_core.specs.Internal.{agent_value}
 
 -- a test of values may be made before or after the items are turned into values
 pub map_filter : {X Y : Type 0} (f : X → Y) (test : Y → Bool) (xs : List X)

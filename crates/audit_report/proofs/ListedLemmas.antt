@@ -1,18 +1,13 @@
 -- How warnings are counted, and which of them are listed.
-use Rattle.std.proofs.Common.{◌≡◌, ℕ, ◌+◌, ◌-◌, ◌<◌, ◌≤◌, Bool, true, false, List, [], ◌∷◌, ◌++◌, Some, ap}
+use Rattle.std.proofs.Common.{◌≡◌, ℕ, ◌+◌, ◌-◌, ◌<◌, ◌≤◌, Bool, List, [], ◌∷◌, ◌++◌, ap}
 use Rattle.std.proofs.Common.{ap₂, append_assoc}
-use Rattle.std.proofs.Common.{arith, bytes_eq, cond, drop, if◌then◌else◌, length, map, refl, slice_index_or}
+use Rattle.std.proofs.Common.{arith, cond, drop, if◌then◌else◌, length, map, slice_index_or}
 use Rattle.std.proofs.Common.{sym}
-use Rattle.std.proofs.Common.{take, unwrap_or, ◌∙◌}
-use Rattle.std.specs.Prelude.{◌&&◌}
-use Rattle.std.specs.BTreeMap.{BTreeMap, IsEmpty, Updates, get_by}
+use Rattle.std.proofs.Common.{take, ◌∙◌}
+use Rattle.std.specs.BTreeMap.{BTreeMap}
 use Rattle.std.specs.Borrow.{Bor}
-use Rattle.std.specs.Cmp.Lexicographic.{slice_cmp}
-use Rattle.std.specs.Ordering.{nat_cmp}
 use Rattle.std.proofs.lemmas.List.{drop_more, length-map, length-take-le, map-append, take_more}
 use Rattle.std.proofs.lemmas.List.Sums.{count_by-le-length, sum_by_push}
-use Rattle.std.proofs.lemmas.Map.Text.{btree_map_updates_str}
-use Rattle.std.proofs.lemmas.Slice.Eq.{bytes_eq-Decides}
 use Rattle.audit_report.specs.Internal.Listed.{AreCounts, counted}
 use Rattle.audit_report.specs.Listed.{count_like, is_like, more_of, most, placed}
 use Rattle.audit_report.specs.declared.listed.More.{More}

@@ -1,5 +1,5 @@
 -- Which warnings the text lists: the first twenty of each name and level. For the others it has their number.
-use Rattle.std.specs.Prelude.{ℕ, ◌-◌, ◌==◌, ◌&&◌, Bool, true, false, List, [], ◌∷◌, ◌++◌, bytes_eq, count_by}
+use Rattle.std.specs.Prelude.{ℕ, ◌-◌, ◌==◌, ◌&&◌, Bool, List, [], ◌∷◌, ◌++◌, bytes_eq, count_by}
 use Rattle.std.specs.Prelude.{if◌then◌else◌, map}
 use Rattle.std.specs.Bool.{nat_lt}
 use denote.Enum.Declared.{tag_of}

@@ -60,10 +60,7 @@ fn counted(counts: &BTreeMap<&'static str, [usize; 3]>, cause: Cause) -> usize
 }
 
 /// Counts a warning. The result is how many with its name and level were counted before.
-fn count(
-    counts: &mut BTreeMap<&'static str, [usize; 3]>,
-    cause: Cause,
-) -> Result<usize, AllocError>
+fn count(counts: &mut BTreeMap<&'static str, [usize; 3]>, cause: Cause) -> Result<usize, AllocError>
     requires { counted counts.old (name_of cause) (level_of cause) < 18446744073709551615 }
     ensures place { IfOk result (λ place. place ≡ counted counts.old (name_of cause) (level_of cause)) }
     ensures counts { OnOk result ((name : List ℕ) (level : Level) → counted counts.new name level
