@@ -1,10 +1,11 @@
 -- Which warnings the text lists: the first twenty of each name and level. For the others it has their number.
-use Rattle.std.specs.Prelude.{ℕ, ◌-◌, ◌==◌, ◌&&◌, Bool, true, false, List, [], ◌∷◌, ◌++◌, bytes_eq, count_by}
+use Rattle.std.specs.Prelude.{ℕ, ◌-◌, ◌==◌, ◌&&◌, Bool, List, [], ◌∷◌, ◌++◌, bytes_eq, count_by}
 use Rattle.std.specs.Prelude.{if◌then◌else◌, map}
 use Rattle.std.specs.Bool.{nat_lt}
+use denote.Enum.Declared.{tag_of}
 use Rattle.audit_report.specs.declared.listed.More.{More}
 use Rattle.robots_text.specs.declared.level.Level.{Level}
-use Rattle.robots_text.specs.declared.level.Level.TheVariants.{Error, Note, Warning}
+use Rattle.robots_text.specs.contracts.level.Level.{the_type}
 use Rattle.robots_warnings.specs.declared.table.Cause.{Cause}
 use Rattle.robots_warnings.specs.Table.{level_of, name_of}
 use Rattle.robots_warnings.specs.WarningValue.{WarningValue}
@@ -13,20 +14,18 @@ use Rattle.robots_warnings.specs.WarningValue.{WarningValue}
 abbrev pub most : ℕ
 most = 20
 
-abbrev pub is_same_level : Level → Level → Bool
-is_same_level Error Error = true
-is_same_level Warning Warning = true
-is_same_level Note Note = true
-is_same_level one other = false
+-- the number of a level
+abbrev pub rank : Level → ℕ
+rank level = tag_of the_type level
 
--- the warning has this name and this level
-abbrev pub is_one_of : List ℕ → Level → WarningValue → Bool
-is_one_of name level warning =
-    bytes_eq (name_of warning.cause) name && is_same_level (level_of warning.cause) level
+-- a warning with this reason has this name and this level
+abbrev pub is_like : List ℕ → Level → Cause → Bool
+is_like name level cause = bytes_eq (name_of cause) name && (rank (level_of cause) == rank level)
 
 -- how many of these warnings have this name and this level
 abbrev pub count_of : List ℕ → Level → List WarningValue → ℕ
-count_of name level warnings = count_by (is_one_of name level) warnings
+count_of name level warnings =
+    count_by (λ (warning : WarningValue). is_like name level warning.cause) warnings
 
 -- how many of these warnings have the name and the level of this one
 abbrev pub count_like : Cause → List WarningValue → ℕ

@@ -1,10 +1,12 @@
 //! Which warnings the text lists: the first twenty of each name and level. For the others it has their number.
-ghost use Rattle.std.specs.Prelude.{◌≡◌, ◌++◌, ◌∷◌, [], IfOk, List, OnOk, if◌then◌else◌, map};
-ghost use Rattle.audit_report.specs.Internal.Listed.{AreCounts, counted, number_at, numbers_of, with_number};
-ghost use Rattle.audit_report.specs.Listed.{listed, more, more_of, unlisted};
-ghost use Rattle.robots_warnings.specs.WarningValue.{WarningValue};
+ghost use Rattle.std.specs.Prelude.{◌≡◌, ℕ, ◌+◌, ◌<◌, ◌++◌, ◌∷◌, [], IfOk, List, OnOk, if◌then◌else◌, map};
+ghost use Rattle.audit_report.specs.Internal.Listed.{AreCounts, counted};
+ghost use Rattle.audit_report.specs.Listed.{is_like, listed, more, more_of, unlisted};
+ghost use Rattle.robots_text.specs.declared.level.Level.{Level};
+ghost use Rattle.robots_warnings.specs.Internal.{warning_value};
+ghost use Rattle.robots_warnings.specs.Table.{level_of, name_of};
+ghost use Rattle.robots_warnings.specs.Warnings.{WarningValue};
 
-use robots_text::level::Level;
 use robots_warnings::table::Cause;
 use robots_warnings::warning::Warning;
 use std::alloc::{AllocError, Global};
@@ -20,54 +22,6 @@ pub(crate) struct More {
     pub(crate) number: usize,
 }
 
-/// The number of warnings with a name at each level.
-#[derive(Clone, Copy)]
-pub(crate) struct Numbers {
-    pub(crate) errors: usize,
-    pub(crate) warnings: usize,
-    pub(crate) notes: usize,
-}
-
-/// The numbers of a name that no warning has.
-const NONE: Numbers = Numbers {
-    errors: 0,
-    warnings: 0,
-    notes: 0,
-};
-
-impl Numbers {
-    /// The number at this level.
-    fn at(self, level: Level) -> usize
-        ensures { result ≡ number_at self level }
-    {
-        match level {
-            Level::Error => self.errors,
-            Level::Warning => self.warnings,
-            Level::Note => self.notes,
-        }
-    }
-
-    /// The numbers with this one at this level.
-    fn with_number(self, level: Level, number: usize) -> Numbers
-        ensures { result ≡ with_number self level number }
-    {
-        match level {
-            Level::Error => Numbers {
-                errors: number,
-                ..self
-            },
-            Level::Warning => Numbers {
-                warnings: number,
-                ..self
-            },
-            Level::Note => Numbers {
-                notes: number,
-                ..self
-            },
-        }
-    }
-}
-
 /// The warnings that are listed, and the numbers of the others.
 #[derive(Drop)]
 pub(crate) struct Listing<'a> {
@@ -75,10 +29,10 @@ pub(crate) struct Listing<'a> {
     pub(crate) more: Vec<More>,
 }
 
-/// The numbers of warnings with each name, those that are listed, and the first of each name and level that isn't.
+/// The numbers of warnings with each name at each level, those that are listed, and the first of each name and level that isn't.
 #[derive(Drop)]
 struct Tally<'a> {
-    counts: BTreeMap<&'static str, Numbers>,
+    counts: BTreeMap<&'static str, [usize; 3]>,
     listed: Vec<Warning<'a>>,
     unlisted: Vec<Warning<'a>>,
 }
@@ -89,48 +43,50 @@ fn push_if<'a>(
     holds: bool,
     warning: &Warning<'a>,
 ) -> Result<(), AllocError>
-    ensures { OnOk result (found.new.items ≡ found.old.items
-        ++ (if holds then warning.now ∷ [] else [])) }
+    ensures { OnOk result (map warning_value found.new.items ≡ map warning_value found.old.items
+        ++ (if holds then warning_value warning.now ∷ [] else [])) }
 {
     if holds {
-        found.push(warning.copy())?;
+        found.push(*warning)?;
     }
     Ok(())
 }
 
-/// How many warnings with this name have been counted at each level.
-fn numbers_of(counts: &BTreeMap<&'static str, Numbers>, name: &str) -> Numbers
-    ensures { result ≡ numbers_of counts.now name.now }
+/// How many warnings with the name and the level of this one have been counted.
+fn counted(counts: &BTreeMap<&'static str, [usize; 3]>, cause: Cause) -> usize
+    ensures { result ≡ counted counts.now (name_of cause) (level_of cause) }
 {
-    counts.get(name).copied().unwrap_or(NONE)
+    counts.get(cause.name()).copied().unwrap_or([0; 3])[cause.level() as usize]
 }
 
-/// How many warnings with the name and the level of this one have been counted.
-fn counted(counts: &BTreeMap<&'static str, Numbers>, cause: Cause) -> usize
-    ensures { result ≡ counted counts.now cause }
+/// Counts a warning. The result is how many with its name and level were counted before.
+fn count(counts: &mut BTreeMap<&'static str, [usize; 3]>, cause: Cause) -> Result<usize, AllocError>
+    requires { counted counts.old (name_of cause) (level_of cause) < 18446744073709551615 }
+    ensures place { IfOk result (λ place. place ≡ counted counts.old (name_of cause) (level_of cause)) }
+    ensures counts { OnOk result ((name : List ℕ) (level : Level) → counted counts.new name level
+        ≡ counted counts.old name level + (if is_like name level cause then 1 else 0)) }
 {
-    numbers_of(counts, cause.name()).at(cause.level())
+    let numbers = counts.entry(cause.name())?.or_insert([0; 3]);
+    let place = numbers[cause.level() as usize];
+    numbers[cause.level() as usize] = place + 1;
+    Ok(place)
 }
 
 /// Counts the warnings with each name and level.
 fn tally_of<'a>(alloc: Global, warnings: &[Warning<'a>]) -> Result<Tally<'a>, AllocError>
-    ensures counts { IfOk result (λ tally. AreCounts tally.counts warnings.now) }
-    ensures listed { IfOk result (λ tally. tally.listed.items
-        ≡ listed warnings.now) }
-    ensures unlisted { IfOk result (λ tally. tally.unlisted.items
-        ≡ unlisted warnings.now) }
+    ensures counts { IfOk result (λ tally. AreCounts tally.counts (map warning_value warnings.now)) }
+    ensures listed { IfOk result (λ tally. map warning_value tally.listed.items
+        ≡ listed (map warning_value warnings.now)) }
+    ensures unlisted { IfOk result (λ tally. map warning_value tally.unlisted.items
+        ≡ unlisted (map warning_value warnings.now)) }
 {
     let mut counts = BTreeMap::new(alloc);
     let mut listed = Vec::new(alloc);
     let mut unlisted = Vec::new(alloc);
     for warning in warnings {
-        let name = warning.cause.name();
-        let level = warning.cause.level();
-        let numbers = numbers_of(&counts, name);
-        let place = numbers.at(level);
+        let place = count(&mut counts, warning.cause)?;
         push_if(&mut listed, place < MOST, warning)?;
         push_if(&mut unlisted, place == MOST, warning)?;
-        counts.insert(name, numbers.with_number(level, place + 1))?;
     }
     Ok(Tally {
         counts,
@@ -142,11 +98,11 @@ fn tally_of<'a>(alloc: Global, warnings: &[Warning<'a>]) -> Result<Tally<'a>, Al
 /// The numbers of the warnings that aren't listed.
 fn more_in(
     alloc: Global,
-    counts: &BTreeMap<&'static str, Numbers>,
+    counts: &BTreeMap<&'static str, [usize; 3]>,
     unlisted: &[Warning<'_>],
 ) -> Result<Vec<More>, AllocError>
     ensures { IfOk result (λ found. (warnings : List WarningValue) → AreCounts counts.now warnings
-        → found.items ≡ map (more_of warnings) unlisted.now) }
+        → found.items ≡ map (more_of warnings) (map warning_value unlisted.now)) }
 {
     let mut found = Vec::with_capacity(alloc, unlisted.len())?;
     for warning in unlisted {
@@ -163,9 +119,9 @@ pub(crate) fn listing_of<'a>(
     alloc: Global,
     warnings: &[Warning<'a>],
 ) -> Result<Listing<'a>, AllocError>
-    ensures warnings { IfOk result (λ found. found.warnings.items
-        ≡ listed warnings.now) }
-    ensures more { IfOk result (λ found. found.more.items ≡ more warnings.now) }
+    ensures warnings { IfOk result (λ found. map warning_value found.warnings.items
+        ≡ listed (map warning_value warnings.now)) }
+    ensures more { IfOk result (λ found. found.more.items ≡ more (map warning_value warnings.now)) }
 {
     let tally = tally_of(alloc, warnings)?;
     let more = more_in(alloc, &tally.counts, &tally.unlisted)?;
