@@ -12,67 +12,64 @@ use Rattle.audit_report.specs.Internal.Listed.{AreCounts, counted}
 use Rattle.audit_report.specs.Listed.{count_like, is_like, more_of, most, placed}
 use Rattle.audit_report.specs.declared.listed.More.{More}
 use Rattle.robots_text.specs.declared.level.Level.{Level}
-use Rattle.robots_warnings.specs.Internal.{warning_value}
 use Rattle.robots_warnings.specs.Table.{level_of, name_of}
-use Rattle.robots_warnings.specs.Warnings.{WarningValue}
+use Rattle.robots_warnings.specs.WarningValue.{WarningValue}
 use Rattle.robots_warnings.specs.declared.table.Cause.{Cause}
-use Rattle.robots_warnings.specs.declared.warning.Warning.{Warning as Found}
 
 -- there are at most as many warnings with a name and a level as there are warnings
-pub counted_fits : (counts : BTreeMap (Bor (List ℕ)) (List ℕ)) (warnings : List Found) (at : ℕ) (cause : Cause)
-    → at < length warnings → at < 18446744073709551615 → AreCounts counts (map warning_value (take at warnings))
+pub counted_fits : (counts : BTreeMap (Bor (List ℕ)) (List ℕ)) (warnings : List WarningValue) (at : ℕ) (cause : Cause)
+    → at < length warnings → at < 18446744073709551615 → AreCounts counts (take at warnings)
     → counted counts (name_of cause) (level_of cause) < 18446744073709551615
 counted_fits counts warnings at cause below short are =
     let least : at ≤ length warnings = omega (arith, below) in
     let most = count_by-le-length (λ (warning : WarningValue). is_like (name_of cause) (level_of cause) warning.cause)
-    (map warning_value (take at warnings)) in
-    let within = rw (length-map (take at warnings) warning_value, length-take-le at warnings least) at most in
+    (take at warnings) in
+    let within = rw (length-take-le at warnings least) at most in
     let is = are (name_of cause) (level_of cause) in
     omega (arith, short, within, is)
 
 -- loop step: one more warning is counted
-pub counted_next : (counts new : BTreeMap (Bor (List ℕ)) (List ℕ)) (warnings : List Found) (at : ℕ)
-    (warning : Found) → at < length warnings → AreCounts counts (map warning_value (take at warnings))
+pub counted_next : (counts new : BTreeMap (Bor (List ℕ)) (List ℕ)) (warnings : List WarningValue) (at : ℕ)
+    (warning : WarningValue) → at < length warnings → AreCounts counts (take at warnings)
     → ((name : List ℕ) (level : Level) → counted new name level ≡ counted counts name level
     + (if is_like name level (slice_index_or warnings at warning).cause then 1 else 0))
-    → AreCounts new (map warning_value (take (at + 1) warnings))
+    → AreCounts new (take (at + 1) warnings)
 counted_next counts new warnings at warning below are more_at name level =
     let cause = (slice_index_or warnings at warning).cause in
     let more = if is_like name level cause then 1 else 0 in
-    rw (take_more warnings at warning below, map-append)
+    rw (take_more warnings at warning below)
     (more_at name level ∙ ap (λ n. n + more) (are name level)
     ∙ sym (sum_by_push (λ (warning : WarningValue). cond (is_like name level warning.cause) 1 0)
-    (map warning_value (take at warnings)) (warning_value (slice_index_or warnings at warning))))
+    (take at warnings) (slice_index_or warnings at warning)))
 
 -- loop step: one more warning is appended if its place passes the test
-pub placed_next : (test : ℕ → Bool) (warnings : List Found) (at : ℕ) (warning : Found) (place : ℕ)
+pub placed_next : (test : ℕ → Bool) (warnings : List WarningValue) (at : ℕ) (warning : WarningValue) (place : ℕ)
     (found new all : List WarningValue) → at < length warnings
     → place ≡ count_like (slice_index_or warnings at warning).cause
-    (map warning_value (take at warnings))
-    → new ≡ found ++ (if test place then warning_value (slice_index_or warnings at warning) ∷ [] else [])
-    → found ++ placed test (map warning_value (take at warnings)) (map warning_value (drop at warnings)) ≡ all
-    → new ++ placed test (map warning_value (take (at + 1) warnings))
-    (map warning_value (drop (at + 1) warnings)) ≡ all
+    (take at warnings)
+    → new ≡ found ++ (if test place then slice_index_or warnings at warning ∷ [] else [])
+    → found ++ placed test (take at warnings) (drop at warnings) ≡ all
+    → new ++ placed test (take (at + 1) warnings)
+    (drop (at + 1) warnings) ≡ all
 placed_next test warnings at warning place found new all below is added so_far =
-    let item = warning_value (slice_index_or warnings at warning) in
-    let later = placed test (map warning_value (take at warnings) ++ item ∷ [])
-    (map warning_value (drop (at + 1) warnings)) in
-    rw (take_more warnings at warning below, map-append)
+    let item = slice_index_or warnings at warning in
+    let later = placed test (take at warnings ++ item ∷ []) (drop (at + 1) warnings) in
+    rw (take_more warnings at warning below)
     (ap (λ (front : List WarningValue). front ++ later) added
     ∙ append_assoc found (if test place then item ∷ [] else []) later
     ∙ ap (λ n. found ++ ((if test n then item ∷ [] else []) ++ later)) is
     ∙ rw (drop_more warnings at warning below) at so_far)
 
 -- loop step: one more name and level, and how many warnings with both aren't listed
-pub more_next : (warnings : List WarningValue) (unlisted : List Found) (at : ℕ) (warning : Found)
+pub more_next : (warnings : List WarningValue) (unlisted : List WarningValue) (at : ℕ) (warning : WarningValue)
     (found : List More) (number : ℕ) (counts : BTreeMap (Bor (List ℕ)) (List ℕ)) → AreCounts counts warnings
     → at < length unlisted → number ≡ counted counts (name_of (slice_index_or unlisted at warning).cause)
     (level_of (slice_index_or unlisted at warning).cause) - most
-    → found ≡ map (more_of warnings) (map warning_value (take at unlisted))
+    → found ≡ map (more_of warnings) (take at unlisted)
     → found ++ record { cause = (slice_index_or unlisted at warning).cause; number = number } ∷ []
-    ≡ map (more_of warnings) (map warning_value (take (at + 1) unlisted))
+    ≡ map (more_of warnings) (take (at + 1) unlisted)
 more_next warnings unlisted at warning found number counts are below is so_far =
     let cause = (slice_index_or unlisted at warning).cause in
-    rw (take_more unlisted at warning below, map-append, map-append)
+    rw (take_more unlisted at warning below, map-append)
     (ap₂ (λ (front : List More) number. front ++ record { cause = cause; number = number } ∷ []) so_far
     (is ∙ ap (λ n. n - most) (are (name_of cause) (level_of cause))))

@@ -3,9 +3,8 @@ ghost use Rattle.std.specs.Prelude.{◌≡◌, ℕ, ◌+◌, ◌<◌, ◌++◌, 
 ghost use Rattle.audit_report.specs.Internal.Listed.{AreCounts, counted};
 ghost use Rattle.audit_report.specs.Listed.{is_like, listed, more, more_of, unlisted};
 ghost use Rattle.robots_text.specs.declared.level.Level.{Level};
-ghost use Rattle.robots_warnings.specs.Internal.{warning_value};
 ghost use Rattle.robots_warnings.specs.Table.{level_of, name_of};
-ghost use Rattle.robots_warnings.specs.Warnings.{WarningValue};
+ghost use Rattle.robots_warnings.specs.WarningValue.{WarningValue};
 
 use robots_warnings::table::Cause;
 use robots_warnings::warning::Warning;
@@ -43,11 +42,11 @@ fn push_if<'a>(
     holds: bool,
     warning: &Warning<'a>,
 ) -> Result<(), AllocError>
-    ensures { OnOk result (map warning_value found.new.items ≡ map warning_value found.old.items
-        ++ (if holds then warning_value warning.now ∷ [] else [])) }
+    ensures { OnOk result (found.new.items ≡ found.old.items
+        ++ (if holds then warning.now ∷ [] else [])) }
 {
     if holds {
-        found.push(*warning)?;
+        found.push(warning.copy())?;
     }
     Ok(())
 }
@@ -74,11 +73,11 @@ fn count(counts: &mut BTreeMap<&'static str, [usize; 3]>, cause: Cause) -> Resul
 
 /// Counts the warnings with each name and level.
 fn tally_of<'a>(alloc: Global, warnings: &[Warning<'a>]) -> Result<Tally<'a>, AllocError>
-    ensures counts { IfOk result (λ tally. AreCounts tally.counts (map warning_value warnings.now)) }
-    ensures listed { IfOk result (λ tally. map warning_value tally.listed.items
-        ≡ listed (map warning_value warnings.now)) }
-    ensures unlisted { IfOk result (λ tally. map warning_value tally.unlisted.items
-        ≡ unlisted (map warning_value warnings.now)) }
+    ensures counts { IfOk result (λ tally. AreCounts tally.counts warnings.now) }
+    ensures listed { IfOk result (λ tally. tally.listed.items
+        ≡ listed warnings.now) }
+    ensures unlisted { IfOk result (λ tally. tally.unlisted.items
+        ≡ unlisted warnings.now) }
 {
     let mut counts = BTreeMap::new(alloc);
     let mut listed = Vec::new(alloc);
@@ -102,7 +101,7 @@ fn more_in(
     unlisted: &[Warning<'_>],
 ) -> Result<Vec<More>, AllocError>
     ensures { IfOk result (λ found. (warnings : List WarningValue) → AreCounts counts.now warnings
-        → found.items ≡ map (more_of warnings) (map warning_value unlisted.now)) }
+        → found.items ≡ map (more_of warnings) unlisted.now) }
 {
     let mut found = Vec::with_capacity(alloc, unlisted.len())?;
     for warning in unlisted {
@@ -119,9 +118,9 @@ pub(crate) fn listing_of<'a>(
     alloc: Global,
     warnings: &[Warning<'a>],
 ) -> Result<Listing<'a>, AllocError>
-    ensures warnings { IfOk result (λ found. map warning_value found.warnings.items
-        ≡ listed (map warning_value warnings.now)) }
-    ensures more { IfOk result (λ found. found.more.items ≡ more (map warning_value warnings.now)) }
+    ensures warnings { IfOk result (λ found. found.warnings.items
+        ≡ listed warnings.now) }
+    ensures more { IfOk result (λ found. found.more.items ≡ more warnings.now) }
 {
     let tally = tally_of(alloc, warnings)?;
     let more = more_in(alloc, &tally.counts, &tally.unlisted)?;

@@ -6,7 +6,7 @@ use Rattle.std.specs.Cmp.Lexicographic.{slice_cmp}
 use Rattle.std.specs.Ordering.{nat_cmp}
 use Rattle.audit_report.specs.Listed.{count_of, rank}
 use Rattle.robots_text.specs.declared.level.Level.{Level}
-use Rattle.robots_warnings.specs.Warnings.{WarningValue}
+use Rattle.robots_warnings.specs.WarningValue.{WarningValue}
 
 -- the number of a name and a level in the map, which has those of all levels for each name; zero if the name
 -- isn't there

@@ -1,7 +1,6 @@
 use Rattle.std.proofs.Common.{◌<◌, arith, map, ◌==◌, ◌∙◌}
 use Rattle.std.specs.Bool.{nat_lt}
 use Rattle.audit_report.specs.Listed.{most}
-use Rattle.robots_warnings.specs.Internal.{warning_value}
 use Rattle.audit_report.proofs.ListedLemmas.{counted_next, counted_fits, placed_next}
 use Rattle.audit_report.proofs.listed.tally_of.Goals as goal
 
@@ -21,9 +20,9 @@ loop-warning-preserved c =
       counts = counted_next c.loop-warning.counts c.count.new.counts warnings at _ c.loop-warning-test.true so_far.counts
           c.in_ok-place.ensures.counts;
       listed = placed_next (λ place. nat_lt place most) warnings at _ c.in_ok-place.place
-          (map warning_value c.loop-warning.listed.items) _ _ c.loop-warning-test.true place
+          c.loop-warning.listed.items _ _ c.loop-warning-test.true place
           c.in_ok-push_if.ensures so_far.listed;
       unlisted = placed_next (λ place. place == most) warnings at _ c.in_ok-place.place
-          (map warning_value c.loop-warning.unlisted.items) _ _ c.loop-warning-test.true place
+          c.loop-warning.unlisted.items _ _ c.loop-warning-test.true place
           c.in_ok-push_if-2.ensures so_far.unlisted;
     }
