@@ -15,6 +15,9 @@ use std::collections::BTreeMap;
 /// How many warnings of one name and level are listed.
 const MOST: usize = 20;
 
+/// The numbers of warnings with a name, one for each level.
+type Counts = BTreeMap<&'static str, [usize; 3]>;
+
 /// How many warnings with the name and the level of this one aren't listed.
 #[derive(Clone, Copy)]
 pub(crate) struct More {
@@ -29,10 +32,10 @@ pub(crate) struct Listing<'a> {
     pub(crate) more: Vec<More>,
 }
 
-/// The numbers of warnings with each name at each level, those that are listed, and the first of each name and level that isn't.
+/// The numbers of warnings, those that are listed, and the first of each name and level that isn't.
 #[derive(Drop)]
 struct Tally<'a> {
-    counts: BTreeMap<&'static str, [usize; 3]>,
+    counts: Counts,
     listed: Vec<Warning<'a>>,
     unlisted: Vec<Warning<'a>>,
 }
@@ -53,14 +56,14 @@ fn push_if<'a>(
 }
 
 /// How many warnings with the name and the level of this one have been counted.
-fn counted(counts: &BTreeMap<&'static str, [usize; 3]>, cause: Cause) -> usize
+fn counted(counts: &Counts, cause: Cause) -> usize
     ensures { result ≡ counted counts.now (name_of cause) (level_of cause) }
 {
     counts.get(cause.name()).copied().unwrap_or([0; 3])[cause.level() as usize]
 }
 
 /// Counts a warning. The result is how many with its name and level were counted before.
-fn count(counts: &mut BTreeMap<&'static str, [usize; 3]>, cause: Cause) -> Result<usize, AllocError>
+fn count(counts: &mut Counts, cause: Cause) -> Result<usize, AllocError>
     requires { counted counts.old (name_of cause) (level_of cause) < 18446744073709551615 }
     ensures place { IfOk result (λ place. place ≡ counted counts.old (name_of cause) (level_of cause)) }
     ensures counts { OnOk result ((name : List ℕ) (level : Level) → counted counts.new name level
@@ -98,7 +101,7 @@ fn tally_of<'a>(alloc: Global, warnings: &[Warning<'a>]) -> Result<Tally<'a>, Al
 /// The numbers of the warnings that aren't listed.
 fn more_in(
     alloc: Global,
-    counts: &BTreeMap<&'static str, [usize; 3]>,
+    counts: &Counts,
     unlisted: &[Warning<'_>],
 ) -> Result<Vec<More>, AllocError>
     ensures { IfOk result (λ found. (warnings : List WarningValue) → AreCounts counts.now warnings
