@@ -52,12 +52,14 @@ pub denied_next : (agents old : List AgentAudit) (at : ℕ) (item agent : AgentA
 denied_next agents old at item agent within same done is =
     let (below, there, later) = same_there agents old at item within same in
     let value : agent_value agent ≡ with_denied (agent_value (slice_index_or old at item)) =
-    is ∙ ap (λ agent. with_denied (agent_value agent)) there in
-    let front = map agent_value (take at old) in (
-      ap (map agent_value) (take_more_set agents at agent below) ∙ map-append agent_value (take at agents) (agent ∷ [])
-          ∙ ap₂ (λ (values : List AgentValue) last. values ++ last ∷ []) done value
-          ∙ sym (ap (λ agents. map with_denied (map agent_value agents)) (take_more old at item within)
-          ∙ ap (map with_denied) (map-append agent_value (take at old) (slice_index_or old at item ∷ []))
-          ∙ map-append with_denied front (agent_value (slice_index_or old at item) ∷ [])),
+    is ∙ ap (λ agent. with_denied (agent_value agent)) there in (
+      rw (
+        take_more_set agents at agent below,
+        take_more old at item within,
+        map-append,
+        map-append,
+        map-append,
+      )
+          (ap₂ (λ (values : List AgentValue) last. values ++ last ∷ []) done value),
       drop-set-lt (at + 1) agents at agent (omega arith) ∙ later,
     )

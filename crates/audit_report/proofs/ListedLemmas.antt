@@ -16,7 +16,8 @@ use Rattle.robots_warnings.specs.declared.warning.Warning.{Warning as Found}
 
 -- there are at most as many warnings with a name and a level as there are warnings
 pub counted_fits : (counts : Counts) (warnings : List Found) (at : ℕ) (cause : Cause)
-    → at < length warnings → at < 18446744073709551615 → AreCounts counts (map warning_value (take at warnings))
+    → at < length warnings → at < 18446744073709551615
+    → AreCounts counts (map warning_value (take at warnings))
     → counted counts (name_of cause) (level_of cause) < 18446744073709551615
 counted_fits counts warnings at cause below short are =
     let least : at ≤ length warnings = omega (arith, below) in
