@@ -4,11 +4,9 @@ use Rattle.std.proofs.Common.{ap₂, append_assoc}
 use Rattle.std.proofs.Common.{arith, cond, drop, if◌then◌else◌, length, map, slice_index_or}
 use Rattle.std.proofs.Common.{sym}
 use Rattle.std.proofs.Common.{take, ◌∙◌}
-use Rattle.std.specs.BTreeMap.{BTreeMap}
-use Rattle.std.specs.Borrow.{Bor}
 use Rattle.std.proofs.lemmas.List.{drop_more, length-map, length-take-le, map-append, take_more}
 use Rattle.std.proofs.lemmas.List.Sums.{count_by-le-length, sum_by_push}
-use Rattle.audit_report.specs.Internal.Listed.{AreCounts, counted}
+use Rattle.audit_report.specs.Internal.Listed.{AreCounts, Counts, counted}
 use Rattle.audit_report.specs.Listed.{count_like, is_like, more_of, most, placed}
 use Rattle.audit_report.specs.declared.listed.More.{More}
 use Rattle.robots_text.specs.declared.level.Level.{Level}
@@ -17,19 +15,19 @@ use Rattle.robots_warnings.specs.WarningValue.{WarningValue}
 use Rattle.robots_warnings.specs.declared.table.Cause.{Cause}
 
 -- there are at most as many warnings with a name and a level as there are warnings
-pub counted_fits : (counts : BTreeMap (Bor (List ℕ)) (List ℕ)) (warnings : List WarningValue) (at : ℕ) (cause : Cause)
+pub counted_fits : (counts : Counts) (warnings : List WarningValue) (at : ℕ) (cause : Cause)
     → at < length warnings → at < 18446744073709551615 → AreCounts counts (take at warnings)
     → counted counts (name_of cause) (level_of cause) < 18446744073709551615
 counted_fits counts warnings at cause below short are =
     let least : at ≤ length warnings = omega (arith, below) in
-    let most = count_by-le-length (λ (warning : WarningValue). is_like (name_of cause) (level_of cause) warning.cause)
-    (take at warnings) in
+    let most = count_by-le-length
+    (λ (warning : WarningValue). is_like (name_of cause) (level_of cause) warning.cause) (take at warnings) in
     let within = rw (length-take-le at warnings least) at most in
     let is = are (name_of cause) (level_of cause) in
     omega (arith, short, within, is)
 
 -- loop step: one more warning is counted
-pub counted_next : (counts new : BTreeMap (Bor (List ℕ)) (List ℕ)) (warnings : List WarningValue) (at : ℕ)
+pub counted_next : (counts new : Counts) (warnings : List WarningValue) (at : ℕ)
     (warning : WarningValue) → at < length warnings → AreCounts counts (take at warnings)
     → ((name : List ℕ) (level : Level) → counted new name level ≡ counted counts name level
     + (if is_like name level (slice_index_or warnings at warning).cause then 1 else 0))
@@ -62,7 +60,7 @@ placed_next test warnings at warning place found new all below is added so_far =
 
 -- loop step: one more name and level, and how many warnings with both aren't listed
 pub more_next : (warnings : List WarningValue) (unlisted : List WarningValue) (at : ℕ) (warning : WarningValue)
-    (found : List More) (number : ℕ) (counts : BTreeMap (Bor (List ℕ)) (List ℕ)) → AreCounts counts warnings
+    (found : List More) (number : ℕ) (counts : Counts) → AreCounts counts warnings
     → at < length unlisted → number ≡ counted counts (name_of (slice_index_or unlisted at warning).cause)
     (level_of (slice_index_or unlisted at warning).cause) - most
     → found ≡ map (more_of warnings) (take at unlisted)

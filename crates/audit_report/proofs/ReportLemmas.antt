@@ -26,7 +26,8 @@ listed_quiet has_colors file warnings =
 pub listed_colored : (has_colors : Bool) (file : List ℕ) (warnings : List WarningValue)
     → IsColored (ended (listed_lines false file warnings)) (ended (listed_lines has_colors file warnings))
 listed_colored has_colors file warnings =
-    lines_colored has_colors (map (shown_warning file) (listed warnings)) (map (more_line file) (more warnings))
+    lines_colored has_colors (map (shown_warning file) (listed warnings))
+    (map (more_line file) (more warnings))
 
 pub listed_for_terminal : (has_colors : Bool) (file : List ℕ) (warnings : List WarningValue)
     → IsForTerminal has_colors (ended (listed_lines has_colors file warnings))

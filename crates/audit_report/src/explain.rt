@@ -3,8 +3,8 @@ ghost use Rattle.std.specs.Prelude.{◌≡◌, ◌++◌, ◌∷◌, [], IfOk, On
 ghost use Rattle.robots_text.specs.Raw.{raw_line};
 ghost use Rattle.robots_text.specs.Text.{line_text, written};
 ghost use Rattle.robots_warnings.specs.Table.{example_of};
-ghost use Rattle.audit_report.specs.Explain.{Explains, MayAnswer, example_lines, explained_if_named, explanation, indented, indented_byte};
-ghost use Rattle.audit_report.specs.Explain.{list_line, list_text};
+ghost use Rattle.audit_report.specs.Explain.{Explains, MayAnswer, example_lines, explained_if_named, explanation};
+ghost use Rattle.audit_report.specs.Explain.{indented, indented_byte, list_line, list_text};
 
 use audit_core::answer::{Answer, text_answer};
 use audit_core::fault::{Fault, unknown};

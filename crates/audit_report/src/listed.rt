@@ -14,6 +14,9 @@ use std::collections::BTreeMap;
 /// How many warnings of one name and level are listed.
 const MOST: usize = 20;
 
+/// The numbers of warnings with a name, one for each level.
+type Counts = BTreeMap<&'static str, [usize; 3]>;
+
 /// How many warnings with the name and the level of this one aren't listed.
 #[derive(Clone, Copy)]
 pub(crate) struct More {
@@ -28,10 +31,10 @@ pub(crate) struct Listing<'a> {
     pub(crate) more: Vec<More>,
 }
 
-/// The numbers of warnings with each name at each level, those that are listed, and the first of each name and level that isn't.
+/// The numbers of warnings, those that are listed, and the first of each name and level that isn't.
 #[derive(Drop)]
 struct Tally<'a> {
-    counts: BTreeMap<&'static str, [usize; 3]>,
+    counts: Counts,
     listed: Vec<Warning<'a>>,
     unlisted: Vec<Warning<'a>>,
 }
@@ -52,14 +55,14 @@ fn push_if<'a>(
 }
 
 /// How many warnings with the name and the level of this one have been counted.
-fn counted(counts: &BTreeMap<&'static str, [usize; 3]>, cause: Cause) -> usize
+fn counted(counts: &Counts, cause: Cause) -> usize
     ensures { result ≡ counted counts.now (name_of cause) (level_of cause) }
 {
     counts.get(cause.name()).copied().unwrap_or([0; 3])[cause.level() as usize]
 }
 
 /// Counts a warning. The result is how many with its name and level were counted before.
-fn count(counts: &mut BTreeMap<&'static str, [usize; 3]>, cause: Cause) -> Result<usize, AllocError>
+fn count(counts: &mut Counts, cause: Cause) -> Result<usize, AllocError>
     requires { counted counts.old (name_of cause) (level_of cause) < 18446744073709551615 }
     ensures place { IfOk result (λ place. place ≡ counted counts.old (name_of cause) (level_of cause)) }
     ensures counts { OnOk result ((name : List ℕ) (level : Level) → counted counts.new name level
@@ -69,6 +72,13 @@ fn count(counts: &mut BTreeMap<&'static str, [usize; 3]>, cause: Cause) -> Resul
     let place = numbers[cause.level() as usize];
     numbers[cause.level() as usize] = place + 1;
     Ok(place)
+}
+
+/// The reason for a warning.
+fn cause_of(warning: &Warning<'_>) -> Cause
+    ensures { result ≡ warning.now.cause }
+{
+    warning.cause
 }
 
 /// Counts the warnings with each name and level.
@@ -83,7 +93,7 @@ fn tally_of<'a>(alloc: Global, warnings: &[Warning<'a>]) -> Result<Tally<'a>, Al
     let mut listed = Vec::new(alloc);
     let mut unlisted = Vec::new(alloc);
     for warning in warnings {
-        let place = count(&mut counts, warning.cause)?;
+        let place = count(&mut counts, cause_of(warning))?;
         push_if(&mut listed, place < MOST, warning)?;
         push_if(&mut unlisted, place == MOST, warning)?;
     }
@@ -97,7 +107,7 @@ fn tally_of<'a>(alloc: Global, warnings: &[Warning<'a>]) -> Result<Tally<'a>, Al
 /// The numbers of the warnings that aren't listed.
 fn more_in(
     alloc: Global,
-    counts: &BTreeMap<&'static str, [usize; 3]>,
+    counts: &Counts,
     unlisted: &[Warning<'_>],
 ) -> Result<Vec<More>, AllocError>
     ensures { IfOk result (λ found. (warnings : List WarningValue) → AreCounts counts.now warnings
@@ -105,7 +115,7 @@ fn more_in(
 {
     let mut found = Vec::with_capacity(alloc, unlisted.len())?;
     for warning in unlisted {
-        let cause = warning.cause;
+        let cause = cause_of(warning);
         let number = counted(counts, cause).saturating_sub(MOST);
         found.push(More { cause, number })?;
     }

@@ -7,8 +7,8 @@ use Rattle.audit_report.proofs.listed.tally_of.Goals as goal
 pub count-requires : goal.count-requires
 count-requires c =
     let short : c.loop-warning.warning-index < 18446744073709551615 = grind (arith) in
-    counted_fits c.loop-warning.counts c.args.warnings.now c.loop-warning.warning-index _ c.loop-warning-test.true short
-    c.loop-warning.invariant.counts
+    counted_fits c.loop-warning.counts c.args.warnings.now c.loop-warning.warning-index _
+    c.loop-warning-test.true short c.loop-warning.invariant.counts
 
 pub loop-warning-preserved : goal.loop-warning-preserved
 loop-warning-preserved c =
@@ -17,8 +17,8 @@ loop-warning-preserved c =
     let so_far = c.loop-warning.invariant in
     let place = c.in_ok-place.ensures.place ∙ so_far.counts _ _ in
     record {
-      counts = counted_next c.loop-warning.counts c.count.new.counts warnings at _ c.loop-warning-test.true so_far.counts
-          c.in_ok-place.ensures.counts;
+      counts = counted_next c.loop-warning.counts c.count.new.counts warnings at _ c.loop-warning-test.true
+          so_far.counts c.in_ok-place.ensures.counts;
       listed = placed_next (λ place. nat_lt place most) warnings at _ c.in_ok-place.place
           c.loop-warning.listed.items _ _ c.loop-warning-test.true place
           c.in_ok-push_if.ensures so_far.listed;
