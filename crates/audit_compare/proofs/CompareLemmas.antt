@@ -27,7 +27,7 @@ use Rattle.audit_compare.proofs.RuleSetLemmas.{no_verdicts}
 -- ---- lines
 
 -- from an index on, one of the lists has no verdicts
-none_left : (compared : ComparedValue) (older newer : List Verdict) (at : ℕ)
+pub none_left : (compared : ComparedValue) (older newer : List Verdict) (at : ℕ)
     → (at < length older → at < length newer → ⊥)
     → verdict_changes compared (map verdict_value (drop at older)) (map verdict_value (drop at newer)) ≡ []
 none_left compared [] newer at over = rw (drop-nil at) refl
@@ -37,29 +37,13 @@ none_left compared (one ∷ older) (other ∷ newer) zero over = absurd (over (o
 none_left compared (one ∷ older) (other ∷ newer) (suc at) over =
     none_left compared older newer at (λ below within. over (omega arith) (omega arith))
 
-pub verdicts_done : (compared : ComparedValue) (start text : List ℕ) (older newer : List Verdict) (at : ℕ)
-    → (at < length older → at < length newer → ⊥)
-    → text ++ written (verdict_changes compared (map verdict_value (drop at older))
-    (map verdict_value (drop at newer)))
-    ≡ start → text ≡ start
-verdicts_done compared start text older newer at over is =
-    sym (append-nil text)
-    ∙ ap (λ (lines : List ReportLine). text ++ written lines) (sym (none_left compared older newer at over)) ∙ is
-
 -- ---- the report on a crawler
 
 -- no lines were appended to a text
-none_appended : (text : List ℕ) (lines : List ReportLine) → length (text ++ written lines) ≡ length text
+pub none_appended : (text : List ℕ) (lines : List ReportLine) → length (text ++ written lines) ≡ length text
     → lines ≡ []
 none_appended text [] same = refl
 none_appended text (line ∷ lines) same = absurd (grind (arith, length-append))
-
-pub nothing_reported : (compared : ComparedValue) (old new : List ℕ) → is_rejected compared ≡ false
-    → new ≡ old ++ written (differences compared) → length new ≡ length old
-    → (new ≡ old ++ written (agent_lines compared)) × (true ≡ is_unchanged compared)
-nothing_reported compared old new accepted is same =
-    let none = none_appended old (differences compared) (ap length (sym is) ∙ same) in
-    rw (accepted, none) (is ∙ ap (λ lines. old ++ written lines) none, refl)
 
 -- ---- the reports on several crawlers
 
