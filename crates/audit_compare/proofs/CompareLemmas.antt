@@ -16,6 +16,7 @@ use Rattle.robots_warnings.proofs.NameLemmas.{any_last}
 use Rattle.audit_core.specs.declared.answer.Answer.{Answer}
 use Rattle.audit_core.specs.declared.audit.Verdict.{Verdict}
 use Rattle.audit_core.specs.Audit.{agents_requested}
+use Rattle.audit_core.specs.Internal.{verdict_value}
 use Rattle.audit_compare.specs.declared.compare.Comparison.{Comparison}
 use Rattle.audit_compare.specs.Compare.{ComparedValue, IsCompared, agent_lines, differences}
 use Rattle.audit_compare.specs.Compare.{IsComparison, is_rejected, is_unchanged, unchanged_lines}
@@ -26,39 +27,23 @@ use Rattle.audit_compare.proofs.RuleSetLemmas.{no_verdicts}
 -- ---- lines
 
 -- from an index on, one of the lists has no verdicts
-none_left : (compared : ComparedValue) (older newer : List Verdict) (at : ℕ)
+pub none_left : (compared : ComparedValue) (older newer : List Verdict) (at : ℕ)
     → (at < length older → at < length newer → ⊥)
-    → verdict_changes compared (drop at older) (drop at newer) ≡ []
+    → verdict_changes compared (map verdict_value (drop at older)) (map verdict_value (drop at newer)) ≡ []
 none_left compared [] newer at over = rw (drop-nil at) refl
 none_left compared (one ∷ older) [] at over =
-    rw (drop-nil at) (no_verdicts compared (drop at (one ∷ older)))
+    rw (drop-nil at) (no_verdicts compared (map verdict_value (drop at (one ∷ older))))
 none_left compared (one ∷ older) (other ∷ newer) zero over = absurd (over (omega arith) (omega arith))
 none_left compared (one ∷ older) (other ∷ newer) (suc at) over =
     none_left compared older newer at (λ below within. over (omega arith) (omega arith))
 
-pub verdicts_done : (compared : ComparedValue) (start text : List ℕ) (older newer : List Verdict) (at : ℕ)
-    → (at < length older → at < length newer → ⊥)
-    → text ++ written (verdict_changes compared (drop at older)
-    (drop at newer))
-    ≡ start → text ≡ start
-verdicts_done compared start text older newer at over is =
-    sym (append-nil text)
-    ∙ ap (λ (lines : List ReportLine). text ++ written lines) (sym (none_left compared older newer at over)) ∙ is
-
 -- ---- the report on a crawler
 
 -- no lines were appended to a text
-none_appended : (text : List ℕ) (lines : List ReportLine) → length (text ++ written lines) ≡ length text
+pub none_appended : (text : List ℕ) (lines : List ReportLine) → length (text ++ written lines) ≡ length text
     → lines ≡ []
 none_appended text [] same = refl
 none_appended text (line ∷ lines) same = absurd (grind (arith, length-append))
-
-pub nothing_reported : (compared : ComparedValue) (old new : List ℕ) → is_rejected compared ≡ false
-    → new ≡ old ++ written (differences compared) → length new ≡ length old
-    → (new ≡ old ++ written (agent_lines compared)) × (true ≡ is_unchanged compared)
-nothing_reported compared old new accepted is same =
-    let none = none_appended old (differences compared) (ap length (sym is) ∙ same) in
-    rw (accepted, none) (is ∙ ap (λ lines. old ++ written lines) none, refl)
 
 -- ---- the reports on several crawlers
 
@@ -71,42 +56,3 @@ names_compared urls older newer [] (one ∷ compared) all = absurd all
 names_compared urls older newer (agent ∷ agents) [] all = absurd all
 names_compared urls older newer (agent ∷ agents) (one ∷ compared) (is, all) =
     rw (is.agent_is, names_compared urls older newer agents compared all) refl
-
-pub comparison_made : (given : List (List ℕ)) (urls : List (List ℕ)) (one other older newer : List ℕ)
-    (agents named : List (List ℕ)) (found : Comparison) (answer : Answer) → one ≡ older → other ≡ newer
-    → IsReportOn urls one other agents found → named ≡ agents
-    → agents ≡ agents_requested given (lines_read one ++ lines_read other)
-    → answer.report.items
-    ≡ string_bytes found.report ++ written (unchanged_lines named found.all_unchanged found.some_unchanged)
-    → answer.outcome.is_rejected ≡ found.is_rejected → answer.outcome.has_passed ≡ found.all_unchanged
-    → answer.outcome.is_warned ≡ false → string_bytes answer.outcome.warnings ≡ []
-    → IsComparison given urls older newer answer
-comparison_made given urls one other older newer agents named found answer first second on same names added
-    rejected passed unwarned silent =
-    let is = on.is in
-    let compared =
-    names_compared urls (lines_read one) (lines_read other) agents on.compared on.all ∙ sym same in
-    let last = unchanged_lines named found.all_unchanged found.some_unchanged in
-    rw (← first, ← second) (record {
-      compared = on.compared;
-      all =
-          subst (λ agents. AllZip (IsCompared urls (lines_read one) (lines_read other)) agents on.compared) names
-          on.all;
-      report =
-          rw (sym is.every, sym is.some, compared)
-          (added ∙ ap (λ text. text ++ written last) is.text
-          ∙ sym (written_append (flat_map agent_lines on.compared) last));
-      rejected = rejected ∙ is.rejected;
-      unchanged = passed ∙ is.every;
-      unwarned = unwarned;
-      silent = silent;
-    })
-
--- the lines of both files
-pub lines_of_both : (one other : List LabeledLine) (older newer : List LineValue)
-    → lines_of (map label_by_value one) ≡ older → lines_of (map label_by_value other) ≡ newer
-    → lines_of (map label_by_value (one ++ other)) ≡ older ++ newer
-lines_of_both one other older newer first second =
-    ap lines_of (map-append label_by_value one other)
-    ∙ map-append _ (map label_by_value one) (map label_by_value other)
-    ∙ ap (λ lines. lines ++ lines_of (map label_by_value other)) first ∙ ap (λ lines. older ++ lines) second

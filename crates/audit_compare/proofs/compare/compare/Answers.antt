@@ -1,12 +1,32 @@
-use Rattle.std.proofs.Common.{ap, map, refl, string_bytes, sym, ◌∙◌, ℕ}
+use Rattle.std.proofs.Common.{ap, flat_map, List, map, refl, string_bytes, subst, sym, ◌++◌, ◌∙◌, ℕ}
 use Rattle.std.specs.Global.{Vec}
-use Rattle.audit_compare.proofs.CompareLemmas.{comparison_made}
+use Rattle.std.specs.List.{AllZip}
+use Rattle.texting_robots.specs.Callers.{lines_read}
+use Rattle.robots_text.specs.Text.{written}
+use Rattle.robots_text.proofs.PartLemmas.{written_append}
+use Rattle.audit_compare.specs.Compare.{IsCompared, agent_lines, unchanged_lines}
+use Rattle.audit_compare.proofs.CompareLemmas.{names_compared}
 use Rattle.audit_compare.proofs.compare.compare.Goals as goal
 
 pub returns-clause-ok : goal.returns-clause-ok
 returns-clause-ok c =
-    comparison_made _ _ _ _ _ _ _ _ c.in_ok-found.found _ c.in_ok-older.ensures.bytes c.in_ok-newer.ensures.bytes
-    c.in_ok-found.ensures.ok
-    (ap (map string_bytes) (c.deref-2.ensures.value ∙ sym c.deref.ensures.value))
-    (ap (map string_bytes) c.deref.ensures.value ∙ c.in_ok-names.ensures)
-    (ap (λ (bytes : Vec ℕ). bytes.items) c.into_bytes.ensures.value ∙ c.in_ok-push_unchanged.ensures) refl refl refl c.new.ensures.bytes
+    let on = c.in_ok-found.ensures.ok in
+    let is = on.is in
+    let found = c.in_ok-found.found in
+    let names = map string_bytes c.deref-2.result.now in
+    let compared = names_compared _ _ _ _ _ on.all
+    ∙ ap (map string_bytes) (c.deref.ensures.value ∙ sym c.deref-2.ensures.value) in
+    let last = unchanged_lines names found.all_unchanged found.some_unchanged in
+    rw (← c.in_ok-older.ensures.bytes, ← c.in_ok-newer.ensures.bytes) (record {
+      compared = on.compared;
+      all = rw (ap (map string_bytes) c.deref.ensures.value ∙ c.in_ok-names.ensures) at on.all;
+      report =
+          rw (sym is.every, sym is.some, compared)
+          (ap (λ (bytes : Vec ℕ). bytes.items) c.into_bytes.ensures.value ∙ c.in_ok-push_unchanged.ensures
+          ∙ ap (λ text. text ++ written last) is.text
+          ∙ sym (written_append (flat_map agent_lines on.compared) last));
+      rejected = is.rejected;
+      unchanged = is.every;
+      unwarned = refl;
+      silent = c.new.ensures.bytes;
+    })
