@@ -16,7 +16,6 @@ use Rattle.robots_warnings.proofs.NameLemmas.{any_last}
 use Rattle.audit_core.specs.declared.answer.Answer.{Answer}
 use Rattle.audit_core.specs.declared.audit.Verdict.{Verdict}
 use Rattle.audit_core.specs.Audit.{agents_requested}
-use Rattle.audit_core.specs.Internal.{verdict_value}
 use Rattle.audit_compare.specs.declared.compare.Comparison.{Comparison}
 use Rattle.audit_compare.specs.Compare.{ComparedValue, IsCompared, agent_lines, differences}
 use Rattle.audit_compare.specs.Compare.{IsComparison, is_rejected, is_unchanged, unchanged_lines}
@@ -29,10 +28,10 @@ use Rattle.audit_compare.proofs.RuleSetLemmas.{no_verdicts}
 -- from an index on, one of the lists has no verdicts
 pub none_left : (compared : ComparedValue) (older newer : List Verdict) (at : ℕ)
     → (at < length older → at < length newer → ⊥)
-    → verdict_changes compared (map verdict_value (drop at older)) (map verdict_value (drop at newer)) ≡ []
+    → verdict_changes compared (drop at older) (drop at newer) ≡ []
 none_left compared [] newer at over = rw (drop-nil at) refl
 none_left compared (one ∷ older) [] at over =
-    rw (drop-nil at) (no_verdicts compared (map verdict_value (drop at (one ∷ older))))
+    rw (drop-nil at) (no_verdicts compared (drop at (one ∷ older)))
 none_left compared (one ∷ older) (other ∷ newer) zero over = absurd (over (omega arith) (omega arith))
 none_left compared (one ∷ older) (other ∷ newer) (suc at) over =
     none_left compared older newer at (λ below within. over (omega arith) (omega arith))

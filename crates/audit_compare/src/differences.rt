@@ -188,17 +188,21 @@ fn url_line<'a>(agent: &'a str, url: &'a str, older: &Decision, newer: &Decision
 fn push_url_changes(
     text: &mut String,
     compared: &Compared<'_>,
-    url: &str,
-    older: &Decision,
-    newer: &Decision,
+    older: &Verdict<'_>,
+    newer: &Verdict<'_>,
 ) -> Result<(), AllocError>
     ensures { OnOk result (string_bytes text.new ≡ string_bytes text.old
-        ++ written (url_changes (compared_value compared.now) url.now older.now newer.now)) }
+        ++ written (url_changes (compared_value compared.now) older.now.url older.now.decision
+        newer.now.decision)) }
 {
-    if is_same_decision(compared, older, newer) {
+    let (agent, url) = (&compared.older.agent, older.url);
+    if is_same_decision(compared, &older.decision, &newer.decision) {
         return Ok(());
     }
-    push_line_of(text, &url_line(&compared.older.agent, url, older, newer))
+    push_line_of(
+        text,
+        &url_line(agent, url, &older.decision, &newer.decision),
+    )
 }
 
 /// Appends the decisions that differ.
@@ -213,8 +217,7 @@ fn push_verdict_changes(
         older.now newer.now)) }
 {
     for at in 0..older.len().min(newer.len()) {
-        let (one, other) = (&older[at], &newer[at]);
-        push_url_changes(text, compared, one.url, &one.decision, &other.decision)?;
+        push_url_changes(text, compared, &older[at], &newer[at])?;
     }
     Ok(())
 }
