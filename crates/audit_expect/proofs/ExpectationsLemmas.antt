@@ -1,6 +1,6 @@
 -- How expectations are checked, and the report on them.
 use Rattle.std.proofs.Common.{◌≡◌, ◌∙◌, ℕ, ◌+◌, ◌<◌, ◌==◌, Bool, true, false, List, [], ◌∷◌, ◌++◌}
-use Rattle.std.proofs.Common.{Ok, ap, append-nil, filter, inl, inr, length, map, refl}
+use Rattle.std.proofs.Common.{Ok, ap, append-nil, filter, inl, inr, length, map}
 use Rattle.std.proofs.Common.{slice_index_or, subst, sym, take}
 use Rattle.std.specs.Prelude.{if◌then◌else◌}
 use Rattle.std.proofs.lemmas.Bool.{cases_Bool}

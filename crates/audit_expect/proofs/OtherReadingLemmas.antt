@@ -1,19 +1,19 @@
--- The other reading of an empty Disallow: which lines are empty Disallows, and what decides without their rules.
-use Rattle.std.proofs.Common.{◌≡◌, ◌≢◌, ◌∙◌, ℕ, zero, suc, ◌+◌, ◌==◌, Bool, true, false, List, [], ◌∷◌, ◌++◌}
+-- The other reading: which lines are empty Disallows, and what decides without their rules.
+use Rattle.std.proofs.Common.{◌≡◌, ◌≢◌, ◌∙◌, ℕ, zero, suc, ◌==◌, Bool, true, false, List, [], ◌∷◌, ◌++◌}
 use Rattle.std.proofs.Common.{Contains, Option, Some, None, ap, arith, if◌then◌else◌, inl, inr, map, refl}
 use Rattle.std.proofs.Common.{slice_get, slice_index_or, subst, sym}
 use Rattle.std.specs.Prelude.{◌||◌}
 use Rattle.std.specs.Char.{to_ascii_lowercase}
 use Rattle.std.specs.List.{All}
 use Rattle.std.specs.Option.{option_map_or}
-use Rattle.std.proofs.lemmas.Bool.{cases_Bool, eqb-true, false≢true, not-true}
+use Rattle.std.proofs.lemmas.Bool.{cases_Bool, false≢true, not-true}
 use Rattle.std.proofs.lemmas.Bool.Decides.{nat_tests}
 use Rattle.std.proofs.lemmas.List.Elements.{Contains-append_left, Contains-get_or, Contains-push}
 use Rattle.std.proofs.lemmas.List.Elements.{Contains-push_cases}
 use Rattle.std.proofs.lemmas.Option.{option_and_then_some, same_Some}
-use Rattle.texting_robots.specs.Callers.{Allow, IsBetter, IsDecidingLine, IsDecidingRule, IsOverlong, IsRejected}
-use Rattle.texting_robots.specs.Callers.{IsVerdict, LineValue, Matches, PlacedRule, Rule, placed_rules}
-use Rattle.texting_robots.specs.Callers.{robots_file, unplaced}
+use Rattle.texting_robots.specs.Callers.{Allow, IsBetter, IsDecidingLine, IsDecidingRule, IsOverlong}
+use Rattle.texting_robots.specs.Callers.{IsRejected, IsVerdict, LineValue, Matches, PlacedRule, Rule}
+use Rattle.texting_robots.specs.Callers.{placed_rules, robots_file, unplaced}
 use Rattle.texting_robots.specs.Statement.{IsStatement}
 use Rattle.texting_robots.specs.Internal.Line.{line_of}
 use Rattle.texting_robots.specs.Internal.Statement.{kind_by, kind_with, skip_blanks, statement_of, tail_as}
@@ -113,38 +113,28 @@ stated_marked : (bodies : List (List ℕ)) (number : ℕ) → IsEmptyDisallow bo
 stated_marked bodies number (place, body, numbered, at, is) =
     let same : number ≡ suc place = omega (arith, numbered) in rw same (stated_mark bodies place body at is)
 
-others_are : (bodies : List (List ℕ)) (rules : List PlacedRule) → AreOthers bodies rules (others_of bodies rules)
+others_are : (bodies : List (List ℕ)) (rules : List PlacedRule)
+    → AreOthers bodies rules (others_of bodies rules)
 others_are bodies rules = record {
   each = λ placed. (
     λ has.
         let (listed, passes) = in_filter _ rules placed has in
         (listed, λ is. false≢true (sym (not-true _ passes) ∙ stated_marked bodies placed.line is)),
-    λ (listed, isnt). to_filter _ rules placed listed (elim (cases_Bool (is_marked (marks_of bodies) placed.line)) [
-      | inl is ↦ absurd (isnt (marked_stated bodies placed.line is))
-      | inr other ↦ rw other refl
-    ]),
+    λ (listed, isnt).
+        to_filter _ rules placed listed (elim (cases_Bool (is_marked (marks_of bodies) placed.line)) [
+          | inl is ↦ absurd (isnt (marked_stated bodies placed.line is))
+          | inr other ↦ rw other refl
+        ]),
   );
 }
 
 -- ---- which rule decides
 
 better_trans : (one two three : PlacedRule) → IsBetter one two → IsBetter two three → IsBetter one three
-better_trans one two three (inl longer) (inl also) = inl (omega arith)
-better_trans one two three (inl longer) (inr (same, _)) = inl (omega arith)
-better_trans one two three (inr (same, _)) (inl longer) = inl (omega arith)
-better_trans one two three (inr (same, inl (allows, denies))) (inr (too, inl (allows_too, denies_too))) =
-    inr (same ∙ too, inl (allows, denies_too))
-better_trans one two three (inr (same, inl (allows, denies))) (inr (too, inr (kinds, above))) =
-    inr (same ∙ too, inl (allows, sym kinds ∙ denies))
-better_trans one two three (inr (same, inr (kinds, above))) (inr (too, inl (allows, denies))) =
-    inr (same ∙ too, inl (kinds ∙ allows, denies))
-better_trans one two three (inr (same, inr (kinds, above))) (inr (too, inr (kinds_too, above_too))) =
-    inr (same ∙ too, inr (kinds ∙ kinds_too, omega arith))
+better_trans one two three over under = grind (arith, nat_tests)
 
 not_itself : (one : PlacedRule) → ¬ IsBetter one one
-not_itself one (inl longer) = omega arith
-not_itself one (inr (same, inl (allows, denies))) = false≢true (sym denies ∙ allows)
-not_itself one (inr (same, inr (kinds, above))) = omega arith
+not_itself one is = grind arith
 
 -- one more rule
 module _ (rules : List PlacedRule) (text : List ℕ) (rule : PlacedRule) where
@@ -227,8 +217,8 @@ module _ (bodies : List (List ℕ)) (rules : List PlacedRule) (text : List ℕ) 
             | inl same ↦ inl same
             | inr nothing ↦ inr (λ placed has. nothing placed (among placed has))
           ] in
-          let allows =
-          one_verdict (unplaced rules) text decision.allowed true is.verdict (no_line_allows rules text none) in
+          let allows = one_verdict (unplaced rules) text decision.allowed true is.verdict
+          (no_line_allows rules text none) in
           (rw allows (no_line_allows others text alike), alike)
       by (Some line) (differs, placed, decides, at) other =
           let alike : IsDecidingRule others text placed = record {
@@ -238,7 +228,8 @@ module _ (bodies : List (List ℕ)) (rules : List PlacedRule) (text : List ℕ) 
           } in
           let kind = one_verdict (unplaced rules) text decision.allowed placed.rule.1 is.verdict
           (verdict_by rules text placed placed.rule.1 decides refl differs) in
-          (verdict_by others text placed decision.allowed alike (sym kind) differs, (differs, placed, alike, at))
+          let verdict = verdict_by others text placed decision.allowed alike (sym kind) differs in
+          (verdict, (differs, placed, alike, at))
 
 -- if the file isn't rejected, none of the other rules is overlong
 pub others_accepted : (bodies : List (List ℕ)) (agent : List ℕ) (lines : List LineValue)

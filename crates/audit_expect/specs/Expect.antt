@@ -1,6 +1,7 @@
 -- The lines of a text and the entries in them, and the expectations in the file of `--expect`, one per line.
-use Rattle.std.specs.Prelude.{◌≡◌, ℕ, nat_eq, suc, ◌==◌, Bool, false, not, ◌&&◌, ◌||◌, List, [], ◌∷◌, Option, Some}
-use Rattle.std.specs.Prelude.{None, Result, Ok, Err, bytes_eq, codes, filter, if◌then◌else◌, string_bytes}
+use Rattle.std.specs.Prelude.{◌≡◌, ℕ, nat_eq, suc, ◌==◌, Bool, false, not, ◌&&◌, ◌||◌, List, [], ◌∷◌, Option}
+use Rattle.std.specs.Prelude.{Some, None, Result, Ok, Err, bytes_eq, codes, filter, if◌then◌else◌}
+use Rattle.std.specs.Prelude.{string_bytes}
 use Rattle.std.specs.Result.{result_err}
 use Rattle.std.specs.List.{list_any, starts_with}
 use Rattle.std.specs.Str.{byte, is_utf8}

@@ -21,7 +21,7 @@ use Rattle.audit_expect.specs.declared.checks.Finding.TheVariants.{Decided, Reje
 use Rattle.audit_core.specs.Asked.{asked_target}
 use Rattle.audit_expect.specs.Expect.{ExpectationValue, expectations_in}
 use Rattle.audit_expect.specs.OtherReading.{IsOtherDecision}
-use Rattle.audit_core.specs.Texts.{rejected_line_part}
+use Rattle.audit_core.specs.Texts.{rejected_front, rejected_line_part}
 
 -- ---- what the robots.txt file says
 
@@ -112,7 +112,7 @@ other_front = only (codes "where an empty Disallow is no rule, as for RFC 9309 a
 
 abbrev pub rejected_parts : List ℕ → ℕ → List PartValue
 rejected_parts agent line =
-    Part (label (codes "the file is rejected for ") refl) (Untrusted agent) ∷ rejected_line_part line ∷ []
+    only (codes "the file is ") refl ∷ rejected_front agent ∷ rejected_line_part line ∷ []
 
 -- why the decision isn't the expected one
 abbrev pub finding_parts : List ℕ → List ℕ → Bool → Finding → List PartValue

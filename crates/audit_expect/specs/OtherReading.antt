@@ -1,5 +1,5 @@
--- The other reading of an empty Disallow. Here it is an Allow of `/`. For RFC 9309 and Google it is no rule, and
--- only ends the list of user-agent lines above it, as here.
+-- The other reading of an empty Disallow. Here it is an Allow of `/`. For RFC 9309 and Google it is no rule,
+-- and only ends the list of user-agent lines above it, as here.
 use Rattle.std.specs.Prelude.{◌↔◌, ℕ, List, Contains}
 use Rattle.texting_robots.specs.Callers.{PlacedRule}
 use Rattle.texting_robots.specs.declared.decision.Decision.{Decision}

@@ -1,14 +1,13 @@
 //! The expectations in the file of `--expect`, one per line, and how a text is cut into parts.
 ghost use Rattle.std.specs.Prelude.{◌≡◌, ◌≢◌, ◌<◌, ◌∷◌, ◌++◌, [], IfErr, IfOk, MatchOption, Ok, OnOk, if◌then◌else◌, length, map, option_map};
 ghost use Rattle.std.specs.Option.{option_to_list};
+ghost use Rattle.std.specs.Result.{result_err};
 ghost use Rattle.std.specs.Str.{byte};
 ghost use Rattle.robots_warnings.specs.Rules.{has};
-ghost use Rattle.audit_expect.specs.Expect.{begins_dot_segment, entries_from, expectation_in};
+ghost use Rattle.audit_expect.specs.Expect.{IsLineFault, begins_dot_segment, entries_from, expectation_in};
 ghost use Rattle.audit_expect.specs.Expect.{expectations_in, expects, is_asked_otherwise, is_comment, is_in};
 ghost use Rattle.audit_expect.specs.Expect.{is_path, is_path_or_url, lines, parts, words};
 ghost use Rattle.audit_core.specs.Crawler.{is_word};
-ghost use Rattle.audit_expect.specs.Expect.{IsLineFault};
-ghost use Rattle.std.specs.Result.{result_err};
 ghost use Rattle.audit_expect.specs.Internal.Expect.{HasNone, IsFirstSeparator, expectation_value};
 
 use crate::entries::malformed;

@@ -67,7 +67,8 @@ fn demand(allowed: bool) -> &'static str
 
 /// Where an expectation is, and what it is.
 fn failure_front<'a>(name: &'a str, expectation: &Expectation<'a>) -> [Part<'a>; 5]
-    ensures { raw_line result ≡ sanitized name.entry.now ++ parts_text (front_parts (expectation_value expectation.now)) }
+    ensures { raw_line result ≡ sanitized name.entry.now
+        ++ parts_text (front_parts (expectation_value expectation.now)) }
 {
     let (agent, url) = (expectation.agent, expectation.url);
     [

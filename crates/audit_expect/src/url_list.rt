@@ -1,9 +1,9 @@
 //! The URLs in the file of `--urls`, one per line, and those in arguments.
 ghost use Rattle.std.specs.Prelude.{◌≡◌, ◌==◌, IfErr, IfOk, None, Ok, OnOk, Some, false, length, map, option_map};
+ghost use Rattle.std.specs.Result.{result_err};
 ghost use Rattle.audit_core.specs.Request.{requested_by};
 ghost use Rattle.audit_core.specs.declared.fault.Entry.TheVariants as entry;
 ghost use Rattle.audit_expect.specs.Expect.{IsEntryFault, IsLineFault, entries_from, lines};
-ghost use Rattle.std.specs.Result.{result_err};
 ghost use Rattle.audit_expect.specs.UrlList.{HasUrlsIn, IsUrlFault};
 ghost use Rattle.audit_expect.specs.UrlList.{first_malformed, trimmed, url_in, urls_in};
 

@@ -1,9 +1,9 @@
 -- The other reading of an empty Disallow as the code finds it.
-use Rattle.std.specs.Prelude.{◌≡◌, ◌⊎◌, ℕ, Bool, false, true, List, ◌∷◌, Option, Some, None, map, slice_index_or}
-use Rattle.texting_robots.specs.Callers.{IsBetter, IsDecidingRule, PlacedRule}
+use Rattle.std.specs.Prelude.{◌≡◌, ◌⊎◌, ℕ, Bool, false, true, List, ◌∷◌, Option, Some, None}
+use Rattle.std.specs.Prelude.{Contains, map, slice_index_or}
+use Rattle.texting_robots.specs.Callers.{IsBetter, IsDecidingRule, Matches, PlacedRule}
 use Rattle.texting_robots.specs.declared.decision.Decision.{Decision}
 use Rattle.texting_robots.specs.Internal.Line.{line_of}
-use Rattle.texting_robots.proofs.BestLemmas.{NoMatch}
 use Rattle.robots_warnings.specs.EmptyDisallows.{is_empty_disallow, stated_rules}
 
 abbrev pub is_empty : List ℕ → Bool
@@ -22,7 +22,7 @@ others_of bodies rules = stated_rules (is_marked (marks_of bodies)) rules
 
 -- the rule that decides if the text isn't `/robots.txt`, or `None` if no rule matches
 abbrev pub IsDecidedBy : List PlacedRule → List ℕ → Option PlacedRule → Type 0
-IsDecidedBy rules text None = NoMatch rules text
+IsDecidedBy rules text None = (placed : PlacedRule) → Contains rules placed → ¬ Matches placed.rule.0 text
 IsDecidedBy rules text (Some placed) = IsDecidingRule rules text placed
 
 -- of a rule that matches and the one found before, the better one
