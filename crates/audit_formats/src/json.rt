@@ -1,8 +1,9 @@
 //! The audit as one line of JSON.
-ghost use Rattle.std.specs.Prelude.{◌≡◌, [], IfOk, if◌then◌else◌, map, string_bytes};
+ghost use Rattle.std.specs.Prelude.{◌≡◌, [], false, IfOk, if◌then◌else◌, map, string_bytes};
 ghost use Rattle.serde_json.specs.View.{view};
+ghost use Rattle.serde_json.specs.Written.{has_float};
 ghost use Rattle.texting_robots.specs.Callers.{by_value, label_by_value, sitemaps_in};
-ghost use Rattle.audit_formats.specs.Json.{agent_json, audit_json, group_word, json_text, line_json};
+ghost use Rattle.audit_formats.specs.Json.{agent_json, audit_json, group_word, json_line, json_text, line_json};
 ghost use Rattle.audit_formats.specs.Json.{list_json, sanitized_json, syntax_json, value_json, verdict_json};
 ghost use Rattle.audit_formats.specs.Json.{warning_json};
 ghost use Rattle.audit_core.specs.Rows.{membership_word};
@@ -230,11 +231,19 @@ fn audit_json(alloc: Global, has_rows: bool, audit: &Audit<'_, '_>) -> Result<Va
     })
 }
 
+/// A value without floating-point numbers, as one line.
+pub(crate) fn json_line(alloc: Global, value: &Value) -> Result<String, AllocError>
+    requires { has_float (view value.now) ≡ false }
+    ensures { IfOk result (λ text. string_bytes text ≡ json_line (view value.now)) }
+{
+    let mut text = value.to_string(alloc)?;
+    text.push('\n')?;
+    Ok(text)
+}
+
 /// The audit as one line of JSON.
 pub fn json_text(alloc: Global, has_rows: bool, audit: &Audit<'_, '_>) -> Result<String, AllocError>
     ensures { IfOk result (λ text. string_bytes text ≡ json_text has_rows (audit_value audit.now)) }
 {
-    let mut text = audit_json(alloc, has_rows, audit)?.to_string(alloc)?;
-    text.push('\n')?;
-    Ok(text)
+    json_line(alloc, &audit_json(alloc, has_rows, audit)?)
 }
