@@ -46,32 +46,13 @@ literal_next yielded char message new so_far added =
 same_char : (char : ℕ) → (char == char) ≡ true
 same_char char = grind (arith, nat_tests)
 
-escape_begins : (char : ℕ) (message : List ℕ) → (is_brace char || takes_backslash char) ≡ true
-    → shown_after None (char ∷ message) ≡ shown_after (Some char) message
-escape_begins char message is = rw is refl
-
-escape_ends : (first char : ℕ) (message : List ℕ) → is_escape first char ≡ true
-    → shown_after (Some first) (char ∷ message)
-    ≡ option_map (λ shown. char ∷ shown) (shown_after None message)
-escape_ends first char message is = rw is refl
-
-shows_itself : (char : ℕ) (message : List ℕ) → (is_brace char || takes_backslash char) ≡ false
-    → shown_after None (char ∷ message) ≡ option_map (λ shown. char ∷ shown) (shown_after None message)
-shows_itself char message isnt = rw isnt refl
-
 shown_char : (char : ℕ) (message : List ℕ) → shown_after None (literal_char char ++ message)
     ≡ option_map (λ shown. char ∷ shown) (shown_after None message)
 shown_char char message = elim (cases_Bool (is_brace char)) [
-  | inl brace ↦
-      let special : (is_brace char || takes_backslash char) ≡ true = rw brace refl in
-      let escape : is_escape char char ≡ true = rw (brace, same_char char) refl in
-      rw brace (escape_begins char (char ∷ message) special ∙ escape_ends char char message escape)
+  | inl brace ↦ rw (brace, brace, same_char char) refl
   | inr isnt ↦ elim (cases_Bool (takes_backslash char)) [
-    | inl takes ↦ rw (isnt, takes)
-        (escape_begins 92 (char ∷ message) refl ∙ escape_ends 92 char message takes)
-    | inr ordinary ↦
-        let plain : (is_brace char || takes_backslash char) ≡ false = rw (isnt, ordinary) refl in
-        rw (isnt, ordinary) (shows_itself char message plain)
+    | inl takes ↦ rw (isnt, takes, takes) refl
+    | inr ordinary ↦ rw (isnt, ordinary, isnt, ordinary) refl
   ]
 ]
 
