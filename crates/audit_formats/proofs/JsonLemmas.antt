@@ -12,8 +12,7 @@ use Rattle.serde_json.specs.View.{items_of}
 use Rattle.serde_json.specs.Written.{comma_if, compact_text, has_float, items_have_float, items_text}
 use Rattle.serde_json.specs.Written.{members_have_float, members_text}
 use Rattle.serde_json.proofs.OnLiterals.{serde_json_on_literals}
-use Rattle.texting_robots.specs.Callers.{Allow, CrawlDelay, Disallow, LineValue, Label, Raw, Sitemap}
-use Rattle.texting_robots.specs.Callers.{UserAgent, sitemaps_in}
+use Rattle.texting_robots.specs.Callers.{CrawlDelay, LineValue, Label}
 use Rattle.robots_io.specs.Lines.{lf}
 use Rattle.robots_io.specs.Sanitize.{IsPrintable, is_printable_byte}
 use Rattle.robots_io.proofs.SanitizeLemmas.{append_printable, ascii_printable, decimal_printable}
@@ -22,7 +21,6 @@ use Rattle.robots_text.specs.Level.{level_word}
 use Rattle.robots_text.specs.Text.{Value, value_text}
 use Rattle.robots_text.specs.declared.level.Level.{Level}
 use Rattle.robots_text.proofs.PartLemmas.{label_printable, level_printable, value_printable}
-use Rattle.robots_warnings.specs.File.{lines_of}
 use Rattle.robots_warnings.specs.Message.{fixed_name, message_parts}
 use Rattle.robots_warnings.specs.Table.{level_of}
 use Rattle.robots_warnings.specs.Warnings.{WarningValue}
@@ -165,11 +163,7 @@ text_plain false value = tt
 
 value_plain : (line : LineValue) → IsPlain (value_json line)
 value_plain (CrawlDelay delay) = number_plain delay
-value_plain (UserAgent value) = text_plain (has_value (UserAgent value)) (line_value (UserAgent value))
-value_plain (Allow value) = text_plain _ (line_value (Allow value))
-value_plain (Disallow value) = text_plain _ (line_value (Disallow value))
-value_plain (Sitemap value) = text_plain _ (line_value (Sitemap value))
-value_plain (Raw body) = text_plain _ (line_value (Raw body))
+value_plain line = text_plain (has_value line) (line_value line)
 
 line_plain : (label : Label) → IsPlain (line_json label)
 line_plain label =

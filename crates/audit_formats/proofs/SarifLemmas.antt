@@ -1,13 +1,13 @@
 -- The SARIF log contains no floating-point number, and no control or bidirectional-formatting characters
 -- other than LF. Its messages show the texts that they are made of.
-use Rattle.std.proofs.Common.{◌≡◌, ℕ, ◌/◌, ◌%◌, ◌<◌, ◌==◌, Bool, true, false, List, [], ◌∷◌, ◌++◌, Option}
+use Rattle.std.proofs.Common.{◌≡◌, ℕ, ◌/◌, ◌%◌, ◌<◌, ◌==◌, Bool, true, false, List, [], ◌∷◌, ◌++◌}
 use Rattle.std.proofs.Common.{Some, None}
-use Rattle.std.proofs.Common.{ap, ap₂, append-nil, arith, codes, flat_map, inl, inr, map, refl, sym, ◌∙◌}
-use Rattle.std.specs.Prelude.{if◌then◌else◌, not, option_map, ◌&&◌, ◌||◌}
+use Rattle.std.proofs.Common.{ap, ap₂, append-nil, arith, flat_map, inl, inr, map, refl, sym, ◌∙◌}
+use Rattle.std.specs.Prelude.{if◌then◌else◌, option_map, ◌&&◌}
 use Rattle.std.specs.List.{list_all}
 use Rattle.std.specs.Fmt.{digit_glyph}
 use Rattle.std.specs.Str.{IsUtf8, all_scalars, chars, encode_utf8_all}
-use Rattle.std.proofs.lemmas.Bool.{agree_below_at, and_parts, cases_Bool, cases_lt}
+use Rattle.std.proofs.lemmas.Bool.{and_parts, cases_Bool}
 use Rattle.std.proofs.lemmas.Bool.Decides.{nat_tests}
 use Rattle.std.proofs.lemmas.List.Folds.{list_all-append}
 use Rattle.std.proofs.lemmas.Grind.{flat_map-append}
@@ -20,7 +20,7 @@ use Rattle.robots_warnings.specs.Table.{all_causes, example_of, level_of, name_o
 use Rattle.audit_core.specs.Audit.{AuditValue}
 use Rattle.audit_formats.specs.Findings.{FindingValue, Found, all_found, findings, found_value, message_of}
 use Rattle.audit_formats.specs.Json.{list_json}
-use Rattle.audit_formats.specs.Sarif.{RuleValue, all_rules, help_text, is_brace, is_escape, is_uri_byte}
+use Rattle.audit_formats.specs.Sarif.{RuleValue, all_rules, help_text, is_brace, is_uri_byte}
 use Rattle.audit_formats.specs.Sarif.{literal_char, literal_text, log_json, message_json, one_slash}
 use Rattle.audit_formats.specs.Sarif.{result_json, rule_json, sarif_text, shown, shown_after}
 use Rattle.audit_formats.specs.Sarif.{takes_backslash, uri_byte, uri_of}
@@ -103,19 +103,8 @@ literal_printable text is =
 
 -- ---- strings
 
--- if the byte is unchanged, it is printable
-abbrev stays_printable : ℕ → Bool
-stays_printable b = not (is_uri_byte b) || is_printable_byte true b
-
 kept_printable : (b : ℕ) → is_uri_byte b ≡ true → is_printable_byte true b ≡ true
-kept_printable b is = elim (cases_lt b 128) [
-  | inl low ↦
-      let stays = agree_below_at stays_printable (λ _. true) 128 b refl low in
-      rw is at stays
-  | inr high ↦
-      let isnt : is_uri_byte b ≡ false = grind (arith, nat_tests) in
-      absurd (cc)
-]
+kept_printable b is = grind (arith, nat_tests)
 
 glyph : (digit : ℕ) → digit < 16 → is_printable_byte true (digit_glyph true digit) ≡ true
 glyph digit below = grind (arith, nat_tests)
