@@ -2,36 +2,41 @@
 -- characters other than LF.
 use Rattle.std.proofs.Common.{◌≡◌, ℕ, Bool, true, false, List, [], ◌∷◌, ◌++◌, Option, Some, None, ap, arith}
 use Rattle.std.proofs.Common.{map, refl, sym}
-use Rattle.std.specs.Prelude.{IsTrue, codes, if◌then◌else◌}
-use Rattle.std.specs.List.{AllByRecursion as Each, list_all}
+use Rattle.std.specs.Prelude.{IsTrue, if◌then◌else◌}
+use Rattle.std.specs.List.{list_all}
 use Rattle.std.proofs.lemmas.Bool.Decides.{nat_tests}
 use Rattle.std.proofs.lemmas.Simd.{map-map}
-use Rattle.serde_json.specs.Data.{Data, Items, Members, array, boolean, item, member, no_items, no_members}
-use Rattle.serde_json.specs.Data.{null, number, object, string}
+use Rattle.serde_json.specs.Data.{Data, Items, Members, array, boolean, float, item, member, negative}
+use Rattle.serde_json.specs.Data.{no_items, no_members, null, number, object, string, unsigned}
 use Rattle.serde_json.specs.View.{items_of}
-use Rattle.serde_json.specs.Written.{comma_if, compact_text, has_float, items_text, members_text, number_text}
+use Rattle.serde_json.specs.Written.{comma_if, compact_text, has_float, items_have_float, items_text}
+use Rattle.serde_json.specs.Written.{members_have_float, members_text}
 use Rattle.serde_json.proofs.OnLiterals.{serde_json_on_literals}
-use Rattle.texting_robots.specs.Callers.{Allow, CrawlDelay, Disallow, LineValue, Label, Raw, Sitemap}
-use Rattle.texting_robots.specs.Callers.{UserAgent, sitemaps_in}
+use Rattle.texting_robots.specs.Callers.{CrawlDelay, LineValue, Label}
 use Rattle.robots_io.specs.Lines.{lf}
+use Rattle.robots_io.specs.Sanitize.{IsPrintable, is_printable_byte}
+use Rattle.robots_io.proofs.SanitizeLemmas.{append_printable, ascii_printable, decimal_printable}
+use Rattle.robots_io.proofs.SanitizeLemmas.{line_printable, sanitized_printable}
+use Rattle.robots_text.specs.Level.{level_word}
+use Rattle.robots_text.specs.Text.{Value, value_text}
+use Rattle.robots_text.specs.declared.level.Level.{Level}
+use Rattle.robots_text.proofs.PartLemmas.{label_printable, level_printable, value_printable}
+use Rattle.robots_warnings.specs.Message.{fixed_name, message_parts}
+use Rattle.robots_warnings.specs.Table.{level_of}
+use Rattle.robots_warnings.specs.WarningValue.{WarningValue}
 use Rattle.audit_core.specs.declared.group.Group.{Group}
 use Rattle.audit_core.specs.declared.group.Group.TheVariants.{Everyone, Named, Nobody, Star}
 use Rattle.audit_core.specs.Audit.{AgentValue, AuditValue, VerdictValue}
+use Rattle.audit_core.specs.Rows.{has_value, kind_of, line_value, membership_value}
 use Rattle.audit_core.specs.declared.syntax.Syntax.{Syntax}
 use Rattle.audit_core.specs.declared.syntax.Syntax.TheVariants.{Standard, StandardWithoutWarnings}
 use Rattle.audit_core.specs.declared.syntax.Syntax.TheVariants.{Unstated}
-use Rattle.audit_formats.specs.Json.{agent_json, audit_json, group_word, json_text, line_json, list_json}
-use Rattle.audit_formats.specs.Json.{number_json, sanitized_json, value_json, verdict_json, syntax_json}
-use Rattle.audit_formats.specs.Json.{warning_json}
-use Rattle.robots_warnings.specs.File.{lines_of}
-use Rattle.robots_io.specs.Sanitize.{IsPrintable, is_printable_byte}
-use Rattle.robots_warnings.specs.Warnings.{WarningValue}
-use Rattle.robots_warnings.proofs.PrintableLemmas.{names_printable, text_printable, word_printable}
-use Rattle.robots_warnings.specs.Table.{level_of}
-use Rattle.robots_io.proofs.SanitizeLemmas.{append_printable, ascii_printable, decimal_printable}
-use Rattle.robots_io.proofs.SanitizeLemmas.{sanitized_printable}
 use Rattle.audit_core.proofs.EscapeLemmas.{in_quotes}
-use Rattle.audit_core.proofs.TextLemmas.{kind_printable, membership_printable}
+use Rattle.audit_formats.specs.Findings.{Parts}
+use Rattle.audit_formats.specs.Json.{agent_json, audit_json, group_word, json_text, line_json, list_json}
+use Rattle.audit_formats.specs.Json.{number_json, sanitized_json, syntax_json, value_json, verdict_json}
+use Rattle.audit_formats.specs.Json.{warning_json}
+use Rattle.audit_formats.proofs.FindingLemmas.{message_printable, name_printable}
 
 -- ---- lists
 
@@ -39,60 +44,6 @@ use Rattle.audit_core.proofs.TextLemmas.{kind_printable, membership_printable}
 pub listed : {X Y : Type 0} (json : Y → Data) (value : X → Y) (xs : List X)
     → list_json (λ x. json (value x)) xs ≡ list_json json (map value xs)
 listed json value xs = ap (λ (values : List Data). array (items_of values)) (sym (map-map json value xs))
-
--- ---- floats
-
-number_without_float : (n : Option ℕ) → has_float (number_json n) ≡ false
-number_without_float None = refl
-number_without_float (Some n) = refl
-
-text_without_float : (has : Bool) (text : List ℕ)
-    → has_float (if has then string text else null) ≡ false
-text_without_float true text = refl
-text_without_float false text = refl
-
-value_without_float : (line : LineValue) → has_float (value_json line) ≡ false
-value_without_float (UserAgent value) = text_without_float _ _
-value_without_float (Allow value) = text_without_float _ _
-value_without_float (Disallow value) = text_without_float _ _
-value_without_float (CrawlDelay delay) = number_without_float delay
-value_without_float (Sitemap value) = text_without_float _ _
-value_without_float (Raw body) = text_without_float _ _
-
-pub list_without_float : {X : Type 0} (value : X → Data) → ((x : X) → has_float (value x) ≡ false)
-    → (xs : List X) → has_float (list_json value xs) ≡ false
-list_without_float value are [] = refl
-list_without_float value are (x ∷ xs) = rw (are x) (list_without_float value are xs)
-
-verdict_without_float : (verdict : VerdictValue) → has_float (verdict_json verdict) ≡ false
-verdict_without_float verdict = rw (number_without_float verdict.decision.line)
-
-agent_without_float : (agent : AgentValue) → has_float (agent_json agent) ≡ false
-agent_without_float agent = rw (
-  number_without_float agent.delay,
-  number_without_float agent.rejected,
-  list_without_float verdict_json verdict_without_float agent.verdicts,
-)
-
-line_without_float : (label : Label) → has_float (line_json label) ≡ false
-line_without_float label = rw (value_without_float label.line)
-
-warning_without_float : (warning : WarningValue) → has_float (warning_json warning) ≡ false
-warning_without_float warning = rw (number_without_float warning.line)
-
-syntax_without_float : (syntax : Syntax) → has_float (syntax_json syntax) ≡ false
-syntax_without_float Unstated = refl
-syntax_without_float Standard = refl
-syntax_without_float StandardWithoutWarnings = refl
-
-pub no_float : (has_rows : Bool) (audit : AuditValue) → has_float (audit_json has_rows audit) ≡ false
-no_float has_rows audit = rw (
-  list_without_float agent_json agent_without_float audit.agents,
-  syntax_without_float audit.syntax,
-  list_without_float line_json line_without_float (if has_rows then audit.labels else []),
-  list_without_float sanitized_json (λ text. refl) (sitemaps_in (lines_of audit.labels)),
-  list_without_float warning_json warning_without_float audit.warnings,
-)
 
 -- ---- a printable string in quotes
 
@@ -102,24 +53,25 @@ quoted_printable text is = in_quotes _ refl (λ byte high. grind (arith, nat_tes
 
 -- ---- JSON of printable strings
 
--- all strings in the value are printable, and the names of its members are printable ASCII
+-- there is no floating-point number, all strings are printable, and the names of members are printable ASCII
 abbrev mutual
-  pub HasPrintable : Data → Type 0
-  HasPrintable null = Unit {0}
-  HasPrintable (boolean b) = Unit {0}
-  HasPrintable (number n) = IsPrintable (number_text n)
-  HasPrintable (string text) = IsPrintable text
-  HasPrintable (array items) = ItemsHavePrintable items
-  HasPrintable (object members) = MembersHavePrintable members
+  pub IsPlain : Data → Type 0
+  IsPlain null = Unit {0}
+  IsPlain (boolean b) = Unit {0}
+  IsPlain (number (unsigned n)) = Unit {0}
+  IsPlain (number n) = ⊥
+  IsPlain (string text) = IsPrintable text
+  IsPlain (array items) = ItemsArePlain items
+  IsPlain (object members) = MembersArePlain members
 
-  ItemsHavePrintable : Items → Type 0
-  ItemsHavePrintable no_items = Unit {0}
-  ItemsHavePrintable (item value items) = HasPrintable value × ItemsHavePrintable items
+  ItemsArePlain : Items → Type 0
+  ItemsArePlain no_items = Unit {0}
+  ItemsArePlain (item value items) = IsPlain value × ItemsArePlain items
 
-  MembersHavePrintable : Members → Type 0
-  MembersHavePrintable no_members = Unit {0}
-  MembersHavePrintable (member name value members) =
-      IsTrue (list_all (is_printable_byte true) name) × HasPrintable value × MembersHavePrintable members
+  MembersArePlain : Members → Type 0
+  MembersArePlain no_members = Unit {0}
+  MembersArePlain (member name value members) =
+      IsTrue (list_all (is_printable_byte true) name) × IsPlain value × MembersArePlain members
 
 byte_then : (byte : ℕ) → IsTrue (list_all (is_printable_byte true) (byte ∷ [])) → (text : List ℕ)
     → IsPrintable text → IsPrintable (byte ∷ text)
@@ -131,136 +83,120 @@ comma_then true text is = byte_then 44 refl text is
 comma_then false text is = is
 
 mutual
-  pub data_printable : (value : Data) → HasPrintable value → IsPrintable (compact_text value)
-  data_printable null are = ascii_printable true (compact_text null) refl
-  data_printable (boolean true) are = ascii_printable true (compact_text (boolean true)) refl
-  data_printable (boolean false) are = ascii_printable true (compact_text (boolean false)) refl
-  data_printable (number n) are = are
-  data_printable (string text) are = quoted_printable text are
-  data_printable (array items) are = byte_then 91 refl (items_text false items)
-      (items_printable false items are)
-  data_printable (object members) are =
-      byte_then 123 refl (members_text false members) (members_printable false members are)
+  data_plain : (value : Data) → IsPlain value → IsPrintable (compact_text value) × (has_float value ≡ false)
+  data_plain null are = (ascii_printable true (compact_text null) refl, refl)
+  data_plain (boolean true) are = (ascii_printable true (compact_text (boolean true)) refl, refl)
+  data_plain (boolean false) are = (ascii_printable true (compact_text (boolean false)) refl, refl)
+  data_plain (number (unsigned n)) are = (decimal_printable true n, refl)
+  data_plain (number (negative z)) are = absurd are
+  data_plain (number (float x)) are = absurd are
+  data_plain (string text) are = (quoted_printable text are, refl)
+  data_plain (array items) are =
+      let inside = items_plain false items are in
+      (byte_then 91 refl (items_text false items) inside.0, inside.1)
+  data_plain (object members) are =
+      let inside = members_plain false members are in
+      (byte_then 123 refl (members_text false members) inside.0, inside.1)
 
-  items_printable : (later : Bool) (items : Items) → ItemsHavePrintable items
-      → IsPrintable (items_text later items)
-  items_printable later no_items are = ascii_printable true (93 ∷ []) refl
-  items_printable later (item value items) are =
-      comma_then later (compact_text value ++ items_text true items)
-      (append_printable true (compact_text value) (items_text true items)
-      (data_printable value are.0) (items_printable true items are.1))
+  items_plain : (later : Bool) (items : Items) → ItemsArePlain items
+      → IsPrintable (items_text later items) × (items_have_float items ≡ false)
+  items_plain later no_items are = (ascii_printable true (93 ∷ []) refl, refl)
+  items_plain later (item value items) are =
+      let one = data_plain value are.0 in
+      let rest = items_plain true items are.1 in
+      let text = append_printable true (compact_text value) (items_text true items) one.0 rest.0 in
+      (comma_then later (compact_text value ++ items_text true items) text, rw one.1 rest.1)
 
-  members_printable : (later : Bool) (members : Members) → MembersHavePrintable members
-      → IsPrintable (members_text later members)
-  members_printable later no_members are = ascii_printable true (125 ∷ []) refl
-  members_printable later (member name value members) are =
-      let rest = compact_text value ++ members_text true members in
-      let quoted = compact_text (string name) in
-      comma_then later (quoted ++ 58 ∷ rest)
-      (append_printable true quoted (58 ∷ rest) (quoted_printable name (ascii_printable true name are.0))
-      (byte_then 58 refl rest (append_printable true (compact_text value) (members_text true members)
-      (data_printable value are.1) (members_printable true members are.2))))
+  members_plain : (later : Bool) (members : Members) → MembersArePlain members
+      → IsPrintable (members_text later members) × (members_have_float members ≡ false)
+  members_plain later no_members are = (ascii_printable true (125 ∷ []) refl, refl)
+  members_plain later (member name value members) are =
+      let one = data_plain value are.1 in
+      let rest = members_plain true members are.2 in
+      let text = compact_text value ++ members_text true members in
+      let quoted = compact_text (string name) in (
+        comma_then later (quoted ++ 58 ∷ text)
+            (append_printable true quoted (58 ∷ text) (quoted_printable name (ascii_printable true name are.0))
+            (byte_then 58 refl text (append_printable true (compact_text value) (members_text true members)
+            one.0 rest.0))),
+        rw one.1 rest.1,
+      )
 
--- ---- the strings of an audit
+pub plain_printable : (value : Data) → IsPlain value → IsPrintable (compact_text value ++ lf ∷ [])
+plain_printable value is =
+    append_printable true (compact_text value) (lf ∷ []) (data_plain value is).0
+    (ascii_printable true (lf ∷ []) refl)
 
-pub each_has : {X : Type 0} (value : X → Data) (xs : List X) → Each (λ x. HasPrintable (value x)) xs
-    → HasPrintable (list_json value xs)
-each_has value [] are = tt
-each_has value (x ∷ xs) (first, later) = (first, each_has value xs later)
+pub plain_whole : (value : Data) → IsPlain value → has_float value ≡ false
+plain_whole value is = (data_plain value is).1
 
-list_has : {X : Type 0} (value : X → Data) → ((x : X) → HasPrintable (value x)) → (xs : List X)
-    → HasPrintable (list_json value xs)
-list_has value are [] = tt
-list_has value are (x ∷ xs) = (are x, list_has value are xs)
+-- ---- an audit
 
-number_has : (n : Option ℕ) → HasPrintable (number_json n)
-number_has None = tt
-number_has (Some n) = decimal_printable true n
+pub list_plain : {X : Type 0} (value : X → Data) → ((x : X) → IsPlain (value x)) → (xs : List X)
+    → IsPlain (list_json value xs)
+list_plain value are [] = tt
+list_plain value are (x ∷ xs) = (are x, list_plain value are xs)
 
-verdict_has : (verdict : VerdictValue) → HasPrintable (verdict_json verdict)
-verdict_has verdict =
-    (refl, tt, (refl, number_has verdict.decision.line, (refl, sanitized_printable verdict.url, tt)))
+number_plain : (n : Option ℕ) → IsPlain (number_json n)
+number_plain None = tt
+number_plain (Some n) = tt
+
+verdict_plain : (verdict : VerdictValue) → IsPlain (verdict_json verdict)
+verdict_plain verdict = search (number_plain, sanitized_printable)
 
 group_printable : (group : Group) → IsPrintable (group_word group)
-group_printable Named = ascii_printable true (codes "named") refl
-group_printable Star = ascii_printable true (codes "star") refl
-group_printable Nobody = ascii_printable true (codes "none") refl
-group_printable Everyone = ascii_printable true (codes "everyone") refl
+group_printable Named = ascii_printable true (group_word Named) refl
+group_printable Star = ascii_printable true (group_word Star) refl
+group_printable Nobody = ascii_printable true (group_word Nobody) refl
+group_printable Everyone = ascii_printable true (group_word Everyone) refl
 
-agent_has : (agent : AgentValue) → HasPrintable (agent_json agent)
-agent_has agent = (
-  refl,
-  sanitized_printable agent.agent,
-  (
-    refl,
-    number_has agent.delay,
-    (
-      refl,
-      group_printable agent.group,
-      (refl, number_has agent.rejected, (refl, list_has verdict_json verdict_has agent.verdicts, tt)),
-    ),
-  ),
+agent_plain : (agent : AgentValue) → IsPlain (agent_json agent)
+agent_plain agent =
+    search (number_plain, sanitized_printable, group_printable, list_plain verdict_json verdict_plain)
+
+word_printable : (value : Value) → IsPrintable (value_text value)
+word_printable value = line_printable (value_text value) (value_printable value)
+
+text_plain : (has : Bool) (value : Value) → IsPlain (if has then string (value_text value) else null)
+text_plain true value = word_printable value
+text_plain false value = tt
+
+value_plain : (line : LineValue) → IsPlain (value_json line)
+value_plain (CrawlDelay delay) = number_plain delay
+value_plain line = text_plain (has_value line) (line_value line)
+
+line_plain : (label : Label) → IsPlain (line_json label)
+line_plain label =
+    let kind = line_printable (kind_of label.line).text (label_printable (kind_of label.line)) in
+    assumption (kind, word_printable (membership_value label.membership), value_plain label.line)
+
+pub level_plain : (level : Level) → IsPrintable (level_word level)
+level_plain level = line_printable (level_word level) (level_printable level)
+
+warning_plain : (warning : WarningValue) → IsPlain (warning_json warning)
+warning_plain warning = assumption (
+  level_plain (level_of warning.cause),
+  number_plain warning.line,
+  name_printable (fixed_name warning.cause),
+  message_printable (Parts (message_parts warning)),
 )
 
-text_has : (has : Bool) (text : List ℕ) → IsPrintable text → HasPrintable (if has then string text else null)
-text_has true text is = is
-text_has false text is = tt
+syntax_plain : (syntax : Syntax) → IsPlain (syntax_json syntax)
+syntax_plain Unstated = tt
+syntax_plain Standard = tt
+syntax_plain StandardWithoutWarnings = tt
 
-value_has : (line : LineValue) → HasPrintable (value_json line)
-value_has (UserAgent value) = text_has _ _ (sanitized_printable value)
-value_has (Allow value) = text_has _ _ (sanitized_printable value)
-value_has (Disallow value) = text_has _ _ (sanitized_printable value)
-value_has (CrawlDelay delay) = number_has delay
-value_has (Sitemap value) = text_has _ _ (sanitized_printable value)
-value_has (Raw body) = text_has _ _ (sanitized_printable body)
-
-line_has : (label : Label) → HasPrintable (line_json label)
-line_has label = (
-  refl,
-  kind_printable label.line,
-  (
-    refl,
-    membership_printable label.membership,
-    (refl, decimal_printable true label.number, (refl, value_has label.line, tt)),
-  ),
+pub audit_plain : (has_rows : Bool) (audit : AuditValue) → IsPlain (audit_json has_rows audit)
+audit_plain has_rows audit = search (
+  list_plain agent_json agent_plain,
+  syntax_plain,
+  list_plain line_json line_plain,
+  list_plain sanitized_json sanitized_printable,
+  list_plain warning_json warning_plain,
 )
-
-warning_has : (warning : WarningValue) → HasPrintable (warning_json warning)
-warning_has warning = (
-  refl,
-  word_printable (level_of warning.cause),
-  (
-    refl,
-    number_has warning.line,
-    (refl, names_printable warning.cause, (refl, text_printable warning, tt)),
-  ),
-)
-
-syntax_has : (syntax : Syntax) → HasPrintable (syntax_json syntax)
-syntax_has Unstated = tt
-syntax_has Standard = tt
-syntax_has StandardWithoutWarnings = tt
 
 pub json_printable : (has_rows : Bool) (audit : AuditValue) → IsPrintable (json_text has_rows audit)
-json_printable has_rows audit =
-    append_printable true (compact_text (audit_json has_rows audit)) (lf ∷ [])
-    (data_printable (audit_json has_rows audit) are) (ascii_printable true (lf ∷ []) refl)
-  where
-    are : HasPrintable (audit_json has_rows audit)
-    are = (
-      refl,
-      list_has agent_json agent_has audit.agents,
-      (
-        refl,
-        syntax_has audit.syntax,
-        (
-          refl,
-          list_has line_json line_has (if has_rows then audit.labels else []),
-          (
-            refl,
-            list_has sanitized_json sanitized_printable (sitemaps_in (lines_of audit.labels)),
-            (refl, list_has warning_json warning_has audit.warnings, tt),
-          ),
-        ),
-      ),
-    )
+json_printable has_rows audit = plain_printable (audit_json has_rows audit) (audit_plain has_rows audit)
+
+pub audit_whole : (has_rows : Bool) (audit : AuditValue) → has_float (audit_json has_rows audit) ≡ false
+audit_whole has_rows audit = plain_whole (audit_json has_rows audit) (audit_plain has_rows audit)

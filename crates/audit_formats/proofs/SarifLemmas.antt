@@ -1,51 +1,33 @@
 -- The SARIF log contains no floating-point number, and no control or bidirectional-formatting characters
 -- other than LF. Its messages show the texts that they are made of.
-use Rattle.std.proofs.Common.{◌≡◌, ℕ, ◌/◌, ◌%◌, ◌<◌, ◌==◌, Bool, true, false, List, [], ◌∷◌, ◌++◌, Option}
+use Rattle.std.proofs.Common.{◌≡◌, ℕ, ◌/◌, ◌%◌, ◌<◌, ◌==◌, Bool, true, false, List, [], ◌∷◌, ◌++◌}
 use Rattle.std.proofs.Common.{Some, None}
-use Rattle.std.proofs.Common.{ap, append-nil, arith, codes, flat_map, inl, inr, refl, sym, unwrap_or, ◌∙◌}
-use Rattle.std.specs.Prelude.{IsTrue, bytes_eq, if◌then◌else◌, not, option_map, ◌&&◌, ◌||◌}
-use Rattle.std.specs.List.{AllByRecursion as Each, list_all}
+use Rattle.std.proofs.Common.{ap, ap₂, append-nil, arith, flat_map, inl, inr, map, refl, sym, ◌∙◌}
+use Rattle.std.specs.Prelude.{if◌then◌else◌, option_map, ◌&&◌}
+use Rattle.std.specs.List.{list_all}
 use Rattle.std.specs.Fmt.{digit_glyph}
 use Rattle.std.specs.Str.{IsUtf8, all_scalars, chars, encode_utf8_all}
-use Rattle.std.proofs.lemmas.Bool.{agree_below_at, and_parts, cases_Bool, cases_lt}
+use Rattle.std.proofs.lemmas.Bool.{and_parts, cases_Bool}
 use Rattle.std.proofs.lemmas.Bool.Decides.{nat_tests}
 use Rattle.std.proofs.lemmas.List.Folds.{list_all-append}
 use Rattle.std.proofs.lemmas.Grind.{flat_map-append}
 use Rattle.std.proofs.lemmas.Str.{chars-encodes, encodes-append, scalars-chars}
-use Rattle.serde_json.specs.Written.{compact_text, has_float}
-use Rattle.texting_robots.proofs.TrimLemmas.{each_append}
-use Rattle.robots_io.specs.Lines.{lf}
 use Rattle.percent_encoding.specs.Percent.{percent_encode_byte}
 use Rattle.robots_io.specs.Sanitize.{IsPrintable, is_printable, is_printable_byte}
-use Rattle.robots_io.proofs.SanitizeLemmas.{append_printable, ascii_printable, chars_printable}
-use Rattle.robots_io.proofs.SanitizeLemmas.{decimal_printable, flat_printable}
-use Rattle.robots_warnings.specs.declared.table.Cause.{Cause}
-use Rattle.robots_warnings.specs.Table.{all_causes, name_of, text_of}
-use Rattle.robots_warnings.proofs.PrintableLemmas.{example_printable, names_printable, texts_printable}
-use Rattle.robots_warnings.proofs.PrintableLemmas.{word_printable}
-use Rattle.audit_core.proofs.ListLemmas.{either_printable}
-use Rattle.audit_formats.specs.Findings.{FindingValue}
-use Rattle.audit_formats.specs.Sarif.{RuleValue, all_rules, denied_rule, has_name, help_text, is_brace}
-use Rattle.audit_formats.specs.Sarif.{is_escape}
-use Rattle.audit_formats.specs.Sarif.{is_uri_byte, literal_char, literal_text, log_json, message_json}
-use Rattle.audit_formats.specs.Sarif.{needless_text, one_slash}
-use Rattle.audit_formats.specs.Sarif.{place_json, rejected_rule, result_json, rule_json, rule_of}
-use Rattle.audit_formats.specs.Sarif.{rule_unless_later, rules_of, sarif_text, shown, shown_after}
-use Rattle.audit_formats.specs.Sarif.{takes_backslash, tool_json, uri_byte, uri_of}
-use Rattle.audit_formats.proofs.FindingLemmas.{HasPrintableTexts}
-use Rattle.audit_formats.proofs.JsonLemmas.{HasPrintable, data_printable, each_has, list_without_float}
+use Rattle.robots_io.proofs.SanitizeLemmas.{ascii_printable, chars_printable, flat_printable}
+use Rattle.robots_text.specs.Level.{level_word}
+use Rattle.robots_warnings.specs.Table.{all_causes, example_of, level_of, name_of, text_of}
+use Rattle.audit_core.specs.Audit.{AuditValue}
+use Rattle.audit_formats.specs.Findings.{FindingValue, Found, all_found, findings, found_value, message_of}
+use Rattle.audit_formats.specs.Json.{list_json}
+use Rattle.audit_formats.specs.Sarif.{RuleValue, all_rules, help_text, is_brace, is_uri_byte}
+use Rattle.audit_formats.specs.Sarif.{literal_char, literal_text, log_json, message_json, one_slash}
+use Rattle.audit_formats.specs.Sarif.{result_json, rule_json, sarif_text, shown, shown_after}
+use Rattle.audit_formats.specs.Sarif.{takes_backslash, uri_byte, uri_of}
+use Rattle.audit_formats.proofs.FindingLemmas.{message_printable, name_printable}
+use Rattle.serde_json.specs.Written.{has_float}
+use Rattle.audit_formats.proofs.JsonLemmas.{IsPlain, level_plain, plain_printable, plain_whole}
 use lib.Utf8.{scalar}
-
--- ---- floats
-
-result_without_float : (uri : List ℕ) (finding : FindingValue) → has_float (result_json uri finding) ≡ false
-result_without_float uri finding = refl
-
-pub no_float : (uri : List ℕ) (findings : List FindingValue) → has_float (log_json uri findings) ≡ false
-no_float uri findings = rw (
-  list_without_float (result_json uri) (result_without_float uri) findings,
-  list_without_float rule_json (λ rule. refl) all_rules,
-) refl
 
 -- ---- messages
 
@@ -64,32 +46,13 @@ literal_next yielded char message new so_far added =
 same_char : (char : ℕ) → (char == char) ≡ true
 same_char char = grind (arith, nat_tests)
 
-escape_begins : (char : ℕ) (message : List ℕ) → (is_brace char || takes_backslash char) ≡ true
-    → shown_after None (char ∷ message) ≡ shown_after (Some char) message
-escape_begins char message is = rw is refl
-
-escape_ends : (first char : ℕ) (message : List ℕ) → is_escape first char ≡ true
-    → shown_after (Some first) (char ∷ message)
-    ≡ option_map (λ shown. char ∷ shown) (shown_after None message)
-escape_ends first char message is = rw is refl
-
-shows_itself : (char : ℕ) (message : List ℕ) → (is_brace char || takes_backslash char) ≡ false
-    → shown_after None (char ∷ message) ≡ option_map (λ shown. char ∷ shown) (shown_after None message)
-shows_itself char message isnt = rw isnt refl
-
 shown_char : (char : ℕ) (message : List ℕ) → shown_after None (literal_char char ++ message)
     ≡ option_map (λ shown. char ∷ shown) (shown_after None message)
 shown_char char message = elim (cases_Bool (is_brace char)) [
-  | inl brace ↦
-      let special : (is_brace char || takes_backslash char) ≡ true = rw brace refl in
-      let escape : is_escape char char ≡ true = rw (brace, same_char char) refl in
-      rw brace (escape_begins char (char ∷ message) special ∙ escape_ends char char message escape)
+  | inl brace ↦ rw (brace, brace, same_char char) refl
   | inr isnt ↦ elim (cases_Bool (takes_backslash char)) [
-    | inl takes ↦ rw (isnt, takes)
-        (escape_begins 92 (char ∷ message) refl ∙ escape_ends 92 char message takes)
-    | inr ordinary ↦
-        let plain : (is_brace char || takes_backslash char) ≡ false = rw (isnt, ordinary) refl in
-        rw (isnt, ordinary) (shows_itself char message plain)
+    | inl takes ↦ rw (isnt, takes, takes) refl
+    | inr ordinary ↦ rw (isnt, ordinary, isnt, ordinary) refl
   ]
 ]
 
@@ -140,19 +103,8 @@ literal_printable text is =
 
 -- ---- strings
 
--- if the byte is unchanged, it is printable
-abbrev stays_printable : ℕ → Bool
-stays_printable b = not (is_uri_byte b) || is_printable_byte true b
-
 kept_printable : (b : ℕ) → is_uri_byte b ≡ true → is_printable_byte true b ≡ true
-kept_printable b is = elim (cases_lt b 128) [
-  | inl low ↦
-      let stays = agree_below_at stays_printable (λ _. true) 128 b refl low in
-      rw is at stays
-  | inr high ↦
-      let isnt : is_uri_byte b ≡ false = grind (arith, nat_tests) in
-      absurd (cc)
-]
+kept_printable b is = grind (arith, nat_tests)
 
 glyph : (digit : ℕ) → digit < 16 → is_printable_byte true (digit_glyph true digit) ≡ true
 glyph digit below = grind (arith, nat_tests)
@@ -170,127 +122,62 @@ uri_byte_printable b = ascii_printable true (uri_byte b) (elim (cases_Bool (is_u
 uri_printable : (file : List ℕ) → IsPrintable (uri_of file)
 uri_printable file = flat_printable true uri_byte uri_byte_printable (one_slash file)
 
-message_has : (text : List ℕ) → IsPrintable text → HasPrintable (message_json text)
-message_has text is = (refl, literal_printable text is, tt)
+message_plain : (text : List ℕ) → IsPrintable text → IsPlain (message_json text)
+message_plain text is = (refl, literal_printable text is, tt)
 
-abbrev IsPrintableRule : RuleValue → Type 0
-IsPrintableRule rule = IsPrintable rule.name × IsPrintable rule.text × IsPrintable rule.example
+-- ---- rules
 
-help_printable : (example : List ℕ) → IsPrintable example → IsPrintable (help_text example)
-unfolding help_text
-help_printable example is =
-    append_printable true (codes "for example:\n") example
-    (ascii_printable true (codes "for example:\n") refl) is
+-- the texts of a rule are printable ASCII and LF
+abbrev is_ascii_rule : RuleValue → Bool
+is_ascii_rule rule =
+    list_all (list_all (is_printable_byte true))
+    (rule.name ∷ rule.text ∷ help_text rule.example ∷ level_word rule.level ∷ [])
 
-rule_has : (rule : RuleValue) → IsPrintableRule rule → HasPrintable (rule_json rule)
-rule_has rule (name, text, example) = (
-  refl,
-  (refl, word_printable rule.level, tt),
-  (
-    refl,
-    message_has rule.text text,
-    (
-      refl,
-      message_has (help_text rule.example) (help_printable rule.example example),
-      (refl, name, (refl, message_has rule.text text, tt)),
-    ),
-  ),
+rules_ascii : list_all is_ascii_rule all_rules ≡ true
+unfolding all_causes name_of text_of example_of level_of help_text
+rules_ascii = refl
+
+rules_plain : (rules : List RuleValue) → list_all is_ascii_rule rules ≡ true
+    → IsPlain (list_json rule_json rules)
+rules_plain [] are = tt
+rules_plain (rule ∷ rules) are =
+    let both = and_parts (is_ascii_rule rule) (list_all is_ascii_rule rules) are in
+    let name = and_parts (list_all (is_printable_byte true) rule.name) _ both.0 in
+    let text = and_parts (list_all (is_printable_byte true) rule.text) _ name.1 in
+    let help = and_parts (list_all (is_printable_byte true) (help_text rule.example)) _ text.1 in
+    let described = message_plain rule.text (ascii_printable true rule.text text.0) in
+    let helped = message_plain (help_text rule.example) (ascii_printable true (help_text rule.example) help.0) in
+    let named = ascii_printable true rule.name name.0 in
+    let first : IsPlain (rule_json rule) = assumption (described, helped, named, level_plain rule.level) in
+    (first, rules_plain rules both.1)
+
+-- ---- the log
+
+result_plain : (file : List ℕ) (found : Found) → IsPlain (result_json (uri_of file) (found_value found))
+result_plain file found = assumption (
+  level_plain found.level,
+  uri_printable file,
+  message_plain (message_of found.message) (message_printable found.message),
+  name_printable found.name,
 )
 
-rule_printable : (all : List Cause) (cause : Cause) → IsPrintableRule (rule_of all cause)
-rule_printable all cause = (
-  names_printable cause,
-  either_printable true (bytes_eq (name_of cause) (codes "needless-rule")) needless_text (text_of cause)
-      (ascii_printable true needless_text refl) (texts_printable cause),
-  example_printable cause,
+results_plain : (file : List ℕ) (all : List Found)
+    → IsPlain (list_json (result_json (uri_of file)) (map found_value all))
+results_plain file [] = tt
+results_plain file (found ∷ all) = (result_plain file found, results_plain file all)
+
+pub log_plain : (file : List ℕ) (audit : AuditValue) → IsPlain (log_json (uri_of file) (findings audit))
+log_plain file audit = search (
+  ascii_printable true,
+  results_plain file (all_found audit),
+  rules_plain all_rules rules_ascii,
 )
 
-rules_printable : (all causes : List Cause) → Each IsPrintableRule (rules_of all causes)
-rules_printable all [] = tt
-rules_printable all (cause ∷ later) =
-    each_append IsPrintableRule (rule_unless_later all cause later) (rules_of all later)
-    (either (has_name (name_of cause) later)) (rules_printable all later)
-  where
-    either : (again : Bool) → Each IsPrintableRule (if again then [] else rule_of all cause ∷ [])
-    either true = tt
-    either false = (rule_printable all cause, tt)
+pub sarif_printable : (file : List ℕ) (audit : AuditValue) → IsPrintable (sarif_text file (findings audit))
+sarif_printable file audit = plain_printable (log_json (uri_of file) (findings audit)) (log_plain file audit)
 
-ascii_rule : (rule : RuleValue) → IsTrue (list_all (is_printable_byte true) rule.name)
-    → IsTrue (list_all (is_printable_byte true) rule.text)
-    → IsTrue (list_all (is_printable_byte true) rule.example) → IsPrintableRule rule
-ascii_rule rule name text example = (
-  ascii_printable true rule.name name,
-  ascii_printable true rule.text text,
-  ascii_printable true rule.example example,
-)
-
-all_rules_printable : Each IsPrintableRule all_rules
-all_rules_printable = (
-  ascii_rule denied_rule refl refl refl,
-  (ascii_rule rejected_rule refl refl refl, rules_printable all_causes all_causes),
-)
-
-rules_have : (rules : List RuleValue) → Each IsPrintableRule rules
-    → Each (λ rule. HasPrintable (rule_json rule)) rules
-rules_have [] are = tt
-rules_have (rule ∷ rules) (first, later) = (rule_has rule first, rules_have rules later)
-
-place_has : (uri : List ℕ) (line : Option ℕ) → IsPrintable uri → HasPrintable (place_json uri line)
-place_has uri line is =
-    (refl, (refl, is, tt), (refl, (refl, decimal_printable true (unwrap_or line 1), tt), tt))
-
-result_has : (uri : List ℕ) (finding : FindingValue) → IsPrintable uri → HasPrintableTexts finding
-    → HasPrintable (result_json uri finding)
-result_has uri finding is (name, message) = (
-  refl,
-  word_printable finding.level,
-  (
-    refl,
-    ((refl, place_has uri finding.line is, tt), tt),
-    (refl, message_has finding.message message, (refl, name, tt)),
-  ),
-)
-
-results_have : (uri : List ℕ) (findings : List FindingValue) → IsPrintable uri
-    → Each HasPrintableTexts findings → Each (λ finding. HasPrintable (result_json uri finding)) findings
-results_have uri [] is are = tt
-results_have uri (finding ∷ findings) is (first, later) =
-    (result_has uri finding is first, results_have uri findings is later)
-
-tool_has : HasPrintable tool_json
-tool_has = (
-  refl,
-  (
-    refl,
-    ascii_printable true (codes "robots_audit") refl,
-    (
-      refl,
-      each_has rule_json all_rules (rules_have all_rules all_rules_printable),
-      (refl, ascii_printable true (codes "1.0.0") refl, tt),
-    ),
-  ),
-  tt,
-)
-
-pub sarif_printable : (file : List ℕ) (findings : List FindingValue) → Each HasPrintableTexts findings
-    → IsPrintable (sarif_text file findings)
-sarif_printable file findings are =
-    let uri = uri_of file in
-    append_printable true (compact_text (log_json uri findings)) (lf ∷ [])
-    (data_printable (log_json uri findings) (
-      refl,
-      ascii_printable true (codes "https://json.schemastore.org/sarif-2.1.0.json") refl,
-      (
-        refl,
-        (
-          (
-            refl,
-            each_has (result_json uri) findings (results_have uri findings (uri_printable file) are),
-            (refl, tool_has, tt),
-          ),
-          tt,
-        ),
-        (refl, ascii_printable true (codes "2.1.0") refl, tt),
-      ),
-    ))
-    (ascii_printable true (lf ∷ []) refl)
+pub log_whole : (file uri : List ℕ) (audit : AuditValue) (all : List FindingValue) → uri ≡ uri_of file
+    → all ≡ findings audit → has_float (log_json uri all) ≡ false
+log_whole file uri audit all named are =
+    ap₂ (λ (uri : List ℕ) (all : List FindingValue). has_float (log_json uri all)) named are
+    ∙ plain_whole (log_json (uri_of file) (findings audit)) (log_plain file audit)

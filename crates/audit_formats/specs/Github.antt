@@ -4,56 +4,52 @@
 --
 -- In messages `%`, CR and LF are escaped, in properties also `:` and `,`: a text ends neither its property
 -- nor its line.
-use Rattle.std.specs.Prelude.{ℕ, Bool, List, [], ◌∷◌, ◌++◌, ◌==◌, ◌||◌, not, Option, Some, None, codes}
-use Rattle.std.specs.Prelude.{decimal}
+use Rattle.std.specs.Prelude.{ℕ, Bool, true, false, List, [], ◌∷◌, ◌++◌, ◌==◌, ◌&&◌, ◌||◌, not, Option, Some}
+use Rattle.std.specs.Prelude.{None, codes, decimal}
 use Rattle.std.specs.Prelude.{flat_map, if◌then◌else◌, map}
 use Rattle.std.specs.List.{list_all}
 use Rattle.std.specs.Str.{byte}
+use Rattle.std.proofs.Common.{refl}
 use Rattle.robots_io.specs.Lines.{ended}
 use Rattle.robots_io.specs.Sanitize.{sanitized}
 use Rattle.robots_text.specs.declared.level.Level.{Level}
 use Rattle.robots_text.specs.declared.level.Level.TheVariants.{Error, Note, Warning}
+use Rattle.robots_text.specs.Text.{Label, label}
 use Rattle.audit_formats.specs.Findings.{FindingValue}
 
 -- ---- escaping
 
--- a byte of a message
-abbrev pub message_byte : ℕ → List ℕ
-message_byte b =
+-- a byte of a property or of a message
+abbrev pub escaped_byte : (is_property : Bool) → ℕ → List ℕ
+escaped_byte is_property b =
     if b == byte "%" then codes "%25" else if b == 13 then codes "%0D" else if b == 10 then codes "%0A"
-    else b ∷ []
+    else if b == byte ":" && is_property then codes "%3A"
+    else if b == byte "," && is_property then codes "%2C" else b ∷ []
 
--- a byte of a property
-abbrev pub property_byte : ℕ → List ℕ
-property_byte b =
-    if b == byte ":" then codes "%3A" else if b == byte "," then codes "%2C" else message_byte b
-
-abbrev pub message_text : List ℕ → List ℕ
-message_text text = flat_map message_byte text
+abbrev pub escaped : (is_property : Bool) → List ℕ → List ℕ
+escaped is_property text = flat_map (escaped_byte is_property) text
 
 abbrev pub property_text : List ℕ → List ℕ
-property_text text = flat_map property_byte text
+property_text = escaped true
 
 -- ---- commands
 
--- GitHub's word for a note is `notice`
-abbrev pub command_word : Level → List ℕ
-command_word Error = codes "error"
-command_word Warning = codes "warning"
-command_word Note = codes "notice"
+-- the command up to the name of the file; GitHub's word for a note is `notice`
+abbrev pub command_label : Level → Label
+command_label Error = label (codes "::error file=") refl
+command_label Warning = label (codes "::warning file=") refl
+command_label Note = label (codes "::notice file=") refl
 
 abbrev pub line_property : Option ℕ → List ℕ
 line_property None = []
-line_property (Some line) = codes ",line=" ++ decimal line
+line_property (Some line) = codes ",line=" ++ property_text (decimal line)
 
--- the command up to its message; `file` is the sanitized name of the file
-abbrev pub command_front : List ℕ → FindingValue → List ℕ
-command_front file finding =
-    codes "::" ++ (command_word finding.level ++ (codes " file=" ++ (property_text file
-    ++ (line_property finding.line ++ (codes ",title=" ++ (property_text finding.name ++ codes "::"))))))
-
+-- the command for a finding; `file` is the sanitized name of the file
 abbrev pub command : List ℕ → FindingValue → List ℕ
-command file finding = command_front file finding ++ message_text finding.message
+command file finding =
+    (command_label finding.level).text
+    ++ (property_text file ++ (line_property finding.line ++ (codes ",title=" ++ (property_text finding.name
+    ++ (codes "::" ++ escaped false finding.message)))))
 
 -- the commands for the findings in the file with this name
 abbrev pub github_text : List ℕ → List FindingValue → List ℕ

@@ -14,10 +14,11 @@ use Rattle.robots_warnings.specs.File.{lines_of}
 use Rattle.robots_text.specs.Level.{level_word}
 use Rattle.audit_core.specs.Syntax.{is_standard}
 use Rattle.audit_core.specs.declared.syntax.Syntax.{Syntax}
-use Rattle.audit_core.specs.Rows.{has_value, kind_text, value_text, membership_word}
+use Rattle.audit_core.specs.Rows.{has_value, kind_text, line_value_text, membership_word}
 use Rattle.robots_io.specs.Sanitize.{sanitized}
 use Rattle.robots_warnings.specs.Table.{level_of, name_of}
-use Rattle.robots_warnings.specs.Warnings.{WarningValue, warning_text}
+use Rattle.robots_warnings.specs.Message.{warning_text}
+use Rattle.robots_warnings.specs.WarningValue.{WarningValue}
 
 -- ---- values
 
@@ -63,7 +64,7 @@ agent_json agent = object
 -- a delay in microseconds; for other lines the sanitized value; null if there is no value
 abbrev pub value_json : LineValue → Data
 value_json (CrawlDelay delay) = number_json delay
-value_json line = if has_value line then string (value_text line) else null
+value_json line = if has_value line then string (line_value_text line) else null
 
 -- a line of the file: its directive, its number, its membership and its value
 abbrev pub line_json : Label → Data
@@ -96,6 +97,9 @@ audit_json has_rows audit = object
     (member (codes "sitemaps") (list_json sanitized_json (sitemaps_in (lines_of audit.labels)))
     (member (codes "warnings") (list_json warning_json audit.warnings) no_members)))))
 
--- the JSON object in one line
+-- a value in one line
+abbrev pub json_line : Data → List ℕ
+json_line value = compact_text value ++ lf ∷ []
+
 abbrev pub json_text : Bool → AuditValue → List ℕ
-json_text has_rows audit = compact_text (audit_json has_rows audit) ++ lf ∷ []
+json_text has_rows audit = json_line (audit_json has_rows audit)

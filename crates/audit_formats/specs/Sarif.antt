@@ -10,15 +10,13 @@ use Rattle.std.specs.Str.{byte, chars}
 use Rattle.percent_encoding.specs.Percent.{percent_encode_byte}
 use Rattle.serde_json.specs.Data.{Data, array, item, member, no_items, no_members, number, object, string}
 use Rattle.serde_json.specs.Data.{unsigned}
-use Rattle.serde_json.specs.Written.{compact_text}
-use Rattle.robots_io.specs.Lines.{lf}
 use Rattle.robots_text.specs.declared.level.Level.{Level}
 use Rattle.robots_text.specs.declared.level.Level.TheVariants.{Error, Note, Warning}
 use Rattle.robots_warnings.specs.declared.table.Cause.{Cause}
 use Rattle.robots_text.specs.Level.{level_word, reaches}
 use Rattle.robots_warnings.specs.Table.{all_causes, example_of, level_of, name_of, text_of}
 use Rattle.audit_formats.specs.Findings.{FindingValue}
-use Rattle.audit_formats.specs.Json.{list_json}
+use Rattle.audit_formats.specs.Json.{json_line, list_json}
 
 -- ---- the URI reference of a file
 
@@ -229,9 +227,6 @@ log_json uri findings = object
     (member (codes "runs") (array (item (run_json uri findings) no_items))
     (member (codes "version") (string (codes "2.1.0")) no_members)))
 
-abbrev pub log_text : List ℕ → List FindingValue → List ℕ
-log_text uri findings = compact_text (log_json uri findings) ++ lf ∷ []
-
 -- the log of the findings in the file with this name
 abbrev pub sarif_text : List ℕ → List FindingValue → List ℕ
-sarif_text file findings = log_text (uri_of file) findings
+sarif_text file findings = json_line (log_json (uri_of file) findings)

@@ -1,15 +1,16 @@
 //! What an audit found, as one list, for formats that don't distinguish verdicts and warnings.
-ghost use Rattle.std.specs.Prelude.{◌≡◌, ◌++◌, ◌∷◌, [], IfOk, OnOk, codes, flat_map, map, string_bytes};
+ghost use Rattle.std.specs.Prelude.{◌≡◌, ◌++◌, ◌∷◌, [], IfOk, OnOk, flat_map, map, string_bytes};
 ghost use Rattle.robots_io.specs.Sanitize.{sanitized};
-ghost use Rattle.robots_warnings.specs.Internal.{warning_value};
-ghost use Rattle.audit_formats.specs.Findings.{agent_findings, denials, denied_text, finding_in_part, findings, is_in_part, rejections, warning_finding, warning_findings};
-ghost use Rattle.audit_core.specs.Internal.{agent_value, audit_value, verdict_value};
+ghost use Rattle.robots_text.specs.Raw.{raw_line};
+ghost use Rattle.robots_text.specs.Text.{parts_text};
+ghost use Rattle.audit_formats.specs.Findings.{agent_findings, denials, denied_parts, finding_in_part, findings, found_value, is_in_part, rejections, warning_finding, warning_findings};
 ghost use Rattle.audit_formats.specs.Internal.{finding_value};
 
 use audit_core::audit::{AgentAudit, Audit, Verdict};
-use audit_core::texts::push_rejected_text;
+use audit_core::texts::rejected_parts;
 use robots_io::sanitize::push_sanitized;
 use robots_text::level::Level;
+use robots_text::parts::{Part, Value, push_parts};
 use robots_warnings::warning::{Warning, push_warning_text};
 use std::alloc::{AllocError, Global};
 
@@ -24,26 +25,20 @@ pub(crate) struct Finding {
 
 pub(crate) type Findings = Vec<Finding>;
 
-/// Appends two sanitized texts, and a third one between them.
-fn push_between(
-    text: &mut String,
-    first: &str,
-    between: &str,
-    second: &str,
-) -> Result<(), AllocError>
-    ensures { OnOk result (string_bytes text.new ≡ string_bytes text.old
-        ++ (sanitized first.now ++ (between.now ++ sanitized second.now))) }
+/// That a crawler, whose name comes before this, may not fetch the URL.
+fn denied_parts<'a>(url: &'a str) -> [Part<'a>; 1]
+    ensures { raw_line result ≡ parts_text (denied_parts url.entry.now) }
 {
-    push_sanitized(text, first.as_bytes())?;
-    text.push_str(between)?;
-    push_sanitized(text, second.as_bytes())
+    [Part(" may not fetch ", Value::Untrusted(url.as_bytes()))]
 }
 
 /// Appends that the crawler may not fetch the URL.
 fn push_denied(text: &mut String, agent: &str, url: &str) -> Result<(), AllocError>
-    ensures { OnOk result (string_bytes text.new ≡ string_bytes text.old ++ denied_text agent.now url.now) }
+    ensures { OnOk result (string_bytes text.new
+        ≡ string_bytes text.old ++ (sanitized agent.now ++ parts_text (denied_parts url.now))) }
 {
-    push_between(text, agent, " may not fetch ", url)
+    push_sanitized(text, agent.as_bytes())?;
+    push_parts(text, &denied_parts(url))
 }
 
 /// Adds that the crawler may not fetch the URL, if the verdict says so.
@@ -54,7 +49,7 @@ fn add_denial(
     verdict: &Verdict<'_>,
 ) -> Result<(), AllocError>
     ensures { OnOk result (map finding_value found.new.items
-        ≡ map finding_value found.old.items ++ denials agent.now (verdict_value verdict.now)) }
+        ≡ map finding_value found.old.items ++ map found_value (denials agent.now verdict.now)) }
 {
     if verdict.decision.allowed {
         return Ok(());
@@ -77,7 +72,7 @@ fn add_denials(
     verdicts: &[Verdict<'_>],
 ) -> Result<(), AllocError>
     ensures { OnOk result (map finding_value found.new.items
-        ≡ map finding_value found.old.items ++ flat_map (denials agent.now) (map verdict_value verdicts.now)) }
+        ≡ map finding_value found.old.items ++ map found_value (flat_map (denials agent.now) verdicts.now)) }
 {
     for verdict in verdicts {
         add_denial(alloc, found, agent, verdict)?;
@@ -93,13 +88,13 @@ fn add_rejection(
     rejected: Option<usize>,
 ) -> Result<(), AllocError>
     ensures { OnOk result (map finding_value found.new.items
-        ≡ map finding_value found.old.items ++ rejections agent.now rejected) }
+        ≡ map finding_value found.old.items ++ map found_value (rejections agent.now rejected)) }
 {
     let Some(line) = rejected else {
         return Ok(());
     };
     let mut message = String::new(alloc);
-    push_rejected_text(&mut message, agent, line)?;
+    push_parts(&mut message, &rejected_parts(agent, line))?;
     Ok(found.push(Finding {
         level: Level::Error,
         line: rejected,
@@ -111,7 +106,7 @@ fn add_rejection(
 /// Adds what is wrong for a crawler.
 fn add_agent(alloc: Global, found: &mut Findings, agent: &AgentAudit<'_>) -> Result<(), AllocError>
     ensures { OnOk result (map finding_value found.new.items
-        ≡ map finding_value found.old.items ++ agent_findings (agent_value agent.now)) }
+        ≡ map finding_value found.old.items ++ map found_value (agent_findings agent.now)) }
 {
     add_rejection(alloc, found, &agent.agent, agent.rejected)?;
     add_denials(alloc, found, &agent.agent, &agent.verdicts)
@@ -124,7 +119,7 @@ fn add_agents(
     agents: &[AgentAudit<'_>],
 ) -> Result<(), AllocError>
     ensures { OnOk result (map finding_value found.new.items
-        ≡ map finding_value found.old.items ++ flat_map agent_findings (map agent_value agents.now)) }
+        ≡ map finding_value found.old.items ++ map found_value (flat_map agent_findings agents.now)) }
 {
     for agent in agents {
         add_agent(alloc, found, agent)?;
@@ -135,7 +130,7 @@ fn add_agents(
 /// Adds a warning.
 fn add_warning(alloc: Global, found: &mut Findings, warning: &Warning<'_>) -> Result<(), AllocError>
     ensures { OnOk result (map finding_value found.new.items
-        ≡ map finding_value found.old.items ++ warning_finding (warning_value warning.now) ∷ []) }
+        ≡ map finding_value found.old.items ++ map found_value (warning_finding warning.now ∷ [])) }
 {
     let mut message = String::new(alloc);
     push_warning_text(&mut message, warning)?;
@@ -149,7 +144,7 @@ fn add_warning(alloc: Global, found: &mut Findings, warning: &Warning<'_>) -> Re
 
 /// Whether a warning is in the part with the errors, or in the one with the others.
 fn is_in_part(errors: bool, warning: &Warning<'_>) -> bool
-    ensures { result ≡ is_in_part errors (warning_value warning.now) }
+    ensures { result ≡ is_in_part errors warning.now }
 {
     let is_error = warning.cause.level().reaches(Level::Error);
     if errors { is_error } else { !is_error }
@@ -163,7 +158,7 @@ fn add_in_part(
     warning: &Warning<'_>,
 ) -> Result<(), AllocError>
     ensures { OnOk result (map finding_value found.new.items
-        ≡ map finding_value found.old.items ++ finding_in_part errors (warning_value warning.now)) }
+        ≡ map finding_value found.old.items ++ map found_value (finding_in_part errors warning.now)) }
 {
     if is_in_part(errors, warning) {
         add_warning(alloc, found, warning)?;
@@ -179,7 +174,7 @@ fn add_warnings(
     warnings: &[Warning<'_>],
 ) -> Result<(), AllocError>
     ensures { OnOk result (map finding_value found.new.items
-        ≡ map finding_value found.old.items ++ warning_findings errors (map warning_value warnings.now)) }
+        ≡ map finding_value found.old.items ++ map found_value (warning_findings errors warnings.now)) }
 {
     for warning in warnings {
         add_in_part(alloc, found, errors, warning)?;
@@ -190,7 +185,7 @@ fn add_warnings(
 /// What an audit found: the errors among the warnings; for each crawler why the file is rejected or which URLs are denied;
 /// and then the other warnings.
 pub(crate) fn findings_of(alloc: Global, audit: &Audit<'_, '_>) -> Result<Findings, AllocError>
-    ensures { IfOk result (λ found. map finding_value found.items ≡ findings (audit_value audit.now)) }
+    ensures { IfOk result (λ found. map finding_value found.items ≡ findings audit.now) }
 {
     let mut found = Vec::new(alloc);
     add_warnings(alloc, &mut found, true, &audit.warnings)?;

@@ -1,14 +1,13 @@
 //! The audit as one line of JSON.
-ghost use Rattle.std.specs.Prelude.{◌≡◌, [], IfOk, if◌then◌else◌, map, string_bytes};
+ghost use Rattle.std.specs.Prelude.{◌≡◌, [], false, IfOk, if◌then◌else◌, map, string_bytes};
 ghost use Rattle.serde_json.specs.View.{view};
+ghost use Rattle.serde_json.specs.Written.{has_float};
 ghost use Rattle.texting_robots.specs.Callers.{by_value, label_by_value, sitemaps_in};
-ghost use Rattle.audit_formats.specs.Json.{agent_json, audit_json, group_word, json_text, line_json};
+ghost use Rattle.audit_formats.specs.Json.{agent_json, audit_json, group_word, json_line, json_text, line_json};
 ghost use Rattle.audit_formats.specs.Json.{list_json, sanitized_json, syntax_json, value_json, verdict_json};
 ghost use Rattle.audit_formats.specs.Json.{warning_json};
 ghost use Rattle.audit_core.specs.Rows.{membership_word};
 ghost use Rattle.robots_warnings.specs.File.{lines_of};
-ghost use Rattle.robots_warnings.specs.Internal.{warning_value};
-ghost use Rattle.audit_core.specs.Internal.{agent_value, audit_value, verdict_value};
 
 use audit_core::audit::{AgentAudit, Audit, Verdict};
 use audit_core::group::Group;
@@ -54,9 +53,8 @@ fn sanitized_json(alloc: Global, bytes: &[u8]) -> Result<Value, AllocError>
 
 impl<'a> Json for Verdict<'a> {
     ghost use Rattle.audit_formats.specs.Json.{verdict_json};
-    ghost use Rattle.audit_core.specs.Internal.{verdict_value};
-
-    ghost json = { λ verdict. verdict_json (verdict_value verdict) };
+    
+    ghost json = { λ verdict. verdict_json verdict };
 
     fn json(&self, alloc: Global) -> Result<Value, AllocError> {
         let url = sanitized_json(alloc, self.url.as_bytes())?;
@@ -82,16 +80,15 @@ fn group_word(group: Group) -> &'static str
 
 /// The verdicts as a JSON array.
 fn verdicts_json(alloc: Global, verdicts: &[Verdict<'_>]) -> Result<Value, AllocError>
-    ensures { IfOk result (λ value. view value ≡ list_json verdict_json (map verdict_value verdicts.now)) }
+    ensures { IfOk result (λ value. view value ≡ list_json verdict_json verdicts.now) }
 {
     list_json(alloc, verdicts)
 }
 
 impl<'a> Json for AgentAudit<'a> {
     ghost use Rattle.audit_formats.specs.Json.{agent_json};
-    ghost use Rattle.audit_core.specs.Internal.{agent_value};
-
-    ghost json = { λ agent. agent_json (agent_value agent) };
+    
+    ghost json = { λ agent. agent_json agent };
 
     fn json(&self, alloc: Global) -> Result<Value, AllocError> {
         let name = sanitized_json(alloc, self.agent.as_bytes())?;
@@ -150,9 +147,8 @@ impl<'a> Json for &'a [u8] {
 
 impl<'a> Json for Warning<'a> {
     ghost use Rattle.audit_formats.specs.Json.{warning_json};
-    ghost use Rattle.robots_warnings.specs.Internal.{warning_value};
-
-    ghost json = { λ warning. warning_json (warning_value warning) };
+    
+    ghost json = { λ warning. warning_json warning };
 
     fn json(&self, alloc: Global) -> Result<Value, AllocError> {
         let mut text = String::new(alloc);
@@ -168,14 +164,14 @@ impl<'a> Json for Warning<'a> {
 
 /// What the file means for each crawler, as a JSON array.
 fn agents_json(alloc: Global, agents: &[AgentAudit<'_>]) -> Result<Value, AllocError>
-    ensures { IfOk result (λ value. view value ≡ list_json agent_json (map agent_value agents.now)) }
+    ensures { IfOk result (λ value. view value ≡ list_json agent_json agents.now) }
 {
     list_json(alloc, agents)
 }
 
 /// The warnings as a JSON array.
 fn warnings_json(alloc: Global, warnings: &[Warning<'_>]) -> Result<Value, AllocError>
-    ensures { IfOk result (λ value. view value ≡ list_json warning_json (map warning_value warnings.now)) }
+    ensures { IfOk result (λ value. view value ≡ list_json warning_json warnings.now) }
 {
     list_json(alloc, warnings)
 }
@@ -214,7 +210,7 @@ fn syntax_json(syntax: Syntax) -> Value
 
 /// The audit as a JSON object.
 fn audit_json(alloc: Global, has_rows: bool, audit: &Audit<'_, '_>) -> Result<Value, AllocError>
-    ensures { IfOk result (λ value. view value ≡ audit_json has_rows (audit_value audit.now)) }
+    ensures { IfOk result (λ value. view value ≡ audit_json has_rows audit.now) }
 {
     let agents = agents_json(alloc, &audit.agents)?;
     let syntax = syntax_json(audit.syntax);
@@ -230,11 +226,19 @@ fn audit_json(alloc: Global, has_rows: bool, audit: &Audit<'_, '_>) -> Result<Va
     })
 }
 
-/// The audit as one line of JSON.
-pub fn json_text(alloc: Global, has_rows: bool, audit: &Audit<'_, '_>) -> Result<String, AllocError>
-    ensures { IfOk result (λ text. string_bytes text ≡ json_text has_rows (audit_value audit.now)) }
+/// A value without floating-point numbers, as one line.
+pub(crate) fn json_line(alloc: Global, value: &Value) -> Result<String, AllocError>
+    requires { has_float (view value.now) ≡ false }
+    ensures { IfOk result (λ text. string_bytes text ≡ json_line (view value.now)) }
 {
-    let mut text = audit_json(alloc, has_rows, audit)?.to_string(alloc)?;
+    let mut text = value.to_string(alloc)?;
     text.push('\n')?;
     Ok(text)
+}
+
+/// The audit as one line of JSON.
+pub fn json_text(alloc: Global, has_rows: bool, audit: &Audit<'_, '_>) -> Result<String, AllocError>
+    ensures { IfOk result (λ text. string_bytes text ≡ json_text has_rows audit.now) }
+{
+    json_line(alloc, &audit_json(alloc, has_rows, audit)?)
 }

@@ -2,13 +2,13 @@
 ghost use Rattle.std.specs.Prelude.{◌≡◌, ◌++◌, IfOk, OnOk, encode_utf8_all, map, string_bytes};
 ghost use Rattle.serde_json.specs.View.{view};
 ghost use Rattle.audit_formats.specs.Findings.{findings};
-ghost use Rattle.audit_core.specs.Internal.{audit_value};
 ghost use Rattle.audit_formats.specs.Internal.{finding_value, rule_value};
 ghost use Rattle.audit_formats.specs.Json.{list_json};
-ghost use Rattle.audit_formats.specs.Sarif.{all_rules, begins_with_slash, description_of, has_name, has_name_at, help_text, is_uri_byte, worst_level, literal_char, literal_text, log_json, log_text};
+ghost use Rattle.audit_formats.specs.Sarif.{all_rules, begins_with_slash, description_of, has_name, has_name_at, help_text, is_uri_byte, worst_level, literal_char, literal_text, log_json};
 ghost use Rattle.audit_formats.specs.Sarif.{message_json, one_slash, place_json, result_json, rule_json, rule_unless_later, rules_of, sarif_text, tool_json, uri_byte, uri_of};
 
 use crate::findings::{Finding, findings_of};
+use crate::json::json_line;
 use audit_core::audit::Audit;
 use audit_core::version::VERSION;
 use percent_encoding::percent_encode_byte;
@@ -313,20 +313,11 @@ fn log_json(alloc: Global, uri: &str, findings: &[Finding]) -> Result<Value, All
     })
 }
 
-/// The log of these findings, as one line of JSON.
-fn log_text(alloc: Global, uri: &str, findings: &[Finding]) -> Result<String, AllocError>
-    ensures { IfOk result (λ text. string_bytes text ≡ log_text uri.now (map finding_value findings.now)) }
-{
-    let mut text = log_json(alloc, uri, findings)?.to_string(alloc)?;
-    text.push('\n')?;
-    Ok(text)
-}
-
 /// The log of the findings of an audit of the file with this name, as one line of JSON.
 pub fn sarif_text(alloc: Global, file: &str, audit: &Audit<'_, '_>) -> Result<String, AllocError>
-    ensures { IfOk result (λ text. string_bytes text ≡ sarif_text file.now (findings (audit_value audit.now))) }
+    ensures { IfOk result (λ text. string_bytes text ≡ sarif_text file.now (findings audit.now)) }
 {
     let findings = findings_of(alloc, audit)?;
     let uri = uri_of(alloc, file.as_bytes())?;
-    log_text(alloc, &uri, &findings)
+    json_line(alloc, &log_json(alloc, &uri, &findings)?)
 }

@@ -1,11 +1,10 @@
 use Rattle.std.proofs.Common.{◌≡◌, ◌++◌, flat_map, map, take}
-use Rattle.audit_formats.specs.Findings.{agent_findings}
+use Rattle.audit_formats.specs.Findings.{agent_findings, found_value}
 use Rattle.audit_formats.specs.Internal.{finding_value}
-use Rattle.audit_core.specs.Internal.{agent_value}
 use Rattle.audit_formats.proofs.findings.add_agents.Given as goal
 
 abbrev pub invariant-loop-agent : goal.invariant-loop-agent
 invariant-loop-agent l =
     map finding_value l.found.items
     ≡ map finding_value l.fn.found.items
-    ++ flat_map agent_findings (map agent_value (take l.agent-index l.agents))
+    ++ map found_value (flat_map agent_findings (take l.agent-index l.agents))

@@ -1,6 +1,5 @@
 use Rattle.std.proofs.Common.{◌≡◌, ◌++◌, map, take}
-use Rattle.robots_warnings.specs.Internal.{warning_value}
-use Rattle.audit_formats.specs.Findings.{warning_findings}
+use Rattle.audit_formats.specs.Findings.{warning_findings, found_value}
 use Rattle.audit_formats.specs.Internal.{finding_value}
 use Rattle.audit_formats.proofs.findings.add_warnings.Given as goal
 
@@ -8,4 +7,4 @@ abbrev pub invariant-loop-warning : goal.invariant-loop-warning
 invariant-loop-warning l =
     map finding_value l.found.items
     ≡ map finding_value l.fn.found.items
-    ++ warning_findings l.errors (map warning_value (take l.warning-index l.warnings))
+    ++ map found_value (warning_findings l.errors (take l.warning-index l.warnings))

@@ -1,15 +1,8 @@
-use Rattle.std.proofs.Common.{◌∷◌, ◌++◌, List, [], ap, ℕ, ◌∙◌}
-use Rattle.std.specs.Char.{encode_utf8}
-use Rattle.serde_json.specs.Written.{compact_text, has_float}
-use Rattle.robots_io.specs.Lines.{lf}
-use Rattle.audit_core.specs.Internal.{audit_value}
-use Rattle.audit_formats.proofs.JsonLemmas.{no_float}
+use Rattle.std.proofs.Common.{ap, ◌∙◌}
+use Rattle.serde_json.specs.Written.{has_float}
+use Rattle.audit_formats.proofs.JsonLemmas.{audit_whole}
 use Rattle.audit_formats.proofs.json.json_text.Goals as goal
 
-pub returns : goal.returns
-unfolding encode_utf8
-returns c =
-    let is = c.in_ok-audit_json.ensures in
-    let whole = ap has_float is ∙ no_float c.args.has_rows (audit_value c.args.audit.now) in
-    c.in_ok-push.ensures.bytes
-    ∙ ap (λ (text : List ℕ). text ++ lf ∷ []) (c.in_ok-text.ensures.text whole ∙ ap compact_text is)
+pub json_line-requires : goal.json_line-requires
+json_line-requires c =
+    ap has_float c.in_ok-audit_json.ensures ∙ audit_whole c.args.has_rows c.args.audit.now

@@ -1,7 +1,6 @@
 use Rattle.audit_formats.specs.Json.{warning_json}
-use Rattle.robots_warnings.specs.Internal.{warning_value}
 use Rattle.audit_formats.proofs.JsonLemmas.{listed}
 use Rattle.audit_formats.proofs.json.warnings_json.Goals as goal
 
 pub returns : goal.returns
-returns c = rw (← listed warning_json warning_value c.args.warnings.now) c.list_json.ensures
+returns c = rw (← listed warning_json c.args.warnings.now) c.list_json.ensures
