@@ -74,13 +74,6 @@ fn count(counts: &mut Counts, cause: Cause) -> Result<usize, AllocError>
     Ok(place)
 }
 
-/// The reason for a warning.
-fn cause_of(warning: &Warning<'_>) -> Cause
-    ensures { result ≡ warning.now.cause }
-{
-    warning.cause
-}
-
 /// Counts the warnings with each name and level.
 fn tally_of<'a>(alloc: Global, warnings: &[Warning<'a>]) -> Result<Tally<'a>, AllocError>
     ensures counts { IfOk result (λ tally. AreCounts tally.counts warnings.now) }
@@ -93,7 +86,7 @@ fn tally_of<'a>(alloc: Global, warnings: &[Warning<'a>]) -> Result<Tally<'a>, Al
     let mut listed = Vec::new(alloc);
     let mut unlisted = Vec::new(alloc);
     for warning in warnings {
-        let place = count(&mut counts, cause_of(warning))?;
+        let place = count(&mut counts, warning.cause)?;
         push_if(&mut listed, place < MOST, warning)?;
         push_if(&mut unlisted, place == MOST, warning)?;
     }
@@ -115,7 +108,7 @@ fn more_in(
 {
     let mut found = Vec::with_capacity(alloc, unlisted.len())?;
     for warning in unlisted {
-        let cause = cause_of(warning);
+        let cause = warning.cause;
         let number = counted(counts, cause).saturating_sub(MOST);
         found.push(More { cause, number })?;
     }

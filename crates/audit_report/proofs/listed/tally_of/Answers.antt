@@ -1,6 +1,6 @@
-use Rattle.std.proofs.Common.{◌<◌, ap, arith, ◌==◌, ◌∙◌}
+use Rattle.std.proofs.Common.{◌<◌, ap, arith, take, ◌==◌, ◌∙◌}
 use Rattle.std.specs.Bool.{nat_lt}
-use Rattle.audit_report.specs.Listed.{most}
+use Rattle.audit_report.specs.Listed.{count_like, most}
 use Rattle.robots_warnings.specs.WarningValue.{WarningValue}
 use Rattle.audit_report.proofs.ListedLemmas.{counted_next, counted_fits, placed_next}
 use Rattle.audit_report.proofs.listed.tally_of.Goals as goal
@@ -16,11 +16,12 @@ loop-warning-preserved c =
     let warnings = c.args.warnings.now in
     let at = c.loop-warning.warning-index in
     let so_far = c.loop-warning.invariant in
-    let is = c.cause_of.ensures ∙ ap (λ (warning : WarningValue). warning.cause) c.warning-item.is in
-    let place = rw is at (c.in_ok-place.ensures.place ∙ so_far.counts _ _) in
+    let same = ap (λ (warning : WarningValue). warning.cause) (c.warning.view_is ∙ c.warning-item.is) in
+    let place = c.in_ok-place.ensures.place ∙ so_far.counts _ _
+    ∙ ap (λ cause. count_like cause (take at warnings)) same in
     record {
-      counts = counted_next c.loop-warning.counts c.count.new.counts warnings at _ c.loop-warning-test.true
-          so_far.counts (rw is at c.in_ok-place.ensures.counts);
+      counts = counted_next c.loop-warning.counts c.count.new.counts warnings at _ _ c.loop-warning-test.true
+          same so_far.counts c.in_ok-place.ensures.counts;
       listed = placed_next (λ place. nat_lt place most) warnings at _ c.in_ok-place.place
           c.loop-warning.listed.items _ _ c.loop-warning-test.true place
           (rw c.warning-item.is at c.in_ok-push_if.ensures) so_far.listed;

@@ -1,4 +1,4 @@
-use Rattle.std.proofs.Common.{◌≡◌, ◌++◌, ◌==◌, drop, map, take}
+use Rattle.std.proofs.Common.{◌≡◌, ◌++◌, ◌==◌, drop, take}
 use Rattle.std.specs.Bool.{nat_lt}
 use Rattle.audit_report.specs.Internal.Listed.{AreCounts}
 use Rattle.audit_report.specs.Listed.{listed, most, placed, unlisted}
@@ -6,8 +6,8 @@ use Rattle.audit_report.proofs.listed.tally_of.Given as goal
 
 abbrev pub invariant-loop-warning : goal.invariant-loop-warning
 invariant-loop-warning l =
-    let done = (take l.warning-index l.warnings) in
-    let left = (drop l.warning-index l.warnings) in record {
+    let done = take l.warning-index l.warnings in
+    let left = drop l.warning-index l.warnings in record {
       counts : AreCounts l.counts done;
       listed : l.listed.items ++ placed (λ place. nat_lt place most) done left
           ≡ listed l.warnings;

@@ -1,4 +1,4 @@
-use Rattle.std.proofs.Common.{◌≡◌, ◌++◌, flat_map, map, string_bytes, take}
+use Rattle.std.proofs.Common.{◌≡◌, ◌++◌, flat_map, string_bytes, take}
 use Rattle.robots_text.specs.Text.{written}
 use Rattle.audit_report.specs.Report.{agent_lines}
 use Rattle.audit_report.proofs.report.push_agents.Given as goal

@@ -6,5 +6,5 @@ use Rattle.audit_report.proofs.report.warning_lines.Given as goal
 
 abbrev pub invariant-loop-warning : goal.invariant-loop-warning
 invariant-loop-warning l =
-    let done = (take l.warning-index l.warnings) in
+    let done = take l.warning-index l.warnings in
     string_bytes l.text ≡ ended (map (level_text l.has_colors) (map (shown_warning l.file) done))
