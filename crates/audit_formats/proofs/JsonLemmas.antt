@@ -114,9 +114,10 @@ mutual
       let one = data_plain value are.1 in
       let rest = members_plain true members are.2 in
       let text = compact_text value ++ members_text true members in
-      let quoted = compact_text (string name) in (
+      let quoted = compact_text (string name) in
+      let named = quoted_printable name (ascii_printable true name are.0) in (
         comma_then later (quoted ++ 58 ∷ text)
-            (append_printable true quoted (58 ∷ text) (quoted_printable name (ascii_printable true name are.0))
+            (append_printable true quoted (58 ∷ text) named
             (byte_then 58 refl text (append_printable true (compact_text value) (members_text true members)
             one.0 rest.0))),
         rw one.1 rest.1,

@@ -146,7 +146,8 @@ rules_plain (rule ∷ rules) are =
     let text = and_parts (list_all (is_printable_byte true) rule.text) _ name.1 in
     let help = and_parts (list_all (is_printable_byte true) (help_text rule.example)) _ text.1 in
     let described = message_plain rule.text (ascii_printable true rule.text text.0) in
-    let helped = message_plain (help_text rule.example) (ascii_printable true (help_text rule.example) help.0) in
+    let helped =
+    message_plain (help_text rule.example) (ascii_printable true (help_text rule.example) help.0) in
     let named = ascii_printable true rule.name name.0 in
     let first : IsPlain (rule_json rule) = assumption (described, helped, named, level_plain rule.level) in
     (first, rules_plain rules both.1)
