@@ -1,32 +1,19 @@
 -- The report on two files: how it is written.
-use Rattle.std.proofs.Common.{◌≡◌, ◌∙◌, ℕ, zero, suc, ◌<◌, ◌&&◌, ◌||◌, Bool, true, false, List, []}
-use Rattle.std.proofs.Common.{◌∷◌, ◌++◌, ap, append-nil, arith, drop, flat_map, length, length-append, map, refl}
-use Rattle.std.proofs.Common.{string_bytes, subst, sym}
-use Rattle.std.specs.List.{AllZip, list_all}
+use Rattle.std.proofs.Common.{◌≡◌, ℕ, zero, suc, ◌<◌, List, []}
+use Rattle.std.proofs.Common.{◌∷◌, ◌++◌, arith, drop, length, length-append, map, refl}
+use Rattle.std.specs.List.{AllZip}
 use Rattle.std.proofs.Math.Seq.{drop-nil}
-use Rattle.std.proofs.lemmas.List.{map-append}
-use Rattle.std.proofs.lemmas.List.Concat.{flat_map-append}
-use Rattle.std.proofs.lemmas.List.Folds.{list_all-append}
-use Rattle.texting_robots.specs.Callers.{LineValue, label_by_value, lines_read}
-use Rattle.texting_robots.specs.declared.labels.LabeledLine.{LabeledLine}
+use Rattle.texting_robots.specs.Callers.{LineValue}
 use Rattle.robots_text.specs.Text.{ReportLine, written}
-use Rattle.robots_text.proofs.PartLemmas.{written_append}
-use Rattle.robots_warnings.specs.File.{lines_of}
-use Rattle.robots_warnings.proofs.NameLemmas.{any_last}
-use Rattle.audit_core.specs.declared.answer.Answer.{Answer}
-use Rattle.audit_core.specs.declared.audit.Verdict.{Verdict}
-use Rattle.audit_core.specs.Audit.{agents_requested}
-use Rattle.audit_compare.specs.declared.compare.Comparison.{Comparison}
-use Rattle.audit_compare.specs.Compare.{ComparedValue, IsCompared, agent_lines, differences}
-use Rattle.audit_compare.specs.Compare.{IsComparison, is_rejected, is_unchanged, unchanged_lines}
+use Rattle.audit_core.specs.Audit.{VerdictValue}
+use Rattle.audit_compare.specs.Compare.{ComparedValue, IsCompared}
 use Rattle.audit_compare.specs.Compare.{verdict_changes}
-use Rattle.audit_compare.specs.Internal.Compare.{IsFound, IsReportOn}
 use Rattle.audit_compare.proofs.RuleSetLemmas.{no_verdicts}
 
 -- ---- lines
 
 -- from an index on, one of the lists has no verdicts
-pub none_left : (compared : ComparedValue) (older newer : List Verdict) (at : ℕ)
+pub none_left : (compared : ComparedValue) (older newer : List VerdictValue) (at : ℕ)
     → (at < length older → at < length newer → ⊥)
     → verdict_changes compared (drop at older) (drop at newer) ≡ []
 none_left compared [] newer at over = rw (drop-nil at) refl

@@ -110,6 +110,13 @@ unchanged_has_same compared is =
     (group_changes agent older.group newer.group ++ delay_changes agent older.delay newer.delay) removed added
     (verdict_changes compared older.verdicts newer.verdicts) none.1)
 
+-- no rule was removed, and none was added
+neither : (compared : ComparedValue) → has_same_rules compared ≡ true
+    → (compared.removed ≡ []) × (compared.added ≡ [])
+neither compared same =
+    let none = and_parts (length compared.removed == 0) (length compared.added == 0) same in
+    (none_of compared.removed none.0, none_of compared.added none.1)
+
 beq_self : (b : Bool) → beq b b ≡ true
 beq_self true = refl
 beq_self false = refl
@@ -124,12 +131,13 @@ module _ (urls : List (List ℕ)) (older newer : List LineValue) (agent : List �
   alike : (text : List ℕ) (allowed : Bool) → has_same_rules compared ≡ true
       → IsVerdict (rules_for agent older) text allowed ↔ IsVerdict (rules_for agent newer) text allowed
   alike text allowed same =
-      let none = and_parts (length compared.removed == 0) (length compared.added == 0) same in
-      same_rules_decide_alike agent older newer text allowed
-      (sym is.removed_are ∙ none_of compared.removed none.0) (sym is.added_are ∙ none_of compared.added none.1)
+      let none = neither compared same in
+      same_rules_decide_alike agent older newer text allowed (sym is.removed_are ∙ none.0)
+      (sym is.added_are ∙ none.1)
 
   -- the same of a crawler that is reported to be unchanged or to have the same rules
-  pub reported_alike : (text : List ℕ) (allowed : Bool) → (is_unchanged compared || has_same_rules compared) ≡ true
+  pub reported_alike : (text : List ℕ) (allowed : Bool)
+      → (is_unchanged compared || has_same_rules compared) ≡ true
       → IsVerdict (rules_for agent older) text allowed ↔ IsVerdict (rules_for agent newer) text allowed
   reported_alike text allowed said =
       alike text allowed
@@ -139,16 +147,10 @@ module _ (urls : List (List ℕ)) (older newer : List LineValue) (agent : List �
     same_decision : (text : List ℕ) (one other : Decision) → IsDecisionOn (placed_rules agent older) text one
         → IsDecisionOn (placed_rules agent newer) text other → is_same_decision compared one other ≡ true
     same_decision text one other decided too =
-        let none = and_parts (length compared.removed == 0) (length compared.added == 0) same in
+        let none = neither compared same in
         let verdict = one_verdict (rules_for agent newer) text one.allowed other.allowed
         ((alike text one.allowed same).0 decided.verdict) too.verdict in
-        rw (
-          none_of compared.removed none.0,
-          none_of compared.added none.1,
-          verdict,
-          beq_self other.allowed,
-        )
-        refl
+        rw (none.0, none.1, verdict, beq_self other.allowed) refl
 
     none_differs : (given : List (List ℕ)) (ones others : List VerdictValue)
         → AllZip (IsVerdictOn (placed_rules agent older)) given ones

@@ -86,7 +86,8 @@ group_changes agent older newer =
 
 abbrev pub delay_line : List ℕ → (older newer : Option ℕ) → ReportLine
 delay_line agent older newer =
-    about agent (Part (label (codes ": delay ") refl) (delay_value older) ∷ Part arrow (delay_value newer) ∷ [])
+    about agent (Part (label (codes ": delay ") refl) (delay_value older)
+    ∷ Part arrow (delay_value newer) ∷ [])
 
 -- the delays, if they differ
 abbrev pub delay_changes : List ℕ → (older newer : Option ℕ) → List ReportLine
@@ -199,7 +200,8 @@ has_same_rules compared = length compared.removed == 0 && length compared.added 
 abbrev pub same_rules : ComparedValue → List ReportLine
 same_rules compared =
     if has_same_rules compared
-    then about compared.agent (only (codes ": same rules, so no URL's verdict differs") refl ∷ []) ∷ [] else []
+    then about compared.agent (only (codes ": same rules, so no URL's verdict differs") refl ∷ []) ∷ []
+    else []
 
 -- what is reported on a crawler: nothing if it is unchanged
 abbrev pub agent_lines : ComparedValue → List ReportLine

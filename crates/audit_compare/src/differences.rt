@@ -50,17 +50,16 @@ fn group_line(agent: &str, older: Group, newer: Group) -> [Part<'_>; 3]
 /// Appends the groups, if they differ.
 fn push_group_changes(
     text: &mut String,
-    agent: &str,
-    older: Group,
-    newer: Group,
+    older: &AgentAudit<'_>,
+    newer: &AgentAudit<'_>,
 ) -> Result<(), AllocError>
     ensures { OnOk result (string_bytes text.new ≡ string_bytes text.old
-        ++ written (group_changes agent.now older newer)) }
+        ++ written (group_changes older.now.agent older.now.group newer.now.group)) }
 {
-    if is_same_group(older, newer) {
+    if is_same_group(older.group, newer.group) {
         return Ok(());
     }
-    push_line_of(text, &group_line(agent, older, newer))
+    push_line_of(text, &group_line(&older.agent, older.group, newer.group))
 }
 
 /// The line about the delays.
@@ -191,17 +190,16 @@ fn push_url_changes(
     older: &Verdict<'_>,
     newer: &Verdict<'_>,
 ) -> Result<(), AllocError>
-    ensures { OnOk result (string_bytes text.new ≡ string_bytes text.old
-        ++ written (url_changes (compared_value compared.now) older.now.url older.now.decision
-        newer.now.decision)) }
+    ensures { OnOk result (string_bytes text.new ≡ string_bytes text.old ++ written (url_changes
+        (compared_value compared.now) older.now.url older.now.decision newer.now.decision)) }
 {
-    let (agent, url) = (&compared.older.agent, older.url);
-    if is_same_decision(compared, &older.decision, &newer.decision) {
+    let (one, other) = (&older.decision, &newer.decision);
+    if is_same_decision(compared, one, other) {
         return Ok(());
     }
     push_line_of(
         text,
-        &url_line(agent, url, &older.decision, &newer.decision),
+        &url_line(&compared.older.agent, older.url, one, other),
     )
 }
 
@@ -228,7 +226,7 @@ pub(crate) fn push_differences(text: &mut String, compared: &Compared<'_>) -> Re
         ++ written (differences (compared_value compared.now))) }
 {
     let (older, newer) = (&compared.older, &compared.newer);
-    push_group_changes(text, &older.agent, older.group, newer.group)?;
+    push_group_changes(text, older, newer)?;
     push_delay_changes(text, &older.agent, older.delay, newer.delay)?;
     push_rule_changes(text, &older.agent, &compared.removed, &compared.added)?;
     push_verdict_changes(text, compared, &older.verdicts, &newer.verdicts)?;

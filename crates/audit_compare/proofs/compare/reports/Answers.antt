@@ -1,4 +1,4 @@
-use Rattle.std.proofs.Common.{refl, string_bytes, [], ◌∷◌, ◌++◌}
+use Rattle.std.proofs.Common.{string_bytes, [], ◌∷◌, ◌++◌}
 use Rattle.std.proofs.lemmas.List.{map_more}
 use Rattle.audit_core.proofs.AuditLemmas.{zip_push}
 use Rattle.audit_compare.specs.Internal.Compare.{compared_value}
@@ -7,7 +7,8 @@ use Rattle.audit_compare.proofs.compare.reports.Goals as goal
 pub loop-agent-preserved : goal.loop-agent-preserved
 loop-agent-preserved c =
     let before = c.loop-agent.invariant in
-    rw (map_more string_bytes c.args.agents.now c.loop-agent.agent-index c.agent-item.result c.loop-agent-test.true)
+    rw (map_more string_bytes c.args.agents.now c.loop-agent.agent-index c.agent-item.result
+    c.loop-agent-test.true)
     (record {
       compared = before.compared ++ compared_value c.in_ok-compared.compared ∷ [];
       all =

@@ -1,4 +1,4 @@
-use Rattle.std.proofs.Common.{◌≡◌, ◌++◌, drop, map, string_bytes}
+use Rattle.std.proofs.Common.{◌≡◌, ◌++◌, drop, string_bytes}
 use Rattle.robots_text.specs.Text.{written}
 use Rattle.audit_compare.specs.Compare.{verdict_changes}
 use Rattle.audit_compare.specs.Internal.Compare.{compared_value}

@@ -1,5 +1,5 @@
-use Rattle.std.proofs.Common.{◌≡◌, ◌∙◌, ℕ, ◌+◌, ◌<◌, ◌||◌, Bool, List, String, ap, bytes_eq, get_or, length, refl}
-use Rattle.std.proofs.Common.{string_bytes, sym, take, true}
+use Rattle.std.proofs.Common.{◌≡◌, ◌∙◌, ℕ, ◌+◌, ◌<◌, ◌||◌, Bool, List, String, ap, bytes_eq, get_or, length}
+use Rattle.std.proofs.Common.{refl, string_bytes, sym, take, true}
 use Rattle.std.specs.BTreeSet.{BTreeSet, Updates, contains_text}
 use Rattle.std.specs.Global.{Global}
 use Rattle.std.specs.String.{string_cmp}
@@ -29,9 +29,10 @@ added old new key rules at rule is_allow below item is kind updates before patte
 
 pub loop-rule-preserved : goal.loop-rule-preserved
 loop-rule-preserved c =
-    added c.loop-rule.patterns c.insert.new.self c.in_ok-from_str.field-0 c.args.rules.now c.loop-rule.rule-index
-    c.rule-item.result c.args.is_allow c.loop-rule-test.true c.rule-item.is
-    (c.in_ok-from_str.ensures.ok ∙ c.deref.ensures ∙ ap (λ (placed : PlacedRule). placed.rule.0) c.rule.view_is)
+    added c.loop-rule.patterns c.insert.new.self c.in_ok-from_str.field-0 c.args.rules.now
+    c.loop-rule.rule-index c.rule-item.result c.args.is_allow c.loop-rule-test.true c.rule-item.is
+    (c.in_ok-from_str.ensures.ok ∙ c.deref.ensures
+    ∙ ap (λ (placed : PlacedRule). placed.rule.0) c.rule.view_is)
     (sym (ap (λ (placed : PlacedRule). beq placed.rule.1 c.args.is_allow) c.rule.view_is)
     ∙ not-false _ c.if-rule-is_allow.false)
     c.in_ok-insert.ensures.updates c.loop-rule.invariant
