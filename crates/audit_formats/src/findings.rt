@@ -3,7 +3,7 @@ ghost use Rattle.std.specs.Prelude.{◌≡◌, ◌++◌, ◌∷◌, [], IfOk, On
 ghost use Rattle.robots_io.specs.Sanitize.{sanitized};
 ghost use Rattle.robots_text.specs.Raw.{raw_line};
 ghost use Rattle.robots_text.specs.Text.{parts_text};
-ghost use Rattle.audit_formats.specs.Findings.{agent_findings, denials, denied_parts, finding_in_part, findings, found_value, is_in_part, rejections, warning_finding, warning_findings};
+ghost use Rattle.audit_formats.specs.Findings.{agent_findings, denials, denied, denied_parts, finding_in_part, findings, found_value, is_in_part, rejections, warning_finding, warning_findings};
 ghost use Rattle.audit_formats.specs.Internal.{finding_value};
 
 use audit_core::audit::{AgentAudit, Audit, Verdict};
@@ -41,6 +41,27 @@ fn push_denied(text: &mut String, agent: &str, url: &str) -> Result<(), AllocErr
     push_parts(text, &denied_parts(url))
 }
 
+/// That the crawler may not fetch the URL of the verdict.
+fn denied(alloc: Global, agent: &str, verdict: &Verdict<'_>) -> Result<Finding, AllocError>
+    ensures { IfOk result (λ finding. finding_value finding ≡ found_value (denied agent.now verdict.now)) }
+{
+    let mut message = String::new(alloc);
+    push_denied(&mut message, agent, verdict.url)?;
+    Ok(Finding {
+        level: Level::Error,
+        line: verdict.decision.line,
+        name: "denied",
+        message,
+    })
+}
+
+/// Whether the crawler may fetch the URL of the verdict.
+fn is_allowed(verdict: &Verdict<'_>) -> bool
+    ensures { result ≡ verdict.now.decision.allowed }
+{
+    verdict.decision.allowed
+}
+
 /// Adds that the crawler may not fetch the URL, if the verdict says so.
 fn add_denial(
     alloc: Global,
@@ -51,17 +72,10 @@ fn add_denial(
     ensures { OnOk result (map finding_value found.new.items
         ≡ map finding_value found.old.items ++ map found_value (denials agent.now verdict.now)) }
 {
-    if verdict.decision.allowed {
+    if is_allowed(verdict) {
         return Ok(());
     }
-    let mut message = String::new(alloc);
-    push_denied(&mut message, agent, verdict.url)?;
-    Ok(found.push(Finding {
-        level: Level::Error,
-        line: verdict.decision.line,
-        name: "denied",
-        message,
-    })?)
+    Ok(found.push(denied(alloc, agent, verdict)?)?)
 }
 
 /// Adds each URL that the crawler may not fetch.

@@ -53,8 +53,8 @@ fn sanitized_json(alloc: Global, bytes: &[u8]) -> Result<Value, AllocError>
 
 impl<'a> Json for Verdict<'a> {
     ghost use Rattle.audit_formats.specs.Json.{verdict_json};
-    
-    ghost json = { λ verdict. verdict_json verdict };
+
+    ghost json = { verdict_json };
 
     fn json(&self, alloc: Global) -> Result<Value, AllocError> {
         let url = sanitized_json(alloc, self.url.as_bytes())?;
@@ -85,21 +85,48 @@ fn verdicts_json(alloc: Global, verdicts: &[Verdict<'_>]) -> Result<Value, Alloc
     list_json(alloc, verdicts)
 }
 
+/// What the file means for a crawler, as a JSON object.
+fn agent_json(
+    alloc: Global,
+    agent: &str,
+    group: Group,
+    delay: Option<u64>,
+    rejected: Option<usize>,
+    verdicts: &[Verdict<'_>],
+) -> Result<Value, AllocError>
+    ensures { IfOk result (λ value. view value ≡ agent_json (record {
+      agent = agent.now;
+      group = group;
+      delay = delay;
+      rejected = rejected;
+      verdicts = verdicts.now;
+    })) }
+{
+    let name = sanitized_json(alloc, agent.as_bytes())?;
+    let verdicts = verdicts_json(alloc, verdicts)?;
+    json!(in alloc; {
+        "agent": name,
+        "delay": delay,
+        "group": group_word(group),
+        "rejected": rejected,
+        "verdicts": verdicts,
+    })
+}
+
 impl<'a> Json for AgentAudit<'a> {
     ghost use Rattle.audit_formats.specs.Json.{agent_json};
-    
-    ghost json = { λ agent. agent_json agent };
+
+    ghost json = { agent_json };
 
     fn json(&self, alloc: Global) -> Result<Value, AllocError> {
-        let name = sanitized_json(alloc, self.agent.as_bytes())?;
-        let verdicts = verdicts_json(alloc, &self.verdicts)?;
-        json!(in alloc; {
-            "agent": name,
-            "delay": self.delay,
-            "group": group_word(self.group),
-            "rejected": self.rejected,
-            "verdicts": verdicts,
-        })
+        agent_json(
+            alloc,
+            &self.agent,
+            self.group,
+            self.delay,
+            self.rejected,
+            &self.verdicts,
+        )
     }
 }
 
@@ -147,8 +174,8 @@ impl<'a> Json for &'a [u8] {
 
 impl<'a> Json for Warning<'a> {
     ghost use Rattle.audit_formats.specs.Json.{warning_json};
-    
-    ghost json = { λ warning. warning_json warning };
+
+    ghost json = { warning_json };
 
     fn json(&self, alloc: Global) -> Result<Value, AllocError> {
         let mut text = String::new(alloc);
