@@ -1,6 +1,6 @@
 -- Each text of a page is printable, as it is constant or sanitized. So the page is printable, and can be read
 -- back.
-use Rattle.std.proofs.Common.{ℕ, ◌++◌, Bool, true, false, List, [], Option, Some, None, ◌≡◌, codes, decimal}
+use Rattle.std.proofs.Common.{ℕ, ◌++◌, ◌∷◌, Bool, true, false, List, [], Option, Some, None, ◌≡◌, codes, decimal}
 use Rattle.std.proofs.Common.{inl, inr, length, refl, rules}
 use Rattle.std.specs.Prelude.{if◌then◌else◌, nat_lt, ◌==◌}
 use Rattle.std.specs.Bool.{IsTrue}
@@ -18,7 +18,12 @@ use Rattle.robots_text.specs.declared.level.Level.{Level}
 use Rattle.robots_text.specs.declared.level.Level.TheVariants.{Error, Note, Warning}
 use Rattle.robots_warnings.specs.Table.{level_of}
 use Rattle.robots_warnings.specs.Warnings.{WarningValue}
-use Rattle.robots_warnings.proofs.PrintableLemmas.{name_printable, text_printable, word_printable}
+use Rattle.robots_warnings.specs.Message.{reported_parts}
+use Rattle.robots_text.specs.Text.{parts_text, value_text}
+use Rattle.robots_text.proofs.DelayLemmas.{delay_printable}
+use Rattle.robots_text.proofs.PartLemmas.{label_printable, level_printable, parts_printable}
+use Rattle.robots_text.proofs.PartLemmas.{value_printable}
+use Rattle.robots_io.proofs.SanitizeLemmas.{line_printable}
 use Rattle.audit_core.specs.Audit.{AgentValue, AuditValue, VerdictValue}
 use Rattle.audit_core.specs.Request.{RequestValue}
 use Rattle.audit_page.specs.declared.page.style.TheConstants.{CSS, HTTP_EQUIV}
@@ -41,13 +46,13 @@ use Rattle.audit_page.specs.Page.{value_cell, word_cells}
 use Rattle.audit_page.specs.Page.{verdict_cell, verdict_name, verdict_part, warning_at, warning_entry}
 use Rattle.audit_page.specs.Page.{warning_item, warning_items, warning_list, warning_place, warning_row}
 use Rattle.audit_page.specs.Page.{warning_words}
-use Rattle.audit_core.specs.Texts.{group_text}
-use Rattle.audit_core.specs.Rows.{value_text}
+use Rattle.audit_core.specs.Texts.{group_end, group_reason, group_text, group_value}
+use Rattle.audit_core.specs.Rows.{kind_of, kind_text, line_value, membership_value, membership_word}
 use Rattle.audit_core.specs.Syntax.{is_standard, sentence}
 use Rattle.audit_core.specs.declared.syntax.Syntax.{Syntax}
-use Rattle.audit_core.proofs.TextLemmas.{kind_printable, membership_printable}
-use Rattle.audit_core.proofs.TextLemmas.{delay_printable, group_text_printable, syntax_printable}
-use Rattle.audit_core.proofs.TextLemmas.{value_printable}
+use Rattle.audit_core.specs.declared.syntax.Syntax.TheVariants.{Standard, StandardWithoutWarnings, Unstated}
+use Rattle.audit_core.specs.declared.group.Group.{Group}
+use Rattle.texting_robots.specs.declared.labels.Membership.{Membership}
 
 -- ---- texts
 
@@ -59,14 +64,14 @@ level_name_printable Note = ascii_printable true (level_name Note) refl
 words_printable : (warning : WarningValue) → IsPrintable (warning_words warning)
 words_printable warning =
     append_printable true _ _ (level_name_printable (level_of warning.cause))
-    (append_printable true _ _ (text_printable warning) (name_printable warning.cause))
+    (line_printable _ (parts_printable (reported_parts warning)))
 
 rest_printable : (count : ℕ) → IsPrintable (rest_words count)
 rest_printable count = search (append_printable true, ascii_printable true, decimal_printable true)
 
 delay_name_printable : (delay : Option ℕ) → IsPrintable (delay_name delay)
 delay_name_printable None = ascii_printable true (codes "none") refl
-delay_name_printable (Some micros) = delay_printable micros
+delay_name_printable (Some micros) = line_printable _ (delay_printable micros)
 
 title_printable : (agent : Option (List ℕ)) → IsPrintable (title_text agent)
 title_printable None = ascii_printable true (title_text None) refl
@@ -83,6 +88,22 @@ numbered_printable : (before : List ℕ) (number : ℕ) → IsPrintable before
     → IsPrintable (before ++ decimal number)
 numbered_printable before number is =
     append_printable true before (decimal number) is (decimal_printable true number)
+
+membership_printable : (membership : Membership) → IsPrintable (membership_word membership)
+membership_printable membership = line_printable _ (value_printable (membership_value membership))
+
+kind_printable : (line : LineValue) → IsPrintable (kind_text line)
+kind_printable line = line_printable _ (label_printable (kind_of line))
+
+group_text_printable : (agent : List ℕ) (group : Group) → IsPrintable (group_text agent group)
+group_text_printable agent group =
+    append_printable true _ _ (line_printable _ (value_printable (group_value agent group)))
+    (line_printable _ (parts_printable (group_reason agent group ∷ group_end agent group ∷ [])))
+
+syntax_printable : (syntax : Syntax) → IsPrintable (sentence syntax)
+syntax_printable Unstated = ascii_printable true [] refl
+syntax_printable Standard = ascii_printable true (sentence Standard) refl
+syntax_printable StandardWithoutWarnings = ascii_printable true (sentence StandardWithoutWarnings) refl
 
 -- ---- parts of a page
 
@@ -315,7 +336,8 @@ number_cell_is number =
 value_cell_is : (line : LineValue) → IsPart (value_cell line)
 unfolding value_cell
 value_cell_is line =
-    simple_is (codes "td") (value_text line) refl refl (value_printable line)
+    simple_is (codes "td") (value_text (line_value line)) refl refl
+    (line_printable _ (value_printable (line_value line)))
 
 word_cells_is : (label : Label) → IsPart (word_cells label)
 unfolding word_cells
@@ -335,7 +357,7 @@ line_row_is label =
 warning_row_is : (warning : WarningValue) → IsPart (warning_row warning)
 unfolding warning_row
 warning_row_is warning =
-    let level = word_printable (level_of warning.cause) in
+    let level = line_printable _ (level_printable (level_of warning.cause)) in
     let four = ascii (codes "4") refl in
     let words = words_printable warning in (
       refl,

@@ -17,7 +17,7 @@ use Rattle.robots_warnings.specs.declared.warning.Warning.{Warning}
 use Rattle.audit_core.specs.Rows.{membership_word}
 use Rattle.audit_page.specs.Page.{later_warnings, line_attributes, listed_warnings, number_cell, of_cause}
 use Rattle.audit_page.specs.Page.{rest_count, simple, warning_row, with, without_row, word_cells}
-use Rattle.audit_core.specs.Rows.{kind_text}
+use Rattle.audit_core.specs.Rows.{kind_text, raw_kind}
 
 -- ---- texts that are written unchanged
 
@@ -41,8 +41,7 @@ kind_plain (CrawlDelay delay) = plain_text (codes "crawl-delay") refl
 kind_plain (Sitemap value) = plain_text (codes "sitemap") refl
 kind_plain (Raw body) = either (is_blank body)
   where
-    either : (blank : Bool) → escaped (if blank then codes "empty" else codes "ignored")
-        ≡ (if blank then codes "empty" else codes "ignored")
+    either : (blank : Bool) → escaped (raw_kind blank).text ≡ (raw_kind blank).text
     either true = plain_text (codes "empty") refl
     either false = plain_text (codes "ignored") refl
 

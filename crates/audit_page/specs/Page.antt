@@ -14,7 +14,8 @@ use Rattle.robots_warnings.specs.declared.table.Cause.{Cause}
 use Rattle.robots_warnings.specs.File.{lines_of}
 use Rattle.robots_text.specs.Level.{level_word}
 use Rattle.robots_warnings.specs.Table.{level_of}
-use Rattle.robots_warnings.specs.Warnings.{WarningValue, name_text, warning_text}
+use Rattle.robots_warnings.specs.Message.{reported_parts}
+use Rattle.robots_warnings.specs.Warnings.{WarningValue}
 use Rattle.audit_page.specs.declared.page.style.TheConstants.{AGENT_CAPTION, CRAWLERS}
 use Rattle.audit_page.specs.declared.page.style.TheConstants.{CSS, DELAY, DIRECTIVE}
 use Rattle.audit_page.specs.declared.page.style.TheConstants.{HTTP_EQUIV, POLICY, POLICY_NAME, REJECTED}
@@ -22,10 +23,10 @@ use Rattle.audit_page.specs.declared.page.style.TheConstants.{SITEMAP_TERM, URL_
 use Rattle.audit_page.specs.declared.page.style.TheConstants.{VIEWPORT_NAME, WARNING_TERM}
 use Rattle.audit_core.specs.Audit.{AgentValue, AuditValue, VerdictValue, labeling_agent}
 use Rattle.audit_core.specs.Request.{RequestValue}
-use Rattle.audit_core.specs.Delay.{delay_text}
-use Rattle.audit_core.specs.Rows.{membership_word}
+use Rattle.robots_text.specs.Delay.{delay_text}
+use Rattle.robots_text.specs.Text.{parts_text}
 use Rattle.audit_core.specs.Texts.{group_text}
-use Rattle.audit_core.specs.Rows.{kind_text, value_text}
+use Rattle.audit_core.specs.Rows.{kind_text, line_value_text, membership_word}
 use Rattle.audit_core.specs.Syntax.{is_standard, sentence}
 use Rattle.audit_core.specs.declared.syntax.Syntax.{Syntax}
 
@@ -162,7 +163,7 @@ level_name Note = codes "Note: "
 -- the level of a warning, its message and its name
 abbrev pub warning_words : WarningValue → List ℕ
 warning_words warning =
-    level_name (level_of warning.cause) ++ (warning_text warning ++ name_text warning.cause)
+    level_name (level_of warning.cause) ++ parts_text (reported_parts warning)
 
 -- the name of a line: a link, if it has one of the `rows` of the table of lines, as those that are read have
 unfoldable pub line_name : (rows number : ℕ) → Html
@@ -243,7 +244,7 @@ number_cell number = tag (codes "th") (with (codes "scope") (codes "row")) (text
 
 -- the value of a line; a cell is displayed from left to right, as the page is
 unfoldable pub value_cell : LineValue → Html
-value_cell line = simple (codes "td") (value_text line)
+value_cell line = simple (codes "td") (line_value_text line)
 
 -- the membership and the directive of a line
 unfoldable pub word_cells : Label → Html

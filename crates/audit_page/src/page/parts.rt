@@ -6,12 +6,12 @@ ghost use Rattle.robots_html.specs.Html.{start_tag, written};
 ghost use Rattle.robots_io.specs.Sanitize.{sanitized};
 ghost use Rattle.audit_page.specs.Page.{code, column, delay_name, line_link, row_name, simple, with};
 
-use audit_core::delay::push_delay_text;
 use robots_html::write::{
     push_attribute, push_cell, push_close, push_element, push_end, push_open, push_text,
 };
 use robots_io::lines::push_number;
 use robots_io::sanitize::push_sanitized;
+use robots_text::delay::push_delay_text;
 use std::alloc::{AllocError, Global};
 
 /// A number in decimal digits after these bytes.
