@@ -8,4 +8,5 @@ use Rattle.audit_page.specs.Page.{rest_count, without_row}
 pub rest_is : (rows : ℕ) (later others : List Warning)
     → map warning_value others ≡ without_row rows (map warning_value later)
     → rest_count rows (map warning_value later) ≡ length later - length others
-rest_is rows later others are = rw (length-map later warning_value, ← are, length-map others warning_value) refl
+rest_is rows later others are =
+    rw (length-map later warning_value, ← are, length-map others warning_value) refl

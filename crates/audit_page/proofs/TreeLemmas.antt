@@ -1,11 +1,11 @@
 -- Every page is written as its tree in `robots_html`, which is printable, and can be read back.
 use Rattle.std.proofs.Common.{◌≡◌, ◌∙◌, ℕ, true, false, List, [], ◌∷◌, ◌++◌, Some, ap, append_assoc, codes}
 use Rattle.std.proofs.Common.{flat_map, map, refl, sym}
-use Rattle.std.specs.Prelude.{not, ◌&&◌}
+use Rattle.std.specs.Prelude.{not}
 use Rattle.std.proofs.lemmas.Bool.{and_parts, not-true}
 use Rattle.std.proofs.lemmas.List.{append-nil}
-use Rattle.robots_html.specs.Html.{AreAttributes, Attribute, Html, IsContent, attribute_bytes, doctype, document, end_tag}
-use Rattle.robots_html.specs.Html.{escaped, has_attribute, is_among, is_css, is_name, is_ordinary, is_title}
+use Rattle.robots_html.specs.Html.{AreAttributes, Attribute, Html, IsContent, attribute_bytes, doctype, document}
+use Rattle.robots_html.specs.Html.{end_tag, escaped, has_attribute, is_among, is_css, is_name, is_ordinary, is_title}
 use Rattle.robots_html.specs.Html.{start_tag, style_bytes, tag_close, tag_open, void_close, void_names}
 use Rattle.robots_html.specs.Html as html
 use Rattle.robots_html.specs.Reader.{read_document}
@@ -17,9 +17,9 @@ use Rattle.robots_io.proofs.SanitizeLemmas.{append_printable, ascii_printable, l
 use Rattle.robots_text.specs.Text.{parts_text, value_text}
 use Rattle.robots_text.proofs.PartLemmas.{parts_printable, value_printable}
 use Rattle.audit_page.specs.Html.{html_of}
-use Rattle.audit_page.specs.Tree.{Field, Tree, Words, all, are_fields, both, each, field_attribute, field_bytes}
-use Rattle.audit_page.specs.Tree.{fixed, is_ascii, labelled, message, nothing, opened, shown, style, tag, text}
-use Rattle.audit_page.specs.Tree.{title, void, words_text, words_written, written}
+use Rattle.audit_page.specs.Tree.{Field, Tree, Words, all, are_fields, both, each, field_attribute}
+use Rattle.audit_page.specs.Tree.{field_bytes, fixed, is_ascii, labelled, message, nothing, opened, shown}
+use Rattle.audit_page.specs.Tree.{style, tag, text, title, void, words_text, words_written, written}
 use Rattle.audit_page.proofs.HtmlLemmas.{IsPart, document_printable, printable_html}
 
 -- ---- writing
@@ -41,7 +41,8 @@ field_is : (field : Field) → field_bytes field.name (words_written field.value
     ≡ attribute_bytes (field_attribute field)
 unfolding field_bytes attribute_bytes
 field_is field =
-    ap (λ (b : List ℕ). codes " " ++ (field.name ++ (codes "=\"" ++ (b ++ codes "\"")))) (words_are field.value)
+    ap (λ (b : List ℕ). codes " " ++ (field.name ++ (codes "=\"" ++ (b ++ codes "\""))))
+    (words_are field.value)
 
 fields_written : (fields : List Field)
     → flat_map (λ field. field_bytes field.name (words_written field.value)) fields
@@ -63,7 +64,8 @@ written_is (tag name fields is children) =
     tag_written name fields tag_close (written children ++ end_tag name)
     ∙ ap (λ (b : List ℕ). start_tag name (map field_attribute fields) ++ (b ++ end_tag name))
     (written_is children)
-    ∙ ap (λ (b : List ℕ). start_tag name (map field_attribute fields) ++ (html.written (html_of children) ++ b))
+    ∙ ap
+    (λ (b : List ℕ). start_tag name (map field_attribute fields) ++ (html.written (html_of children) ++ b))
     (sym (append-nil (end_tag name)))
 written_is (title words) = rw (words_are words, append-nil) (simp append_assoc)
 written_is (void name fields is) =

@@ -2,7 +2,8 @@
 use Rattle.std.specs.Prelude.{[], codes, map}
 use Rattle.robots_html.specs.Html.{Html, ◌⊕◌}
 use Rattle.robots_html.specs.Html as html
-use Rattle.audit_page.specs.Tree.{Tree, both, field_attribute, nothing, style, tag, text, title, void, words_text}
+use Rattle.audit_page.specs.Tree.{Tree, both, field_attribute, nothing, style, tag, text, title, void}
+use Rattle.audit_page.specs.Tree.{words_text}
 
 abbrev pub html_of : Tree → Html
 html_of nothing = html.text []

@@ -1,5 +1,5 @@
--- The audit as an HTML page, a tree of `specs/Tree.antt`. Each untrusted text is sanitized and is the text of an
--- element, never part of an attribute.
+-- The audit as an HTML page, a tree of `specs/Tree.antt`. Each untrusted text is sanitized and is the text of
+-- an element, never part of an attribute.
 --
 -- The parts are `unfoldable`, so that a proof about a function that writes a part names the parts in it.
 use Rattle.std.specs.Prelude.{◌≡◌, ℕ, zero, suc, ◌+◌, ◌-◌, ◌/◌, ◌==◌, nat_lt, Bool, true, false, not}
@@ -14,7 +14,6 @@ use Rattle.robots_text.specs.declared.level.Level.{Level}
 use Rattle.robots_text.specs.declared.level.Level.TheVariants.{Error, Note, Warning}
 use Rattle.robots_text.specs.Level.{level_word}
 use Rattle.robots_text.specs.Text.{Number, Untrusted, Value, Word, is_fixed, word}
-use Rattle.robots_warnings.specs.declared.table.Cause.{Cause}
 use Rattle.robots_warnings.specs.File.{lines_of}
 use Rattle.robots_warnings.specs.Message.{reported_parts}
 use Rattle.robots_warnings.specs.Table.{level_of}
@@ -39,7 +38,8 @@ class words = with (codes "class") words
 
 -- sanitized bytes, displayed from left to right whatever their letters are
 unfoldable pub code : List ℕ → Tree
-code bytes = tag (codes "code") (with (codes "dir") (fixed (codes "ltr") refl)) refl (text (shown (Untrusted bytes)))
+code bytes =
+    tag (codes "code") (with (codes "dir") (fixed (codes "ltr") refl)) refl (text (shown (Untrusted bytes)))
 
 -- a link to the row of a line
 unfoldable pub line_link : ℕ → Tree
@@ -240,7 +240,8 @@ rest_count rows warnings = length warnings - length (without_row rows warnings)
 unfoldable pub some_rest : ℕ → Tree
 some_rest count =
     tag (codes "p") [] refl
-    (text (labelled (codes "and ") refl (Number count)) ⊕ text (fixed (codes " more, below their lines") refl))
+    (text (labelled (codes "and ") refl (Number count))
+    ⊕ text (fixed (codes " more, below their lines") refl))
 
 -- the same, if there are some
 abbrev pub rest_note : ℕ → Tree
@@ -270,7 +271,8 @@ sitemap_entry labels = entry (fixed SITEMAPS.now refl) (sitemap_list (sitemaps_i
 abbrev pub kind_value : LineValue → Value
 kind_value line =
     let kind = kind_of line in
-    Word (record { text = kind.text; safe = (and_parts (is_fixed kind.text) (ends_apart kind.text) kind.safe).0 })
+    let both = and_parts (is_fixed kind.text) (ends_apart kind.text) kind.safe in
+    Word (record { text = kind.text; safe = both.0 })
 
 abbrev pub line_fields : Label → List Field
 line_fields label =
@@ -291,17 +293,14 @@ line_row label =
 -- the start tag of the row, and the number
 abbrev pub line_start : Label → List ℕ
 line_start label =
-    opened (codes "tr") (line_fields label) ++ (tag_close ++ written (row_name (text (shown (Number label.number)))))
+    opened (codes "tr") (line_fields label)
+    ++ (tag_close ++ written (row_name (text (shown (Number label.number)))))
 
 -- a row for a warning, below that of its line
 unfoldable pub warning_row : WarningValue → Tree
 warning_row warning =
     tag (codes "tr") (class (shown (level_value (level_of warning.cause)))) refl
     (tag (codes "td") (with (codes "colspan") (fixed (codes "4") refl)) refl (text (warning_words warning)))
-
--- a warning with this cause, whose message has no URL, no name and no number
-abbrev pub of_cause : Cause → WarningValue
-of_cause cause = record { line = None; cause = cause; about = None; detail = None }
 
 abbrev pub is_at : ℕ → Option ℕ → Bool
 is_at number None = false
@@ -333,7 +332,8 @@ line_body warnings labels = tag (codes "tbody") [] refl (each (line_part warning
 
 -- `agent` is the crawler whose group is marked
 unfoldable pub file_caption : List ℕ → Tree
-file_caption agent = caption (labelled (codes "Lines, and whether they are in the group of ") refl (Untrusted agent))
+file_caption agent =
+    caption (labelled (codes "Lines, and whether they are in the group of ") refl (Untrusted agent))
 
 unfoldable pub line_columns : Tree
 line_columns =
@@ -389,7 +389,8 @@ sentence_safe StandardWithoutWarnings = refl
 -- what the warnings tell about the syntax of the file, if it is known
 unfoldable pub syntax_entry : Syntax → Tree
 syntax_entry syntax =
-    if is_standard syntax then entry (fixed (codes "Syntax") refl) (text (fixed (sentence syntax) (sentence_safe syntax)))
+    if is_standard syntax
+    then entry (fixed (codes "Syntax") refl) (text (fixed (sentence syntax) (sentence_safe syntax)))
     else nothing
 
 -- the summary at the top

@@ -5,4 +5,6 @@ use Rattle.audit_page.specs.Tree.{all}
 use Rattle.audit_page.proofs.page.file.push_line_parts.Given as goal
 
 abbrev pub invariant-loop-label : goal.invariant-loop-label
-invariant-loop-label l = l.page.out.items ≡ l.fn.page.out.items ++ all (listed_part l.lists) (map label_by_value (take l.label-index l.labels))
+invariant-loop-label l =
+    l.page.out.items ≡ l.fn.page.out.items
+    ++ all (listed_part l.lists) (map label_by_value (take l.label-index l.labels))

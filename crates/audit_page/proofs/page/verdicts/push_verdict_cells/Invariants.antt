@@ -5,4 +5,6 @@ use Rattle.audit_page.specs.Tree.{all}
 use Rattle.audit_page.proofs.page.verdicts.push_verdict_cells.Given as goal
 
 abbrev pub invariant-loop-verdict : goal.invariant-loop-verdict
-invariant-loop-verdict l = l.page.out.items ≡ l.fn.page.out.items ++ all verdict_cell (map verdict_value (take l.verdict-index l.verdicts))
+invariant-loop-verdict l =
+    l.page.out.items ≡ l.fn.page.out.items
+    ++ all verdict_cell (map verdict_value (take l.verdict-index l.verdicts))
