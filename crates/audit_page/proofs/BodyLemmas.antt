@@ -1,8 +1,9 @@
 -- The bodies of the table of lines, one after the other.
-use Rattle.std.proofs.Common.{◌≡◌, ◌∙◌, ℕ, suc, ◌+◌, ◌-◌, ◌/◌, ◌<◌, List, [], ◌∷◌, ◌++◌, ap, append_assoc}
-use Rattle.std.proofs.Common.{arith, drop, length, map, sym, take}
-use Rattle.std.proofs.lemmas.List.{append-nil, drop-drop, drop-map, drop_min, length-drop, length-map}
-use Rattle.std.proofs.lemmas.List.{length-take, take-map}
+use Rattle.std.proofs.Common.{◌≡◌, ◌∙◌, ℕ, suc, ◌+◌, ◌-◌, ◌/◌, ◌<◌, ◌==◌, List, [], ◌∷◌, ◌++◌, ap}
+use Rattle.std.proofs.Common.{append_assoc, arith, drop, false, length, map, sym, take, true}
+use Rattle.std.proofs.lemmas.Bool.Decides.{nat_tests}
+use Rattle.std.proofs.lemmas.List.{append-nil, drop-map, length-drop, length-map}
+use Rattle.std.proofs.lemmas.List.{take-map}
 use Rattle.texting_robots.specs.Callers.{Label, label_by_value}
 use Rattle.texting_robots.specs.declared.labels.LabeledLine.{LabeledLine}
 use Rattle.audit_page.specs.Page.{bodies, bodies_of, body_lines}
@@ -33,15 +34,6 @@ first_added body rest out new whole some is so_far =
     ∙ ap (λ (list : List (List Label)). out ++ all body list) (sym (some_bodies rest some))
     ∙ so_far
 
--- the lines after a body
-pub others_after : (labels body : List LabeledLine) (start : ℕ) → body ≡ take body_lines (drop start labels)
-    → drop (start + length body) labels ≡ drop body_lines (drop start labels)
-others_after labels body start is =
-    let rest = drop start labels in
-    sym (drop-drop (length body) start labels)
-    ∙ ap (λ (n : ℕ). drop n rest) (ap length is ∙ length-take body_lines rest)
-    ∙ drop_min body_lines rest
-
 -- a body that is appended is the first of those that are still to come
 pub body_added : (body : List Label → Tree) (rest first others : List LabeledLine) (out new whole : List ℕ)
     → 0 < length rest → first ≡ take body_lines rest → others ≡ drop body_lines rest
@@ -68,3 +60,15 @@ all_added body rest out whole none so_far =
     ∙ ap (λ (list : List (List Label)). out ++ all body list)
     (sym (no_bodies labels (length-map rest label_by_value ∙ none)))
     ∙ so_far
+
+-- ---- whether lines are left
+
+pub some_length : (lines : List LabeledLine) → (length lines == 0) ≡ false → 0 < length lines
+some_length lines is = grind (arith, nat_tests)
+
+pub no_length : (lines : List LabeledLine) → (length lines == 0) ≡ true → length lines ≡ 0
+no_length lines is = grind (arith, nat_tests)
+
+pub is_shorter : (lines others : List LabeledLine) → 0 < length lines → others ≡ drop body_lines lines
+    → length others < length lines
+is_shorter lines others some are = rw are (omega (arith, length-drop body_lines lines))

@@ -4,8 +4,10 @@ use Rattle.std.proofs.Common.{flat_map, map, refl, sym}
 use Rattle.std.specs.Prelude.{not}
 use Rattle.std.proofs.lemmas.Bool.{and_parts, not-true}
 use Rattle.std.proofs.lemmas.List.{append-nil}
-use Rattle.robots_html.specs.Html.{AreAttributes, Attribute, Html, IsContent, attribute_bytes, doctype, document}
-use Rattle.robots_html.specs.Html.{end_tag, escaped, has_attribute, is_among, is_css, is_name, is_ordinary, is_title}
+use Rattle.robots_html.specs.Html.{AreAttributes, Attribute, Html, IsContent}
+use Rattle.robots_html.specs.Html.{attribute_bytes, doctype, document}
+use Rattle.robots_html.specs.Html.{end_tag, escaped, has_attribute, is_among, is_css}
+use Rattle.robots_html.specs.Html.{is_name, is_ordinary, is_title}
 use Rattle.robots_html.specs.Html.{start_tag, style_bytes, tag_close, tag_open, void_close, void_names}
 use Rattle.robots_html.specs.Html as html
 use Rattle.robots_html.specs.Reader.{read_document}

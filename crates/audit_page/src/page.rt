@@ -13,6 +13,7 @@ mod by_line;
 mod file;
 mod parts;
 mod pieces;
+mod slices;
 mod style;
 mod verdicts;
 mod warnings;

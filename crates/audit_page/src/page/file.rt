@@ -1,17 +1,18 @@
 //! The file of a page, with its warnings, and its sitemaps.
 #![tactic(auto, using(crate::proofs::TreeLemmas::joined))]
 
-ghost use Rattle.std.specs.Prelude.{◌≡◌, ◌+◌, ◌≤◌, ◌++◌, OnOk, drop, length, map, option_map, take};
+ghost use Rattle.std.specs.Prelude.{◌≡◌, ◌++◌, OnOk, map, option_map};
 ghost use Rattle.texting_robots.specs.Callers.{label_by_value};
 ghost use Rattle.robots_warnings.specs.Internal.{warning_value};
 ghost use Rattle.audit_core.specs.Internal.{audit_value};
 ghost use Rattle.audit_page.specs.Internal.ByLine.{list_at, listed_body, listed_part};
-ghost use Rattle.audit_page.specs.Page.{bodies, body_lines, file_content, file_table, line_body, line_row, sitemap_entry, sitemap_item, sitemap_list, warning_row};
+ghost use Rattle.audit_page.specs.Page.{bodies, file_content, file_table, line_body, line_row, sitemap_entry, sitemap_item, sitemap_list, warning_row};
 ghost use Rattle.audit_page.specs.Tree.{all, written};
 
 use crate::page::by_line::by_line;
 use crate::page::parts::{Page, push, push_start_with};
 use crate::page::pieces::{file_caption, line_cells, line_columns, line_start, sitemap_item};
+use crate::page::slices::{after, first};
 use crate::page::style::SITEMAPS;
 use crate::page::warnings::push_warning_rows;
 use audit_core::audit::{Audit, labeling_agent};
@@ -139,22 +140,6 @@ fn push_line_body(
     push_end(&mut page.out, "tbody")
 }
 
-/// The lines of the first body of a table of these lines.
-fn first_body<'b, 'a>(labels: &'b [LabeledLine<'a>]) -> &'b [LabeledLine<'a>]
-    ensures { result.now ≡ take body_lines labels.now }
-{
-    &labels[..BODY_LINES.min(labels.len())]
-}
-
-/// The lines of the body that starts at this index.
-fn body_from<'b, 'a>(labels: &'b [LabeledLine<'a>], start: usize) -> &'b [LabeledLine<'a>]
-    requires { start ≤ length labels.now }
-    ensures lines { result.now ≡ take body_lines (drop start labels.now) }
-    ensures within { start + length result.now ≤ length labels.now }
-{
-    first_body(&labels[start..])
-}
-
 /// Appends the bodies of the table, with the warnings in the lists.
 fn push_listed_bodies(
     page: &mut Page,
@@ -164,11 +149,10 @@ fn push_listed_bodies(
     ensures { OnOk result (page.new.out.items ≡ page.old.out.items
         ++ all (listed_body lists.now) (bodies (map label_by_value labels.now))) }
 {
-    let mut start = 0;
-    while start < labels.len() {
-        let body = body_from(labels, start);
-        push_line_body(page, lists, body)?;
-        start += body.len();
+    let mut rest = labels;
+    while !rest.is_empty() {
+        push_line_body(page, lists, first(rest, BODY_LINES))?;
+        rest = after(rest, BODY_LINES);
     }
     Ok(())
 }

@@ -11,6 +11,7 @@ ghost use Rattle.audit_page.specs.Tree.{all, words_written, written};
 
 use crate::page::parts::{Page, push, push_start_with};
 use crate::page::pieces::{line_link, some_rest};
+use crate::page::slices::{after, first};
 use robots_html::write::{push_element, push_end, push_start, push_text};
 use robots_text::level::Level;
 use robots_text::parts::{Part, Value};
@@ -47,11 +48,7 @@ fn push_warning_words(page: &mut Page, warning: &Warning<'_>) -> Result<(), Allo
 fn listed<'a, 'b>(warnings: &'b [Warning<'a>]) -> &'b [Warning<'a>]
     ensures { map warning_value result.now ≡ take listed_warnings (map warning_value warnings.now) }
 {
-    if warnings.len() > LISTED_WARNINGS {
-        &warnings[..LISTED_WARNINGS]
-    } else {
-        warnings
-    }
+    first(warnings, LISTED_WARNINGS)
 }
 
 /// The warnings after those.
@@ -59,11 +56,7 @@ fn listed<'a, 'b>(warnings: &'b [Warning<'a>]) -> &'b [Warning<'a>]
 fn later<'a, 'b>(warnings: &'b [Warning<'a>]) -> &'b [Warning<'a>]
     ensures { map warning_value result.now ≡ later_warnings (map warning_value warnings.now) }
 {
-    if warnings.len() > LISTED_WARNINGS {
-        &warnings[LISTED_WARNINGS..]
-    } else {
-        &[]
-    }
+    after(warnings, LISTED_WARNINGS)
 }
 
 /// Whether a warning about this line has a row in the table of lines, which has this number of lines.
