@@ -1,13 +1,13 @@
 -- The bodies of the table of lines, one after the other.
-use Rattle.std.proofs.Common.{◌≡◌, ◌∙◌, ℕ, suc, ◌+◌, ◌-◌, ◌/◌, ◌<◌, List, [], ◌∷◌, ◌++◌, ap, append_assoc}
-use Rattle.std.proofs.Common.{arith, drop, length, map, sym, take}
-use Rattle.std.proofs.lemmas.List.{append-nil, drop-drop, drop-map, drop_min, length-drop, length-map}
-use Rattle.std.proofs.lemmas.List.{length-take, take-map}
+use Rattle.std.proofs.Common.{◌≡◌, ◌∙◌, ℕ, suc, ◌+◌, ◌-◌, ◌/◌, ◌<◌, ◌==◌, List, [], ◌∷◌, ◌++◌, ap}
+use Rattle.std.proofs.Common.{append_assoc, arith, drop, false, length, map, sym, take, true}
+use Rattle.std.proofs.lemmas.Bool.Decides.{nat_tests}
+use Rattle.std.proofs.lemmas.List.{append-nil, drop-map, length-drop, length-map}
+use Rattle.std.proofs.lemmas.List.{take-map}
 use Rattle.texting_robots.specs.Callers.{Label, label_by_value}
 use Rattle.texting_robots.specs.declared.labels.LabeledLine.{LabeledLine}
-use Rattle.robots_html.specs.Html.{Html, each, written}
-use Rattle.robots_html.proofs.WritingLemmas.{written-followed}
 use Rattle.audit_page.specs.Page.{bodies, bodies_of, body_lines}
+use Rattle.audit_page.specs.Tree.{Tree, all, written}
 
 some_bodies : (labels : List Label) → 0 < length labels
     → bodies labels ≡ take body_lines labels ∷ bodies (drop body_lines labels)
@@ -22,34 +22,24 @@ no_bodies labels none =
     let count : (length labels + (body_lines - 1)) / body_lines ≡ 0 = omega arith in
     ap (λ (n : ℕ). bodies_of n labels) count
 
-first_added : (body : List Label → Html) (rest : List Label) (out new whole : List ℕ) → 0 < length rest
+first_added : (body : List Label → Tree) (rest : List Label) (out new whole : List ℕ) → 0 < length rest
     → new ≡ out ++ written (body (take body_lines rest))
-    → out ++ written (each body (bodies rest)) ≡ whole
-    → new ++ written (each body (bodies (drop body_lines rest))) ≡ whole
+    → out ++ all body (bodies rest) ≡ whole
+    → new ++ all body (bodies (drop body_lines rest)) ≡ whole
 first_added body rest out new whole some is so_far =
     let first = body (take body_lines rest) in
-    let others = each body (bodies (drop body_lines rest)) in
-    ap (λ (b : List ℕ). b ++ written others) is
-    ∙ append_assoc out (written first) (written others)
-    ∙ ap (λ (b : List ℕ). out ++ b) (sym (written-followed first others))
-    ∙ ap (λ (list : List (List Label)). out ++ written (each body list)) (sym (some_bodies rest some))
+    let others = all body (bodies (drop body_lines rest)) in
+    ap (λ (b : List ℕ). b ++ others) is
+    ∙ append_assoc out (written first) others
+    ∙ ap (λ (list : List (List Label)). out ++ all body list) (sym (some_bodies rest some))
     ∙ so_far
 
--- the lines after a body
-pub others_after : (labels body : List LabeledLine) (start : ℕ) → body ≡ take body_lines (drop start labels)
-    → drop (start + length body) labels ≡ drop body_lines (drop start labels)
-others_after labels body start is =
-    let rest = drop start labels in
-    sym (drop-drop (length body) start labels)
-    ∙ ap (λ (n : ℕ). drop n rest) (ap length is ∙ length-take body_lines rest)
-    ∙ drop_min body_lines rest
-
 -- a body that is appended is the first of those that are still to come
-pub body_added : (body : List Label → Html) (rest first others : List LabeledLine) (out new whole : List ℕ)
+pub body_added : (body : List Label → Tree) (rest first others : List LabeledLine) (out new whole : List ℕ)
     → 0 < length rest → first ≡ take body_lines rest → others ≡ drop body_lines rest
     → new ≡ out ++ written (body (map label_by_value first))
-    → out ++ written (each body (bodies (map label_by_value rest))) ≡ whole
-    → new ++ written (each body (bodies (map label_by_value others))) ≡ whole
+    → out ++ all body (bodies (map label_by_value rest)) ≡ whole
+    → new ++ all body (bodies (map label_by_value others)) ≡ whole
 body_added body rest first others out new whole some is are added so_far =
     let labels = map label_by_value rest in
     let more : 0 < length labels = rw (length-map rest label_by_value) some in
@@ -57,16 +47,28 @@ body_added body rest first others out new whole some is are added so_far =
     ap (map label_by_value) is ∙ sym (take-map label_by_value body_lines rest) in
     let back : map label_by_value others ≡ drop body_lines labels =
     ap (map label_by_value) are ∙ sym (drop-map label_by_value body_lines rest) in
-    ap (λ (list : List Label). new ++ written (each body (bodies list))) back
+    ap (λ (list : List Label). new ++ all body (bodies list)) back
     ∙ first_added body labels out new whole more
     (added ∙ ap (λ (list : List Label). out ++ written (body list)) front) so_far
 
 -- no body is still to come
-pub all_added : (body : List Label → Html) (rest : List LabeledLine) (out whole : List ℕ)
-    → length rest ≡ 0 → out ++ written (each body (bodies (map label_by_value rest))) ≡ whole → out ≡ whole
+pub all_added : (body : List Label → Tree) (rest : List LabeledLine) (out whole : List ℕ)
+    → length rest ≡ 0 → out ++ all body (bodies (map label_by_value rest)) ≡ whole → out ≡ whole
 all_added body rest out whole none so_far =
     let labels = map label_by_value rest in
     sym (append-nil out)
-    ∙ ap (λ (list : List (List Label)). out ++ written (each body list))
+    ∙ ap (λ (list : List (List Label)). out ++ all body list)
     (sym (no_bodies labels (length-map rest label_by_value ∙ none)))
     ∙ so_far
+
+-- ---- whether lines are left
+
+pub some_length : (lines : List LabeledLine) → (length lines == 0) ≡ false → 0 < length lines
+some_length lines is = grind (arith, nat_tests)
+
+pub no_length : (lines : List LabeledLine) → (length lines == 0) ≡ true → length lines ≡ 0
+no_length lines is = grind (arith, nat_tests)
+
+pub is_shorter : (lines others : List LabeledLine) → 0 < length lines → others ≡ drop body_lines lines
+    → length others < length lines
+is_shorter lines others some are = rw are (omega (arith, length-drop body_lines lines))

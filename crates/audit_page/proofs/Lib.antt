@@ -3,3 +3,4 @@ pub mod ByLineLemmas
 pub mod HtmlLemmas
 pub mod PageLemmas
 pub mod PieceLemmas
+pub mod TreeLemmas

@@ -1,2 +1,4 @@
-pub mod Page
+pub mod Html
 pub mod Internal
+pub mod Page
+pub mod Tree

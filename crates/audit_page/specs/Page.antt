@@ -1,182 +1,213 @@
--- The audit as an HTML page, a tree of `robots_html`. The bytes of a page are `document (page ..)`. Each
--- untrusted text is sanitized and is the text of an element, never part of an attribute.
+-- The audit as an HTML page, a tree of `specs/Tree.antt`. Each untrusted text is sanitized and is the text of
+-- an element, never part of an attribute.
 --
 -- The parts are `unfoldable`, so that a proof about a function that writes a part names the parts in it.
-use Rattle.std.specs.Prelude.{ℕ, zero, suc, ◌+◌, ◌-◌, ◌/◌, ◌==◌, nat_lt, Bool, true, false, not}
+use Rattle.std.specs.Prelude.{◌≡◌, ℕ, zero, suc, ◌+◌, ◌-◌, ◌/◌, ◌==◌, nat_lt, Bool, true, false, not}
 use Rattle.std.specs.Prelude.{List, [], ◌∷◌, ◌++◌, Option, Some, None}
-use Rattle.std.specs.Prelude.{codes, decimal, drop, filter, if◌then◌else◌, length, take}
+use Rattle.std.specs.Prelude.{codes, drop, filter, if◌then◌else◌, length, take}
+use Rattle.std.proofs.Common.{refl}
+use Rattle.std.proofs.lemmas.Bool.{and_parts}
 use Rattle.texting_robots.specs.Callers.{Label, LineValue, sitemaps_in}
-use Rattle.robots_html.specs.Html.{Attribute, Html, attribute, each, style, tag, text, void, ◌⊕◌}
-use Rattle.robots_io.specs.Sanitize.{sanitized}
+use Rattle.robots_html.specs.Html.{Html, tag_close}
+use Rattle.robots_io.specs.Sanitize.{ends_apart}
 use Rattle.robots_text.specs.declared.level.Level.{Level}
 use Rattle.robots_text.specs.declared.level.Level.TheVariants.{Error, Note, Warning}
-use Rattle.robots_warnings.specs.declared.table.Cause.{Cause}
-use Rattle.robots_warnings.specs.File.{lines_of}
 use Rattle.robots_text.specs.Level.{level_word}
+use Rattle.robots_text.specs.Text.{Number, Untrusted, Value, Word, is_fixed, word}
+use Rattle.robots_warnings.specs.File.{lines_of}
+use Rattle.robots_warnings.specs.Message.{reported_parts}
 use Rattle.robots_warnings.specs.Table.{level_of}
-use Rattle.robots_warnings.specs.Warnings.{WarningValue, name_text, warning_text}
-use Rattle.audit_page.specs.declared.page.style.TheConstants.{AGENT_CAPTION, CRAWLERS}
-use Rattle.audit_page.specs.declared.page.style.TheConstants.{CSS, DELAY, DIRECTIVE}
-use Rattle.audit_page.specs.declared.page.style.TheConstants.{HTTP_EQUIV, POLICY, POLICY_NAME, REJECTED}
-use Rattle.audit_page.specs.declared.page.style.TheConstants.{SITEMAP_TERM, URL_CAPTION, VIEWPORT}
-use Rattle.audit_page.specs.declared.page.style.TheConstants.{VIEWPORT_NAME, WARNING_TERM}
+use Rattle.robots_warnings.specs.WarningValue.{WarningValue}
 use Rattle.audit_core.specs.Audit.{AgentValue, AuditValue, VerdictValue, labeling_agent}
 use Rattle.audit_core.specs.Request.{RequestValue}
-use Rattle.audit_core.specs.Delay.{delay_text}
-use Rattle.audit_core.specs.Rows.{membership_word}
-use Rattle.audit_core.specs.Texts.{group_text}
-use Rattle.audit_core.specs.Rows.{kind_text, value_text}
+use Rattle.audit_core.specs.Rows.{kind_of, line_value, membership_value}
 use Rattle.audit_core.specs.Syntax.{is_standard, sentence}
+use Rattle.audit_core.specs.Texts.{delay_value, group_end, group_reason, group_value}
 use Rattle.audit_core.specs.declared.syntax.Syntax.{Syntax}
+use Rattle.audit_core.specs.declared.syntax.Syntax.TheVariants.{Standard, StandardWithoutWarnings, Unstated}
+use Rattle.audit_page.specs.declared.page.style.TheConstants.{CRAWLERS, CSS, POLICY, REJECTED, SITEMAPS}
+use Rattle.audit_page.specs.Html.{html_of}
+use Rattle.audit_page.specs.Tree.{Field, Tree, Words, each, field, fixed, is_ascii, labelled, message}
+use Rattle.audit_page.specs.Tree.{nothing, opened, shown, style, tag, text, title, void, with}
+use Rattle.audit_page.specs.Tree.{written, ◌⊕◌}
 
 -- ---- parts of several elements
 
--- one attribute
-abbrev pub with : List ℕ → List ℕ → List Attribute
-with name value = attribute name value ∷ []
+abbrev pub class : Words → List Field
+class words = with (codes "class") words
 
--- a sanitized text, displayed from left to right whatever its letters are
-unfoldable pub code : List ℕ → Html
-code sanitized = tag (codes "code") (with (codes "dir") (codes "ltr")) (text sanitized)
+-- sanitized bytes, displayed from left to right whatever their letters are
+unfoldable pub code : List ℕ → Tree
+code bytes =
+    tag (codes "code") (with (codes "dir") (fixed (codes "ltr") refl)) refl (text (shown (Untrusted bytes)))
 
 -- a link to the row of a line
-unfoldable pub line_link : ℕ → Html
+unfoldable pub line_link : ℕ → Tree
 line_link number =
-    tag (codes "a") (with (codes "href") (codes "#L" ++ decimal number))
-    (text (codes "line " ++ decimal number))
+    tag (codes "a") (with (codes "href") (labelled (codes "#L") refl (Number number))) refl
+    (text (labelled (codes "line ") refl (Number number)))
 
 -- the heading of a column
-unfoldable pub column : List ℕ → Html
-column name = tag (codes "th") (with (codes "scope") (codes "col")) (text name)
+abbrev pub column : Tree → Tree
+column name = tag (codes "th") (with (codes "scope") (fixed (codes "col") refl)) refl name
 
--- an element that contains a text
-unfoldable pub simple : List ℕ → List ℕ → Html
-simple name bytes = tag name [] (text bytes)
+-- the name of a row
+abbrev pub row_name : Tree → Tree
+row_name name = tag (codes "th") (with (codes "scope") (fixed (codes "row") refl)) refl name
 
--- the name of a row, which is untrusted
-unfoldable pub row_name : List ℕ → Html
-row_name name = tag (codes "th") (with (codes "scope") (codes "row")) (code (sanitized name))
+abbrev pub row : Tree → Tree
+row cells = tag (codes "tr") [] refl cells
+
+abbrev pub columns : Tree → Tree
+columns names = tag (codes "thead") [] refl (row names)
+
+abbrev pub cell : Words → Tree
+cell words = tag (codes "td") [] refl (text words)
+
+-- a term and its description
+abbrev pub entry : Words → Tree → Tree
+entry name description = tag (codes "dt") [] refl (text name) ⊕ tag (codes "dd") [] refl description
+
+abbrev pub heading : Words → Tree
+heading words = tag (codes "h2") [] refl (text words)
+
+abbrev pub caption : Words → Tree
+caption words = tag (codes "caption") [] refl (text words)
 
 -- ---- verdicts
 
-abbrev pub verdict_name : Bool → List ℕ
-verdict_name true = codes "allowed"
-verdict_name false = codes "denied"
+abbrev pub verdict_word : Bool → Value
+verdict_word true = word (codes "allowed") refl
+verdict_word false = word (codes "denied") refl
 
 -- the line that decides
-unfoldable pub deciding_line : Option ℕ → Html
-deciding_line None = text (codes "no line")
+abbrev pub deciding_line : Option ℕ → Tree
+deciding_line None = text (fixed (codes "no line") refl)
 deciding_line (Some number) = line_link number
 
 -- a cell with a verdict and the line that decides
-unfoldable pub verdict_cell : VerdictValue → Html
+unfoldable pub verdict_cell : VerdictValue → Tree
 verdict_cell verdict =
-    let name = verdict_name verdict.decision.allowed in
-    tag (codes "td") (with (codes "class") name)
-    (text name ⊕ text (codes ", ") ⊕ deciding_line verdict.decision.line)
+    let name = shown (verdict_word verdict.decision.allowed) in
+    tag (codes "td") (class name) refl
+    (text name ⊕ text (fixed (codes ", ") refl) ⊕ deciding_line verdict.decision.line)
 
 -- a row with a URL and its verdict
-unfoldable pub url_row : VerdictValue → Html
-url_row verdict = tag (codes "tr") [] (row_name verdict.url ⊕ verdict_cell verdict)
+unfoldable pub url_row : VerdictValue → Tree
+url_row verdict = row (row_name (code verdict.url) ⊕ verdict_cell verdict)
 
-unfoldable pub url_columns : Html
-url_columns = tag (codes "thead") [] (tag (codes "tr") [] (column (codes "URL") ⊕ column (codes "Verdict")))
+unfoldable pub url_head : Tree
+url_head =
+    caption (fixed (codes "May the crawler fetch it?") refl)
+    ⊕ columns (column (text (fixed (codes "URL") refl)) ⊕ column (text (fixed (codes "Verdict") refl)))
 
-unfoldable pub url_body : List VerdictValue → Html
-url_body verdicts = tag (codes "tbody") [] (each url_row verdicts)
+unfoldable pub url_body : List VerdictValue → Tree
+url_body verdicts = tag (codes "tbody") [] refl (each url_row verdicts)
 
 -- the URLs of a report about one crawler
-unfoldable pub url_table : List VerdictValue → Html
+unfoldable pub url_table : List VerdictValue → Tree
 url_table verdicts =
-    simple (codes "h2") (codes "URLs")
-    ⊕ tag (codes "table") (with (codes "class") (codes "urls"))
-    (simple (codes "caption") URL_CAPTION.now ⊕ url_columns ⊕ url_body verdicts)
+    heading (fixed (codes "URLs") refl)
+    ⊕ tag (codes "table") (class (fixed (codes "urls") refl)) refl
+    (url_head ⊕ url_body verdicts)
 
 -- the same, or nothing if there are no verdicts
-unfoldable pub url_part : AgentValue → Html
-url_part agent = if length agent.verdicts == 0 then text [] else url_table agent.verdicts
+abbrev pub url_part : AgentValue → Tree
+url_part agent = if length agent.verdicts == 0 then nothing else url_table agent.verdicts
 
 -- ---- crawlers
 
-abbrev pub delay_name : Option ℕ → List ℕ
-delay_name None = codes "none"
-delay_name (Some micros) = delay_text micros
-
 -- that the file is rejected for a crawler, if it is
-unfoldable pub rejection : Option ℕ → Html
-rejection None = text []
-rejection (Some line) = text REJECTED.now ⊕ line_link line
+abbrev pub rejection : Option ℕ → Tree
+rejection None = nothing
+rejection (Some line) = text (fixed REJECTED.now refl) ⊕ line_link line
 
 -- the group that applies to a crawler, and whether the file is rejected for it
-unfoldable pub group_note : AgentValue → Html
-group_note agent = text (group_text agent.agent agent.group) ⊕ rejection agent.rejected
+unfoldable pub group_note : AgentValue → Tree
+group_note agent =
+    text (message (group_value agent.agent agent.group)
+    (group_reason agent.agent agent.group ∷ group_end agent.agent agent.group ∷ []))
+    ⊕ rejection agent.rejected
 
--- the same as a cell, and as the description of a term
-unfoldable pub group_part : List ℕ → AgentValue → Html
-group_part name agent = tag name [] (group_note agent)
+unfoldable pub delay_entry : Option ℕ → Tree
+delay_entry delay = entry (fixed (codes "Crawl delay") refl) (text (shown (delay_value delay)))
 
 -- the group and the delay of a crawler
-unfoldable pub agent_entries : AgentValue → Html
-agent_entries agent =
-    simple (codes "dt") (codes "Group") ⊕ group_part (codes "dd") agent
-    ⊕ simple (codes "dt") DELAY.now ⊕ simple (codes "dd") (delay_name agent.delay)
+unfoldable pub agent_entries : AgentValue → Tree
+agent_entries agent = entry (fixed (codes "Group") refl) (group_note agent) ⊕ delay_entry agent.delay
 
 -- a row about a crawler; without verdicts if the file is rejected for it
-unfoldable pub agent_row : AgentValue → Html
+unfoldable pub agent_row : AgentValue → Tree
 agent_row agent =
-    tag (codes "tr") []
-    (row_name agent.agent ⊕ group_part (codes "td") agent ⊕ simple (codes "td") (delay_name agent.delay)
-    ⊕ each verdict_cell agent.verdicts)
+    row (row_name (code agent.agent) ⊕ tag (codes "td") [] refl (group_note agent)
+    ⊕ cell (shown (delay_value agent.delay)) ⊕ each verdict_cell agent.verdicts)
 
-unfoldable pub url_column : List ℕ → Html
-url_column url = tag (codes "th") (with (codes "scope") (codes "col")) (code (sanitized url))
+unfoldable pub url_column : List ℕ → Tree
+url_column url = column (code url)
 
--- the columns of the table of crawlers
-unfoldable pub agent_names : List (List ℕ) → Html
-agent_names urls =
-    column (codes "Crawler") ⊕ column (codes "Group") ⊕ column DELAY.now ⊕ each url_column urls
+-- the first columns of the table of crawlers
+unfoldable pub first_columns : Tree
+first_columns =
+    column (text (fixed (codes "Crawler") refl)) ⊕ column (text (fixed (codes "Group") refl))
+    ⊕ column (text (fixed (codes "Crawl delay") refl))
 
-unfoldable pub agent_columns : List (List ℕ) → Html
-agent_columns urls = tag (codes "thead") [] (tag (codes "tr") [] (agent_names urls))
+unfoldable pub agent_columns : List (List ℕ) → Tree
+agent_columns urls = columns (first_columns ⊕ each url_column urls)
 
-unfoldable pub agent_content : List (List ℕ) → List AgentValue → Html
+unfoldable pub agent_caption : Tree
+agent_caption = caption (fixed (codes "What each crawler may fetch") refl)
+
+unfoldable pub agent_content : List (List ℕ) → List AgentValue → Tree
 agent_content urls agents =
-    simple (codes "caption") AGENT_CAPTION.now
-    ⊕ agent_columns urls ⊕ tag (codes "tbody") [] (each agent_row agents)
+    agent_caption ⊕ agent_columns urls
+    ⊕ tag (codes "tbody") [] refl (each agent_row agents)
+
+abbrev pub scroll_fields : List Field
+scroll_fields =
+    field (codes "class") (fixed (codes "scroll") refl) ∷ with (codes "tabindex") (fixed (codes "0") refl)
+
+abbrev pub scroll_start : List ℕ
+scroll_start = opened (codes "div") scroll_fields ++ tag_close
 
 -- the table of several crawlers, which can be scrolled, also with keys
-unfoldable pub agent_table : List (List ℕ) → List AgentValue → Html
+unfoldable pub agent_table : List (List ℕ) → List AgentValue → Tree
 agent_table urls agents =
-    tag (codes "div")
-    (attribute (codes "class") (codes "scroll") ∷ attribute (codes "tabindex") (codes "0") ∷ [])
-    (tag (codes "table") (with (codes "class") (codes "agents")) (agent_content urls agents))
+    tag (codes "div") scroll_fields refl
+    (tag (codes "table") (class (fixed (codes "agents") refl)) refl (agent_content urls agents))
 
 -- ---- warnings
 
 -- the level of a warning, as its text begins
-abbrev pub level_name : Level → List ℕ
-level_name Error = codes "Error: "
-level_name Warning = codes "Warning: "
-level_name Note = codes "Note: "
+abbrev pub level_front : Level → Value
+level_front Error = word (codes "Error: ") refl
+level_front Warning = word (codes "Warning: ") refl
+level_front Note = word (codes "Note: ") refl
+
+pub level_safe : (level : Level) → is_fixed (level_word level) ≡ true
+level_safe Error = refl
+level_safe Warning = refl
+level_safe Note = refl
+
+abbrev pub level_value : Level → Value
+level_value level = Word (record { text = level_word level; safe = level_safe level })
 
 -- the level of a warning, its message and its name
-abbrev pub warning_words : WarningValue → List ℕ
-warning_words warning =
-    level_name (level_of warning.cause) ++ (warning_text warning ++ name_text warning.cause)
+abbrev pub warning_words : WarningValue → Words
+warning_words warning = message (level_front (level_of warning.cause)) (reported_parts warning)
 
 -- the name of a line: a link, if it has one of the `rows` of the table of lines, as those that are read have
-unfoldable pub line_name : (rows number : ℕ) → Html
+abbrev pub line_name : (rows number : ℕ) → Tree
 line_name rows number =
-    if nat_lt rows number then text (codes "line " ++ decimal number) else line_link number
+    if nat_lt rows number then text (labelled (codes "line ") refl (Number number)) else line_link number
 
-unfoldable pub warning_place : (rows : ℕ) → Option ℕ → Html
-warning_place rows None = text []
-warning_place rows (Some number) = line_name rows number ⊕ text (codes ": ")
+abbrev pub warning_place : (rows : ℕ) → Option ℕ → Tree
+warning_place rows None = nothing
+warning_place rows (Some number) = line_name rows number ⊕ text (fixed (codes ": ") refl)
 
 -- a warning in the list at the top, with the name of its line
-unfoldable pub warning_item : (rows : ℕ) → WarningValue → Html
+unfoldable pub warning_item : (rows : ℕ) → WarningValue → Tree
 warning_item rows warning =
-    tag (codes "li") [] (warning_place rows warning.line ⊕ text (warning_words warning))
+    tag (codes "li") [] refl (warning_place rows warning.line ⊕ text (warning_words warning))
 
 -- how many warnings are listed at the top first
 abbrev pub listed_warnings : ℕ
@@ -196,7 +227,7 @@ abbrev pub without_row : (rows : ℕ) → List WarningValue → List WarningValu
 without_row rows warnings = filter (λ (warning : WarningValue). not (has_row rows warning.line)) warnings
 
 -- the list at the top: the first warnings, and those of the later ones that are nowhere else on the page
-unfoldable pub warning_items : (rows : ℕ) → List WarningValue → Html
+abbrev pub warning_items : (rows : ℕ) → List WarningValue → Tree
 warning_items rows warnings =
     each (warning_item rows) (take listed_warnings warnings)
     ⊕ each (warning_item rows) (without_row rows (later_warnings warnings))
@@ -205,82 +236,82 @@ warning_items rows warnings =
 abbrev pub rest_count : (rows : ℕ) → List WarningValue → ℕ
 rest_count rows warnings = length warnings - length (without_row rows warnings)
 
-abbrev pub rest_words : ℕ → List ℕ
-rest_words count = codes "and " ++ decimal count ++ codes " more, below their lines"
+-- how many warnings aren't in the list
+unfoldable pub some_rest : ℕ → Tree
+some_rest count =
+    tag (codes "p") [] refl
+    (text (labelled (codes "and ") refl (Number count))
+    ⊕ text (fixed (codes " more, below their lines") refl))
 
--- how many warnings aren't in the list, if there are some
-unfoldable pub rest_note : ℕ → Html
-rest_note count = if count == 0 then text [] else simple (codes "p") (rest_words count)
-
--- the same of the warnings after the first
-unfoldable pub rest_part : (rows : ℕ) → List WarningValue → Html
-rest_part rows warnings = rest_note (rest_count rows (later_warnings warnings))
+-- the same, if there are some
+abbrev pub rest_note : ℕ → Tree
+rest_note count = if count == 0 then nothing else some_rest count
 
 -- the number of warnings, and the list
-unfoldable pub warning_list : (rows : ℕ) → List WarningValue → Html
+unfoldable pub warning_list : (rows : ℕ) → List WarningValue → Tree
 warning_list rows warnings =
-    text (decimal (length warnings))
-    ⊕ tag (codes "ul") [] (warning_items rows warnings)
-    ⊕ rest_part rows warnings
+    text (shown (Number (length warnings))) ⊕ tag (codes "ul") [] refl (warning_items rows warnings)
+    ⊕ rest_note (rest_count rows (later_warnings warnings))
 
-unfoldable pub warning_entry : (rows : ℕ) → List WarningValue → Html
-warning_entry rows warnings =
-    simple (codes "dt") WARNING_TERM.now ⊕ tag (codes "dd") [] (warning_list rows warnings)
+unfoldable pub warning_entry : (rows : ℕ) → List WarningValue → Tree
+warning_entry rows warnings = entry (fixed (codes "Warnings") refl) (warning_list rows warnings)
 
 -- ---- the file
 
-unfoldable pub sitemap_item : List ℕ → Html
-sitemap_item value = tag (codes "li") [] (code (sanitized value))
+unfoldable pub sitemap_item : List ℕ → Tree
+sitemap_item value = tag (codes "li") [] refl (code value)
 
-unfoldable pub sitemap_entry : List Label → Html
-sitemap_entry labels =
-    simple (codes "dt") SITEMAP_TERM.now
-    ⊕ tag (codes "dd") [] (tag (codes "ul") [] (each sitemap_item (sitemaps_in (lines_of labels))))
+unfoldable pub sitemap_list : List (List ℕ) → Tree
+sitemap_list values = tag (codes "ul") [] refl (each sitemap_item values)
 
--- the number of a line, as the name of its row
-unfoldable pub number_cell : ℕ → Html
-number_cell number = tag (codes "th") (with (codes "scope") (codes "row")) (text (decimal number))
+unfoldable pub sitemap_entry : List Label → Tree
+sitemap_entry labels = entry (fixed SITEMAPS.now refl) (sitemap_list (sitemaps_in (lines_of labels)))
 
--- the value of a line; a cell is displayed from left to right, as the page is
-unfoldable pub value_cell : LineValue → Html
-value_cell line = simple (codes "td") (value_text line)
+-- the name of the line's directive
+abbrev pub kind_value : LineValue → Value
+kind_value line =
+    let kind = kind_of line in
+    let both = and_parts (is_fixed kind.text) (ends_apart kind.text) kind.safe in
+    Word (record { text = kind.text; safe = both.0 })
 
--- the membership and the directive of a line
-unfoldable pub word_cells : Label → Html
-word_cells label =
-    simple (codes "td") (membership_word label.membership) ⊕ simple (codes "td") (kind_text label.line)
+abbrev pub line_fields : Label → List Field
+line_fields label =
+    field (codes "id") (labelled (codes "L") refl (Number label.number))
+    ∷ class (shown (membership_value label.membership))
 
-abbrev pub line_attributes : Label → List Attribute
-line_attributes label =
-    attribute (codes "id") (codes "L" ++ decimal label.number)
-    ∷ attribute (codes "class") (membership_word label.membership) ∷ []
+unfoldable pub line_cells : Label → Tree
+line_cells label =
+    cell (shown (membership_value label.membership)) ⊕ cell (shown (kind_value label.line))
+    ⊕ cell (shown (line_value label.line))
 
--- a row for a line, to which other parts link
-unfoldable pub line_row : Label → Html
+-- a row for a line, to which other parts link; each cell is displayed from left to right, as the page is
+unfoldable pub line_row : Label → Tree
 line_row label =
-    tag (codes "tr") (line_attributes label)
-    (number_cell label.number ⊕ word_cells label ⊕ value_cell label.line)
+    tag (codes "tr") (line_fields label) refl
+    (row_name (text (shown (Number label.number))) ⊕ line_cells label)
+
+-- the start tag of the row, and the number
+abbrev pub line_start : Label → List ℕ
+line_start label =
+    opened (codes "tr") (line_fields label)
+    ++ (tag_close ++ written (row_name (text (shown (Number label.number)))))
 
 -- a row for a warning, below that of its line
-unfoldable pub warning_row : WarningValue → Html
+unfoldable pub warning_row : WarningValue → Tree
 warning_row warning =
-    tag (codes "tr") (with (codes "class") (level_word (level_of warning.cause)))
-    (tag (codes "td") (with (codes "colspan") (codes "4")) (text (warning_words warning)))
-
--- a warning with this cause, whose message has no URL, no name and no number
-abbrev pub of_cause : Cause → WarningValue
-of_cause cause = record { line = None; cause = cause; about = None; detail = None }
+    tag (codes "tr") (class (shown (level_value (level_of warning.cause)))) refl
+    (tag (codes "td") (with (codes "colspan") (fixed (codes "4") refl)) refl (text (warning_words warning)))
 
 abbrev pub is_at : ℕ → Option ℕ → Bool
 is_at number None = false
 is_at number (Some line) = line == number
 
 -- the row of a warning if it is about the line with this number
-unfoldable pub warning_at : ℕ → WarningValue → Html
-warning_at number warning = if is_at number warning.line then warning_row warning else text []
+abbrev pub warning_at : ℕ → WarningValue → Tree
+warning_at number warning = if is_at number warning.line then warning_row warning else nothing
 
 -- a line and the warnings about it
-unfoldable pub line_part : List WarningValue → Label → Html
+unfoldable pub line_part : List WarningValue → Label → Tree
 line_part warnings label = line_row label ⊕ each (warning_at label.number) warnings
 
 -- how many lines a body of the table has; a browser lays out later what isn't visible yet
@@ -296,87 +327,95 @@ bodies_of (suc more) labels = take body_lines labels ∷ bodies_of more (drop bo
 abbrev pub bodies : List Label → List (List Label)
 bodies labels = bodies_of ((length labels + (body_lines - 1)) / body_lines) labels
 
-unfoldable pub line_body : List WarningValue → List Label → Html
-line_body warnings labels = tag (codes "tbody") [] (each (line_part warnings) labels)
+unfoldable pub line_body : List WarningValue → List Label → Tree
+line_body warnings labels = tag (codes "tbody") [] refl (each (line_part warnings) labels)
 
-unfoldable pub line_names : Html
-line_names = column (codes "Line") ⊕ column (codes "Group") ⊕ column DIRECTIVE.now ⊕ column (codes "Value")
+-- `agent` is the crawler whose group is marked
+unfoldable pub file_caption : List ℕ → Tree
+file_caption agent =
+    caption (labelled (codes "Lines, and whether they are in the group of ") refl (Untrusted agent))
 
-unfoldable pub line_columns : Html
-line_columns = tag (codes "thead") [] (tag (codes "tr") [] line_names)
+unfoldable pub line_columns : Tree
+line_columns =
+    columns (column (text (fixed (codes "Line") refl)) ⊕ column (text (fixed (codes "Group") refl))
+    ⊕ column (text (fixed (codes "Directive") refl)) ⊕ column (text (fixed (codes "Value") refl)))
 
-abbrev pub file_caption : Option (List ℕ) → List ℕ
-file_caption agent = codes "Lines, and whether they are in the group of " ++ sanitized (labeling_agent agent)
-
-unfoldable pub file_content : Option (List ℕ) → AuditValue → Html
+unfoldable pub file_content : Option (List ℕ) → AuditValue → Tree
 file_content agent audit =
-    simple (codes "caption") (file_caption agent) ⊕ line_columns
-    ⊕ each (line_body audit.warnings) (bodies audit.labels)
+    file_caption (labeling_agent agent) ⊕ line_columns ⊕ each (line_body audit.warnings) (bodies audit.labels)
 
 -- the file with its warnings
-unfoldable pub file_table : Option (List ℕ) → AuditValue → Html
+unfoldable pub file_table : Option (List ℕ) → AuditValue → Tree
 file_table agent audit =
-    simple (codes "h2") (codes "File")
-    ⊕ tag (codes "table") (with (codes "class") (codes "lines")) (file_content agent audit)
+    heading (fixed (codes "File") refl)
+    ⊕ tag (codes "table") (class (fixed (codes "lines") refl)) refl (file_content agent audit)
 
 -- ---- the page
 
-abbrev pub title_text : Option (List ℕ) → List ℕ
-title_text None = codes "robots.txt for several crawlers"
-title_text (Some agent) = codes "robots.txt for " ++ sanitized agent
-
-unfoldable pub charset : Html
-charset = void [] (codes "meta") (with (codes "charset") (codes "utf-8")) (text [])
-
-unfoldable pub meta : List ℕ → List ℕ → List ℕ → Html
-meta kind name content =
-    void [] (codes "meta") (attribute kind name ∷ attribute (codes "content") content ∷ []) (text [])
-
-unfoldable pub page_style : Html
-page_style = style [] CSS.now (text [])
+abbrev pub title_words : Option (List ℕ) → Words
+title_words None = fixed (codes "robots.txt for several crawlers") refl
+title_words (Some agent) = labelled (codes "robots.txt for ") refl (Untrusted agent)
 
 -- the policy permits the page's own style only, by its hash
-unfoldable pub page_head : List ℕ → Html
-page_head title =
-    tag (codes "head") []
-    (charset ⊕ meta HTTP_EQUIV.now POLICY_NAME.now POLICY.now
-    ⊕ meta (codes "name") VIEWPORT_NAME.now VIEWPORT.now
-    ⊕ page_style ⊕ simple (codes "title") title)
+unfoldable pub head_start : Tree
+head_start =
+    void (codes "meta") (with (codes "charset") (fixed (codes "utf-8") refl)) refl
+    ⊕ void (codes "meta")
+    (field (codes "http-equiv") (fixed (codes "Content-Security-Policy") refl)
+    ∷ with (codes "content") (fixed POLICY.now refl))
+    refl
+    ⊕ void (codes "meta")
+    (field (codes "name") (fixed (codes "viewport") refl)
+    ∷ with (codes "content") (fixed (codes "width=device-width, initial-scale=1") refl))
+    refl
+    ⊕ style CSS.now refl
+
+unfoldable pub page_head : Option (List ℕ) → Tree
+page_head agent = tag (codes "head") [] refl (head_start ⊕ title (title_words agent))
+
+unfoldable pub page_heading : Option (List ℕ) → Tree
+page_heading agent = tag (codes "h1") [] refl (text (title_words agent))
 
 -- the entries about a single crawler
-unfoldable pub crawler_entries : Option (List ℕ) → List AgentValue → Html
-crawler_entries None agents = text []
+abbrev pub crawler_entries : Option (List ℕ) → List AgentValue → Tree
+crawler_entries None agents = nothing
 crawler_entries (Some agent) agents = each agent_entries agents
 
+pub sentence_safe : (syntax : Syntax) → is_ascii (sentence syntax) ≡ true
+sentence_safe Unstated = refl
+sentence_safe Standard = refl
+sentence_safe StandardWithoutWarnings = refl
+
 -- what the warnings tell about the syntax of the file, if it is known
-unfoldable pub syntax_entry : Syntax → Html
+unfoldable pub syntax_entry : Syntax → Tree
 syntax_entry syntax =
-    if is_standard syntax then simple (codes "dt") (codes "Syntax") ⊕ simple (codes "dd") (sentence syntax)
-    else text []
+    if is_standard syntax
+    then entry (fixed (codes "Syntax") refl) (text (fixed (sentence syntax) (sentence_safe syntax)))
+    else nothing
 
 -- the summary at the top
-unfoldable pub summary : Option (List ℕ) → AuditValue → Html
+unfoldable pub summary : Option (List ℕ) → AuditValue → Tree
 summary agent audit =
-    tag (codes "dl") []
+    tag (codes "dl") [] refl
     (crawler_entries agent audit.agents ⊕ sitemap_entry audit.labels ⊕ syntax_entry audit.syntax
     ⊕ warning_entry (length audit.labels) audit.warnings)
 
 -- the verdicts, as a table of URLs, or of crawlers and URLs
-unfoldable pub verdict_part : Option (List ℕ) → List (List ℕ) → List AgentValue → Html
-verdict_part None urls agents = simple (codes "h2") CRAWLERS.now ⊕ agent_table urls agents
+abbrev pub verdict_part : Option (List ℕ) → List (List ℕ) → List AgentValue → Tree
+verdict_part None urls agents = heading (fixed CRAWLERS.now refl) ⊕ agent_table urls agents
 verdict_part (Some agent) urls agents = each url_part agents
 
-unfoldable pub page_content : List ℕ → RequestValue → AuditValue → Html
-page_content title requested audit =
-    simple (codes "h1") title ⊕ summary requested.agent audit
+unfoldable pub page_content : RequestValue → AuditValue → Tree
+page_content requested audit =
+    page_heading requested.agent ⊕ summary requested.agent audit
     ⊕ verdict_part requested.agent requested.urls audit.agents ⊕ file_table requested.agent audit
 
-unfoldable pub page_body : List ℕ → RequestValue → AuditValue → Html
-page_body title requested audit =
-    tag (codes "body") [] (tag (codes "main") [] (page_content title requested audit))
-
 -- the page on an audit
-unfoldable pub page : RequestValue → AuditValue → Html
-page requested audit =
-    let title = title_text requested.agent in
-    tag (codes "html") (with (codes "lang") (codes "en")) (page_head title ⊕ page_body title requested audit)
+unfoldable pub page_tree : RequestValue → AuditValue → Tree
+page_tree requested audit =
+    tag (codes "html") (with (codes "lang") (fixed (codes "en") refl)) refl
+    (page_head requested.agent
+    ⊕ tag (codes "body") [] refl (tag (codes "main") [] refl (page_content requested audit)))
+
+abbrev pub page : RequestValue → AuditValue → Html
+page requested audit = html_of (page_tree requested audit)

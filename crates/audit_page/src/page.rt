@@ -1,18 +1,18 @@
 //! The audit as an HTML page.
-#![tactic(auto, using(robots_html::proofs::WritingLemmas::joined))]
+#![tactic(auto, using(crate::proofs::TreeLemmas::joined))]
 
-ghost use Rattle.std.specs.Prelude.{◌≡◌, ◌++◌, IfOk, OnOk, length, map, option_map, string_bytes};
+ghost use Rattle.std.specs.Prelude.{◌≡◌, ◌++◌, IfOk, OnOk, length, map, option_map};
 ghost use Rattle.texting_robots.specs.Callers.{label_by_value};
-ghost use Rattle.robots_html.specs.Html.{document, written};
+ghost use Rattle.robots_html.specs.Html.{doctype, document};
 ghost use Rattle.audit_core.specs.Request.{requested_by};
-ghost use Rattle.audit_core.specs.Internal.{audit_value};
-ghost use Rattle.audit_page.specs.Page.{charset, meta, page, page_body, page_content, page_head, page_style};
-ghost use Rattle.audit_page.specs.Page.{summary, syntax_entry, title_text};
+ghost use Rattle.audit_page.specs.Page.{page, page_content, page_head, page_tree, summary, syntax_entry};
+ghost use Rattle.audit_page.specs.Tree.{written};
 
 mod by_line;
 mod file;
-mod known_row;
 mod parts;
+mod pieces;
+mod slices;
 mod style;
 mod verdicts;
 mod warnings;
@@ -21,91 +21,38 @@ use audit_core::audit::Audit;
 use audit_core::request::Request;
 use audit_core::syntax::Syntax;
 use file::{push_file_table, push_sitemap_entry};
-use parts::{push_simple, push_start_with};
-use robots_html::write::{
-    push_attribute, push_doctype, push_end, push_open, push_start, push_style, push_void_close,
-};
-use robots_io::sanitize::push_sanitized;
+use parts::{Page, push, push_start_with};
+use pieces::{head_start, page_heading, title};
+use robots_html::write::{push_doctype, push_element, push_end, push_start};
 use std::alloc::{AllocError, Global};
-use style::{CSS, HTTP_EQUIV, POLICY, POLICY_NAME, VIEWPORT, VIEWPORT_NAME};
 use texting_robots::labels::LabeledLine;
 use verdicts::{push_crawler_entries, push_verdict_part};
 use warnings::push_warning_entry;
 
-/// The title of a page.
-fn title_text(alloc: Global, agent: Option<&str>) -> Result<String, AllocError>
-    ensures { IfOk result (λ text. string_bytes text
-        ≡ title_text (option_map (λ agent. agent.now) agent.entry)) }
-{
-    let Some(agent) = agent else {
-        return String::from_str(alloc, "robots.txt for several crawlers");
-    };
-    let mut text = String::from_str(alloc, "robots.txt for ")?;
-    push_sanitized(&mut text, agent.as_bytes())?;
-    Ok(text)
-}
-
-/// Appends a `meta` element with two attributes.
-#[tactic(auto, using(robots_html::proofs::WritingLemmas::joined), unfolding(crate::specs::Page::meta))]
-fn push_meta(
-    out: &mut Vec<u8>,
-    attribute: &str,
-    name: &str,
-    content: &str,
-) -> Result<(), AllocError>
-    ensures { OnOk result (out.new.items ≡ out.old.items
-        ++ written (meta attribute.now name.now content.now)) }
-{
-    push_open(out, "meta")?;
-    push_attribute(out, attribute, name)?;
-    push_attribute(out, "content", content)?;
-    push_void_close(out)
-}
-
-/// Appends the encoding.
-#[tactic(auto, using(robots_html::proofs::WritingLemmas::joined), unfolding(crate::specs::Page::charset))]
-fn push_charset(out: &mut Vec<u8>) -> Result<(), AllocError>
-    ensures { OnOk result (out.new.items ≡ out.old.items
-        ++ written (charset)) }
-{
-    push_open(out, "meta")?;
-    push_attribute(out, "charset", "utf-8")?;
-    push_void_close(out)
-}
-
-/// Appends the style.
-#[tactic(auto, using(robots_html::proofs::WritingLemmas::joined), unfolding(crate::specs::Page::page_style))]
-fn push_page_style(out: &mut Vec<u8>) -> Result<(), AllocError>
-    ensures { OnOk result (out.new.items ≡ out.old.items ++ written page_style) }
-{
-    push_style(out, CSS)
-}
-
 /// Appends the head.
-#[tactic(auto, using(robots_html::proofs::WritingLemmas::joined), unfolding(crate::specs::Page::page_head))]
-fn push_head(out: &mut Vec<u8>, title: &str) -> Result<(), AllocError>
-    ensures { OnOk result (out.new.items ≡ out.old.items
-        ++ written (page_head title.now)) }
+#[tactic(auto, using(crate::proofs::TreeLemmas::joined), unfolding(crate::specs::Page::page_head))]
+fn push_head(page: &mut Page, agent: Option<&str>) -> Result<(), AllocError>
+    ensures { OnOk result (page.new.out.items ≡ page.old.out.items
+        ++ written (page_head (option_map (λ agent. agent.now) agent.entry))) }
 {
-    push_start(out, "head")?;
-    push_charset(out)?;
-    push_meta(out, HTTP_EQUIV, POLICY_NAME, POLICY)?;
-    push_meta(out, "name", VIEWPORT_NAME, VIEWPORT)?;
-    push_page_style(out)?;
-    push_simple(out, "title", title)?;
-    push_end(out, "head")
+    push_start(&mut page.out, "head")?;
+    push(page, &head_start())?;
+    push_start(&mut page.out, "title")?;
+    push(page, &[title(agent)])?;
+    push_end(&mut page.out, "title")?;
+    push_end(&mut page.out, "head")
 }
 
 /// Appends what the warnings tell about the syntax of the file, if it is known.
-#[tactic(auto, using(robots_html::proofs::WritingLemmas::joined), unfolding(crate::specs::Page::syntax_entry))]
-fn push_syntax_entry(out: &mut Vec<u8>, syntax: Syntax) -> Result<(), AllocError>
-    ensures { OnOk result (out.new.items ≡ out.old.items ++ written (syntax_entry syntax)) }
+#[tactic(auto, using(crate::proofs::TreeLemmas::joined), unfolding(crate::specs::Page::syntax_entry))]
+fn push_syntax_entry(page: &mut Page, syntax: Syntax) -> Result<(), AllocError>
+    ensures { OnOk result (page.new.out.items ≡ page.old.out.items ++ written (syntax_entry syntax)) }
 {
     if !syntax.is_standard() {
         return Ok(());
     }
-    push_simple(out, "dt", "Syntax")?;
-    push_simple(out, "dd", syntax.sentence())
+    push_element(&mut page.out, "dt", b"Syntax")?;
+    push_element(&mut page.out, "dd", syntax.sentence().as_bytes())
 }
 
 /// How many rows the table of lines has.
@@ -116,77 +63,77 @@ fn row_count(labels: &[LabeledLine<'_>]) -> usize
 }
 
 /// Appends the summary at the top.
-#[tactic(auto, using(robots_html::proofs::WritingLemmas::joined), unfolding(crate::specs::Page::summary))]
+#[tactic(auto, using(crate::proofs::TreeLemmas::joined), unfolding(crate::specs::Page::summary))]
 fn push_summary(
     alloc: Global,
-    out: &mut Vec<u8>,
+    page: &mut Page,
     agent: Option<&str>,
     audit: &Audit<'_, '_>,
 ) -> Result<(), AllocError>
-    ensures { OnOk result (out.new.items ≡ out.old.items
-        ++ written (summary (option_map (λ agent. agent.now) agent.entry) (audit_value audit.now))) }
+    ensures { OnOk result (page.new.out.items ≡ page.old.out.items
+        ++ written (summary (option_map (λ agent. agent.now) agent.entry) audit.now)) }
 {
-    push_start(out, "dl")?;
-    push_crawler_entries(alloc, out, agent, &audit.agents)?;
-    push_sitemap_entry(alloc, out, &audit.labels)?;
-    push_syntax_entry(out, audit.syntax)?;
-    push_warning_entry(alloc, out, row_count(&audit.labels), &audit.warnings)?;
-    push_end(out, "dl")
+    push_start(&mut page.out, "dl")?;
+    push_crawler_entries(page, agent, &audit.agents)?;
+    push_sitemap_entry(alloc, page, &audit.labels)?;
+    push_syntax_entry(page, audit.syntax)?;
+    push_warning_entry(alloc, page, row_count(&audit.labels), &audit.warnings)?;
+    push_end(&mut page.out, "dl")
 }
 
 /// Appends the content of the page.
-#[tactic(auto, using(robots_html::proofs::WritingLemmas::joined), unfolding(crate::specs::Page::page_content))]
+#[tactic(auto, using(crate::proofs::TreeLemmas::joined), unfolding(crate::specs::Page::page_content))]
 fn push_content(
     alloc: Global,
-    out: &mut Vec<u8>,
-    title: &str,
+    page: &mut Page,
     request: &Request<'_>,
     audit: &Audit<'_, '_>,
 ) -> Result<(), AllocError>
-    ensures { OnOk result (out.new.items ≡ out.old.items
-        ++ written (page_content title.now (requested_by request.now) (audit_value audit.now))) }
+    ensures { OnOk result (page.new.out.items ≡ page.old.out.items
+        ++ written (page_content (requested_by request.now) audit.now)) }
 {
-    push_simple(out, "h1", title)?;
-    push_summary(alloc, out, request.agent, audit)?;
-    push_verdict_part(alloc, out, request.agent, &request.urls, &audit.agents)?;
-    push_file_table(alloc, out, request.agent, audit)
+    push(page, &page_heading(request.agent))?;
+    push_summary(alloc, page, request.agent, audit)?;
+    push_verdict_part(page, request.agent, &request.urls, &audit.agents)?;
+    push_file_table(alloc, page, request.agent, audit)
 }
 
-/// Appends the body.
-#[tactic(auto, using(robots_html::proofs::WritingLemmas::joined), unfolding(crate::specs::Page::page_body))]
-fn push_body(
+/// Appends the page.
+#[tactic(auto, using(crate::proofs::TreeLemmas::joined), unfolding(crate::specs::Page::page_tree))]
+fn push_page(
     alloc: Global,
-    out: &mut Vec<u8>,
-    title: &str,
+    page: &mut Page,
     request: &Request<'_>,
     audit: &Audit<'_, '_>,
 ) -> Result<(), AllocError>
-    ensures { OnOk result (out.new.items ≡ out.old.items
-        ++ written (page_body title.now (requested_by request.now) (audit_value audit.now))) }
+    ensures { OnOk result (page.new.out.items ≡ page.old.out.items
+        ++ written (page_tree (requested_by request.now) audit.now)) }
 {
-    push_start(out, "body")?;
-    push_start(out, "main")?;
-    push_content(alloc, out, title, request, audit)?;
-    push_end(out, "main")?;
-    push_end(out, "body")
+    push_start_with(page, "html", "lang", "en")?;
+    push_head(page, request.agent)?;
+    push_start(&mut page.out, "body")?;
+    push_start(&mut page.out, "main")?;
+    push_content(alloc, page, request, audit)?;
+    push_end(&mut page.out, "main")?;
+    push_end(&mut page.out, "body")?;
+    push_end(&mut page.out, "html")
 }
 
 /// The audit as an HTML page. It always has the lines of the file, to which its parts link.
-#[tactic(auto, using(robots_html::proofs::WritingLemmas::joined), unfolding(crate::specs::Page::page))]
+#[tactic(auto, using(crate::proofs::TreeLemmas::document_is))]
 pub fn page_text(
     alloc: Global,
     request: &Request<'_>,
     audit: &Audit<'_, '_>,
 ) -> Result<Vec<u8>, AllocError>
     ensures { IfOk result (λ text. text.items
-        ≡ document (page (requested_by request.now) (audit_value audit.now))) }
+        ≡ document (page (requested_by request.now) audit.now)) }
 {
-    let title = title_text(alloc, request.agent)?;
-    let mut out = Vec::new(alloc);
-    push_doctype(&mut out)?;
-    push_start_with(&mut out, "html", "lang", "en")?;
-    push_head(&mut out, &title)?;
-    push_body(alloc, &mut out, &title, request, audit)?;
-    push_end(&mut out, "html")?;
-    Ok(out)
+    let mut page = Page {
+        out: Vec::new(alloc),
+        text: String::new(alloc),
+    };
+    push_doctype(&mut page.out)?;
+    push_page(alloc, &mut page, request, audit)?;
+    Ok(page.out)
 }

@@ -2,9 +2,9 @@
 use Rattle.std.proofs.Common.{ℕ, Bool, List, [], ◌∷◌, ◌++◌, ap, append_assoc, codes, flat_map, not, refl, ◌≡◌}
 use Rattle.std.proofs.Common.{◌∙◌}
 use Rattle.std.proofs.lemmas.List.{append-nil}
-use Rattle.robots_html.specs.Html.{AreAttributes, Attribute, Html, IsContent, each, element, end_tag, escaped}
+use Rattle.robots_html.specs.Html.{AreAttributes, Attribute, Html, IsContent, element, end_tag, escaped}
 use Rattle.robots_html.specs.Html.{is_title, start_tag, style}
-use Rattle.robots_html.specs.Html.{style_bytes, tag, tag_close, tag_open, text}
+use Rattle.robots_html.specs.Html.{style_bytes, text}
 use Rattle.robots_html.specs.Html.{void, void_tag, with_text, written, ◌⊕◌}
 use Rattle.robots_html.proofs.TextLemmas.{escaped-append}
 
@@ -47,28 +47,8 @@ written-followed (style before css after) two =
     ap (λ (b : List ℕ). escaped before ++ (style_bytes css ++ b)) (written-followed after two)
     ∙ regroup_two (escaped before) (style_bytes css) (written after) (written two)
 
--- what is written for a list, item by item, as in a loop
-pub written-each : {X : Type 0} (tree : X → Html) (xs : List X)
-    → written (each tree xs) ≡ flat_map (λ x. written (tree x)) xs
-written-each tree [] = refl
-written-each tree (x ∷ xs) =
-    written-followed (tree x) (each tree xs)
-    ∙ ap (λ (b : List ℕ). written (tree x) ++ b) (written-each tree xs)
-
 -- for `using` at a function that writes several pieces: they are joined to what is written for a tree
 pub ruleset joined = (append_assoc, append-nil, written-followed, written-with_text)
-
--- elements whose tags are constants
-three_pieces : (out start value end : List ℕ)
-    → ((out ++ start) ++ value) ++ end ≡ out ++ (start ++ (value ++ end))
-three_pieces out start value end =
-    append_assoc (out ++ start) value end ∙ append_assoc out start (value ++ end)
-
-pub cell_pieces : (out value : List ℕ)
-    → ((out ++ codes "<td>") ++ escaped value) ++ codes "</td>"
-    ≡ out ++ written (tag (codes "td") [] (text value))
-unfolding tag_open tag_close end_tag
-cell_pieces out value = three_pieces out (codes "<td>") (escaped value) (codes "</td>")
 
 -- ---- content
 
@@ -96,12 +76,6 @@ module _ (P : List ℕ → Type 0) (both : (one two : List ℕ) → P one → P 
         (allowed, is, rest, more, list, followed_content after two later too)
     followed_content (style before css after) two (allowed, is, rest, plain, later) too =
         (allowed, is, rest, plain, followed_content after two later too)
-
-    pub each_content : {X : Type 0} (tree : X → Html) → P [] → ((x : X) → IsContent P elements (tree x))
-        → (xs : List X) → IsContent P elements (each tree xs)
-    each_content tree none is [] = none
-    each_content tree none is (x ∷ xs) =
-        followed_content (tree x) (each tree xs) (is x) (each_content tree none is xs)
 
 -- a property that implies another one
 module _ (P Q : List ℕ → Type 0) (weaker : (bytes : List ℕ) → P bytes → Q bytes) where

@@ -48,11 +48,6 @@ abbrev pub ◌⊕◌ : Html → Html → Html
 abbrev pub tag : List ℕ → List Attribute → Html → Html
 tag name attributes children = element [] name attributes children (text [])
 
--- one for each item, in order
-abbrev pub each : {X : Type 0} → (X → Html) → List X → Html
-each html [] = text []
-each html (x ∷ xs) = html x ⊕ each html xs
-
 -- ---- writing
 
 -- a character reference for `&`, `<`, `>` and `"`; any other byte is unchanged

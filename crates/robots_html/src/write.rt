@@ -1,5 +1,5 @@
 //! Writes HTML piece by piece, so that a page of any length needs no tree in memory.
-ghost use Rattle.std.specs.Prelude.{◌≡◌, ◌++◌, ◌∷◌, [], MatchOption, OnOk, codes};
+ghost use Rattle.std.specs.Prelude.{◌≡◌, ◌++◌, ◌∷◌, [], MatchOption, OnOk};
 ghost use Rattle.std.specs.List.{list_all};
 ghost use Rattle.robots_html.specs.Html.{attribute, attribute_bytes, doctype, end_tag, escaped};
 ghost use Rattle.robots_html.specs.Html.{escaped_byte, is_plain, start_tag, style_bytes, tag, tag_close};
@@ -135,16 +135,6 @@ pub fn push_element(out: &mut Vec<u8>, name: &str, value: &[u8]) -> Result<(), A
     push_start(out, name)?;
     push_text(out, value)?;
     push_end(out, name)
-}
-
-/// Appends a cell of a table that contains a text, which may come from anyone.
-#[tactic(auto, using(crate::proofs::WritingLemmas::cell_pieces))]
-pub fn push_cell(out: &mut Vec<u8>, value: &[u8]) -> Result<(), AllocError>
-    ensures { OnOk result (out.new.items ≡ out.old.items ++ written (tag (codes "td") [] (text value.now))) }
-{
-    out.extend_from_slice(b"<td>")?;
-    push_text(out, value)?;
-    out.extend_from_slice(b"</td>")
 }
 
 /// Appends a `style` element with this CSS, which is copied unchanged.

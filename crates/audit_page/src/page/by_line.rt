@@ -1,7 +1,6 @@
 //! Warnings by line, so that finding those about a line takes no search.
 ghost use Rattle.std.specs.Prelude.{◌≡◌, ◌<◌, ◌++◌, ◌∷◌, [], ◌==◌, ℕ, IfOk, OnOk, if◌then◌else◌, map};
 ghost use Rattle.std.specs.Vec.{vec_len};
-ghost use Rattle.robots_warnings.specs.Internal.{warning_value};
 ghost use Rattle.audit_page.specs.Internal.ByLine.{AreByLine, list_at};
 
 use robots_warnings::warning::Warning;
@@ -30,10 +29,10 @@ fn add<'a>(
     warning: &Warning<'a>,
 ) -> Result<(), AllocError>
     ensures { OnOk result ((k : ℕ) → list_at lists.new.items k ≡ list_at lists.old.items k
-        ++ (if index == k then warning_value warning.now ∷ [] else [])) }
+        ++ (if index == k then warning.now ∷ [] else [])) }
 {
     grow(alloc, lists, index)?;
-    Ok(lists[index].push(*warning)?)
+    Ok(lists[index].push(warning.copy())?)
 }
 
 /// For the number of each line, the list of the warnings about it, in order.
@@ -41,7 +40,7 @@ pub(crate) fn by_line<'a>(
     alloc: Global,
     warnings: &[Warning<'a>],
 ) -> Result<Vec<Vec<Warning<'a>>>, AllocError>
-    ensures { IfOk result (λ lists. AreByLine lists.items (map warning_value warnings.now)) }
+    ensures { IfOk result (λ lists. AreByLine lists.items warnings.now) }
 {
     let mut lists = Vec::new(alloc);
     for warning in warnings {

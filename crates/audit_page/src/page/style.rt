@@ -102,28 +102,9 @@ pub(crate) const POLICY: &str = "default-src 'none'; \
     style-src 'sha256-yN+WmBgc/jHSLuGfzx19HAWifLwj+6ta5WHKSD/06xY='; \
     base-uri 'none'; form-action 'none'";
 
-pub(crate) const HTTP_EQUIV: &str = "http-equiv";
-
-pub(crate) const POLICY_NAME: &str = "Content-Security-Policy";
-
-pub(crate) const VIEWPORT_NAME: &str = "viewport";
-
-/// A page is as wide as the screen.
-pub(crate) const VIEWPORT: &str = "width=device-width, initial-scale=1";
-
-// Texts of a page. A text of ten bytes and more has a name, since the prover's search is limited in depth.
-pub(crate) const AGENT_CAPTION: &str = "What each crawler may fetch";
-
-pub(crate) const URL_CAPTION: &str = "May the crawler fetch it?";
+// Texts of a page. A longer text that is appended alone has a name, since the prover's search is limited in depth.
+pub(crate) const REJECTED: &str = "; rejected: ";
 
 pub(crate) const CRAWLERS: &str = "Crawlers";
 
-pub(crate) const DELAY: &str = "Crawl delay";
-
-pub(crate) const DIRECTIVE: &str = "Directive";
-
-pub(crate) const REJECTED: &str = "; rejected: ";
-
-pub(crate) const SITEMAP_TERM: &str = "Sitemaps";
-
-pub(crate) const WARNING_TERM: &str = "Warnings";
+pub(crate) const SITEMAPS: &str = "Sitemaps";

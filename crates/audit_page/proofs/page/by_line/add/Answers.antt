@@ -11,5 +11,5 @@ returns c k =
     let found = slice_get_read lists.items (vec_len lists) c.args.index old (search rules)
     c.in_ok-grow.ensures.len (search rules) in
     let added = pushed_at lists.items c.args.index old c.push.new.self c.args.warning.now found
-    c.in_ok-push.ensures.items k in
+    (rw c.copy.ensures at c.in_ok-push.ensures.items) k in
     rw (← c.in_ok-grow.ensures.same k) added

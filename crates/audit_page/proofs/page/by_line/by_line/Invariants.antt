@@ -1,7 +1,6 @@
 use Rattle.std.proofs.Common.{map, take}
-use Rattle.robots_warnings.specs.Internal.{warning_value}
 use Rattle.audit_page.specs.Internal.ByLine.{AreByLine}
 use Rattle.audit_page.proofs.page.by_line.by_line.Given as goal
 
 abbrev pub invariant-loop-warning : goal.invariant-loop-warning
-invariant-loop-warning l = AreByLine l.lists.items (map warning_value (take l.warning-index l.warnings))
+invariant-loop-warning l = AreByLine l.lists.items (take l.warning-index l.warnings)

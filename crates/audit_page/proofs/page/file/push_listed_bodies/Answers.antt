@@ -1,31 +1,19 @@
-use Rattle.std.proofs.Common.{◌≡◌, ◌∙◌, ◌<◌, ap, arith, drop, length}
-use Rattle.std.proofs.lemmas.List.{length-drop, length-take}
+use Rattle.std.proofs.Common.{◌∙◌, sym}
 use Rattle.audit_page.specs.Internal.ByLine.{listed_body}
-use Rattle.audit_page.specs.Page.{body_lines}
-use Rattle.audit_page.proofs.BodyLemmas.{all_added, body_added, others_after}
+use Rattle.audit_page.proofs.BodyLemmas.{all_added, body_added, is_shorter, no_length, some_length}
 use Rattle.audit_page.proofs.page.file.push_listed_bodies.Goals as goal
 
-pub loop-start-smaller : goal.loop-start-smaller
-loop-start-smaller c =
-    let rest = drop c.loop-start.start c.args.labels.now in
-    let size = ap length c.body_from-body.ensures.lines ∙ length-take body_lines rest in
-    omega (arith, size, length-drop c.loop-start.start c.args.labels.now)
+pub loop-rest-smaller : goal.loop-rest-smaller
+loop-rest-smaller c =
+    is_shorter _ _ (some_length _ (sym c.is_empty.ensures ∙ c.loop-rest-test.true)) c.after-rest.ensures
 
-pub loop-start-preserved : goal.loop-start-preserved
-loop-start-preserved c =
-    let labels = c.args.labels.now in
-    let start = c.loop-start.start in
-    let some : 0 < length (drop start labels) = omega (arith, length-drop start labels) in
-    let lines = c.body_from-body.ensures.lines in
-    record {
-      within = c.body_from-body.ensures.within;
-      whole = body_added (listed_body c.args.lists.now) (drop start labels) _ _ _ _ _ some lines
-          (others_after labels _ start lines) c.in_ok-push_line_body.ensures c.loop-start.invariant.whole;
-    }
+pub loop-rest-preserved : goal.loop-rest-preserved
+loop-rest-preserved c =
+    let some = some_length c.loop-rest.rest.now (sym c.is_empty.ensures ∙ c.loop-rest-test.true) in
+    body_added (listed_body c.args.lists.now) c.loop-rest.rest.now _ _ _ _ _ some c.first.ensures
+    c.after-rest.ensures c.in_ok-push_line_body.ensures c.loop-rest.invariant
 
 pub returns : goal.returns
 returns c =
-    let labels = c.args.labels.now in
-    let start = c.loop-start.start in
-    let none : length (drop start labels) ≡ 0 = omega (arith, length-drop start labels) in
-    all_added (listed_body c.args.lists.now) (drop start labels) _ _ none c.loop-start.invariant.whole
+    all_added (listed_body c.args.lists.now) c.loop-rest.rest.now _ _
+    (no_length c.loop-rest.rest.now (sym c.is_empty.ensures ∙ c.loop-rest-test.false)) c.loop-rest.invariant

@@ -1,19 +1,15 @@
-use Rattle.std.proofs.Common.{◌≡◌, ◌++◌, ◌-◌, ◌≤◌, drop, length, map}
-use Rattle.robots_html.specs.Html.{each, written}
+use Rattle.std.proofs.Common.{◌≡◌, ◌++◌, length, map}
 use Rattle.texting_robots.specs.Callers.{label_by_value}
 use Rattle.audit_page.specs.Internal.ByLine.{listed_body}
 use Rattle.audit_page.specs.Page.{bodies}
+use Rattle.audit_page.specs.Tree.{all}
 use Rattle.audit_page.proofs.page.file.push_listed_bodies.Given as goal
 
 -- what is appended so far and the bodies of the other lines are the complete result
-abbrev pub invariant-loop-start : goal.invariant-loop-start
-invariant-loop-start l = record {
-  within : l.start ≤ length l.labels;
-  whole :
-      l.out.items
-      ++ written (each (listed_body l.lists) (bodies (map label_by_value (drop l.start l.labels))))
-      ≡ l.fn.out.items ++ written (each (listed_body l.lists) (bodies (map label_by_value l.labels)));
-}
+abbrev pub invariant-loop-rest : goal.invariant-loop-rest
+invariant-loop-rest l =
+    l.page.out.items ++ all (listed_body l.lists) (bodies (map label_by_value l.rest))
+    ≡ l.fn.page.out.items ++ all (listed_body l.lists) (bodies (map label_by_value l.labels))
 
-abbrev pub decreases-loop-start : goal.decreases-loop-start
-decreases-loop-start l = length l.labels - l.start
+abbrev pub decreases-loop-rest : goal.decreases-loop-rest
+decreases-loop-rest l = length l.rest

@@ -1,10 +1,8 @@
-use Rattle.std.proofs.Common.{◌≡◌, ◌++◌, flat_map, map, take}
-use Rattle.robots_html.specs.Html.{written}
-use Rattle.audit_core.specs.Internal.{agent_value}
+use Rattle.std.proofs.Common.{◌≡◌, ◌++◌, map, take}
 use Rattle.audit_page.specs.Page.{agent_row}
+use Rattle.audit_page.specs.Tree.{all}
 use Rattle.audit_page.proofs.page.verdicts.push_agent_rows.Given as goal
 
 abbrev pub invariant-loop-agent : goal.invariant-loop-agent
 invariant-loop-agent l =
-    l.out.items ≡ l.fn.out.items
-    ++ flat_map (λ x. written (agent_row x)) (map agent_value (take l.agent-index l.agents))
+    l.page.out.items ≡ l.fn.page.out.items ++ all agent_row (take l.agent-index l.agents)

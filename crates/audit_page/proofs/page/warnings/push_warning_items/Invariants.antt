@@ -1,10 +1,9 @@
-use Rattle.std.proofs.Common.{◌≡◌, ◌++◌, flat_map, map, take}
-use Rattle.robots_html.specs.Html.{written}
-use Rattle.robots_warnings.specs.Internal.{warning_value}
+use Rattle.std.proofs.Common.{◌≡◌, ◌++◌, map, take}
 use Rattle.audit_page.specs.Page.{warning_item}
+use Rattle.audit_page.specs.Tree.{all}
 use Rattle.audit_page.proofs.page.warnings.push_warning_items.Given as goal
 
 abbrev pub invariant-loop-warning : goal.invariant-loop-warning
 invariant-loop-warning l =
-    l.out.items ≡ l.fn.out.items
-    ++ flat_map (λ x. written (warning_item l.rows x)) (map warning_value (take l.warning-index l.warnings))
+    l.page.out.items ≡ l.fn.page.out.items
+    ++ all (warning_item l.rows) (take l.warning-index l.warnings)

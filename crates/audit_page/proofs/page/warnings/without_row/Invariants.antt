@@ -1,11 +1,10 @@
 use Rattle.std.proofs.Common.{◌≡◌, ◌++◌, drop, map}
 use Rattle.audit_page.specs.Page.{without_row}
-use Rattle.robots_warnings.specs.Internal.{warning_value}
 use Rattle.audit_page.proofs.page.warnings.without_row.Given as goal
 
 -- the warnings found so far, and those among the remaining ones, are all that have no row
 abbrev pub invariant-loop-warning : goal.invariant-loop-warning
 invariant-loop-warning l =
-    map warning_value l.found.items
-    ++ without_row l.rows (map warning_value (drop l.warning-index l.warnings))
-    ≡ without_row l.rows (map warning_value l.warnings)
+    l.found.items
+    ++ without_row l.rows (drop l.warning-index l.warnings)
+    ≡ without_row l.rows l.warnings

@@ -1,0 +1,255 @@
+//! Pieces of a page that are written at once: markup with values.
+#![tactic(auto, using(crate::proofs::TreeLemmas::joined), unfolding(robots_html::specs::Html::tag_open, robots_html::specs::Html::tag_close, robots_html::specs::Html::void_close, robots_html::specs::Html::end_tag, robots_html::specs::Html::style_bytes, robots_html::specs::Html::escaped_bytes, crate::specs::Tree::field_bytes, crate::specs::Page::agent_caption, crate::specs::Page::first_columns, crate::specs::Page::code, crate::specs::Page::delay_entry, crate::specs::Page::file_caption, crate::specs::Page::line_columns, crate::specs::Page::line_link, crate::specs::Page::line_cells, crate::specs::Page::head_start, crate::specs::Page::page_heading, crate::specs::Page::sitemap_item, crate::specs::Page::some_rest, crate::specs::Page::url_column, crate::specs::Page::url_head))]
+
+ghost use Rattle.std.specs.Prelude.{◌≡◌, ◌++◌, option_map};
+ghost use Rattle.texting_robots.specs.Callers.{by_value, label_by_value};
+ghost use Rattle.robots_html.specs.Html.{escaped};
+ghost use Rattle.robots_text.specs.Raw.{raw_value};
+ghost use Rattle.robots_text.specs.Text.{value_text};
+ghost use Rattle.audit_core.specs.Rows.{line_value};
+ghost use Rattle.audit_core.specs.Texts.{delay_value};
+ghost use Rattle.audit_page.specs.Internal.{raw_part, raw_parts};
+ghost use Rattle.audit_page.specs.Page.{agent_caption, first_columns, cell, code, delay_entry, file_caption, head_start, line_cells, line_columns, line_link, line_start};
+ghost use Rattle.audit_page.specs.Page.{page_heading, row_name, scroll_start, sitemap_item, some_rest, title_words, url_column, url_head};
+ghost use Rattle.audit_page.specs.Tree.{shown, words_written, written};
+
+use crate::page::style::{CSS, POLICY};
+use audit_core::rows::{kind_text, membership_word};
+use audit_core::texts::delay_value;
+use robots_text::parts::{Part, Value};
+use texting_robots::labels::LabeledLine;
+use texting_robots::parser::Line;
+
+/// The title of a page.
+pub(crate) fn title(agent: Option<&str>) -> Part<'_>
+    ensures { raw_part result ≡ words_written (title_words (option_map (λ agent. agent.now) agent.entry)) }
+{
+    match agent {
+        Some(agent) => Part("robots.txt for ", Value::Untrusted(agent.as_bytes())),
+        None => Part("robots.txt for several crawlers", Value::Nothing),
+    }
+}
+
+/// What the head of a page has before its title.
+pub(crate) fn head_start() -> [Part<'static>; 5]
+    ensures { raw_parts result ≡ written head_start }
+{
+    [
+        Part(
+            "<meta charset=\"utf-8\"/><meta http-equiv=\"Content-Security-Policy\" content=\"",
+            Value::Word(POLICY),
+        ),
+        Part(
+            "\"/><meta name=\"viewport\" content=\"width=device-width, initial-scale=1\"/>",
+            Value::Nothing,
+        ),
+        Part("<style>", Value::Nothing),
+        Part(CSS, Value::Nothing),
+        Part("</style>", Value::Nothing),
+    ]
+}
+
+/// The heading of a page.
+pub(crate) fn page_heading(agent: Option<&str>) -> [Part<'_>; 3]
+    ensures { raw_parts result ≡ written (page_heading (option_map (λ agent. agent.now) agent.entry)) }
+{
+    [
+        Part("<h1>", Value::Nothing),
+        title(agent),
+        Part("</h1>", Value::Nothing),
+    ]
+}
+
+/// A link to the row of a line.
+pub(crate) fn line_link(number: usize) -> [Part<'static>; 3]
+    ensures { raw_parts result ≡ written (line_link number) }
+{
+    [
+        Part("<a href=\"#L", Value::Number(number)),
+        Part("\">line ", Value::Number(number)),
+        Part("</a>", Value::Nothing),
+    ]
+}
+
+/// The name of a row, which is untrusted.
+pub(crate) fn row_name<'a>(name: &'a [u8]) -> [Part<'a>; 2]
+    ensures { raw_parts result ≡ written (row_name (code name.entry.now)) }
+{
+    [
+        Part(
+            "<th scope=\"row\"><code dir=\"ltr\">",
+            Value::Untrusted(name),
+        ),
+        Part("</code></th>", Value::Nothing),
+    ]
+}
+
+/// The head of the table of URLs.
+pub(crate) fn url_head() -> [Part<'static>; 2]
+    ensures { raw_parts result ≡ written url_head }
+{
+    [
+        Part(
+            "<caption>May the crawler fetch it?</caption><thead><tr>",
+            Value::Nothing,
+        ),
+        Part(
+            "<th scope=\"col\">URL</th><th scope=\"col\">Verdict</th></tr></thead>",
+            Value::Nothing,
+        ),
+    ]
+}
+
+/// The name of a column with the verdicts on a URL.
+pub(crate) fn url_column<'a>(url: &'a [u8]) -> [Part<'a>; 2]
+    ensures { raw_parts result ≡ written (url_column url.entry.now) }
+{
+    [
+        Part(
+            "<th scope=\"col\"><code dir=\"ltr\">",
+            Value::Untrusted(url),
+        ),
+        Part("</code></th>", Value::Nothing),
+    ]
+}
+
+/// The caption of the table of crawlers.
+pub(crate) fn agent_caption() -> [Part<'static>; 1]
+    ensures { raw_parts result ≡ written agent_caption }
+{
+    [Part(
+        "<caption>What each crawler may fetch</caption>",
+        Value::Nothing,
+    )]
+}
+
+/// The first columns of the table of crawlers.
+pub(crate) fn first_columns() -> [Part<'static>; 2]
+    ensures { raw_parts result ≡ written first_columns }
+{
+    [
+        Part(
+            "<th scope=\"col\">Crawler</th><th scope=\"col\">Group</th>",
+            Value::Nothing,
+        ),
+        Part("<th scope=\"col\">Crawl delay</th>", Value::Nothing),
+    ]
+}
+
+/// The start of what can be scrolled, also with keys.
+pub(crate) fn scroll_start() -> [Part<'static>; 1]
+    ensures { raw_parts result ≡ scroll_start }
+{
+    [Part("<div class=\"scroll\" tabindex=\"0\">", Value::Nothing)]
+}
+
+/// The delay of a crawler in the summary.
+pub(crate) fn delay_entry(delay: Option<u64>) -> [Part<'static>; 2]
+    ensures { raw_parts result ≡ written (delay_entry delay) }
+{
+    [
+        Part("<dt>Crawl delay</dt><dd>", delay_value(delay)),
+        Part("</dd>", Value::Nothing),
+    ]
+}
+
+/// The delay of a crawler in a table.
+pub(crate) fn delay_cell(delay: Option<u64>) -> [Part<'static>; 2]
+    ensures { raw_parts result ≡ written (cell (shown (delay_value delay))) }
+{
+    [
+        Part("<td>", delay_value(delay)),
+        Part("</td>", Value::Nothing),
+    ]
+}
+
+/// A sitemap.
+pub(crate) fn sitemap_item<'a>(value: &'a [u8]) -> [Part<'a>; 2]
+    ensures { raw_parts result ≡ written (sitemap_item value.entry.now) }
+{
+    [
+        Part("<li><code dir=\"ltr\">", Value::Untrusted(value)),
+        Part("</code></li>", Value::Nothing),
+    ]
+}
+
+/// How many warnings aren't in the list at the top.
+pub(crate) fn some_rest(count: usize) -> [Part<'static>; 2]
+    ensures { raw_parts result ≡ written (some_rest count) }
+{
+    [
+        Part("<p>and ", Value::Number(count)),
+        Part(" more, below their lines</p>", Value::Nothing),
+    ]
+}
+
+/// The caption of the table of lines.
+pub(crate) fn file_caption<'a>(agent: &'a [u8]) -> [Part<'a>; 2]
+    ensures { raw_parts result ≡ written (file_caption agent.entry.now) }
+{
+    [
+        Part(
+            "<caption>Lines, and whether they are in the group of ",
+            Value::Untrusted(agent),
+        ),
+        Part("</caption>", Value::Nothing),
+    ]
+}
+
+/// The columns of the table of lines.
+pub(crate) fn line_columns() -> [Part<'static>; 2]
+    ensures { raw_parts result ≡ written line_columns }
+{
+    [
+        Part(
+            "<thead><tr><th scope=\"col\">Line</th><th scope=\"col\">Group</th>",
+            Value::Nothing,
+        ),
+        Part(
+            "<th scope=\"col\">Directive</th><th scope=\"col\">Value</th></tr></thead>",
+            Value::Nothing,
+        ),
+    ]
+}
+
+/// The value of a line: a delay in seconds, any other value sanitized.
+fn line_value<'a>(line: Line<'a>) -> Value<'a>
+    ensures { raw_value result ≡ value_text (line_value (by_value line.entry)) }
+{
+    match line {
+        Line::UserAgent(value)
+        | Line::Allow(value)
+        | Line::Disallow(value)
+        | Line::Sitemap(value)
+        | Line::Raw(value) => Value::Untrusted(value),
+        Line::CrawlDelay(Some(micros)) => Value::Delay(micros),
+        Line::CrawlDelay(None) => Value::Nothing,
+    }
+}
+
+/// The start of the row of a line, with its number.
+pub(crate) fn line_start(label: &LabeledLine<'_>) -> [Part<'static>; 4]
+    ensures { raw_parts result ≡ line_start (label_by_value label.now) }
+{
+    [
+        Part("<tr id=\"L", Value::Number(label.number)),
+        Part(
+            "\" class=\"",
+            Value::Word(membership_word(label.membership)),
+        ),
+        Part("\"><th scope=\"row\">", Value::Number(label.number)),
+        Part("</th>", Value::Nothing),
+    ]
+}
+
+/// The cells of a line.
+pub(crate) fn line_cells<'a>(label: &LabeledLine<'a>) -> [Part<'a>; 4]
+    ensures { raw_parts result ≡ written (line_cells (label_by_value label.now)) }
+{
+    [
+        Part("<td>", Value::Word(membership_word(label.membership))),
+        Part("</td><td>", Value::Word(kind_text(label.line))),
+        Part("</td><td>", line_value(label.line)),
+        Part("</td>", Value::Nothing),
+    ]
+}
