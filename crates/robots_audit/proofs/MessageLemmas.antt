@@ -1,5 +1,6 @@
 -- Messages on standard error are printable apart from color codes. Without the codes they are those without colors.
-use Rattle.std.proofs.Common.{◌≡◌, Bool, true, false, [], ◌⊎◌, inl, inr, Option, Some, None, string_bytes, subst, sym}
+use Rattle.std.proofs.Common.{◌≡◌, ℕ, Bool, true, false, List, [], ◌⊎◌, inl, inr, Option, Some, None, string_bytes}
+use Rattle.std.proofs.Common.{subst, sym}
 use Rattle.clap.specs.declared.parser.matches.ArgMatches.{ArgMatches}
 use Rattle.robots_io.specs.Sanitize.{IsPrintable}
 use Rattle.robots_io.proofs.SanitizeLemmas.{nil_printable}
@@ -11,7 +12,7 @@ use Rattle.audit_core.specs.Request.{RequestValue}
 use Rattle.audit_core.specs.declared.answer.Answer.{Answer}
 use Rattle.audit_core.specs.declared.request.Format.{Format}
 use Rattle.audit_core.specs.declared.request.Format.TheVariants.{Github, Html, Json, Sarif, Text}
-use Rattle.audit_report.proofs.WarningLemmas.{listed_colored, listed_for_terminal}
+use Rattle.audit_report.proofs.ReportLemmas.{listed_colored, listed_for_terminal}
 use Rattle.robots_audit.specs.Answer.{Answers, AnswersOptions, IsAudited, message, message_in, shown_name}
 use Rattle.robots_audit.specs.Answer.{without_colors}
 

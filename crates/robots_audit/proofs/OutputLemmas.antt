@@ -6,8 +6,6 @@ use Rattle.audit_core.specs.declared.request.Format.{Format}
 use Rattle.audit_core.specs.declared.request.Format.TheVariants.{Github, Html, Json, Sarif, Text}
 use Rattle.audit_core.specs.Audit.{AuditValue}
 use Rattle.audit_core.specs.Request.{RequestValue}
-use Rattle.audit_formats.specs.Findings.{findings}
-use Rattle.audit_formats.proofs.FindingLemmas.{findings_have}
 use Rattle.audit_formats.proofs.GithubLemmas.{github_printable}
 use Rattle.audit_formats.proofs.JsonLemmas.{json_printable}
 use Rattle.audit_formats.proofs.SarifLemmas.{sarif_printable}
@@ -24,11 +22,9 @@ output_in_printable Json requested audit =
     json_printable (has_rows requested) (reported requested audit)
 output_in_printable Html requested audit = page_printable requested (reported requested audit)
 output_in_printable Github requested audit =
-    let listed = reported requested audit in
-    github_printable (shown_name requested.file) (findings listed) (findings_have listed)
+    github_printable (shown_name requested.file) (reported requested audit)
 output_in_printable Sarif requested audit =
-    let listed = reported requested audit in
-    sarif_printable (shown_name requested.file) (findings listed) (findings_have listed)
+    sarif_printable (shown_name requested.file) (reported requested audit)
 
 pub output_printable : (requested : RequestValue) (audit : AuditValue) → IsPrintable (output requested audit)
 output_printable requested audit = output_in_printable requested.format requested audit

@@ -19,14 +19,11 @@
 //! its level or a more serious one.
 #![tactic(auto)]
 
-ghost use Rattle.std.specs.Prelude.{◌≡◌, ◌⊎◌, ◌×◌, IfOk, codes, string_bytes, true};
+ghost use Rattle.std.specs.Prelude.{◌≡◌, IfOk, string_bytes, true};
 ghost use Rattle.std.specs.Process.{exit_status};
-ghost use Rattle.clap.specs.declared.parser.matches.ArgMatches.{ArgMatches};
 ghost use Rattle.robots_text.specs.Color.{IsForTerminal};
-ghost use Rattle.audit_core.specs.Answer.{IsText};
-ghost use Rattle.audit_core.specs.Fault.{message_after, status_after};
+ghost use Rattle.audit_core.specs.Fault.{status_after};
 ghost use Rattle.audit_core.specs.Request.{requested_by};
-ghost use Rattle.audit_command.specs.Command.{value_of};
 ghost use Rattle.robots_audit.specs.Answer.{Answers, AnswersAudit, AnswersComparison, AnswersExpectations, AnswersFiles};
 
 mod laws;
