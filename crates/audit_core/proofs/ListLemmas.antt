@@ -1,7 +1,6 @@
 -- Lists of lines and of labels.
 use Rattle.std.proofs.Common.{◌≡◌, ◌∙◌, ℕ, ◌+◌, ◌<◌, ◌==◌, true, false, List, [], ◌∷◌, ◌++◌, ap, arith}
-use Rattle.std.proofs.Common.{length, map, refl, slice_index_or, Bool, drop, flat_map}
-use Rattle.std.specs.Prelude.{if◌then◌else◌}
+use Rattle.std.proofs.Common.{length, map, refl, slice_index_or, drop}
 use Rattle.std.specs.List.{AllByRecursion as Each}
 use Rattle.std.proofs.lemmas.Bool.Decides.{nat_tests, Decides-eqb}
 use Rattle.robots_io.specs.Lines.{ended}
@@ -10,8 +9,6 @@ use Rattle.texting_robots.specs.declared.labels.LabeledLine.{LabeledLine}
 use Rattle.texting_robots.specs.Callers.{by_value, label_by_value, sitemaps_in}
 use Rattle.texting_robots.specs.Executable.{sitemap_in}
 use Rattle.robots_warnings.specs.File.{lines_of}
-use Rattle.texting_robots.proofs.TrimLemmas.{each_append}
-use Rattle.robots_io.specs.Sanitize.{IsPrintableIn}
 
 -- no lines make an empty text, and others don't
 pub lines_empty : (lines : List (List ℕ)) → (length (ended lines) == 0) ≡ (length lines == 0)
@@ -34,16 +31,6 @@ pub each_map : {X : Type 0} (P : List ℕ → Type 0) (f : X → List ℕ) → (
     → Each P (map f xs)
 each_map P f are [] = tt
 each_map P f are (x ∷ xs) = (are x, each_map P f are xs)
-
-pub each_flat : {X : Type 0} (P : List ℕ → Type 0) (f : X → List (List ℕ)) → ((x : X) → Each P (f x))
-    → (xs : List X) → Each P (flat_map f xs)
-each_flat P f are [] = tt
-each_flat P f are (x ∷ xs) = each_append P (f x) (flat_map f xs) (are x) (each_flat P f are xs)
-
-pub either_printable : (has_lines b : Bool) (one two : List ℕ) → IsPrintableIn has_lines one
-    → IsPrintableIn has_lines two → IsPrintableIn has_lines (if b then one else two)
-either_printable has_lines true one two is too = is
-either_printable has_lines false one two is too = too
 
 pub some_length : {X : Type 0} (x : X) (xs : List X) → (length (x ∷ xs) == 0) ≡ true → ⊥
 some_length x xs is = let none : length (x ∷ xs) ≡ 0 = (Decides-eqb (length (x ∷ xs)) 0).0 is in omega arith

@@ -7,12 +7,10 @@ use Rattle.robots_warnings.specs.declared.positions.Preceding.{Preceding}
 use Rattle.robots_warnings.specs.declared.positions.Preceding.TheVariants.{Other}
 use Rattle.robots_warnings.specs.declared.table.Cause.{Cause}
 use Rattle.robots_warnings.specs.declared.table.Cause.TheVariants.{AllowedAndDisallowed, ClosesEverything}
-use Rattle.robots_warnings.specs.declared.table.Cause.TheVariants.{EmptyAgent, EmptyDisallow}
-use Rattle.robots_warnings.specs.declared.table.Cause.TheVariants.{GoogleIgnoresStar}
-use Rattle.robots_warnings.specs.declared.table.Cause.TheVariants.{GooglebotGroup, GroupPastSizeLimit}
+use Rattle.robots_warnings.specs.declared.table.Cause.TheVariants.{EmptyDisallow}
+use Rattle.robots_warnings.specs.declared.table.Cause.TheVariants.{GroupPastSizeLimit}
 use Rattle.robots_warnings.specs.declared.table.Cause.TheVariants.{NonstandardEscape, RepeatedRule}
-use Rattle.robots_warnings.specs.declared.table.Cause.TheVariants.{ReplacesStar, SpaceAroundAgent}
-use Rattle.robots_warnings.specs.declared.table.Cause.TheVariants.{VersionInAgent}
+use Rattle.robots_warnings.specs.declared.table.Cause.TheVariants.{ReplacesStar}
 use Rattle.robots_warnings.specs.declared.warning.Detail.{Detail}
 use Rattle.robots_warnings.specs.declared.warning.Detail.TheVariants.{Line, Rules}
 use Rattle.robots_warnings.specs.Closed.{is_closed}

@@ -1,4 +1,4 @@
-use Rattle.std.proofs.Common.{◌≡◌, drop, map}
+use Rattle.std.proofs.Common.{◌≡◌, drop}
 use Rattle.audit_core.specs.Audit.{all_allowed}
 use Rattle.audit_core.proofs.audit.all_allowed.Given as goal
 

@@ -1,4 +1,4 @@
-use Rattle.std.proofs.Common.{◌≡◌, drop, map}
+use Rattle.std.proofs.Common.{◌≡◌, drop}
 use Rattle.audit_core.specs.Audit.{allows_all}
 use Rattle.audit_core.proofs.audit.allows_all.Given as goal
 

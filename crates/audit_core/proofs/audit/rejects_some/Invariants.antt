@@ -1,4 +1,4 @@
-use Rattle.std.proofs.Common.{◌≡◌, drop, map}
+use Rattle.std.proofs.Common.{◌≡◌, drop}
 use Rattle.audit_core.specs.Audit.{rejects_some}
 use Rattle.audit_core.proofs.audit.rejects_some.Given as goal
 

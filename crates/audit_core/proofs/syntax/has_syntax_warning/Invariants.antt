@@ -1,4 +1,4 @@
-use Rattle.std.proofs.Common.{◌≡◌, drop, map}
+use Rattle.std.proofs.Common.{◌≡◌, drop}
 use Rattle.audit_core.specs.Syntax.{has_syntax_warning}
 use Rattle.audit_core.proofs.syntax.has_syntax_warning.Given as goal
 

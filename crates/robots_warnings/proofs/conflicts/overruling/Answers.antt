@@ -1,4 +1,4 @@
-use Rattle.std.proofs.Common.{None, ap, codes, false, if◌then◌else◌, sym, true, ◌∙◌}
+use Rattle.std.proofs.Common.{None, ap, codes, false, if◌then◌else◌, sym, ◌∙◌}
 use Rattle.std.specs.BTreeSet.{contains}
 use Rattle.std.specs.Ordering.{nat_cmp}
 use Rattle.std.specs.Prelude.{is_some}

@@ -1,4 +1,4 @@
-use Rattle.std.proofs.Common.{◌≡◌, ◌++◌, map, option_map, take}
+use Rattle.std.proofs.Common.{◌≡◌, ◌++◌, option_map, take}
 use Rattle.robots_warnings.specs.Warnings.{warned}
 use Rattle.robots_warnings.proofs.warnings.warn.Given as goal
 

@@ -1,4 +1,4 @@
-use Rattle.std.proofs.Common.{◌≡◌, ◌++◌, map, take}
+use Rattle.std.proofs.Common.{◌≡◌, ◌++◌, take}
 use Rattle.robots_warnings.specs.Warnings.{warned_at}
 use Rattle.robots_warnings.proofs.warnings.warn_at.Given as goal
 

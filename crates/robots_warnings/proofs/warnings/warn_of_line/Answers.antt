@@ -1,4 +1,4 @@
-use Rattle.std.proofs.Common.{◌++◌, Some, ap, append-nil, map, rules, sym, ◌∙◌}
+use Rattle.std.proofs.Common.{◌++◌, Some, ap, append-nil, rules, sym, ◌∙◌}
 use Rattle.texting_robots.specs.Callers.{by_value}
 use Rattle.robots_warnings.specs.Checks.{is_in_scope_of}
 use Rattle.robots_warnings.proofs.PlainLineLemmas.{plain_line_has_no_warning}

@@ -1,4 +1,4 @@
-use Rattle.std.proofs.Common.{None, Some, append-nil, map, refl, rules}
+use Rattle.std.proofs.Common.{None, Some, append-nil, refl, rules}
 use Rattle.robots_warnings.proofs.PlainLemmas.{plain_has_no_warning}
 use Rattle.robots_warnings.proofs.warnings.warn_of_rule.Goals as goal
 

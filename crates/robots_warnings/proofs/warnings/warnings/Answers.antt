@@ -1,4 +1,4 @@
-use Rattle.std.proofs.Common.{◌≡◌, List, [], ◌++◌, ap, append_assoc, map}
+use Rattle.std.proofs.Common.{◌≡◌, List, [], ◌++◌, append_assoc}
 use Rattle.robots_warnings.proofs.warnings.warnings.Goals as goal
 
 -- five lists appended one after the other
