@@ -1,6 +1,6 @@
 -- Lists of warnings by line.
 use Rattle.std.proofs.Common.{◌≡◌, ℕ, zero, suc, ◌==◌, false, List, [], ◌∷◌, ◌++◌, Some, arith, ap}
-use Rattle.std.proofs.Common.{if◌then◌else◌, inl, inr, map, refl, slice_set, sym}
+use Rattle.std.proofs.Common.{if◌then◌else◌, inl, inr, refl, slice_set, sym}
 use Rattle.std.specs.Prelude.{slice_get}
 use Rattle.std.specs.Global.{Vec}
 use Rattle.std.proofs.lemmas.Bool.{cases_Bool}

@@ -1,5 +1,5 @@
 -- The number of warnings with a row.
-use Rattle.std.proofs.Common.{◌≡◌, ℕ, List, ◌-◌, length, map, refl}
+use Rattle.std.proofs.Common.{◌≡◌, ℕ, List, ◌-◌, length, refl}
 use Rattle.robots_warnings.specs.WarningValue.{WarningValue}
 use Rattle.audit_page.specs.Page.{rest_count, without_row}
 

@@ -1,5 +1,5 @@
 -- Messages on standard error are printable apart from color codes. Without the codes they are those without colors.
-use Rattle.std.proofs.Common.{◌≡◌, ℕ, Bool, true, false, List, [], ◌⊎◌, inl, inr, Option, Some, None, string_bytes}
+use Rattle.std.proofs.Common.{◌≡◌, ℕ, Bool, true, false, List, [], inl, inr, Option, Some, None, string_bytes}
 use Rattle.std.proofs.Common.{subst, sym}
 use Rattle.clap.specs.declared.parser.matches.ArgMatches.{ArgMatches}
 use Rattle.robots_io.specs.Sanitize.{IsPrintable}

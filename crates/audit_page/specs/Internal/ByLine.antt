@@ -1,5 +1,5 @@
 -- Warnings by line.
-use Rattle.std.specs.Prelude.{◌≡◌, ℕ, List, [], Option, Some, None, codes, filter, map, slice_get}
+use Rattle.std.specs.Prelude.{◌≡◌, ℕ, List, [], Option, Some, None, codes, filter, slice_get}
 use Rattle.std.specs.Global.{Vec}
 use Rattle.std.proofs.Common.{refl}
 use Rattle.texting_robots.specs.Callers.{Label}

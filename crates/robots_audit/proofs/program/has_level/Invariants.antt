@@ -1,4 +1,4 @@
-use Rattle.std.proofs.Common.{◌≡◌, Some, drop, map}
+use Rattle.std.proofs.Common.{◌≡◌, Some, drop}
 use Rattle.robots_audit.specs.Answer.{is_warned}
 use Rattle.robots_audit.proofs.program.has_level.Given as goal
 

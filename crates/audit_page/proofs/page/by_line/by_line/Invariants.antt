@@ -1,4 +1,4 @@
-use Rattle.std.proofs.Common.{map, take}
+use Rattle.std.proofs.Common.{take}
 use Rattle.audit_page.specs.Internal.ByLine.{AreByLine}
 use Rattle.audit_page.proofs.page.by_line.by_line.Given as goal
 

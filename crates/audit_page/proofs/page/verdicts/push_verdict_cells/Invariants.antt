@@ -1,4 +1,4 @@
-use Rattle.std.proofs.Common.{◌≡◌, ◌++◌, map, take}
+use Rattle.std.proofs.Common.{◌≡◌, ◌++◌, take}
 use Rattle.audit_page.specs.Page.{verdict_cell}
 use Rattle.audit_page.specs.Tree.{all}
 use Rattle.audit_page.proofs.page.verdicts.push_verdict_cells.Given as goal

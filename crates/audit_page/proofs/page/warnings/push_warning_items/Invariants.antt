@@ -1,4 +1,4 @@
-use Rattle.std.proofs.Common.{◌≡◌, ◌++◌, map, take}
+use Rattle.std.proofs.Common.{◌≡◌, ◌++◌, take}
 use Rattle.audit_page.specs.Page.{warning_item}
 use Rattle.audit_page.specs.Tree.{all}
 use Rattle.audit_page.proofs.page.warnings.push_warning_items.Given as goal

@@ -1,4 +1,4 @@
-use Rattle.std.proofs.Common.{◌≡◌, ◌++◌, drop, map}
+use Rattle.std.proofs.Common.{◌≡◌, ◌++◌, drop}
 use Rattle.audit_page.specs.Page.{without_row}
 use Rattle.audit_page.proofs.page.warnings.without_row.Given as goal
 
