@@ -28,7 +28,8 @@ use Rattle.robots_warnings.specs.declared.table.Cause.TheVariants.{TwoDelays}
 use Rattle.robots_warnings.specs.File.{lines_of}
 use Rattle.robots_warnings.specs.Positions.{are_different, first_delay, is_other_delay, is_outside}
 use Rattle.robots_warnings.specs.Positions.{last_group, preceding_with, sole_name}
-use Rattle.robots_warnings.specs.Warnings.{WarningValue, position_warnings, positions_from, warned, warned_at}
+use Rattle.robots_warnings.specs.Warnings.{position_warnings, positions_from, warned, warned_at}
+use Rattle.robots_warnings.specs.WarningValue.{WarningValue}
 use Rattle.audit_laws.proofs.RepeatedLemmas.{among, holds_among}
 use Rattle.audit_laws.proofs.WarningLemmas.{both, named_agent, none}
 

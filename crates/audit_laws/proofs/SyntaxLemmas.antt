@@ -10,7 +10,8 @@ use Rattle.robots_rfc9309.proofs.EachLemmas.{each_front}
 use Rattle.robots_warnings.specs.Facts.{facts_of, is_too_large}
 use Rattle.robots_warnings.specs.File.{labels_for}
 use Rattle.robots_warnings.specs.Table.{is_not_about_syntax}
-use Rattle.robots_warnings.specs.Warnings.{WarningValue, warnings}
+use Rattle.robots_warnings.specs.Warnings.{warnings}
+use Rattle.robots_warnings.specs.WarningValue.{WarningValue}
 use Rattle.robots_syntax.specs.Syntax.{IsNotAboutSyntax, IsRobotStated, IsSilentOn}
 use Rattle.robots_syntax.proofs.SyntaxLemmas.{robot_stated, silence}
 use Rattle.audit_core.specs.Audit.{AuditValue, IsAuditOf, agents_requested, labeling_agent}

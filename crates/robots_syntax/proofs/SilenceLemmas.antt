@@ -11,7 +11,8 @@ use Rattle.robots_warnings.specs.Facts.{suppresses_line_warnings}
 use Rattle.robots_warnings.specs.File.{lines_of}
 use Rattle.robots_warnings.specs.Positions.{first_delay, is_above_agents, preceding_with, sole_name}
 use Rattle.robots_warnings.specs.Table.{is_not_about_syntax}
-use Rattle.robots_warnings.specs.Warnings.{WarningValue, line_warnings, lines_warnings}
+use Rattle.robots_warnings.specs.Warnings.{line_warnings, lines_warnings}
+use Rattle.robots_warnings.specs.WarningValue.{WarningValue}
 use Rattle.robots_warnings.specs.Warnings.{positions_from, warned, warning_of}
 use Rattle.robots_warnings.specs.declared.facts.FileFacts.{FileFacts}
 use Rattle.robots_warnings.specs.declared.positions.Preceding.{Preceding}

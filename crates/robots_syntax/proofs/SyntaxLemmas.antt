@@ -15,7 +15,8 @@ use Rattle.robots_warnings.specs.Checks.{file_checks}
 use Rattle.robots_warnings.specs.Facts.{facts_of}
 use Rattle.robots_warnings.specs.File.{labels_for, lines_of}
 use Rattle.robots_warnings.specs.Positions.{last_group}
-use Rattle.robots_warnings.specs.Warnings.{WarningValue, agent_warnings}
+use Rattle.robots_warnings.specs.Warnings.{agent_warnings}
+use Rattle.robots_warnings.specs.WarningValue.{WarningValue}
 use Rattle.robots_warnings.specs.Warnings.{file_lines_warnings, general_warnings}
 use Rattle.robots_warnings.specs.Warnings.{group_warnings, lines_warnings}
 use Rattle.robots_warnings.specs.Warnings.{past_limit_warnings, position_warnings}

@@ -12,7 +12,8 @@ use Rattle.robots_warnings.specs.Checks.{Check, line_checks}
 use Rattle.robots_warnings.specs.Facts.{facts_of}
 use Rattle.robots_warnings.specs.File.{labels_for}
 use Rattle.robots_warnings.specs.Table.{is_not_about_syntax}
-use Rattle.robots_warnings.specs.Warnings.{WarningValue, warnings}
+use Rattle.robots_warnings.specs.Warnings.{warnings}
+use Rattle.robots_warnings.specs.WarningValue.{WarningValue}
 
 -- ---- warnings about syntax
 
