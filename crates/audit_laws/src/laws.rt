@@ -12,7 +12,7 @@ ghost use Rattle.texting_robots.specs.Labels.{IsInOwnGroup};
 ghost use Rattle.texting_robots.specs.Verdict.{robots_file};
 ghost use Rattle.robots_needless.specs.Deleted.{HaveSameRobot, IsLeftOf};
 ghost use Rattle.robots_needless.specs.Needless.{lines_without, numbers_of};
-ghost use Rattle.robots_rfc9309.specs.Rfc9309.{Group, IsFile};
+ghost use Rattle.rfc9309_laws.specs.Rfc9309.{Group, IsFile};
 ghost use Rattle.robots_syntax.specs.Syntax.{IsRobotStated};
 ghost use Rattle.robots_warnings.specs.Closed.{is_closed_for};
 ghost use Rattle.robots_warnings.specs.Conflicts.{IsConflict, IsOverruled, conflict, overruled, overruled_for};
@@ -72,7 +72,7 @@ pub fn needless_lines_can_be_deleted()
 {}
 
 /// If a report says that the file has RFC 9309 syntax, whichever warnings it leaves out, the whole file follows the
-/// standard's grammar with the extensions of `robots_rfc9309`, and each crawler for which it isn't rejected gets the
+/// standard's grammar with the extensions of `rfc9309_laws`, and each crawler for which it isn't rejected gets the
 /// rules, the delay and the sitemaps that it states.
 pub fn syntax_is_that_of_the_standard()
     ensures syntax { (requested : RequestValue) (file : List ℕ) (audit : AuditValue) → IsAuditOf requested file audit

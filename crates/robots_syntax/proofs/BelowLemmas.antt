@@ -12,8 +12,8 @@ use Rattle.texting_robots.specs.Labels.{AreLabelsOf, HasMembership, IsInGroup, I
 use Rattle.texting_robots.specs.declared.labels.Membership.{Membership}
 use Rattle.texting_robots.specs.declared.labels.Membership.TheVariants as membership
 use Rattle.texting_robots.proofs.CapturedLemmas.{only_agents, some_passes}
-use Rattle.robots_rfc9309.specs.LineForms as form
-use Rattle.robots_rfc9309.specs.LineForms.{AreRulesBelowAgents, Form}
+use Rattle.rfc9309_laws.specs.LineForms as form
+use Rattle.rfc9309_laws.specs.LineForms.{AreRulesBelowAgents, Form}
 use Rattle.robots_warnings.specs.Facts.{is_rule}
 use Rattle.robots_warnings.specs.File.{lines_of}
 use Rattle.robots_warnings.specs.Positions.{is_above_agents, is_outside}

@@ -11,7 +11,7 @@ use Rattle.texting_robots.specs.Internal.Statement.{IsOptionalComment}
 use Rattle.texting_robots.specs.Trim.{IsTrimOf}
 use Rattle.texting_robots.specs.declared.parser.statement.Kind.{Kind}
 use Rattle.texting_robots.proofs.TrimLemmas.{each_append}
-use Rattle.robots_rfc9309.proofs.EachLemmas.{each_weaker}
+use Rattle.rfc9309_laws.proofs.EachLemmas.{each_weaker}
 use Rattle.robots_warnings.specs.Contents.{comment_of, tail_of}
 use Rattle.robots_warnings.specs.FieldNames.{is_any_accepted, is_space_or_tab, is_without_colon, name_in}
 use Rattle.robots_warnings.specs.FieldNames.{without_end, without_front}
@@ -19,7 +19,7 @@ use Rattle.robots_warnings.specs.Rules.{before_byte}
 use Rattle.robots_syntax.proofs.KeyLemmas.{IsPlainByte, begins_solid, not_continued, plain_key, solid_key}
 use Rattle.robots_syntax.proofs.TextLemmas.{after_is, before_all, before_front, before_is, from_is, from_none}
 use Rattle.robots_syntax.proofs.TextLemmas.{trailing}
-use Rattle.robots_rfc9309.specs.Rfc9309 as rfc
+use Rattle.rfc9309_laws.specs.Rfc9309 as rfc
 
 -- ---- the parts
 

@@ -11,10 +11,10 @@ use Rattle.texting_robots.specs.Trim.{IsTrimOf}
 use Rattle.texting_robots.specs.declared.parser.statement.Kind.{Kind}
 use Rattle.texting_robots.specs.declared.parser.statement.Kind.TheVariants as kind
 use Rattle.texting_robots.proofs.TrimLemmas.{blanks_skipped, each_append, is_trimmed, trimmed_is_trim}
-use Rattle.robots_rfc9309.proofs.KeyedLemmas.{word_of}
-use Rattle.robots_rfc9309.specs.LineForms.{HasForm}
-use Rattle.robots_rfc9309.specs.LineForms as form
-use Rattle.robots_rfc9309.specs.Rfc9309 as rfc
+use Rattle.rfc9309_laws.proofs.KeyedLemmas.{word_of}
+use Rattle.rfc9309_laws.specs.LineForms.{HasForm}
+use Rattle.rfc9309_laws.specs.LineForms as form
+use Rattle.rfc9309_laws.specs.Rfc9309 as rfc
 use Rattle.robots_warnings.specs.Checks.{rule_checks}
 use Rattle.robots_warnings.specs.Contents.{comment_of, has_odd_comment, has_odd_space, raw_value, tail_of}
 use Rattle.robots_warnings.specs.FieldNames.{is_misspelled}

@@ -11,7 +11,7 @@ use Rattle.std.proofs.lemmas.List.Elements.{All-contains, All-from_recursion}
 use Rattle.texting_robots.specs.declared.parser.statement.Kind.{Kind}
 use Rattle.texting_robots.specs.declared.parser.statement.Kind.TheVariants as kind
 use Rattle.texting_robots.specs.Statement.{field_names}
-use Rattle.robots_rfc9309.proofs.KeyedLemmas.{word_of}
+use Rattle.rfc9309_laws.proofs.KeyedLemmas.{word_of}
 use Rattle.robots_warnings.specs.FieldNames.{begins_with, is_any_accepted, is_space_or_tab}
 
 -- ---- accepted names

@@ -12,9 +12,9 @@ use Rattle.std.proofs.lemmas.Str.{IsUtf8-from_is_utf8, is_utf8-from_IsUtf8}
 use Rattle.texting_robots.specs.Cut.{lf}
 use Rattle.texting_robots.specs.Internal.Statement.{IsOptionalComment}
 use Rattle.texting_robots.specs.declared.parser.statement.Kind.{Kind}
-use Rattle.robots_rfc9309.proofs.{EachLemmas.passing, KeyedLemmas.word_of, Utf8Lemmas.comment_text}
-use Rattle.robots_rfc9309.specs.HasForm.{is_comment_byte}
-use Rattle.robots_rfc9309.specs.Rfc9309 as rfc
+use Rattle.rfc9309_laws.proofs.{EachLemmas.passing, KeyedLemmas.word_of, Utf8Lemmas.comment_text}
+use Rattle.rfc9309_laws.specs.HasForm.{is_comment_byte}
+use Rattle.rfc9309_laws.specs.Rfc9309 as rfc
 use Rattle.robots_warnings.specs.Contents.{comment_of, has_odd_comment, is_control, raw_value, tail_of}
 use Rattle.robots_warnings.specs.FieldNames.{is_misspelled, without_front}
 use Rattle.robots_warnings.specs.Tokens.{is_product_token, is_token_byte}

@@ -15,10 +15,10 @@ use Rattle.texting_robots.specs.Cut.{lf}
 use Rattle.texting_robots.specs.Internal.Statement.{IsOptionalComment}
 use Rattle.texting_robots.specs.Statement.{IsStatement}
 use Rattle.texting_robots.specs.declared.parser.statement.Kind.TheVariants as kind
-use Rattle.robots_rfc9309.proofs.{EachLemmas.passing}
-use Rattle.robots_rfc9309.specs.LineForms.{HasForm}
-use Rattle.robots_rfc9309.specs.LineForms as form
-use Rattle.robots_rfc9309.specs.Rfc9309 as rfc
+use Rattle.rfc9309_laws.proofs.{EachLemmas.passing}
+use Rattle.rfc9309_laws.specs.LineForms.{HasForm}
+use Rattle.rfc9309_laws.specs.LineForms as form
+use Rattle.rfc9309_laws.specs.Rfc9309 as rfc
 use Rattle.robots_warnings.specs.Contents.{are_digits, comment_of, has_odd_comment}
 use Rattle.robots_warnings.specs.Contents.{is_plain_number, raw_value, tail_of}
 use Rattle.robots_warnings.specs.File.{is_blank}

@@ -5,7 +5,7 @@ use Rattle.std.specs.List.{AllByRecursion as Each, list_any, starts_with}
 use Rattle.std.proofs.lemmas.Bool.{and_parts, cases_Bool, eqb-false, eqb-true, false≢true, ne_eqb, or_parts}
 use Rattle.std.proofs.lemmas.List.Elements.{All-from_recursion}
 use Rattle.texting_robots.specs.Line.{without_front}
-use Rattle.robots_rfc9309.specs.Rfc9309 as rfc
+use Rattle.rfc9309_laws.specs.Rfc9309 as rfc
 use Rattle.robots_warnings.specs.Facts.{has_damaged_mark, mark}
 
 -- ---- NUL

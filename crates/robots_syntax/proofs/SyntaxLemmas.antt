@@ -8,9 +8,9 @@ use Rattle.texting_robots.specs.Callers.{IsLineOf, Label, LineValue}
 use Rattle.texting_robots.specs.Callers.{file_bodies, file_limit, group_name, lines_read}
 use Rattle.texting_robots.specs.Labels.{AreLabelsOf}
 use Rattle.texting_robots.proofs.{LabelLemmas.each_line_has_its_label, LineLemmas.lines_of_file_bodies}
-use Rattle.robots_rfc9309.proofs.{EachLemmas.each_front}
-use Rattle.robots_rfc9309.proofs.{LineFormLemmas.forms_make_file, RobotLemmas.forms_robot}
-use Rattle.robots_rfc9309.specs.LineForms.{AreForms, Form}
+use Rattle.rfc9309_laws.proofs.{EachLemmas.each_front}
+use Rattle.rfc9309_laws.proofs.{LineFormLemmas.forms_make_file, RobotLemmas.forms_robot}
+use Rattle.rfc9309_laws.specs.LineForms.{AreForms, Form}
 use Rattle.robots_warnings.specs.Checks.{file_checks}
 use Rattle.robots_warnings.specs.Facts.{facts_of}
 use Rattle.robots_warnings.specs.File.{labels_for, lines_of}

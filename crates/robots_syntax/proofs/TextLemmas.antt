@@ -9,7 +9,7 @@ use Rattle.std.proofs.lemmas.Bool.Decides.{nat_tests}
 use Rattle.std.proofs.lemmas.List.{drop_all, reverse-append, reverse-reverse, take_all}
 use Rattle.std.proofs.lemmas.List.Sums.{take_while-cons}
 use Rattle.texting_robots.proofs.TrimLemmas.{each_append}
-use Rattle.robots_rfc9309.specs.Rfc9309 as rfc
+use Rattle.rfc9309_laws.specs.Rfc9309 as rfc
 use Rattle.robots_warnings.specs.FieldNames.{is_space_or_tab, without_end, without_front}
 use Rattle.robots_warnings.specs.Contents.{raw_value}
 use Rattle.robots_warnings.specs.Rules.{after_byte, before_byte}

@@ -4,10 +4,10 @@ use Rattle.std.specs.Prelude.{◌≡◌, ℕ, Bool, true, not, ◌||◌, List, c
 use Rattle.std.specs.List.{AllByRecursion as Each}
 use Rattle.texting_robots.specs.Callers.{Allow, CrawlDelay, Disallow, LineValue, Raw, Sitemap}
 use Rattle.texting_robots.specs.Callers.{RobotValue, UserAgent, file_limit, lines_read}
-use Rattle.robots_rfc9309.specs.LineForms as form
-use Rattle.robots_rfc9309.specs.LineForms.{Form}
-use Rattle.robots_rfc9309.specs.Rfc9309 as rfc
-use Rattle.robots_rfc9309.specs.StandardRobot.{IsFileWith, IsRobotAs}
+use Rattle.rfc9309_laws.specs.LineForms as form
+use Rattle.rfc9309_laws.specs.LineForms.{Form}
+use Rattle.rfc9309_laws.specs.Rfc9309 as rfc
+use Rattle.rfc9309_laws.specs.StandardRobot.{IsFileWith, IsRobotAs}
 use Rattle.robots_warnings.specs.Checks.{Check, line_checks}
 use Rattle.robots_warnings.specs.Facts.{facts_of}
 use Rattle.robots_warnings.specs.File.{labels_for}

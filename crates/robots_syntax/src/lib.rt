@@ -1,11 +1,11 @@
 //! What the silence of an audit means: a file without warnings about its syntax follows the grammar of
-//! RFC 9309, section 2.2, extended as `robots_rfc9309` says. Theorems about the specification, each
+//! RFC 9309, section 2.2, extended as `rfc9309_laws` says. Theorems about the specification, each
 //! the contract of an empty function.
 #![tactic(auto)]
 
 ghost use Rattle.std.specs.Prelude.{◌≡◌, ℕ, List, [], take};
 ghost use Rattle.texting_robots.specs.Callers.{IsLineOf, IsRobotOfFile, LineValue, RobotValue, file_limit};
-ghost use Rattle.robots_rfc9309.specs.LineForms.{HasForm};
+ghost use Rattle.rfc9309_laws.specs.LineForms.{HasForm};
 ghost use Rattle.robots_syntax.specs.Examples as example;
 ghost use Rattle.robots_syntax.specs.Syntax.{HasSyntax, IsQuietLine, IsRobotStated, IsSilentOn, form_of, warnings_of};
 

@@ -1,0 +1,228 @@
+-- A crawler gets the rules that the source lines define for it.
+use Rattle.std.proofs.Common.{◌≡◌, ℕ, Bool, true, false, not, ◌||◌, List, [], ◌∷◌, ◌++◌}
+use Rattle.std.proofs.Common.{Option, Some, None}
+use Rattle.std.proofs.Common.{flat_map, filter, cond, bytes_eq, sym, refl, ap, ◌∙◌, subst}
+use Rattle.std.specs.{List.AllZip, List.AllByRecursion as Each, List.list_any, List.cons_option}
+use Rattle.std.specs.Str.{str_to_ascii_lowercase}
+use Rattle.std.proofs.{Math.Bool.or-false, Math.Bool.or_assoc, Math.Bool.or_comm}
+use Rattle.std.proofs.{lemmas.List.Elements.filter-append}
+use Rattle.texting_robots.specs.{declared.groups.GroupTracker.GroupTracker, Executable.rule_in}
+use Rattle.texting_robots.specs.{Executable.rules_for, Rules.Rule}
+use Rattle.texting_robots.specs.Line.{LineValue, UserAgent, Allow, CrawlDelay, Disallow, Sitemap, Raw}
+use Rattle.texting_robots.specs.Group.{group_name, is_agent, is_agent_named, is_group}
+use Rattle.texting_robots.specs.Internal.Group.{start_of}
+use Rattle.texting_robots.proofs.CapturedLemmas.{cond_same, given_captured, rules_are}
+use Rattle.rfc9309_laws.specs.ReadAs.{IsReadAs}
+use Rattle.rfc9309_laws.specs.Rfc9309.{Group, Member, put_before, is_rule, has_token, groups_for}
+use Rattle.rfc9309_laws.proofs.EndLemmas.{lines_in}
+use Rattle.rfc9309_laws.proofs.Sources.{GivesRuleOf, IsRead, Source, allowed_in, member_in, parts_in}
+use Rattle.rfc9309_laws.specs.Rfc9309 as rfc
+
+-- the states within a run of user-agent lines, with the name among them or not, and (`closed`) after the line
+-- of a member
+abbrev run : Bool → GroupTracker
+run named = record { captured = named; named = named }
+
+abbrev pub closed : Bool → GroupTracker
+closed captured = record { captured = captured; named = false }
+
+or_swapped : (a b c : Bool) → (a || (b || c)) ≡ ((b || a) || c)
+or_swapped a b c = sym (or_assoc a b c) ∙ ap (λ d. d || c) (or_comm a b)
+
+-- ---- what the lines of members give
+
+module _ {X : Type 0} (given : LineValue → Option X) (wanted : Member → Bool) (R : Member → X → Type 0)
+  where
+    -- a line gives what its member means; if it gives nothing, the member isn't wanted
+    abbrev pub Gives : Member → Option X → Type 0
+    Gives member None = wanted member ≡ false
+    Gives member (Some x) = (wanted member ≡ true) × R member x
+
+    -- each line that is read correctly gives what its member means, and lines without members give nothing
+    pub record IsGiven : Type 0 where
+      pub none : (line : LineValue) → is_group line ≡ false → given line ≡ None
+      pub some : (line : LineValue) (text : List ℕ) → is_group line ≡ true → IsRead (line, text)
+          → Gives (member_in line text) (given line)
+
+    -- the members that are wanted mean these values
+    abbrev pub AreFound : List Member → List X → Type 0
+    AreFound members found = AllZip R (filter wanted members) found
+
+    pub one_found : (member : Member) (found : Option X) (members : List Member) (rest : List X)
+        → Gives member found → AreFound members rest → AreFound (member ∷ members) (cons_option found rest)
+    one_found member None members rest none all = rw none all
+    one_found member (Some x) members rest is all = rw is.0 (is.1, all)
+
+-- rules are what the lines of rules give
+pub rules_given : IsGiven rule_in is_rule IsReadAs
+rules_given = record { none = none; some = some }
+  where
+    gives : (member : Member) (found : Option Rule) → GivesRuleOf member found
+        → Gives rule_in is_rule IsReadAs member found
+    gives member None none = none
+    gives (rfc.Allow pattern) (Some rule) is = (refl, is)
+    gives (rfc.Disallow pattern) (Some rule) is = (refl, is)
+    gives (rfc.Delay number) (Some rule) is = absurd is
+
+    none : (line : LineValue) → is_group line ≡ false → rule_in line ≡ None
+    none (Allow value) is = cc
+    none (Disallow value) is = cc
+    none _ is = refl
+
+    some : (line : LineValue) (text : List ℕ) → is_group line ≡ true → IsRead (line, text)
+        → Gives rule_in is_rule IsReadAs (member_in line text) (rule_in line)
+    some (Allow value) text is read = gives (allowed_in text value) (rule_in (Allow value)) read
+    some (Disallow value) text is read = gives (rfc.Disallow text) (rule_in (Disallow value)) read
+    some (CrawlDelay delay) text is read = refl
+    some (UserAgent token) text is read = cc
+    some (Sitemap value) text is read = cc
+    some (Raw body) text is read = cc
+
+-- the members of these groups
+abbrev pub members_in : List Group → List Member
+members_in groups = flat_map (λ group. group.members) groups
+
+first_if : (is : Bool) (group : Group) (groups : List Group)
+    → cond is group.members [] ++ members_in groups ≡ members_in (cond is (group ∷ groups) groups)
+first_if true group groups = refl
+first_if false group groups = refl
+
+module _ (name : List ℕ) where
+  abbrev pub is_named : List ℕ → Bool
+  is_named token = bytes_eq (str_to_ascii_lowercase token) name
+
+  -- one of the group's product tokens is the name
+  abbrev pub has : Group → Bool
+  has group = list_any is_named group.tokens
+
+  -- the members of the groups with the name
+  abbrev pub theirs : List Group → List Member
+  theirs groups = members_in (filter has groups)
+
+  -- the members that apply from this state on: those before any token if the state captures them, and those
+  -- of the first group also if the current run of user-agent lines has the name
+  abbrev pub captured : GroupTracker → List Member → List Group → List Member
+  captured walk [] [] = []
+  captured walk [] (next ∷ later) = cond (walk.named || has next) next.members [] ++ theirs later
+  captured walk (member ∷ members) groups = cond walk.captured (member ∷ members) [] ++ theirs groups
+
+  pub captured_closed : (is : Bool) (members : List Member) (groups : List Group)
+      → captured (closed is) members groups ≡ cond is members [] ++ theirs groups
+  captured_closed is [] [] = rw (cond_same {X = List Member} is []) refl
+  captured_closed is [] (next ∷ later) =
+      rw (cond_same {X = List Member} is []) (first_if (has next) next (filter has later))
+  captured_closed is (member ∷ members) groups = refl
+
+  -- after a user-agent line, the first group also counts as the name's if its token is the name
+  captured_after : (walk : GroupTracker) (token : List ℕ) (members : List Member) (groups : List Group)
+      → captured walk [] (put_before (token ∷ []) members groups)
+      ≡ captured (run (is_named token || walk.named)) members groups
+  captured_after walk token [] [] = rw (cond_same {X = List Member} _ []) refl
+  captured_after walk token [] (next ∷ later) =
+      ap (λ b. cond b next.members [] ++ theirs later) (or_swapped walk.named (is_named token) (has next))
+  captured_after walk token (member ∷ members) groups =
+      ap (λ b. cond b (member ∷ members) [] ++ theirs groups)
+      (or_swapped walk.named (is_named token) false ∙ or-false (is_named token || walk.named))
+
+  -- ---- which groups have the name
+
+  any_put : (token : List ℕ) (members : List Member) (groups : List Group)
+      → (is_named token || list_any has groups)
+      ≡ list_any has (put_before (token ∷ []) members groups)
+  any_put token [] [] = sym (or_assoc (is_named token) false false)
+  any_put token [] (next ∷ later) = sym (or_assoc (is_named token) (has next) (list_any has later))
+  any_put token (member ∷ members) groups = sym (or_assoc (is_named token) false (list_any has groups))
+
+  any_named : (sources : List Source)
+      → list_any (is_agent_named name) (lines_in sources) ≡ list_any has (parts_in sources).groups
+  any_named [] = refl
+  any_named ((UserAgent token, text) ∷ sources) =
+      ap (λ b. is_named token || b) (any_named sources)
+      ∙ any_put token (parts_in sources).ungrouped (parts_in sources).groups
+  any_named (_ ∷ sources) = any_named sources
+
+-- ---- what the `GroupTracker` finds
+
+module _ {X : Type 0} (given : LineValue → Option X) (wanted : Member → Bool) (R : Member → X → Type 0)
+    (is_given : IsGiven given wanted R) (name : List ℕ) where
+  -- what the `GroupTracker` finds from this state on
+  abbrev found : GroupTracker → List Source → List X
+  found walk sources = given_captured given name walk (lines_in sources)
+
+  abbrev Found : List Member → List X → Type 0
+  Found members rest = AreFound given wanted R members rest
+
+  member_found : (is : Bool) (member : Member) (o : Option X) (members : List Member) (groups : List Group)
+      (rest : List X) → Gives given wanted R member o
+      → Found (captured name (closed is) members groups) rest
+      → Found (cond is (member ∷ members) [] ++ theirs name groups) (cons_option (cond is o None) rest)
+  member_found is member o members groups rest gives all =
+      at is (rw (captured_closed name is members groups) at all)
+    where
+      at : (is : Bool) → Found (cond is members [] ++ theirs name groups) rest
+          → Found (cond is (member ∷ members) [] ++ theirs name groups) (cons_option (cond is o None) rest)
+      at true all = one_found given wanted R member o (members ++ theirs name groups) rest gives all
+      at false all = all
+
+  -- the `GroupTracker` finds what the members that apply mean
+  pub walk_finds : (walk : GroupTracker) (sources : List Source) → Each IsRead sources
+      → Found (captured name walk (parts_in sources).ungrouped (parts_in sources).groups)
+      (found walk sources)
+  walk_finds walk [] all = tt
+  walk_finds walk ((UserAgent token, text) ∷ sources) (is, all) =
+      let parts = parts_in sources in
+      rw (
+        is_given.none (UserAgent token) refl,
+        cond_same {X = Option X} walk.captured None,
+        captured_after name walk token parts.ungrouped parts.groups,
+      )
+      (walk_finds (run (is_named name token || walk.named)) sources all)
+  walk_finds walk ((Sitemap value, text) ∷ sources) (is, all) =
+      rw (is_given.none (Sitemap value) refl, cond_same {X = Option X} walk.captured None)
+      (walk_finds walk sources all)
+  walk_finds walk ((Raw body, text) ∷ sources) (is, all) =
+      rw (is_given.none (Raw body) refl, cond_same {X = Option X} walk.captured None)
+      (walk_finds walk sources all)
+  walk_finds walk ((line, text) ∷ sources) (is, all) =
+      let parts = parts_in sources in
+      member_found walk.captured (member_in line text) (given line) parts.ungrouped parts.groups
+      (found (closed walk.captured) sources) (is_given.some line text refl is)
+      (walk_finds (closed walk.captured) sources all)
+
+-- the groups with the group name are the groups for the crawler
+named_groups : (agent : List ℕ) (groups : List Group) (lines : List LineValue) (some : Bool)
+    → list_any (is_agent_named (str_to_ascii_lowercase agent)) lines ≡ some
+    → list_any (has_token agent) groups ≡ some
+    → filter (has (group_name agent lines)) groups ≡ groups_for agent groups
+named_groups agent groups lines true named has = rw (named, has) refl
+named_groups agent groups lines false named has = rw (named, has) refl
+
+-- the groups with the group name in source lines are the groups for the crawler
+pub groups_with_name : (agent : List ℕ) (sources : List Source)
+    → filter (has (group_name agent (lines_in sources))) (parts_in sources).groups
+    ≡ groups_for agent (parts_in sources).groups
+groups_with_name agent sources =
+    named_groups agent (parts_in sources).groups (lines_in sources) _
+    (any_named (str_to_ascii_lowercase agent) sources) refl
+
+-- if no rule comes before the first token, a crawler gets the rules that the groups define for it
+pub rules_written : (agent : List ℕ) (sources : List Source) → Each IsRead sources
+    → filter is_rule (parts_in sources).ungrouped ≡ []
+    → AllZip IsReadAs (rfc.rules_for agent (parts_in sources).groups)
+    (rules_for agent (lines_in sources))
+rules_written agent sources all none =
+    let parts = parts_in sources in
+    let lines = lines_in sources in
+    let name = group_name agent lines in
+    rw (rules_are agent lines, ← groups_with_name agent sources) (
+    subst (λ members. AllZip IsReadAs members (given_captured rule_in name (start_of lines) lines))
+    (ap (filter is_rule) (captured_closed name (not (list_any is_agent lines)) parts.ungrouped parts.groups)
+    ∙ grouped (not (list_any is_agent lines)) (theirs name parts.groups))
+    (walk_finds rule_in is_rule IsReadAs rules_given name (start_of lines) sources all))
+  where
+    grouped : (is : Bool) (members : List Member)
+        → filter is_rule (cond is (parts_in sources).ungrouped [] ++ members) ≡ filter is_rule members
+    grouped true members =
+        filter-append is_rule (parts_in sources).ungrouped members
+        ∙ ap (λ rules. rules ++ filter is_rule members) none
+    grouped false members = refl

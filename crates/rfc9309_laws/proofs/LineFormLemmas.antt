@@ -1,0 +1,219 @@
+-- A text whose lines have the forms of the grammar's lines, with each rule below a user-agent line, is a file
+-- of the grammar. Each user-agent line begins a group of its own, whose members are those up to the next
+-- user-agent line. The text is built from its last line on.
+use Rattle.std.proofs.Common.{◌≡◌, ◌≢◌, inl, inr, ℕ, zero, suc, List, [], ◌∷◌, ◌++◌, sym, refl, ap}
+use Rattle.std.proofs.Common.{◌∙◌}
+use Rattle.std.proofs.Common.{append_assoc, arith, subst}
+use Rattle.std.specs.Prelude.{Contains}
+use Rattle.std.specs.List.{AllZip, AllByRecursion as Each}
+use Rattle.std.proofs.lemmas.List.Elements.{recursion_from_All}
+use Rattle.texting_robots.specs.{Executable.file_bodies, Internal.Cut.bodies_of, Line.without_front}
+use Rattle.rfc9309_laws.proofs.EndLemmas.{nothing_replaced}
+use Rattle.rfc9309_laws.proofs.SyntaxLemmas.{repeats_both, repeats_none, repeats_one}
+use Rattle.rfc9309_laws.proofs.TerminatorLemmas.{AreEnded, IsEndByte, completed, line_ended}
+use Rattle.rfc9309_laws.specs.LineForms.{Agent, AreForms, AreRulesBelowAgents, Delay, Empty, Form}
+use Rattle.rfc9309_laws.specs.LineForms.{HasForm}
+use Rattle.rfc9309_laws.specs.LineForms.{IsLine, Other, Rule, Sitemap}
+use Rattle.rfc9309_laws.specs.Rfc9309 as rfc
+
+-- ---- rules above the first user-agent line
+
+-- no rule is above the first user-agent line
+abbrev pub AreFree : List Form → Type 0
+AreFree [] = Unit {0}
+AreFree (Agent ∷ forms) = Unit {0}
+AreFree (Rule ∷ forms) = ⊥
+AreFree (_ ∷ forms) = AreFree forms
+
+past : (form : Form) (above : List Form) → form ≢ Agent → Contains (form ∷ above) Agent
+    → Contains above Agent
+past form above isnt (zero, within, is) = absurd (isnt is)
+past form above isnt (suc k, within, is) = (k, omega arith, is)
+
+later : (form : Form) (forms : List Form) → form ≢ Agent → AreRulesBelowAgents (form ∷ forms)
+    → AreRulesBelowAgents forms
+later form forms isnt are above below e =
+    past form above isnt (are (form ∷ above) below (ap (λ more. form ∷ more) e))
+
+are_free : (forms : List Form) → AreRulesBelowAgents forms → AreFree forms
+are_free [] are = tt
+are_free (Agent ∷ forms) are = tt
+are_free (Rule ∷ forms) are = let (k, within, is) = are [] forms refl in absurd (omega arith)
+are_free (Empty ∷ forms) are = are_free forms (later Empty forms (λ e. cc) are)
+are_free (Delay ∷ forms) are = are_free forms (later Delay forms (λ e. cc) are)
+are_free (Sitemap ∷ forms) are = are_free forms (later Sitemap forms (λ e. cc) are)
+are_free (Other ∷ forms) are = are_free forms (later Other forms (λ e. cc) are)
+
+-- ---- the end of a file
+
+abbrev AreMembers : List rfc.Member → List ℕ → Type 0
+AreMembers members text = rfc.Repeats (rfc.IsOneOr rfc.IsMemberLine rfc.IsSkipped) members text
+
+abbrev AreGroups : List rfc.Group → List ℕ → Type 0
+AreGroups groups text = rfc.Repeats (rfc.IsOneOr rfc.IsWideGroup rfc.IsSkipped) groups text
+
+-- the text consists of lines above the first user-agent line, and of groups; if `Free` holds, the former have
+-- no rule
+record IsTail (Free : Type 0) (text : List ℕ) : Type 0 where
+  lead : List ℕ
+  rest : List ℕ
+  members : List rfc.Member
+  groups : List rfc.Group
+  whole : text ≡ lead ++ rest
+  are_members : AreMembers members lead
+  are_free : Free → rfc.IsMany rfc.IsLeadUnit lead
+  are_groups : AreGroups groups rest
+
+nothing : IsTail (Unit {0}) []
+nothing = record {
+  lead = [];
+  rest = [];
+  members = [];
+  groups = [];
+  whole = refl;
+  are_members = repeats_none (rfc.IsOneOr rfc.IsMemberLine rfc.IsSkipped);
+  are_free = λ free. record { units = []; each = tt; whole = refl };
+  are_groups = repeats_none (rfc.IsOneOr rfc.IsWideGroup rfc.IsSkipped);
+}
+
+unit_before : (unit text : List ℕ) → rfc.IsLeadUnit unit → rfc.IsMany rfc.IsLeadUnit text
+    → rfc.IsMany rfc.IsLeadUnit (unit ++ text)
+unit_before unit text is are = record {
+  units = unit ∷ are.units;
+  each = (is, are.each);
+  whole = ap (λ t. unit ++ t) are.whole;
+}
+
+module _ {Free : Type 0} (line text : List ℕ) (tail : IsTail Free text) where
+  -- one more line that isn't a user-agent line
+  line_before : {Before : Type 0} (members : List rfc.Member)
+      → rfc.IsOneOr rfc.IsMemberLine rfc.IsSkipped members line
+      → (Before → rfc.IsLeadUnit line × Free) → IsTail Before (line ++ text)
+  line_before members is free = record {
+    lead = line ++ tail.lead;
+    rest = tail.rest;
+    members = members ++ tail.members;
+    groups = tail.groups;
+    whole = ap (λ t. line ++ t) tail.whole ∙ sym (append_assoc line tail.lead tail.rest);
+    are_members =
+        repeats_both (repeats_one (rfc.IsOneOr rfc.IsMemberLine rfc.IsSkipped) members line is)
+        tail.are_members;
+    are_free = λ before. let both = free before in
+        unit_before line tail.lead both.0 (tail.are_free both.1);
+    are_groups = tail.are_groups;
+  }
+
+  skipped_before : rfc.IsSkipped line → IsTail Free (line ++ text)
+  skipped_before is = line_before [] (inr (is, refl)) (λ free. (inr is, free))
+
+  -- one more user-agent line, which begins a group
+  agent_before : (token : List ℕ) → rfc.IsStartGroupLine token line → IsTail (Unit {0}) (line ++ text)
+  agent_before token is =
+      let group : rfc.Group = record { tokens = token ∷ []; members = tail.members } in
+      let is_group : rfc.IsWideGroup group (line ++ tail.lead) = record {
+        token = token;
+        tokens = [];
+        start = line;
+        agents = [];
+        lines = tail.lead;
+        whole = refl;
+        is_start = is;
+        are_agents = repeats_none (rfc.IsOneOr rfc.IsStartGroupLine rfc.IsSkipped);
+        written = refl;
+        are_members = tail.are_members;
+      } in
+      record {
+        lead = [];
+        rest = (line ++ tail.lead) ++ tail.rest;
+        members = [];
+        groups = group ∷ tail.groups;
+        whole = ap (λ t. line ++ t) tail.whole ∙ sym (append_assoc line tail.lead tail.rest);
+        are_members = repeats_none (rfc.IsOneOr rfc.IsMemberLine rfc.IsSkipped);
+        are_free = λ free. record { units = []; each = tt; whole = refl };
+        are_groups =
+            repeats_both (
+            repeats_one (rfc.IsOneOr rfc.IsWideGroup rfc.IsSkipped) (group ∷ []) (line ++ tail.lead)
+            (inl (group, is_group, refl))) tail.are_groups;
+      }
+
+form_before : (form : Form) (forms : List Form) (line text : List ℕ) → IsLine form line
+    → IsTail (AreFree forms) text → IsTail (AreFree (form ∷ forms)) (line ++ text)
+form_before Empty forms line text is tail = skipped_before line text tail (inl is)
+form_before Agent forms line text (token, is) tail = agent_before line text tail token is
+form_before Rule forms line text (member, inl is) tail =
+    line_before line text tail (member ∷ []) (inl (member, inl is, refl)) (λ free. absurd free)
+form_before Rule forms line text (member, inr is) tail =
+    line_before line text tail (member ∷ []) (inl (member, inr (inl is), refl)) (λ free. absurd free)
+form_before Delay forms line text (member, is) tail =
+    line_before line text tail (member ∷ []) (inl (member, inr (inr is), refl))
+    (λ free. (inl (member, is), free))
+form_before Sitemap forms line text (address, is) tail =
+    skipped_before line text tail (inr (inl (address, is)))
+form_before Other forms line text is tail = skipped_before line text tail (inr (inr is))
+
+-- ---- further bytes of a terminator, each of which is an empty line
+
+is_nl : (end : ℕ) → IsEndByte end → rfc.IsNl (end ∷ [])
+is_nl end (inl is) = inl (ap (λ b. b ∷ []) is)
+is_nl end (inr is) = inr (inl (ap (λ b. b ∷ []) is))
+
+end_empty : (end : ℕ) → IsEndByte end → rfc.IsEmptyLine (end ∷ [])
+end_empty end is = record {
+  blanks = [];
+  comment = [];
+  nl = end ∷ [];
+  whole = refl;
+  are_blanks = tt;
+  is_comment = inl refl;
+  is_nl = is_nl end is;
+}
+
+ends_before : {Free : Type 0} (ends text : List ℕ) → Each IsEndByte ends → IsTail Free text
+    → IsTail Free (ends ++ text)
+ends_before [] text are tail = tail
+ends_before (end ∷ ends) text are tail =
+    skipped_before (end ∷ []) (ends ++ text) (ends_before ends text are.1 tail) (inl (end_empty end are.0))
+
+-- ---- the file
+
+tail_of : (forms : List Form) (bodies : List (List ℕ)) (text : List ℕ) → AllZip HasForm forms bodies
+    → AreEnded bodies text → IsTail (AreFree forms) text
+tail_of [] [] text all none = rw none nothing
+tail_of [] (body ∷ bodies) text all are = absurd all
+tail_of (form ∷ forms) [] text all are = absurd all
+tail_of (form ∷ forms) (body ∷ bodies) text (is, all) (bytes, line) =
+    let tail = tail_of forms bodies line.rest all line.is_rest in
+    let ended = line_ended body (line.end ∷ []) bytes (is_nl line.end line.is_end) form is in
+    let after = ends_before line.ends line.rest line.are_ends tail in
+    let whole : text ≡ (body ++ line.end ∷ []) ++ (line.ends ++ line.rest) =
+    line.whole ∙ simp append_assoc in
+    rw whole (form_before form forms (body ++ line.end ∷ []) (line.ends ++ line.rest) ended after)
+
+pub forms_make_file : (text : List ℕ) (forms : List Form) → AreForms forms text
+    → (groups : List rfc.Group) × rfc.IsFile groups text
+forms_make_file text forms are =
+    let rest = without_front text in
+    let (bom, is_bom, whole) = are.bom in
+    let ended = completed rest in
+    let no_nul = recursion_from_All (λ byte. byte ≢ 0) text are.no_nul in
+    let bodies : file_bodies text ≡ bodies_of rest =
+    ap (λ t. bodies_of (without_front t)) (nothing_replaced text no_nul) in
+    let each : AllZip HasForm forms (bodies_of rest) = subst (AllZip HasForm forms) bodies are.each in
+    let tail = tail_of forms (bodies_of rest) (rest ++ ended.nl) each ended.are in (
+      tail.groups,
+      record {
+        bom = bom;
+        rest = rest;
+        nl = ended.nl;
+        whole = whole;
+        is_bom = is_bom;
+        is_nl = ended.is_nl;
+        is_content = record {
+          front = tail.lead;
+          rest = tail.rest;
+          whole = tail.whole;
+          is_front = tail.are_free (are_free forms are.below);
+          are_groups = tail.are_groups;
+        };
+      },
+    )
