@@ -6,7 +6,7 @@ use robots_warnings::table::Cause;
 use robots_warnings::warning::Warning;
 
 /// What all warnings about a file, reported or not, tell about its syntax. That it is the standard's is the
-/// theorem `syntax_is_that_of_the_standard` of `audit_laws`.
+/// theorem `syntax_is_that_of_the_standard` of `warnings_laws`.
 #[derive(Clone, Copy, PartialEq, Eq)]
 pub enum Syntax {
     /// Nothing: a warning is about syntax, not all of the file is checked, or it is rejected for a crawler.

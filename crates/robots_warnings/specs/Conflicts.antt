@@ -39,7 +39,7 @@ pub record IsOverruled (is_empty : ℕ → Bool) (agent : List ℕ) (lines : Lis
   pub alone : (allowed : List ℕ) (at : ℕ) → compared allowed ≡ codes "/"
       → Contains rules (record { rule = (allowed, true); line = at }) → is_empty at ≡ true
 
--- ---- as functions; by theorems of `audit_laws` they agree
+-- ---- as functions; by theorems of `warnings_laws` they agree
 
 -- the first number that the function gives
 abbrev pub first_of : {X : Type 0} → (X → Option ℕ) → List X → Option ℕ

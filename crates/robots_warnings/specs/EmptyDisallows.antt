@@ -17,7 +17,7 @@ IsEmptyDisallow bodies number =
 abbrev pub stated_rules : (is_empty : ℕ → Bool) → List PlacedRule → List PlacedRule
 stated_rules is_empty rules = filter (λ placed. not (is_empty placed.line)) rules
 
--- ---- as a function; by the theorem `empty_disallows` of `audit_laws` it agrees
+-- ---- as a function; by the theorem `empty_disallows` of `warnings_laws` it agrees
 
 abbrev pub begins_with_d : List ℕ → Bool
 begins_with_d [] = false

@@ -1,5 +1,0 @@
-use Rattle.audit_laws.proofs.ClosedLemmas.{closes_everything}
-use Rattle.audit_laws.proofs.laws.closes_everything.Goals as goal
-
-pub returns : goal.returns
-returns c = closes_everything

@@ -1,5 +1,0 @@
-use Rattle.audit_laws.proofs.ClosedLemmas.{cut_to_root_matches}
-use Rattle.audit_laws.proofs.laws.hash_cuts_rule.Goals as goal
-
-pub returns : goal.returns
-returns c = cut_to_root_matches

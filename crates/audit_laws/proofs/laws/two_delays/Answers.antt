@@ -1,5 +1,0 @@
-use Rattle.audit_laws.proofs.DelayLemmas.{two_delays_can_be_deleted}
-use Rattle.audit_laws.proofs.laws.two_delays.Goals as goal
-
-pub returns : goal.returns
-returns c = two_delays_can_be_deleted

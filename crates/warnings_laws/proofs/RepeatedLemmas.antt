@@ -1,0 +1,309 @@
+-- A rule with `repeated-rule` decides no verdict, and can be deleted.
+use Rattle.std.proofs.Common.{◌≡◌, ◌≢◌, ◌<◌, ◌≤◌, ◌+◌, ◌↔◌, ℕ, suc, zero, Bool, true, false}
+use Rattle.std.proofs.Common.{List, [], ◌∷◌, ◌++◌, All, Contains, if◌then◌else◌, slice_get, Option, Some}
+use Rattle.std.proofs.Common.{◌&&◌, ◌==◌, ap, arith, inl, inr, refl, subst, sym, ◌∙◌}
+use Rattle.std.specs.List.{list_any}
+use Rattle.std.proofs.lemmas.Bool.{cases_Bool, cases_eq, cases_lt, eqb-true, false_from_ne_true, false≢true}
+use Rattle.std.proofs.lemmas.List.Elements.{Contains-push_cases}
+use Rattle.std.proofs.lemmas.List.Folds.{Any-from_list_any}
+use Rattle.std.proofs.lemmas.Option.{same_Some}
+use Rattle.std.proofs.lemmas.Slice.Eq.{bytes_eq-Decides}
+use Rattle.texting_robots.specs.Callers.{Allow, AreLabelsOf, AreRulesFor, Disallow, IsCaptured, Label}
+use Rattle.texting_robots.specs.Callers.{IsDecidingLine, IsDenied, IsVerdict, LineValue, PlacedRule, Rule}
+use Rattle.texting_robots.specs.Callers.{group_name, placed_rules, rules_for, unplaced}
+use Rattle.texting_robots.specs.Group.{is_agent, passes_at}
+use Rattle.texting_robots.proofs.BestLemmas.{placed_of}
+use Rattle.texting_robots.proofs.HeldLemmas.{computed_are}
+use Rattle.robots_needless.specs.Blocks.{is_rule, keep_blocks_from, no_rule, with_rule}
+use Rattle.robots_needless.specs.Needless.{lines_without, without}
+use Rattle.robots_needless.proofs.BlockLemmas.{deleted}
+use Rattle.robots_needless.proofs.DistinctLemmas.{in_filter, to_filter}
+use Rattle.robots_needless.proofs.TogetherLemmas.{unplaced_of, verdicts}
+use Rattle.robots_warnings.specs.Repeated.{above_next, is_checked, is_repeated, repeated, repeated_from}
+use Rattle.robots_warnings.specs.Spellings.{is_rule_with}
+use Rattle.warnings_laws.proofs.WarnedLineLemmas.{AreFrom, IsFrom, all_from, all_labels, first_or_later, from_next}
+use Rattle.warnings_laws.proofs.WarnedLineLemmas.{here, labels_next}
+use Rattle.warnings_laws.proofs.WarningLemmas.{both, named_agent}
+
+-- ---- the line above that is repeated
+
+-- the line is somewhere above this position, with no user-agent line from there on to the position
+record IsAbove (lines : List LineValue) (position : ℕ) (line : Option LineValue) : Type 0 where
+  other : ℕ
+  above : other < position
+  is : slice_get lines other ≡ line
+  no_agent : (k : ℕ) → other ≤ k → k < position → passes_at is_agent lines k ≡ false
+
+-- the line with this number is a rule, and an equal line is above it in its group
+abbrev IsRepeat : List LineValue → ℕ → Type 0
+IsRepeat lines number = (position : ℕ) → number ≡ position + 1
+    → (passes_at is_rule lines position ≡ true) × IsAbove lines position (slice_get lines position)
+
+-- a line that passes the test for a repeated rule is a rule, and is among the lines above
+rule_is : (is_allow : Bool) (value : List ℕ) (line : LineValue) → is_rule_with is_allow value line ≡ true
+    → line ≡ (if is_allow then Allow value else Disallow value)
+rule_is true value (Allow other) is = ap Allow ((bytes_eq-Decides other value).0 is)
+rule_is false value (Disallow other) is = ap Disallow ((bytes_eq-Decides other value).0 is)
+rule_is is_allow value line is = cc
+
+is_listed : (is_allow : Bool) (value : List ℕ) (above : List LineValue)
+    → list_any (is_rule_with is_allow value) above ≡ true
+    → Contains above (if is_allow then Allow value else Disallow value)
+is_listed is_allow value above is =
+    let (k, line, below, at, same) = Any-from_list_any (is_rule_with is_allow value) above is in
+    subst (Contains above) (rule_is is_allow value line same) (k, below, at)
+
+repeats_one : (above : List LineValue) (line : LineValue) → is_repeated above line ≡ true
+    → (is_rule line ≡ true) × Contains above line
+repeats_one above (Allow value) is = (refl, is_listed true value above is)
+repeats_one above (Disallow value) is = (refl, is_listed false value above is)
+repeats_one above line is = cc
+
+-- ---- from line to line
+
+module _ {lines : List LineValue} {position : ℕ} {line : LineValue} {rest : List LineValue}
+    (from : IsFrom lines position (line ∷ rest)) where
+  -- if this line isn't a user-agent line, it and the lines above it are above the next position
+  above_next_is : is_agent line ≡ false → (above : List LineValue)
+      → ((other : LineValue) → Contains above other → IsAbove lines position (Some other))
+      → (other : LineValue) → Contains (above ++ line ∷ []) other → IsAbove lines (position + 1) (Some other)
+  above_next_is isnt above group other has =
+      let passes : passes_at is_agent lines position ≡ false = rw (here from) isnt in
+      elim (Contains-push_cases above line other has) [
+        | inl older ↦
+            let is = group other older in record {
+              other = is.other;
+              above = omega arith;
+              is = is.is;
+              no_agent = λ k from below. elim (cases_eq k position) [
+                | inl same ↦ rw same passes
+                | inr less ↦ is.no_agent k from (omega arith)
+              ];
+            }
+        | inr same ↦ record {
+          other = position;
+          above = omega arith;
+          is = here from ∙ ap Some same;
+          no_agent = λ k from below. let same : k ≡ position = omega arith in rw same passes;
+        }
+      ]
+
+  -- a line above the next position is above this one, unless it equals the line here
+  above_this : (other : LineValue) → ◌≢◌ {A = LineValue} line other
+      → IsAbove lines (position + 1) (Some other) → IsAbove lines position (Some other)
+  above_this other differs is =
+      let apart : is.other ≢ position =
+      λ same. differs (same_Some line other (sym (here from) ∙ rw same at is.is)) in record {
+        other = is.other;
+        above = omega arith;
+        is = is.is;
+        no_agent = λ k from below. is.no_agent k from (omega arith);
+      }
+
+-- what `repeated_from` is given at a position: the labels of the lines from there on, and the lines above it
+-- in its group
+record IsReached (lines : List LineValue) (position : ℕ) (above : List LineValue) (labels : List Label)
+    : Type 0 where
+  labeled : AreFrom lines position labels
+  group : (line : LineValue) → Contains above line → IsAbove lines position (Some line)
+
+module _ {lines above : List LineValue} {position : ℕ} {label : Label} {labels : List Label}
+    (reached : IsReached lines position above (label ∷ labels)) where
+  first_repeat : is_repeated above label.line ≡ true → IsRepeat lines label.number
+  first_repeat is place number_is =
+      let (rule, listed) = repeats_one above label.line is in
+      let same : place ≡ position = omega (arith, reached.labeled.numbers 0 label refl) in
+      rw (same, here reached.labeled.from) (rule, reached.group label.line listed)
+
+  next : IsReached lines (position + 1) (above_next above label.line) labels
+  next = record {
+    labeled = labels_next reached.labeled;
+    group = elim (cases_Bool (is_agent label.line)) [
+      | inl is ↦ rw is (λ line (k, below, at). absurd (omega arith))
+      | inr isnt ↦ rw isnt (above_next_is reached.labeled.from isnt above reached.group)
+    ];
+  }
+
+repeat_from : (everywhere : Bool) (lines : List LineValue) (position : ℕ) (above : List LineValue)
+    (labels : List Label) (number : ℕ) → IsReached lines position above labels
+    → Contains (repeated_from everywhere above labels) number → IsRepeat lines number
+repeat_from everywhere lines position above [] number reached (k, below, at) = absurd (omega arith)
+repeat_from everywhere lines position above (label ∷ labels) number reached has =
+    let group = above_next above label.line in
+    elim (first_or_later (is_checked everywhere label.membership && is_repeated above label.line)
+    label.number number (repeated_from everywhere group labels) has) [
+      | inl (is, same) ↦ subst (IsRepeat lines) same (first_repeat reached (both _ _ is).1)
+      | inr later ↦
+          repeat_from everywhere lines (position + 1) group labels number (next reached) later
+    ]
+
+is_repeat : {name : List ℕ} {lines : List LineValue} {labels : List Label} → AreLabelsOf name lines labels
+    → (everywhere : Bool) (number : ℕ) → Contains (repeated everywhere labels) number → IsRepeat lines number
+is_repeat {lines} {labels} are everywhere number = repeat_from everywhere lines 0 [] labels number (record {
+  labeled = all_labels are;
+  group = λ line (k, below, at). absurd (omega arith);
+})
+
+-- ---- a repeated rule decides no verdict
+
+-- a crawler to which this position applies gets the lines above it in its group, too
+captured_above : {lines : List LineValue} {position : ℕ} {line : Option LineValue} (name : List ℕ)
+    (is : IsAbove lines position line) → IsCaptured name lines position → IsCaptured name lines is.other
+captured_above name is (inl none) = inl none
+captured_above {lines} name is (inr (j, below, named, alone)) =
+    inr (
+      j,
+      first,
+      named,
+      λ (k, l, after, later, before, group, agent).
+          alone (k, l, after, later, omega arith, group, agent),
+    )
+  where
+    first : j < is.other
+    first = elim (cases_lt j is.other) [
+      | inl less ↦ less
+      | inr from ↦
+          absurd (false≢true (sym (is.no_agent j from below) ∙ named_agent name (slice_get lines j) named))
+    ]
+
+-- a crawler that has a repeated rule has the same rule in a line above
+rule_above : {agent : List ℕ} {lines : List LineValue} {rules : List PlacedRule}
+    → AreRulesFor agent lines rules → (placed : PlacedRule) → Contains rules placed
+    → IsRepeat lines placed.line
+    → (line : ℕ) × (line < placed.line) × Contains rules (record { rule = placed.rule; line = line })
+rule_above {agent} {lines} are placed has is =
+    let (position, number_is, holds) = (are.held placed).0 has in
+    let (rule, above) = is position number_is in (
+      above.other + 1,
+      omega arith,
+      (are.held _).1 (
+        above.other,
+        refl,
+        record {
+          value = holds.value;
+          line = (above.is ∙ holds.line.0, captured_above (group_name agent lines) above holds.line.1);
+          utf8 = holds.utf8;
+          pattern = holds.pattern;
+        },
+      ),
+    )
+
+pub repeated_never_decides : (everywhere : Bool) (name agent : List ℕ) (lines : List LineValue)
+    (labels : List Label) (rules : List PlacedRule) (text : List ℕ) (number : ℕ)
+    → AreLabelsOf name lines labels → Contains (repeated everywhere labels) number
+    → AreRulesFor agent lines rules → ¬ IsDecidingLine rules text (Some number)
+repeated_never_decides everywhere name agent lines labels rules text number labeled has are
+    (differs, placed, decides, at) =
+    let is = subst (IsRepeat lines) (sym at) (is_repeat labeled everywhere number has) in
+    let (line, above, listed) = rule_above are placed decides.listed is in
+    decides.best _ listed decides.matches (inr (refl, inr (refl, above)))
+
+-- ---- repeated rules can be deleted
+
+-- the condition holds if a rule is above this position in its group
+abbrev IsFollowed : List LineValue → ℕ → Bool → Type 0
+IsFollowed lines position has_rule =
+    (line : LineValue) → is_rule line ≡ true → IsAbove lines position (Some line) → has_rule ≡ true
+
+-- a group in which a rule stays, or that has none, doesn't lose all its rules
+never_lost : (has_rule : Bool) → (if has_rule then with_rule no_rule false else no_rule).is_lost ≡ false
+never_lost true = refl
+never_lost false = refl
+
+-- what rules deny depends only on which there are
+denied_by_same : (rules others : List Rule) (text : List ℕ)
+    → ((rule : Rule) → Contains rules rule ↔ Contains others rule) → IsDenied rules text
+    → IsDenied others text
+denied_by_same rules others text same (differs, p, has, fits, longest) =
+    (differs, p, (same (p, false)).0 has, fits, λ q listed. longest q ((same (q, true)).1 listed))
+
+abbrev pub among : List ℕ → ℕ → Bool
+among numbers number = list_any (λ one. one == number) numbers
+
+-- what holds of all numbers of a list holds of each that is among them
+pub holds_among : (P : ℕ → Type 0) (numbers : List ℕ) → All P numbers → (number : ℕ)
+    → among numbers number ≡ true → P number
+holds_among P numbers all number is =
+    let (k, one, below, at, same) = Any-from_list_any (λ one. one == number) numbers is in
+    subst P (at ∙ eqb-true one number same) (all k one below)
+
+module _ (numbers : List ℕ) (lines : List LineValue)
+    (repeats : (number : ℕ) → among numbers number ≡ true → IsRepeat lines number) where
+  -- each group that has rules keeps one
+  keeps : (position : ℕ) (rest : List LineValue) (has_rule : Bool) → IsFrom lines position rest
+      → IsFollowed lines position has_rule
+      → keep_blocks_from (among numbers) (if has_rule then with_rule no_rule false else no_rule) position rest
+      ≡ true
+  keeps position [] has_rule from is = rw (never_lost has_rule) refl
+  keeps position (line ∷ rest) has_rule from is =
+      let at = here from in
+      let later = λ (has : Bool). keeps (position + 1) rest has (from_next from) in
+      let ruled = later true (λ _ _ _. refl) in
+      let repeat = λ (goes : among numbers (position + 1) ≡ true).
+      rw at at (repeats (position + 1) goes position refl) in
+      elim (cases_Bool (is_rule line)) [
+        | inl rule ↦ elim (cases_Bool (among numbers (position + 1))) [
+          | inl goes ↦ rw (rule, goes, is line rule (repeat goes).1) ruled
+          | inr stays ↦ rw (rule, stays) ruled
+        ]
+        | inr isnt ↦
+            let stays = false_from_ne_true (among numbers (position + 1))
+            (λ goes. false≢true (sym isnt ∙ (repeat goes).0)) in
+            elim (cases_Bool (is_agent line)) [
+              | inl agent ↦ rw (isnt, stays, agent, never_lost has_rule) (later false (λ other rule above.
+                  let none = above.no_agent position (omega arith) (omega arith) in
+                  absurd (false≢true (sym none ∙ rw at agent))))
+              | inr plain ↦ rw (isnt, stays, plain) (later has_rule (λ other rule above.
+                  let differs = λ (same : line ≡ other). false≢true (sym isnt ∙ rw same rule) in
+                  is other rule (above_this from other differs above)))
+            ]
+      ]
+
+  module _ (agent : List ℕ) where
+    abbrev rules : List PlacedRule
+    rules = placed_rules agent lines
+
+    abbrev kept : List PlacedRule
+    kept = without numbers rules
+
+    -- a rule that is deleted stays in a line above
+    kept_rule : (n : ℕ) (placed : PlacedRule) → placed.line ≤ n → Contains rules placed
+        → Contains (unplaced kept) placed.rule
+    kept_rule zero placed most has =
+        let (place, on, holds) = ((computed_are agent lines).held placed).0 has in absurd (omega arith)
+    kept_rule (suc n) placed most has = elim (cases_Bool (among numbers placed.line)) [
+      | inl goes ↦
+          let (line, above, listed) =
+          rule_above (computed_are agent lines) placed has (repeats placed.line goes) in
+          kept_rule n (record { rule = placed.rule; line = line }) (omega arith) listed
+      | inr stays ↦ unplaced_of kept placed (to_filter _ rules placed has (rw stays refl))
+    ]
+
+    same_rules : (rule : Rule) → Contains (unplaced rules) rule ↔ Contains (unplaced kept) rule
+    same_rules rule = (
+      λ has.
+          let (placed, listed, is) = placed_of rules rule has in
+          subst (Contains (unplaced kept)) is (kept_rule placed.line placed (omega arith) listed),
+      λ has.
+          let (placed, listed, is) = placed_of kept rule has in
+          subst (Contains (unplaced rules)) is (unplaced_of rules placed (in_filter _ rules placed listed).0),
+    )
+
+pub repeated_can_be_deleted : (everywhere : Bool) (name agent : List ℕ) (lines : List LineValue)
+    (labels : List Label) (numbers text : List ℕ) (answer : Bool) → AreLabelsOf name lines labels
+    → All (Contains (repeated everywhere labels)) numbers
+    → IsVerdict (rules_for agent lines) text answer
+    ↔ IsVerdict (rules_for agent (lines_without numbers lines)) text answer
+repeated_can_be_deleted everywhere name agent lines labels numbers text answer labeled all =
+    let none_above : IsFollowed lines 0 false = λ line rule is. absurd (omega arith) in
+    let blocks = keeps numbers lines repeats 0 lines false (all_from lines) none_above in
+    let same = same_rules numbers lines repeats agent in
+    rw (deleted numbers lines blocks agent) (verdicts _ _ text (
+      denied_by_same _ _ text same,
+      denied_by_same _ _ text (λ rule. ((same rule).1, (same rule).0)),
+    ) answer)
+  where
+    repeats : (number : ℕ) → among numbers number ≡ true → IsRepeat lines number
+    repeats number is =
+        is_repeat labeled everywhere number
+        (holds_among (Contains (repeated everywhere labels)) numbers all number is)

@@ -1,0 +1,5 @@
+use Rattle.warnings_laws.proofs.ClosedLemmas.{closes_everything}
+use Rattle.warnings_laws.proofs.laws.closes_everything.Goals as goal
+
+pub returns : goal.returns
+returns c = closes_everything

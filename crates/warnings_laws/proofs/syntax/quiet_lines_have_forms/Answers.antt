@@ -1,0 +1,5 @@
+use Rattle.warnings_laws.proofs.PlainFormLemmas.{line_form}
+use Rattle.warnings_laws.proofs.syntax.quiet_lines_have_forms.Goals as goal
+
+pub returns : goal.returns
+returns c = line_form

@@ -1,0 +1,233 @@
+//! Theorems about the specification, each written as the contract of an empty function.
+ghost use Rattle.std.specs.Prelude.{[], All, Any, Bool, codes, Contains, false, if◌then◌else◌, IsSome, IsTrue, List};
+ghost use Rattle.std.specs.Prelude.{not, slice_get, Some, take, true, ℕ, ◌+◌, ◌↔◌, ◌∷◌, ◌≡◌, ◌≢◌};
+ghost use Rattle.std.specs.List.{count_by};
+ghost use Rattle.std.specs.Str.{byte, is_utf8, IsUtf8, str_to_ascii_lowercase};
+ghost use Rattle.texting_robots.specs.Callers.{Allow, AreLabelsOf, AreRulesFor, Disallow, escaped};
+ghost use Rattle.texting_robots.specs.Callers.{file_limit, file_lines, HoldsRule, is_named, IsDecidingLine};
+ghost use Rattle.texting_robots.specs.Callers.{IsDenied, IsRobotOfFile, IsVerdict, Label, LineValue, Matches};
+ghost use Rattle.texting_robots.specs.Callers.{PlacedRule, RobotValue, Rule, agents_in, lines_read};
+ghost use Rattle.texting_robots.specs.Callers.{bodies_read, delay_for, rules_for, unplaced, UserAgent};
+ghost use Rattle.texting_robots.specs.Labels.{IsInOwnGroup};
+ghost use Rattle.texting_robots.specs.Verdict.{robots_file};
+ghost use Rattle.robots_needless.specs.Deleted.{HaveSameRobot, IsLeftOf};
+ghost use Rattle.robots_needless.specs.Needless.{lines_without, numbers_of};
+ghost use Rattle.rfc9309_laws.specs.Rfc9309.{Group, IsFile};
+ghost use Rattle.warnings_laws.specs.Syntax.{IsRobotStated};
+ghost use Rattle.robots_warnings.specs.Closed.{is_closed_for};
+ghost use Rattle.robots_warnings.specs.Conflicts.{IsConflict, IsOverruled, conflict, overruled, overruled_for};
+ghost use Rattle.robots_warnings.specs.Contents.{is_cut_to_root};
+ghost use Rattle.robots_warnings.specs.EmptyDisallows.{IsEmptyDisallow, is_empty_at, stated_rules};
+ghost use Rattle.robots_warnings.specs.NamesPastLimit.{names_past_limit};
+ghost use Rattle.robots_warnings.specs.Positions.{is_above_agents};
+ghost use Rattle.robots_warnings.specs.Repeated.{repeated};
+ghost use Rattle.robots_warnings.specs.Replaced.{replacing, star_count};
+ghost use Rattle.robots_warnings.specs.Rules.{begins_oddly, has_dollar_inside};
+ghost use Rattle.robots_warnings.specs.Tokens.{has_space_around};
+ghost use Rattle.robots_warnings.specs.Urls.{is_invalid_url};
+ghost use Rattle.robots_warnings.specs.Warnings.{position_warnings, warned_at};
+ghost use Rattle.robots_warnings.specs.declared.table.Cause.TheVariants.{TwoDelays};
+ghost use Rattle.audit_core.specs.Asked.{asked_target};
+ghost use Rattle.audit_core.specs.Audit.{AuditValue, IsAuditOf};
+ghost use Rattle.audit_core.specs.Request.{RequestValue};
+ghost use Rattle.audit_core.specs.Syntax.{is_standard};
+
+/// Without `--needless`, a request and a file have at most one audit, and so at most one report; with it, at most one for
+/// each list of needless rules.
+pub fn each_file_has_one_audit()
+    ensures one { (requested : RequestValue) (file : List ℕ) (audit other : AuditValue) → requested.has_needless ≡ false
+        → IsAuditOf requested file audit → IsAuditOf requested file other → audit ≡ other }
+    ensures same { (requested : RequestValue) (file : List ℕ) (audit other : AuditValue)
+        → (is : IsAuditOf requested file audit) → (too : IsAuditOf requested file other)
+        → is.needless ≡ too.needless → audit ≡ other }
+{}
+
+/// Every request and file have an audit.
+pub fn each_file_has_an_audit()
+    ensures { (requested : RequestValue) (file : List ℕ) → (audit : AuditValue) × IsAuditOf requested file audit }
+{}
+
+/// Of the lines that are read, those that an audit with `--needless` warns of as needless can be deleted together: if
+/// exactly these are deleted, every verdict is the same, on any text, for `*` and each crawler that the file names, with
+/// ASCII letters in any case, and for each crawler that it doesn't name.
+pub fn needless_lines_decide_nothing()
+    ensures named { (requested : RequestValue) (file : List ℕ) (audit : AuditValue) → (is : IsAuditOf requested file audit)
+        → (agent name : List ℕ) → Contains (codes "*" ∷ agents_in (lines_read file)) name
+        → str_to_ascii_lowercase agent ≡ str_to_ascii_lowercase name → (text : List ℕ) (answer : Bool)
+        → IsVerdict (rules_for agent (lines_read file)) text answer
+        ↔ IsVerdict (rules_for agent (lines_without (numbers_of is.needless) (lines_read file))) text answer }
+    ensures others { (requested : RequestValue) (file : List ℕ) (audit : AuditValue) → (is : IsAuditOf requested file audit)
+        → (agent : List ℕ) → is_named agent (lines_read file) ≡ false → (text : List ℕ) (answer : Bool)
+        → IsVerdict (rules_for agent (lines_read file)) text answer
+        ↔ IsVerdict (rules_for agent (lines_without (numbers_of is.needless) (lines_read file))) text answer }
+{}
+
+/// If an audit with `--needless` warns of needless lines, and exactly these are deleted from the file, with their line
+/// ends, `Robot::new` gives each crawler the same as before: every verdict, the delay, the sitemaps, and whether the file
+/// is rejected. A byte order mark that the file begins with may stay, or be deleted too.
+pub fn needless_lines_can_be_deleted()
+    ensures { (requested : RequestValue) (file left : List ℕ) (audit : AuditValue) (agent : List ℕ)
+        → (is : IsAuditOf requested file audit) → is.needless ≢ [] → IsLeftOf (numbers_of is.needless) file left
+        → IsUtf8 agent → HaveSameRobot agent (take file_limit file) (take file_limit left) }
+{}
+
+/// If a report says that the file has RFC 9309 syntax, whichever warnings it leaves out, the whole file follows the
+/// standard's grammar with the extensions of `rfc9309_laws`, and each crawler for which it isn't rejected gets the
+/// rules, the delay and the sitemaps that it states.
+pub fn syntax_is_that_of_the_standard()
+    ensures syntax { (requested : RequestValue) (file : List ℕ) (audit : AuditValue) → IsAuditOf requested file audit
+        → is_standard audit.syntax ≡ true → (groups : List Group) × IsFile groups file }
+    ensures robot { (requested : RequestValue) (file : List ℕ) (audit : AuditValue) (agent : List ℕ) (robot : RobotValue)
+        → IsAuditOf requested file audit → is_standard audit.syntax ≡ true
+        → IsRobotOfFile agent (take file_limit file) robot → IsRobotStated agent file robot }
+{}
+
+/// `allowed-and-disallowed` is given for a line exactly if it has a Disallow that applies to one of the crawlers reported
+/// on, and an Allow with the same pattern, other than an empty Disallow, applies to that crawler too, where `/` and `*` are
+/// the same. Its message names the line of such an Allow.
+pub fn allowed_and_disallowed()
+    ensures given { (is_empty : ℕ → Bool) (agents : List (List ℕ)) (lines : List LineValue) (number other : ℕ)
+        → conflict is_empty agents lines number ≡ Some other
+        → Any (λ agent. IsConflict is_empty agent lines number other) agents }
+    ensures found { (is_empty : ℕ → Bool) (agents : List (List ℕ)) (lines : List LineValue) (agent : List ℕ)
+        (number other : ℕ) → Contains agents agent → IsConflict is_empty agent lines number other
+        → IsSome (conflict is_empty agents lines number) }
+{}
+
+/// The Disallow of an `allowed-and-disallowed` decides no verdict for the crawler to which both apply: none at all
+/// if the patterns are equal, and none on a path if they are `/` and `*`.
+pub fn allowed_and_disallowed_never_decides()
+    ensures same { (is_empty : ℕ → Bool) (agent : List ℕ) (lines : List LineValue) (rules : List PlacedRule)
+        (number other : ℕ) (text : List ℕ) → (is : IsConflict is_empty agent lines number other)
+        → is.allowed ≡ is.pattern → AreRulesFor agent lines rules → ¬ IsDecidingLine rules text (Some number) }
+    ensures path { (is_empty : ℕ → Bool) (agent : List ℕ) (lines : List LineValue) (rules : List PlacedRule)
+        (number other : ℕ) (path : List ℕ) → IsConflict is_empty agent lines number other
+        → AreRulesFor agent lines rules → ¬ IsDecidingLine rules (byte "/" ∷ path) (Some number) }
+{}
+
+/// The numbers of empty Disallows, as the warnings have them, are those of the Disallows without a value. The labels may be
+/// those for any crawler.
+pub fn empty_disallows()
+    ensures { (name file : List ℕ) (labels : List Label) (number : ℕ) → AreLabelsOf name (lines_read file) labels
+        → IsTrue (is_empty_at (bodies_read file) labels number) ↔ IsEmptyDisallow (bodies_read file) number }
+{}
+
+/// `empty-disallow` is given for a line exactly if it is an empty Disallow that applies to one of the crawlers reported on, a
+/// Disallow of `/` or `*` applies to that crawler too, and each Allow of these that applies to it is an empty Disallow. Its
+/// message names the line of such a Disallow.
+pub fn empty_disallow()
+    ensures given { (is_empty : ℕ → Bool) (agents : List (List ℕ)) (lines : List LineValue) (number other : ℕ)
+        → overruled is_empty agents lines number ≡ Some other
+        → Any (λ agent. IsOverruled is_empty agent lines number other) agents }
+    ensures found { (is_empty : ℕ → Bool) (agents : List (List ℕ)) (lines : List LineValue) (agent : List ℕ)
+        (number other : ℕ) → Contains agents agent → IsOverruled is_empty agent lines number other
+        → IsSome (overruled is_empty agents lines number) }
+{}
+
+/// If no line has `empty-disallow` because of the rules of a crawler, every verdict is the same for it where an empty Disallow
+/// is no rule, as RFC 9309 and Google have it: for any text.
+pub fn without_empty_disallows()
+    ensures { (is_empty : ℕ → Bool) (agent file : List ℕ) (rules : List PlacedRule)
+        → ((number : ℕ) → IsTrue (is_empty number) ↔ IsEmptyDisallow (bodies_read file) number)
+        → ((number : ℕ) → overruled_for is_empty (lines_read file) number agent ≡ None)
+        → AreRulesFor agent (lines_read file) rules → (text : List ℕ) (answer : Bool)
+        → IsVerdict (unplaced rules) text answer ↔ IsVerdict (unplaced (stated_rules is_empty rules)) text answer }
+{}
+
+/// If `closes-everything` is given because of the rules of a crawler, every path is denied to the crawler, except
+/// `/robots.txt`.
+pub fn closes_everything()
+    ensures { (agent : List ℕ) (lines : List LineValue) (rules : List PlacedRule) (number : ℕ) (text : List ℕ)
+        → is_closed_for lines number agent ≡ true → AreRulesFor agent lines rules
+        → byte "/" ∷ text ≢ robots_file → IsDenied (unplaced rules) (byte "/" ∷ text) }
+{}
+
+/// A rule with `repeated-rule` decides no verdict, for any crawler. The labels may be those for another crawler.
+pub fn repeated_rule()
+    ensures { (everywhere : Bool) (name agent : List ℕ) (lines : List LineValue) (labels : List Label)
+        (rules : List PlacedRule) (text : List ℕ) (number : ℕ) → AreLabelsOf name lines labels
+        → Contains (repeated everywhere labels) number → AreRulesFor agent lines rules
+        → ¬ IsDecidingLine rules text (Some number) }
+{}
+
+/// If lines with `repeated-rule` are deleted, one or several or all, every verdict stays the same, on any text, for any
+/// crawler; it says nothing about delays. The labels may be those for another crawler.
+pub fn repeated_rules_can_be_deleted()
+    ensures { (everywhere : Bool) (name agent : List ℕ) (lines : List LineValue) (labels : List Label)
+        (numbers text : List ℕ) (answer : Bool) → AreLabelsOf name lines labels
+        → All (Contains (repeated everywhere labels)) numbers → IsVerdict (rules_for agent lines) text answer
+        ↔ IsVerdict (rules_for agent (lines_without numbers lines)) text answer }
+{}
+
+/// A rule with the error `hash-cuts-rule` matches every path, also an empty Disallow, which is an Allow of `/`.
+pub fn hash_cuts_rule()
+    ensures { (value tail comment path : List ℕ) → is_cut_to_root value tail comment ≡ true
+        → Matches (escaped value) (byte "/" ∷ path) }
+{}
+
+/// A line with `replaces-star` is a user-agent line, and its list of user-agent lines has the name of a crawler that is
+/// reported on, with ASCII letters in any case. No Disallow that applies to this crawler has the pattern of a Disallow that
+/// applies to `*`. The labels may be those for another crawler. The number in the message is how many Disallows `*` has.
+pub fn replaces_star()
+    ensures group { (agents : List (List ℕ)) (name : List ℕ) (lines : List LineValue) (labels : List Label) (number : ℕ)
+        → AreLabelsOf name lines labels → Contains (replacing agents lines labels) number
+        → (position : ℕ) × (value agent : List ℕ) × (number ≡ position + 1)
+        × (slice_get lines position ≡ Some (UserAgent value)) × Contains agents agent
+        × IsInOwnGroup (str_to_ascii_lowercase agent) lines position
+        × ((star other : ℕ) (pattern : List ℕ) → HoldsRule (codes "*") lines star (pattern, false)
+        → ¬ HoldsRule agent lines other (pattern, false)) }
+    ensures count { (lines : List LineValue) (rules : List PlacedRule) → AreRulesFor (codes "*") lines rules
+        → star_count lines ≡ count_by (λ (placed : PlacedRule). not placed.rule.1) rules }
+{}
+
+/// If lines with `two-delays` are deleted, one or several or all, the delay of every crawler stays the same; it says
+/// nothing about verdicts. The labels may be those for another crawler.
+pub fn two_delays()
+    ensures { (name agent : List ℕ) (lines : List LineValue) (labels : List Label) (numbers : List ℕ)
+        → AreLabelsOf name lines labels → All (Contains (position_warnings labels)) (warned_at TwoDelays None numbers)
+        → delay_for agent (lines_without numbers lines) ≡ delay_for agent lines }
+{}
+
+/// A line with `group-past-size-limit` is a user-agent line whose name none of the lines within the size limit has.
+pub fn group_past_size_limit()
+    ensures { (read : List LineValue) (file : List ℕ) (number : ℕ) → Contains (names_past_limit read file) number
+        → (position : ℕ) × (value : List ℕ) × (number ≡ position + 1)
+        × (slice_get (file_lines file) position ≡ Some (UserAgent value)) × (is_named value read ≡ false) }
+{}
+
+/// A line with `rule-not-utf-8` has no rule, for any crawler.
+pub fn rule_not_utf_8()
+    ensures { (value agent : List ℕ) (lines : List LineValue) (position : ℕ) (is_allow : Bool) (rule : Rule)
+        → is_utf8 value ≡ false → slice_get lines position ≡ Some (if is_allow then Allow value else Disallow value)
+        → ¬ HoldsRule agent lines position rule }
+{}
+
+/// A line with `rule-before-user-agent` has no rule, for any crawler. The labels may be those for another crawler.
+pub fn rule_before_user_agent()
+    ensures { (name agent : List ℕ) (lines : List LineValue) (labels : List Label) (position : ℕ) (label : Label) (rule : Rule)
+        → AreLabelsOf name lines labels → slice_get labels position ≡ Some label → is_above_agents label ≡ true
+        → ¬ HoldsRule agent lines position rule }
+{}
+
+/// A rule with `dollar-not-at-end` matches no text.
+pub fn dollar_not_at_end()
+    ensures { (value text : List ℕ) → has_dollar_inside value ≡ true → ¬ Matches (escaped value) text }
+{}
+
+/// A rule with `missing-slash`, `url-as-rule` or `quoted-rule` that starts with neither a slash nor a star matches no text
+/// that starts with a slash, as all paths do.
+pub fn missing_slash()
+    ensures { (value text : List ℕ) → begins_oddly value ≡ true → ¬ Matches (escaped value) (byte "/" ∷ text) }
+{}
+
+/// A URL with `invalid-url` is matched as the escaped string.
+pub fn invalid_url()
+    ensures { (url : List ℕ) → is_invalid_url url ≡ true → asked_target url ≡ escaped url }
+{}
+
+/// A crawler's name with `space-around-agent` matches no user-agent line, in any file.
+#[tactic(auto, using(crate::proofs::SpaceLemmas::space_around_agent))]
+pub fn space_around_agent()
+    ensures { (agent file : List ℕ) → IsUtf8 agent → has_space_around agent ≡ true
+        → is_named agent (file_lines file) ≡ false }
+{}

@@ -1,0 +1,39 @@
+//! What the silence of an audit means: a file without warnings about its syntax follows the grammar of
+//! RFC 9309, section 2.2, extended as `rfc9309_laws` says. Theorems about the specification, each
+//! the contract of an empty function.
+ghost use Rattle.std.specs.Prelude.{◌≡◌, ℕ, List, [], take};
+ghost use Rattle.texting_robots.specs.Callers.{IsLineOf, IsRobotOfFile, LineValue, RobotValue, file_limit};
+ghost use Rattle.rfc9309_laws.specs.LineForms.{HasForm};
+ghost use Rattle.warnings_laws.specs.Examples as example;
+ghost use Rattle.warnings_laws.specs.Syntax.{HasSyntax, IsQuietLine, IsRobotStated, IsSilentOn, form_of, warnings_of};
+
+/// A line without a warning about its syntax is a line of the grammar, of the form that belongs to its kind.
+pub fn quiet_lines_have_forms()
+    ensures { (line : LineValue) (body : List ℕ) → IsLineOf line body → IsQuietLine line body
+        → HasForm (form_of line) body }
+{}
+
+/// What the silence of an audit of all groups means, used by owners who want a file with one meaning by the
+/// standard, and by `robots_audit`, whose reports say that a file has RFC 9309 syntax. All warnings count,
+/// whichever a report leaves out. A file with a warning about its syntax may follow the grammar too.
+///
+/// - `syntax`: without a warning about the syntax of a file, what crawlers read of it
+///   follows the extended grammar.
+/// - `none`: so it does if there is no warning at all.
+/// - `robot`: `Robot::new` then has the rules, the delay and the sitemaps that
+///   the file states for the crawler.
+pub fn silence_means_syntax()
+    ensures syntax { (named agents urls : List (List ℕ)) (file : List ℕ) → IsSilentOn named agents urls file
+        → HasSyntax file }
+    ensures none { (named agents urls : List (List ℕ)) (file : List ℕ)
+        → warnings_of named agents urls file ≡ [] → HasSyntax file }
+    ensures robot { (named agents urls : List (List ℕ)) (file agent : List ℕ) (robot : RobotValue)
+        → IsSilentOn named agents urls file → IsRobotOfFile agent (take file_limit file) robot
+        → IsRobotStated agent file robot }
+{}
+
+/// Worked examples: a file without warnings about its syntax, and one with such a warning.
+pub fn examples()
+    ensures silent { example.silent }
+    ensures warned { example.warned }
+{}
