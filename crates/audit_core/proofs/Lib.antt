@@ -3,5 +3,6 @@ pub mod AskedLemmas
 pub mod AuditLemmas
 pub mod EscapeLemmas
 pub mod FaultLemmas
+pub mod FindingLemmas
 pub mod ListLemmas
 pub mod RowLemmas

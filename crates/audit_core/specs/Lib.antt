@@ -9,5 +9,6 @@ pub mod Chosen
 pub mod Color
 pub mod Syntax
 pub mod Needless
+pub mod Findings
 pub mod Crawler
 pub mod Internal

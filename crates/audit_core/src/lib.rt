@@ -11,6 +11,7 @@ mod chosen;
 pub mod color;
 pub mod crawler;
 pub mod fault;
+pub mod findings;
 pub mod group;
 mod needless;
 pub mod request;

@@ -12,7 +12,7 @@ use Rattle.audit_core.specs.Request.{RequestValue}
 use Rattle.audit_core.specs.declared.answer.Answer.{Answer}
 use Rattle.audit_core.specs.declared.request.Format.{Format}
 use Rattle.audit_core.specs.declared.request.Format.TheVariants.{Github, Html, Json, Sarif, Text}
-use Rattle.audit_report.proofs.ReportLemmas.{listed_colored, listed_for_terminal}
+use Rattle.audit_text.proofs.ReportLemmas.{listed_colored, listed_for_terminal}
 use Rattle.robots_audit.specs.Answer.{Answers, AnswersOptions, IsAudited, message, message_in, shown_name}
 use Rattle.robots_audit.specs.Answer.{without_colors}
 

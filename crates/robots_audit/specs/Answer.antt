@@ -21,17 +21,17 @@ use Rattle.audit_core.specs.declared.fault.Fault.TheVariants.{File, Memory}
 use Rattle.audit_core.specs.declared.request.Format.{Format}
 use Rattle.audit_core.specs.declared.request.Format.TheVariants.{Github, Html, Json, Sarif, Text}
 use Rattle.audit_core.specs.declared.request.Request.{Request}
-use Rattle.audit_command.specs.Command.{IsOn, IsRequestOf, value_of}
+use Rattle.robots_audit.specs.Command.{IsOn, IsRequestOf, value_of}
 use Rattle.audit_compare.specs.Compare.{IsComparison}
 use Rattle.audit_expect.specs.Expectations.{IsAnswer}
 use Rattle.audit_expect.specs.UrlList.{HasUrlsIn}
-use Rattle.audit_formats.specs.Findings.{findings}
-use Rattle.audit_formats.specs.Github.{github_text}
-use Rattle.audit_formats.specs.Json.{json_text}
-use Rattle.audit_formats.specs.Sarif.{sarif_text}
+use Rattle.audit_core.specs.Findings.{findings}
+use Rattle.audit_text.specs.Github.{github_text}
+use Rattle.audit_json.specs.Json.{json_text}
+use Rattle.audit_json.specs.Sarif.{sarif_text}
 use Rattle.audit_page.specs.Page.{page}
-use Rattle.audit_report.specs.Explain.{explanation, list_text}
-use Rattle.audit_report.specs.Report.{listed_lines, report_lines, total_line}
+use Rattle.audit_text.specs.Explain.{explanation, list_text}
+use Rattle.audit_text.specs.Report.{listed_lines, report_lines, total_line}
 
 -- ---- the report and the warnings
 

@@ -26,10 +26,11 @@ ghost use Rattle.audit_core.specs.Fault.{status_after};
 ghost use Rattle.audit_core.specs.Request.{requested_by};
 ghost use Rattle.robots_audit.specs.Answer.{Answers, AnswersAudit, AnswersComparison, AnswersExpectations, AnswersFiles};
 
+mod command;
 mod laws;
+mod options;
 mod program;
 
-use audit_command::command::{command, file_read, reads_stdin_twice, requested};
 use audit_compare::compare::compare;
 use audit_core::answer::{Answer, Outcome, text_answer, write_answer};
 use audit_core::color::colors_by_default;
@@ -38,9 +39,10 @@ use audit_core::fault::{Fault, fault_text, status_after};
 use audit_core::request::Request;
 use audit_expect::expectations::check;
 use audit_expect::url_list::{are_paths_or_urls, with_urls};
-use audit_report::explain::{explain, list_warnings};
+use audit_text::explain::{explain, list_warnings};
 use clap::ArgMatches;
 use clap::error::ErrorKind as WordsKind;
+use command::{command, file_read, reads_stdin_twice, requested};
 use program::{audited, unread};
 use robots_io::streams::{ReadFault, read_all};
 use std::alloc::AllocError;

@@ -2,8 +2,8 @@ use Rattle.std.proofs.Common.{map}
 use Rattle.robots_text.proofs.PartLemmas.{written_printable}
 use Rattle.robots_warnings.specs.Table.{all_causes}
 use Rattle.audit_expect.proofs.ExpectationsLemmas.{expect_printable}
-use Rattle.audit_report.specs.Explain.{list_line}
-use Rattle.audit_report.proofs.ExplainLemmas.{explanation_printable}
+use Rattle.audit_text.specs.Explain.{list_line}
+use Rattle.audit_text.proofs.ExplainLemmas.{explanation_printable}
 use Rattle.robots_audit.proofs.laws.no_other_report_steers_a_terminal.Goals as goal
 
 pub returns : goal.returns

@@ -1,5 +1,0 @@
-pub mod FindingLemmas
-pub mod GithubLemmas
-pub mod JsonLemmas
-pub mod RuleLemmas
-pub mod SarifLemmas

@@ -1,0 +1,3 @@
+pub mod JsonLemmas
+pub mod RuleLemmas
+pub mod SarifLemmas

@@ -1,0 +1,18 @@
+//! Theorems about logs, each written as the contract of an empty function.
+ghost use Rattle.std.specs.Prelude.{IsTrue, List, Some, ℕ, ◌==◌, ◌≡◌};
+ghost use Rattle.std.specs.List.{list_all};
+ghost use Rattle.std.specs.Str.{chars, IsUtf8};
+ghost use Rattle.robots_warnings.specs.Table.{all_causes, name_of};
+ghost use Rattle.audit_json.specs.Sarif.{all_rules, has_level_for, literal_text, rules_named, shown};
+
+/// A message of a SARIF log that is made of a text shows this text, and has neither a placeholder nor a link, whatever
+/// the text is.
+pub fn no_text_becomes_a_link()
+    ensures { (text : List ℕ) → IsUtf8 text → shown (chars (literal_text text)) ≡ Some (chars text) }
+{}
+
+/// In a SARIF log, each warning has a rule, no name has two, and no warning is more serious than its rule.
+pub fn each_name_has_one_rule()
+    ensures one { IsTrue (list_all (λ cause. rules_named (name_of cause) == 1) all_causes) }
+    ensures level { IsTrue (list_all (λ cause. list_all (has_level_for cause) all_rules) all_causes) }
+{}

@@ -1,0 +1,6 @@
+//! The audit for other programs: as JSON, and as a SARIF log.
+#![tactic(auto)]
+
+pub mod json;
+pub mod laws;
+pub mod sarif;

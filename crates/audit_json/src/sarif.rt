@@ -1,0 +1,324 @@
+//! Findings as a log of SARIF 2.1.0, in one line.
+ghost use Rattle.std.specs.Prelude.{◌≡◌, ◌++◌, IfOk, OnOk, encode_utf8_all, map, string_bytes};
+ghost use Rattle.serde_json.specs.View.{view};
+ghost use Rattle.audit_core.specs.Findings.{findings};
+ghost use Rattle.audit_core.specs.Findings.{finding_value};
+ghost use Rattle.audit_json.specs.Internal.{rule_value};
+ghost use Rattle.audit_json.specs.Json.{list_json};
+ghost use Rattle.audit_json.specs.Sarif.{all_rules, begins_with_slash, description_of, has_name, has_name_at, help_text, is_uri_byte, worst_level, literal_char, literal_text, log_json};
+ghost use Rattle.audit_json.specs.Sarif.{message_json, one_slash, place_json, result_json, rule_json, rule_unless_later, rules_of, sarif_text, tool_json, uri_byte, uri_of};
+
+use crate::json::json_line;
+use audit_core::audit::Audit;
+use audit_core::findings::{Finding, findings_of};
+use audit_core::version::VERSION;
+use percent_encoding::percent_encode_byte;
+use robots_text::level::Level;
+use robots_warnings::table::{Cause, causes};
+use serde_json::{Value, json};
+use std::alloc::{AllocError, Global};
+
+/// What findings with this name are about.
+#[derive(Drop)]
+pub(crate) struct Rule {
+    pub(crate) name: &'static str,
+    pub(crate) level: Level,
+    pub(crate) text: &'static str,
+    pub(crate) example: &'static str,
+}
+
+/// Whether a byte of a file's name is unchanged in a URI reference.
+fn is_uri_byte(byte: u8) -> bool
+    ensures { result ≡ is_uri_byte byte }
+{
+    matches!(byte, b'A'..=b'Z' | b'a'..=b'z' | b'0'..=b'9' | b'-' | b'.' | b'_' | b'~' | b'/')
+}
+
+/// Appends a byte of a file's name to a URI reference.
+fn push_uri_byte(uri: &mut String, byte: u8) -> Result<(), AllocError>
+    ensures { OnOk result (string_bytes uri.new ≡ string_bytes uri.old ++ uri_byte byte) }
+{
+    if is_uri_byte(byte) {
+        uri.push(char::from(byte))
+    } else {
+        uri.push_str(percent_encode_byte(byte))
+    }
+}
+
+/// Whether a name begins with a slash.
+fn begins_with_slash(name: &[u8]) -> bool
+    ensures { result ≡ begins_with_slash name.now }
+{
+    matches!(name, [b'/', ..])
+}
+
+/// The name with a single slash at its start in place of several.
+fn one_slash<'a>(file: &'a [u8]) -> &'a [u8]
+    ensures { result.now ≡ one_slash file.now }
+{
+    let mut rest = file;
+    while let [b'/', later @ ..] = rest {
+        if !begins_with_slash(later) {
+            return rest;
+        }
+        rest = later;
+    }
+    rest
+}
+
+/// The file with this name, as a URI reference.
+fn uri_of(alloc: Global, file: &[u8]) -> Result<String, AllocError>
+    ensures { IfOk result (λ uri. string_bytes uri ≡ uri_of file.now) }
+{
+    let mut uri = String::new(alloc);
+    for byte in one_slash(file) {
+        push_uri_byte(&mut uri, *byte)?;
+    }
+    Ok(uri)
+}
+
+/// Appends a character of a text to the message that shows the text.
+fn push_literal_char(message: &mut String, char: char) -> Result<(), AllocError>
+    ensures { OnOk result (string_bytes message.new
+        ≡ string_bytes message.old ++ encode_utf8_all (literal_char char)) }
+{
+    match char {
+        '{' | '}' => {
+            message.push(char)?;
+            message.push(char)
+        }
+        '[' | ']' | '\\' => {
+            message.push('\\')?;
+            message.push(char)
+        }
+        _ => message.push(char),
+    }
+}
+
+/// The message that shows this text.
+fn literal_text(alloc: Global, text: &str) -> Result<String, AllocError>
+    ensures { IfOk result (λ message. string_bytes message ≡ literal_text text.now) }
+{
+    let mut message = String::with_capacity(alloc, text.len())?;
+    for char in text.chars() {
+        push_literal_char(&mut message, char)?;
+    }
+    Ok(message)
+}
+
+/// The message that shows this text, as a JSON object.
+fn message_json(alloc: Global, text: &str) -> Result<Value, AllocError>
+    ensures { IfOk result (λ value. view value ≡ message_json text.now) }
+{
+    let message = literal_text(alloc, text)?;
+    json!(in alloc; { "text": message.as_str() })
+}
+
+/// Whether one of these warnings has this name.
+fn has_name(causes: &[Cause], name: &str) -> bool
+    ensures { result ≡ has_name name.now causes.now }
+{
+    causes.iter().any(|cause| cause.name() == name)
+}
+
+/// Whether one of these warnings has this name, and this level or a more serious one.
+fn has_name_at(causes: &[Cause], name: &str, level: Level) -> bool
+    ensures { result ≡ has_name_at name.now level causes.now }
+{
+    causes.iter().any(|cause| cause.name() == name && cause.level().reaches(level))
+}
+
+/// The most serious level of these warnings with this name.
+fn worst_level(causes: &[Cause], name: &str) -> Level
+    ensures { result ≡ worst_level name.now causes.now }
+{
+    if has_name_at(causes, name, Level::Error) {
+        Level::Error
+    } else if has_name_at(causes, name, Level::Warning) {
+        Level::Warning
+    } else {
+        Level::Note
+    }
+}
+
+/// What the rule of a warning says: its message, unless the messages with its name differ in their reasons.
+fn description_of(cause: Cause) -> &'static str
+    ensures { result.now ≡ description_of cause }
+{
+    if cause.name() == "needless-rule" {
+        "this rule can be deleted together with all other needless rules, and every verdict stays the same"
+    } else {
+        cause.text()
+    }
+}
+
+/// Appends the rule of one of all these warnings, unless one of the `later` ones has the same name.
+fn add_rule(
+    rules: &mut Vec<Rule>,
+    all: &[Cause],
+    cause: Cause,
+    later: &[Cause],
+) -> Result<(), AllocError>
+    ensures { OnOk result (map rule_value rules.new.items
+        ≡ map rule_value rules.old.items ++ rule_unless_later all.now cause later.now) }
+{
+    if has_name(later, cause.name()) {
+        return Ok(());
+    }
+    Ok(rules.push(Rule {
+        name: cause.name(),
+        level: worst_level(all, cause.name()),
+        text: description_of(cause),
+        example: cause.example(),
+    })?)
+}
+
+/// Appends the rules of all these warnings.
+fn add_rules(rules: &mut Vec<Rule>, all: &[Cause]) -> Result<(), AllocError>
+    ensures { OnOk result (map rule_value rules.new.items
+        ≡ map rule_value rules.old.items ++ rules_of all.now all.now) }
+{
+    let mut rest = all;
+    while let [cause, later @ ..] = rest {
+        add_rule(rules, all, *cause, later)?;
+        rest = later;
+    }
+    Ok(())
+}
+
+/// All rules.
+fn all_rules(alloc: Global) -> Result<Vec<Rule>, AllocError>
+    ensures { IfOk result (λ rules. map rule_value rules.items ≡ all_rules) }
+{
+    let mut rules = Vec::new(alloc);
+    rules.push(Rule {
+        name: "denied",
+        level: Level::Error,
+        text: "a crawler may not fetch a URL",
+        example: "# robots_audit FerrisBot /search\nUser-agent: *\nDisallow: /search",
+    })?;
+    rules.push(Rule {
+        name: "rejected",
+        level: Level::Error,
+        text: "the file is rejected for a crawler",
+        example: "User-agent: *\nDisallow: /\\{4096 a}$",
+    })?;
+    add_rules(&mut rules, &causes(alloc)?)?;
+    Ok(rules)
+}
+
+/// The documentation of a rule with this example.
+#[tactic(auto, unfolding(crate::specs::Sarif::help_text))]
+fn help_text(alloc: Global, example: &str) -> Result<String, AllocError>
+    ensures { IfOk result (λ text. string_bytes text ≡ help_text example.now) }
+{
+    let mut text = String::from_str(alloc, "for example:\n")?;
+    text.push_str(example)?;
+    Ok(text)
+}
+
+/// The same as a JSON object.
+fn help_json(alloc: Global, example: &str) -> Result<Value, AllocError>
+    ensures { IfOk result (λ value. view value ≡ message_json (help_text example.now)) }
+{
+    let text = help_text(alloc, example)?;
+    message_json(alloc, &text)
+}
+
+/// A rule as a JSON object.
+fn rule_json(alloc: Global, rule: &Rule) -> Result<Value, AllocError>
+    ensures { IfOk result (λ value. view value ≡ rule_json (rule_value rule.now)) }
+{
+    let full_description = message_json(alloc, rule.text)?;
+    let help = help_json(alloc, rule.example)?;
+    let short_description = message_json(alloc, rule.text)?;
+    json!(in alloc; {
+        "defaultConfiguration": { "level": rule.level.word() },
+        "fullDescription": full_description,
+        "help": help,
+        "id": rule.name,
+        "shortDescription": short_description,
+    })
+}
+
+/// All rules as a JSON array.
+fn rules_json(alloc: Global, rules: &[Rule]) -> Result<Value, AllocError>
+    ensures { IfOk result (λ value. view value ≡ list_json rule_json (map rule_value rules.now)) }
+{
+    let mut list = Vec::with_capacity(alloc, rules.len())?;
+    for rule in rules {
+        list.push(rule_json(alloc, rule)?)?;
+    }
+    Ok(Value::Array(list))
+}
+
+/// The file and the line, or the first one for a finding without a line.
+fn place_json(alloc: Global, uri: &str, line: Option<usize>) -> Result<Value, AllocError>
+    ensures { IfOk result (λ value. view value ≡ place_json uri.now line) }
+{
+    json!(in alloc; {
+        "artifactLocation": { "uri": uri },
+        "region": { "startLine": line.unwrap_or(1) },
+    })
+}
+
+/// A finding as a JSON object.
+fn result_json(alloc: Global, uri: &str, finding: &Finding) -> Result<Value, AllocError>
+    ensures { IfOk result (λ value. view value ≡ result_json uri.now (finding_value finding.now)) }
+{
+    let place = place_json(alloc, uri, finding.line)?;
+    let message = message_json(alloc, &finding.message)?;
+    json!(in alloc; {
+        "level": finding.level.word(),
+        "locations": [{ "physicalLocation": place }],
+        "message": message,
+        "ruleId": finding.name,
+    })
+}
+
+/// Findings as a JSON array.
+fn results_json(alloc: Global, uri: &str, findings: &[Finding]) -> Result<Value, AllocError>
+    ensures { IfOk result (λ value. view value ≡ list_json (result_json uri.now) (map finding_value findings.now)) }
+{
+    let mut list = Vec::with_capacity(alloc, findings.len())?;
+    for finding in findings {
+        list.push(result_json(alloc, uri, finding)?)?;
+    }
+    Ok(Value::Array(list))
+}
+
+/// The program as a JSON object.
+fn tool_json(alloc: Global) -> Result<Value, AllocError>
+    ensures { IfOk result (λ value. view value ≡ tool_json) }
+{
+    let rules = rules_json(alloc, &all_rules(alloc)?)?;
+    json!(in alloc; {
+        "driver": {
+            "name": "robots_audit",
+            "rules": rules,
+            "version": VERSION,
+        },
+    })
+}
+
+/// The log as a JSON object.
+fn log_json(alloc: Global, uri: &str, findings: &[Finding]) -> Result<Value, AllocError>
+    ensures { IfOk result (λ value. view value ≡ log_json uri.now (map finding_value findings.now)) }
+{
+    let results = results_json(alloc, uri, findings)?;
+    let tool = tool_json(alloc)?;
+    json!(in alloc; {
+        "$schema": "https://json.schemastore.org/sarif-2.1.0.json",
+        "runs": [{ "results": results, "tool": tool }],
+        "version": "2.1.0",
+    })
+}
+
+/// The log of the findings of an audit of the file with this name, as one line of JSON.
+pub fn sarif_text(alloc: Global, file: &str, audit: &Audit<'_, '_>) -> Result<String, AllocError>
+    ensures { IfOk result (λ text. string_bytes text ≡ sarif_text file.now (findings audit.now)) }
+{
+    let findings = findings_of(alloc, audit)?;
+    let uri = uri_of(alloc, file.as_bytes())?;
+    json_line(alloc, &log_json(alloc, &uri, &findings)?)
+}

@@ -1,4 +1,0 @@
-pub mod DeniedLemmas
-pub mod ExplainLemmas
-pub mod ListedLemmas
-pub mod ReportLemmas

@@ -1,4 +1,0 @@
-pub mod Listed
-pub mod Report
-pub mod Explain
-pub mod Internal

@@ -1,0 +1,72 @@
+-- How warnings are counted, and which of them are listed.
+use Rattle.std.proofs.Common.{◌≡◌, ◌∙◌, ℕ, ◌+◌, ◌-◌, ◌<◌, ◌≤◌, Bool, List, [], ◌∷◌, ◌++◌, ap, ap₂}
+use Rattle.std.proofs.Common.{append_assoc, arith, cond, drop, if◌then◌else◌, length, map, slice_index_or}
+use Rattle.std.proofs.Common.{sym, take}
+use Rattle.std.proofs.lemmas.List.{drop_more, length-take-le, map-append, take_more}
+use Rattle.std.proofs.lemmas.List.Sums.{count_by-le-length, sum_by_push}
+use Rattle.audit_text.specs.Internal.Listed.{AreCounts, Counts, counted}
+use Rattle.audit_text.specs.Listed.{count_like, count_of, is_like, more_of, most, placed}
+use Rattle.audit_text.specs.declared.listed.More.{More}
+use Rattle.robots_text.specs.declared.level.Level.{Level}
+use Rattle.robots_warnings.specs.Table.{level_of, name_of}
+use Rattle.robots_warnings.specs.WarningValue.{WarningValue}
+use Rattle.robots_warnings.specs.declared.table.Cause.{Cause}
+
+-- there are at most as many warnings with a name and a level as there are warnings
+pub counted_fits : (counts : Counts) (warnings : List WarningValue) (at : ℕ) (cause : Cause)
+    → at < length warnings → at < 18446744073709551615
+    → AreCounts counts (take at warnings)
+    → counted counts (name_of cause) (level_of cause) < 18446744073709551615
+counted_fits counts warnings at cause below short are =
+    let least : at ≤ length warnings = omega (arith, below) in
+    let most = count_by-le-length
+    (λ (warning : WarningValue). is_like (name_of cause) (level_of cause) warning.cause)
+    (take at warnings) in
+    let within = rw (length-take-le at warnings least) at most in
+    let is = are (name_of cause) (level_of cause) in
+    omega (arith, short, within, is)
+
+-- loop step: one more warning is counted
+pub counted_next : (counts new : Counts) (warnings : List WarningValue) (at : ℕ) (warning : WarningValue)
+    (cause : Cause) → at < length warnings → cause ≡ (slice_index_or warnings at warning).cause
+    → AreCounts counts (take at warnings)
+    → ((name : List ℕ) (level : Level) → counted new name level ≡ counted counts name level
+    + (if is_like name level cause then 1 else 0))
+    → AreCounts new (take (at + 1) warnings)
+counted_next counts new warnings at warning cause below same are more_at name level =
+    rw (take_more warnings at warning below)
+    (more_at name level ∙ ap (λ n. n + (if is_like name level cause then 1 else 0)) (are name level)
+    ∙ ap (λ cause. count_of name level (take at warnings) + (if is_like name level cause then 1 else 0)) same
+    ∙ sym (sum_by_push (λ (warning : WarningValue). cond (is_like name level warning.cause) 1 0)
+    (take at warnings) (slice_index_or warnings at warning)))
+
+-- loop step: one more warning is appended if its place passes the test
+pub placed_next : (test : ℕ → Bool) (warnings : List WarningValue) (at : ℕ) (warning : WarningValue) (place : ℕ)
+    (found new all : List WarningValue) → at < length warnings
+    → place ≡ count_like (slice_index_or warnings at warning).cause (take at warnings)
+    → new ≡ found ++ (if test place then slice_index_or warnings at warning ∷ [] else [])
+    → found ++ placed test (take at warnings) (drop at warnings) ≡ all
+    → new ++ placed test (take (at + 1) warnings) (drop (at + 1) warnings) ≡ all
+placed_next test warnings at warning place found new all below is added so_far =
+    let item = slice_index_or warnings at warning in
+    let later = placed test (take at warnings ++ item ∷ []) (drop (at + 1) warnings) in
+    rw (take_more warnings at warning below)
+    (ap (λ (front : List WarningValue). front ++ later) added
+    ∙ append_assoc found (if test place then item ∷ [] else []) later
+    ∙ ap (λ n. found ++ ((if test n then item ∷ [] else []) ++ later)) is
+    ∙ rw (drop_more warnings at warning below) at so_far)
+
+-- loop step: one more name and level, and how many warnings with both aren't listed
+pub more_next : (warnings unlisted : List WarningValue) (at : ℕ) (warning : WarningValue) (cause : Cause)
+    (found : List More) (number : ℕ) (counts : Counts) → AreCounts counts warnings
+    → at < length unlisted → cause ≡ (slice_index_or unlisted at warning).cause
+    → number ≡ counted counts (name_of cause) (level_of cause) - most
+    → found ≡ map (more_of warnings) (take at unlisted)
+    → found ++ record { cause = cause; number = number } ∷ []
+    ≡ map (more_of warnings) (take (at + 1) unlisted)
+more_next warnings unlisted at warning cause found number counts are below same is so_far =
+    rw (take_more unlisted at warning below, map-append)
+    (ap₂ (λ (front : List More) last. front ++ last ∷ []) so_far
+    (ap (λ number. record { cause = cause; number = number })
+    (is ∙ ap (λ n. n - most) (are (name_of cause) (level_of cause)))
+    ∙ ap (λ cause. record { cause = cause; number = count_like cause warnings - most }) same))

@@ -1,0 +1,13 @@
+use Rattle.std.proofs.Common.{◌≡◌, ◌++◌, map, string_bytes, take}
+use Rattle.robots_io.specs.Lines.{ended}
+use Rattle.robots_text.specs.Text.{level_text, named_text}
+use Rattle.audit_text.specs.Listed.{listed}
+use Rattle.audit_text.specs.Report.{more_line, shown_warning}
+use Rattle.audit_text.proofs.report.listed_lines.Given as goal
+
+abbrev pub invariant-loop-more : goal.invariant-loop-more
+invariant-loop-more l =
+    let shown = map (shown_warning l.file) (listed l.warnings) in
+    string_bytes l.text
+    ≡ ended (map (level_text l.has_colors) shown)
+    ++ ended (map named_text (map (more_line l.file) (take l.more-index l.more-items)))

@@ -1,0 +1,10 @@
+use Rattle.std.proofs.Common.{◌≡◌, map, string_bytes, take}
+use Rattle.robots_io.specs.Lines.{ended}
+use Rattle.robots_text.specs.Text.{level_text}
+use Rattle.audit_text.specs.Report.{shown_warning}
+use Rattle.audit_text.proofs.report.warning_lines.Given as goal
+
+abbrev pub invariant-loop-warning : goal.invariant-loop-warning
+invariant-loop-warning l =
+    let done = take l.warning-index l.warnings in
+    string_bytes l.text ≡ ended (map (level_text l.has_colors) (map (shown_warning l.file) done))

@@ -1,0 +1,66 @@
+-- The findings as annotations of a workflow on GitHub: one workflow command per line, such as
+--
+--     ::error file=robots.txt,line=3,title=missing-slash::the rule doesn't start with / or *, ..
+--
+-- In messages `%`, CR and LF are escaped, in properties also `:` and `,`: a text ends neither its property
+-- nor its line.
+use Rattle.std.specs.Prelude.{ℕ, Bool, true, false, List, [], ◌∷◌, ◌++◌, ◌==◌, ◌&&◌, ◌||◌, not, Option, Some}
+use Rattle.std.specs.Prelude.{None, codes, decimal}
+use Rattle.std.specs.Prelude.{flat_map, if◌then◌else◌, map}
+use Rattle.std.specs.List.{list_all}
+use Rattle.std.specs.Str.{byte}
+use Rattle.std.proofs.Common.{refl}
+use Rattle.robots_io.specs.Lines.{ended}
+use Rattle.robots_io.specs.Sanitize.{sanitized}
+use Rattle.robots_text.specs.declared.level.Level.{Level}
+use Rattle.robots_text.specs.declared.level.Level.TheVariants.{Error, Note, Warning}
+use Rattle.robots_text.specs.Text.{Label, label}
+use Rattle.audit_core.specs.Findings.{FindingValue}
+
+-- ---- escaping
+
+-- a byte of a property or of a message
+abbrev pub escaped_byte : (is_property : Bool) → ℕ → List ℕ
+escaped_byte is_property b =
+    if b == byte "%" then codes "%25" else if b == 13 then codes "%0D" else if b == 10 then codes "%0A"
+    else if b == byte ":" && is_property then codes "%3A"
+    else if b == byte "," && is_property then codes "%2C" else b ∷ []
+
+abbrev pub escaped : (is_property : Bool) → List ℕ → List ℕ
+escaped is_property text = flat_map (escaped_byte is_property) text
+
+abbrev pub property_text : List ℕ → List ℕ
+property_text = escaped true
+
+-- ---- commands
+
+-- the command up to the name of the file; GitHub's word for a note is `notice`
+abbrev pub command_label : Level → Label
+command_label Error = label (codes "::error file=") refl
+command_label Warning = label (codes "::warning file=") refl
+command_label Note = label (codes "::notice file=") refl
+
+abbrev pub line_property : Option ℕ → List ℕ
+line_property None = []
+line_property (Some line) = codes ",line=" ++ property_text (decimal line)
+
+-- the command for a finding; `file` is the sanitized name of the file
+abbrev pub command : List ℕ → FindingValue → List ℕ
+command file finding =
+    (command_label finding.level).text
+    ++ (property_text file ++ (line_property finding.line ++ (codes ",title=" ++ (property_text finding.name
+    ++ (codes "::" ++ escaped false finding.message)))))
+
+-- the commands for the findings in the file with this name
+abbrev pub github_text : List ℕ → List FindingValue → List ℕ
+github_text file findings = ended (map (command (sanitized file)) findings)
+
+-- ---- what escaping achieves
+
+-- the text contains neither CR nor LF, so that it is part of a single line
+abbrev pub is_in_line : List ℕ → Bool
+is_in_line text = list_all (λ b. not (b == 13 || b == 10)) text
+
+-- the text contains neither of the bytes that end a property either
+abbrev pub is_in_property : List ℕ → Bool
+is_in_property text = list_all (λ b. not (b == 13 || b == 10 || b == byte ":" || b == byte ",")) text

@@ -1,0 +1,24 @@
+-- The numbers of warnings as the code counts them.
+use Rattle.std.specs.Prelude.{◌≡◌, ℕ, List, [], ◌∷◌, slice_index_or, unwrap_or}
+use Rattle.std.specs.BTreeMap.{BTreeMap, get_by}
+use Rattle.std.specs.Borrow.{Bor}
+use Rattle.std.specs.Cmp.Lexicographic.{slice_cmp}
+use Rattle.std.specs.Ordering.{nat_cmp}
+use Rattle.audit_text.specs.Listed.{count_of, rank}
+use Rattle.robots_text.specs.declared.level.Level.{Level}
+use Rattle.robots_warnings.specs.WarningValue.{WarningValue}
+
+-- the numbers of warnings with a name, one for each level
+abbrev pub Counts : Type 0
+Counts = BTreeMap (Bor (List ℕ)) (List ℕ)
+
+-- the number of a name and a level; zero if the name isn't there
+abbrev pub counted : Counts → List ℕ → Level → ℕ
+counted counts name level =
+    slice_index_or (unwrap_or (get_by (λ key. slice_cmp nat_cmp name key.now) counts) (0 ∷ 0 ∷ 0 ∷ []))
+    (rank level) 0
+
+-- the map has the number of these warnings with each name and level
+abbrev pub AreCounts : Counts → List WarningValue → Type 0
+AreCounts counts warnings =
+    (name : List ℕ) (level : Level) → counted counts name level ≡ count_of name level warnings

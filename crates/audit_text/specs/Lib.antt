@@ -1,0 +1,5 @@
+pub mod Listed
+pub mod Report
+pub mod Explain
+pub mod Github
+pub mod Internal

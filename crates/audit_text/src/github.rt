@@ -1,0 +1,101 @@
+//! Findings as annotations of a workflow on GitHub: one workflow command per line.
+ghost use Rattle.std.specs.Prelude.{◌≡◌, ◌++◌, ◌∷◌, [], IfOk, OnOk, map, string_bytes};
+ghost use Rattle.robots_io.specs.Lines.{ended};
+ghost use Rattle.audit_text.specs.Github.{command, command_label, escaped, escaped_byte, github_text, line_property, property_text};
+ghost use Rattle.audit_core.specs.Findings.{findings};
+ghost use Rattle.audit_core.specs.Findings.{finding_value};
+
+use audit_core::audit::Audit;
+use audit_core::findings::{Finding, findings_of};
+use itoa::Buffer;
+use robots_io::sanitize::push_sanitized;
+use robots_text::level::Level;
+use std::alloc::{AllocError, Global};
+
+/// Appends a byte of a property or of a message, escaped.
+fn push_escaped_byte(out: &mut Vec<u8>, is_property: bool, byte: u8) -> Result<(), AllocError>
+    ensures { OnOk result (out.new.items ≡ out.old.items ++ escaped_byte is_property byte) }
+{
+    match byte {
+        b'%' => out.extend_from_slice(b"%25"),
+        b'\r' => out.extend_from_slice(b"%0D"),
+        b'\n' => out.extend_from_slice(b"%0A"),
+        b':' if is_property => out.extend_from_slice(b"%3A"),
+        b',' if is_property => out.extend_from_slice(b"%2C"),
+        _ => Ok(out.push(byte)?),
+    }
+}
+
+/// Appends a property or a message, escaped.
+fn push_escaped(out: &mut Vec<u8>, is_property: bool, text: &[u8]) -> Result<(), AllocError>
+    ensures { OnOk result (out.new.items ≡ out.old.items ++ escaped is_property text.now) }
+{
+    for byte in text {
+        push_escaped_byte(out, is_property, *byte)?;
+    }
+    Ok(())
+}
+
+/// Appends a property: its label, and its escaped value.
+fn push_property(out: &mut Vec<u8>, label: &[u8], value: &[u8]) -> Result<(), AllocError>
+    ensures { OnOk result (out.new.items ≡ out.old.items ++ (label.now ++ property_text value.now)) }
+{
+    out.extend_from_slice(label)?;
+    push_escaped(out, true, value)
+}
+
+/// The command for a level, up to the name of the file.
+fn command_label(level: Level) -> &'static [u8]
+    ensures { result.now ≡ (command_label level).text }
+{
+    match level {
+        Level::Error => b"::error file=",
+        Level::Warning => b"::warning file=",
+        Level::Note => b"::notice file=",
+    }
+}
+
+/// Appends the property with the line, if there is one.
+fn push_line_property(out: &mut Vec<u8>, line: Option<usize>) -> Result<(), AllocError>
+    ensures { OnOk result (out.new.items ≡ out.old.items ++ line_property line) }
+{
+    match line {
+        Some(line) => push_property(out, b",line=", Buffer::new().format(line).as_bytes()),
+        None => Ok(()),
+    }
+}
+
+/// Appends the line with the command for a finding. `file` is the sanitized name of the file.
+fn push_command(out: &mut Vec<u8>, file: &str, finding: &Finding) -> Result<(), AllocError>
+    ensures { OnOk result (out.new.items ≡ out.old.items ++ ended (command file.now (finding_value finding.now) ∷ [])) }
+{
+    push_property(out, command_label(finding.level), file.as_bytes())?;
+    push_line_property(out, finding.line)?;
+    push_property(out, b",title=", finding.name.as_bytes())?;
+    out.extend_from_slice(b"::")?;
+    push_escaped(out, false, finding.message.as_bytes())?;
+    out.extend_from_slice(b"\n")
+}
+
+/// Appends a line for each of these findings.
+fn push_commands(out: &mut Vec<u8>, file: &str, findings: &[Finding]) -> Result<(), AllocError>
+    ensures { OnOk result (out.new.items
+        ≡ out.old.items ++ ended (map (command file.now) (map finding_value findings.now))) }
+{
+    for finding in findings {
+        push_command(out, file, finding)?;
+    }
+    Ok(())
+}
+
+/// The commands for the findings of an audit of the file with this name.
+pub fn github_text(alloc: Global, file: &str, audit: &Audit<'_, '_>) -> Result<Vec<u8>, AllocError>
+    ensures { IfOk result (λ text. text.items ≡ github_text file.now (findings audit.now)) }
+{
+    let findings = findings_of(alloc, audit)?;
+    let mut name = String::new(alloc);
+    push_sanitized(&mut name, file.as_bytes())?;
+    let mut out = Vec::new(alloc);
+    push_commands(&mut out, &name, &findings)?;
+    Ok(out)
+}

@@ -1,0 +1,241 @@
+//! The command line, and the request that it results in.
+ghost use Rattle.std.specs.Prelude.{◌≡◌, ◌≢◌, ◌++◌, IfErr, IfOk, IsTrue, OnOk, is_some, map, option_map};
+ghost use Rattle.std.specs.Prelude.{◌||◌};
+ghost use Rattle.std.specs.List.{list_all};
+ghost use Rattle.robots_warnings.specs.Table.{is_name};
+ghost use Rattle.robots_audit.specs.Command.{AreNamesOf, Asks, file_read, format_named, HasCrawlers};
+ghost use Rattle.robots_audit.specs.Command.{is_stdin, IsUnknownIn, LacksAgent, level_named};
+ghost use Rattle.robots_audit.specs.Command.{reads_stdin_twice, requested_format, values_of, words_of};
+
+use crate::options::with_options;
+use audit_core::color::requested_colors;
+use audit_core::crawler::single;
+use audit_core::fault::{Fault, unknown};
+use audit_core::request::{Format, Request};
+use audit_core::version::VERSION_AND_TOOLCHAIN;
+use clap::{ArgMatches, Command};
+use robots_text::level::Level;
+use robots_warnings::table::is_name;
+use std::alloc::{AllocError, Global};
+
+/// The program's options and arguments.
+pub fn command<'a>(alloc: Global) -> Result<Command<'a>, AllocError> {
+    let called = Command::new(alloc, "robots_audit")
+        .version(VERSION_AND_TOOLCHAIN)
+        .about("Explains how a crawler interprets a robots.txt file")
+        .override_usage("robots_audit [-f FILE] [OPTIONS] AGENT [URL]..");
+    with_options(alloc, called)
+}
+
+/// The name of the file that is read; `None` for standard input, which `-` means too.
+pub fn file_read<'a>(name: Option<&'a str>) -> Option<&'a str>
+    ensures { option_map (λ name. name.now) result ≡ file_read (option_map (λ name. name.now) name.entry) }
+{
+    match name {
+        Some(name) if name != "-" => Some(name),
+        _ => None,
+    }
+}
+
+/// Whether a file with this name is read from standard input. Without a name, no file is read.
+fn is_stdin(name: Option<&str>) -> bool
+    ensures { result ≡ is_stdin (option_map (λ name. name.now) name.entry) }
+{
+    match name {
+        Some(name) => name == "-",
+        None => false,
+    }
+}
+
+/// Whether the robots.txt file and another one would be read from standard input: the URLs, the expectations or the older
+/// version of the robots.txt file; or both the URLs and that version would.
+pub fn reads_stdin_twice(matches: &ArgMatches<'_>) -> bool
+    ensures { result ≡ reads_stdin_twice matches.now }
+{
+    let urls = is_stdin(matches.get_str("urls"));
+    let expected = is_stdin(matches.get_str("expect"));
+    let older = is_stdin(matches.get_str("compare"));
+    let has_no_file = file_read(matches.get_str("file")).is_none();
+    has_no_file && (urls || expected || older) || urls && older
+}
+
+/// The level with this word. `clap` accepts none but those of the three levels.
+fn level_named(word: &str) -> Level
+    ensures { result ≡ level_named word.now }
+{
+    if word == "error" {
+        Level::Error
+    } else if word == "note" {
+        Level::Note
+    } else {
+        Level::Warning
+    }
+}
+
+/// The level that the value of `--strict` names, if the option is given.
+fn strict_level(word: Option<&str>) -> Option<Level>
+    ensures { result ≡ option_map level_named (option_map (λ word. word.now) word.entry) }
+{
+    match word {
+        Some(word) => Some(level_named(word)),
+        None => None,
+    }
+}
+
+/// The format with this name. `clap` accepts no others.
+fn format_named(name: &str) -> Format
+    ensures { result ≡ format_named name.now }
+{
+    if name == "json" {
+        Format::Json
+    } else if name == "html" {
+        Format::Html
+    } else if name == "github" {
+        Format::Github
+    } else if name == "sarif" {
+        Format::Sarif
+    } else {
+        Format::Text
+    }
+}
+
+/// The format that `--json`, `--html` and the value of `--format` request.
+fn requested_format(is_json: bool, is_html: bool, name: Option<&str>) -> Format
+    ensures { result ≡ requested_format is_json is_html (option_map (λ name. name.now) name.entry) }
+{
+    match name {
+        _ if is_json => Format::Json,
+        _ if is_html => Format::Html,
+        Some(name) => format_named(name),
+        None => Format::Text,
+    }
+}
+
+/// Appends all values of an option or argument.
+fn add_values<'a>(
+    words: &mut Vec<&'a str>,
+    matches: &ArgMatches<'a>,
+    id: &str,
+) -> Result<(), AllocError>
+    ensures { OnOk result (map (λ word. word.now) words.new.items
+        ≡ map (λ word. word.now) words.old.items ++ values_of matches.now id.now) }
+{
+    match matches.get_strs(id) {
+        Some(values) => words.extend_from_slice(values),
+        None => Ok(()),
+    }
+}
+
+/// The arguments that aren't options, in order.
+fn words_of<'a>(alloc: Global, matches: &ArgMatches<'a>) -> Result<Vec<&'a str>, AllocError>
+    ensures { IfOk result (λ words. map (λ word. word.now) words.items ≡ words_of matches.now) }
+{
+    let mut words = Vec::new(alloc);
+    add_values(&mut words, matches, "agent")?;
+    add_values(&mut words, matches, "url")?;
+    Ok(words)
+}
+
+/// All values of an option or argument.
+fn values_of<'a>(
+    alloc: Global,
+    matches: &ArgMatches<'a>,
+    id: &str,
+) -> Result<Vec<&'a str>, AllocError>
+    ensures { IfOk result (λ values. map (λ value. value.now) values.items ≡ values_of matches.now id.now) }
+{
+    let mut values = Vec::new(alloc);
+    add_values(&mut values, matches, id)?;
+    Ok(values)
+}
+
+/// Fails with the first of these names that no warning has.
+fn known(alloc: Global, names: &[&str]) -> Result<(), Fault>
+    ensures ok { OnOk result (IsTrue (list_all is_name (map (λ name. name.now) names.now))) }
+    ensures fault { IfErr result (IsUnknownIn (map (λ name. name.now) names.now)) }
+{
+    for name in names {
+        if !is_name(name) {
+            return Err(unknown(alloc, name));
+        }
+    }
+    Ok(())
+}
+
+/// The names given with this option. Fails if one of them isn't the name of a warning.
+fn names_of<'a>(alloc: Global, matches: &ArgMatches<'a>, id: &str) -> Result<Vec<&'a str>, Fault>
+    ensures ok { IfOk result (λ names. AreNamesOf matches.now id.now (map (λ name. name.now) names.items)) }
+    ensures fault { IfErr result (IsUnknownIn (values_of matches.now id.now)) }
+{
+    let names = values_of(alloc, matches, id)?;
+    known(alloc, &names)?;
+    Ok(names)
+}
+
+/// The crawlers that `--agent` or else AGENT names; none with `--agents`. AGENT is removed from the arguments.
+fn crawlers<'a>(
+    alloc: Global,
+    matches: &ArgMatches<'a>,
+    words: &mut Vec<&'a str>,
+) -> Result<Vec<&'a str>, Fault>
+    ensures ok { IfOk result (λ agents. HasCrawlers matches.now (map (λ word. word.now) words.old.items)
+        (map (λ agent. agent.now) agents.items) (map (λ word. word.now) words.new.items)) }
+    ensures fault { IfErr result (λ fault. fault ≢ Fault.Memory
+        → LacksAgent matches.now (map (λ word. word.now) words.old.items) × (fault ≡ Fault.Usage)) }
+{
+    if matches.get_flag("agents") {
+        return Ok(Vec::new(alloc));
+    }
+    let mut agents = values_of(alloc, matches, "crawler")?;
+    if agents.is_empty() {
+        if words.is_empty() {
+            return Err(Fault::Usage);
+        }
+        agents.push(words.remove(0))?;
+    }
+    Ok(agents)
+}
+
+/// Whether the report ends with the numbers of allowed and denied URLs: with `--denied` or `--urls`.
+fn has_totals(is_denied_only: bool, urls: Option<&str>) -> bool
+    ensures { result ≡ (is_denied_only || is_some (option_map (λ name. name.now) urls.entry)) }
+{
+    is_denied_only || urls.is_some()
+}
+
+/// The request that the arguments contain, without the URLs in a file; `has_colors` is whether warnings have colors
+/// without `--color` or with `--color auto`. Fails if AGENT is missing, if standard input would be read twice, if
+/// no warning has a given name, or if an allocation fails.
+pub fn requested<'a>(
+    alloc: Global,
+    matches: &ArgMatches<'a>,
+    has_colors: bool,
+) -> Result<Request<'a>, Fault>
+    ensures { Asks has_colors matches.now result }
+{
+    let mut urls = words_of(alloc, matches)?;
+    let agents = crawlers(alloc, matches, &mut urls)?;
+    if reads_stdin_twice(matches) {
+        return Err(Fault::StdinTwice);
+    }
+    let is_denied_only = matches.get_flag("denied");
+    Ok(Request {
+        file: file_read(matches.get_str("file")),
+        is_quiet: matches.get_flag("quiet"),
+        format: requested_format(
+            matches.get_flag("json"),
+            matches.get_flag("html"),
+            matches.get_str("format"),
+        ),
+        has_colors: requested_colors(matches.get_str("color"), has_colors),
+        strict: strict_level(matches.get_str("strict")),
+        agent: single(&agents),
+        agents,
+        urls,
+        only: names_of(alloc, matches, "only")?,
+        ignored: names_of(alloc, matches, "ignore")?,
+        is_denied_only,
+        has_totals: has_totals(is_denied_only, matches.get_str("urls")),
+        has_needless: matches.get_flag("needless"),
+    })
+}
