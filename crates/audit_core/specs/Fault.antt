@@ -1,5 +1,5 @@
 -- The message for each error, and the exit status.
-use Rattle.std.specs.Prelude.{ℕ, not, List, [], ◌∷◌, Result, Ok, Err, ⊤, codes, if◌then◌else◌}
+use Rattle.std.specs.Prelude.{ℕ, not, List, [], ◌∷◌, Result, Ok, Err, codes, if◌then◌else◌}
 use Rattle.std.specs.Prelude.{string_bytes, ◌≡◌}
 use Rattle.std.proofs.Common.{refl}
 use Rattle.robots_io.specs.Sanitize.{sanitized_lines}
@@ -93,21 +93,6 @@ status_after (Ok outcome) =
 status_after (Err fault) = 2
 
 -- ---- possible errors
-
--- a run can end with this error; the specification doesn't state when a read, a write or an allocation fails
-abbrev pub MayFail : Fault → Type 0
-MayFail (Words text) = ⊥
-MayFail Usage = ⊥
-MayFail NotUtf8 = ⊥
-MayFail (UnknownWarning name) = ⊥
-MayFail (File name) = ⊥
-MayFail (Malformed file line which) = ⊥
-MayFail (Argument text which) = ⊥
-MayFail (Empty name entry) = ⊥
-MayFail StdinTwice = ⊥
-MayFail Read = ⊤
-MayFail Write = ⊤
-MayFail Memory = ⊤
 
 -- the error of the program for a failed read
 abbrev pub fault_of_read : ReadFault → Fault

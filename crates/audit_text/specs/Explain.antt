@@ -1,5 +1,5 @@
 -- The list of all warnings, and the explanation of one.
-use Rattle.std.specs.Prelude.{◌≡◌, ◌==◌, ℕ, true, false, List, [], ◌∷◌, ◌++◌, Result, IfErr, IfOk, IsErrAnd}
+use Rattle.std.specs.Prelude.{◌≡◌, ◌==◌, ℕ, false, List, [], ◌∷◌, ◌++◌, Result, IfErr, IfOk, ◌⊎◌}
 use Rattle.std.specs.Prelude.{bytes_eq, codes, flat_map, if◌then◌else◌, map}
 use Rattle.std.proofs.Common.{refl}
 use Rattle.robots_io.specs.Lines.{lf}
@@ -65,7 +65,6 @@ explanation name = flat_map (explained_if_named name) all_causes
 abbrev pub MayAnswer : List ℕ → Result Answer Fault → Type 0
 MayAnswer text result = IfOk result (IsText text) × IfErr result (λ fault. fault ≡ Memory)
 
--- the answer is the explanation, or the error reports that no warning has this name
-pub record Explains (name : List ℕ) (result : Result Answer Fault) : Type 0 where
-  pub known : is_name name ≡ true → MayAnswer (explanation name) result
-  pub unknown : is_name name ≡ false → IsErrAnd result (IsUnknown name)
+-- no warning has this name, as the error reports, or an allocation failed
+abbrev pub IsUnexplained : List ℕ → Fault → Type 0
+IsUnexplained name fault = ((is_name name ≡ false) × IsUnknown name fault) ⊎ (fault ≡ Memory)

@@ -1,9 +1,10 @@
 //! The list of all warnings, and the explanation of one.
-ghost use Rattle.std.specs.Prelude.{◌≡◌, ◌++◌, ◌∷◌, [], IfOk, OnOk, flat_map, string_bytes};
+ghost use Rattle.std.specs.Prelude.{◌≡◌, ◌++◌, ◌∷◌, [], IfErr, IfOk, OnOk, flat_map, string_bytes, true};
+ghost use Rattle.audit_core.specs.Answer.{IsText};
 ghost use Rattle.robots_text.specs.Raw.{raw_line};
 ghost use Rattle.robots_text.specs.Text.{line_text, written};
-ghost use Rattle.robots_warnings.specs.Table.{example_of};
-ghost use Rattle.audit_text.specs.Explain.{Explains, MayAnswer, example_lines, explained_if_named, explanation};
+ghost use Rattle.robots_warnings.specs.Table.{example_of, is_name};
+ghost use Rattle.audit_text.specs.Explain.{IsUnexplained, MayAnswer, example_lines, explained_if_named, explanation};
 ghost use Rattle.audit_text.specs.Explain.{indented, indented_byte, list_line, list_text};
 
 use audit_core::answer::{Answer, text_answer};
@@ -117,7 +118,8 @@ pub fn list_warnings(alloc: Global) -> Result<Answer, Fault>
 ///
 /// `Fault::UnknownWarning` if no warning has this name.
 pub fn explain(alloc: Global, name: &str) -> Result<Answer, Fault>
-    ensures { Explains name.now result }
+    ensures answer { IfOk result (λ answer. (is_name name.now ≡ true) × IsText (explanation name.now) answer) }
+    ensures fault { IfErr result (IsUnexplained name.now) }
 {
     if !is_name(name) {
         return Err(unknown(alloc, name));

@@ -1,6 +1,6 @@
 -- Messages on standard error are printable apart from color codes. Without the codes they are those without colors.
 use Rattle.std.proofs.Common.{◌≡◌, ℕ, Bool, true, false, List, [], inl, inr, Option, Some, None, string_bytes}
-use Rattle.std.proofs.Common.{subst, sym}
+use Rattle.std.proofs.Common.{◌∙◌, ap, codes, subst, sym}
 use Rattle.clap.specs.declared.parser.matches.ArgMatches.{ArgMatches}
 use Rattle.robots_io.specs.Sanitize.{IsPrintable}
 use Rattle.robots_io.proofs.SanitizeLemmas.{nil_printable}
@@ -8,13 +8,16 @@ use Rattle.robots_text.specs.Color.{IsColored, IsForTerminal}
 use Rattle.robots_text.proofs.ColorLemmas.{colored_same, for_terminal, with_colors}
 use Rattle.audit_core.specs.Answer.{IsText}
 use Rattle.audit_core.specs.Audit.{AuditValue}
-use Rattle.audit_core.specs.Request.{RequestValue}
+use Rattle.audit_core.specs.Color.{requested_colors}
+use Rattle.audit_core.specs.Request.{RequestValue, requested_by}
 use Rattle.audit_core.specs.declared.answer.Answer.{Answer}
 use Rattle.audit_core.specs.declared.request.Format.{Format}
 use Rattle.audit_core.specs.declared.request.Format.TheVariants.{Github, Html, Json, Sarif, Text}
 use Rattle.audit_text.proofs.ReportLemmas.{listed_colored, listed_for_terminal}
-use Rattle.robots_audit.specs.Answer.{Answers, AnswersOptions, IsAudited, message, message_in, shown_name}
+use Rattle.robots_audit.specs.Answer.{Answers, AnswersAudit, AnswersOptions, HasUrls, IsAsked, message}
+use Rattle.robots_audit.specs.Answer.{message_in, shown_name}
 use Rattle.robots_audit.specs.Answer.{without_colors}
+use Rattle.robots_audit.specs.Command.{value_of}
 
 pub message_colored : (requested : RequestValue) (audit : AuditValue)
     → IsColored (message (without_colors requested) audit) (message requested audit)
@@ -50,29 +53,53 @@ message_printable requested audit off =
 
 -- ---- answers
 
-silent : (answer : Answer) → string_bytes answer.outcome.warnings ≡ []
-    → IsForTerminal true (string_bytes answer.outcome.warnings)
-silent answer is = subst (IsForTerminal true) (sym is) (for_terminal true [] (nil_printable true))
+silent : (has_colors : Bool) (answer : Answer) → string_bytes answer.outcome.warnings ≡ []
+    → IsForTerminal has_colors (string_bytes answer.outcome.warnings)
+silent has_colors answer is =
+    subst (IsForTerminal has_colors) (sym is) (for_terminal has_colors [] (nil_printable true))
 
-pub text_for_terminal : (text : List ℕ) (answer : Answer) → IsText text answer
-    → IsForTerminal true (string_bytes answer.outcome.warnings)
-text_for_terminal text answer is = silent answer is.quiet
+-- a text is for every terminal, and so are no warnings
+pub text_for_terminal : (has_colors : Bool) (text : List ℕ) (answer : Answer) → IsText text answer
+    → IsForTerminal has_colors (string_bytes answer.outcome.warnings)
+text_for_terminal has_colors text answer is = silent has_colors answer is.quiet
 
-audited_for_terminal : (requested : RequestValue) (file : List ℕ) (answer : Answer)
-    → IsAudited requested file answer → IsForTerminal true (string_bytes answer.outcome.warnings)
-audited_for_terminal requested file answer is =
-    subst (IsForTerminal true) (sym is.outcome.warnings)
-    (with_colors requested.has_colors (message requested is.audit) (message_for_terminal requested is.audit))
+colors_kept : (name : Option (List ℕ)) (requested extended : RequestValue) → HasUrls name requested extended
+    → extended.has_colors ≡ requested.has_colors
+colors_kept None requested extended is = ap (λ (r : RequestValue). r.has_colors) is
+colors_kept (Some name) requested extended (text, has) = ap (λ (r : RequestValue). r.has_colors) has.extended_is
+
+asked_colors : (by_default : Bool) (matches : ArgMatches) (requested : RequestValue)
+    → IsAsked by_default matches requested
+    → requested.has_colors ≡ requested_colors (value_of matches (codes "color")) by_default
+asked_colors by_default matches requested is =
+    colors_kept (value_of matches (codes "urls")) (requested_by is.request) requested is.urls ∙ is.asked.colors
+
+audited_for_terminal : (by_default : Bool) (matches : ArgMatches) (answer : Answer)
+    → AnswersAudit by_default matches answer
+    → IsForTerminal (requested_colors (value_of matches (codes "color")) by_default)
+    (string_bytes answer.outcome.warnings)
+audited_for_terminal by_default matches answer is = rw
+    (is.audited.outcome.warnings, ← asked_colors by_default matches is.requested is.asked)
+    (message_for_terminal is.requested is.audited.audit)
 
 pub answer_for_terminal : (by_default : Bool) (matches : ArgMatches) (answer : Answer)
-    → Answers by_default matches answer → IsForTerminal true (string_bytes answer.outcome.warnings)
-answer_for_terminal by_default matches answer (inl (on, is)) = text_for_terminal _ answer is
-answer_for_terminal by_default matches answer (inr is) = by _ _ _ is
+    → Answers by_default matches answer
+    → IsForTerminal (requested_colors (value_of matches (codes "color")) by_default)
+    (string_bytes answer.outcome.warnings)
+answer_for_terminal by_default matches answer (inl (on, is)) = text_for_terminal _ _ answer is
+answer_for_terminal by_default matches answer (inr (off, is)) = by _ _ _ is
   where
     by : (explain expect compare : Option (List ℕ))
         → AnswersOptions explain expect compare by_default matches answer
-        → IsForTerminal true (string_bytes answer.outcome.warnings)
-    by (Some name) expect compare is = text_for_terminal _ answer is
-    by None (Some name) compare is = let (hold, report, plain) = is.checked in silent answer plain.silent
-    by None None (Some name) is = let (older, newer, compared) = is.compared in silent answer compared.silent
-    by None None None is = audited_for_terminal is.requested is.file answer is.audited
+        → IsForTerminal (requested_colors (value_of matches (codes "color")) by_default)
+        (string_bytes answer.outcome.warnings)
+    by (Some name) expect compare (known, is) = text_for_terminal _ _ answer is
+    by None (Some name) compare is = let (hold, report, plain) = is.checked in silent _ answer plain.silent
+    by None None (Some name) is = silent _ answer is.compared.compared.silent
+    by None None None is = audited_for_terminal by_default matches answer is
+
+-- with or without colors, warnings can be sent to a terminal
+pub answer_printable : (by_default : Bool) (matches : ArgMatches) (answer : Answer)
+    → Answers by_default matches answer → IsForTerminal true (string_bytes answer.outcome.warnings)
+answer_printable by_default matches answer is =
+    with_colors _ (string_bytes answer.outcome.warnings) (answer_for_terminal by_default matches answer is)

@@ -1,6 +1,6 @@
 -- What the program answers: to an audit, and to its arguments.
 use Rattle.std.specs.Prelude.{◌≡◌, ◌⊎◌, ℕ, Bool, true, false, List, [], ◌∷◌, ◌++◌, None, Option, Some, codes}
-use Rattle.std.specs.Prelude.{if◌then◌else◌, is_some, IsTrue, not, ◌&&◌, string_bytes}
+use Rattle.std.specs.Prelude.{if◌then◌else◌, is_some, IsTrue, not, ◌&&◌, string_bytes, ⊤}
 use Rattle.std.specs.List.{list_all, list_any}
 use Rattle.clap.specs.declared.parser.matches.ArgMatches.{ArgMatches}
 use Rattle.robots_html.specs.Html.{document}
@@ -8,7 +8,7 @@ use Rattle.robots_io.specs.Lines.{ended}
 use Rattle.robots_text.specs.Level.{reaches}
 use Rattle.robots_text.specs.Text.{ReportLine, written}
 use Rattle.robots_text.specs.declared.level.Level.{Level}
-use Rattle.robots_warnings.specs.Table.{level_of}
+use Rattle.robots_warnings.specs.Table.{is_name, level_of}
 use Rattle.robots_warnings.specs.WarningValue.{WarningValue}
 use Rattle.audit_core.specs.Answer.{IsText}
 use Rattle.audit_core.specs.Audit.{AuditValue, IsAuditOf, all_allowed, rejects_some, shown}
@@ -17,14 +17,14 @@ use Rattle.audit_core.specs.Request.{RequestValue, requested_by}
 use Rattle.audit_core.specs.declared.answer.Answer.{Answer}
 use Rattle.audit_core.specs.declared.answer.Outcome.{Outcome}
 use Rattle.audit_core.specs.declared.fault.Fault.{Fault}
-use Rattle.audit_core.specs.declared.fault.Fault.TheVariants.{File, Memory}
+use Rattle.audit_core.specs.declared.fault.Fault.TheVariants.{File, Memory, Words}
 use Rattle.audit_core.specs.declared.request.Format.{Format}
 use Rattle.audit_core.specs.declared.request.Format.TheVariants.{Github, Html, Json, Sarif, Text}
 use Rattle.audit_core.specs.declared.request.Request.{Request}
-use Rattle.robots_audit.specs.Command.{IsOn, IsRequestOf, value_of}
+use Rattle.robots_audit.specs.Command.{IsOn, IsRequestOf, reads_stdin_twice, value_of}
 use Rattle.audit_compare.specs.Compare.{IsComparison}
 use Rattle.audit_expect.specs.Expectations.{IsAnswer}
-use Rattle.audit_expect.specs.UrlList.{HasUrlsIn}
+use Rattle.audit_expect.specs.UrlList.{HasUrlsIn, first_malformed}
 use Rattle.audit_core.specs.Findings.{findings}
 use Rattle.audit_text.specs.Github.{github_text}
 use Rattle.audit_json.specs.Json.{json_text}
@@ -142,15 +142,18 @@ pub record AnswersAudit (by_default : Bool) (matches : ArgMatches) (answer : Ans
   pub audited : IsAudited requested file answer
 
 -- a check of the expectations in the file with this name
-pub record AnswersExpectations (name : List ℕ) (answer : Answer) : Type 0 where
+pub record AnswersExpectations (matches : ArgMatches) (name : List ℕ) (answer : Answer) : Type 0 where
+  pub once : reads_stdin_twice matches ≡ false
   pub text : List ℕ
   pub file : List ℕ
   pub checked : IsAnswer name text file answer
 
 -- a comparison of two files
-abbrev pub AnswersFiles : RequestValue → Answer → Type 0
-AnswersFiles requested answer = (older : List ℕ) × (newer : List ℕ)
-    × IsComparison requested.agents requested.urls older newer answer
+pub record AnswersFiles (requested : RequestValue) (answer : Answer) : Type 0 where
+  pub urls : first_malformed requested.urls ≡ None
+  pub older : List ℕ
+  pub newer : List ℕ
+  pub compared : IsComparison requested.agents requested.urls older newer answer
 
 pub record AnswersComparison (matches : ArgMatches) (answer : Answer) : Type 0 where
   pub requested : RequestValue
@@ -161,8 +164,9 @@ pub record AnswersComparison (matches : ArgMatches) (answer : Answer) : Type 0 w
 -- what the options `--explain`, `--expect` and `--compare` request, in this order, or else an audit
 abbrev pub AnswersOptions : (explain expect compare : Option (List ℕ)) → (by_default : Bool) → ArgMatches
     → Answer → Type 0
-AnswersOptions (Some name) expect compare by_default matches answer = IsText (explanation name) answer
-AnswersOptions None (Some name) compare by_default matches answer = AnswersExpectations name answer
+AnswersOptions (Some name) expect compare by_default matches answer =
+    (is_name name ≡ true) × IsText (explanation name) answer
+AnswersOptions None (Some name) compare by_default matches answer = AnswersExpectations matches name answer
 AnswersOptions None None (Some name) by_default matches answer = AnswersComparison matches answer
 AnswersOptions None None None by_default matches answer = AnswersAudit by_default matches answer
 
@@ -170,10 +174,16 @@ AnswersOptions None None None by_default matches answer = AnswersAudit by_defaul
 abbrev pub Answers : (by_default : Bool) → ArgMatches → Answer → Type 0
 Answers by_default matches answer =
     (IsOn matches (codes "list-warnings") true × IsText list_text answer)
-    ⊎ AnswersOptions (value_of matches (codes "explain")) (value_of matches (codes "expect"))
-    (value_of matches (codes "compare")) by_default matches answer
+    ⊎ (IsOn matches (codes "list-warnings") false
+    × AnswersOptions (value_of matches (codes "explain")) (value_of matches (codes "expect"))
+    (value_of matches (codes "compare")) by_default matches answer)
 
 -- ---- errors
+
+-- the error has the message of `clap`, of which `clap` specifies nothing, or an allocation failed
+abbrev pub HasWords : Fault → Type 0
+HasWords (Words text) = ⊤
+HasWords fault = fault ≡ Memory
 
 -- the error shows this name of the file that can't be read, or an allocation failed
 abbrev pub IsFileUnreadable : List ℕ → Fault → Type 0

@@ -1,11 +1,15 @@
 //! Theorems about what the program writes, each written as the contract of an empty function. Those about a
 //! single format, or about comparisons alone, are in the crates that write these.
-ghost use Rattle.std.specs.Prelude.{Bool, false, List, map, ℕ, ◌≡◌};
+ghost use Rattle.std.specs.Prelude.{Bool, codes, false, List, map, ℕ, string_bytes, ◌≡◌};
 ghost use Rattle.std.specs.List.{AllByRecursion as Each};
-ghost use Rattle.robots_audit.specs.Answer.{output, message, without_colors};
+ghost use Rattle.clap.specs.declared.parser.matches.ArgMatches.{ArgMatches};
+ghost use Rattle.robots_audit.specs.Answer.{Answers, output, message, without_colors};
+ghost use Rattle.robots_audit.specs.Command.{value_of};
+ghost use Rattle.audit_core.specs.Color.{requested_colors};
+ghost use Rattle.audit_core.specs.declared.answer.Answer.{Answer};
 ghost use Rattle.audit_core.specs.Audit.{AgentValue, AuditValue};
 ghost use Rattle.audit_core.specs.Request.{RequestValue};
-ghost use Rattle.robots_text.specs.Color.{IsColored};
+ghost use Rattle.robots_text.specs.Color.{IsColored, IsForTerminal};
 ghost use Rattle.audit_core.specs.Fault.{fault_text};
 ghost use Rattle.audit_core.specs.declared.fault.Fault.{Fault};
 ghost use Rattle.audit_compare.specs.Compare.{ComparedValue, report_lines};
@@ -57,4 +61,11 @@ pub fn no_line_contains_a_command()
         → Each (λ line. has_command line ≡ false) (result_lines name checked) }
     ensures warnings { (has_colors : Bool) (file : List ℕ) (warnings : List WarningValue)
         → Each (λ line. has_command line ≡ false) (listed_lines has_colors file warnings) }
+{}
+
+/// Warnings have color codes only if `--color` requests them, or by default.
+pub fn colors_are_requested()
+    ensures { (by_default : Bool) (matches : ArgMatches) (answer : Answer) → Answers by_default matches answer
+        → IsForTerminal (requested_colors (value_of matches (codes "color")) by_default)
+        (string_bytes answer.outcome.warnings) }
 {}

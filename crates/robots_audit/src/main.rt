@@ -19,12 +19,14 @@
 //! its level or a more serious one.
 #![tactic(auto)]
 
-ghost use Rattle.std.specs.Prelude.{◌≡◌, IfOk, string_bytes, true};
+ghost use Rattle.std.specs.Prelude.{◌≡◌, ◌≢◌, IfErr, IfOk, IsErr, string_bytes, true};
 ghost use Rattle.std.specs.Process.{exit_status};
 ghost use Rattle.robots_text.specs.Color.{IsForTerminal};
-ghost use Rattle.audit_core.specs.Fault.{status_after};
+ghost use Rattle.audit_core.specs.Fault.{fault_text, message_after, status_after};
+ghost use Rattle.audit_core.specs.declared.fault.Fault.TheVariants.{Memory};
+ghost use Rattle.clap.specs.Values.{kind_of};
 ghost use Rattle.audit_core.specs.Request.{requested_by};
-ghost use Rattle.robots_audit.specs.Answer.{Answers, AnswersAudit, AnswersComparison, AnswersExpectations, AnswersFiles};
+ghost use Rattle.robots_audit.specs.Answer.{Answers, AnswersAudit, AnswersComparison, AnswersExpectations, AnswersFiles, HasWords};
 
 mod command;
 mod laws;
@@ -45,7 +47,7 @@ use clap::error::ErrorKind as WordsKind;
 use command::{command, file_read, reads_stdin_twice, requested};
 use program::{audited, unread};
 use robots_io::streams::{ReadFault, read_all};
-use std::alloc::AllocError;
+use std::alloc::{AllocError, Global};
 use std::env;
 use std::fs::File;
 use std::io::ErrorKind;
@@ -97,7 +99,7 @@ fn audit(rt: &HostRuntime, matches: &ArgMatches<'_>, has_colors: bool) -> Result
 
 /// Checks the expectations in the file `expected` against the file that the arguments name, or standard input.
 fn checked(rt: &HostRuntime, matches: &ArgMatches<'_>, expected: &str) -> Result<Answer, Fault>
-    ensures { IfOk result (AnswersExpectations expected.now) }
+    ensures { IfOk result (AnswersExpectations matches.now expected.now) }
 {
     if reads_stdin_twice(matches) {
         return Err(Fault::StdinTwice);
@@ -152,7 +154,9 @@ fn answered(rt: &HostRuntime, matches: &ArgMatches<'_>, has_colors: bool) -> Res
 
 /// The answer if the arguments request help or the version; else the error for arguments that `clap` rejects.
 fn reported(rt: &HostRuntime, error: clap::Error) -> Result<Answer, Fault>
-    ensures { IfOk result (λ answer. IsForTerminal true (string_bytes answer.outcome.warnings)) }
+    ensures warnings { IfOk result (λ answer. IsForTerminal true (string_bytes answer.outcome.warnings)) }
+    ensures rejected { (kind_of error ≢ WordsKind.DisplayHelp) → (kind_of error ≢ WordsKind.DisplayVersion) → IsErr result }
+    ensures words { IfErr result HasWords }
 {
     let text = error.to_string(rt.alloc())?;
     if error.use_stderr() {
@@ -177,21 +181,34 @@ fn answer(rt: &HostRuntime) -> Result<Answer, Fault>
     }
 }
 
-/// Prints the warnings of a run or the message for its error, and returns the exit status.
-fn ended(rt: &HostRuntime, outcome: &Result<Outcome, Fault>) -> ExitCode
-    ensures { exit_status result ≡ status_after outcome.now }
+/// The text for standard error: the warnings of a run, or the message for its error. If an allocation fails, it is the
+/// message for that.
+fn message(alloc: Global, outcome: Result<Outcome, Fault>) -> Result<String, &'static str>
+    ensures message { IfOk result (λ text. string_bytes text ≡ message_after outcome) }
+    ensures memory { IfErr result (λ text. text.now ≡ fault_text Memory) }
 {
-    let _ = match outcome {
-        Ok(outcome) => rt.eprint(&outcome.warnings),
-        Err(fault) => match fault_text(rt.alloc(), fault) {
-            Ok(text) => rt.eprint(&text),
-            Err(AllocError) => rt.eprint("robots_audit: out of memory\n"),
+    match outcome {
+        Ok(outcome) => Ok(outcome.warnings),
+        Err(fault) => match fault_text(alloc, &fault) {
+            Ok(text) => Ok(text),
+            Err(AllocError) => Err("robots_audit: out of memory\n"),
         },
+    }
+}
+
+/// Prints the text for standard error, and returns the exit status.
+fn ended(rt: &HostRuntime, outcome: Result<Outcome, Fault>) -> ExitCode
+    ensures { exit_status result ≡ status_after outcome }
+{
+    let status = status_after(&outcome);
+    let _ = match message(rt.alloc(), outcome) {
+        Ok(text) => rt.eprint(&text),
+        Err(text) => rt.eprint(text),
     };
-    ExitCode::from(status_after(outcome))
+    ExitCode::from(status)
 }
 
 fn main(rt: HostRuntime) -> ExitCode {
     let outcome = write_answer(answer(&rt), &mut rt.stdout());
-    ended(&rt, &outcome)
+    ended(&rt, outcome)
 }

@@ -1,8 +1,8 @@
 -- Lines as data: a specification makes them of parts, each of which is safe by its type. So whatever the parts
--- are, the line is printable, and no workflow on GitHub takes it for a command.
+-- are, the line is printable, and has no `##[`. A `ReportLine` doesn't begin with `::` either, so no workflow on
+-- GitHub takes it for a command; a line that begins with the name of a file may.
 use Rattle.std.specs.Prelude.{◌≡◌, ℕ, ◌-◌, ◌==◌, Bool, true, false, ◌&&◌, List, [], ◌++◌, codes, decimal}
-use Rattle.std.specs.Prelude.{not}
-use Rattle.std.specs.Prelude.{flat_map, if◌then◌else◌, length, map, replicate}
+use Rattle.std.specs.Prelude.{flat_map, if◌then◌else◌, length, map, not, replicate}
 use Rattle.std.specs.List.{list_all}
 use Rattle.std.specs.Str.{byte}
 use Rattle.robots_io.specs.Lines.{ended}

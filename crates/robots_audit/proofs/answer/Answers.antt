@@ -1,6 +1,6 @@
 use Rattle.robots_audit.proofs.AnswerLemmas.{if_ok}
-use Rattle.robots_audit.proofs.MessageLemmas.{answer_for_terminal}
+use Rattle.robots_audit.proofs.MessageLemmas.{answer_printable}
 use Rattle.robots_audit.proofs.answer.Goals as goal
 
 pub returns-in-Ok : goal.returns-in-Ok
-returns-in-Ok c = if_ok c.answered.result (answer_for_terminal _ _) c.answered.ensures
+returns-in-Ok c = if_ok c.answered.result (answer_printable _ _) c.answered.ensures
