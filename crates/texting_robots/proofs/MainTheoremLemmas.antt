@@ -6,7 +6,7 @@ use Rattle.std.specs.Result.{IsErrAnd}
 use Rattle.std.proofs.lemmas.List.{nil_from_length}
 use Rattle.std.proofs.lemmas.List.Sorted.{IsPermutation-sym, length_permutation, sum_by-IsPermutation}
 use Rattle.texting_robots.specs.declared.error.Error.{Error}
-use Rattle.texting_robots.specs.Executable.{file_lines, lines_read, placed_rules, sitemaps_in}
+use Rattle.texting_robots.specs.Executable.{delay_for, file_lines, lines_read, placed_rules, sitemaps_in}
 use Rattle.texting_robots.specs.Decision.{IsDecidingLine, IsDecidingRule, LooksForRules, as_long_as}
 use Rattle.texting_robots.specs.{Error.IsMemoryErrorOr, MainTheorem.IsAnswerOf}
 use Rattle.texting_robots.specs.{Internal.Robot.IsComputedRobot}
@@ -15,7 +15,7 @@ use Rattle.texting_robots.specs.Line.{AreFileLinesOf, HasLines, LineValue, Allow
 use Rattle.texting_robots.specs.Robot.{AnswerAlike, IsFileRejected, IsRobotOf, IsRobotOfFile, RobotValue}
 use Rattle.texting_robots.specs.Robot.{file_limit}
 use Rattle.texting_robots.specs.Rules.{AreRulesFor, HasNoRulesOrSitemaps, HoldsRule, IsFirstOverlong}
-use Rattle.texting_robots.specs.Rules.{IsRejected}
+use Rattle.texting_robots.specs.Rules.{IsDelayFor, IsRejected}
 use Rattle.texting_robots.specs.Rules.{PlacedRule, Rule, unplaced}
 use Rattle.texting_robots.proofs.BestLemmas.{none_denies, verdict_by}
 use Rattle.texting_robots.proofs.GivenLemmas.{delay_is_computed, sitemaps_are_computed}
@@ -85,6 +85,12 @@ read_robot agent file robot is =
 pub read_rejected : (agent file : List ℕ) → IsFileRejected agent (take file_limit file)
     → IsRejected agent (lines_read file)
 read_rejected agent file is = of_lines _ (IsRejected agent) is (lines_read file) (lines_are_read file)
+
+pub read_delay : (agent file : List ℕ) (delay : Option ℕ)
+    → HasLines file (λ lines. IsDelayFor agent lines delay) → delay ≡ delay_for agent (file_lines file)
+read_delay agent file delay (lines, are, is) =
+    rw ((each_text_has_its_lines (map nul_as_lf file) lines).0 are) at
+    ((delay_is_computed agent lines delay).0 is)
 
 pub has_lines : (file : List ℕ) (P : List LineValue → Type 0) → P (file_lines file) → HasLines file P
 has_lines file P is = (file_lines file, (each_text_has_its_lines (map nul_as_lf file) _).1 refl, is)

@@ -4,11 +4,9 @@ use Rattle.std.proofs.Common.{Option, Some, None, length, slice_get, append_asso
 use Rattle.std.proofs.Common.{refl, ap, ◌∙◌, arith, inl, inr}
 use Rattle.std.specs.List.{All, Any, before_first, cons_option, filter_map, last_or, list_any}
 use Rattle.std.specs.Option.{option_to_list, option_or, IfSome, IsSomeAnd}
-use Rattle.std.specs.Str.{IsUtf8, is_utf8}
-use Rattle.std.proofs.lemmas.Bool.{cases_Bool, false_from_ne_true}
+use Rattle.std.proofs.lemmas.Bool.{cases_Bool}
 use Rattle.std.proofs.lemmas.List.{append-nil, get_or-map, get_or_at, length-map, Sums.take_while-cons}
 use Rattle.std.proofs.lemmas.List.Elements.{All-push}
-use Rattle.std.proofs.lemmas.Str.{IsUtf8-from_is_utf8, is_utf8-from_IsUtf8}
 use Rattle.texting_robots.specs.declared.error.Error.{Error}
 use Rattle.texting_robots.specs.Line.{LineValue, Sitemap, delay_in, is_sitemap}
 use Rattle.texting_robots.specs.{Executable.sitemap_in, Pattern.IsOverlong, Error.IsMemoryErrorOr}
@@ -23,23 +21,6 @@ use Rattle.texting_robots.specs.declared.error.Error.TheVariants as mine
 pub no_sitemap : (line : LineValue) → is_sitemap line ≡ false → sitemap_in line ≡ None
 no_sitemap (Sitemap value) isnt = cc
 no_sitemap _ isnt = refl
-
--- ---- values that are UTF-8
-
-pub if_text : {X : Type 0} (value : List ℕ) (x : X) → IsUtf8 value
-    → cond (is_utf8 value) (Some x) None ≡ Some x
-if_text value x is = rw (is_utf8-from_IsUtf8 value is) refl
-
-pub if_none : {X : Type 0} (value : List ℕ) (x : X) → ¬ IsUtf8 value
-    → cond (is_utf8 value) (Some x) None ≡ None
-if_none value x isnt =
-    let fails : is_utf8 value ≡ false = false_from_ne_true _ (λ h. isnt (IsUtf8-from_is_utf8 value h)) in
-    rw fails refl
-
-pub no_text : {X : Type 0} (value : List ℕ) (x : X)
-    → cond (is_utf8 value) (Some x) None ≡ None → ¬ IsUtf8 value
-no_text {X = X} value x none is =
-    let wrong : ◌≡◌ {A = Option X} (Some x) None = sym (if_text value x is) ∙ none in cc
 
 -- an error for one cause is also an error for a weaker one
 pub rejected_wider : (P Q : Type 0) (e : Error) → (P → Q) → IsMemoryErrorOr P e → IsMemoryErrorOr Q e

@@ -3,7 +3,7 @@ use Rattle.std.proofs.Common.{◌≡◌, inl, inr, ℕ, zero, suc, ◌+◌, ◌<
 use Rattle.std.proofs.Common.{not, ◌&&◌, List, [], ◌∷◌, ◌++◌, Option, Some, None, length, drop, refl, ap, sym}
 use Rattle.std.proofs.Common.{◌∙◌, arith, get_or, slice_get, take}
 use Rattle.std.specs.{Prelude.filter, List.Any, List.cons_option, List.filter_map, List.list_any}
-use Rattle.std.specs.Option.{IsSomeAnd, option_or, option_to_list}
+use Rattle.std.specs.Option.{option_or, option_to_list}
 use Rattle.std.proofs.lemmas.{Bool.eq-eqb, Bool.ne_eqb, Bool.Decides.eqb_tells}
 use Rattle.std.proofs.lemmas.List.{Elements.filter_agree}
 use Rattle.std.proofs.lemmas.List.{take_more}
@@ -328,12 +328,9 @@ given_whole given all name (n ∷ names) tags walk lines named_is tagged_is whol
     filled : {n : Named} (names : List Named) → n ∷ names ≡ [] → ⊥
     filled names is = cc
 
--- if one more item gives a result with the property, then one of all results has it
-pub any_given : {X : Type 0} (P : X → Type 0) (o : Option X) (xs old all : List X)
-    → old ++ cons_option o xs ≡ all
-    → IsSomeAnd o P → Any P all
-any_given P None xs old all are is = absurd is
-any_given P (Some x) xs old all are is = subst (Any P) are (after P x xs old is)
+pub any_between : {X : Type 0} (P : X → Type 0) (x : X) (xs old all : List X) → old ++ x ∷ xs ≡ all
+    → P x → Any P all
+any_between P x xs old all are is = subst (Any P) are (after P x xs old is)
   where
     after : {X : Type 0} (P : X → Type 0) (x : X) (xs old : List X) → P x → Any P (old ++ x ∷ xs)
     after P x xs [] is = (zero, x, omega arith, refl, is)

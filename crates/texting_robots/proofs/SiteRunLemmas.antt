@@ -1,7 +1,7 @@
 -- Where the lines of a run begin, and what one more run gives.
 use Rattle.std.proofs.Common.{◌≡◌, ◌≢◌, ℕ, zero, suc, ◌+◌, ◌<◌, ◌≤◌, ◌==◌, Bool, true, false, ◌||◌}
 use Rattle.std.proofs.Common.{inl, inr, List, [], ◌∷◌, ◌++◌, Some, length, drop, refl, ap, sym, ◌∙◌}
-use Rattle.std.proofs.Common.{append_assoc, arith, bytes_eq, slice_get, subst}
+use Rattle.std.proofs.Common.{append_assoc, arith, bytes_eq, not, slice_get, subst}
 use Rattle.std.proofs.Common.{length-append}
 use Rattle.std.specs.{Prelude.filter, Str.str_to_ascii_lowercase}
 use Rattle.std.specs.List.{list_any}
@@ -135,6 +135,15 @@ some_names lines some = sym (some_from 0 false 0 0 lines) ∙ filled (named line
     filled : (ns : List Named) → ns ≢ [] → list_any (λ (n : Named). true) ns ≡ true
     filled [] some = absurd (some refl)
     filled (n ∷ ns) some = refl
+
+pub has_names : (lines : List LineValue) (names : List Named) → names ≡ named lines
+    → not (length names == 0) ≡ list_any is_agent lines
+has_names lines [] are = sym (no_names lines (sym are))
+has_names lines (n ∷ names) are =
+    ap not (ne_eqb (suc (length names)) 0 (λ same. omega arith)) ∙ sym (some_names lines (λ none. filled names (are ∙ none)))
+  where
+    filled : {n : Named} (names : List Named) → n ∷ names ≡ [] → ⊥
+    filled names is = cc
 
 -- ---- where the lines of a run begin
 

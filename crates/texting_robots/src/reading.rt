@@ -1,7 +1,7 @@
 //! Reads a whole file for one crawler: the rules and the delay that apply, and the sitemaps.
-ghost use Rattle.std.specs.Prelude.{◌≡◌, ◌++◌, [], IfErr, IfOk, IsOk, None, OnOk, map, string_bytes};
+ghost use Rattle.std.specs.Prelude.{◌≡◌, ◌++◌, [], IfErr, IfOk, IsOk, MatchOption, None, OnOk, false, map, string_bytes, true};
 ghost use Rattle.std.specs.Option.{IfSome, IsSomeAnd, option_or, option_to_list};
-ghost use Rattle.std.specs.Str.{str_to_ascii_lowercase};
+ghost use Rattle.std.specs.Str.{is_utf8, str_to_ascii_lowercase};
 ghost use Rattle.texting_robots.specs.Internal.Entries.{AreEntries, rules_in};
 ghost use Rattle.texting_robots.specs.Error.{IsMemoryErrorOr};
 ghost use Rattle.texting_robots.specs.Pattern.{IsOverlong};
@@ -66,9 +66,19 @@ pub(crate) struct RobotBuilder {
     pub(crate) rules: Unsorted,
 }
 
+/// The value as a string, if it is UTF-8.
+pub(crate) fn as_text<'a>(value: &'a [u8]) -> Option<&'a str>
+    ensures { MatchOption result (is_utf8 value.now ≡ false)
+        (λ text. (is_utf8 value.now ≡ true) × (text.now ≡ value.now)) }
+{
+    match std::str::from_utf8(value) {
+        Ok(text) => Some(text),
+        Err(_) => None,
+    }
+}
+
 /// Adds the rule with this value, if the value is UTF-8.
-#[tactic(auto, using(crate::proofs::RulesLemmas::no_text))]
-pub(crate) fn push_rule(
+fn push_rule(
     rules: &mut Unsorted,
     value: &[u8],
     is_allow: bool,
@@ -83,14 +93,13 @@ pub(crate) fn push_rule(
         (IsSomeAnd (rule_with value.now is_allow) (λ rule. IsOverlong rule.0))) }
     ensures without_memory { rule_with value.now is_allow ≡ None → IsOk result }
 {
-    match std::str::from_utf8(value) {
-        Ok(text) => rules.push(text, is_allow, line),
-        Err(_) => Ok(()),
+    match as_text(value) {
+        Some(text) => rules.push(text, is_allow, line),
+        None => Ok(()),
     }
 }
 
 /// Adds a value, if it is UTF-8.
-#[tactic(auto, using(crate::proofs::RulesLemmas::no_text))]
 pub(crate) fn push_text(
     alloc: Global,
     texts: &mut Vec<String>,
@@ -100,7 +109,7 @@ pub(crate) fn push_text(
         ++ option_to_list (text_from value.now)) }
     ensures without_memory { text_from value.now ≡ None → IsOk result }
 {
-    let Ok(text) = std::str::from_utf8(value) else {
+    let Some(text) = as_text(value) else {
         return Ok(());
     };
     texts.push(String::from_str(alloc, text)?)?;

@@ -1,12 +1,12 @@
 //! A robots.txt file that is read once for many crawlers.
 ghost use Rattle.std.specs.Prelude.{◌≡◌, ◌++◌, [], All, Any, IfErr, IfOk, IsOk, None, OnOk, map, slice_get, string_bytes, take};
-ghost use Rattle.std.specs.List.{filter_map};
+ghost use Rattle.std.specs.List.{filter_map, list_any};
 ghost use Rattle.std.specs.Option.{option_to_list};
 ghost use Rattle.std.specs.Str.{str_to_ascii_lowercase};
 ghost use Rattle.texting_robots.specs.Agents.{agents_in};
 ghost use Rattle.texting_robots.specs.Executable.{captured_delays, file_lines, placed_rules, sitemap_in, sitemaps_in};
 ghost use Rattle.texting_robots.specs.Error.{IsMemoryErrorOr};
-ghost use Rattle.texting_robots.specs.Group.{group_name};
+ghost use Rattle.texting_robots.specs.Group.{group_name, is_agent};
 ghost use Rattle.texting_robots.specs.Line.{HasLines, by_value};
 ghost use Rattle.texting_robots.specs.Labels.{is_named};
 ghost use Rattle.texting_robots.specs.Pattern.{IsOverlong};
@@ -19,17 +19,18 @@ ghost use Rattle.texting_robots.specs.Internal.Site.{delay_of, rule_of};
 mod lines;
 mod names;
 mod own;
+mod rules;
 
 use crate::error::Error;
 use crate::parser::Line;
-use crate::reading::push_text;
+use crate::reading::{as_text, push_text};
 use crate::robot::{FILE_LIMIT, Robot};
-use crate::rules::Rules;
+use crate::rules::{Rules, Unsorted};
 pub use lines::GroupLine;
 use lines::{KeptLine, SiteLines, Span};
 use names::Names;
 pub use own::OwnLines;
-use own::OwnRules;
+pub use rules::{SiteRule, SiteRules};
 use std::alloc::{AllocError, Global};
 use std::marker::Model;
 
@@ -59,12 +60,11 @@ impl Model for Site {
 }
 
 /// Adds a name, if it is UTF-8.
-#[tactic(auto, using(crate::proofs::RulesLemmas::no_text))]
 fn push_name<'a>(names: &mut Vec<&'a str>, name: &'a [u8]) -> Result<(), AllocError>
     ensures { OnOk result (map (λ name. name.now) names.new.items
         ≡ map (λ name. name.now) names.old.items ++ option_to_list (text_from name.now)) }
 {
-    let Ok(text) = std::str::from_utf8(name) else {
+    let Some(text) = as_text(name) else {
         return Ok(());
     };
     names.push(text)?;
@@ -123,6 +123,13 @@ impl Site {
         &self.text
     }
 
+    /// Whether the file has a user-agent line. If it has none, all rules and delays apply to every crawler.
+    pub fn has_agents(&self) -> bool
+        ensures { result ≡ list_any is_agent (file_lines self.now) }
+    {
+        !self.names.lines().is_empty()
+    }
+
     /// Whether a user-agent line names the crawler, ASCII letters in any case.
     pub fn is_named(&self, agent: &str) -> bool
         ensures { result ≡ is_named agent.now (file_lines self.now) }
@@ -169,19 +176,27 @@ impl Site {
         OwnLines::new(&self.text, &self.lines, &self.names, self.group_name(agent))
     }
 
-    /// The rules and the first delay that apply to the crawler.
-    fn own_rules(&self, alloc: Global, agent: &str) -> Result<OwnRules, Error>
-        ensures known { IfOk result (λ own. AreEntries own.rules) }
-        ensures rules { IfOk result (λ own. rules_in own.rules ≡ placed_rules agent.now (file_lines self.now)) }
-        ensures delay { IfOk result (λ own. own.delay ≡ slice_get (captured_delays agent.now (file_lines self.now)) 0) }
-        ensures accepted { IfOk result (λ own. All (λ placed. ¬ IsOverlong placed.rule.0) (rules_in own.rules)) }
+    /// The rules that apply to the crawler, in file order. It allocates nothing.
+    pub fn rules<'s, 'n>(&'s self, agent: &'n str) -> SiteRules<'s, 'n>
+        ensures { result ≡ placed_rules agent.now (file_lines self.now) }
+    {
+        SiteRules {
+            lines: self.own_lines(agent),
+        }
+    }
+
+    /// The rules that apply to the crawler, prepared for matching.
+    fn own_rules(&self, alloc: Global, agent: &str) -> Result<Unsorted, Error>
+        ensures known { IfOk result AreEntries }
+        ensures rules { IfOk result (λ own. rules_in own ≡ placed_rules agent.now (file_lines self.now)) }
+        ensures accepted { IfOk result (λ own. All (λ placed. ¬ IsOverlong placed.rule.0) (rules_in own)) }
         ensures rejected { IfErr result (IsMemoryErrorOr (Any (λ placed. IsOverlong placed.rule.0)
             (placed_rules agent.now (file_lines self.now)))) }
         ensures without_memory { placed_rules agent.now (file_lines self.now) ≡ [] → IsOk result }
     {
-        let mut own = OwnRules::new(alloc);
-        for line in self.own_lines(agent) {
-            if let Err(error) = own.add(&line) {
+        let mut own = Unsorted::new(alloc);
+        for rule in self.rules(agent) {
+            if let Err(error) = own.push(rule.value, rule.is_allow, rule.line) {
                 return Err(error);
             }
         }
@@ -199,8 +214,8 @@ impl Site {
         ensures rejected { IfErr result (IsMemoryErrorOr (IsFileRejected agent.now self.now)) }
         ensures without_memory { HasLines self.now (HasNoRulesOrSitemaps agent.now) → IsOk result }
     {
-        let own = match self.own_rules(alloc, agent) {
-            Ok(own) => own,
+        let rules = match self.own_rules(alloc, agent) {
+            Ok(rules) => rules,
             Err(error) => return Err(error),
         };
         let sitemaps = match self.all_sitemaps(alloc) {
@@ -208,9 +223,9 @@ impl Site {
             Err(AllocError) => return Err(Error::Memory),
         };
         Ok(Robot {
-            delay: own.delay.or(self.early),
+            delay: self.delay(agent),
             sitemaps,
-            rules: Rules::sorted(own.rules),
+            rules: Rules::sorted(rules),
         })
     }
 

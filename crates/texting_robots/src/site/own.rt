@@ -1,21 +1,12 @@
 //! The lines kept by a site that apply to one crawler.
-ghost use Rattle.std.specs.Prelude.{◌≡◌, ◌+◌, ◌<◌, ◌≤◌, ◌++◌, ◌∷◌, [], IfErr, IsOk, MatchOption, None, OnOk, drop, length, map};
+ghost use Rattle.std.specs.Prelude.{◌≡◌, ◌+◌, ◌<◌, ◌≤◌, ◌∷◌, [], MatchOption, drop, length, map};
 ghost use Rattle.std.specs.Iterator.{YieldsFirstBy, item_count};
-ghost use Rattle.std.specs.Option.{IfSome, IsSomeAnd, option_or, option_to_list};
 ghost use Rattle.std.specs.Str.{str_to_ascii_lowercase};
-ghost use Rattle.texting_robots.specs.Error.{IsMemoryErrorOr};
-ghost use Rattle.texting_robots.specs.Pattern.{IsOverlong};
-ghost use Rattle.texting_robots.specs.Internal.Entries.{AreEntries, rules_in};
 ghost use Rattle.texting_robots.specs.Internal.Own.{AreOfFile, IsWalk, IsWholeWalk, own_at};
-ghost use Rattle.texting_robots.specs.Internal.Site.{delay_of, in_front, rule_of, tag_at, tag_of};
+ghost use Rattle.texting_robots.specs.Internal.Site.{in_front, tag_at, tag_of};
 
-use crate::error::Error;
-use crate::parser::Line;
-use crate::reading::push_rule;
-use crate::rules::Unsorted;
 use crate::site::lines::{GroupLine, KeptLine};
 use crate::site::names::Names;
-use std::alloc::Global;
 use std::marker::Model;
 
 /// The state of an iteration over a crawler's lines.
@@ -168,50 +159,5 @@ impl<'s, 'n> Iterator for OwnLines<'s, 'n> {
         )?;
         self.position = position;
         Some(line)
-    }
-}
-
-/// The rules and the delay of a crawler.
-#[derive(Drop)]
-pub(crate) struct OwnRules {
-    /// The first delay.
-    pub(super) delay: Option<u64>,
-    pub(super) rules: Unsorted,
-}
-
-impl OwnRules {
-    pub(super) fn new(alloc: Global) -> Self
-        ensures known { AreEntries result.rules }
-        ensures rules { rules_in result.rules ≡ [] }
-        ensures delay { result.delay ≡ None }
-    {
-        OwnRules {
-            delay: None,
-            rules: Unsorted::new(alloc),
-        }
-    }
-
-    /// Adds the rule or delay of a group line.
-    pub(super) fn add(&mut self, line: &GroupLine<'_>) -> Result<(), Error>
-        requires { AreEntries self.old.rules }
-        ensures known { OnOk result (AreEntries self.new.rules) }
-        ensures rules { OnOk result (rules_in self.new.rules ≡ rules_in self.old.rules
-            ++ option_to_list (rule_of (tag_of line.now))) }
-        ensures delay { OnOk result (self.new.delay ≡ option_or self.old.delay (delay_of (tag_of line.now))) }
-        ensures accepted { OnOk result (IfSome (rule_of (tag_of line.now)) (λ placed. ¬ IsOverlong placed.rule.0)) }
-        ensures rejected { IfErr result (IsMemoryErrorOr
-            (IsSomeAnd (rule_of (tag_of line.now)) (λ placed. IsOverlong placed.rule.0))) }
-        ensures without_memory { rule_of (tag_of line.now) ≡ None → IsOk result }
-    {
-        let number = line.number;
-        match line.line {
-            Line::Allow(value) => push_rule(&mut self.rules, value, true, number),
-            Line::Disallow(value) => push_rule(&mut self.rules, value, false, number),
-            Line::CrawlDelay(delay) => {
-                self.delay = self.delay.or(delay);
-                Ok(())
-            }
-            Line::UserAgent(_) | Line::Sitemap(_) | Line::Raw(_) => Ok(()),
-        }
     }
 }

@@ -1,8 +1,6 @@
-use Rattle.std.proofs.Common.{List, IsPermutation, ap, subst, ◌∙◌}
-use Rattle.std.specs.Option.{option_or}
-use Rattle.texting_robots.specs.Executable.{delay_before_agents, file_lines}
+use Rattle.std.proofs.Common.{List, IsPermutation, subst}
 use Rattle.texting_robots.specs.{Pattern.IsOverlong, Rules.PlacedRule, Rules.Rule}
-use Rattle.texting_robots.proofs.{MainTheoremLemmas.nothing_of, MainTheoremLemmas.robot_of}
+use Rattle.texting_robots.proofs.MainTheoremLemmas.{nothing_of, read_delay, robot_of}
 use Rattle.texting_robots.proofs.{RulesLemmas.none_unplaced, RulesLemmas.rejected_wider}
 use Rattle.texting_robots.proofs.SiteOwnLemmas.{file_rejected}
 use Rattle.texting_robots.proofs.site.Site.robot.Goals as goal
@@ -14,12 +12,9 @@ returns-in-Err-clause-rejected c =
 
 pub returns-clause-robot : goal.returns-clause-robot
 returns-clause-robot c =
-    let lines = file_lines c.args.self.now in
-    let early = rw c.self.view_is at c.self.invariant.early_is in
     let none = none_unplaced (λ (rule : Rule). IsOverlong rule.0) _ c.in-Ok.ensures.accepted in
     robot_of c.args.agent.now c.args.self.now _ (record {
-      delay = c.or.ensures ∙ ap (λ last. option_or c.in-Ok.own.delay last) early
-          ∙ ap (λ first. option_or first (delay_before_agents lines)) c.in-Ok.ensures.delay;
+      delay = read_delay _ _ _ c.delay.ensures;
       sitemaps = c.in-Ok-all_sitemaps.ensures.sitemaps;
       rules = subst (λ (all : List PlacedRule). IsPermutation all c.sorted.result) c.in-Ok.ensures.rules
           c.sorted.ensures;

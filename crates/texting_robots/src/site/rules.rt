@@ -1,0 +1,107 @@
+//! The rules that apply to one crawler.
+ghost use Rattle.std.specs.Prelude.{◌≡◌, IfOk, string_bytes};
+ghost use Rattle.std.specs.Iterator.{YieldsFirst, item_count};
+ghost use Rattle.texting_robots.specs.Executable.{rule_with};
+ghost use Rattle.texting_robots.specs.Internal.Group.{placed};
+ghost use Rattle.texting_robots.specs.Internal.Site.{rule_of, tag_of};
+
+use crate::escape::push_escaped;
+use crate::parser::Line;
+use crate::reading::as_text;
+use crate::site::lines::GroupLine;
+use crate::site::own::OwnLines;
+use std::alloc::{AllocError, Global};
+use std::marker::Model;
+
+/// A rule of a crawler: an Allow or a Disallow whose value is UTF-8.
+#[derive(Drop)]
+pub struct SiteRule<'s> {
+    /// The value, as it is in the file. That of an empty Disallow, which is an Allow, is `/`.
+    pub value: &'s str,
+    /// Whether it is an Allow.
+    pub is_allow: bool,
+    /// The number of its line, counted from 1 among all lines of the file.
+    pub line: usize,
+}
+
+impl<'s> Model for SiteRule<'s> {
+    ghost use Rattle.texting_robots.specs.Escape.{escaped};
+    ghost use Rattle.texting_robots.specs.Rules.{PlacedRule};
+
+    ghost Value = { PlacedRule };
+
+    ghost view = { λ r. record { rule = (escaped r.value.now, r.is_allow); line = r.line } };
+}
+
+impl<'s> SiteRule<'s> {
+    /// The pattern, which is the escaped value.
+    ///
+    /// # Errors
+    ///
+    /// `AllocError` if an allocation fails.
+    pub fn pattern(&self, alloc: Global) -> Result<String, AllocError>
+        ensures { IfOk result (λ pattern. string_bytes pattern ≡ self.now.rule.0) }
+    {
+        let mut pattern = String::new(alloc);
+        push_escaped(&mut pattern, self.value)?;
+        Ok(pattern)
+    }
+}
+
+/// An iterator over the rules that apply to a crawler, in file order. It doesn't allocate.
+#[derive(Drop)]
+pub struct SiteRules<'s, 'n> {
+    /// The group lines that apply to the crawler.
+    pub(super) lines: OwnLines<'s, 'n>,
+}
+
+impl<'s, 'n> Model for SiteRules<'s, 'n> {
+    ghost use Rattle.std.specs.Prelude.{List};
+    ghost use Rattle.std.specs.List.{filter_map};
+    ghost use Rattle.texting_robots.specs.Rules.{PlacedRule};
+    ghost use Rattle.texting_robots.specs.Internal.Site.{rule_of};
+
+    ghost Value = { List PlacedRule };
+
+    ghost view = { λ s. filter_map rule_of s.lines };
+}
+
+/// The rule with this value, if it is UTF-8.
+fn rule_with<'s>(value: &'s [u8], is_allow: bool, line: usize) -> Option<SiteRule<'s>>
+    ensures { result ≡ placed line (rule_with value.now is_allow) }
+{
+    let value = as_text(value)?;
+    Some(SiteRule {
+        value,
+        is_allow,
+        line,
+    })
+}
+
+/// The rule in a group line, if it has one.
+fn rule_in<'s>(line: &GroupLine<'s>) -> Option<SiteRule<'s>>
+    ensures { result ≡ rule_of (tag_of line.now) }
+{
+    match line.line {
+        Line::Allow(value) => rule_with(value, true, line.number),
+        Line::Disallow(value) => rule_with(value, false, line.number),
+        Line::UserAgent(_) | Line::Sitemap(_) | Line::CrawlDelay(_) | Line::Raw(_) => None,
+    }
+}
+
+impl<'s, 'n> Iterator for SiteRules<'s, 'n> {
+    type Item = SiteRule<'s>;
+
+    ghost next_gives = { YieldsFirst (λ s. s) };
+
+    ghost remaining = { item_count (λ s. s) };
+
+    fn next(&mut self) -> Option<SiteRule<'s>> {
+        loop {
+            let line = self.lines.next()?;
+            if let Some(rule) = rule_in(&line) {
+                return Some(rule);
+            }
+        }
+    }
+}
