@@ -2,8 +2,7 @@
 use Rattle.std.proofs.Common.{◌≡◌, ℕ, zero, suc, true, List, [], ◌∷◌, Bool, map, refl}
 use Rattle.std.{specs.List.list_all, specs.Prelude.slice_index_or, proofs.lemmas.Bool.and_parts}
 use Rattle.robots_warnings.specs.declared.table.Cause.{Cause}
-use Rattle.robots_warnings.specs.declared.examples.TheConstants.{EXAMPLES}
-use Rattle.robots_warnings.specs.Table.{example_of, number_of}
+use Rattle.robots_warnings.specs.Table.{all_examples, example_of, number_of}
 use Rattle.robots_io.specs.Sanitize.{IsPrintable, is_printable_byte}
 use Rattle.robots_io.proofs.SanitizeLemmas.{ascii_printable}
 
@@ -23,4 +22,4 @@ pub example_printable : (cause : Cause) → IsPrintable (example_of cause)
 unfolding example_of
 example_printable cause =
     ascii_printable true (example_of cause)
-    (each_ascii (map (λ row. row.1.now) EXAMPLES) (number_of cause) refl)
+    (each_ascii all_examples (number_of cause) refl)

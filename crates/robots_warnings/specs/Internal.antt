@@ -15,6 +15,7 @@ use Rattle.texting_robots.specs.Group.{is_agent}
 use Rattle.robots_warnings.specs.declared.facts.LineKinds.{LineKinds}
 use Rattle.robots_text.specs.declared.level.Level.{Level}
 use Rattle.robots_warnings.specs.declared.table.Cause.{Cause}
+use Rattle.robots_warnings.specs.declared.table.Topic.{Topic}
 use Rattle.robots_warnings.specs.Facts.{has_text, is_extra, is_rule}
 use Rattle.robots_warnings.specs.WarningValue.{WarningValue}
 
@@ -37,11 +38,7 @@ name_value row = (row.0.now, row.1)
 
 -- a row of the table of warnings
 abbrev pub Row : Type 0
-Row = Cause × Level × Bor (List ℕ) × Bor (List ℕ)
-
--- a row of the table of examples
-abbrev pub Example : Type 0
-Example = Cause × Bor (List ℕ)
+Row = Cause × Level × Topic × Bor (List ℕ) × Bor (List ℕ) × Bor (List ℕ)
 
 -- the item is at this index
 pub record IsAt {X : Type 0} (items : List X) (number : ℕ) (item : X) : Type 0 where

@@ -1,13 +1,14 @@
--- Every warning, with its level, its name and its message, as in the table of src/table.rt, and its example.
-use Rattle.std.specs.Prelude.{ℕ, ◌==◌, Bool, List, [], bytes_eq, map, slice_index_or}
+-- Every warning, as in the table of src/table.rt.
+use Rattle.std.specs.Prelude.{ℕ, Bool, true, false, List, [], bytes_eq, map, slice_index_or}
 use Rattle.std.specs.List.{list_any}
 use denote.Enum.Declared.{tag_of}
 use Rattle.robots_warnings.specs.contracts.table.Cause.{the_type}
 use Rattle.robots_text.specs.declared.level.Level.{Level}
 use Rattle.robots_text.specs.declared.level.Level.TheVariants as level
 use Rattle.robots_warnings.specs.declared.table.Cause.{Cause}
-use Rattle.robots_warnings.specs.declared.examples.TheConstants.{EXAMPLES}
-use Rattle.robots_warnings.specs.declared.table.TheConstants.{NOT_ABOUT_SYNTAX, WARNINGS}
+use Rattle.robots_warnings.specs.declared.table.TheConstants.{WARNINGS}
+use Rattle.robots_warnings.specs.declared.table.Topic.{Topic}
+use Rattle.robots_warnings.specs.declared.table.Topic.TheVariants.{Meaning, Syntax}
 
 -- the index of a warning in the table
 abbrev pub number_of : Cause → ℕ
@@ -17,15 +18,21 @@ number_of cause = tag_of the_type cause
 unfoldable pub all_causes : List Cause
 all_causes = map (λ row. row.0) WARNINGS
 
--- their levels, their names, as in `[..]`, and their messages
+-- their levels, topics, names, as in `[..]`, messages and examples
 abbrev pub all_levels : List Level
 all_levels = map (λ row. row.1) WARNINGS
 
+abbrev pub all_topics : List Topic
+all_topics = map (λ row. row.2) WARNINGS
+
 abbrev pub all_names : List (List ℕ)
-all_names = map (λ row. row.2.now) WARNINGS
+all_names = map (λ row. row.3.now) WARNINGS
 
 abbrev pub all_texts : List (List ℕ)
-all_texts = map (λ row. row.3.now) WARNINGS
+all_texts = map (λ row. row.4.now) WARNINGS
+
+abbrev pub all_examples : List (List ℕ)
+all_examples = map (λ row. row.5.now) WARNINGS
 
 -- the level of a warning
 unfoldable pub level_of : Cause → Level
@@ -41,12 +48,20 @@ text_of cause = slice_index_or all_texts (number_of cause) []
 
 -- an example of a warning
 unfoldable pub example_of : Cause → List ℕ
-example_of cause = slice_index_or (map (λ row. row.1.now) EXAMPLES) (number_of cause) []
+example_of cause = slice_index_or all_examples (number_of cause) []
+
+-- the topic of a warning
+unfoldable pub topic_of : Cause → Topic
+topic_of cause = slice_index_or all_topics (number_of cause) Syntax
+
+abbrev pub is_meaning : Topic → Bool
+is_meaning Syntax = false
+is_meaning Meaning = true
 
 -- the warning isn't about the syntax of a file, but about the request, the size of the file, or what a file
 -- of the standard's grammar means
 abbrev pub is_not_about_syntax : Cause → Bool
-is_not_about_syntax cause = list_any (λ other. number_of other == number_of cause) NOT_ABOUT_SYNTAX
+is_not_about_syntax cause = is_meaning (topic_of cause)
 
 -- some warning has this name
 unfoldable pub is_name : List ℕ → Bool

@@ -7,7 +7,6 @@ mod closed;
 mod conflicts;
 pub mod contents;
 pub mod empty_disallows;
-pub mod examples;
 pub mod facts;
 pub mod field_names;
 pub mod file;

@@ -2,7 +2,9 @@ use Rattle.std.proofs.Common.{[], sym, ap, ◌∙◌}
 use Rattle.std.specs.Prelude.{slice_index_or}
 use Rattle.robots_warnings.specs.Internal.{Row}
 use Rattle.robots_text.specs.declared.level.Level.TheVariants as level
-use Rattle.robots_warnings.specs.Table.{level_of, name_of, number_of, text_of}
+use Rattle.robots_warnings.specs.Table.{example_of, level_of, name_of, number_of, text_of}
+use Rattle.robots_warnings.specs.Table.{topic_of}
+use Rattle.robots_warnings.specs.declared.table.Topic.TheVariants.{Syntax}
 use Rattle.robots_warnings.proofs.TableLemmas.{own_row, part_at}
 use Rattle.robots_warnings.proofs.table.Cause.row.Goals as goal
 
@@ -14,12 +16,22 @@ unfolding level_of
 returns-clause-level c = sym (part_at (λ (row : Row). row.1) level.Warning c.row_at.ensures)
     ∙ ap (λ levels. slice_index_or levels (number_of c.args.self) level.Warning) c.rows.ensures.levels
 
+pub returns-clause-topic : goal.returns-clause-topic
+unfolding topic_of
+returns-clause-topic c = sym (part_at (λ (row : Row). row.2) Syntax c.row_at.ensures)
+    ∙ ap (λ topics. slice_index_or topics (number_of c.args.self) Syntax) c.rows.ensures.topics
+
 pub returns-clause-name : goal.returns-clause-name
 unfolding name_of
-returns-clause-name c = sym (part_at (λ (row : Row). row.2.now) [] c.row_at.ensures)
+returns-clause-name c = sym (part_at (λ (row : Row). row.3.now) [] c.row_at.ensures)
     ∙ ap (λ names. slice_index_or names (number_of c.args.self) []) c.rows.ensures.names
 
 pub returns-clause-text : goal.returns-clause-text
 unfolding text_of
-returns-clause-text c = sym (part_at (λ (row : Row). row.3.now) [] c.row_at.ensures)
+returns-clause-text c = sym (part_at (λ (row : Row). row.4.now) [] c.row_at.ensures)
     ∙ ap (λ texts. slice_index_or texts (number_of c.args.self) []) c.rows.ensures.texts
+
+pub returns-clause-example : goal.returns-clause-example
+unfolding example_of
+returns-clause-example c = sym (part_at (λ (row : Row). row.5.now) [] c.row_at.ensures)
+    ∙ ap (λ examples. slice_index_or examples (number_of c.args.self) []) c.rows.ensures.examples
