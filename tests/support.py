@@ -79,16 +79,18 @@ def shown(document):
 
 
 def documented_warnings():
-    """The levels and messages of each warning by its name, in the order of docs/PROGRAMS.md. One of the messages has KEY in place of a
-    field name."""
-    warnings = {}
+    """Each warning's name, level, topic and message, in the order of docs/PROGRAMS.md. One of the messages has KEY in place of a field
+    name."""
     for row in tables(DOCUMENTS["docs/PROGRAMS.md"]):
-        if len(row) == 4 and row[1] in ("error", "warning", "note"):
-            warnings.setdefault(row[0].strip("`"), []).append((row[1], row[3]))
-    return warnings
+        level = row[1].removesuffix(" †")
+        if len(row) == 4 and level in ("error", "warning", "note"):
+            yield row[0].strip("`"), level, "Syntax" if level == row[1] else "Meaning", row[3]
 
 
-WARNINGS = documented_warnings()
+# the levels and messages of each warning by its name
+WARNINGS = {}
+for name, level, _, text in documented_warnings():
+    WARNINGS.setdefault(name, []).append((level, text))
 
 
 OF_A_URL = {"not-a-url-or-path", "invalid-url"}

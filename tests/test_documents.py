@@ -9,7 +9,7 @@ import shlex
 import subprocess
 
 import pytest
-from support import CRATES, DOCUMENTS, ROOT, WARNINGS, run, shown, spelled, tables
+from support import CRATES, DOCUMENTS, ROOT, WARNINGS, documented_warnings, run, shown, spelled, tables
 
 LIBRARY = CRATES / "texting_robots"
 README, GUIDE, PROGRAMS, PROOFS, CONTRACTS = map(DOCUMENTS.get, ["README.md", *(f"docs/{name}.md" for name in ("GUIDE", "PROGRAMS", "PROOFS", "CONTRACTS"))])
@@ -262,21 +262,13 @@ def test_each_warning_has_an_example():
     assert {it.values[0] for it in examples_of_warnings()} == set(WARNINGS)
 
 
-def test_warnings_have_the_order_and_messages_of_the_table():
+def test_warnings_are_those_of_the_table():
     table = (CRATES / "robots_warnings/src/table.rt").read_text()
-    rows = re.findall(r'\(Cause::\w+, Level::(\w+), "([a-z0-9-]+)",\s+"((?:[^"\\]|\\.)*)"\)', table)
-    messages = [(name, level.lower(), text.replace('\\"', '"').replace("\\\\", "\\")) for level, name, text in rows]
-    documented = [(name, *row) for name, its in WARNINGS.items() for row in its]
+    rows = re.findall(r'\(Cause::\w+, Level::(\w+), Topic::(\w+), "([a-z0-9-]+)",\s+"((?:[^"\\]|\\.)*)",', table)
+    stated = [(name, level.lower(), topic, text.replace('\\"', '"').replace("\\\\", "\\")) for level, topic, name, text in rows]
     names = ["User-agent", "Allow", "Disallow", "Sitemap", "Crawl-delay"]
-    assert messages == [(name, level, text.replace("KEY", key)) for name, level, text in documented for key in (names if "KEY" in text else [""])]
-
-
-def test_warnings_that_are_not_about_syntax_are_listed():
-    table = (CRATES / "robots_warnings/src/table.rt").read_text()
-    names = dict(re.findall(r'\(Cause::(\w+), Level::\w+, "([a-z0-9-]+)"', table))
-    listed = re.findall(r"Cause::(\w+)", table.split("static NOT_ABOUT_SYNTAX")[1].split("];")[0].split("= [")[1])
-    documented = PROGRAMS.split("\n### RFC 9309 syntax\n")[1].split("\n## ")[0].split("all others are about syntax:")[1]
-    assert list(dict.fromkeys(names[cause] for cause in listed)) == re.findall(r"`([a-z-]+)`", documented)
+    documented = [(*row, text.replace("KEY", key)) for *row, text in documented_warnings() for key in (names if "KEY" in text else [""])]
+    assert stated == documented
 
 
 LONG_RULE = b"Disallow: /b\nAllow: $" + b"a" * 4096
