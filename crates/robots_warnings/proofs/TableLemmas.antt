@@ -1,4 +1,4 @@
--- The rows of the table of warnings.
+-- The rows of the tables of warnings and of their examples.
 use Rattle.std.proofs.Common.{◌≡◌, ℕ, zero, suc, Bool, List, [], ◌∷◌, Some, ap, get_or, length, map}
 use Rattle.std.proofs.Common.{refl, sym, ◌∙◌}
 use Rattle.std.specs.Prelude.{slice_get, slice_index_or}

@@ -6,7 +6,7 @@ use Rattle.robots_warnings.specs.contracts.table.Cause.{the_type}
 use Rattle.robots_text.specs.declared.level.Level.{Level}
 use Rattle.robots_text.specs.declared.level.Level.TheVariants as level
 use Rattle.robots_warnings.specs.declared.table.Cause.{Cause}
-use Rattle.robots_warnings.specs.declared.table.TheConstants.{WARNINGS}
+use Rattle.robots_warnings.specs.declared.table.TheConstants.{EXAMPLES, WARNINGS}
 use Rattle.robots_warnings.specs.declared.table.Topic.{Topic}
 use Rattle.robots_warnings.specs.declared.table.Topic.TheVariants.{Meaning, Syntax}
 
@@ -18,7 +18,7 @@ number_of cause = tag_of the_type cause
 unfoldable pub all_causes : List Cause
 all_causes = map (λ row. row.0) WARNINGS
 
--- their levels, topics, names, as in `[..]`, messages and examples
+-- their levels, topics, names, as in `[..]`, messages, and examples
 abbrev pub all_levels : List Level
 all_levels = map (λ row. row.1) WARNINGS
 
@@ -32,7 +32,7 @@ abbrev pub all_texts : List (List ℕ)
 all_texts = map (λ row. row.4.now) WARNINGS
 
 abbrev pub all_examples : List (List ℕ)
-all_examples = map (λ row. row.5.now) WARNINGS
+all_examples = map (λ row. row.1.now) EXAMPLES
 
 -- the level of a warning
 unfoldable pub level_of : Cause → Level

@@ -4,8 +4,8 @@
 //! those about rules that can be deleted, which `robots_needless` finds.
 ghost use Rattle.std.specs.Prelude.{◌≡◌, ◌<◌, IfOk, bytes_eq, length, map};
 ghost use Rattle.std.specs.List.{list_any};
-ghost use Rattle.robots_warnings.specs.Internal.{IsRowAt};
-ghost use Rattle.robots_warnings.specs.Table.{all_causes, all_examples, all_levels, all_names, all_texts, all_topics};
+ghost use Rattle.robots_warnings.specs.Internal.{IsAt, IsRowAt};
+ghost use Rattle.robots_warnings.specs.Table.{all_causes, all_levels, all_names, all_texts, all_topics};
 ghost use Rattle.robots_warnings.specs.Table.{example_of, is_not_about_syntax, is_name, level_of, name_of, text_of, topic_of};
 ghost use Rattle.robots_warnings.specs.declared.table.TheConstants.{WARNINGS};
 
@@ -110,243 +110,254 @@ pub enum Topic {
     Meaning,
 }
 
-/// The warnings with their levels, topics, names, messages and examples. An example is a file that triggers the warning
-/// for FerrisBot, or with the arguments in its first line, or a command. In a file, `\xFF` is a byte, and `\{512000 a}` is
-/// 512,000 times an `a`.
+/// The warnings with their levels, topics, names and messages.
 #[rattlefmt::skip]
-pub static WARNINGS: [(Cause, Level, Topic, &str, &str, &str); 69] = [
+pub static WARNINGS: [(Cause, Level, Topic, &str, &str); 69] = [
     // the file
     (Cause::LooksLikeHtml, Level::Error, Topic::Syntax, "looks-like-html",
-        "no usable line found; the text starts with <, so it may be an HTML page; serve a plain-text robots.txt instead",
-        "<html>\n</html>"),
+        "no usable line found; the text starts with <, so it may be an HTML page; serve a plain-text robots.txt instead"),
     (Cause::LooksLikeUtf16, Level::Error, Topic::Syntax, "looks-like-utf-16",
-        "no usable line found; the file looks like UTF-16; save it as UTF-8",
-        "\\xFF\\xFED\\x00"),
+        "no usable line found; the file looks like UTF-16; save it as UTF-8"),
     (Cause::NoDirectives, Level::Error, Topic::Syntax, "no-directives",
-        "no usable User-agent, Allow, Disallow, Crawl-delay or Sitemap line found, so everything is allowed; write one directive per line, for example: Disallow: /search",
-        "hello\nworld"),
+        "no usable User-agent, Allow, Disallow, Crawl-delay or Sitemap line found, so everything is allowed; write one directive per line, for example: Disallow: /search"),
     (Cause::EmptyFile, Level::Warning, Topic::Meaning, "empty-file",
-        "the file is empty, so every URL may be fetched; name the right file with --file, or, if that is meant, write User-agent: * and an empty Disallow",
-        "robots_audit FerrisBot < /dev/null"),
+        "the file is empty, so every URL may be fetched; name the right file with --file, or, if that is meant, write User-agent: * and an empty Disallow"),
     (Cause::FileTooLarge, Level::Warning, Topic::Meaning, "file-too-large",
-        "the file is larger than 512,000 bytes (500 KiB); the rest is ignored; shorten it or move important groups to the top",
-        "Disallow: /\\{512000 a}"),
+        "the file is larger than 512,000 bytes (500 KiB); the rest is ignored; shorten it or move important groups to the top"),
     (Cause::NoUserAgent, Level::Warning, Topic::Syntax, "no-user-agent",
-        "there are rules but no User-agent line; valid rules are applied here, but Google ignores them; add User-agent: * above them",
-        "Disallow: /a\nDisallow: /b"),
+        "there are rules but no User-agent line; valid rules are applied here, but Google ignores them; add User-agent: * above them"),
     (Cause::DamagedByteOrderMark, Level::Warning, Topic::Syntax, "damaged-byte-order-mark",
-        "the file starts with the byte EF, BB or BF, as a damaged byte order mark does; it is skipped here, but other crawlers may not recognize the first line; delete it, and save the file as UTF-8",
-        "\\xEF\\xBBAllow: /"),
+        "the file starts with the byte EF, BB or BF, as a damaged byte order mark does; it is skipped here, but other crawlers may not recognize the first line; delete it, and save the file as UTF-8"),
     (Cause::NulEndsLine, Level::Warning, Topic::Syntax, "nul-ends-line",
-        "the file contains a NUL byte, which ends a line here, but may not in other crawlers; put a line end in its place, or delete it at the end of a line",
-        "Allow: /\\x00"),
+        "the file contains a NUL byte, which ends a line here, but may not in other crawlers; put a line end in its place, or delete it at the end of a line"),
     // the crawler
     (Cause::EmptyAgent, Level::Warning, Topic::Meaning, "empty-agent",
-        "AGENT is empty, as an unset variable is, so the report is about no real crawler; pass a product token, such as FerrisBot",
-        "robots_audit ''"),
+        "AGENT is empty, as an unset variable is, so the report is about no real crawler; pass a product token, such as FerrisBot"),
     (Cause::SpaceAroundAgent, Level::Warning, Topic::Meaning, "space-around-agent",
-        "AGENT has leading or trailing white space, so it matches no User-agent line; remove the spaces",
-        "robots_audit 'FerrisBot '"),
+        "AGENT has leading or trailing white space, so it matches no User-agent line; remove the spaces"),
     (Cause::VersionInAgent, Level::Warning, Topic::Meaning, "version-in-agent",
-        "AGENT contains /; names are compared in full, so pass only the product token: FerrisBot, not FerrisBot/1.0",
-        "robots_audit FerrisBot/1.0"),
+        "AGENT contains /; names are compared in full, so pass only the product token: FerrisBot, not FerrisBot/1.0"),
     // a URL
     (Cause::NotAUrlOrPath, Level::Warning, Topic::Meaning, "not-a-url-or-path",
-        "neither an http(s) URL nor a path, so it may be matched literally, and the verdict may not be the one you want; write https://host/path or /path",
-        "robots_audit FerrisBot example.com/a"),
+        "neither an http(s) URL nor a path, so it may be matched literally, and the verdict may not be the one you want; write https://host/path or /path"),
     (Cause::InvalidUrl, Level::Warning, Topic::Meaning, "invalid-url",
-        "invalid URL; it is matched as a plain string and will usually be reported as allowed; correct the URL",
-        "robots_audit FerrisBot https://a:b/"),
+        "invalid URL; it is matched as a plain string and will usually be reported as allowed; correct the URL"),
     // an ignored line
     (Cause::InvalidDelay, Level::Warning, Topic::Syntax, "invalid-delay",
-        "the delay is ignored: its value is missing, negative or not a number of seconds; write, for example: Crawl-delay: 1.5",
-        "User-agent: *\nCrawl-delay: ten"),
+        "the delay is ignored: its value is missing, negative or not a number of seconds; write, for example: Crawl-delay: 1.5"),
     (Cause::NoindexLine, Level::Warning, Topic::Syntax, "noindex-line",
-        "Noindex isn't supported in robots.txt and is ignored; use a robots meta tag or an X-Robots-Tag header, and keep the page crawlable so that crawlers see it",
-        "User-agent: *\nNoindex: /a"),
+        "Noindex isn't supported in robots.txt and is ignored; use a robots meta tag or an X-Robots-Tag header, and keep the page crawlable so that crawlers see it"),
     (Cause::NofollowLine, Level::Warning, Topic::Syntax, "nofollow-line",
-        "Nofollow isn't supported in robots.txt and is ignored; use a robots meta tag or rel=\"nofollow\" on the links",
-        "User-agent: *\nNofollow: /a"),
+        "Nofollow isn't supported in robots.txt and is ignored; use a robots meta tag or rel=\"nofollow\" on the links"),
     (Cause::HostLine, Level::Warning, Topic::Syntax, "host-line",
-        "Host isn't supported here and is ignored; redirect the other host names to the preferred one",
-        "User-agent: *\nHost: example.com"),
+        "Host isn't supported here and is ignored; redirect the other host names to the preferred one"),
     (Cause::RequestRateLine, Level::Warning, Topic::Syntax, "request-rate-line",
-        "Request-rate isn't supported here and is ignored; use Crawl-delay with the seconds between requests, for example: Crawl-delay: 10",
-        "User-agent: *\nRequest-rate: 1/10"),
+        "Request-rate isn't supported here and is ignored; use Crawl-delay with the seconds between requests, for example: Crawl-delay: 10"),
     (Cause::VisitTimeLine, Level::Warning, Topic::Syntax, "visit-time-line",
-        "Visit-time isn't supported here and is ignored; use Crawl-delay, or return HTTP 429 or 503 when the server is busy",
-        "User-agent: *\nVisit-time: 0100-0500"),
+        "Visit-time isn't supported here and is ignored; use Crawl-delay, or return HTTP 429 or 503 when the server is busy"),
     (Cause::CleanParamLine, Level::Note, Topic::Syntax, "clean-param-line",
-        "Clean-param isn't supported here and is ignored; use rel=\"canonical\", or block the parameter, for example: Disallow: /*?ref=",
-        "User-agent: *\nClean-param: ref /"),
+        "Clean-param isn't supported here and is ignored; use rel=\"canonical\", or block the parameter, for example: Disallow: /*?ref="),
     (Cause::ContentSignalLine, Level::Note, Topic::Syntax, "content-signal-line",
-        "Content-Signal states how content may be used and doesn't affect crawling; to block a crawler, add a Disallow rule to its group",
-        "User-agent: *\nContent-Signal: ai-train=no"),
+        "Content-Signal states how content may be used and doesn't affect crawling; to block a crawler, add a Disallow rule to its group"),
     (Cause::ContentUsageLine, Level::Note, Topic::Syntax, "content-usage-line",
-        "Content-Usage states how content may be used and doesn't affect crawling; to block a crawler, add a Disallow rule to its group",
-        "User-agent: *\nContent-Usage: ai=n"),
+        "Content-Usage states how content may be used and doesn't affect crawling; to block a crawler, add a Disallow rule to its group"),
     (Cause::RobotVersionLine, Level::Warning, Topic::Syntax, "robot-version-line",
-        "Robot-version isn't supported here and is ignored; delete the line",
-        "User-agent: *\nRobot-version: 2.0"),
+        "Robot-version isn't supported here and is ignored; delete the line"),
     (Cause::CommentLine, Level::Warning, Topic::Syntax, "comment-line",
-        "Comment isn't a directive and is ignored; start comments with #",
-        "User-agent: *\nComment: hello"),
+        "Comment isn't a directive and is ignored; start comments with #"),
     (Cause::LikeUserAgent, Level::Warning, Topic::Syntax, "unrecognized-line",
-        "the line is ignored; did you mean \"User-agent:\"?",
-        "User-agent: *\nUser-agnet: a"),
+        "the line is ignored; did you mean \"User-agent:\"?"),
     (Cause::LikeAllow, Level::Warning, Topic::Syntax, "unrecognized-line",
-        "the line is ignored; did you mean \"Allow:\"?",
-        "User-agent: *\nAlow: /a"),
+        "the line is ignored; did you mean \"Allow:\"?"),
     (Cause::LikeDisallow, Level::Warning, Topic::Syntax, "unrecognized-line",
-        "the line is ignored; did you mean \"Disallow:\"?",
-        "User-agent: *\nDisalow; /a"),
+        "the line is ignored; did you mean \"Disallow:\"?"),
     (Cause::LikeSitemap, Level::Warning, Topic::Syntax, "unrecognized-line",
-        "the line is ignored; did you mean \"Sitemap:\"?",
-        "User-agent: *\nSitemaps: https://example.com/s.xml"),
+        "the line is ignored; did you mean \"Sitemap:\"?"),
     (Cause::LikeCrawlDelay, Level::Warning, Topic::Syntax, "unrecognized-line",
-        "the line is ignored; did you mean \"Crawl-delay:\"?",
-        "User-agent: *\nCrawl-dely: 1"),
+        "the line is ignored; did you mean \"Crawl-delay:\"?"),
     (Cause::UnrecognizedLine, Level::Warning, Topic::Syntax, "unrecognized-line",
-        "the line isn't a known directive and is ignored; write, for example, \"Disallow: /path\", or start a comment with #",
-        "User-agent: *\nhello"),
+        "the line isn't a known directive and is ignored; write, for example, \"Disallow: /path\", or start a comment with #"),
     // the field name of a line
     (Cause::NonstandardField, Level::Warning, Topic::Syntax, "nonstandard-field",
-        "nonstandard spelling of the field name; accepted here, but other crawlers may ignore the line; write User-agent, Allow, Disallow, Sitemap or Crawl-delay",
-        "User-agent: *\nUseragent: *\nDisallow: /a"),
+        "nonstandard spelling of the field name; accepted here, but other crawlers may ignore the line; write User-agent, Allow, Disallow, Sitemap or Crawl-delay"),
     (Cause::MissingColon, Level::Warning, Topic::Syntax, "missing-colon",
-        "no colon after the field name; accepted here, but other crawlers may ignore the line; add the colon",
-        "User-agent: *\nDisallow /a"),
+        "no colon after the field name; accepted here, but other crawlers may ignore the line; add the colon"),
     (Cause::SpaceAroundValue, Level::Warning, Topic::Syntax, "space-around-value",
-        "white space other than spaces and tabs, such as a no-break space, is dropped around the value here, but other crawlers may keep it; delete it",
-        "User-agent: *\nDisallow: /a\\xC2\\xA0"),
+        "white space other than spaces and tabs, such as a no-break space, is dropped around the value here, but other crawlers may keep it; delete it"),
     // the value of a user-agent line
     (Cause::InvalidProductToken, Level::Warning, Topic::Syntax, "invalid-product-token",
-        "not a valid product token (ASCII letters, _ and - only, or a single *); crawlers disagree on how to match it; write one name per User-agent line, without version, quotes or *",
-        "User-agent: *\nUser-agent: Bot/1.0\nDisallow: /a"),
+        "not a valid product token (ASCII letters, _ and - only, or a single *); crawlers disagree on how to match it; write one name per User-agent line, without version, quotes or *"),
     (Cause::UnusualProductToken, Level::Note, Topic::Syntax, "unusual-product-token",
-        "not a valid product token (ASCII letters, _ and - only), although some crawlers have such names; here the whole name is compared, but others, such as Google, read only the letters, _ and - at its start; check the crawler's documentation",
-        "User-agent: MJ12bot\nDisallow: /a"),
+        "not a valid product token (ASCII letters, _ and - only), although some crawlers have such names; here the whole name is compared, but others, such as Google, read only the letters, _ and - at its start; check the crawler's documentation"),
     // a rule
     (Cause::HashLeavesRoot, Level::Error, Topic::Meaning, "hash-cuts-rule",
-        "everything from # on is a comment, so what is left of the rule is the whole site, or an empty Disallow, which allows it; rules can't be about the part of a URL after #; write %23 if a path has one, or a space before a comment",
-        "User-agent: *\nDisallow: /#/admin"),
+        "everything from # on is a comment, so what is left of the rule is the whole site, or an empty Disallow, which allows it; rules can't be about the part of a URL after #; write %23 if a path has one, or a space before a comment"),
     (Cause::HashCutsRule, Level::Warning, Topic::Meaning, "hash-cuts-rule",
-        "everything from # on is a comment, so the rule is shorter and matches more paths; write %23 for a # in a path, or a space before a comment",
-        "User-agent: *\nDisallow: /a#b"),
+        "everything from # on is a comment, so the rule is shorter and matches more paths; write %23 for a # in a path, or a space before a comment"),
     (Cause::RuleNotUtf8, Level::Warning, Topic::Syntax, "rule-not-utf-8",
-        "the rule isn't valid UTF-8 and is ignored; save the file as UTF-8",
-        "User-agent: *\nDisallow: /\\xE9"),
+        "the rule isn't valid UTF-8 and is ignored; save the file as UTF-8"),
     (Cause::MissingSlash, Level::Error, Topic::Syntax, "missing-slash",
-        "the rule doesn't start with / or *, so it matches no path; add a leading /, or /* if it may come later in the path",
-        "User-agent: *\nDisallow: search"),
+        "the rule doesn't start with / or *, so it matches no path; add a leading /, or /* if it may come later in the path"),
     (Cause::UrlAsRule, Level::Error, Topic::Syntax, "url-as-rule",
-        "the rule starts like a URL, but rules apply to paths, so it matches none; keep only the part after the host, for example: /search",
-        "User-agent: *\nDisallow: https://example.com/a"),
+        "the rule starts like a URL, but rules apply to paths, so it matches none; keep only the part after the host, for example: /search"),
     (Cause::UnencodedCharacter, Level::Warning, Topic::Meaning, "unencoded-character",
-        "the rule contains a character that usually has another form in URLs (^ { } \\ in a path, ' or a backquote in a query, or a tab); use * in its place",
-        "User-agent: *\nDisallow: /{id}"),
+        "the rule contains a character that usually has another form in URLs (^ { } \\ in a path, ' or a backquote in a query, or a tab); use * in its place"),
     (Cause::QuotedRule, Level::Error, Topic::Syntax, "quoted-rule",
-        "the quotes are treated as part of the path, so the rule won't match; remove them",
-        "User-agent: *\nDisallow: \"/a\""),
+        "the quotes are treated as part of the path, so the rule won't match; remove them"),
     (Cause::RegexSyntax, Level::Warning, Topic::Meaning, "regex-syntax",
-        "this looks like a regular expression, which robots.txt doesn't support; use * for any characters, and a final $ for the end of the URL",
-        "User-agent: *\nDisallow: /.*"),
+        "this looks like a regular expression, which robots.txt doesn't support; use * for any characters, and a final $ for the end of the URL"),
     (Cause::DollarNotAtEnd, Level::Warning, Topic::Meaning, "dollar-not-at-end",
-        "the rule has a $ before its end, so it matches nothing here (some crawlers match $ literally); use $ only at the end, or * in place of a literal $",
-        "User-agent: *\nDisallow: /$a"),
+        "the rule has a $ before its end, so it matches nothing here (some crawlers match $ literally); use $ only at the end, or * in place of a literal $"),
     (Cause::NonstandardEscape, Level::Warning, Topic::Meaning, "nonstandard-escape",
-        "the rule has a lowercase or unnecessary percent escape; here it can match only URLs written that way; use uppercase (%C3), and don't encode letters, digits, - . _ ~",
-        "User-agent: *\nDisallow: /%c3"),
+        "the rule has a lowercase or unnecessary percent escape; here it can match only URLs written that way; use uppercase (%C3), and don't encode letters, digits, - . _ ~"),
     (Cause::DotSegment, Level::Error, Topic::Meaning, "dot-segment",
-        "the rule contains a . or .. segment, which crawlers resolve in a URL's path before matching; write the resolved path",
-        "User-agent: *\nDisallow: /../a"),
+        "the rule contains a . or .. segment, which crawlers resolve in a URL's path before matching; write the resolved path"),
     // a rule or a sitemap
     (Cause::SeveralValues, Level::Warning, Topic::Syntax, "several-values",
-        "all of this is read as one value, with its space, comma, tag or invisible character; write one value per line, %20 for a space, and comments after #",
-        "User-agent: *\nDisallow: /a/ /b/"),
+        "all of this is read as one value, with its space, comma, tag or invisible character; write one value per line, %20 for a space, and comments after #"),
     // a delay
     (Cause::DelayNotation, Level::Warning, Topic::Syntax, "delay-notation",
-        "the delay is read here, but other crawlers may ignore it; write only digits, possibly with a point and more digits, and no invisible characters, for example: Crawl-delay: 1.5",
-        "User-agent: *\nCrawl-delay: 1e3"),
+        "the delay is read here, but other crawlers may ignore it; write only digits, possibly with a point and more digits, and no invisible characters, for example: Crawl-delay: 1.5"),
     (Cause::DelayOverADay, Level::Warning, Topic::Meaning, "delay-over-a-day",
-        "the delay is longer than a day; the value is in seconds between requests, for example: Crawl-delay: 10",
-        "User-agent: *\nCrawl-delay: 100000"),
+        "the delay is longer than a day; the value is in seconds between requests, for example: Crawl-delay: 10"),
     // a sitemap
     (Cause::SitemapNotAbsolute, Level::Warning, Topic::Syntax, "sitemap-not-absolute",
-        "the sitemap isn't a valid URL that starts with http:// or https://; write, for example, https://example.com/sitemap.xml",
-        "User-agent: *\nSitemap: /s.xml"),
+        "the sitemap isn't a valid URL that starts with http:// or https://; write, for example, https://example.com/sitemap.xml"),
     // any line
     (Cause::OneLine, Level::Error, Topic::Meaning, "one-line",
-        "another field name follows in the same line, where it isn't recognized; write each User-agent, Allow, Disallow, Crawl-delay and Sitemap on a line of its own",
-        "User-agent: * Disallow: /"),
+        "another field name follows in the same line, where it isn't recognized; write each User-agent, Allow, Disallow, Crawl-delay and Sitemap on a line of its own"),
     (Cause::ControlInComment, Level::Note, Topic::Syntax, "control-in-comment",
-        "the comment contains a control character or isn't valid UTF-8, which RFC 9309 doesn't allow; it has no effect here; delete the character, or save the file as UTF-8",
-        "# \\x01"),
+        "the comment contains a control character or isn't valid UTF-8, which RFC 9309 doesn't allow; it has no effect here; delete the character, or save the file as UTF-8"),
     // the position of a line
     (Cause::RuleBeforeUserAgent, Level::Error, Topic::Syntax, "rule-before-user-agent",
-        "the rule comes before the first User-agent line, so it belongs to no group and is ignored; move it below the User-agent line it is meant for",
-        "Disallow: /a\nUser-agent: *"),
+        "the rule comes before the first User-agent line, so it belongs to no group and is ignored; move it below the User-agent line it is meant for"),
     (Cause::EmptyGroup, Level::Warning, Topic::Meaning, "empty-group",
-        "no rule that is read follows this User-agent line, so its group is empty: if the name has no other group, it may fetch everything; add rules or delete the line",
-        "Disallow: /a\nUser-agent: *"),
+        "no rule that is read follows this User-agent line, so its group is empty: if the name has no other group, it may fetch everything; add rules or delete the line"),
     (Cause::DelayAboveStar, Level::Note, Topic::Meaning, "delay-splits-group",
-        "only a Crawl-delay ends the group above, so it has none of the rules of * below; crawlers that ignore the delay, such as Google's, apply these to that group too; add to it those meant for it, or, if its names have no other group, an empty Disallow",
-        "User-agent: a\nCrawl-delay: 1\nUser-agent: *\nDisallow: /b"),
+        "only a Crawl-delay ends the group above, so it has none of the rules of * below; crawlers that ignore the delay, such as Google's, apply these to that group too; add to it those meant for it, or, if its names have no other group, an empty Disallow"),
     (Cause::DelaySplitsGroup, Level::Warning, Topic::Meaning, "delay-splits-group",
-        "only a Crawl-delay ends the group above; crawlers that ignore it, such as Google's, apply the rules below to that group too; add to that group the rules meant for it, or move the Crawl-delay down to join the two",
-        "User-agent: a\nCrawl-delay: 1\nUser-agent: b\nDisallow: /"),
+        "only a Crawl-delay ends the group above; crawlers that ignore it, such as Google's, apply the rules below to that group too; add to that group the rules meant for it, or move the Crawl-delay down to join the two"),
     (Cause::GroupPastSizeLimit, Level::Warning, Topic::Meaning, "group-past-size-limit",
-        "this name isn't in the first 512,000 bytes, so its group is ignored; move the group up or shorten the file",
-        "\\{512000 #}\nUser-agent: a"),
+        "this name isn't in the first 512,000 bytes, so its group is ignored; move the group up or shorten the file"),
     (Cause::AllowedAndDisallowed, Level::Warning, Topic::Meaning, "allowed-and-disallowed",
-        "a crawler that gets this Disallow also gets an Allow with the same path, and the Allow wins here; delete the one you don't want",
-        "Allow: /a\nDisallow: /a"),
+        "a crawler that gets this Disallow also gets an Allow with the same path, and the Allow wins here; delete the one you don't want"),
     (Cause::EmptyDisallow, Level::Warning, Topic::Meaning, "empty-disallow",
-        "here an empty Disallow is an Allow of /, which wins over a Disallow of / or * for the same crawler; for RFC 9309 and Google it is no rule, and that Disallow applies; delete the one you don't want",
-        "User-agent: *\nDisallow: /\nDisallow:"),
+        "here an empty Disallow is an Allow of /, which wins over a Disallow of / or * for the same crawler; for RFC 9309 and Google it is no rule, and that Disallow applies; delete the one you don't want"),
     // the groups
     (Cause::TwoDelays, Level::Warning, Topic::Meaning, "two-delays",
-        "the delay differs from one above it in the same group, so it isn't used here, but other crawlers may use it; delete all but one",
-        "User-agent: *\nCrawl-delay: 1\nCrawl-delay: 2"),
+        "the delay differs from one above it in the same group, so it isn't used here, but other crawlers may use it; delete all but one"),
     (Cause::ClosesEverything, Level::Note, Topic::Meaning, "closes-everything",
-        "at least one crawler that gets this rule may fetch nothing but /robots.txt; if that isn't meant, delete the rule or add an Allow",
-        "User-agent: *\nDisallow: /"),
+        "at least one crawler that gets this rule may fetch nothing but /robots.txt; if that isn't meant, delete the rule or add an Allow"),
     (Cause::ReplacesStar, Level::Note, Topic::Meaning, "replaces-star",
-        "the group has none of the Disallow rules of *, and a crawler with a group of its own doesn't get them; repeat in this group those that should apply to it",
-        "User-agent: *\nDisallow: /a\nUser-agent: FerrisBot\nDisallow: /b"),
+        "the group has none of the Disallow rules of *, and a crawler with a group of its own doesn't get them; repeat in this group those that should apply to it"),
     (Cause::RepeatedRule, Level::Note, Topic::Meaning, "repeated-rule",
-        "the same rule is above in the same group, so this one changes no verdict; delete it, or correct it if another path is meant",
-        "User-agent: *\nDisallow: /a\nDisallow: /a"),
+        "the same rule is above in the same group, so this one changes no verdict; delete it, or correct it if another path is meant"),
     (Cause::GooglebotGroup, Level::Note, Topic::Meaning, "googlebot-group",
-        "AGENT has no group of its own, so Google applies the group of Googlebot to it, and that may not be the one that is reported here; pass Googlebot as AGENT, or add a group",
-        "# robots_audit Googlebot-News\nUser-agent: Googlebot\nDisallow: /a"),
+        "AGENT has no group of its own, so Google applies the group of Googlebot to it, and that may not be the one that is reported here; pass Googlebot as AGENT, or add a group"),
     (Cause::GoogleIgnoresStar, Level::Note, Topic::Meaning, "google-ignores-star",
-        "AGENT has no group of its own, and Google doesn't apply the group of * to this crawler, so it may fetch everything; add a group for it",
-        "# robots_audit AdsBot-Google\nUser-agent: *\nDisallow: /a"),
+        "AGENT has no group of its own, and Google doesn't apply the group of * to this crawler, so it may fetch everything; add a group for it"),
     // a rule that can be deleted
     (Cause::NeverDecides, Level::Note, Topic::Meaning, "needless-rule",
-        "this rule never decides, since another one matches everything that it matches and takes precedence; correct it if it should decide, or delete it together with all other needless rules",
-        "# robots_audit --needless FerrisBot\nUser-agent: *\nDisallow: /*b\nDisallow: /b"),
+        "this rule never decides, since another one matches everything that it matches and takes precedence; correct it if it should decide, or delete it together with all other needless rules"),
     (Cause::MatchesNothing, Level::Note, Topic::Meaning, "needless-rule",
-        "this rule matches nothing, except perhaps /robots.txt, which is always allowed; correct it, or delete it together with all other needless rules",
-        "# robots_audit --needless FerrisBot\nUser-agent: *\nDisallow: /a\nDisallow: /$b"),
+        "this rule matches nothing, except perhaps /robots.txt, which is always allowed; correct it, or delete it together with all other needless rules"),
     (Cause::AllowedAnyway, Level::Note, Topic::Meaning, "needless-rule",
-        "this rule isn't needed: if all needless rules are deleted, what it allows stays allowed; delete it together with the others, or correct it",
-        "# robots_audit --needless FerrisBot\nUser-agent: *\nDisallow: /a\nAllow: /b"),
+        "this rule isn't needed: if all needless rules are deleted, what it allows stays allowed; delete it together with the others, or correct it"),
     (Cause::NotNeeded, Level::Note, Topic::Meaning, "needless-rule",
-        "this rule isn't needed: if all needless rules are deleted, the verdicts stay the same, since another one of its kind matches everything that it matches; delete it together with the others, or correct it",
-        "# robots_audit --needless FerrisBot\nUser-agent: *\nDisallow: /a\nDisallow: /ab"),
+        "this rule isn't needed: if all needless rules are deleted, the verdicts stay the same, since another one of its kind matches everything that it matches; delete it together with the others, or correct it"),
+];
+
+/// For each warning, in the order of [`WARNINGS`], a file that triggers it for FerrisBot, or with
+/// the arguments in its first line, or a command. In a file, `\xFF` is a byte, and `\{512000 a}` is 512,000 times an `a`.
+#[rattlefmt::skip]
+static EXAMPLES: [(Cause, &str); 69] = [
+    // the file
+    (Cause::LooksLikeHtml, "<html>\n</html>"),
+    (Cause::LooksLikeUtf16, "\\xFF\\xFED\\x00"),
+    (Cause::NoDirectives, "hello\nworld"),
+    (Cause::EmptyFile, "robots_audit FerrisBot < /dev/null"),
+    (Cause::FileTooLarge, "Disallow: /\\{512000 a}"),
+    (Cause::NoUserAgent, "Disallow: /a\nDisallow: /b"),
+    (Cause::DamagedByteOrderMark, "\\xEF\\xBBAllow: /"),
+    (Cause::NulEndsLine, "Allow: /\\x00"),
+    // the crawler
+    (Cause::EmptyAgent, "robots_audit ''"),
+    (Cause::SpaceAroundAgent, "robots_audit 'FerrisBot '"),
+    (Cause::VersionInAgent, "robots_audit FerrisBot/1.0"),
+    // a URL
+    (Cause::NotAUrlOrPath, "robots_audit FerrisBot example.com/a"),
+    (Cause::InvalidUrl, "robots_audit FerrisBot https://a:b/"),
+    // an ignored line
+    (Cause::InvalidDelay, "User-agent: *\nCrawl-delay: ten"),
+    (Cause::NoindexLine, "User-agent: *\nNoindex: /a"),
+    (Cause::NofollowLine, "User-agent: *\nNofollow: /a"),
+    (Cause::HostLine, "User-agent: *\nHost: example.com"),
+    (Cause::RequestRateLine, "User-agent: *\nRequest-rate: 1/10"),
+    (Cause::VisitTimeLine, "User-agent: *\nVisit-time: 0100-0500"),
+    (Cause::CleanParamLine, "User-agent: *\nClean-param: ref /"),
+    (Cause::ContentSignalLine, "User-agent: *\nContent-Signal: ai-train=no"),
+    (Cause::ContentUsageLine, "User-agent: *\nContent-Usage: ai=n"),
+    (Cause::RobotVersionLine, "User-agent: *\nRobot-version: 2.0"),
+    (Cause::CommentLine, "User-agent: *\nComment: hello"),
+    (Cause::LikeUserAgent, "User-agent: *\nUser-agnet: a"),
+    (Cause::LikeAllow, "User-agent: *\nAlow: /a"),
+    (Cause::LikeDisallow, "User-agent: *\nDisalow; /a"),
+    (Cause::LikeSitemap, "User-agent: *\nSitemaps: https://example.com/s.xml"),
+    (Cause::LikeCrawlDelay, "User-agent: *\nCrawl-dely: 1"),
+    (Cause::UnrecognizedLine, "User-agent: *\nhello"),
+    // the field name of a line
+    (Cause::NonstandardField, "User-agent: *\nUseragent: *\nDisallow: /a"),
+    (Cause::MissingColon, "User-agent: *\nDisallow /a"),
+    (Cause::SpaceAroundValue, "User-agent: *\nDisallow: /a\\xC2\\xA0"),
+    // the value of a user-agent line
+    (Cause::InvalidProductToken, "User-agent: *\nUser-agent: Bot/1.0\nDisallow: /a"),
+    (Cause::UnusualProductToken, "User-agent: MJ12bot\nDisallow: /a"),
+    // a rule
+    (Cause::HashLeavesRoot, "User-agent: *\nDisallow: /#/admin"),
+    (Cause::HashCutsRule, "User-agent: *\nDisallow: /a#b"),
+    (Cause::RuleNotUtf8, "User-agent: *\nDisallow: /\\xE9"),
+    (Cause::MissingSlash, "User-agent: *\nDisallow: search"),
+    (Cause::UrlAsRule, "User-agent: *\nDisallow: https://example.com/a"),
+    (Cause::UnencodedCharacter, "User-agent: *\nDisallow: /{id}"),
+    (Cause::QuotedRule, "User-agent: *\nDisallow: \"/a\""),
+    (Cause::RegexSyntax, "User-agent: *\nDisallow: /.*"),
+    (Cause::DollarNotAtEnd, "User-agent: *\nDisallow: /$a"),
+    (Cause::NonstandardEscape, "User-agent: *\nDisallow: /%c3"),
+    (Cause::DotSegment, "User-agent: *\nDisallow: /../a"),
+    // a rule or a sitemap
+    (Cause::SeveralValues, "User-agent: *\nDisallow: /a/ /b/"),
+    // a delay
+    (Cause::DelayNotation, "User-agent: *\nCrawl-delay: 1e3"),
+    (Cause::DelayOverADay, "User-agent: *\nCrawl-delay: 100000"),
+    // a sitemap
+    (Cause::SitemapNotAbsolute, "User-agent: *\nSitemap: /s.xml"),
+    // any line
+    (Cause::OneLine, "User-agent: * Disallow: /"),
+    (Cause::ControlInComment, "# \\x01"),
+    // the position of a line
+    (Cause::RuleBeforeUserAgent, "Disallow: /a\nUser-agent: *"),
+    (Cause::EmptyGroup, "Disallow: /a\nUser-agent: *"),
+    (Cause::DelayAboveStar, "User-agent: a\nCrawl-delay: 1\nUser-agent: *\nDisallow: /b"),
+    (Cause::DelaySplitsGroup, "User-agent: a\nCrawl-delay: 1\nUser-agent: b\nDisallow: /"),
+    (Cause::GroupPastSizeLimit, "\\{512000 #}\nUser-agent: a"),
+    (Cause::AllowedAndDisallowed, "Allow: /a\nDisallow: /a"),
+    (Cause::EmptyDisallow, "User-agent: *\nDisallow: /\nDisallow:"),
+    // the groups
+    (Cause::TwoDelays, "User-agent: *\nCrawl-delay: 1\nCrawl-delay: 2"),
+    (Cause::ClosesEverything, "User-agent: *\nDisallow: /"),
+    (Cause::ReplacesStar, "User-agent: *\nDisallow: /a\nUser-agent: FerrisBot\nDisallow: /b"),
+    (Cause::RepeatedRule, "User-agent: *\nDisallow: /a\nDisallow: /a"),
+    (Cause::GooglebotGroup, "# robots_audit Googlebot-News\nUser-agent: Googlebot\nDisallow: /a"),
+    (Cause::GoogleIgnoresStar, "# robots_audit AdsBot-Google\nUser-agent: *\nDisallow: /a"),
+    // a rule that can be deleted
+    (Cause::NeverDecides, "# robots_audit --needless FerrisBot\nUser-agent: *\nDisallow: /*b\nDisallow: /b"),
+    (Cause::MatchesNothing, "# robots_audit --needless FerrisBot\nUser-agent: *\nDisallow: /a\nDisallow: /$b"),
+    (Cause::AllowedAnyway, "# robots_audit --needless FerrisBot\nUser-agent: *\nDisallow: /a\nAllow: /b"),
+    (Cause::NotNeeded, "# robots_audit --needless FerrisBot\nUser-agent: *\nDisallow: /a\nDisallow: /ab"),
 ];
 
 /// A row of [`WARNINGS`].
-type Row = (
-    Cause,
-    Level,
-    Topic,
-    &'static str,
-    &'static str,
-    &'static str,
-);
+type Row = (Cause, Level, Topic, &'static str, &'static str);
 
 /// The rows of [`WARNINGS`]. Each function that names this long table takes a minute to prove, so no other does.
 #[tactic(auto, unfolding(crate::specs::Table::all_causes))]
@@ -357,7 +368,6 @@ fn rows() -> &'static [Row]
     ensures topics { map (λ row. row.2) result.now ≡ all_topics }
     ensures names { map (λ row. row.3.now) result.now ≡ all_names }
     ensures texts { map (λ row. row.4.now) result.now ≡ all_texts }
-    ensures examples { map (λ row. row.5.now) result.now ≡ all_examples }
 {
     &WARNINGS
 }
@@ -366,6 +376,17 @@ fn rows() -> &'static [Row]
 fn row_at(rows: &'static [Row], number: usize) -> &'static Row
     requires { number < length rows.now }
     ensures { IsRowAt rows.now number result.now }
+{
+    &rows[number]
+}
+
+/// The example at this index.
+fn example_at(
+    rows: &'static [(Cause, &'static str)],
+    number: usize,
+) -> &'static (Cause, &'static str)
+    requires { number < length rows.now }
+    ensures { IsAt rows.now number result.now }
 {
     &rows[number]
 }
@@ -411,7 +432,6 @@ impl Cause {
         ensures topic { result.now.2 ≡ topic_of self }
         ensures name { result.now.3.now ≡ name_of self }
         ensures text { result.now.4.now ≡ text_of self }
-        ensures example { result.now.5.now ≡ example_of self }
     {
         row_at(rows(), self as usize)
     }
@@ -447,10 +467,18 @@ impl Cause {
         self.row().4
     }
 
+    /// The example of the warning, with it.
+    fn example_row(self) -> &'static (Cause, &'static str)
+        ensures own { result.now.0 ≡ self }
+        ensures example { result.now.1.now ≡ example_of self }
+    {
+        example_at(&EXAMPLES, self as usize)
+    }
+
     /// The example of the warning.
     pub fn example(self) -> &'static str
         ensures { result.now ≡ example_of self }
     {
-        self.row().5
+        self.example_row().1
     }
 }

@@ -2,7 +2,7 @@ use Rattle.std.proofs.Common.{[], sym, ap, ◌∙◌}
 use Rattle.std.specs.Prelude.{slice_index_or}
 use Rattle.robots_warnings.specs.Internal.{Row}
 use Rattle.robots_text.specs.declared.level.Level.TheVariants as level
-use Rattle.robots_warnings.specs.Table.{example_of, level_of, name_of, number_of, text_of}
+use Rattle.robots_warnings.specs.Table.{level_of, name_of, number_of, text_of}
 use Rattle.robots_warnings.specs.Table.{topic_of}
 use Rattle.robots_warnings.specs.declared.table.Topic.TheVariants.{Syntax}
 use Rattle.robots_warnings.proofs.TableLemmas.{own_row, part_at}
@@ -30,8 +30,3 @@ pub returns-clause-text : goal.returns-clause-text
 unfolding text_of
 returns-clause-text c = sym (part_at (λ (row : Row). row.4.now) [] c.row_at.ensures)
     ∙ ap (λ texts. slice_index_or texts (number_of c.args.self) []) c.rows.ensures.texts
-
-pub returns-clause-example : goal.returns-clause-example
-unfolding example_of
-returns-clause-example c = sym (part_at (λ (row : Row). row.5.now) [] c.row_at.ensures)
-    ∙ ap (λ examples. slice_index_or examples (number_of c.args.self) []) c.rows.ensures.examples
