@@ -27,7 +27,7 @@ use Rattle.audit_expect.specs.Internal.Expect.{expectation_value}
 use Rattle.audit_expect.specs.Internal.Expectations.{AreFailuresOn, failures_at}
 use Rattle.audit_core.proofs.ListLemmas.{each_map, lines_empty, none_of}
 
--- ---- findings
+-- ---- judgments
 
 -- what the robot of a file decides is what the file's rules decide
 pub robot_found : (agent file target : List ℕ) (robot : RobotValue) (decision : Decision)

@@ -16,8 +16,8 @@ use Rattle.audit_core.specs.declared.answer.Answer.{Answer}
 use Rattle.audit_core.specs.declared.answer.Outcome.{Outcome}
 use Rattle.audit_expect.specs.declared.checks.AtGoogle.{AtGoogle}
 use Rattle.audit_expect.specs.declared.checks.AtGoogle.TheVariants.{Googlebot, Nobody, Same}
-use Rattle.audit_expect.specs.declared.checks.Finding.{Finding}
-use Rattle.audit_expect.specs.declared.checks.Finding.TheVariants.{Decided, Rejected}
+use Rattle.audit_expect.specs.declared.checks.Judgment.{Judgment}
+use Rattle.audit_expect.specs.declared.checks.Judgment.TheVariants.{Decided, Rejected}
 use Rattle.audit_core.specs.Asked.{asked_target}
 use Rattle.audit_expect.specs.Expect.{ExpectationValue, expectations_in}
 use Rattle.audit_expect.specs.OtherReading.{IsOtherDecision}
@@ -27,31 +27,31 @@ use Rattle.audit_core.specs.Texts.{rejected_front, rejected_line_part}
 
 -- the file is rejected for the crawler, and this is the line of its first overlong rule; or these are the
 -- decisions on the URL, where an empty Disallow is an Allow of `/`, as here, and where it is no rule
-abbrev pub IsFindingOn : List ℕ → List ℕ → List ℕ → Finding → Type 0
-IsFindingOn file agent url (Rejected line) = IsFirstOverlong (placed_rules agent (lines_read file)) line
-IsFindingOn file agent url (Decided decision other) =
+abbrev pub IsJudgmentOn : List ℕ → List ℕ → List ℕ → Judgment → Type 0
+IsJudgmentOn file agent url (Rejected line) = IsFirstOverlong (placed_rules agent (lines_read file)) line
+IsJudgmentOn file agent url (Decided decision other) =
     let rules = placed_rules agent (lines_read file) in
     (¬ IsRejected agent (lines_read file)) × IsDecisionOn rules (asked_target url) decision
     × IsOtherDecision (bodies_read file) rules (asked_target url) other
 
 -- which of the two notes on Google's crawlers applies: neither; or Google applies the group of Googlebot, for
--- which this is the finding, as names are compared here; or Google applies no group, so everything is allowed
+-- which this is the judgment, as names are compared here; or Google applies no group, so everything is allowed
 abbrev pub IsAtGoogle : List ℕ → List ℕ → List ℕ → AtGoogle → Type 0
 IsAtGoogle file agent url Same =
     (gets_googlebots (lines_read file) agent ≡ false) × (gets_nobodys (lines_read file) agent ≡ false)
-IsAtGoogle file agent url (Googlebot finding) =
-    (gets_googlebots (lines_read file) agent ≡ true) × IsFindingOn file (codes "Googlebot") url finding
+IsAtGoogle file agent url (Googlebot judgment) =
+    (gets_googlebots (lines_read file) agent ≡ true) × IsJudgmentOn file (codes "Googlebot") url judgment
 IsAtGoogle file agent url Nobody =
     (gets_googlebots (lines_read file) agent ≡ false) × (gets_nobodys (lines_read file) agent ≡ true)
 
 -- an expectation and what the file says, here and at Google
 pub record CheckedValue : Type 0 where
   pub expectation : ExpectationValue
-  pub finding : Finding
+  pub judgment : Judgment
   pub google : AtGoogle
 
 pub record IsChecked (file : List ℕ) (checked : CheckedValue) : Type 0 where
-  pub here : IsFindingOn file checked.expectation.agent checked.expectation.url checked.finding
+  pub here : IsJudgmentOn file checked.expectation.agent checked.expectation.url checked.judgment
   pub at_google : IsAtGoogle file checked.expectation.agent checked.expectation.url checked.google
 
 -- the decision isn't the expected one
@@ -59,19 +59,19 @@ abbrev pub is_unexpected : Bool → Decision → Bool
 is_unexpected allowed decision = if allowed then not decision.allowed else decision.allowed
 
 -- the file is rejected for the crawler, or the decision isn't the expected one in one of the readings
-abbrev pub fails_at : Bool → Finding → Bool
+abbrev pub fails_at : Bool → Judgment → Bool
 fails_at allowed (Rejected line) = true
 fails_at allowed (Decided decision other) = is_unexpected allowed decision || is_unexpected allowed other
 
 -- this is so of the group that applies here
 abbrev pub fails_here : CheckedValue → Bool
-fails_here checked = fails_at checked.expectation.allowed checked.finding
+fails_here checked = fails_at checked.expectation.allowed checked.judgment
 
 -- the same of the group that Google applies in its place, if it is another one; with none everything is
 -- allowed
 abbrev pub fails_at_google : Bool → AtGoogle → Bool
 fails_at_google allowed Same = false
-fails_at_google allowed (Googlebot finding) = fails_at allowed finding
+fails_at_google allowed (Googlebot judgment) = fails_at allowed judgment
 fails_at_google allowed Nobody = not allowed
 
 -- an expectation fails for one of these reasons
@@ -115,9 +115,9 @@ rejected_parts agent line =
     only (codes "the file is ") refl ∷ rejected_front agent ∷ rejected_line_part line ∷ []
 
 -- why the decision isn't the expected one
-abbrev pub finding_parts : List ℕ → List ℕ → Bool → Finding → List PartValue
-finding_parts agent url allowed (Rejected line) = rejected_parts agent line
-finding_parts agent url allowed (Decided decision other) =
+abbrev pub judgment_parts : List ℕ → List ℕ → Bool → Judgment → List PartValue
+judgment_parts agent url allowed (Rejected line) = rejected_parts agent line
+judgment_parts agent url allowed (Decided decision other) =
     if is_unexpected allowed decision then decision_parts url decision.allowed decision.line
     else other_front ∷ decision_parts url other.allowed other.line
 
@@ -133,8 +133,8 @@ nobody_parts agent = Part (label (codes "Google doesn't apply the group * to ") 
 -- the group, and what it says
 abbrev pub google_parts : List ℕ → List ℕ → Bool → AtGoogle → List PartValue
 google_parts agent url allowed Same = []
-google_parts agent url allowed (Googlebot finding) =
-    googlebot_parts agent ++ finding_parts (codes "Googlebot") url allowed finding
+google_parts agent url allowed (Googlebot judgment) =
+    googlebot_parts agent ++ judgment_parts (codes "Googlebot") url allowed judgment
 google_parts agent url allowed Nobody = nobody_parts agent
 
 -- why an expectation fails
@@ -142,7 +142,7 @@ abbrev pub reason_parts : CheckedValue → List PartValue
 reason_parts checked =
     let expectation = checked.expectation in
     if fails_here checked
-    then finding_parts expectation.agent expectation.url expectation.allowed checked.finding
+    then judgment_parts expectation.agent expectation.url expectation.allowed checked.judgment
     else google_parts expectation.agent expectation.url expectation.allowed checked.google
 
 -- where an expectation is, what it is, and why it fails

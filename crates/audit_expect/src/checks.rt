@@ -1,7 +1,7 @@
 //! What a robots.txt file says about an expectation, here and at Google, and whether the expectation fails.
 ghost use Rattle.std.specs.Prelude.{◌≡◌, IfErr, IfOk, take};
 ghost use Rattle.texting_robots.specs.Callers.{IsRobotOfFile, bodies_read, file_limit};
-ghost use Rattle.audit_expect.specs.Expectations.{IsAtGoogle, IsChecked, IsFindingOn, fails, fails_at, fails_at_google, fails_here, is_unexpected};
+ghost use Rattle.audit_expect.specs.Expectations.{IsAtGoogle, IsChecked, IsJudgmentOn, fails, fails_at, fails_at_google, fails_here, is_unexpected};
 ghost use Rattle.audit_core.specs.Internal.{IsReading};
 ghost use Rattle.audit_expect.specs.Internal.Expectations.{checked_value};
 ghost use Rattle.audit_expect.specs.Internal.OtherReading.{marks_of};
@@ -18,7 +18,7 @@ use texting_robots::{Robot, Site};
 
 /// What a file says about a URL for a crawler.
 #[derive(Drop)]
-pub(crate) enum Finding {
+pub(crate) enum Judgment {
     /// The file is rejected for the crawler because of the rule in this line.
     Rejected(usize),
     /// The decision on the URL, and the one where an empty Disallow is no rule.
@@ -31,7 +31,7 @@ pub(crate) enum AtGoogle {
     /// Neither note on its crawlers applies.
     Same,
     /// Google applies the group of Googlebot, and the file says this about it.
-    Googlebot(Finding),
+    Googlebot(Judgment),
     /// Google applies no group, so everything is allowed.
     Nobody,
 }
@@ -40,7 +40,7 @@ pub(crate) enum AtGoogle {
 #[derive(Drop)]
 pub(crate) struct Checked<'a> {
     pub(crate) expectation: Expectation<'a>,
-    pub(crate) finding: Finding,
+    pub(crate) judgment: Judgment,
     pub(crate) google: AtGoogle,
 }
 
@@ -53,20 +53,20 @@ fn decided_on(
     file: &[u8],
     site: &Site,
     marks: &[bool],
-) -> Result<Finding, Fault>
+) -> Result<Judgment, Fault>
     requires robot { IsRobotOfFile agent.now (take file_limit file.now) robot.now }
     requires site { site.now ≡ take file_limit file.now }
     requires marks { marks.now ≡ marks_of (bodies_read file.now) }
-    ensures ok { IfOk result (IsFindingOn file.now agent.now url.now) }
+    ensures ok { IfOk result (IsJudgmentOn file.now agent.now url.now) }
     ensures fault { IfErr result (λ fault. fault ≡ Fault.Memory) }
 {
     let decision = decision_on(alloc, robot, url)?;
     let other = other_decision(alloc, agent, url, &decision, site, marks)?;
-    Ok(Finding::Decided(decision, other))
+    Ok(Judgment::Decided(decision, other))
 }
 
 /// What a file says about a URL for a crawler, where `reading` is how it is read for the crawler.
-fn finding_on(
+fn judgment_on(
     alloc: Global,
     agent: &str,
     url: &str,
@@ -74,36 +74,36 @@ fn finding_on(
     file: &[u8],
     site: &Site,
     marks: &[bool],
-) -> Result<Finding, Fault>
+) -> Result<Judgment, Fault>
     requires reading { IsReading agent.now file.now reading.now }
     requires site { site.now ≡ take file_limit file.now }
     requires marks { marks.now ≡ marks_of (bodies_read file.now) }
-    ensures ok { IfOk result (IsFindingOn file.now agent.now url.now) }
+    ensures ok { IfOk result (IsJudgmentOn file.now agent.now url.now) }
     ensures fault { IfErr result (λ fault. fault ≡ Fault.Memory) }
 {
     match reading {
-        Reading::Rejected(line) => Ok(Finding::Rejected(*line)),
+        Reading::Rejected(line) => Ok(Judgment::Rejected(*line)),
         Reading::Accepted(robot) => decided_on(alloc, agent, url, robot, file, site, marks),
     }
 }
 
 /// What a file says about a URL for a crawler.
-fn finding_for(
+fn judgment_for(
     alloc: Global,
     agent: &str,
     url: &str,
     file: &[u8],
     site: &Site,
     marks: &[bool],
-) -> Result<Finding, Fault>
+) -> Result<Judgment, Fault>
     requires site { site.now ≡ take file_limit file.now }
     requires marks { marks.now ≡ marks_of (bodies_read file.now) }
-    ensures ok { IfOk result (IsFindingOn file.now agent.now url.now) }
+    ensures ok { IfOk result (IsJudgmentOn file.now agent.now url.now) }
     ensures fault { IfErr result (λ fault. fault ≡ Fault.Memory) }
 {
     let reading = read_for(alloc, agent, file, site)?;
-    let finding = finding_on(alloc, agent, url, &reading, file, site, marks)?;
-    Ok(finding)
+    let judgment = judgment_on(alloc, agent, url, &reading, file, site, marks)?;
+    Ok(judgment)
 }
 
 /// What Google's documentation changes for a crawler and a URL.
@@ -121,8 +121,8 @@ fn at_google(
     ensures fault { IfErr result (λ fault. fault ≡ Fault.Memory) }
 {
     if gets_googlebots(site, agent) {
-        let finding = finding_for(alloc, "Googlebot", url, file, site, marks)?;
-        return Ok(AtGoogle::Googlebot(finding));
+        let judgment = judgment_for(alloc, "Googlebot", url, file, site, marks)?;
+        return Ok(AtGoogle::Googlebot(judgment));
     }
     if gets_nobodys(site, agent) {
         return Ok(AtGoogle::Nobody);
@@ -147,11 +147,11 @@ pub(crate) fn checked_on<'a>(
     ensures fault { IfErr result (λ fault. fault ≡ Fault.Memory) }
 {
     let (agent, url) = (expectation.agent, expectation.url);
-    let finding = finding_on(alloc, agent, url, reading, file, site, marks)?;
+    let judgment = judgment_on(alloc, agent, url, reading, file, site, marks)?;
     let google = at_google(alloc, agent, url, file, site, marks)?;
     Ok(Checked {
         expectation: *expectation,
-        finding,
+        judgment,
         google,
     })
 }
@@ -168,12 +168,12 @@ pub(crate) fn is_unexpected(allowed: bool, decision: &Decision) -> bool
 }
 
 /// Whether the file is rejected for the crawler, or the decision isn't the expected one in one of the readings.
-fn fails_at(allowed: bool, finding: &Finding) -> bool
-    ensures { result ≡ fails_at allowed finding.now }
+fn fails_at(allowed: bool, judgment: &Judgment) -> bool
+    ensures { result ≡ fails_at allowed judgment.now }
 {
-    match finding {
-        Finding::Rejected(_) => true,
-        Finding::Decided(decision, other) => {
+    match judgment {
+        Judgment::Rejected(_) => true,
+        Judgment::Decided(decision, other) => {
             is_unexpected(allowed, decision) || is_unexpected(allowed, other)
         }
     }
@@ -185,7 +185,7 @@ fn fails_at_google(allowed: bool, google: &AtGoogle) -> bool
 {
     match google {
         AtGoogle::Same => false,
-        AtGoogle::Googlebot(finding) => fails_at(allowed, finding),
+        AtGoogle::Googlebot(judgment) => fails_at(allowed, judgment),
         AtGoogle::Nobody => !allowed,
     }
 }
@@ -194,7 +194,7 @@ fn fails_at_google(allowed: bool, google: &AtGoogle) -> bool
 pub(crate) fn fails_here(checked: &Checked<'_>) -> bool
     ensures { result ≡ fails_here (checked_value checked.now) }
 {
-    fails_at(checked.expectation.allowed, &checked.finding)
+    fails_at(checked.expectation.allowed, &checked.judgment)
 }
 
 /// Whether an expectation fails.

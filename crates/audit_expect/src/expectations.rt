@@ -8,13 +8,13 @@ ghost use Rattle.robots_text.specs.Text.{line_text, part_text, parts_text};
 ghost use Rattle.audit_core.specs.declared.fault.Entry.TheVariants as entry;
 ghost use Rattle.audit_core.specs.Asked.{asked_target};
 ghost use Rattle.audit_core.specs.Internal.{IsReading};
-ghost use Rattle.audit_expect.specs.declared.checks.Finding.TheVariants.{Decided};
+ghost use Rattle.audit_expect.specs.declared.checks.Judgment.TheVariants.{Decided};
 ghost use Rattle.audit_expect.specs.Expect.{IsEntryFault, expectations_in as specified_in};
-ghost use Rattle.audit_expect.specs.Expectations.{IsAnswer, IsPlain, decides, decision_parts, demand, finding_parts, front_parts, google_parts, googlebot_parts, holding, nobody_parts, reason_parts, rejected_parts, unmatched};
+ghost use Rattle.audit_expect.specs.Expectations.{IsAnswer, IsPlain, decides, decision_parts, demand, judgment_parts, front_parts, google_parts, googlebot_parts, holding, nobody_parts, reason_parts, rejected_parts, unmatched};
 ghost use Rattle.audit_expect.specs.Internal.Expect.{expectation_value};
 ghost use Rattle.audit_expect.specs.Internal.Expectations.{AreFailuresOn, IsReadFor, checked_value, failures_at};
 
-use crate::checks::{AtGoogle, Checked, Finding, checked_on, fails, fails_here, is_unexpected};
+use crate::checks::{AtGoogle, Checked, Judgment, checked_on, fails, fails_here, is_unexpected};
 use crate::entries::without_entries;
 use crate::expect::{Expectation, expectations_in};
 use crate::other_reading::empty_disallows;
@@ -136,7 +136,7 @@ fn push_decisions(
     other: &Decision,
 ) -> Result<(), Fault>
     ensures ok { OnOk result (string_bytes text.new ≡ string_bytes text.old
-        ++ parts_text (finding_parts [] url.now allowed (Decided decision.now other.now))) }
+        ++ parts_text (judgment_parts [] url.now allowed (Decided decision.now other.now))) }
     ensures fault { IfErr result (λ fault. fault ≡ Fault.Memory) }
 {
     if is_unexpected(allowed, decision) {
@@ -161,21 +161,21 @@ fn rejected_parts<'a>(agent: &'a str, line: usize) -> [Part<'a>; 2]
 }
 
 /// Appends what the file says that isn't as expected.
-fn push_finding(
+fn push_judgment(
     alloc: Global,
     text: &mut String,
     agent: &str,
     url: &str,
     allowed: bool,
-    finding: &Finding,
+    judgment: &Judgment,
 ) -> Result<(), Fault>
     ensures ok { OnOk result (string_bytes text.new ≡ string_bytes text.old
-        ++ parts_text (finding_parts agent.now url.now allowed finding.now)) }
+        ++ parts_text (judgment_parts agent.now url.now allowed judgment.now)) }
     ensures fault { IfErr result (λ fault. fault ≡ Fault.Memory) }
 {
-    match finding {
-        Finding::Rejected(line) => Ok(push_parts(text, &rejected_parts(agent, *line))?),
-        Finding::Decided(decision, other) => {
+    match judgment {
+        Judgment::Rejected(line) => Ok(push_parts(text, &rejected_parts(agent, *line))?),
+        Judgment::Decided(decision, other) => {
             push_decisions(alloc, text, url, allowed, decision, other)
         }
     }
@@ -219,9 +219,9 @@ fn push_google(
 {
     match google {
         AtGoogle::Same => Ok(()),
-        AtGoogle::Googlebot(finding) => {
+        AtGoogle::Googlebot(judgment) => {
             push_parts(text, &googlebot_parts(agent))?;
-            push_finding(alloc, text, "Googlebot", url, allowed, finding)
+            push_judgment(alloc, text, "Googlebot", url, allowed, judgment)
         }
         AtGoogle::Nobody => Ok(push_parts(text, &nobody_parts(agent))?),
     }
@@ -236,7 +236,7 @@ fn push_reason(alloc: Global, text: &mut String, checked: &Checked<'_>) -> Resul
     let (agent, url) = (checked.expectation.agent, checked.expectation.url);
     let allowed = checked.expectation.allowed;
     if fails_here(checked) {
-        push_finding(alloc, text, agent, url, allowed, &checked.finding)
+        push_judgment(alloc, text, agent, url, allowed, &checked.judgment)
     } else {
         push_google(alloc, text, agent, url, allowed, &checked.google)
     }

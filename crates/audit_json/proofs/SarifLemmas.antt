@@ -20,7 +20,7 @@ use Rattle.robots_warnings.specs.Table.{all_causes, example_of, level_of, name_o
 use Rattle.audit_core.specs.Audit.{AuditValue}
 use Rattle.audit_core.specs.Findings.{FindingValue, Found, all_found, findings, found_value, message_of}
 use Rattle.audit_json.specs.Json.{list_json}
-use Rattle.audit_json.specs.Sarif.{RuleValue, all_rules, help_text, is_brace, is_uri_byte}
+use Rattle.audit_json.specs.Sarif.{SarifRuleValue, all_rules, help_text, is_brace, is_uri_byte}
 use Rattle.audit_json.specs.Sarif.{literal_char, literal_text, log_json, message_json, one_slash}
 use Rattle.audit_json.specs.Sarif.{result_json, rule_json, sarif_text, shown, shown_after}
 use Rattle.audit_json.specs.Sarif.{takes_backslash, uri_byte, uri_of}
@@ -128,7 +128,7 @@ message_plain text is = (refl, literal_printable text is, tt)
 -- ---- rules
 
 -- the texts of a rule are printable ASCII and LF
-abbrev is_ascii_rule : RuleValue → Bool
+abbrev is_ascii_rule : SarifRuleValue → Bool
 is_ascii_rule rule =
     list_all (list_all (is_printable_byte true))
     (rule.name ∷ rule.text ∷ help_text rule.example ∷ level_word rule.level ∷ [])
@@ -137,7 +137,7 @@ rules_ascii : list_all is_ascii_rule all_rules ≡ true
 unfolding all_causes name_of text_of example_of level_of help_text
 rules_ascii = refl
 
-rules_plain : (rules : List RuleValue) → list_all is_ascii_rule rules ≡ true
+rules_plain : (rules : List SarifRuleValue) → list_all is_ascii_rule rules ≡ true
     → IsPlain (list_json rule_json rules)
 rules_plain [] are = tt
 rules_plain (rule ∷ rules) are =

@@ -1,9 +1,9 @@
 -- Rules by value.
 use Rattle.std.specs.Prelude.{string_bytes}
-use Rattle.audit_json.specs.declared.sarif.Rule.{Rule}
-use Rattle.audit_json.specs.Sarif.{RuleValue}
+use Rattle.audit_json.specs.declared.sarif.SarifRule.{SarifRule}
+use Rattle.audit_json.specs.Sarif.{SarifRuleValue}
 
-abbrev pub rule_value : Rule → RuleValue
+abbrev pub rule_value : SarifRule → SarifRuleValue
 rule_value rule = record {
   name = rule.name.now;
   level = rule.level;

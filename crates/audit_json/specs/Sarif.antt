@@ -84,13 +84,13 @@ shown message = shown_after None message
 -- ---- rules
 
 -- what findings with this name are about, and an example
-pub record RuleValue : Type 0 where
+pub record SarifRuleValue : Type 0 where
   pub name : List ℕ
   pub level : Level
   pub text : List ℕ
   pub example : List ℕ
 
-abbrev pub denied_rule : RuleValue
+abbrev pub denied_rule : SarifRuleValue
 denied_rule = record {
   name = codes "denied";
   level = Error;
@@ -98,7 +98,7 @@ denied_rule = record {
   example = codes "# robots_audit FerrisBot /search\nUser-agent: *\nDisallow: /search";
 }
 
-abbrev pub rejected_rule : RuleValue
+abbrev pub rejected_rule : SarifRuleValue
 rejected_rule = record {
   name = codes "rejected";
   level = Error;
@@ -131,7 +131,7 @@ description_of cause =
     if bytes_eq (name_of cause) (codes "needless-rule") then needless_text else text_of cause
 
 -- the rule of a warning, with the most serious level of all these warnings with its name
-abbrev pub rule_of : (all : List Cause) → Cause → RuleValue
+abbrev pub rule_of : (all : List Cause) → Cause → SarifRuleValue
 rule_of all cause = record {
   name = name_of cause;
   level = worst_level (name_of cause) all;
@@ -140,24 +140,24 @@ rule_of all cause = record {
 }
 
 -- the rule of a warning, unless one of these later ones has the same name
-abbrev pub rule_unless_later : (all : List Cause) → Cause → List Cause → List RuleValue
+abbrev pub rule_unless_later : (all : List Cause) → Cause → List Cause → List SarifRuleValue
 rule_unless_later all cause later = if has_name (name_of cause) later then [] else rule_of all cause ∷ []
 
 -- the rules of these warnings: a name has the description of the last warning with it
-abbrev pub rules_of : (all : List Cause) → List Cause → List RuleValue
+abbrev pub rules_of : (all : List Cause) → List Cause → List SarifRuleValue
 rules_of all [] = []
 rules_of all (cause ∷ later) = rule_unless_later all cause later ++ rules_of all later
 
-abbrev pub all_rules : List RuleValue
+abbrev pub all_rules : List SarifRuleValue
 all_rules = denied_rule ∷ rejected_rule ∷ rules_of all_causes all_causes
 
 -- unless the rule has another name than the warning, it has its level or a more serious one
-abbrev pub has_level_for : Cause → RuleValue → Bool
+abbrev pub has_level_for : Cause → SarifRuleValue → Bool
 has_level_for cause rule = not (bytes_eq rule.name (name_of cause)) || reaches rule.level (level_of cause)
 
 -- the number of rules with this name
 abbrev pub rules_named : List ℕ → ℕ
-rules_named name = count_by (λ (rule : RuleValue). bytes_eq rule.name name) all_rules
+rules_named name = count_by (λ (rule : SarifRuleValue). bytes_eq rule.name name) all_rules
 
 -- ---- JSON
 
@@ -174,7 +174,7 @@ unfoldable pub help_text : List ℕ → List ℕ
 help_text example = codes "for example:\n" ++ example
 
 -- a rule, as a reporting descriptor (section 3.49)
-abbrev pub rule_json : RuleValue → Data
+abbrev pub rule_json : SarifRuleValue → Data
 rule_json rule = object
     (member (codes "defaultConfiguration") (with_one (codes "level") (string (level_word rule.level)))
     (member (codes "fullDescription") (message_json rule.text)

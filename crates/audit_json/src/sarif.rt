@@ -20,7 +20,7 @@ use std::alloc::{AllocError, Global};
 
 /// What findings with this name are about.
 #[derive(Drop)]
-pub(crate) struct Rule {
+pub(crate) struct SarifRule {
     pub(crate) name: &'static str,
     pub(crate) level: Level,
     pub(crate) text: &'static str,
@@ -154,7 +154,7 @@ fn description_of(cause: Cause) -> &'static str
 
 /// Appends the rule of one of all these warnings, unless one of the `later` ones has the same name.
 fn add_rule(
-    rules: &mut Vec<Rule>,
+    rules: &mut Vec<SarifRule>,
     all: &[Cause],
     cause: Cause,
     later: &[Cause],
@@ -165,7 +165,7 @@ fn add_rule(
     if has_name(later, cause.name()) {
         return Ok(());
     }
-    Ok(rules.push(Rule {
+    Ok(rules.push(SarifRule {
         name: cause.name(),
         level: worst_level(all, cause.name()),
         text: description_of(cause),
@@ -174,7 +174,7 @@ fn add_rule(
 }
 
 /// Appends the rules of all these warnings.
-fn add_rules(rules: &mut Vec<Rule>, all: &[Cause]) -> Result<(), AllocError>
+fn add_rules(rules: &mut Vec<SarifRule>, all: &[Cause]) -> Result<(), AllocError>
     ensures { OnOk result (map rule_value rules.new.items
         ≡ map rule_value rules.old.items ++ rules_of all.now all.now) }
 {
@@ -187,17 +187,17 @@ fn add_rules(rules: &mut Vec<Rule>, all: &[Cause]) -> Result<(), AllocError>
 }
 
 /// All rules.
-fn all_rules(alloc: Global) -> Result<Vec<Rule>, AllocError>
+fn all_rules(alloc: Global) -> Result<Vec<SarifRule>, AllocError>
     ensures { IfOk result (λ rules. map rule_value rules.items ≡ all_rules) }
 {
     let mut rules = Vec::new(alloc);
-    rules.push(Rule {
+    rules.push(SarifRule {
         name: "denied",
         level: Level::Error,
         text: "a crawler may not fetch a URL",
         example: "# robots_audit FerrisBot /search\nUser-agent: *\nDisallow: /search",
     })?;
-    rules.push(Rule {
+    rules.push(SarifRule {
         name: "rejected",
         level: Level::Error,
         text: "the file is rejected for a crawler",
@@ -226,7 +226,7 @@ fn help_json(alloc: Global, example: &str) -> Result<Value, AllocError>
 }
 
 /// A rule as a JSON object.
-fn rule_json(alloc: Global, rule: &Rule) -> Result<Value, AllocError>
+fn rule_json(alloc: Global, rule: &SarifRule) -> Result<Value, AllocError>
     ensures { IfOk result (λ value. view value ≡ rule_json (rule_value rule.now)) }
 {
     let full_description = message_json(alloc, rule.text)?;
@@ -242,7 +242,7 @@ fn rule_json(alloc: Global, rule: &Rule) -> Result<Value, AllocError>
 }
 
 /// All rules as a JSON array.
-fn rules_json(alloc: Global, rules: &[Rule]) -> Result<Value, AllocError>
+fn rules_json(alloc: Global, rules: &[SarifRule]) -> Result<Value, AllocError>
     ensures { IfOk result (λ value. view value ≡ list_json rule_json (map rule_value rules.now)) }
 {
     let mut list = Vec::with_capacity(alloc, rules.len())?;

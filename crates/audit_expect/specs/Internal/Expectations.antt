@@ -1,4 +1,4 @@
--- Expectations and findings as the code handles them.
+-- Expectations and judgments as the code handles them.
 use Rattle.std.specs.Prelude.{◌≡◌, ℕ, List, [], ◌∷◌, filter, map}
 use Rattle.std.specs.List.{AllByRecursion as Each}
 use Rattle.robots_io.specs.Lines.{ended}
@@ -12,7 +12,7 @@ use Rattle.audit_core.specs.Internal.{IsReading}
 abbrev pub checked_value : Checked → CheckedValue
 checked_value checked = record {
   expectation = expectation_value checked.expectation;
-  finding = checked.finding;
+  judgment = checked.judgment;
   google = checked.google;
 }
 
