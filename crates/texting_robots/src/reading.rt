@@ -78,12 +78,7 @@ pub(crate) fn as_text<'a>(value: &'a [u8]) -> Option<&'a str>
 }
 
 /// Adds the rule with this value, if the value is UTF-8.
-fn push_rule(
-    rules: &mut Unsorted,
-    value: &[u8],
-    is_allow: bool,
-    line: usize,
-) -> Result<(), Error>
+fn push_rule(rules: &mut Unsorted, value: &[u8], is_allow: bool, line: usize) -> Result<(), Error>
     requires { AreEntries rules.old }
     ensures known { OnOk result (AreEntries rules.new) }
     ensures added { OnOk result (rules_in rules.new
