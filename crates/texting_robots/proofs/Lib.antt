@@ -18,6 +18,7 @@ pub mod RulesLemmas
 pub mod EmptyLemmas
 pub mod LaneLemmas
 pub mod SiteLemmas
+pub mod GroupsLemmas
 pub mod SiteRunLemmas
 pub mod SiteNameLemmas
 pub mod SiteAgentLemmas

@@ -149,7 +149,7 @@ named_here name walk run joins position count before all lines within splits are
     (splits.captured ∙ sym (or-false _))
 
 -- any other line gives nothing
-nothing_here : {X : Type 0} (captured : Bool) (o : Option X) (rest : List X) → o ≡ None
+pub nothing_here : {X : Type 0} (captured : Bool) (o : Option X) (rest : List X) → o ≡ None
     → cons_option (cond captured o None) rest ≡ rest
 nothing_here true o rest none = rw none refl
 nothing_here false o rest none = refl

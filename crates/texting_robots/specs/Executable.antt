@@ -11,6 +11,8 @@ use Rattle.texting_robots.specs.Line.{LineValue, Allow, Disallow, Sitemap, delay
 use Rattle.texting_robots.specs.Rules.{PlacedRule, Rule, unplaced}
 use Rattle.texting_robots.specs.{Escape.escaped, Robot.file_limit}
 use Rattle.texting_robots.specs.Internal.{Captured.is_captured, Cut.bodies_of, Line.lines_of}
+-- the cut of a text, its delay, and whether a line is captured
+pub use Rattle.texting_robots.specs.Internal.{Cut.cut, Delay.delay_of, Captured.is_captured}
 
 -- ---- lines
 

@@ -5,6 +5,7 @@ pub mod Statement
 pub mod Delay
 pub mod Line
 pub mod Group
+pub mod Groups
 pub mod Labels
 pub mod Agents
 pub mod Escape

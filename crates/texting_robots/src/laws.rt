@@ -9,20 +9,18 @@ ghost use Rattle.texting_robots.specs.Cut.{IsCut, Pair};
 ghost use Rattle.texting_robots.specs.Decision.{IsDecidingRule, IsDecidingLine};
 ghost use Rattle.texting_robots.specs.Delay.{IsDelay};
 ghost use Rattle.texting_robots.specs.Examples as example;
-ghost use Rattle.texting_robots.specs.Group.{IsCaptured, group_name, is_agent};
+ghost use Rattle.texting_robots.specs.Group.{IsCaptured, group_name, is_agent, is_group};
+ghost use Rattle.texting_robots.specs.Groups.{groups, lines_for};
 ghost use Rattle.texting_robots.specs.Laws.{IsSameKind, Same, SameButSitemaps, crlf_to_lf};
-ghost use Rattle.texting_robots.specs.Line.{AreFileLinesOf, AreLinesOf, HoldRangesOf, LineValue, is_raw, is_sitemap};
+ghost use Rattle.texting_robots.specs.Line.{AreFileLinesOf, AreLinesOf, HoldRangesOf, LineValue, delay_in, is_raw, is_sitemap};
 ghost use Rattle.texting_robots.specs.Labels.{AreLabelsOf, Label, labels_of};
 ghost use Rattle.texting_robots.specs.Order.{IsBefore, pattern_cmp};
-ghost use Rattle.texting_robots.specs.Executable.{captured_delays, delay_for, file_lines, parsed, placed_rules, rules_for, sitemaps_in};
+ghost use Rattle.texting_robots.specs.Executable.{captured_delays, captured_lines, delay_for, file_lines, parsed, placed_in, placed_rules};
+ghost use Rattle.texting_robots.specs.Executable.{cut, delay_of, is_captured, rules_for, sitemaps_in};
 ghost use Rattle.texting_robots.specs.Pattern.{IsOverlong, Matches, MatchesWith, collapsed};
 ghost use Rattle.texting_robots.specs.Robot.{AnswerAlike, IsRobotOf, RobotValue};
 ghost use Rattle.texting_robots.specs.Rules.{AreRulesFor, AreSitemapsOf, HoldsRule, IsDelayFor, IsRejected, PlacedRule, Rule, unplaced};
 ghost use Rattle.texting_robots.specs.Statement.{IsStatement};
-ghost use Rattle.texting_robots.specs.Internal.Captured.{is_captured};
-ghost use Rattle.texting_robots.specs.Internal.Cut.{cut};
-ghost use Rattle.texting_robots.specs.Internal.Delay.{delay_of};
-ghost use Rattle.texting_robots.specs.Internal.Site.{delay_of as tagged_delay, own_tagged, rule_of};
 ghost use Rattle.texting_robots.specs.Trim.{IsTrimOf};
 ghost use Rattle.texting_robots.specs.Verdict.{IsVerdict, robots_file};
 
@@ -299,15 +297,16 @@ pub fn example_of_a_file()
     ensures answers { example.answers }
 {}
 
-/// If a file has user-agent lines, the rules and delays that apply to a crawler are those below the runs of user-agent
-/// lines that contain its group name, in file order. It connects the index of a `Site` with the contract of
-/// `Site::robot`.
-#[tactic(auto, using(crate::proofs::SiteLemmas::rules_of_runs, crate::proofs::SiteLemmas::delays_of_runs))]
-pub fn captured_by_runs()
+/// If a file has user-agent lines, the rules and delays that apply to a crawler are those in the groups with its group
+/// name, in file order. So the specification by positions agrees with the groups of RFC 9309.
+pub fn captured_by_groups()
+    ensures lines { (name : List ℕ) (lines : List LineValue) → list_any is_agent lines ≡ true
+        → filter (λ line. is_group line.1) (captured_lines name lines) ≡ lines_for name (groups lines) }
     ensures rules { (agent : List ℕ) (lines : List LineValue) → list_any is_agent lines ≡ true
-        → placed_rules agent lines ≡ filter_map rule_of (own_tagged (group_name agent lines) lines) }
+        → placed_rules agent lines ≡ filter_map placed_in (lines_for (group_name agent lines) (groups lines)) }
     ensures delays { (agent : List ℕ) (lines : List LineValue) → list_any is_agent lines ≡ true
-        → captured_delays agent lines ≡ filter_map tagged_delay (own_tagged (group_name agent lines) lines) }
+        → captured_delays agent lines
+        ≡ filter_map (λ line. delay_in line.1) (lines_for (group_name agent lines) (groups lines)) }
 {}
 
 /// Crawlers with the same group name have the same robots. Used by callers that keep one robot for all crawlers that a
