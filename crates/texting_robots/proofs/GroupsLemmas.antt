@@ -1,16 +1,18 @@
 -- What is captured for a name is what the groups with that name contain.
 use Rattle.std.proofs.Common.{◌≡◌, ℕ, ◌+◌, Bool, true, false, not, ◌&&◌, ◌||◌, List, [], ◌∷◌, ◌++◌, Option}
-use Rattle.std.proofs.Common.{Some, None, bytes_eq, cond, refl, ap, sym, ◌∙◌}
-use Rattle.std.specs.{Prelude.filter, List.cons_option, List.filter_map, List.list_any}
+use Rattle.std.proofs.Common.{◌↔◌, IsTrue, arith, slice_get, Some, None, bytes_eq, cond, refl, ap, sym, ◌∙◌}
+use Rattle.std.specs.{List.Contains, Prelude.filter, List.cons_option, List.filter_map, List.list_any}
 use Rattle.std.specs.Str.{str_to_ascii_lowercase}
 use Rattle.std.proofs.Math.Bool.{and-false, or-false}
 use Rattle.texting_robots.specs.declared.groups.GroupTracker.{GroupTracker}
 use Rattle.texting_robots.specs.Line.{LineValue, UserAgent, Sitemap, Raw, delay_in}
-use Rattle.texting_robots.specs.Group.{group_name, is_agent, is_group}
+use Rattle.texting_robots.specs.Group.{IsCaptured, group_name, is_agent, is_group}
 use Rattle.texting_robots.specs.Groups.{GroupValue, grouped_from, groups, is_for, lines_for, with_name}
 use Rattle.texting_robots.specs.Executable.{captured_delays, captured_lines, placed_in, placed_rules}
 use Rattle.texting_robots.specs.Internal.Group.{from_captured, start_of, step}
-use Rattle.texting_robots.proofs.CapturedLemmas.{captured_walked, cond_same}
+use Rattle.texting_robots.proofs.CapturedLemmas.{captured_walked, cond_given, cond_same, is_captured_decides}
+use Rattle.texting_robots.proofs.PlacedLemmas.{given_come}
+use Rattle.texting_robots.specs.Internal.Captured.{is_captured}
 use Rattle.texting_robots.proofs.SiteLemmas.{delay_of_group, nothing_here, rule_of_group}
 
 -- the lines of the groups with the name; `joined`: a user-agent line above the first group has the name
@@ -46,7 +48,8 @@ with_agent name value position named [] [] is same =
     rw (← same) (cond_same (is || named) [] ∙ sym (cond_same (named || (is || false)) []))
 with_agent name value position named [] (group ∷ groups) is same =
     let rest = lines_for name groups in
-    rw (← same) (cond_same (is || named) (cond ((is || named) || is_for name group) (group.lines ++ rest) rest)
+    rw (← same) (cond_same (is || named)
+    (cond ((is || named) || is_for name group) (group.lines ++ rest) rest)
     ∙ ap (λ b. cond b (group.lines ++ rest) rest) (moved is named (is_for name group)))
 with_agent name value position named (l ∷ above) groups is same =
     let rest = lines_for name groups in
@@ -72,14 +75,16 @@ walked : (name : List ℕ) (tracker : GroupTracker) (position : ℕ) (lines : Li
 walked name tracker position [] = sym (cond_same tracker.captured [])
 walked name tracker position (UserAgent value ∷ lines) =
     let below = grouped_from (position + 1) lines in
-    nothing_here tracker.captured None _ refl ∙ walked name (step name tracker (UserAgent value)) (position + 1) lines
+    nothing_here tracker.captured None _ refl
+    ∙ walked name (step name tracker (UserAgent value)) (position + 1) lines
     ∙ with_agent name value position tracker.named below.above below.groups _ refl
     ∙ sym (cond_same tracker.captured _)
 walked name tracker position (Sitemap value ∷ lines) =
     nothing_here tracker.captured None _ refl
     ∙ walked name (step name tracker (Sitemap value)) (position + 1) lines
 walked name tracker position (Raw body ∷ lines) =
-    nothing_here tracker.captured None _ refl ∙ walked name (step name tracker (Raw body)) (position + 1) lines
+    nothing_here tracker.captured None _ refl
+    ∙ walked name (step name tracker (Raw body)) (position + 1) lines
 walked name tracker position (line ∷ lines) =
     let below = grouped_from (position + 1) lines in
     ap (cons_option (cond tracker.captured (Some (position, line)) None))
@@ -98,7 +103,7 @@ kept_groups (line ∷ lines) = rw (kept_groups lines) (one (is_group line.1) (fi
     one true rest = refl
     one false rest = refl
 
-pub captured_by_groups : (name : List ℕ) (lines : List LineValue) → list_any is_agent lines ≡ true
+captured_by_groups : (name : List ℕ) (lines : List LineValue) → list_any is_agent lines ≡ true
     → filter (λ (l : ℕ × LineValue). is_group l.1) (captured_lines name lines) ≡ lines_for name (groups lines)
 captured_by_groups name lines some =
     let all = grouped_from 0 lines in
@@ -137,3 +142,28 @@ delays_of_groups agent lines some =
     (captured_lines (group_name agent lines) lines)
     ∙ ap (filter_map (λ (l : ℕ × LineValue). delay_in l.1))
     (captured_by_groups (group_name agent lines) lines some)
+
+same_place : (a b : ℕ × LineValue) → ◌≡◌ {A = Option (ℕ × LineValue)} (Some a) (Some b) → a.0 ≡ b.0
+same_place a b is = let pairs : a ≡ b = cc in ap (λ (p : ℕ × LineValue). p.0) pairs
+
+pub captured_in_groups : (name : List ℕ) (lines : List LineValue) (position : ℕ) (line : LineValue)
+    → list_any is_agent lines ≡ true → slice_get lines position ≡ Some line → IsTrue (is_group line)
+    → IsCaptured name lines position ↔ Contains (lines_for name (groups lines)) (position, line)
+captured_in_groups name lines position line some at is =
+    let test = is_captured name lines in
+    let decides = is_captured_decides name lines position in
+    let (to, from) = given_come group_line test 0 lines (position, line) in
+    let same = sym (kept_groups (captured_lines name lines)) ∙ captured_by_groups name lines some in
+    rw (← same) (
+      λ captured.
+          let kept : group_line (position, line) ≡ Some (position, line) = rw is refl in
+          let given = cond_given {X = ℕ × LineValue} (test position) _ (position, line) in
+          let gives = given.1 (decides.1 captured, kept) in
+          from (position, position, line, omega arith, at, gives),
+      λ has.
+          let (k, other, l, far, there, gives) = to has in
+          let (passes, kept) = (cond_given {X = ℕ × LineValue} (test other) _ (position, line)).0 gives in
+          let found = ((cond_given {X = ℕ × LineValue} (is_group l) _ (position, line)).0 kept).1 in
+          let here = same_place (other, l) (position, line) found in
+          decides.0 (rw here at passes),
+    )

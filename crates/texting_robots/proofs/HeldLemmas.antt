@@ -15,7 +15,7 @@ use Rattle.texting_robots.specs.Rules.{PlacedRule, Rule, AreRulesFor, IsRejected
 use Rattle.texting_robots.specs.{Line.LineValue, Group.group_name}
 use Rattle.texting_robots.specs.{Internal.Captured.is_captured, Internal.Group.placed, Pattern.IsOverlong}
 use Rattle.texting_robots.proofs.CapturedLemmas.{cond_given, kept_next}
-use Rattle.texting_robots.proofs.{PlacedLemmas.placed_held, PlacedLemmas.rules_come, PlacedLemmas.rules_from}
+use Rattle.texting_robots.proofs.PlacedLemmas.{given_come, given_from, placed_held}
 use Rattle.texting_robots.proofs.{RulesLemmas.any_unplaced, BestLemmas.placed_of}
 use Rattle.texting_robots.proofs.VerdictLemmas.{after_first, same_elements}
 
@@ -130,14 +130,15 @@ apart_with (Some found) rules differs apart =
     (differs found refl) apart
 
 -- each line gives at most one rule
-rules_apart : (test : ℕ → Bool) (n : ℕ) (lines : List LineValue) → AreApart (rules_from test n lines)
+rules_apart : (test : ℕ → Bool) (n : ℕ) (lines : List LineValue)
+    → AreApart (given_from placed_in test n lines)
 rules_apart test n [] = λ i j d less within. absurd (omega arith)
 rules_apart test n (line ∷ lines) =
-    let rules = rules_from test (n + 1) lines in
+    let rules = given_from placed_in test (n + 1) lines in
     rw (kept_next (test n) placed_in (n, line)) (apart_with _ rules (λ found is k d below same.
     let other = get_or rules k d in
     let (far, position, following, ahead, at, gives) =
-    (rules_come test (n + 1) lines other).0 (Contains-get_or rules k d below) in
+    (given_come placed_in test (n + 1) lines other).0 (Contains-get_or rules k d below) in
     let here = given_number _ n line found is in
     let there = given_number _ position following other gives in
     omega arith)

@@ -12,17 +12,17 @@ use Rattle.texting_robots.specs.Line.{LineValue, Allow, Disallow}
 use Rattle.texting_robots.specs.Executable.{placed_in, placed_rules, rule_in, rule_with}
 use Rattle.texting_robots.proofs.CapturedLemmas.{cond_given, is_captured_decides, kept_next}
 
--- ---- a computed rule comes from one of the lines
+-- ---- what is computed comes from one of the lines
 
--- the rules of the lines whose index passes a test, where the first line has index `n`
-abbrev pub rules_from : (ℕ → Bool) → ℕ → List LineValue → List PlacedRule
-rules_from test n lines = filter_map placed_in (filter (λ p. test p.0) (enumerate_from n lines))
+-- what is given by the lines whose index passes a test, where the first line has index `n`
+abbrev pub given_from : {X : Type 0} → (ℕ × LineValue → Option X) → (ℕ → Bool) → ℕ → List LineValue → List X
+given_from given test n lines = filter_map given (filter (λ p. test p.0) (enumerate_from n lines))
 
--- such a line gives the rule
-abbrev pub GivesRule : (ℕ → Bool) → ℕ → List LineValue → PlacedRule → Type 0
-GivesRule test n lines found =
+-- such a line gives it
+abbrev pub Gives : {X : Type 0} → (ℕ × LineValue → Option X) → (ℕ → Bool) → ℕ → List LineValue → X → Type 0
+Gives given test n lines found =
     (k : ℕ) × (position : ℕ) × (line : LineValue) × (position ≡ n + k) × (slice_get lines k ≡ Some line)
-    × (cond (test position) (placed_in (position, line)) None ≡ Some found)
+    × (cond (test position) (given (position, line)) None ≡ Some found)
 
 -- an item is in a list if it is the first one or in the rest
 cons_has : {X : Type 0} (o : Option X) (xs : List X) (x : X)
@@ -38,35 +38,39 @@ cons_has {X} (Some y) xs x = (to, from)
     from (inl is) = (0, omega arith, cc)
     from (inr (k, below, at)) = (suc k, omega arith, at)
 
--- the rule comes from the first line or from a later one
-module _ (test : ℕ → Bool) (n : ℕ) (line : LineValue) (lines : List LineValue) (found : PlacedRule)
-    (later : Contains (rules_from test (n + 1) lines) found ↔ GivesRule test (n + 1) lines found) where
+-- it comes from the first line or from a later one
+module _ {X : Type 0} (given : ℕ × LineValue → Option X) (test : ℕ → Bool) (n : ℕ) (line : LineValue)
+    (lines : List LineValue) (found : X)
+    (later : Contains (given_from given test (n + 1) lines) found
+    ↔ Gives given test (n + 1) lines found) where
   abbrev ComesNext : Type 0
-  ComesNext = (cond (test n) (placed_in (n, line)) None ≡ Some found)
-      ⊎ Contains (rules_from test (n + 1) lines) found
+  ComesNext = (cond (test n) (given (n, line)) None ≡ Some found)
+      ⊎ Contains (given_from given test (n + 1) lines) found
 
-  there : ComesNext → GivesRule test n (line ∷ lines) found
+  there : ComesNext → Gives given test n (line ∷ lines) found
   there (inl is) = (0, n, line, omega arith, refl, is)
   there (inr has) =
       let (k, position, other, far, at, is) = later.0 has in (suc k, position, other, omega arith, at, is)
 
-  back : GivesRule test n (line ∷ lines) found → ComesNext
+  back : Gives given test n (line ∷ lines) found → ComesNext
   back (zero, position, other, far, at, is) =
       let here : position ≡ n = omega arith in
       let same : other ≡ line = cc in
       inl (rw (here, same) at is)
   back (suc k, position, other, far, at, is) = inr (later.1 (k, position, other, omega arith, at, is))
 
-pub rules_come : (test : ℕ → Bool) (n : ℕ) (lines : List LineValue) (found : PlacedRule)
-    → Contains (rules_from test n lines) found ↔ GivesRule test n lines found
-rules_come test n [] found = (λ (k, below, at). absurd (omega arith), λ (k, position, line, far, at, is). cc)
-rules_come test n (line ∷ lines) found =
-    let later = rules_come test (n + 1) lines found in
-    let here = cond (test n) (placed_in (n, line)) None in
-    let (to, from) = cons_has here (rules_from test (n + 1) lines) found in
-    rw (kept_next (test n) placed_in (n, line)) (
-      λ has. there test n line lines found later (to has),
-      λ gives. from (back test n line lines found later gives),
+pub given_come : {X : Type 0} (given : ℕ × LineValue → Option X) (test : ℕ → Bool) (n : ℕ)
+    (lines : List LineValue) (found : X)
+    → Contains (given_from given test n lines) found ↔ Gives given test n lines found
+given_come given test n [] found =
+    (λ (k, below, at). absurd (omega arith), λ (k, position, line, far, at, is). cc)
+given_come given test n (line ∷ lines) found =
+    let later = given_come given test (n + 1) lines found in
+    let here = cond (test n) (given (n, line)) None in
+    let (to, from) = cons_has here (given_from given test (n + 1) lines) found in
+    rw (kept_next (test n) given (n, line)) (
+      λ has. there given test n line lines found later (to has),
+      λ gives. from (back given test n line lines found later gives),
     )
 
 -- ---- that line holds the rule
@@ -109,7 +113,7 @@ pub placed_held : (agent : List ℕ) (lines : List LineValue) (found : PlacedRul
 placed_held agent lines found =
     let test = is_captured (group_name agent lines) lines in
     let decides = is_captured_decides (group_name agent lines) lines in
-    let (to, from) = rules_come test 0 lines found in (
+    let (to, from) = given_come placed_in test 0 lines found in (
       λ has.
           let (k, position, line, far, at, is) = to has in
           let same : k ≡ position = omega arith in

@@ -11,7 +11,7 @@ use Rattle.std.proofs.lemmas.List.{length-map, take-map, take_more}
 use Rattle.std.proofs.lemmas.Option.{get_or_from_slice_get, slice_get-map, slice_get_within}
 use Rattle.std.proofs.lemmas.Slice.Eq.{bytes_eq-Decides}
 use Rattle.texting_robots.specs.Agents.{agent_in, agents_in, each_once, is_among}
-use Rattle.texting_robots.specs.Line.{LineValue, UserAgent, Allow, Disallow, Sitemap, CrawlDelay, Raw}
+use Rattle.texting_robots.specs.Line.{LineValue, UserAgent, Sitemap, Raw}
 use Rattle.texting_robots.specs.Internal.{Group.text_from, Names.first_named}
 use Rattle.texting_robots.specs.Internal.Site.{Named, has_name, named, named_from, run_after}
 use Rattle.texting_robots.proofs.SiteNameLemmas.{drop_is, first_later, first_now, past_end}
@@ -25,15 +25,11 @@ values_from run joins position count [] = refl
 values_from run joins position count (UserAgent value ∷ lines) =
     ap (λ (vs : List (List ℕ)). value ∷ vs)
     (values_from (run_after run joins (position + 1) (UserAgent value)) true (position + 1) count lines)
-values_from run joins position count (Allow value ∷ lines) = values_from run false (position + 1)
-    (count + 1) lines
-values_from run joins position count (Disallow value ∷ lines) = values_from run false (position + 1)
-    (count + 1) lines
-values_from run joins position count (CrawlDelay delay ∷ lines) = values_from run false (position + 1)
-    (count + 1) lines
 values_from run joins position count (Sitemap value ∷ lines) = values_from run joins
     (position + 1) count lines
 values_from run joins position count (Raw body ∷ lines) = values_from run joins (position + 1) count lines
+values_from run joins position count (line ∷ lines) = values_from run false (position + 1)
+    (count + 1) lines
 
 pub values_are : (lines : List LineValue) → map name_of (named lines) ≡ filter_map agent_in lines
 values_are lines = values_from 0 false 0 0 lines

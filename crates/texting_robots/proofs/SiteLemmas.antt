@@ -48,16 +48,12 @@ none_later name r run false position count (UserAgent value ∷ lines) within ea
     rw (not_of name r (record { name = value; run = position + 1; start = count }) (λ same. omega arith))
     (none_later name r (position + 1) true (position + 1) count lines (omega arith) (omega arith)
     (λ _. omega arith))
-none_later name r run joins position count (Allow value ∷ lines) within earlier closed =
-    none_later name r run false (position + 1) (count + 1) lines (omega arith) earlier (λ wrong. cc)
-none_later name r run joins position count (Disallow value ∷ lines) within earlier closed =
-    none_later name r run false (position + 1) (count + 1) lines (omega arith) earlier (λ wrong. cc)
-none_later name r run joins position count (CrawlDelay delay ∷ lines) within earlier closed =
-    none_later name r run false (position + 1) (count + 1) lines (omega arith) earlier (λ wrong. cc)
 none_later name r run joins position count (Sitemap value ∷ lines) within earlier closed =
     none_later name r run joins (position + 1) count lines (omega arith) earlier closed
 none_later name r run joins position count (Raw body ∷ lines) within earlier closed =
     none_later name r run joins (position + 1) count lines (omega arith) earlier closed
+none_later name r run joins position count (line ∷ lines) within earlier closed =
+    none_later name r run false (position + 1) (count + 1) lines (omega arith) earlier (λ wrong. cc)
 
 -- ---- the state for a name, and the runs
 
@@ -187,38 +183,6 @@ found_in_runs given of_tag fits none name walk run false position count before a
     (are ∙ sym (append_assoc before
     (record { name = value; run = position + 1; start = count } ∷ []) _))
 found_in_runs given of_tag fits none name walk run joins position count before all
-    (Allow value ∷ lines) within
-    splits are =
-    group_next of_tag name walk.captured
-    (record { number = position + 1; line = Allow value; run = run }) all _
-    _ _
-    (fits position run (Allow value))
-    (named_here name walk run joins (position + 1) (count + 1) before all lines (omega arith) splits are)
-    (found_in_runs given of_tag fits none name (record { captured = walk.captured; named = false }) run false
-    (position + 1) (count + 1) before all lines (omega arith)
-    (after_group name walk run joins before splits) are)
-found_in_runs given of_tag fits none name walk run joins position count before all
-    (Disallow value ∷ lines) within
-    splits are =
-    group_next of_tag name walk.captured (record { number = position + 1; line = Disallow value; run = run })
-    all _ _ _
-    (fits position run (Disallow value))
-    (named_here name walk run joins (position + 1) (count + 1) before all lines (omega arith) splits are)
-    (found_in_runs given of_tag fits none name (record { captured = walk.captured; named = false }) run false
-    (position + 1) (count + 1) before all lines (omega arith)
-    (after_group name walk run joins before splits) are)
-found_in_runs given of_tag fits none name walk run joins position count before all
-    (CrawlDelay delay ∷ lines) within
-    splits are =
-    group_next of_tag name walk.captured
-    (record { number = position + 1; line = CrawlDelay delay; run = run })
-    all _ _ _
-    (fits position run (CrawlDelay delay))
-    (named_here name walk run joins (position + 1) (count + 1) before all lines (omega arith) splits are)
-    (found_in_runs given of_tag fits none name (record { captured = walk.captured; named = false }) run false
-    (position + 1) (count + 1) before all lines (omega arith)
-    (after_group name walk run joins before splits) are)
-found_in_runs given of_tag fits none name walk run joins position count before all
     (Sitemap value ∷ lines) within
     splits are =
     nothing_here walk.captured _ _ (none position (Sitemap value) refl)
@@ -231,6 +195,17 @@ found_in_runs given of_tag fits none name walk run joins position count before a
     ∙ found_in_runs given of_tag fits none name walk run joins (position + 1) count before all lines
     (omega arith)
     splits are
+found_in_runs given of_tag fits none name walk run joins position count before all
+    (line ∷ lines) within
+    splits are =
+    group_next of_tag name walk.captured
+    (record { number = position + 1; line = line; run = run }) all _
+    _ _
+    (fits position run line)
+    (named_here name walk run joins (position + 1) (count + 1) before all lines (omega arith) splits are)
+    (found_in_runs given of_tag fits none name (record { captured = walk.captured; named = false }) run false
+    (position + 1) (count + 1) before all lines (omega arith)
+    (after_group name walk run joins before splits) are)
 
 -- the same for a complete file with user-agent lines
 pub found_in_own : {X : Type 0} (given : ℕ × LineValue → Option X) (of_tag : Tagged → Option X)
@@ -294,8 +269,4 @@ pub early_more : (begun : Bool) (early : Option ℕ) (line : LineValue) (left : 
 early_more true early line left = refl
 early_more false early (CrawlDelay delay) left =
     ap (λ last. cond (list_any is_agent left) last None) (sym (last_more early delay _))
-early_more false early (UserAgent value) left = refl
-early_more false early (Allow value) left = refl
-early_more false early (Disallow value) left = refl
-early_more false early (Sitemap value) left = refl
-early_more false early (Raw body) left = refl
+early_more false early _ left = refl

@@ -20,7 +20,7 @@ use Rattle.std.proofs.Common.{IsPermutation, subst}
 use Rattle.texting_robots.proofs.{HeldLemmas.rejection_is_computed, HeldLemmas.rules_are_computed}
 use Rattle.texting_robots.proofs.{GivenLemmas.delay_is_computed, RulesLemmas.any_unplaced}
 use Rattle.texting_robots.proofs.SiteLemmas.{delay_of_group, given_push, rule_of_group}
-use Rattle.texting_robots.specs.Line.{LineValue, UserAgent, Allow, Disallow, Sitemap, CrawlDelay, Raw}
+use Rattle.texting_robots.specs.Line.{LineValue, UserAgent, Sitemap, Raw}
 use Rattle.texting_robots.specs.Line.{delay_in}
 use Rattle.texting_robots.specs.Internal.Site.{Named, Tagged, delay_of, in_front, is_run_of, named}
 use Rattle.texting_robots.specs.Internal.Site.{listed, own_tagged, rule_of, tagged, tagged_from}
@@ -253,37 +253,25 @@ all_from : {X : Type 0} (given : ℕ × LineValue → Option X) (of_tag : Tagged
     ≡ filter_map of_tag (tagged_from 0 false name_index lines)
 all_from given of_tag fits none name name_index [] without = refl
 all_from given of_tag fits none name name_index (UserAgent value ∷ lines) without = cc
-all_from given of_tag fits none name name_index (Allow value ∷ lines) without =
-    cons_same _ _ _ _ (sym (fits name_index 0 (Allow value))) (all_from given of_tag fits none name
-    (name_index + 1) lines without)
-all_from given of_tag fits none name name_index (Disallow value ∷ lines) without =
-    cons_same _ _ _ _ (sym (fits name_index 0 (Disallow value)))
-    (all_from given of_tag fits none name (name_index + 1) lines without)
-all_from given of_tag fits none name name_index (CrawlDelay delay ∷ lines) without =
-    cons_same _ _ _ _ (sym (fits name_index 0 (CrawlDelay delay)))
-    (all_from given of_tag fits none name (name_index + 1) lines without)
 all_from given of_tag fits none name name_index (Sitemap value ∷ lines) without =
     cons_same _ None _ _ (none name_index (Sitemap value) refl)
     (all_from given of_tag fits none name (name_index + 1) lines without)
 all_from given of_tag fits none name name_index (Raw body ∷ lines) without =
     cons_same _ None _ _ (none name_index (Raw body) refl) (all_from given of_tag fits none name
     (name_index + 1) lines without)
+all_from given of_tag fits none name name_index (line ∷ lines) without =
+    cons_same _ _ _ _ (sym (fits name_index 0 line)) (all_from given of_tag fits none name
+    (name_index + 1) lines without)
 
 front_all : (name_index : ℕ) (lines : List LineValue) → list_any is_agent lines ≡ false
     → in_front 0 (tagged_from 0 false name_index lines) ≡ tagged_from 0 false name_index lines
 front_all name_index [] without = refl
 front_all name_index (UserAgent value ∷ lines) without = cc
-front_all name_index (Allow value ∷ lines) without =
-    let t : Tagged = record { number = name_index + 1; line = Allow value; run = 0 } in
-    ap (λ ts. t ∷ ts) (front_all (name_index + 1) lines without)
-front_all name_index (Disallow value ∷ lines) without =
-    let t : Tagged = record { number = name_index + 1; line = Disallow value; run = 0 } in
-    ap (λ ts. t ∷ ts) (front_all (name_index + 1) lines without)
-front_all name_index (CrawlDelay delay ∷ lines) without =
-    let t : Tagged = record { number = name_index + 1; line = CrawlDelay delay; run = 0 } in
-    ap (λ ts. t ∷ ts) (front_all (name_index + 1) lines without)
 front_all name_index (Sitemap value ∷ lines) without = front_all (name_index + 1) lines without
 front_all name_index (Raw body ∷ lines) without = front_all (name_index + 1) lines without
+front_all name_index (line ∷ lines) without =
+    let t : Tagged = record { number = name_index + 1; line = line; run = 0 } in
+    ap (λ ts. t ∷ ts) (front_all (name_index + 1) lines without)
 
 found_in_all : {X : Type 0} (given : ℕ × LineValue → Option X) (of_tag : Tagged → Option X)
     → ((name_index run : ℕ) (line : LineValue)

@@ -7,7 +7,7 @@ use Rattle.std.specs.{Prelude.filter, Str.str_to_ascii_lowercase}
 use Rattle.std.specs.List.{list_any}
 use Rattle.std.proofs.lemmas.{Bool.ne_eqb, Bool.Decides.eqb_tells}
 use Rattle.std.proofs.lemmas.List.{Elements.filter-append}
-use Rattle.texting_robots.specs.Line.{LineValue, UserAgent, Allow, Disallow, Sitemap, CrawlDelay, Raw}
+use Rattle.texting_robots.specs.Line.{LineValue, UserAgent, Sitemap, Raw}
 use Rattle.texting_robots.specs.Group.{is_agent, is_agent_named}
 use Rattle.texting_robots.specs.Internal.Site.{Named, Tagged, has_name, in_front, named, named_from}
 use Rattle.texting_robots.specs.Internal.Site.{run_after}
@@ -33,16 +33,12 @@ above_from r run true position (UserAgent value ∷ lines) below within =
     above_from r run true (position + 1) lines below (omega arith)
 above_from r run false position (UserAgent value ∷ lines) below within =
     above_from r (position + 1) true (position + 1) lines (omega arith) (omega arith)
-above_from r run joins position (Allow value ∷ lines) below within =
-    (below, above_from r run false (position + 1) lines below (omega arith))
-above_from r run joins position (Disallow value ∷ lines) below within =
-    (below, above_from r run false (position + 1) lines below (omega arith))
-above_from r run joins position (CrawlDelay delay ∷ lines) below within =
-    (below, above_from r run false (position + 1) lines below (omega arith))
 above_from r run joins position (Sitemap value ∷ lines) below within =
     above_from r run joins (position + 1) lines below (omega arith)
 above_from r run joins position (Raw body ∷ lines) below within =
     above_from r run joins (position + 1) lines below (omega arith)
+above_from r run joins position (line ∷ lines) below within =
+    (below, above_from r run false (position + 1) lines below (omega arith))
 
 le_self : (n : ℕ) → n ≤ n
 le_self n = omega arith
@@ -54,22 +50,14 @@ ascends_from run true position (UserAgent value ∷ lines) within =
     ascends_from run true (position + 1) lines (omega arith)
 ascends_from run false position (UserAgent value ∷ lines) within =
     ascends_from (position + 1) true (position + 1) lines (omega arith)
-ascends_from run joins position (Allow value ∷ lines) within = (
-  above_from run run false (position + 1) lines (le_self run) (omega arith),
-  ascends_from run false (position + 1) lines (omega arith),
-)
-ascends_from run joins position (Disallow value ∷ lines) within = (
-  above_from run run false (position + 1) lines (le_self run) (omega arith),
-  ascends_from run false (position + 1) lines (omega arith),
-)
-ascends_from run joins position (CrawlDelay delay ∷ lines) within = (
-  above_from run run false (position + 1) lines (le_self run) (omega arith),
-  ascends_from run false (position + 1) lines (omega arith),
-)
 ascends_from run joins position (Sitemap value ∷ lines) within =
     ascends_from run joins (position + 1) lines (omega arith)
 ascends_from run joins position (Raw body ∷ lines) within = ascends_from run joins (position + 1) lines
     (omega arith)
+ascends_from run joins position (line ∷ lines) within = (
+  above_from run run false (position + 1) lines (le_self run) (omega arith),
+  ascends_from run false (position + 1) lines (omega arith),
+)
 
 pub tagged_ascends : (lines : List LineValue) → Ascends (tagged lines)
 tagged_ascends lines = ascends_from 0 false 0 lines (omega arith)
@@ -98,16 +86,12 @@ names_from name run joins position count [] = refl
 names_from name run joins position count (UserAgent value ∷ lines) =
     ap (λ b. bytes_eq (str_to_ascii_lowercase value) name || b) (names_from name (run_after run joins
     (position + 1) (UserAgent value)) true (position + 1) count lines)
-names_from name run joins position count (Allow value ∷ lines) =
-    names_from name run false (position + 1) (count + 1) lines
-names_from name run joins position count (Disallow value ∷ lines) =
-    names_from name run false (position + 1) (count + 1) lines
-names_from name run joins position count (CrawlDelay delay ∷ lines) =
-    names_from name run false (position + 1) (count + 1) lines
 names_from name run joins position count (Sitemap value ∷ lines) =
     names_from name run joins (position + 1) count lines
 names_from name run joins position count (Raw body ∷ lines) = names_from name run joins
     (position + 1) count lines
+names_from name run joins position count (line ∷ lines) =
+    names_from name run false (position + 1) (count + 1) lines
 
 pub names_any : (name : List ℕ) (lines : List LineValue)
     → list_any (has_name name) (named lines) ≡ list_any (is_agent_named name) lines
@@ -117,14 +101,10 @@ some_from : (run : ℕ) (joins : Bool) (position count : ℕ) (lines : List Line
     → list_any (λ (n : Named). true) (named_from run joins position count lines) ≡ list_any is_agent lines
 some_from run joins position count [] = refl
 some_from run joins position count (UserAgent value ∷ lines) = refl
-some_from run joins position count (Allow value ∷ lines) = some_from run false (position + 1)
-    (count + 1) lines
-some_from run joins position count (Disallow value ∷ lines) = some_from run false (position + 1)
-    (count + 1) lines
-some_from run joins position count (CrawlDelay delay ∷ lines) = some_from run false (position + 1)
-    (count + 1) lines
 some_from run joins position count (Sitemap value ∷ lines) = some_from run joins (position + 1) count lines
 some_from run joins position count (Raw body ∷ lines) = some_from run joins (position + 1) count lines
+some_from run joins position count (line ∷ lines) = some_from run false (position + 1)
+    (count + 1) lines
 
 pub no_names : (lines : List LineValue) → named lines ≡ [] → list_any is_agent lines ≡ false
 no_names lines none = sym (some_from 0 false 0 0 lines) ∙ ap (list_any (λ (n : Named). true)) none
@@ -203,28 +183,16 @@ starts_from run false position count front (UserAgent value ∷ lines) within co
 starts_from run false position count front (UserAgent value ∷ lines) within counted none (suc i) n at =
     starts_from (position + 1) true (position + 1) count front lines (omega arith) counted
     (λ r above _. none r (omega arith) (λ _. omega arith)) i n at
-starts_from run joins position count front (Allow value ∷ lines) within counted none i n at =
-    let t : Tagged = record { number = position + 1; line = Allow value; run = run } in
-    subst (λ tags. IsStart tags n) (append_assoc front (t ∷ []) (tagged_from run false (position + 1) lines))
-    (starts_from run false (position + 1) (count + 1) (front ++ t ∷ []) lines (omega arith)
-    (simp length-append (omega arith))
-    (λ r above closed. one_tag r run front t refl (closed refl) (none r above (λ _. closed refl))) i n at)
-starts_from run joins position count front (Disallow value ∷ lines) within counted none i n at =
-    let t : Tagged = record { number = position + 1; line = Disallow value; run = run } in
-    subst (λ tags. IsStart tags n) (append_assoc front (t ∷ []) (tagged_from run false (position + 1) lines))
-    (starts_from run false (position + 1) (count + 1) (front ++ t ∷ []) lines (omega arith)
-    (simp length-append (omega arith))
-    (λ r above closed. one_tag r run front t refl (closed refl) (none r above (λ _. closed refl))) i n at)
-starts_from run joins position count front (CrawlDelay delay ∷ lines) within counted none i n at =
-    let t : Tagged = record { number = position + 1; line = CrawlDelay delay; run = run } in
-    subst (λ tags. IsStart tags n) (append_assoc front (t ∷ []) (tagged_from run false (position + 1) lines))
-    (starts_from run false (position + 1) (count + 1) (front ++ t ∷ []) lines (omega arith)
-    (simp length-append (omega arith))
-    (λ r above closed. one_tag r run front t refl (closed refl) (none r above (λ _. closed refl))) i n at)
 starts_from run joins position count front (Sitemap value ∷ lines) within counted none i n at =
     starts_from run joins (position + 1) count front lines (omega arith) counted none i n at
 starts_from run joins position count front (Raw body ∷ lines) within counted none i n at =
     starts_from run joins (position + 1) count front lines (omega arith) counted none i n at
+starts_from run joins position count front (line ∷ lines) within counted none i n at =
+    let t : Tagged = record { number = position + 1; line = line; run = run } in
+    subst (λ tags. IsStart tags n) (append_assoc front (t ∷ []) (tagged_from run false (position + 1) lines))
+    (starts_from run false (position + 1) (count + 1) (front ++ t ∷ []) lines (omega arith)
+    (simp length-append (omega arith))
+    (λ r above closed. one_tag r run front t refl (closed refl) (none r above (λ _. closed refl))) i n at)
 
 pub starts : (lines : List LineValue) (i : ℕ) (n : Named) → slice_get (named lines) i ≡ Some n
     → IsStart (tagged lines) n
@@ -232,79 +200,55 @@ starts lines i n at = starts_from 0 false 0 0 [] lines (omega arith) refl (λ r 
 
 -- ---- the runs of names ascend
 
-pub record IsName (least : ℕ) (n : Named) : Type 0 where
-  pub following : least ≤ n.run
-  pub some : 0 < n.run
-
 named_above : (least run : ℕ) (joins : Bool) (position count : ℕ) (lines : List LineValue) → least ≤ run
-    → run ≤ position → (joins ≡ true → 0 < run) → (i : ℕ) (n : Named)
-    → slice_get (named_from run joins position count lines) i ≡ Some n → IsName least n
-named_above least run joins position count [] below within begun i n at = cc
-named_above least run true position count (UserAgent value ∷ lines) below within begun zero n at =
+    → run ≤ position → (i : ℕ) (n : Named)
+    → slice_get (named_from run joins position count lines) i ≡ Some n → least ≤ n.run
+named_above least run joins position count [] below within i n at = cc
+named_above least run true position count (UserAgent value ∷ lines) below within zero n at =
     let same : record { name = value; run = run; start = count } ≡ n = cc in
-    subst (IsName least) same (record { following = below; some = begun refl })
-named_above least run true position count (UserAgent value ∷ lines) below within begun (suc i) n at =
-    named_above least run true (position + 1) count lines below (omega arith) begun i n at
-named_above least run false position count (UserAgent value ∷ lines) below within begun zero n at =
+    subst (λ (n : Named). least ≤ n.run) same below
+named_above least run true position count (UserAgent value ∷ lines) below within (suc i) n at =
+    named_above least run true (position + 1) count lines below (omega arith) i n at
+named_above least run false position count (UserAgent value ∷ lines) below within zero n at =
     let same : record { name = value; run = position + 1; start = count } ≡ n = cc in
-    subst (IsName least) same (record { following = omega arith; some = omega arith })
-named_above least run false position count (UserAgent value ∷ lines) below within begun (suc i) n at =
-    named_above least (position + 1) true (position + 1) count lines (omega arith) (omega arith)
-    (λ _. omega arith) i n at
-named_above least run joins position count (Allow value ∷ lines) below within begun i n at =
-    named_above least run false (position + 1) (count + 1) lines below (omega arith) (λ wrong. cc) i n at
-named_above least run joins position count (Disallow value ∷ lines) below within begun i n at =
-    named_above least run false (position + 1) (count + 1) lines below (omega arith) (λ wrong. cc) i n at
-named_above least run joins position count (CrawlDelay delay ∷ lines) below within begun i n at =
-    named_above least run false (position + 1) (count + 1) lines below (omega arith) (λ wrong. cc) i n at
-named_above least run joins position count (Sitemap value ∷ lines) below within begun i n at =
-    named_above least run joins (position + 1) count lines below (omega arith) begun i n at
-named_above least run joins position count (Raw body ∷ lines) below within begun i n at =
-    named_above least run joins (position + 1) count lines below (omega arith) begun i n at
-
-pub names_positive : (lines : List LineValue) (i : ℕ) (n : Named) → slice_get (named lines) i ≡ Some n
-    → 0 < n.run
-names_positive lines i n at =
-    (named_above 0 0 false 0 0 lines (omega arith) (omega arith) (λ wrong. cc) i n at).some
+    subst (λ (n : Named). least ≤ n.run) same (omega arith)
+named_above least run false position count (UserAgent value ∷ lines) below within (suc i) n at =
+    named_above least (position + 1) true (position + 1) count lines (omega arith) (omega arith) i n at
+named_above least run joins position count (Sitemap value ∷ lines) below within i n at =
+    named_above least run joins (position + 1) count lines below (omega arith) i n at
+named_above least run joins position count (Raw body ∷ lines) below within i n at =
+    named_above least run joins (position + 1) count lines below (omega arith) i n at
+named_above least run joins position count (line ∷ lines) below within i n at =
+    named_above least run false (position + 1) (count + 1) lines below (omega arith) i n at
 
 ascend_from : (run : ℕ) (joins : Bool) (position count : ℕ) (lines : List LineValue) → run ≤ position
-    → (joins ≡ true → 0 < run) → (i j : ℕ) (m n : Named) → i < j
+    → (i j : ℕ) (m n : Named) → i < j
     → slice_get (named_from run joins position count lines) i ≡ Some m
     → slice_get (named_from run joins position count lines) j ≡ Some n → m.run ≤ n.run
-ascend_from run joins position count [] within begun i j m n less here there = cc
-ascend_from run joins position count (UserAgent value ∷ lines) within begun i zero m n less here there =
+ascend_from run joins position count [] within i j m n less here there = cc
+ascend_from run joins position count (UserAgent value ∷ lines) within i zero m n less here there =
     absurd (omega arith)
-ascend_from run true position count (UserAgent value ∷ lines) within begun zero (suc j) m n less here there =
+ascend_from run true position count (UserAgent value ∷ lines) within zero (suc j) m n less here there =
     let same : record { name = value; run = run; start = count } ≡ m = cc in
     subst (λ (m : Named). m.run ≤ n.run) same
-    ((named_above run run true (position + 1) count lines (le_self run)
-    (omega arith) begun j n there).following)
-ascend_from run true position count (UserAgent value ∷ lines) within begun (suc i)
-    (suc j) m n less here there =
-    ascend_from run true (position + 1) count lines (omega arith) begun i j m n (omega arith) here there
-ascend_from run false position count (UserAgent value ∷ lines) within begun zero (suc j) m n less here there =
+    (named_above run run true (position + 1) count lines (le_self run) (omega arith) j n there)
+ascend_from run true position count (UserAgent value ∷ lines) within (suc i) (suc j) m n less here there =
+    ascend_from run true (position + 1) count lines (omega arith) i j m n (omega arith) here there
+ascend_from run false position count (UserAgent value ∷ lines) within zero (suc j) m n less here there =
     let same : record { name = value; run = position + 1; start = count } ≡ m = cc in
     subst (λ (m : Named). m.run ≤ n.run) same
-    ((named_above (position + 1) (position + 1) true (position + 1) count lines (le_self (position + 1))
-    (omega arith)
-    (λ _. omega arith) j n there).following)
-ascend_from run false position count (UserAgent value ∷ lines) within begun (suc i)
-    (suc j) m n less here there =
-    ascend_from (position + 1) true (position + 1) count lines (omega arith) (λ _. omega arith) i j m n
-    (omega arith) here
-    there
-ascend_from run joins position count (Allow value ∷ lines) within begun i j m n less here there =
-    ascend_from run false (position + 1) (count + 1) lines (omega arith) (λ wrong. cc) i j m n less here there
-ascend_from run joins position count (Disallow value ∷ lines) within begun i j m n less here there =
-    ascend_from run false (position + 1) (count + 1) lines (omega arith) (λ wrong. cc) i j m n less here there
-ascend_from run joins position count (CrawlDelay delay ∷ lines) within begun i j m n less here there =
-    ascend_from run false (position + 1) (count + 1) lines (omega arith) (λ wrong. cc) i j m n less here there
-ascend_from run joins position count (Sitemap value ∷ lines) within begun i j m n less here there =
-    ascend_from run joins (position + 1) count lines (omega arith) begun i j m n less here there
-ascend_from run joins position count (Raw body ∷ lines) within begun i j m n less here there =
-    ascend_from run joins (position + 1) count lines (omega arith) begun i j m n less here there
+    (named_above (position + 1) (position + 1) true (position + 1) count lines (le_self (position + 1))
+    (omega arith) j n there)
+ascend_from run false position count (UserAgent value ∷ lines) within (suc i) (suc j) m n less here there =
+    ascend_from (position + 1) true (position + 1) count lines (omega arith) i j m n (omega arith) here there
+ascend_from run joins position count (Sitemap value ∷ lines) within i j m n less here there =
+    ascend_from run joins (position + 1) count lines (omega arith) i j m n less here there
+ascend_from run joins position count (Raw body ∷ lines) within i j m n less here there =
+    ascend_from run joins (position + 1) count lines (omega arith) i j m n less here there
+ascend_from run joins position count (line ∷ lines) within i j m n less here there =
+    ascend_from run false (position + 1) (count + 1) lines (omega arith) i j m n less here there
 
 pub names_ascend : (lines : List LineValue) (i j : ℕ) (m n : Named) → i < j
     → slice_get (named lines) i ≡ Some m → slice_get (named lines) j ≡ Some n → m.run ≤ n.run
 names_ascend lines i j m n less here there =
-    ascend_from 0 false 0 0 lines (omega arith) (λ wrong. cc) i j m n less here there
+    ascend_from 0 false 0 0 lines (omega arith) i j m n less here there

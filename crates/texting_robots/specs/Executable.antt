@@ -3,12 +3,12 @@
 -- `each_agent_has_its_rules`, `each_agent_has_its_delay`, `each_file_has_its_sitemaps`. No contract of a
 -- robot depends on these functions.
 use Rattle.std.specs.Prelude.{ℕ, ◌+◌, Bool, true, false, List, Option, Some, None, filter, map}
-use Rattle.std.specs.Prelude.{option_map, slice_get, take, if◌then◌else◌}
+use Rattle.std.specs.Prelude.{slice_get, take, if◌then◌else◌}
 use Rattle.std.specs.List.{before_first, enumerate_from, filter_map, last_or, list_any}
 use Rattle.std.specs.{Option.option_or, Str.is_utf8}
 use Rattle.texting_robots.specs.Group.{group_name, is_agent}
 use Rattle.texting_robots.specs.Line.{LineValue, Allow, Disallow, Sitemap, delay_in, nul_as_lf, without_front}
-use Rattle.texting_robots.specs.Rules.{PlacedRule, Rule, unplaced}
+use Rattle.texting_robots.specs.Rules.{PlacedRule, Rule, placed, unplaced}
 use Rattle.texting_robots.specs.{Escape.escaped, Robot.file_limit}
 use Rattle.texting_robots.specs.Internal.{Captured.is_captured, Cut.bodies_of, Line.lines_of}
 -- the cut of a text, its delay, and whether a line is captured
@@ -54,7 +54,7 @@ captured_lines name lines = filter (λ p. is_captured name lines p.0) (enumerate
 
 -- the rule of the line at a position, if it has one, with the number of the line
 abbrev pub placed_in : ℕ × LineValue → Option PlacedRule
-placed_in p = option_map (λ (r : Rule). record { rule = r; line = p.0 + 1 }) (rule_in p.1)
+placed_in p = placed (p.0 + 1) (rule_in p.1)
 
 -- the captured rules with their lines, in order
 abbrev pub placed_rules : List ℕ → List LineValue → List PlacedRule

@@ -22,6 +22,7 @@ pub mod Address
 pub mod Laws
 pub mod MainTheorem
 pub mod Executable
+pub mod OwnLines
 pub mod Examples
 pub mod Callers
 pub mod Internal

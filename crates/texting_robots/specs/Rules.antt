@@ -3,7 +3,7 @@
 use Rattle.std.specs.Prelude.{◌≡◌, ◌≢◌, ◌⊎◌, ◌↔◌, ℕ, ◌+◌, ◌<◌, ◌≤◌}
 use Rattle.std.specs.Prelude.{All, Bool, List, [], ◌∷◌, ◌++◌}
 use Rattle.std.specs.Prelude.{Option, Some, None, AllPairs, Contains, IsTrue, map, slice_get}
-use Rattle.std.specs.Prelude.{if◌then◌else◌}
+use Rattle.std.specs.Prelude.{if◌then◌else◌, option_map}
 use Rattle.std.specs.Str.{is_utf8}
 use Rattle.texting_robots.specs.{Escape.escaped, Group.IsCaptured, Group.group_name, Group.is_agent}
 use Rattle.texting_robots.specs.{Group.passes_at, Pattern.IsOverlong}
@@ -24,6 +24,10 @@ Rule = List ℕ × Bool
 pub record PlacedRule : Type 0 where
   pub rule : Rule
   pub line : ℕ
+
+-- the rule, if there is one, with this line
+abbrev pub placed : ℕ → Option Rule → Option PlacedRule
+placed line rule = option_map (λ (r : Rule). record { rule = r; line = line }) rule
 
 -- the rules without their lines
 abbrev pub unplaced : List PlacedRule → List Rule

@@ -1,6 +1,6 @@
 //! Theorems about the specification. Each is the contract of an empty function.
 ghost use Rattle.std.specs.Prelude.{◌≡◌, ◌≢◌, ◌<◌, ◌↔◌, ◌⊎◌, ℕ, Bool, true, false, not, List, [], ◌∷◌, ◌++◌};
-ghost use Rattle.std.specs.Prelude.{Any, ◌+◌, Option, Some, None, IsTrue, IsPermutation, codes, filter, length};
+ghost use Rattle.std.specs.Prelude.{Any, ◌+◌, Option, Some, None, IsTrue, IsPermutation, Contains, codes, filter, length, slice_get};
 ghost use Rattle.std.specs.declared.cmp.Ordering.TheVariants.{Less, Equal};
 ghost use Rattle.std.specs.List.{filter_map, list_any};
 ghost use Rattle.std.specs.Str.{str_to_ascii_lowercase};
@@ -15,7 +15,7 @@ ghost use Rattle.texting_robots.specs.Laws.{IsSameKind, Same, SameButSitemaps, c
 ghost use Rattle.texting_robots.specs.Line.{AreFileLinesOf, AreLinesOf, HoldRangesOf, LineValue, delay_in, is_raw, is_sitemap};
 ghost use Rattle.texting_robots.specs.Labels.{AreLabelsOf, Label, labels_of};
 ghost use Rattle.texting_robots.specs.Order.{IsBefore, pattern_cmp};
-ghost use Rattle.texting_robots.specs.Executable.{captured_delays, captured_lines, delay_for, file_lines, parsed, placed_in, placed_rules};
+ghost use Rattle.texting_robots.specs.Executable.{captured_delays, delay_for, file_lines, parsed, placed_in, placed_rules};
 ghost use Rattle.texting_robots.specs.Executable.{cut, delay_of, is_captured, rules_for, sitemaps_in};
 ghost use Rattle.texting_robots.specs.Pattern.{IsOverlong, Matches, MatchesWith, collapsed};
 ghost use Rattle.texting_robots.specs.Robot.{AnswerAlike, IsRobotOf, RobotValue};
@@ -300,8 +300,9 @@ pub fn example_of_a_file()
 /// If a file has user-agent lines, the rules and delays that apply to a crawler are those in the groups with its group
 /// name, in file order. So the specification by positions agrees with the groups of RFC 9309.
 pub fn captured_by_groups()
-    ensures lines { (name : List ℕ) (lines : List LineValue) → list_any is_agent lines ≡ true
-        → filter (λ line. is_group line.1) (captured_lines name lines) ≡ lines_for name (groups lines) }
+    ensures lines { (name : List ℕ) (lines : List LineValue) (position : ℕ) (line : LineValue)
+        → list_any is_agent lines ≡ true → slice_get lines position ≡ Some line → IsTrue (is_group line)
+        → IsCaptured name lines position ↔ Contains (lines_for name (groups lines)) (position, line) }
     ensures rules { (agent : List ℕ) (lines : List LineValue) → list_any is_agent lines ≡ true
         → placed_rules agent lines ≡ filter_map placed_in (lines_for (group_name agent lines) (groups lines)) }
     ensures delays { (agent : List ℕ) (lines : List LineValue) → list_any is_agent lines ≡ true

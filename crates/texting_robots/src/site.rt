@@ -14,7 +14,7 @@ ghost use Rattle.texting_robots.specs.Robot.{IsFileRejected, IsRobotOfFile, file
 ghost use Rattle.texting_robots.specs.Rules.{AreSitemapsOf, HasNoRulesOrSitemaps, IsDelayFor};
 ghost use Rattle.texting_robots.specs.Internal.Entries.{AreEntries, rules_in};
 ghost use Rattle.texting_robots.specs.Internal.Group.{text_from};
-ghost use Rattle.texting_robots.specs.Internal.Site.{delay_of, rule_of};
+ghost use Rattle.texting_robots.specs.OwnLines.{delay_of, rule_of};
 
 mod lines;
 mod names;

@@ -1,6 +1,6 @@
 -- The state that the code updates line by line (`GroupTracker`), and what it finds in the lines.
 use Rattle.std.specs.Prelude.{ℕ, ◌+◌, Bool, false, not, ◌&&◌, ◌||◌, List, []}
-use Rattle.std.specs.Prelude.{◌∷◌, Option, Some, None, option_map, if◌then◌else◌}
+use Rattle.std.specs.Prelude.{◌∷◌, Option, Some, None, if◌then◌else◌}
 use Rattle.std.specs.{List.cons_option, List.list_any, Str.is_utf8}
 use Rattle.texting_robots.specs.declared.groups.GroupTracker.{GroupTracker}
 use Rattle.texting_robots.specs.{Group.is_agent, Group.is_agent_named, Group.is_group, Line.LineValue}
@@ -8,7 +8,8 @@ use Rattle.texting_robots.specs.declared.labels.Membership.{Membership}
 use Rattle.texting_robots.specs.declared.labels.Membership.TheVariants.{Own, Other, Ungrouped}
 use Rattle.texting_robots.specs.Labels.{Label, is_own}
 use Rattle.texting_robots.specs.Executable.{rule_in}
-use Rattle.texting_robots.specs.Rules.{PlacedRule, Rule}
+use Rattle.texting_robots.specs.Rules.{PlacedRule}
+pub use Rattle.texting_robots.specs.Rules.{placed}
 
 -- before the first line
 abbrev pub start_of : List LineValue → GroupTracker
@@ -34,10 +35,6 @@ from_captured given name tracker position [] = []
 from_captured given name tracker position (line ∷ lines) =
     cons_option (if_captured tracker (given (position, line)))
     (from_captured given name (step name tracker line) (position + 1) lines)
-
--- the rule, if there is one, with this line
-abbrev pub placed : ℕ → Option Rule → Option PlacedRule
-placed line rule = option_map (λ (r : Rule). record { rule = r; line = line }) rule
 
 -- the value, if it is UTF-8
 abbrev pub text_from : List ℕ → Option (List ℕ)

@@ -6,20 +6,12 @@ use Rattle.std.specs.Prelude.{if◌then◌else◌, bytes_eq}
 use Rattle.std.specs.{List.cons_option, List.filter_map, List.list_any, Option.option_or}
 use Rattle.std.specs.{Str.str_to_ascii_lowercase}
 use Rattle.texting_robots.specs.{Group.is_agent, Group.is_group, Line.LineValue, Line.UserAgent}
-use Rattle.texting_robots.specs.Executable.{delay_before_agents, file_lines, rule_in, sitemap_in, sitemaps_in}
+use Rattle.texting_robots.specs.Executable.{delay_before_agents, file_lines, sitemap_in, sitemaps_in}
 use Rattle.texting_robots.specs.declared.site.lines.AgentLine.{AgentLine}
-use Rattle.texting_robots.specs.declared.site.lines.GroupLine.{GroupLine}
 use Rattle.texting_robots.specs.declared.site.lines.KeptLine.{KeptLine}
 use Rattle.texting_robots.specs.declared.site.lines.Span.{Span}
-use Rattle.texting_robots.specs.{Line.by_value, Line.delay_in, Rules.PlacedRule, Internal.Group.placed}
-use Rattle.texting_robots.specs.{Internal.Line.line_of}
-
--- a group line, its number, counted from 1, and its run: the number of the run's first line, or 0 if no
--- user-agent line is above the group line
-pub record Tagged : Type 0 where
-  pub number : ℕ
-  pub line : LineValue
-  pub run : ℕ
+use Rattle.texting_robots.specs.{Line.delay_in, Internal.Line.line_of}
+pub use Rattle.texting_robots.specs.OwnLines.{Tagged, delay_of, rule_of, tag_of}
 
 -- the name of a user-agent line, its run, and how many group lines are above it
 pub record Named : Type 0 where
@@ -86,14 +78,6 @@ is_run_of name names run = list_any (is_of name run) names
 abbrev pub own_tagged : List ℕ → List LineValue → List Tagged
 own_tagged name lines = filter (λ t. is_run_of name (named lines) t.run) (tagged lines)
 
--- the rule in a group line
-abbrev pub rule_of : Tagged → Option PlacedRule
-rule_of t = placed t.number (rule_in t.line)
-
--- the delay in a group line
-abbrev pub delay_of : Tagged → Option ℕ
-delay_of t = delay_in t.line
-
 -- the leading group lines that are of this run
 abbrev pub in_front : ℕ → List Tagged → List Tagged
 in_front run [] = []
@@ -107,9 +91,6 @@ bytes_at text span = take span.len (drop span.start text)
 
 abbrev pub line_at : List ℕ → Span → LineValue
 line_at text span = line_of (bytes_at text span)
-
-abbrev pub tag_of : GroupLine → Tagged
-tag_of group = record { number = group.number; line = by_value group.line; run = group.run }
 
 abbrev pub tag_at : List ℕ → KeptLine → Tagged
 tag_at text kept = record { number = kept.number; line = line_at text kept.span; run = kept.run }

@@ -3,7 +3,8 @@ ghost use Rattle.std.specs.Prelude.{◌≡◌, ◌+◌, ◌<◌, ◌≤◌, ◌�
 ghost use Rattle.std.specs.Iterator.{YieldsFirstBy, item_count};
 ghost use Rattle.std.specs.Str.{str_to_ascii_lowercase};
 ghost use Rattle.texting_robots.specs.Internal.Own.{AreOfFile, IsWalk, IsWholeWalk, own_at};
-ghost use Rattle.texting_robots.specs.Internal.Site.{in_front, tag_at, tag_of};
+ghost use Rattle.texting_robots.specs.Internal.Site.{in_front, tag_at};
+ghost use Rattle.texting_robots.specs.OwnLines.{tag_of};
 
 use crate::site::lines::{GroupLine, KeptLine};
 use crate::site::names::Names;
@@ -37,7 +38,8 @@ impl<'s, 'n> Model for OwnLines<'s, 'n> {
     ghost use Rattle.std.specs.Prelude.{List, map};
     ghost use Rattle.std.specs.Str.{str_to_ascii_lowercase};
     ghost use Rattle.texting_robots.specs.Internal.Own.{IsWalk, own_at};
-    ghost use Rattle.texting_robots.specs.Internal.Site.{Tagged, tag_at};
+    ghost use Rattle.texting_robots.specs.Internal.Site.{tag_at};
+    ghost use Rattle.texting_robots.specs.OwnLines.{Tagged};
 
     ghost Value = { List Tagged };
 

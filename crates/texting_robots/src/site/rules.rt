@@ -2,8 +2,8 @@
 ghost use Rattle.std.specs.Prelude.{◌≡◌, IfOk, string_bytes};
 ghost use Rattle.std.specs.Iterator.{YieldsFirst, item_count};
 ghost use Rattle.texting_robots.specs.Executable.{rule_with};
-ghost use Rattle.texting_robots.specs.Internal.Group.{placed};
-ghost use Rattle.texting_robots.specs.Internal.Site.{rule_of, tag_of};
+ghost use Rattle.texting_robots.specs.OwnLines.{rule_of, tag_of};
+ghost use Rattle.texting_robots.specs.Rules.{placed};
 
 use crate::escape::push_escaped;
 use crate::parser::Line;
@@ -59,7 +59,7 @@ impl<'s, 'n> Model for SiteRules<'s, 'n> {
     ghost use Rattle.std.specs.Prelude.{List};
     ghost use Rattle.std.specs.List.{filter_map};
     ghost use Rattle.texting_robots.specs.Rules.{PlacedRule};
-    ghost use Rattle.texting_robots.specs.Internal.Site.{rule_of};
+    ghost use Rattle.texting_robots.specs.OwnLines.{rule_of};
 
     ghost Value = { List PlacedRule };
 

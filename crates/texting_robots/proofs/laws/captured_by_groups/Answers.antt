@@ -1,5 +1,5 @@
-use Rattle.texting_robots.proofs.GroupsLemmas.{captured_by_groups, delays_of_groups, rules_of_groups}
+use Rattle.texting_robots.proofs.GroupsLemmas.{captured_in_groups, delays_of_groups, rules_of_groups}
 use Rattle.texting_robots.proofs.laws.captured_by_groups.Goals as goal
 
 pub returns : goal.returns
-returns c = record { lines = captured_by_groups; rules = rules_of_groups; delays = delays_of_groups }
+returns c = record { lines = captured_in_groups; rules = rules_of_groups; delays = delays_of_groups }

@@ -1,0 +1,24 @@
+-- The group lines that apply to a crawler, by value.
+use Rattle.std.specs.Prelude.{ℕ, Option}
+use Rattle.texting_robots.specs.{Executable.rule_in, Rules.PlacedRule, Rules.placed}
+use Rattle.texting_robots.specs.{Line.LineValue, Line.by_value, Line.delay_in}
+use Rattle.texting_robots.specs.declared.site.lines.GroupLine.{GroupLine}
+
+-- a group line, its number, counted from 1, and the number of the first line of the run of user-agent lines
+-- above it, or 0 if there is none
+pub record Tagged : Type 0 where
+  pub number : ℕ
+  pub line : LineValue
+  pub run : ℕ
+
+-- a group line by value, wherever its bytes are in memory
+abbrev pub tag_of : GroupLine → Tagged
+tag_of group = record { number = group.number; line = by_value group.line; run = group.run }
+
+-- the rule in a group line
+abbrev pub rule_of : Tagged → Option PlacedRule
+rule_of t = placed t.number (rule_in t.line)
+
+-- the delay in a group line
+abbrev pub delay_of : Tagged → Option ℕ
+delay_of t = delay_in t.line
