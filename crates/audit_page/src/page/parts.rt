@@ -9,6 +9,7 @@ ghost use Rattle.audit_page.specs.Tree.{field_bytes};
 
 use itoa::Buffer;
 use robots_html::write::{push_attribute, push_close, push_open, push_text};
+use robots_io::sanitize::push_sanitized;
 use robots_text::parts::{Part, Value, push_parts};
 use std::alloc::AllocError;
 
@@ -21,22 +22,22 @@ pub(crate) struct Page {
 }
 
 /// Appends a value, sanitized and escaped.
+#[tactic(auto, using(robots_html::proofs::TextLemmas::decimal_written))]
 fn push_value(page: &mut Page, value: Value<'_>) -> Result<(), AllocError>
     ensures { OnOk result (page.new.out.items ≡ page.old.out.items ++ escaped (raw_value value.entry)) }
 {
+    page.text.clear();
     match value {
-        Value::Nothing => Ok(()),
-        Value::Word(word) => push_text(&mut page.out, word.as_bytes()),
+        Value::Nothing => return Ok(()),
         Value::Number(number) => {
             let mut buffer = Buffer::new();
-            push_text(&mut page.out, buffer.format(number).as_bytes())
+            return page.out.extend_from_slice(buffer.format(number).as_bytes());
         }
-        _ => {
-            page.text.clear();
-            push_parts(&mut page.text, &[Part("", value)])?;
-            push_text(&mut page.out, page.text.as_bytes())
-        }
+        Value::Word(word) => return push_text(&mut page.out, word.as_bytes()),
+        Value::Untrusted(bytes) => push_sanitized(&mut page.text, bytes)?,
+        _ => push_parts(&mut page.text, &[Part("", value)])?,
     }
+    push_text(&mut page.out, page.text.as_bytes())
 }
 
 /// Appends a part: markup, which is copied, and a value, which is escaped.

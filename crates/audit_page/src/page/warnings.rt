@@ -3,8 +3,8 @@
 
 ghost use Rattle.std.specs.Prelude.{◌≡◌, ◌++◌, IfOk, OnOk, drop, map, take};
 ghost use Rattle.robots_text.specs.Text.{value_text};
-ghost use Rattle.audit_page.specs.Page.{has_row, later_warnings, level_front, line_name, listed_warnings, rest_count};
-ghost use Rattle.audit_page.specs.Page.{rest_note, warning_entry, warning_item, warning_items, warning_list, warning_place, warning_row};
+ghost use Rattle.audit_page.specs.Page.{has_row, later_warnings, level_front, line_name, rest_count};
+ghost use Rattle.audit_page.specs.Page.{rest_note, warning_entry, warning_item, warning_list, warning_place, warning_row};
 ghost use Rattle.audit_page.specs.Page.{warning_words, without_row};
 ghost use Rattle.audit_page.specs.Tree.{all, words_written, written};
 
@@ -42,15 +42,7 @@ fn push_warning_words(page: &mut Page, warning: &Warning<'_>) -> Result<(), Allo
     push_text(&mut page.out, page.text.as_bytes())
 }
 
-/// The first of these warnings.
-#[tactic(auto)]
-fn listed<'a, 'b>(warnings: &'b [Warning<'a>]) -> &'b [Warning<'a>]
-    ensures { result.now ≡ take listed_warnings warnings.now }
-{
-    first(warnings, LISTED_WARNINGS)
-}
-
-/// The warnings after those.
+/// The warnings after those that are listed first.
 #[tactic(auto)]
 fn later<'a, 'b>(warnings: &'b [Warning<'a>]) -> &'b [Warning<'a>]
     ensures { result.now ≡ later_warnings warnings.now }
@@ -156,35 +148,6 @@ fn rest_count(rows: usize, warnings: &[Warning<'_>], others: &[Warning<'_>]) -> 
     warnings.len().saturating_sub(others.len())
 }
 
-/// Appends the list at the top: the first warnings, and those after them that have no row.
-fn push_list(
-    page: &mut Page,
-    rows: usize,
-    warnings: &[Warning<'_>],
-    others: &[Warning<'_>],
-) -> Result<(), AllocError>
-    requires { others.now ≡ without_row rows (later_warnings warnings.now) }
-    ensures { OnOk result (page.new.out.items ≡ page.old.out.items
-        ++ written (warning_items rows warnings.now)) }
-{
-    push_warning_items(page, rows, listed(warnings))?;
-    push_warning_items(page, rows, others)
-}
-
-/// Appends how many of the later warnings have a row.
-fn push_rest(
-    page: &mut Page,
-    rows: usize,
-    warnings: &[Warning<'_>],
-    others: &[Warning<'_>],
-) -> Result<(), AllocError>
-    requires { others.now ≡ without_row rows (later_warnings warnings.now) }
-    ensures { OnOk result (page.new.out.items ≡ page.old.out.items
-        ++ written (rest_note (rest_count rows (later_warnings warnings.now)))) }
-{
-    push_rest_note(page, rest_count(rows, later(warnings), others))
-}
-
 /// Appends the number of warnings, and the list.
 #[tactic(auto, using(crate::proofs::TreeLemmas::joined), unfolding(crate::specs::Page::warning_list))]
 fn push_warning_list(
@@ -199,9 +162,10 @@ fn push_warning_list(
 {
     push(page, &[Part("", Value::Number(warnings.len()))])?;
     push_start(&mut page.out, "ul")?;
-    push_list(page, rows, warnings, others)?;
+    push_warning_items(page, rows, first(warnings, LISTED_WARNINGS))?;
+    push_warning_items(page, rows, others)?;
     push_end(&mut page.out, "ul")?;
-    push_rest(page, rows, warnings, others)
+    push_rest_note(page, rest_count(rows, later(warnings), others))
 }
 
 /// Appends the warnings at the top.
