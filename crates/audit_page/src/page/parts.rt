@@ -1,17 +1,27 @@
 //! What a page is written with.
 #![tactic(auto, using(robots_html::proofs::WritingLemmas::joined))]
 
-ghost use Rattle.std.specs.Prelude.{◌≡◌, ◌++◌, OnOk};
+ghost use Rattle.std.specs.Prelude.{◌≡◌, ◌++◌, [], OnOk};
 ghost use Rattle.robots_html.specs.Html.{escaped, tag_close, tag_open};
 ghost use Rattle.robots_text.specs.Raw.{raw_value};
 ghost use Rattle.audit_page.specs.Internal.{raw_part, raw_parts};
-ghost use Rattle.audit_page.specs.Tree.{field_bytes};
+ghost use Rattle.audit_page.specs.Page.{of_cause, warning_row};
+ghost use Rattle.audit_page.specs.Tree.{field_bytes, written};
 
 use itoa::Buffer;
 use robots_html::write::{push_attribute, push_close, push_open, push_text};
 use robots_io::sanitize::push_sanitized;
 use robots_text::parts::{Part, Value, push_parts};
-use std::alloc::AllocError;
+use robots_warnings::table::Cause;
+use std::alloc::{AllocError, Global};
+
+/// The row of each warning that has this cause, and whose message has no URL, no name and no number.
+#[derive(Drop)]
+pub(crate) struct KnownRow {
+    pub(crate) cause: Cause,
+    pub(crate) row: Vec<u8>,
+    ghost is_its_row: { row.items ≡ written (warning_row (of_cause cause)) },
+}
 
 /// What a page is written into.
 #[derive(Drop)]
@@ -19,6 +29,20 @@ pub(crate) struct Page {
     pub(crate) out: Vec<u8>,
     /// Only there to be used again.
     pub(crate) text: String,
+    /// The last such row, since many lines may have the same warning.
+    pub(crate) known: Option<KnownRow>,
+}
+
+impl Page {
+    pub(crate) fn new(alloc: Global) -> Page
+        ensures { result.out.items ≡ [] }
+    {
+        Page {
+            out: Vec::new(alloc),
+            text: String::new(alloc),
+            known: None,
+        }
+    }
 }
 
 /// Appends a value, sanitized and escaped.
