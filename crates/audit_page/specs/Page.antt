@@ -18,6 +18,7 @@ use Rattle.robots_warnings.specs.File.{lines_of}
 use Rattle.robots_warnings.specs.Message.{reported_parts}
 use Rattle.robots_warnings.specs.Table.{level_of}
 use Rattle.robots_warnings.specs.WarningValue.{WarningValue}
+use Rattle.robots_warnings.specs.declared.table.Cause.{Cause}
 use Rattle.audit_core.specs.Audit.{AgentValue, AuditValue, VerdictValue, labeling_agent}
 use Rattle.audit_core.specs.Request.{RequestValue}
 use Rattle.audit_core.specs.Rows.{kind_of, line_value, membership_value}
@@ -301,6 +302,10 @@ unfoldable pub warning_row : WarningValue → Tree
 warning_row warning =
     tag (codes "tr") (class (shown (level_value (level_of warning.cause)))) refl
     (tag (codes "td") (with (codes "colspan") (fixed (codes "4") refl)) refl (text (warning_words warning)))
+
+-- a warning whose message has no URL, no name and no number
+abbrev pub of_cause : Cause → WarningValue
+of_cause cause = record { line = None; cause = cause; about = None; detail = None }
 
 abbrev pub is_at : ℕ → Option ℕ → Bool
 is_at number None = false

@@ -129,10 +129,7 @@ pub fn page_text(
     ensures { IfOk result (λ text. text.items
         ≡ document (page (requested_by request.now) audit.now)) }
 {
-    let mut page = Page {
-        out: Vec::new(alloc),
-        text: String::new(alloc),
-    };
+    let mut page = Page::new(alloc);
     push_doctype(&mut page.out)?;
     push_page(alloc, &mut page, request, audit)?;
     Ok(page.out)

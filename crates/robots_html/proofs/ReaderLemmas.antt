@@ -5,7 +5,7 @@ use Rattle.std.specs.Prelude.{if◌then◌else◌}
 use Rattle.std.specs.Bool.{IsTrue}
 use Rattle.std.specs.List.{list_all}
 use Rattle.std.specs.Str.{bytes_eq}
-use Rattle.std.proofs.lemmas.Bool.{and_parts, cases_Bool, eqb-true}
+use Rattle.std.proofs.lemmas.Bool.{and_parts, cases_Bool, eqb-true, not-true}
 use Rattle.std.proofs.lemmas.List.{append-nil}
 use Rattle.std.proofs.lemmas.Slice.Eq.{bytes_eq-Decides}
 use Rattle.robots_html.specs.Html.{AreAttributes, Attribute, Html, IsContent, IsHtml, IsText, attribute}
@@ -63,10 +63,6 @@ collected_unchanged test after one done bytes are =
     unchanged (byte ∷ bytes) = ap (λ (more : List ℕ). byte ∷ more) (unchanged bytes)
 
 -- ---- one byte
-
-not_true : (b : Bool) → not b ≡ true → b ≡ false
-not_true true is = absurd (cc)
-not_true false is = refl
 
 -- an ampersand begins a character reference, except in a `style`
 ampersand : (kind : Kind) → has_references kind ≡ true → step kind data_state 38 ≡ to (text_reference [])
@@ -305,7 +301,7 @@ module _ (opened : List Opened) where
       (λ done byte is.
       let both = and_parts (is_character byte) (not (byte == 60)) is in
       ap (λ (s : Step). with_step s (innermost ∷ opened) (text done))
-      (css_byte byte (not_true (byte == 60) both.1) both.0))
+      (css_byte byte (not-true (byte == 60) both.1) both.0))
       [] css are)
       refl)
 
@@ -342,7 +338,7 @@ content_read elements opened content (text bytes) kind is =
 content_read elements opened content (element before name attributes children rest) kind
     (allowed, is_before, named, ordinary, are, child, later) =
     let has = elements_in elements (kind_of opened) kind allowed in
-    let isnt = not_true (is_style name) (and_parts (not (is_style name)) _ ordinary).0 in
+    let isnt = not-true (is_style name) (and_parts (not (is_style name)) _ ordinary).0 in
     let tag = new_tag name attributes in
     let outer = content ⊕ text before in
     let innermost : Opened = record { before = outer; tag = tag } in
@@ -369,8 +365,7 @@ content_read elements opened content (element before name attributes children re
     (content_read elements opened (outer ⊕ item) rest kind later))))
     ∙ ap (reader data_state opened)
     (placed content before item rest (element before name attributes children rest)
-    (ap (λ (t : List ℕ). element t name attributes children (with_text [] rest)) (append-nil before)
-    ∙ ap (element before name attributes children) (with_text-nil rest)))
+    (rw (append-nil before, with_text-nil rest) refl))
 content_read elements opened content (void before name attributes rest) kind
     (allowed, is_before, named, is, are, later) =
     let item = void [] name attributes (text []) in
@@ -383,8 +378,7 @@ content_read elements opened content (void before name attributes rest) kind
     (void_read opened outer name attributes (elements_in elements (kind_of opened) kind allowed) named is are)
     (content_read elements opened (outer ⊕ item) rest kind later))
     ∙ ap (reader data_state opened) (placed content before item rest (void before name attributes rest)
-    (ap (λ (t : List ℕ). void t name attributes (with_text [] rest)) (append-nil before)
-    ∙ ap (void before name attributes) (with_text-nil rest)))
+    (rw (append-nil before, with_text-nil rest) refl))
 content_read elements opened content (style before css rest) kind
     (allowed, is_before, are, plain, later) =
     let item = style [] css (text []) in
@@ -397,8 +391,7 @@ content_read elements opened content (style before css rest) kind
     (style_read opened outer css (elements_in elements (kind_of opened) kind allowed) are)
     (content_read elements opened (outer ⊕ item) rest kind later))
     ∙ ap (reader data_state opened) (placed content before item rest (style before css rest)
-    (ap (λ (t : List ℕ). style t css (with_text [] rest)) (append-nil before)
-    ∙ ap (style before css) (with_text-nil rest)))
+    (rw (append-nil before, with_text-nil rest) refl))
 
 pub tree_read : (tree : Html) → IsHtml tree → read (written tree) ≡ Some tree
 tree_read tree is =

@@ -1,13 +1,13 @@
--- Escaping byte by byte, while the bytes from `copied` on aren't copied yet.
-use Rattle.std.proofs.Common.{ℕ, zero, suc, ◌+◌, ◌-◌, ◌/◌, ◌%◌, ◌<◌, ◌≤◌, ◌==◌, true, false, List, [], ◌∷◌}
-use Rattle.std.proofs.Common.{◌++◌, ap, append_assoc, arith, decimal, drop, flat_map, inl, inr, refl, get_or}
-use Rattle.std.proofs.Common.{length, length-drop, sym, take, ◌≡◌, ◌∙◌}
+-- Escaping: a text without bytes that need a reference, and one up to the first such byte.
+use Rattle.std.proofs.Common.{ℕ, zero, suc, ◌+◌, ◌/◌, ◌%◌, ◌<◌, ◌==◌, true, false, List, [], ◌∷◌, ◌++◌, ap}
+use Rattle.std.proofs.Common.{append_assoc, arith, decimal, drop, flat_map, get_or, inl, inr, length, refl, sym, take}
+use Rattle.std.proofs.Common.{◌≡◌, ◌∙◌}
 use Rattle.std.specs.Fmt.{digit_glyph, digits, digits_onto}
 use Rattle.std.specs.List.{list_all}
 use Rattle.std.proofs.lemmas.Bool.{and_parts, cases_Bool}
 use Rattle.std.proofs.lemmas.Bool.Decides.{nat_tests}
 use Rattle.std.proofs.lemmas.Grind.{flat_map-append}
-use Rattle.std.proofs.lemmas.List.{append-nil, get_or-drop, take_more}
+use Rattle.std.proofs.lemmas.List.{drop_more, take-append-drop, take_all}
 use Rattle.robots_html.specs.Html.{escaped, escaped_byte, escaped_bytes, is_plain}
 
 pub escaped-is : (bytes : List ℕ) → escaped bytes ≡ flat_map escaped_byte bytes
@@ -33,9 +33,9 @@ plain_text text are = escaped-is text ∙ unchanged text are
         rw (plain_byte byte both.0) (ap (λ (b : List ℕ). byte ∷ b) (unchanged text both.1))
 
 -- and so are decimal digits
-pub decimal_plain : (n : ℕ) → list_all is_plain (decimal n) ≡ true
+pub decimal_written : (n : ℕ) → escaped (decimal n) ≡ decimal n
 unfolding digits
-decimal_plain n = onto 64 n [] refl
+decimal_written n = plain_text (decimal n) (onto 64 n [] refl)
   where
     glyph : (digit : ℕ) → digit < 10 → is_plain (digit_glyph false digit) ≡ true
     glyph digit below = grind (arith, nat_tests)
@@ -51,51 +51,31 @@ decimal_plain n = onto 64 n [] refl
           | inr other ↦ rw other (onto k (n / 10) (digit_glyph false (n % 10) ∷ text) more)
         ]
 
-escaped_more : (text : List ℕ) (at : ℕ) → at < length text
-    → escaped (take (at + 1) text) ≡ escaped (take at text) ++ escaped_byte (get_or text at 0)
-escaped_more text at below =
-    ap escaped (take_more text at 0 below) ∙ escaped-append (take at text) (get_or text at 0 ∷ [])
-    ∙ ap (λ (b : List ℕ). escaped (take at text) ++ b)
-    (escaped-is (get_or text at 0 ∷ []) ∙ append-nil (escaped_byte (get_or text at 0)))
-
-pending_more : (text : List ℕ) (copied at : ℕ) → copied ≤ at → at < length text
-    → take (at + 1 - copied) (drop copied text)
-    ≡ take (at - copied) (drop copied text) ++ get_or text at 0 ∷ []
-pending_more text copied at within below =
-    let count : at + 1 - copied ≡ at - copied + 1 = omega arith in
-    let place : copied + (at - copied) ≡ at = omega arith in
-    let inside : at - copied < length (drop copied text) = omega (arith, length-drop copied text) in
-    ap (λ (n : ℕ). take n (drop copied text)) count ∙ take_more (drop copied text) (at - copied) 0 inside
-    ∙ ap (λ (b : ℕ). take (at - copied) (drop copied text) ++ b ∷ [])
-    (get_or-drop copied text (at - copied) 0 ∙ ap (λ (n : ℕ). get_or text n 0) place)
-
--- a byte that needs no reference is copied later
-pub kept : (text old out : List ℕ) (copied at : ℕ) → copied ≤ at → at < length text
-    → escaped_byte (get_or text at 0) ≡ get_or text at 0 ∷ []
-    → out ++ take (at - copied) (drop copied text) ≡ old ++ escaped (take at text)
-    → out ++ take (at + 1 - copied) (drop copied text) ≡ old ++ escaped (take (at + 1) text)
-kept text old out copied at within below plain so_far =
-    let byte = get_or text at 0 in
-    ap (λ (b : List ℕ). out ++ b) (pending_more text copied at within below)
-    ∙ sym (append_assoc out (take (at - copied) (drop copied text)) (byte ∷ []))
-    ∙ ap (λ (b : List ℕ). b ++ byte ∷ []) so_far
-    ∙ append_assoc old (escaped (take at text)) (byte ∷ [])
-    ∙ ap (λ (b : List ℕ). old ++ (escaped (take at text) ++ b)) (sym plain)
-    ∙ ap (λ (b : List ℕ). old ++ b) (sym (escaped_more text at below))
+-- a text is written as its bytes that need no reference, the next one's reference, and what is written for the rest
+pub escaped_at : (text : List ℕ) (count : ℕ) → list_all is_plain (take count text) ≡ true → count < length text
+    → escaped text ≡ take count text ++ (escaped_byte (get_or text count 0) ++ escaped (drop (count + 1) text))
+escaped_at text count plain below =
+    let byte = get_or text count 0 in
+    let later = drop (count + 1) text in
+    ap escaped (sym (take-append-drop count text) ∙ ap (λ (b : List ℕ). take count text ++ b) (drop_more text count 0 below))
+    ∙ escaped-append (take count text) (byte ∷ later)
+    ∙ rw (plain_text (take count text) plain, escaped-is (byte ∷ later), escaped-is later) refl
 
 -- a reference is appended after the bytes before it
-pub replaced : (text old out reference : List ℕ) (copied at : ℕ) → at < length text
-    → escaped_byte (get_or text at 0) ≡ reference
-    → out ++ take (at - copied) (drop copied text) ≡ old ++ escaped (take at text)
-    → ((out ++ take (at - copied) (drop copied text)) ++ reference)
-    ++ take (at + 1 - (at + 1)) (drop (at + 1) text)
-    ≡ old ++ escaped (take (at + 1) text)
-replaced text old out reference copied at below is so_far =
-    let count : at + 1 - (at + 1) ≡ 0 = omega arith in
-    let before = out ++ take (at - copied) (drop copied text) in
-    ap (λ (n : ℕ). (before ++ reference) ++ take n (drop (at + 1) text)) count
-    ∙ append-nil (before ++ reference)
-    ∙ ap (λ (b : List ℕ). b ++ reference) so_far
-    ∙ append_assoc old (escaped (take at text)) reference
-    ∙ ap (λ (b : List ℕ). old ++ (escaped (take at text) ++ b)) (sym is)
-    ∙ ap (λ (b : List ℕ). old ++ b) (sym (escaped_more text at below))
+pub reference_added : (text : List ℕ) (count : ℕ) (later out new whole : List ℕ)
+    → list_all is_plain (take count text) ≡ true → count < length text → later ≡ drop (count + 1) text
+    → new ≡ (out ++ take count text) ++ escaped_byte (get_or text count 0) → out ++ escaped text ≡ whole
+    → new ++ escaped later ≡ whole
+reference_added text count later out new whole plain below is added so_far =
+    let form = escaped_byte (get_or text count 0) in
+    rw (added, is)
+    (append_assoc (out ++ take count text) form (escaped (drop (count + 1) text))
+    ∙ append_assoc out (take count text) (form ++ escaped (drop (count + 1) text))
+    ∙ ap (λ (b : List ℕ). out ++ b) (sym (escaped_at text count plain below)) ∙ so_far)
+
+-- no byte needs a reference any more
+pub all_added : (text : List ℕ) (count : ℕ) (out new whole : List ℕ) → list_all is_plain (take count text) ≡ true
+    → count ≡ length text → new ≡ out ++ take count text → out ++ escaped text ≡ whole → new ≡ whole
+all_added text count out new whole plain all added so_far =
+    let taken : take count text ≡ text = take_all count text (omega (arith, all)) in
+    added ∙ ap (λ (b : List ℕ). out ++ b) (sym (plain_text (take count text) plain) ∙ ap escaped taken) ∙ so_far

@@ -2,50 +2,28 @@
 use Rattle.std.proofs.Common.{ℕ, Bool, List, [], ◌∷◌, ◌++◌, ap, append_assoc, codes, flat_map, not, refl, ◌≡◌}
 use Rattle.std.proofs.Common.{◌∙◌}
 use Rattle.std.proofs.lemmas.List.{append-nil}
-use Rattle.robots_html.specs.Html.{AreAttributes, Attribute, Html, IsContent, element, end_tag, escaped}
-use Rattle.robots_html.specs.Html.{is_title, start_tag, style}
-use Rattle.robots_html.specs.Html.{style_bytes, text}
-use Rattle.robots_html.specs.Html.{void, void_tag, with_text, written, ◌⊕◌}
+use Rattle.robots_html.specs.Html.{AreAttributes, Attribute, Html, IsContent, element, escaped}
+use Rattle.robots_html.specs.Html.{is_title, style}
+use Rattle.robots_html.specs.Html.{text}
+use Rattle.robots_html.specs.Html.{void, with_text, written, ◌⊕◌}
 use Rattle.robots_html.proofs.TextLemmas.{escaped-append}
 
 -- ---- writing
-
-appended : (one two rest : List ℕ) → escaped (one ++ two) ++ rest ≡ escaped one ++ (escaped two ++ rest)
-appended one two rest =
-    ap (λ (b : List ℕ). b ++ rest) (escaped-append one two) ∙ append_assoc (escaped one) (escaped two) rest
 
 pub written-with_text : (bytes : List ℕ) (tree : Html)
     → written (with_text bytes tree) ≡ escaped bytes ++ written tree
 written-with_text bytes (text more) = escaped-append bytes more
 written-with_text bytes (element before name attributes children after) =
-    appended bytes before
-    (start_tag name attributes ++ (written children ++ (end_tag name ++ written after)))
-written-with_text bytes (void before name attributes after) =
-    appended bytes before (void_tag name attributes ++ written after)
-written-with_text bytes (style before css after) =
-    appended bytes before (style_bytes css ++ written after)
-
-regroup : (a b c d e f : List ℕ) → a ++ (b ++ (c ++ (d ++ (e ++ f)))) ≡ (a ++ (b ++ (c ++ (d ++ e)))) ++ f
-regroup a b c d e f = simp append_assoc
-
-regroup_two : (a b c d : List ℕ) → a ++ (b ++ (c ++ d)) ≡ (a ++ (b ++ c)) ++ d
-regroup_two a b c d = simp append_assoc
+    rw (escaped-append bytes before) (simp append_assoc)
+written-with_text bytes (void before name attributes after) = rw (escaped-append bytes before) (simp append_assoc)
+written-with_text bytes (style before css after) = rw (escaped-append bytes before) (simp append_assoc)
 
 pub written-followed : (one two : Html) → written (one ⊕ two) ≡ written one ++ written two
 written-followed (text bytes) two = written-with_text bytes two
 written-followed (element before name attributes children after) two =
-    ap
-    (λ (b : List ℕ).
-    escaped before ++ (start_tag name attributes ++ (written children ++ (end_tag name ++ b))))
-    (written-followed after two)
-    ∙ regroup (escaped before) (start_tag name attributes) (written children) (end_tag name) (written after)
-    (written two)
-written-followed (void before name attributes after) two =
-    ap (λ (b : List ℕ). escaped before ++ (void_tag name attributes ++ b)) (written-followed after two)
-    ∙ regroup_two (escaped before) (void_tag name attributes) (written after) (written two)
-written-followed (style before css after) two =
-    ap (λ (b : List ℕ). escaped before ++ (style_bytes css ++ b)) (written-followed after two)
-    ∙ regroup_two (escaped before) (style_bytes css) (written after) (written two)
+    rw (written-followed after two) (simp append_assoc)
+written-followed (void before name attributes after) two = rw (written-followed after two) (simp append_assoc)
+written-followed (style before css after) two = rw (written-followed after two) (simp append_assoc)
 
 -- for `using` at a function that writes several pieces: they are joined to what is written for a tree
 pub ruleset joined = (append_assoc, append-nil, written-followed, written-with_text)

@@ -1,24 +1,11 @@
 //! Writes HTML piece by piece, so that a page of any length needs no tree in memory.
-ghost use Rattle.std.specs.Prelude.{◌≡◌, ◌++◌, ◌∷◌, [], MatchOption, OnOk};
+ghost use Rattle.std.specs.Prelude.{◌≡◌, ◌++◌, ◌<◌, ◌≤◌, [], false, true, OnOk, get_or, length, take};
 ghost use Rattle.std.specs.List.{list_all};
 ghost use Rattle.robots_html.specs.Html.{attribute, attribute_bytes, doctype, end_tag, escaped};
 ghost use Rattle.robots_html.specs.Html.{escaped_byte, is_plain, start_tag, style_bytes, tag, tag_close};
 ghost use Rattle.robots_html.specs.Html.{tag_open, text, void_close, written};
 
 use std::alloc::AllocError;
-
-/// The character reference for a byte, if it needs one.
-fn reference(byte: u8) -> Option<&'static [u8]>
-    ensures { MatchOption result (escaped_byte byte ≡ byte ∷ []) (λ form. escaped_byte byte ≡ form.now) }
-{
-    match byte {
-        b'&' => Some(b"&amp;"),
-        b'<' => Some(b"&lt;"),
-        b'>' => Some(b"&gt;"),
-        b'"' => Some(b"&quot;"),
-        _ => None,
-    }
-}
 
 /// Whether a byte needs no character reference.
 fn is_plain(byte: u8) -> bool
@@ -27,41 +14,47 @@ fn is_plain(byte: u8) -> bool
     (byte != b'&') & (byte != b'<') & (byte != b'>') & (byte != b'"')
 }
 
-/// Whether no byte needs one. The loop doesn't stop at the first that does, since usually none does.
-fn are_plain(bytes: &[u8]) -> bool
-    ensures { result ≡ list_all is_plain bytes.now }
+/// The character reference for a byte that needs one.
+fn reference(byte: u8) -> &'static [u8]
+    requires { is_plain byte ≡ false }
+    ensures { result.now ≡ escaped_byte byte }
 {
-    let mut all = true;
-    for byte in bytes {
-        all &= is_plain(*byte);
+    match byte {
+        b'&' => b"&amp;",
+        b'<' => b"&lt;",
+        b'>' => b"&gt;",
+        _ => b"&quot;",
     }
-    all
 }
 
-/// Appends a text with its references, byte by byte.
-fn push_escaped(out: &mut Vec<u8>, text: &[u8]) -> Result<(), AllocError>
-    ensures { OnOk result (out.new.items ≡ out.old.items ++ escaped text.now) }
+/// How many bytes there are before the first that needs a reference.
+fn plain_count(text: &[u8]) -> usize
+    ensures within { result ≤ length text.now }
+    ensures plain { list_all is_plain (take result text.now) ≡ true }
+    ensures next { result < length text.now → is_plain (get_or text.now result 0) ≡ false }
 {
-    let mut copied = 0;
-    for (at, byte) in text.iter().enumerate() {
-        if let Some(reference) = reference(*byte) {
-            out.extend_from_slice(&text[copied..at])?;
-            out.extend_from_slice(reference)?;
-            copied = at + 1;
-        }
+    let mut count = 0;
+    while count < text.len() && is_plain(text[count]) {
+        count += 1;
     }
-    out.extend_from_slice(&text[copied..])
+    count
 }
 
 /// Appends a text, which may come from anyone: it is escaped.
-#[tactic(auto, using(crate::proofs::TextLemmas::plain_text))]
 pub fn push_text(out: &mut Vec<u8>, text: &[u8]) -> Result<(), AllocError>
     ensures { OnOk result (out.new.items ≡ out.old.items ++ escaped text.now) }
 {
-    if are_plain(text) {
-        return out.extend_from_slice(text);
+    let mut rest = text;
+    loop {
+        let count = plain_count(rest);
+        out.extend_from_slice(&rest[..count])?;
+        if count == rest.len() {
+            return Ok(());
+        }
+        out.extend_from_slice(reference(rest[count]))?;
+        let (_, later) = rest.split_at(count + 1);
+        rest = later;
     }
-    push_escaped(out, text)
 }
 
 /// Appends the document type, with which a page begins.

@@ -75,8 +75,7 @@ fn push_line_row(page: &mut Page, label: &LabeledLine<'_>) -> Result<(), AllocEr
     ensures { OnOk result (page.new.out.items ≡ page.old.out.items ++ written (line_row (label_by_value label.now))) }
 {
     push(page, &line_start(label))?;
-    push(page, &line_cells(label))?;
-    push_end(&mut page.out, "tr")
+    push(page, &line_cells(label))
 }
 
 /// Appends the rows of the warnings in the list with this index, if there is one.

@@ -1,16 +1,27 @@
 //! What a page is written with.
 #![tactic(auto, using(robots_html::proofs::WritingLemmas::joined))]
 
-ghost use Rattle.std.specs.Prelude.{◌≡◌, ◌++◌, OnOk};
+ghost use Rattle.std.specs.Prelude.{◌≡◌, ◌++◌, [], OnOk};
 ghost use Rattle.robots_html.specs.Html.{escaped, tag_close, tag_open};
 ghost use Rattle.robots_text.specs.Raw.{raw_value};
 ghost use Rattle.audit_page.specs.Internal.{raw_part, raw_parts};
-ghost use Rattle.audit_page.specs.Tree.{field_bytes};
+ghost use Rattle.audit_page.specs.Page.{of_cause, warning_row};
+ghost use Rattle.audit_page.specs.Tree.{field_bytes, written};
 
 use itoa::Buffer;
 use robots_html::write::{push_attribute, push_close, push_open, push_text};
+use robots_io::sanitize::push_sanitized;
 use robots_text::parts::{Part, Value, push_parts};
-use std::alloc::AllocError;
+use robots_warnings::table::Cause;
+use std::alloc::{AllocError, Global};
+
+/// The row of each warning that has this cause, and whose message has no URL, no name and no number.
+#[derive(Drop)]
+pub(crate) struct KnownRow {
+    pub(crate) cause: Cause,
+    pub(crate) row: Vec<u8>,
+    ghost is_its_row: { row.items ≡ written (warning_row (of_cause cause)) },
+}
 
 /// What a page is written into.
 #[derive(Drop)]
@@ -18,25 +29,39 @@ pub(crate) struct Page {
     pub(crate) out: Vec<u8>,
     /// Only there to be used again.
     pub(crate) text: String,
+    /// The last such row, since many lines may have the same warning.
+    pub(crate) known: Option<KnownRow>,
+}
+
+impl Page {
+    pub(crate) fn new(alloc: Global) -> Page
+        ensures { result.out.items ≡ [] }
+    {
+        Page {
+            out: Vec::new(alloc),
+            text: String::new(alloc),
+            known: None,
+        }
+    }
 }
 
 /// Appends a value, sanitized and escaped.
+#[tactic(auto, using(robots_html::proofs::TextLemmas::decimal_written))]
 fn push_value(page: &mut Page, value: Value<'_>) -> Result<(), AllocError>
     ensures { OnOk result (page.new.out.items ≡ page.old.out.items ++ escaped (raw_value value.entry)) }
 {
+    page.text.clear();
     match value {
-        Value::Nothing => Ok(()),
-        Value::Word(word) => push_text(&mut page.out, word.as_bytes()),
+        Value::Nothing => return Ok(()),
         Value::Number(number) => {
             let mut buffer = Buffer::new();
-            push_text(&mut page.out, buffer.format(number).as_bytes())
+            return page.out.extend_from_slice(buffer.format(number).as_bytes());
         }
-        _ => {
-            page.text.clear();
-            push_parts(&mut page.text, &[Part("", value)])?;
-            push_text(&mut page.out, page.text.as_bytes())
-        }
+        Value::Word(word) => return push_text(&mut page.out, word.as_bytes()),
+        Value::Untrusted(bytes) => push_sanitized(&mut page.text, bytes)?,
+        _ => push_parts(&mut page.text, &[Part("", value)])?,
     }
+    push_text(&mut page.out, page.text.as_bytes())
 }
 
 /// Appends a part: markup, which is copied, and a value, which is escaped.

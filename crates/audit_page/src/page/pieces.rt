@@ -1,9 +1,9 @@
 //! Pieces of a page that are written at once: markup with values.
 #![tactic(auto, using(crate::proofs::TreeLemmas::joined), unfolding(robots_html::specs::Html::tag_open, robots_html::specs::Html::tag_close, robots_html::specs::Html::void_close, robots_html::specs::Html::end_tag, robots_html::specs::Html::style_bytes, robots_html::specs::Html::escaped_bytes, crate::specs::Tree::field_bytes, crate::specs::Page::agent_caption, crate::specs::Page::first_columns, crate::specs::Page::code, crate::specs::Page::delay_entry, crate::specs::Page::file_caption, crate::specs::Page::line_columns, crate::specs::Page::line_link, crate::specs::Page::line_cells, crate::specs::Page::head_start, crate::specs::Page::page_heading, crate::specs::Page::sitemap_item, crate::specs::Page::some_rest, crate::specs::Page::url_column, crate::specs::Page::url_head))]
 
-ghost use Rattle.std.specs.Prelude.{◌≡◌, ◌++◌, option_map};
+ghost use Rattle.std.specs.Prelude.{◌≡◌, ◌++◌, codes, option_map};
 ghost use Rattle.texting_robots.specs.Callers.{by_value, label_by_value};
-ghost use Rattle.robots_html.specs.Html.{escaped};
+ghost use Rattle.robots_html.specs.Html.{end_tag, escaped};
 ghost use Rattle.robots_text.specs.Raw.{raw_value};
 ghost use Rattle.robots_text.specs.Text.{value_text};
 ghost use Rattle.audit_core.specs.Rows.{line_value};
@@ -242,14 +242,14 @@ pub(crate) fn line_start(label: &LabeledLine<'_>) -> [Part<'static>; 4]
     ]
 }
 
-/// The cells of a line.
+/// The cells of a line, and the end of its row.
 pub(crate) fn line_cells<'a>(label: &LabeledLine<'a>) -> [Part<'a>; 4]
-    ensures { raw_parts result ≡ written (line_cells (label_by_value label.now)) }
+    ensures { raw_parts result ≡ written (line_cells (label_by_value label.now)) ++ end_tag (codes "tr") }
 {
     [
         Part("<td>", Value::Word(membership_word(label.membership))),
         Part("</td><td>", Value::Word(kind_text(label.line))),
         Part("</td><td>", line_value(label.line)),
-        Part("</td>", Value::Nothing),
+        Part("</td></tr>", Value::Nothing),
     ]
 }

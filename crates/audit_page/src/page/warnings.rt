@@ -1,19 +1,20 @@
 //! The warnings of a page: the list at the top, and the rows below their lines.
 #![tactic(auto, using(crate::proofs::TreeLemmas::joined))]
 
-ghost use Rattle.std.specs.Prelude.{◌≡◌, ◌++◌, IfOk, OnOk, drop, map, take};
+ghost use Rattle.std.specs.Prelude.{◌≡◌, ◌++◌, IfOk, IsTrue, OnOk, drop, map, take};
 ghost use Rattle.robots_text.specs.Text.{value_text};
-ghost use Rattle.audit_page.specs.Page.{has_row, later_warnings, level_front, line_name, listed_warnings, rest_count};
-ghost use Rattle.audit_page.specs.Page.{rest_note, warning_entry, warning_item, warning_items, warning_list, warning_place, warning_row};
+ghost use Rattle.audit_page.specs.Page.{has_row, later_warnings, level_front, line_name, of_cause, rest_count};
+ghost use Rattle.audit_page.specs.Page.{rest_note, warning_entry, warning_item, warning_list, warning_place, warning_row};
 ghost use Rattle.audit_page.specs.Page.{warning_words, without_row};
 ghost use Rattle.audit_page.specs.Tree.{all, words_written, written};
 
-use crate::page::parts::{Page, push, push_start_with};
+use crate::page::parts::{KnownRow, Page, push, push_start_with};
 use crate::page::pieces::{line_link, some_rest};
 use crate::page::slices::{after, first};
 use robots_html::write::{push_element, push_end, push_start, push_text};
 use robots_text::level::Level;
 use robots_text::parts::{Part, Value};
+use robots_warnings::table::Cause;
 use robots_warnings::warning::{Warning, push_reported};
 use std::alloc::{AllocError, Global};
 
@@ -42,15 +43,7 @@ fn push_warning_words(page: &mut Page, warning: &Warning<'_>) -> Result<(), Allo
     push_text(&mut page.out, page.text.as_bytes())
 }
 
-/// The first of these warnings.
-#[tactic(auto)]
-fn listed<'a, 'b>(warnings: &'b [Warning<'a>]) -> &'b [Warning<'a>]
-    ensures { result.now ≡ take listed_warnings warnings.now }
-{
-    first(warnings, LISTED_WARNINGS)
-}
-
-/// The warnings after those.
+/// The warnings after those that are listed first.
 #[tactic(auto)]
 fn later<'a, 'b>(warnings: &'b [Warning<'a>]) -> &'b [Warning<'a>]
     ensures { result.now ≡ later_warnings warnings.now }
@@ -156,35 +149,6 @@ fn rest_count(rows: usize, warnings: &[Warning<'_>], others: &[Warning<'_>]) -> 
     warnings.len().saturating_sub(others.len())
 }
 
-/// Appends the list at the top: the first warnings, and those after them that have no row.
-fn push_list(
-    page: &mut Page,
-    rows: usize,
-    warnings: &[Warning<'_>],
-    others: &[Warning<'_>],
-) -> Result<(), AllocError>
-    requires { others.now ≡ without_row rows (later_warnings warnings.now) }
-    ensures { OnOk result (page.new.out.items ≡ page.old.out.items
-        ++ written (warning_items rows warnings.now)) }
-{
-    push_warning_items(page, rows, listed(warnings))?;
-    push_warning_items(page, rows, others)
-}
-
-/// Appends how many of the later warnings have a row.
-fn push_rest(
-    page: &mut Page,
-    rows: usize,
-    warnings: &[Warning<'_>],
-    others: &[Warning<'_>],
-) -> Result<(), AllocError>
-    requires { others.now ≡ without_row rows (later_warnings warnings.now) }
-    ensures { OnOk result (page.new.out.items ≡ page.old.out.items
-        ++ written (rest_note (rest_count rows (later_warnings warnings.now)))) }
-{
-    push_rest_note(page, rest_count(rows, later(warnings), others))
-}
-
 /// Appends the number of warnings, and the list.
 #[tactic(auto, using(crate::proofs::TreeLemmas::joined), unfolding(crate::specs::Page::warning_list))]
 fn push_warning_list(
@@ -199,9 +163,10 @@ fn push_warning_list(
 {
     push(page, &[Part("", Value::Number(warnings.len()))])?;
     push_start(&mut page.out, "ul")?;
-    push_list(page, rows, warnings, others)?;
+    push_warning_items(page, rows, first(warnings, LISTED_WARNINGS))?;
+    push_warning_items(page, rows, others)?;
     push_end(&mut page.out, "ul")?;
-    push_rest(page, rows, warnings, others)
+    push_rest_note(page, rest_count(rows, later(warnings), others))
 }
 
 /// Appends the warnings at the top.
@@ -224,7 +189,7 @@ pub(crate) fn push_warning_entry(
 
 /// Appends the row of a warning.
 #[tactic(auto, using(crate::proofs::TreeLemmas::joined), unfolding(crate::specs::Page::warning_row))]
-fn push_warning_row(page: &mut Page, warning: &Warning<'_>) -> Result<(), AllocError>
+fn push_new_row(page: &mut Page, warning: &Warning<'_>) -> Result<(), AllocError>
     ensures { OnOk result (page.new.out.items ≡ page.old.out.items
         ++ written (warning_row warning.now)) }
 {
@@ -233,6 +198,63 @@ fn push_warning_row(page: &mut Page, warning: &Warning<'_>) -> Result<(), AllocE
     push_warning_words(page, warning)?;
     push_end(&mut page.out, "td")?;
     push_end(&mut page.out, "tr")
+}
+
+/// The row of each warning that has this cause, and whose message has no URL, no name and no number.
+fn known_row(alloc: Global, cause: Cause) -> Result<KnownRow, AllocError>
+    ensures { IfOk result (λ known. known.cause ≡ cause) }
+{
+    let mut page = Page::new(alloc);
+    let warning = Warning {
+        line: None,
+        cause,
+        about: None,
+        detail: None,
+    };
+    push_new_row(&mut page, &warning)?;
+    Ok(KnownRow {
+        cause,
+        row: page.out,
+    })
+}
+
+fn are_same(one: Cause, other: Cause) -> bool
+    ensures { IsTrue result → one ≡ other }
+{
+    one == other
+}
+
+/// The last row if it has this cause, else a new one.
+fn row_for(alloc: Global, last: Option<KnownRow>, cause: Cause) -> Result<KnownRow, AllocError>
+    ensures { IfOk result (λ known. known.cause ≡ cause) }
+{
+    match last {
+        Some(known) if are_same(known.cause, cause) => Ok(known),
+        _ => known_row(alloc, cause),
+    }
+}
+
+/// Appends such a row.
+fn push_known_row(page: &mut Page, cause: Cause) -> Result<(), AllocError>
+    ensures { OnOk result (page.new.out.items ≡ page.old.out.items
+        ++ written (warning_row (of_cause cause))) }
+{
+    let known = row_for(*page.out.allocator(), page.known.take(), cause)?;
+    page.out.extend_from_slice(&known.row)?;
+    page.known = Some(known);
+    Ok(())
+}
+
+/// Appends the row of a warning, which may be one that is known.
+#[tactic(auto, unfolding(crate::specs::Page::warning_row))]
+fn push_warning_row(page: &mut Page, warning: &Warning<'_>) -> Result<(), AllocError>
+    ensures { OnOk result (page.new.out.items ≡ page.old.out.items
+        ++ written (warning_row warning.now)) }
+{
+    match (warning.about, warning.detail) {
+        (None, None) => push_known_row(page, warning.cause),
+        _ => push_new_row(page, warning),
+    }
 }
 
 /// Appends the row of each of these warnings.
