@@ -1,3 +1,4 @@
+pub mod Borrowing
 pub mod BatchLemmas
 pub mod KeptSteps
 pub mod LendingLemmas

@@ -200,12 +200,12 @@ pub unsafe extern "C" fn robots_query(
     out: &mut i64,
 ) -> i32
     ghost g: { Lft × Share × RobotValue }
-    requires robot { IsRobotOfSomeFile g.2 }
     requires* lent { sem 𝓛 (lent_at Robots robot g.2 g.0) ∗ sem 𝓛 (flft g.0 g.1) }
+    requires robot { IsRobotOfSomeFile g.2 }
+    ensures* lent { sem 𝓛 (flft g.0 g.1) }
     ensures written { result ≡ pos 0 → HasResult g.2.rules url.now out.new }
     ensures kept { result ≢ pos 0 → out.new ≡ out.old }
     ensures why { HasFault (IsWhyNoResult url.now) result }
-    ensures* lent { sem 𝓛 (flft g.0 g.1) }
 {
     query(alloc, &*(robot as *const Shared<Robot>), url, out)
 }
@@ -219,12 +219,12 @@ pub unsafe extern "C" fn robots_query_many(
     out: &mut [i64],
 ) -> i32
     ghost g: { Lft × Share × RobotValue }
-    requires robot { IsRobotOfSomeFile g.2 }
     requires* lent { sem 𝓛 (lent_at Robots robot g.2 g.0) ∗ sem 𝓛 (flft g.0 g.1) }
+    requires robot { IsRobotOfSomeFile g.2 }
+    ensures* lent { sem 𝓛 (flft g.0 g.1) }
     ensures written { result ≡ pos 0 → ArePutIn g.2.rules urls.now out.old out.new }
     ensures kept { result ≢ pos 0 → out.new ≡ out.old }
     ensures why { HasFault (IsWhyNoResults urls.now (length out.old)) result }
-    ensures* lent { sem 𝓛 (flft g.0 g.1) }
 {
     query_many(alloc, &*(robot as *const Shared<Robot>), urls, out)
 }
@@ -240,12 +240,12 @@ pub unsafe extern "C" fn robots_query_batch(
     out: &mut [i64],
 ) -> i32
     ghost g: { Lft × Share × RobotValue }
-    requires robot { IsRobotOfSomeFile g.2 }
     requires* lent { sem 𝓛 (lent_at Robots robot g.2 g.0) ∗ sem 𝓛 (flft g.0 g.1) }
+    requires robot { IsRobotOfSomeFile g.2 }
+    ensures* lent { sem 𝓛 (flft g.0 g.1) }
     ensures written { result ≡ pos 0 → IsBatchPutIn g.2.rules urls.now ends.now out.old out.new }
     ensures kept { result ≢ pos 0 → out.new ≡ out.old }
     ensures why { HasFault (IsWhyNoBatch urls.now ends.now (length out.old)) result }
-    ensures* lent { sem 𝓛 (flft g.0 g.1) }
 {
     query_batch(alloc, &*(robot as *const Shared<Robot>), urls, ends, out)
 }
@@ -256,10 +256,10 @@ pub unsafe extern "C" fn robots_query_batch(
 pub unsafe extern "C" fn robots_query_delay(robot: *const u8, out: &mut u64) -> i32
     ghost g: { Lft × Share × RobotValue }
     requires* lent { sem 𝓛 (lent_at Robots robot g.2 g.0) ∗ sem 𝓛 (flft g.0 g.1) }
+    ensures* lent { sem 𝓛 (flft g.0 g.1) }
     ensures written { result ≡ pos 0 → g.2.delay ≡ Some out.new }
     ensures kept { result ≢ pos 0 → out.new ≡ out.old }
     ensures why { HasFault (IsWhyNone g.2.delay) result }
-    ensures* lent { sem 𝓛 (flft g.0 g.1) }
 {
     query_delay(&*(robot as *const Shared<Robot>), out)
 }
@@ -351,12 +351,12 @@ pub unsafe extern "C" fn robots_site_matrix(
     out: &mut [i64],
 ) -> i32
     ghost g: { Lft × Share × List ℕ }
-    requires site { IsSiteOfSomeFile g.2 }
     requires* lent { sem 𝓛 (lent_at Sites site g.2 g.0) ∗ sem 𝓛 (flft g.0 g.1) }
+    requires site { IsSiteOfSomeFile g.2 }
+    ensures* lent { sem 𝓛 (flft g.0 g.1) }
     ensures written { result ≡ pos 0 → IsMatrixPutIn g.2 agents.now urls.now out.old out.new }
     ensures kept { result ≢ pos 0 → out.new ≡ out.old }
     ensures why { HasFault (IsWhyNoMatrix agents.now urls.now (length out.old)) result }
-    ensures* lent { sem 𝓛 (flft g.0 g.1) }
 {
     matrix_by(alloc, &*(site as *const Shared<Site>), agents, urls, out)
 }
@@ -367,10 +367,10 @@ pub unsafe extern "C" fn robots_site_matrix(
 pub unsafe extern "C" fn robots_site_delay(site: *const u8, agent: &[u8], out: &mut u64) -> i32
     ghost g: { Lft × Share × List ℕ }
     requires* lent { sem 𝓛 (lent_at Sites site g.2 g.0) ∗ sem 𝓛 (flft g.0 g.1) }
+    ensures* lent { sem 𝓛 (flft g.0 g.1) }
     ensures written { result ≡ pos 0 → HasDelay agent.now g.2 (Some out.new) }
     ensures kept { result ≢ pos 0 → out.new ≡ out.old }
     ensures why { HasFault (IsWhyNoDelayOf agent.now g.2) result }
-    ensures* lent { sem 𝓛 (flft g.0 g.1) }
 {
     site::delay(&*(site as *const Shared<Site>), agent, out)
 }
@@ -385,12 +385,12 @@ pub unsafe extern "C" fn robots_site_sitemaps(
 ) -> i32
     ghost g: { Lft × Share × List ℕ }
     requires* lent { sem 𝓛 (lent_at Sites site g.2 g.0) ∗ sem 𝓛 (flft g.0 g.1) }
+    ensures* lent { sem 𝓛 (flft g.0 g.1) }
     ensures written { result ≡ pos 0 → IsWritten (AreSitemaps g.2) out.old out.new len.new }
     ensures buffer_too_small { result ≡ status_of Fault.BufferTooSmall → IsTooLong (AreSitemaps g.2) (length out.old) len.new }
     ensures length_kept { result ≢ pos 0 → result ≢ status_of Fault.BufferTooSmall → len.new ≡ len.old }
     ensures kept { result ≢ pos 0 → out.new ≡ out.old }
     ensures why { (result ≡ pos 0) ⊎ ((result ≡ status_of Fault.BufferTooSmall) ⊎ (result ≡ status_of Fault.Memory)) }
-    ensures* lent { sem 𝓛 (flft g.0 g.1) }
 {
     site::sitemaps(alloc, &*(site as *const Shared<Site>), out, len)
 }
@@ -406,12 +406,12 @@ pub unsafe extern "C" fn robots_site_agents(
 ) -> i32
     ghost g: { Lft × Share × List ℕ }
     requires* lent { sem 𝓛 (lent_at Sites site g.2 g.0) ∗ sem 𝓛 (flft g.0 g.1) }
+    ensures* lent { sem 𝓛 (flft g.0 g.1) }
     ensures written { result ≡ pos 0 → IsWritten (AreAgents g.2) out.old out.new len.new }
     ensures buffer_too_small { result ≡ status_of Fault.BufferTooSmall → IsTooLong (AreAgents g.2) (length out.old) len.new }
     ensures length_kept { result ≢ pos 0 → result ≢ status_of Fault.BufferTooSmall → len.new ≡ len.old }
     ensures kept { result ≢ pos 0 → out.new ≡ out.old }
     ensures why { (result ≡ pos 0) ⊎ ((result ≡ status_of Fault.BufferTooSmall) ⊎ (result ≡ status_of Fault.Memory)) }
-    ensures* lent { sem 𝓛 (flft g.0 g.1) }
 {
     site::agents(alloc, &*(site as *const Shared<Site>), out, len)
 }
@@ -423,8 +423,8 @@ pub unsafe extern "C" fn robots_site_agents(
 pub unsafe extern "C" fn robots_site_is_named(site: *const u8, agent: &[u8]) -> i32
     ghost g: { Lft × Share × List ℕ }
     requires* lent { sem 𝓛 (lent_at Sites site g.2 g.0) ∗ sem 𝓛 (flft g.0 g.1) }
-    ensures named { SaysNamed agent.now g.2 result }
     ensures* lent { sem 𝓛 (flft g.0 g.1) }
+    ensures named { SaysNamed agent.now g.2 result }
 {
     site::is_named(&*(site as *const Shared<Site>), agent)
 }
