@@ -1,11 +1,11 @@
 -- Borrow, call, return: a C function that borrows a handle hands on its arguments, as the machine has them, to a call
 -- that takes a reference in place of the pointer, and returns the call's status.
-pub use Rattle.std.proofs.Common.{◌≡◌, ℕ, List, [], ◌∷◌, refl, ap, ◌∙◌}
+pub use Rattle.std.proofs.Common.{◌≡◌, ℕ, zero, suc, List, [], ◌∷◌, refl, ap, ◌∙◌}
 pub use base.Fml.{flft}
-pub use contract.Lifetimes.{Lfts}
+pub use contract.Lifetimes.{Lfts, Shares}
 pub use contract.Monad.{fact}
 pub use types.Kit.{‵, raw, ◌⊛◌, ◌$◌, ◌∵◌, !, qed, done}
-pub use types.Run.{of_opd, addr, stop, from, fld, hop, no_more, and_then, returns, enter}
+pub use types.Run.{of_opd, addr, load, look, store, assigns, stop, from, fld, hop, no_more, and_then, returns, enter}
 pub use types.ByLocal.{alloc_all, pass_all, free_all, look_at, look_in_at, get, get_in, through, sets, lands_as}
 pub use types.Part.{agg, sub, whole}
 pub use denote.RattleType.{owns}
@@ -25,10 +25,10 @@ use mir.Val.{Val, WT, has_ty, of_z, vint, vptr}
 use mir.ValLaws.{of_z_fits}
 use prog.Model.{Model}
 use prog.Wp.{Calls, Closed, Env, Loops, WpFn}
-use contract.Running.{MachineTables, Running, tables}
-use sound.WpLaws.{FmC}
+use contract.Running.{MachineTables, Running, tables, tables_of}
+use sound.WpLaws.{WpFn-mono}
 use types.Logic.{Logic, sem}
-use types.Kit.{Goal, Item, Post, Seq, Step, given, later, some, await, check}
+use types.Kit.{⋆, suffices, Goal, Item, Post, Seq, Step, given, later, some, await, check}
 use types.Kit.{by, drop, fjoin, frame, fsplit, join, lands, learn, move, now, pick, prop, runs, show}
 use types.Kit.{split, updating, use1, use0, use2, Go}
 use types.Run.{Opds}
@@ -38,7 +38,7 @@ use denote.Memory.{hidden_shr, shared_of}
 use denote.Param.{layout, param}
 use denote.Param.Laws.{param_laws}
 use denote.RattleType.{RattleType}
-use denote.RawPtr.{block_ptr, in_a_block}
+use denote.RawPtr.{block_ptr, in_a_block, rawptr_Lawful}
 use denote.Ref.{ShrRef}
 use denote.Slice.{slice_ty, slice_val}
 use denote.Steps.{nothing, only, peeks}
@@ -83,9 +83,22 @@ pub are_values : (ws : List Word) → in_a_row ws ≡ values ws
 are_values [] = refl
 are_values (w ∷ ws) = λ j. w.is j ++ are_values ws j
 
+pub pointer_typed : {M : Type 1} {𝓤 : Ura M} (𝓛 : Logic 𝓤) (p : Ptr) → Good ty_ptr (ptr_val p)
+pointer_typed 𝓛 p = ((rawptr_Lawful 𝓛).typed p (ptr_val p ∷ []) refl).0
+
 -- a reference, and a pointer that isn't null
 abbrev pub place : {b o : ℕ} {vs : List Val} → vs ≡ vptr b o ∷ [] → Word
 place {b} {o} {vs} is = record { type = ty_ptr; listed = vs; value = vptr b o; is = is; good = (tt, tt) }
+
+-- a pointer
+abbrev pub pointer : {M : Type 1} {𝓤 : Ura M} (𝓛 : Logic 𝓤) → Ptr → Word
+pointer 𝓛 p = record {
+  type = ty_ptr;
+  listed = ptr_val p ∷ [];
+  value = ptr_val p;
+  is = refl;
+  good = pointer_typed 𝓛 p;
+}
 
 abbrev pub slice : {p : ℕ × ℕ} {n : ℕ} {vs : List Val} → vs ≡ slice_val p n ∷ [] → n < 2 ^ 64 → Word
 slice {p} {n} {vs} is fits = record {
@@ -118,12 +131,21 @@ heap 𝓛 g vs is = record {
 
 -- ---- formulas
 
+abbrev pub tokens : (n : ℕ) → Lfts n → Shares n → Fml
+tokens zero κs qs = ftrue
+tokens (suc n) κs qs = fsep (flft κs.0 qs.0) (tokens n κs.1 qs.1)
+
 abbrev pub under : List Fml → Fml → Fml
 under [] F = F
 under (A ∷ As) F = fsep A (under As F)
 
 module _ {M : Type 1} {𝓤 : Ura M} (𝓛 : Logic 𝓤) where
   open 𝓛 use {H}
+
+  -- nothing else is required
+  pub and_nothing : {i j : Item 𝓤} {G : Goal 𝓤 H} → Seq (Go {0}) 𝓛 (i ∷ j ∷ raw (emp 𝓤) ∷ []) G
+      → Seq (Go {0}) 𝓛 (i ∷ j ∷ []) G
+  and_nothing s = use0 𝓛 (raw (emp 𝓤)) (id⊢ 𝓤 _) $ move ! (1 ∷ 2 ∷ 0 ∷ []) $ s
 
   adds : (before : List Fml) (S F F' rest : Fml) → ent 𝓤 (sem 𝓛 F) (sem 𝓛 F')
       → ent 𝓤 (sep 𝓤 (sem 𝓛 S) (sem 𝓛 (under before (fsep F rest)))) (sem 𝓛 (under before (fsep (fsep F' S) rest)))
@@ -133,7 +155,7 @@ module _ {M : Type 1} {𝓤 : Ura M} (𝓛 : Logic 𝓤) where
       fsplit ! $ frame ! $ move ! (1 ∷ 0 ∷ []) $ use2 𝓛 (‵ (under As (fsep (fsep F' S) rest))) (adds As S F F' rest same) $ done !
 
   module _ (𝓜 : Model 𝓤 H) (𝓡 : Running 𝓤 H 𝓜) where
-    abbrev 𝓣 : MachineTables 𝓤 H 𝓜
+    abbrev pub 𝓣 : MachineTables 𝓤 H 𝓜
     𝓣 = tables 𝓤 H 𝓜 𝓡 𝓡.env
 
     module _ (S : Signature) (c : Spec 𝓤 S) where
@@ -172,67 +194,89 @@ module _ {M : Type 1} {𝓤 : Ura M} (𝓛 : Logic 𝓤) where
         calls_from t (framed 𝓤 H 𝓜 𝓣) (raw _) vs c.given_at c.called opds (λ v.
         use1 𝓛 (later (given (Good τ v) (raw (Q v)))) (c.after v) $ await t tt $ learn t (k v))
 
+    -- at the exit: the tokens, the status, and what is ensured of the last values
+    abbrev pub Exit : {W : Type 0} → Fml → (W → Fml) → (ℤ → W → SProp 𝓤) → Val → SProp 𝓤
+    Exit {W} T lasts E v = H.⇛ (ex 𝓤 (λ (r : ℤ). sep 𝓤 (sep 𝓤 (sem 𝓛 T) (sem 𝓛 (i32.own_val r (v ∷ []))))
+        (ex 𝓤 (λ (w : W). sep 𝓤 (sem 𝓛 (lasts w)) (E r w)))))
+
+    status_good : {W : Type 0} (T : Fml) (lasts : W → Fml) (E : ℤ → W → SProp 𝓤) (v : Val)
+        → ent 𝓤 (Exit T lasts E v) (H.⇛ (guard 𝓤 (Good (ty_int w32) v) (Exit T lasts E v)))
+    status_good {W} T lasts E v =
+        qed 𝓛 (later (some (λ (r : ℤ). (‵ T ⊛ ‵ (i32.own_val r (v ∷ [])))
+        ⊛ some (λ (w : W). ‵ (lasts w) ⊛ raw (E r w)))) ∷ []) ∵
+        updating ! $ await ! tt $ pick ! (λ r. split ! $ split ! $ move ! (1 ∷ []) $
+        peeks ! i32 (Is i32) (shows 𝓛 i32) r (v ∷ []) (λ is. now ! $
+        check ! (subst (Good (ty_int w32)) (sym (ap only is.0)) (tt, of_z_fits w32 r (record { sfits = is.1 }))) $
+        updating ! $ now ! $
+        show ! (λ (r : ℤ). sep 𝓤 (sep 𝓤 (sem 𝓛 T) (sem 𝓛 (i32.own_val r (v ∷ [])))) (ex 𝓤 (λ (w : W).
+        sep 𝓤 (sem 𝓛 (lasts w)) (E r w)))) r $ move ! (1 ∷ 0 ∷ []) $ join ! $ frame ! $ done !))
+
+    -- the call is the last of the function, which returns its status
+    pub calls_at_once : {X : List (Item 𝓤)} {f : Callee} (fn : Fn) (ws : List Word) {vs : List Val} {W : Type 0} (T : Fml)
+        (lasts : W → Fml) (E : ℤ → W → SProp 𝓤) → vs ≡ values ws → ent 𝓤 (⋆ 𝓛 X) (𝓣.C f vs (Exit T lasts E))
+        → HandsOn f fn (ty_int w32) (values ws) → Seq (Go {0}) 𝓛 X (prop (WpFn 𝓤 H 𝓣.C 𝓣.Λ fn vs (Exit T lasts E)))
+    calls_at_once {X} {f} fn ws {vs} T lasts E same met hands = by !
+        (subst (λ (us : List Val). ent 𝓤 (⋆ 𝓛 X) (WpFn 𝓤 H 𝓣.C 𝓣.Λ fn us (Exit T lasts E))) (sym same)
+        (hands (⋆ 𝓛 X) (Exit T lasts E) (record {
+          given_at = Exit T lasts E;
+          called = subst (λ (us : List Val). ent 𝓤 (⋆ 𝓛 X) (𝓣.C f us (Exit T lasts E))) same met;
+          after = status_good T lasts E;
+        })).prf)
+
     -- ---- a handle is borrowed, a call with a reference in place of the pointer is made, and its status is returned
     module _ (R : RattleType) (at : Ptr) (x : R.Denot) (κ : Lft) (q : Share) where
       abbrev pub reference : ℕ → ℕ → Bor R.Denot
       reference b o = record { ref_ptr = (b, o); now = x }
 
-      abbrev pub Entry : SProp 𝓤 → List Fml → List Val → Fml → SProp 𝓤 → ℕ → ℕ → SProp 𝓤
-      Entry T before w rest P b o = sep 𝓤 (sep 𝓤 (sep 𝓤 (sem 𝓛 (flft κ q)) T)
-          (sem 𝓛 (under before (fsep ((ShrRef (named 0) κ R).own_val (reference b o) w) rest)))) P
+      -- with the token of the reference, which is left of it
+      abbrev pub with_token : {W : Type 0} → (ℤ → W → SProp 𝓤) → ℤ → W → SProp 𝓤
+      with_token E r w = sep 𝓤 (sem 𝓛 (flft κ q)) (E r w)
 
-      abbrev pub Exit : {W : Type 0} → SProp 𝓤 → (W → Fml) → (ℤ → W → SProp 𝓤) → Val → SProp 𝓤
-      Exit {W} T lasts E v = H.⇛ (ex 𝓤 (λ (r : ℤ). sep 𝓤 (sep 𝓤 T (sem 𝓛 (i32.own_val r (v ∷ []))))
-          (ex 𝓤 (λ (w : W). sep 𝓤 (sem 𝓛 (lasts w)) (E r w)))))
-
-      returns_status : {W : Type 0} (T : SProp 𝓤) (lasts : W → Fml) (E : ℤ → W → SProp 𝓤) (v : Val)
-          → ent 𝓤 (Exit (sep 𝓤 (sem 𝓛 (flft κ q)) T) lasts E v)
-          (H.⇛ (guard 𝓤 (Good (ty_int w32) v) (Exit T lasts (λ r w. sep 𝓤 (sem 𝓛 (flft κ q)) (E r w)) v)))
-      returns_status {W} T lasts E v =
-          qed 𝓛 (later (some (λ (r : ℤ). ((‵ (flft κ q) ⊛ raw T) ⊛ ‵ (i32.own_val r (v ∷ [])))
+      token_back : {W : Type 0} (T : Fml) (lasts : W → Fml) (E : ℤ → W → SProp 𝓤) (v : Val)
+          → ent 𝓤 (Exit (fsep (flft κ q) T) lasts E v) (Exit T lasts (with_token E) v)
+      token_back {W} T lasts E v = qed 𝓛 (later (some (λ (r : ℤ). (‵ (fsep (flft κ q) T) ⊛ ‵ (i32.own_val r (v ∷ [])))
           ⊛ some (λ (w : W). ‵ (lasts w) ⊛ raw (E r w)))) ∷ []) ∵
-          updating ! $ await ! tt $ pick ! (λ r. split ! $ split ! $ move ! (1 ∷ []) $
-          peeks ! i32 (Is i32) (shows 𝓛 i32) r (v ∷ []) (λ is. now ! $
-          check ! (subst (Good (ty_int w32)) (sym (ap only is.0)) (tt, of_z_fits w32 r (record { sfits = is.1 }))) $
-          updating ! $ now ! $
-          show ! (λ (r : ℤ). sep 𝓤 (sep 𝓤 T (sem 𝓛 (i32.own_val r (v ∷ [])))) (ex 𝓤 (λ (w : W). sep 𝓤 (sem 𝓛 (lasts w))
-          (sep 𝓤 (sem 𝓛 (flft κ q)) (E r w))))) r $
-          move ! (1 ∷ []) $ split ! $ move ! (1 ∷ 2 ∷ []) $ join ! $ frame ! $
-          move ! (1 ∷ []) $ pick ! (λ w. split ! $
-          show ! (λ (w : W). sep 𝓤 (sem 𝓛 (lasts w)) (sep 𝓤 (sem 𝓛 (flft κ q)) (E r w))) w $ frame ! $
-          move ! (1 ∷ 0 ∷ []) $ done !)))
+          updating ! $ await ! tt $ pick ! (λ r. split ! $ split ! $ fsplit ! $ now ! $
+          show ! (λ (r : ℤ). sep 𝓤 (sep 𝓤 (sem 𝓛 T) (sem 𝓛 (i32.own_val r (v ∷ [])))) (ex 𝓤 (λ (w : W).
+          sep 𝓤 (sem 𝓛 (lasts w)) (with_token E r w)))) r $
+          move ! (1 ∷ 2 ∷ []) $ join ! $ frame ! $ move ! (1 ∷ []) $ pick ! (λ w. split ! $
+          show ! (λ (w : W). sep 𝓤 (sem 𝓛 (lasts w)) (with_token E r w)) w $ frame ! $ move ! (1 ∷ 0 ∷ []) $ done !))
 
-      pub borrows : (before : List Fml) {T : SProp 𝓤} (w : List Val) (rest : Fml) {P : SProp 𝓤} {f : Callee} (fn : Fn)
-          {W : Type 0} (lasts : W → Fml) (E : ℤ → W → SProp 𝓤) (vs : List Val)
-          → ((b o : ℕ) → at ≡ block_ptr b o → (ws : List Word) × (vs ≡ values ws) × HandsOn f fn (ty_int w32) (values ws))
-          → ((b o : ℕ) → ent 𝓤 (Entry T before w rest P b o) (𝓣.C f vs (Exit (sep 𝓤 (sem 𝓛 (flft κ q)) T) lasts E)))
-          → Seq (Go {0}) 𝓛 ((raw T ⊛ ‵ (under before (fsep (feq (List Val) w (ptr_val at ∷ [])) rest)))
+      pub lends : (before : List Fml) {T : Fml} (w : List Val) (rest : Fml) {P : SProp 𝓤} (fn : Fn) (vs : List Val)
+          {W : Type 0} (lasts : W → Fml) (E : ℤ → W → SProp 𝓤)
+          → ((b o : ℕ) → at ≡ block_ptr b o → Seq (Go {0}) 𝓛 ((‵ (fsep (flft κ q) T)
+          ⊛ ‵ (under before (fsep ((ShrRef (named 0) κ R).own_val (reference b o) w) rest))) ∷ raw P ∷ [])
+          (prop (WpFn 𝓤 H 𝓣.C 𝓣.Λ fn vs (Exit (fsep (flft κ q) T) lasts E))))
+          → Seq (Go {0}) 𝓛 ((‵ T ⊛ ‵ (under before (fsep (feq (List Val) w (ptr_val at ∷ [])) rest)))
           ∷ (‵ (lent_at R at x κ) ⊛ ‵ (flft κ q)) ∷ raw P ∷ [])
-          (prop (WpFn 𝓤 H 𝓣.C 𝓣.Λ fn vs (Exit T lasts (λ r w. sep 𝓤 (sem 𝓛 (flft κ q)) (E r w)))))
-      borrows before {T} w rest {P} {f} fn lasts E vs hands met = move ! (1 ∷ []) $ split ! $
+          (prop (WpFn 𝓤 H 𝓣.C 𝓣.Λ fn vs (Exit T lasts (with_token E))))
+      unfolding tables_of
+      lends before {T} w rest fn vs lasts E calls = move ! (1 ∷ []) $ split ! $
           in_a_block ! at (λ p. lent_at R p x κ) (fst∗ 𝓤 (never 𝓤) (sem 𝓛 (shared_of R x 0 0 κ))) (λ b o e.
           fsplit ! $ drop ! $ use1 𝓛 (‵ (hidden_shr R κ x b o)) (id⊢ 𝓤 _) $ move ! (2 ∷ []) $ split ! $
           move ! (2 ∷ 1 ∷ []) $
           use2 𝓛 (‵ (under before (fsep ((ShrRef (named 0) κ R).own_val (reference b o) w) rest)))
           (adds before (hidden_shr R κ x b o) (feq (List Val) w (ptr_val at ∷ [])) (feq (List Val) w (vptr b o ∷ [])) rest
-          (subst (λ (p : Ptr). ent 𝓤 (sem 𝓛 (feq (List Val) w (ptr_val at ∷ []))) (sem 𝓛 (feq (List Val) w (ptr_val p ∷ [])))) e (id⊢ 𝓤 _))) $
-          move ! (2 ∷ 1 ∷ []) $ join ! $ join ! $ join ! $
-          let h = hands b o e in
-          let Q : Val → SProp 𝓤 = Exit T lasts (λ r w. sep 𝓤 (sem 𝓛 (flft κ q)) (E r w)) in
-          by ! (subst (λ (us : List Val). ent 𝓤 (Entry T before w rest P b o) (WpFn 𝓤 H 𝓣.C 𝓣.Λ fn us Q)) (sym h.1)
-          (h.2 (Entry T before w rest P b o) Q (record {
-            given_at = Exit (sep 𝓤 (sem 𝓛 (flft κ q)) T) lasts E;
-            called = subst (λ (us : List Val). ent 𝓤 (Entry T before w rest P b o) (𝓣.C f us (Exit (sep 𝓤 (sem 𝓛 (flft κ q)) T) lasts E))) h.1 (met b o);
-            after = returns_status T lasts E;
-          })).prf))
+          (subst (λ (p : Ptr). ent 𝓤 (sem 𝓛 (feq (List Val) w (ptr_val at ∷ [])))
+          (sem 𝓛 (feq (List Val) w (ptr_val p ∷ [])))) e (id⊢ 𝓤 _))) $
+          move ! (2 ∷ 1 ∷ []) $ fjoin ! $ join ! $
+          suffices ! _ (WpFn-mono 𝓤 H 𝓛.laws (tables_of 𝓤 H 𝓜 𝓣) fn vs (Exit (fsep (flft κ q) T) lasts E)
+          (Exit T lasts (with_token E)) (token_back T lasts E)) $ calls b o e)
 
-      -- the same where nothing else is required
-      pub borrows_only : (before : List Fml) {T : SProp 𝓤} (w : List Val) (rest : Fml) {f : Callee} (fn : Fn)
-          {W : Type 0} (lasts : W → Fml) (E : ℤ → W → SProp 𝓤) (vs : List Val)
-          → ((b o : ℕ) → at ≡ block_ptr b o → (ws : List Word) × (vs ≡ values ws) × HandsOn f fn (ty_int w32) (values ws))
-          → ((b o : ℕ) → ent 𝓤 (Entry T before w rest (emp 𝓤) b o) (𝓣.C f vs (Exit (sep 𝓤 (sem 𝓛 (flft κ q)) T) lasts E)))
-          → Seq (Go {0}) 𝓛 ((raw T ⊛ ‵ (under before (fsep (feq (List Val) w (ptr_val at ∷ [])) rest)))
-          ∷ (‵ (lent_at R at x κ) ⊛ ‵ (flft κ q)) ∷ [])
-          (prop (WpFn 𝓤 H 𝓣.C 𝓣.Λ fn vs (Exit T lasts (λ r w. sep 𝓤 (sem 𝓛 (flft κ q)) (E r w)))))
-      borrows_only before w rest fn lasts E vs hands met = use0 𝓛 (raw (emp 𝓤)) (id⊢ 𝓤 _) $ move ! (1 ∷ 2 ∷ 0 ∷ []) $
-          borrows before w rest fn lasts E vs hands met
+      abbrev pub Entry : Fml → List Fml → List Val → Fml → SProp 𝓤 → ℕ → ℕ → SProp 𝓤
+      Entry T before w rest P b o = sep 𝓤 (sep 𝓤 (sem 𝓛 (fsep (flft κ q) T))
+          (sem 𝓛 (under before (fsep ((ShrRef (named 0) κ R).own_val (reference b o) w) rest)))) P
+
+      abbrev pub Hands : Callee → Fn → List Val → Type 2
+      Hands f fn vs = (b o : ℕ) → at ≡ block_ptr b o
+          → (ws : List Word) × (vs ≡ values ws) × HandsOn f fn (ty_int w32) (values ws)
+
+      -- borrow, call, return
+      pub borrows : (before : List Fml) {T : Fml} (w : List Val) (rest : Fml) {P : SProp 𝓤} {f : Callee} (fn : Fn)
+          {W : Type 0} (lasts : W → Fml) (E : ℤ → W → SProp 𝓤) (vs : List Val) → Hands f fn vs
+          → ((b o : ℕ) → ent 𝓤 (Entry T before w rest P b o) (𝓣.C f vs (Exit (fsep (flft κ q) T) lasts E)))
+          → Seq (Go {0}) 𝓛 ((‵ T ⊛ ‵ (under before (fsep (feq (List Val) w (ptr_val at ∷ [])) rest)))
+          ∷ (‵ (lent_at R at x κ) ⊛ ‵ (flft κ q)) ∷ raw P ∷ [])
+          (prop (WpFn 𝓤 H 𝓣.C 𝓣.Λ fn vs (Exit T lasts (with_token E))))
+      borrows before {T} w rest fn lasts E vs hands met = lends before w rest fn vs lasts E (λ b o e. let h = hands b o e in
+          calls_at_once fn h.0 (fsep (flft κ q) T) lasts E h.1 (met b o) h.2)

@@ -4,4 +4,4 @@ pub mod KeptSteps
 pub mod LendingLemmas
 pub mod MatrixLemmas
 pub mod NumberLemmas
-pub mod WalkSteps
+pub mod Opening

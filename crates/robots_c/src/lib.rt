@@ -181,9 +181,9 @@ pub extern "C" fn robots_open(
     out: &mut *mut u8,
     line: &mut usize,
 ) -> i32
+    ensures* opened { sem 𝓛 (fall (result ≡ pos 0) (λ _. opened_at Robots (IsRobotFor agent.now (bytes_read file.now)) out.new)) }
     ensures kept { result ≢ pos 0 → out.new ≡ out.old }
     ensures why { HasFaultAt (IsWhyNoRobot agent.now (bytes_read file.now)) result line.old line.new }
-    ensures* opened { sem 𝓛 (fall (result ≡ pos 0) (λ _. opened_at Robots (IsRobotFor agent.now (bytes_read file.now)) out.new)) }
 {
     let Kept { status, at } = opened(alloc, agent, file, *out as *mut Shared<Robot>, line);
     *out = at as *mut u8;
@@ -270,10 +270,10 @@ pub unsafe extern "C" fn robots_query_delay(robot: *const u8, out: &mut u64) -> 
 pub unsafe extern "C" fn robots_share(alloc: Global, robot: *const u8, out: &mut *mut u8) -> i32
     ghost g: { Lft × Share × RobotValue }
     requires* lent { sem 𝓛 (lent_at Robots robot g.2 g.0) ∗ sem 𝓛 (flft g.0 g.1) }
+    ensures* lent { sem 𝓛 (flft g.0 g.1) }
+    ensures* opened { sem 𝓛 (fall (result ≡ pos 0) (λ _. opened_at Robots (λ other. other ≡ g.2) out.new)) }
     ensures kept { result ≢ pos 0 → out.new ≡ out.old }
     ensures why { HasFault IsWhyNoHandle result }
-    ensures* opened { sem 𝓛 (fall (result ≡ pos 0) (λ _. opened_at Robots (λ other. other ≡ g.2) out.new)) }
-    ensures* lent { sem 𝓛 (flft g.0 g.1) }
 {
     let Kept { status, at } = shared(
         alloc,
@@ -304,9 +304,9 @@ pub unsafe extern "C" fn robots_close(alloc: Global, robot: *mut u8)
 /// fails only if an allocation fails.
 #[unsafe(no_mangle)]
 pub extern "C" fn robots_site_open(alloc: Global, file: &[u8], out: &mut *mut u8) -> i32
+    ensures* opened { sem 𝓛 (fall (result ≡ pos 0) (λ _. opened_at Sites (λ site. site ≡ bytes_read file.now) out.new)) }
     ensures kept { result ≢ pos 0 → out.new ≡ out.old }
     ensures why { HasFault IsWhyNoHandle result }
-    ensures* opened { sem 𝓛 (fall (result ≡ pos 0) (λ _. opened_at Sites (λ site. site ≡ bytes_read file.now) out.new)) }
 {
     let Kept { status, at } = site::opened(alloc, file, *out as *mut Shared<Site>);
     *out = at as *mut u8;
@@ -325,10 +325,10 @@ pub unsafe extern "C" fn robots_site_robot(
 ) -> i32
     ghost g: { Lft × Share × List ℕ }
     requires* lent { sem 𝓛 (lent_at Sites site g.2 g.0) ∗ sem 𝓛 (flft g.0 g.1) }
+    ensures* lent { sem 𝓛 (flft g.0 g.1) }
+    ensures* opened { sem 𝓛 (fall (result ≡ pos 0) (λ _. opened_at Robots (IsRobotFor agent.now g.2) out.new)) }
     ensures kept { result ≢ pos 0 → out.new ≡ out.old }
     ensures why { HasFaultAt (IsWhyNoRobot agent.now g.2) result line.old line.new }
-    ensures* opened { sem 𝓛 (fall (result ≡ pos 0) (λ _. opened_at Robots (IsRobotFor agent.now g.2) out.new)) }
-    ensures* lent { sem 𝓛 (flft g.0 g.1) }
 {
     let Kept { status, at } = site::robot_opened(
         alloc,
@@ -435,10 +435,10 @@ pub unsafe extern "C" fn robots_site_is_named(site: *const u8, agent: &[u8]) -> 
 pub unsafe extern "C" fn robots_site_share(alloc: Global, site: *const u8, out: &mut *mut u8) -> i32
     ghost g: { Lft × Share × List ℕ }
     requires* lent { sem 𝓛 (lent_at Sites site g.2 g.0) ∗ sem 𝓛 (flft g.0 g.1) }
+    ensures* lent { sem 𝓛 (flft g.0 g.1) }
+    ensures* opened { sem 𝓛 (fall (result ≡ pos 0) (λ _. opened_at Sites (λ other. other ≡ g.2) out.new)) }
     ensures kept { result ≢ pos 0 → out.new ≡ out.old }
     ensures why { HasFault IsWhyNoHandle result }
-    ensures* opened { sem 𝓛 (fall (result ≡ pos 0) (λ _. opened_at Sites (λ other. other ≡ g.2) out.new)) }
-    ensures* lent { sem 𝓛 (flft g.0 g.1) }
 {
     let Kept { status, at } = site::shared(
         alloc,

@@ -1,5 +1,66 @@
 -- `robots_query_batch` reads a borrowed robot.
-use Rattle.robots_c.proofs.Borrowing.{◌≡◌, ℕ, List, [], ◌∷◌, refl, ap, ◌∙◌, flft, ‵, raw, ◌⊛◌, ◌$◌, ◌∵◌, !, qed, done, of_opd, addr, stop, no_more, and_then, returns, enter, alloc_all, pass_all, free_all, look_at, get, through, sets, lands_as, Lfts, owns, Ptr, ptr_val, types_at, lent_at, at_exit, lasts, Args, alive, are_values, goods, hands_on, meets, place, reference, borrows, heap, slice, from, fld, hop, look_in_at, get_in, agg, sub, whole, fact}
+use Rattle.robots_c.proofs.Borrowing.{
+  ◌≡◌,
+  ℕ,
+  List,
+  [],
+  ◌∷◌,
+  refl,
+  ap,
+  ◌∙◌,
+  flft,
+  ‵,
+  raw,
+  ◌⊛◌,
+  ◌$◌,
+  ◌∵◌,
+  !,
+  qed,
+  done,
+  of_opd,
+  addr,
+  stop,
+  no_more,
+  and_then,
+  returns,
+  enter,
+  alloc_all,
+  pass_all,
+  free_all,
+  look_at,
+  get,
+  through,
+  sets,
+  lands_as,
+  Lfts,
+  owns,
+  Ptr,
+  ptr_val,
+  types_at,
+  lent_at,
+  at_exit,
+  lasts,
+  Args,
+  are_values,
+  goods,
+  hands_on,
+  meets,
+  place,
+  reference,
+  borrows,
+  heap,
+  slice,
+  from,
+  fld,
+  hop,
+  look_in_at,
+  get_in,
+  agg,
+  sub,
+  whole,
+  fact,
+  tokens,
+}
 use Rattle.robots_c.specs.Kept.{Robots}
 use Rattle.robots_c.specs.File.{IsRobotOfSomeFile}
 use Rattle.robots_c.specs.contracts.batch.query_batch as callee
@@ -15,20 +76,20 @@ robots_query_batch_spec 𝓤 𝓛 𝓜 𝓡 wired =
     let a = z.0.3 in let vs = z.0.4 in let κ = z.1.0 in let q = z.1.1 in let x = z.1.2 in
     let κs : Lfts 4 = (κ, z.0.0) in
     let given_at : ℕ → ℕ → Args callee.signature κs = λ b o. (a.0, (reference 𝓛 𝓜 𝓡 Robots a.1.0 x κ q b o, a.1.1)) in
-    let given = given_at 0 0 in
-    qed 𝓛 ((raw (alive 𝓛 S z.0.0 z.0.1) ⊛ ‵ (owns (types_at S.params z.0.0) a vs))
+    let first = given_at 0 0 in
+    qed 𝓛 ((‵ (tokens 3 z.0.0 z.0.1) ⊛ ‵ (owns (types_at S.params z.0.0) a vs))
     ∷ (‵ (lent_at Robots a.1.0 x κ) ⊛ ‵ (flft κ q)) ∷ raw (fact 𝓤 (IsRobotOfSomeFile x)) ∷ []) ∵
-    borrows 𝓛 𝓜 𝓡 Robots a.1.0 x κ q (_ ∷ []) _ _ _ (lasts callee.ended κs given)
-    (λ r w. (c κs given).ensures tt r (at_exit callee.ended κs given w)) _ (λ b o e.
+    borrows 𝓛 𝓜 𝓡 Robots a.1.0 x κ q (_ ∷ []) _ _ _ (lasts callee.ended κs first)
+    (λ r w. (c κs first).ensures tt r (at_exit callee.ended κs first w)) _ (λ b o e.
     let ws = heap 𝓛 a.0 vs.0 are.0 ∷ place (are.1.0 ∙ ap (λ (p : Ptr). ptr_val p ∷ []) e) ∷ slice are.1.1.0.0.0 are.1.1.0.0.1.0 ∷ slice are.1.1.1.0.0.0 are.1.1.1.0.0.1.0 ∷ slice are.1.1.1.1.0.0.0 are.1.1.1.1.0.0.1.0 ∷ [] in (
       ws,
       are_values ws,
-      λ X Q call. enter ! _ _ _ _ _ $ alloc_all ! (λ l. pass_all ! refl (goods ws) $
+      λ X Q given. enter ! _ _ _ _ _ $ alloc_all ! (λ l. pass_all ! refl (goods ws) $
           sets ! (of_opd ! (get ! refl)) refl (tt, tt) $
           sets ! (addr ! (through ! refl (stop !))) refl (tt, tt) $
           sets ! (addr ! (from ! (fld ! refl (hop ! (look_in_at ! 5 (sub ! 0 refl (whole !))) (stop !))))) refl (tt, tt) $
           sets ! (agg ! (and_then ! (get ! refl) (and_then ! (get_in ! (fld ! refl (stop !)) (sub ! 1 refl (whole !)))
           (no_more !)))) refl (tt, (tt, (record { fits = are.1.1.1.1.0.0.1.0 }, tt))) $
-          hands_on 𝓛 𝓜 𝓡 ! call (and_then ! (get ! refl) (and_then ! (get ! refl) (and_then ! (get ! refl) (and_then ! (get ! refl) (and_then ! (get ! refl) (no_more !)))))) (λ v good. lands_as ! refl refl good $ returns ! (look_at ! 0 refl) $ free_all ! refl $ done !)),
+          hands_on 𝓛 𝓜 𝓡 ! given (and_then ! (get ! refl) (and_then ! (get ! refl) (and_then ! (get ! refl) (and_then ! (get ! refl) (and_then ! (get ! refl) (no_more !)))))) (λ v good. lands_as ! refl refl good $ returns ! (look_at ! 0 refl) $ free_all ! refl $ done !)),
     ))
     (λ b o. met 𝓤 𝓛 𝓜 𝓡 (code.calls-robots_c::batch::query_batch 𝓡.env wired) ((κs, (q, z.0.1), tt, given_at b o, vs), tt)))

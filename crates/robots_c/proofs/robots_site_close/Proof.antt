@@ -31,8 +31,7 @@ use Rattle.robots_c.specs.Kept.{Sites, owned_or_null}
 use Rattle.robots_c.specs.contracts.kept.Handle as Handle
 use Rattle.robots_c.specs.contracts.site.close as callee
 use Rattle.robots_c.proofs.site.close.Met.{met}
-use Rattle.robots_c.proofs.KeptSteps.{handle_in, handle_word, null_or_owned}
-use Rattle.robots_c.proofs.WalkSteps.{Heap, heap_slot, pointer_slot}
+use Rattle.robots_c.proofs.KeptSteps.{Heap, handle_in, handle_word, heap_slot, null_or_owned, pointer_slot}
 use Rattle.robots_c.specs.contracts.robots_site_close.{ended, clauses}
 use Rattle.robots_c.specs.contracts.robots_site_close.Key.{name as #self}
 use Rattle.robots_c.proofs.robots_site_close.Statement.{statement}

@@ -1,5 +1,56 @@
 -- `robots_site_is_named` reads a borrowed site.
-use Rattle.robots_c.proofs.Borrowing.{◌≡◌, ℕ, List, [], ◌∷◌, refl, ap, ◌∙◌, flft, ‵, raw, ◌⊛◌, ◌$◌, ◌∵◌, !, qed, done, of_opd, addr, stop, no_more, and_then, returns, enter, alloc_all, pass_all, free_all, look_at, get, through, sets, lands_as, Lfts, owns, Ptr, ptr_val, types_at, lent_at, at_exit, lasts, Args, alive, are_values, goods, hands_on, meets, place, reference, borrows_only, slice}
+use Rattle.robots_c.proofs.Borrowing.{
+  ◌≡◌,
+  ℕ,
+  List,
+  [],
+  ◌∷◌,
+  refl,
+  ap,
+  ◌∙◌,
+  flft,
+  ‵,
+  ◌⊛◌,
+  ◌$◌,
+  ◌∵◌,
+  !,
+  qed,
+  done,
+  of_opd,
+  addr,
+  stop,
+  no_more,
+  and_then,
+  returns,
+  enter,
+  alloc_all,
+  pass_all,
+  free_all,
+  look_at,
+  get,
+  through,
+  sets,
+  lands_as,
+  Lfts,
+  owns,
+  Ptr,
+  ptr_val,
+  types_at,
+  lent_at,
+  at_exit,
+  lasts,
+  Args,
+  are_values,
+  goods,
+  hands_on,
+  meets,
+  place,
+  reference,
+  and_nothing,
+  borrows,
+  slice,
+  tokens,
+}
 use Rattle.robots_c.specs.Kept.{Sites}
 use Rattle.robots_c.specs.contracts.site.is_named as callee
 use Rattle.robots_c.proofs.site.is_named.Met.{met}
@@ -14,17 +65,17 @@ robots_site_is_named_spec 𝓤 𝓛 𝓜 𝓡 wired =
     let a = z.0.3 in let vs = z.0.4 in let κ = z.1.0 in let q = z.1.1 in let x = z.1.2 in
     let κs : Lfts 2 = (κ, z.0.0) in
     let given_at : ℕ → ℕ → Args callee.signature κs = λ b o. (reference 𝓛 𝓜 𝓡 Sites a.0 x κ q b o, a.1) in
-    let given = given_at 0 0 in
-    qed 𝓛 ((raw (alive 𝓛 S z.0.0 z.0.1) ⊛ ‵ (owns (types_at S.params z.0.0) a vs))
+    let first = given_at 0 0 in
+    qed 𝓛 ((‵ (tokens 1 z.0.0 z.0.1) ⊛ ‵ (owns (types_at S.params z.0.0) a vs))
     ∷ (‵ (lent_at Sites a.0 x κ) ⊛ ‵ (flft κ q)) ∷ []) ∵
-    borrows_only 𝓛 𝓜 𝓡 Sites a.0 x κ q [] _ _ _ (lasts callee.ended κs given)
-    (λ r w. (c κs given).ensures tt r (at_exit callee.ended κs given w)) _ (λ b o e.
+    and_nothing 𝓛 (borrows 𝓛 𝓜 𝓡 Sites a.0 x κ q [] _ _ _ (lasts callee.ended κs first)
+    (λ r w. (c κs first).ensures tt r (at_exit callee.ended κs first w)) _ (λ b o e.
     let ws = place (are.0 ∙ ap (λ (p : Ptr). ptr_val p ∷ []) e) ∷ slice are.1.0.0.0 are.1.0.0.1.0 ∷ [] in (
       ws,
       are_values ws,
-      λ X Q call. enter ! _ _ _ _ _ $ alloc_all ! (λ l. pass_all ! refl (goods ws) $
+      λ X Q given. enter ! _ _ _ _ _ $ alloc_all ! (λ l. pass_all ! refl (goods ws) $
           sets ! (of_opd ! (get ! refl)) refl (tt, tt) $
           sets ! (addr ! (through ! refl (stop !))) refl (tt, tt) $
-          hands_on 𝓛 𝓜 𝓡 ! call (and_then ! (get ! refl) (and_then ! (get ! refl) (no_more !))) (λ v good. lands_as ! refl refl good $ returns ! (look_at ! 0 refl) $ free_all ! refl $ done !)),
+          hands_on 𝓛 𝓜 𝓡 ! given (and_then ! (get ! refl) (and_then ! (get ! refl) (no_more !))) (λ v good. lands_as ! refl refl good $ returns ! (look_at ! 0 refl) $ free_all ! refl $ done !)),
     ))
-    (λ b o. met 𝓤 𝓛 𝓜 𝓡 (code.calls-robots_c::site::is_named 𝓡.env wired) ((κs, (q, z.0.1), tt, given_at b o, vs), tt)))
+    (λ b o. met 𝓤 𝓛 𝓜 𝓡 (code.calls-robots_c::site::is_named 𝓡.env wired) ((κs, (q, z.0.1), tt, given_at b o, vs), tt))))
