@@ -12,8 +12,8 @@ pub use denote.RattleType.{owns}
 pub use denote.RawPtr.{Ptr, ptr_val}
 pub use denote.Signature.{types_at}
 pub use denote.Struct.Lending.{lent_at}
-pub use denote.Triple.Clauses.{at_exit, lasts}
-pub use denote.Triple.Entry.{Args, alive}
+pub use denote.Triple.Clauses.{Lasts, lasts}
+pub use denote.Triple.Entry.{Args}
 use Rattle.std.proofs.Common.{◌<◌, ◌^◌, ℤ, sym, subst, Bor, ◌++◌}
 use seplogic.Ra.Ura.{Ura}
 use lib.Dec.{T as IsT}
@@ -21,30 +21,32 @@ use base.Fml.{Fml, Lft, Share, ftrue, fsep, feq}
 use base.Logic.{SProp, emp, ent, ex, fst∗, snd∗, guard, id⊢, never, sep, via}
 use contract.Monad.{fact_use}
 use mir.Syntax.{Callee, Fn, Place, Opd as Operand, Body, Ty, call, named, seq, ty_int, ty_ptr, w32}
-use mir.Val.{Val, WT, has_ty, of_z, vint, vptr}
+use mir.Val.{Val, WT, has_ty, vptr}
 use mir.ValLaws.{of_z_fits}
 use prog.Model.{Model}
-use prog.Wp.{Calls, Closed, Env, Loops, WpFn}
+use prog.Wp.{Closed, Env, WpFn}
 use contract.Running.{MachineTables, Running, tables, tables_of}
 use sound.WpLaws.{WpFn-mono}
 use types.Logic.{Logic, sem}
-use types.Kit.{⋆, suffices, Goal, Item, Post, Seq, Step, given, later, some, await, check}
+use types.Kit.{⋆, suffices, Goal, Item, Post, Seq, given, later, some, await, check}
 use types.Kit.{by, drop, fjoin, frame, fsplit, join, lands, learn, move, now, pick, prop, runs, show}
 use types.Kit.{split, updating, use1, use0, use2, Go}
 use types.Run.{Opds}
 use denote.Builtin.{i32}
 use denote.Laws.{Are, Is, Ises, Typed, owns_show, shows, showss}
 use denote.Memory.{hidden_shr, shared_of}
-use denote.Param.{layout, param}
+use denote.Param.{layout}
 use denote.Param.Laws.{param_laws}
 use denote.RattleType.{RattleType}
 use denote.RawPtr.{block_ptr, in_a_block, rawptr_Lawful}
 use denote.Ref.{ShrRef}
 use denote.Slice.{slice_ty, slice_val}
-use denote.Steps.{nothing, only, peeks}
+use denote.Steps.{only, peeks}
 use denote.Signature.{Signature}
 use denote.Triple.Call.{calls_from}
-use denote.Triple.Entry.{on_entry}
+use denote.Triple.Bound.{Bound}
+use denote.Triple.Clauses.{Clauses, Ended, at_exit}
+use denote.Triple.Entry.{Res, alive, on_entry}
 use denote.Triple.Spec.{Meets, Spec, triple_of}
 use denote.Triple.Statement.{Contract}
 use denote.Triple.Table.{entered, framed}
@@ -89,6 +91,13 @@ pointer_typed 𝓛 p = ((rawptr_Lawful 𝓛).typed p (ptr_val p ∷ []) refl).0
 -- a reference, and a pointer that isn't null
 abbrev pub place : {b o : ℕ} {vs : List Val} → vs ≡ vptr b o ∷ [] → Word
 place {b} {o} {vs} is = record { type = ty_ptr; listed = vs; value = vptr b o; is = is; good = (tt, tt) }
+
+-- a pointer to what is lent
+abbrev pub lent_place : {at : Ptr} {b o : ℕ} {vs : List Val} → vs ≡ ptr_val at ∷ [] → at ≡ block_ptr b o → Word
+lent_place is e = place (is ∙ ap (λ (p : Ptr). ptr_val p ∷ []) e)
+
+abbrev pub reference : {X : Type 0} → X → ℕ → ℕ → Bor X
+reference x b o = record { ref_ptr = (b, o); now = x }
 
 -- a pointer
 abbrev pub pointer : {M : Type 1} {𝓤 : Ura M} (𝓛 : Logic 𝓤) → Ptr → Word
@@ -154,129 +163,138 @@ module _ {M : Type 1} {𝓤 : Ura M} (𝓛 : Logic 𝓤) where
   adds (A ∷ As) S F F' rest same = qed 𝓛 (‵ S ∷ ‵ (fsep A (under As (fsep F rest))) ∷ []) ∵ move ! (1 ∷ []) $
       fsplit ! $ frame ! $ move ! (1 ∷ 0 ∷ []) $ use2 𝓛 (‵ (under As (fsep (fsep F' S) rest))) (adds As S F F' rest same) $ done !
 
-  module _ (𝓜 : Model 𝓤 H) (𝓡 : Running 𝓤 H 𝓜) where
-    abbrev pub 𝓣 : MachineTables 𝓤 H 𝓜
-    𝓣 = tables 𝓤 H 𝓜 𝓡 𝓡.env
+module _ {M : Type 1} {𝓤 : Ura M} (𝓛 : Logic 𝓤) (𝓜 : Model 𝓤 𝓛.H) (𝓡 : Running 𝓤 𝓛.H 𝓜) where
+  open 𝓛 use {H}
 
-    module _ (S : Signature) (c : Spec 𝓤 S) where
-      abbrev t : Contract 𝓤
-      t = triple_of 𝓛 S c
+  abbrev pub 𝓣 : MachineTables 𝓤 H 𝓜
+  𝓣 = tables 𝓤 H 𝓜 𝓡 𝓡.env
 
-      -- a proof may use what the parameters' values show of the machine's
-      pub meets : (key : Callee) (fn : Fn) → Closed 𝓤 H 𝓣.C 𝓣.Λ key fn
-          → ((z : t.Ghost) → Are (types_at S.params z.0.0) (Ises (types_at S.params z.0.0)) z.0.3 z.0.4
-          → ent 𝓤 (t.pre z) (WpFn 𝓤 H 𝓣.C 𝓣.Λ fn (t.args z) (t.post z)))
-          → Meets 𝓛 S (𝓣.C key) c
-      meets key fn closed walk = entered 𝓤 H t 𝓣.C 𝓣.Λ key fn closed (λ z. let Rs = types_at S.params z.0.0 in
-          fact_use 𝓤 (Are Rs (Ises Rs) z.0.3 z.0.4) (via 𝓤 (sem 𝓛 (owns Rs z.0.3 z.0.4))
-          (via 𝓤 (on_entry 𝓛 S z.0.0 z.0.1 z.0.3 z.0.4)
-          (fst∗ 𝓤 (on_entry 𝓛 S z.0.0 z.0.1 z.0.3 z.0.4) ((c z.0.0 z.0.3).requires z.1))
-          (snd∗ 𝓤 (alive 𝓛 S z.0.0 z.0.1) (sem 𝓛 (owns Rs z.0.3 z.0.4))))
-          (owns_show 𝓛 Rs (Ises Rs) (showss 𝓛 Rs) z.0.3 z.0.4)) (walk z))
+  module _ (S : Signature) (c : Spec 𝓤 S) where
+    abbrev t : Contract 𝓤
+    t = triple_of 𝓛 S c
 
-    -- a call at these values gives Q, of a result of this type
-    pub record CallGives (f : Callee) (τ : Ty) (vs : List Val) (X : SProp 𝓤) (Q : Val → SProp 𝓤) : Type 2 where
-      pub given_at : Val → SProp 𝓤
-      pub called : ent 𝓤 X (𝓣.C f vs given_at)
-      pub after : (v : Val) → ent 𝓤 (given_at v) (H.⇛ (guard 𝓤 (Good τ v) (Q v)))
+    -- a proof may use what the parameters' values show of the machine's
+    pub meets : (key : Callee) (fn : Fn) → Closed 𝓤 H 𝓣.C 𝓣.Λ key fn
+        → ((z : t.Ghost) → Are (types_at S.params z.0.0) (Ises (types_at S.params z.0.0)) z.0.3 z.0.4
+        → ent 𝓤 (t.pre z) (WpFn 𝓤 H 𝓣.C 𝓣.Λ fn (t.args z) (t.post z)))
+        → Meets 𝓛 S (𝓣.C key) c
+    meets key fn closed walk = entered 𝓤 H t 𝓣.C 𝓣.Λ key fn closed (λ z. let Rs = types_at S.params z.0.0 in
+        fact_use 𝓤 (Are Rs (Ises Rs) z.0.3 z.0.4) (via 𝓤 (sem 𝓛 (owns Rs z.0.3 z.0.4))
+        (via 𝓤 (on_entry 𝓛 S z.0.0 z.0.1 z.0.3 z.0.4)
+        (fst∗ 𝓤 (on_entry 𝓛 S z.0.0 z.0.1 z.0.3 z.0.4) ((c z.0.0 z.0.3).requires z.1))
+        (snd∗ 𝓤 (alive 𝓛 S z.0.0 z.0.1) (sem 𝓛 (owns Rs z.0.3 z.0.4))))
+        (owns_show 𝓛 Rs (Ises Rs) (showss 𝓛 Rs) z.0.3 z.0.4)) (walk z))
 
-    -- the function hands these values on to the call, and returns its result
-    abbrev pub HandsOn : Callee → Fn → Ty → List Val → Type 2
-    HandsOn f fn τ vs = (X : SProp 𝓤) (Q : Val → SProp 𝓤) → CallGives f τ vs X Q
-        → Seq (Go {0}) 𝓛 (raw X ∷ []) (prop (WpFn 𝓤 H 𝓣.C 𝓣.Λ fn vs Q))
+  -- a call at these values gives Q, of a result of this type
+  pub record CallGives (f : Callee) (τ : Ty) (vs : List Val) (X : SProp 𝓤) (Q : Val → SProp 𝓤) : Type 2 where
+    pub given_at : Val → SProp 𝓤
+    pub called : ent 𝓤 X (𝓣.C f vs given_at)
+    pub after : (v : Val) → ent 𝓤 (given_at v) (H.⇛ (guard 𝓤 (Good τ v) (Q v)))
 
-    pub hands_on : {K : Type 0} → K → {E : Env 𝓤 H} {f : Callee} {xs : List Operand} {Γ : List (Item 𝓤)} {q : Post 𝓤 H}
-        {d : Place} {rest : Body} {X : SProp 𝓤} {τ : Ty} {vs : List Val} {Q : Val → SProp 𝓤} → CallGives f τ vs X Q
-        → Opds K 𝓛 (raw X ∷ Γ) E xs vs
-        → ((v : Val) → Good τ v → Seq K 𝓛 (raw (Q v) ∷ Γ) (lands 𝓣.C 𝓣.Λ E d v rest q))
-        → Seq K 𝓛 (raw X ∷ Γ) (runs 𝓣.C 𝓣.Λ E (seq (call f xs d) rest) q)
-    hands_on t {τ = τ} {vs = vs} {Q = Q} c opds k =
-        calls_from t (framed 𝓤 H 𝓜 𝓣) (raw _) vs c.given_at c.called opds (λ v.
-        use1 𝓛 (later (given (Good τ v) (raw (Q v)))) (c.after v) $ await t tt $ learn t (k v))
+  -- the function hands these values on to the call, and returns its result
+  abbrev pub HandsOn : Callee → Fn → Ty → List Val → Type 2
+  HandsOn f fn τ vs = (X : SProp 𝓤) (Q : Val → SProp 𝓤) → CallGives f τ vs X Q
+      → Seq (Go {0}) 𝓛 (raw X ∷ []) (prop (WpFn 𝓤 H 𝓣.C 𝓣.Λ fn vs Q))
 
-    -- at the exit: the tokens, the status, and what is ensured of the last values
-    abbrev pub Exit : {W : Type 0} → Fml → (W → Fml) → (ℤ → W → SProp 𝓤) → Val → SProp 𝓤
-    Exit {W} T lasts E v = H.⇛ (ex 𝓤 (λ (r : ℤ). sep 𝓤 (sep 𝓤 (sem 𝓛 T) (sem 𝓛 (i32.own_val r (v ∷ []))))
-        (ex 𝓤 (λ (w : W). sep 𝓤 (sem 𝓛 (lasts w)) (E r w)))))
+  pub hands_on : {K : Type 0} → K → {E : Env 𝓤 H} {f : Callee} {xs : List Operand} {Γ : List (Item 𝓤)} {q : Post 𝓤 H}
+      {d : Place} {rest : Body} {X : SProp 𝓤} {τ : Ty} {vs : List Val} {Q : Val → SProp 𝓤} → CallGives f τ vs X Q
+      → Opds K 𝓛 (raw X ∷ Γ) E xs vs
+      → ((v : Val) → Good τ v → Seq K 𝓛 (raw (Q v) ∷ Γ) (lands 𝓣.C 𝓣.Λ E d v rest q))
+      → Seq K 𝓛 (raw X ∷ Γ) (runs 𝓣.C 𝓣.Λ E (seq (call f xs d) rest) q)
+  hands_on t {τ = τ} {vs = vs} {Q = Q} c opds k =
+      calls_from t (framed 𝓤 H 𝓜 𝓣) (raw _) vs c.given_at c.called opds (λ v.
+      use1 𝓛 (later (given (Good τ v) (raw (Q v)))) (c.after v) $ await t tt $ learn t (k v))
 
-    status_good : {W : Type 0} (T : Fml) (lasts : W → Fml) (E : ℤ → W → SProp 𝓤) (v : Val)
-        → ent 𝓤 (Exit T lasts E v) (H.⇛ (guard 𝓤 (Good (ty_int w32) v) (Exit T lasts E v)))
-    status_good {W} T lasts E v =
-        qed 𝓛 (later (some (λ (r : ℤ). (‵ T ⊛ ‵ (i32.own_val r (v ∷ [])))
+  -- what a call ensures
+  abbrev pub ensured_by : (T : Ended) (c : Clauses 𝓤 T) (κs : Lfts T.signature.lifetimes) (a : Args T.signature κs)
+      → (c κs a).ghost → Res T.signature κs → Lasts T κs a → SProp 𝓤
+  ensured_by T c κs a g r w = (c κs a).ensures g r (at_exit T κs a w)
+
+  -- at the exit: the tokens, the status, and what is ensured of the last values
+  abbrev pub Exit : {W : Type 0} → Fml → (W → Fml) → (ℤ → W → SProp 𝓤) → Val → SProp 𝓤
+  Exit {W} T lasts E v = H.⇛ (ex 𝓤 (λ (r : ℤ). sep 𝓤 (sep 𝓤 (sem 𝓛 T) (sem 𝓛 (i32.own_val r (v ∷ []))))
+      (ex 𝓤 (λ (w : W). sep 𝓤 (sem 𝓛 (lasts w)) (E r w)))))
+
+  status_good : {W : Type 0} (T : Fml) (lasts : W → Fml) (E : ℤ → W → SProp 𝓤) (v : Val)
+      → ent 𝓤 (Exit T lasts E v) (H.⇛ (guard 𝓤 (Good (ty_int w32) v) (Exit T lasts E v)))
+  status_good {W} T lasts E v =
+      qed 𝓛 (later (some (λ (r : ℤ). (‵ T ⊛ ‵ (i32.own_val r (v ∷ [])))
+      ⊛ some (λ (w : W). ‵ (lasts w) ⊛ raw (E r w)))) ∷ []) ∵
+      updating ! $ await ! tt $ pick ! (λ r. split ! $ split ! $ move ! (1 ∷ []) $
+      peeks ! i32 (Is i32) (shows 𝓛 i32) r (v ∷ []) (λ is. now ! $
+      check ! (subst (Good (ty_int w32)) (sym (ap only is.0)) (tt, of_z_fits w32 r (record { sfits = is.1 }))) $
+      updating ! $ now ! $
+      show ! (λ (r : ℤ). sep 𝓤 (sep 𝓤 (sem 𝓛 T) (sem 𝓛 (i32.own_val r (v ∷ [])))) (ex 𝓤 (λ (w : W).
+      sep 𝓤 (sem 𝓛 (lasts w)) (E r w)))) r $ move ! (1 ∷ 0 ∷ []) $ join ! $ frame ! $ done !))
+
+  -- the call is the last of the function, which returns its status
+  pub calls_at_once : {X : List (Item 𝓤)} {f : Callee} (fn : Fn) (ws : List Word) {vs : List Val} {W : Type 0} (T : Fml)
+      (lasts : W → Fml) (E : ℤ → W → SProp 𝓤) → vs ≡ values ws → ent 𝓤 (⋆ 𝓛 X) (𝓣.C f vs (Exit T lasts E))
+      → HandsOn f fn (ty_int w32) (values ws) → Seq (Go {0}) 𝓛 X (prop (WpFn 𝓤 H 𝓣.C 𝓣.Λ fn vs (Exit T lasts E)))
+  calls_at_once {X} {f} fn ws {vs} T lasts E same met hands = by !
+      (subst (λ (us : List Val). ent 𝓤 (⋆ 𝓛 X) (WpFn 𝓤 H 𝓣.C 𝓣.Λ fn us (Exit T lasts E))) (sym same)
+      (hands (⋆ 𝓛 X) (Exit T lasts E) (record {
+        given_at = Exit T lasts E;
+        called = subst (λ (us : List Val). ent 𝓤 (⋆ 𝓛 X) (𝓣.C f us (Exit T lasts E))) same met;
+        after = status_good T lasts E;
+      })).prf)
+
+  -- ---- a handle is borrowed, a call with a reference in place of the pointer is made, and its status is returned
+  module _ (R : RattleType) (at : Ptr) (x : R.Denot) (κ : Lft) (q : Share) where
+    -- on entry: the tokens, the parameters, what is lent, and what else is required
+    abbrev pub context : (S : Signature) → Bound 𝓛 S → List (Item 𝓤) → List (Item 𝓤)
+    context S y Γ = (‵ (tokens S.lifetimes y.0 y.1) ⊛ ‵ (owns (types_at S.params y.0) y.3 y.4))
+        ∷ (‵ (lent_at R at x κ) ⊛ ‵ (flft κ q)) ∷ Γ
+
+    -- with the token of the reference, which is left of it
+    abbrev pub with_token : {W : Type 0} → (ℤ → W → SProp 𝓤) → ℤ → W → SProp 𝓤
+    with_token E r w = sep 𝓤 (sem 𝓛 (flft κ q)) (E r w)
+
+    token_back : {W : Type 0} (T : Fml) (lasts : W → Fml) (E : ℤ → W → SProp 𝓤) (v : Val)
+        → ent 𝓤 (Exit (fsep (flft κ q) T) lasts E v) (Exit T lasts (with_token E) v)
+    token_back {W} T lasts E v = qed 𝓛 (later (some (λ (r : ℤ). (‵ (fsep (flft κ q) T) ⊛ ‵ (i32.own_val r (v ∷ [])))
         ⊛ some (λ (w : W). ‵ (lasts w) ⊛ raw (E r w)))) ∷ []) ∵
-        updating ! $ await ! tt $ pick ! (λ r. split ! $ split ! $ move ! (1 ∷ []) $
-        peeks ! i32 (Is i32) (shows 𝓛 i32) r (v ∷ []) (λ is. now ! $
-        check ! (subst (Good (ty_int w32)) (sym (ap only is.0)) (tt, of_z_fits w32 r (record { sfits = is.1 }))) $
-        updating ! $ now ! $
+        updating ! $ await ! tt $ pick ! (λ r. split ! $ split ! $ fsplit ! $ now ! $
         show ! (λ (r : ℤ). sep 𝓤 (sep 𝓤 (sem 𝓛 T) (sem 𝓛 (i32.own_val r (v ∷ [])))) (ex 𝓤 (λ (w : W).
-        sep 𝓤 (sem 𝓛 (lasts w)) (E r w)))) r $ move ! (1 ∷ 0 ∷ []) $ join ! $ frame ! $ done !))
+        sep 𝓤 (sem 𝓛 (lasts w)) (with_token E r w)))) r $
+        move ! (1 ∷ 2 ∷ []) $ join ! $ frame ! $ move ! (1 ∷ []) $ pick ! (λ w. split ! $
+        show ! (λ (w : W). sep 𝓤 (sem 𝓛 (lasts w)) (with_token E r w)) w $ frame ! $ move ! (1 ∷ 0 ∷ []) $ done !))
 
-    -- the call is the last of the function, which returns its status
-    pub calls_at_once : {X : List (Item 𝓤)} {f : Callee} (fn : Fn) (ws : List Word) {vs : List Val} {W : Type 0} (T : Fml)
-        (lasts : W → Fml) (E : ℤ → W → SProp 𝓤) → vs ≡ values ws → ent 𝓤 (⋆ 𝓛 X) (𝓣.C f vs (Exit T lasts E))
-        → HandsOn f fn (ty_int w32) (values ws) → Seq (Go {0}) 𝓛 X (prop (WpFn 𝓤 H 𝓣.C 𝓣.Λ fn vs (Exit T lasts E)))
-    calls_at_once {X} {f} fn ws {vs} T lasts E same met hands = by !
-        (subst (λ (us : List Val). ent 𝓤 (⋆ 𝓛 X) (WpFn 𝓤 H 𝓣.C 𝓣.Λ fn us (Exit T lasts E))) (sym same)
-        (hands (⋆ 𝓛 X) (Exit T lasts E) (record {
-          given_at = Exit T lasts E;
-          called = subst (λ (us : List Val). ent 𝓤 (⋆ 𝓛 X) (𝓣.C f us (Exit T lasts E))) same met;
-          after = status_good T lasts E;
-        })).prf)
+    pub lends : (before : List Fml) {T : Fml} (w : List Val) (rest : Fml) {P : SProp 𝓤} (fn : Fn) (vs : List Val)
+        {W : Type 0} (lasts : W → Fml) (E : ℤ → W → SProp 𝓤)
+        → ((b o : ℕ) → at ≡ block_ptr b o → Seq (Go {0}) 𝓛 ((‵ (fsep (flft κ q) T)
+        ⊛ ‵ (under before (fsep ((ShrRef (named 0) κ R).own_val (reference x b o) w) rest))) ∷ raw P ∷ [])
+        (prop (WpFn 𝓤 H 𝓣.C 𝓣.Λ fn vs (Exit (fsep (flft κ q) T) lasts E))))
+        → Seq (Go {0}) 𝓛 ((‵ T ⊛ ‵ (under before (fsep (feq (List Val) w (ptr_val at ∷ [])) rest)))
+        ∷ (‵ (lent_at R at x κ) ⊛ ‵ (flft κ q)) ∷ raw P ∷ [])
+        (prop (WpFn 𝓤 H 𝓣.C 𝓣.Λ fn vs (Exit T lasts (with_token E))))
+    unfolding tables_of
+    lends before {T} w rest fn vs lasts E calls = move ! (1 ∷ []) $ split ! $
+        in_a_block ! at (λ p. lent_at R p x κ) (fst∗ 𝓤 (never 𝓤) (sem 𝓛 (shared_of R x 0 0 κ))) (λ b o e.
+        fsplit ! $ drop ! $ use1 𝓛 (‵ (hidden_shr R κ x b o)) (id⊢ 𝓤 _) $ move ! (2 ∷ []) $ split ! $
+        move ! (2 ∷ 1 ∷ []) $
+        use2 𝓛 (‵ (under before (fsep ((ShrRef (named 0) κ R).own_val (reference x b o) w) rest)))
+        (adds 𝓛 before (hidden_shr R κ x b o) (feq (List Val) w (ptr_val at ∷ [])) (feq (List Val) w (vptr b o ∷ [])) rest
+        (subst (λ (p : Ptr). ent 𝓤 (sem 𝓛 (feq (List Val) w (ptr_val at ∷ [])))
+        (sem 𝓛 (feq (List Val) w (ptr_val p ∷ [])))) e (id⊢ 𝓤 _))) $
+        move ! (2 ∷ 1 ∷ []) $ fjoin ! $ join ! $
+        suffices ! _ (WpFn-mono 𝓤 H 𝓛.laws (tables_of 𝓤 H 𝓜 𝓣) fn vs (Exit (fsep (flft κ q) T) lasts E)
+        (Exit T lasts (with_token E)) (token_back T lasts E)) $ calls b o e)
 
-    -- ---- a handle is borrowed, a call with a reference in place of the pointer is made, and its status is returned
-    module _ (R : RattleType) (at : Ptr) (x : R.Denot) (κ : Lft) (q : Share) where
-      abbrev pub reference : ℕ → ℕ → Bor R.Denot
-      reference b o = record { ref_ptr = (b, o); now = x }
+    abbrev pub Entry : Fml → List Fml → List Val → Fml → SProp 𝓤 → ℕ → ℕ → SProp 𝓤
+    Entry T before w rest P b o = sep 𝓤 (sep 𝓤 (sem 𝓛 (fsep (flft κ q) T))
+        (sem 𝓛 (under before (fsep ((ShrRef (named 0) κ R).own_val (reference x b o) w) rest)))) P
 
-      -- with the token of the reference, which is left of it
-      abbrev pub with_token : {W : Type 0} → (ℤ → W → SProp 𝓤) → ℤ → W → SProp 𝓤
-      with_token E r w = sep 𝓤 (sem 𝓛 (flft κ q)) (E r w)
+    abbrev pub Hands : Callee → Fn → List Val → Type 2
+    Hands f fn vs = (b o : ℕ) → at ≡ block_ptr b o
+        → (ws : List Word) × (vs ≡ values ws) × HandsOn f fn (ty_int w32) (values ws)
 
-      token_back : {W : Type 0} (T : Fml) (lasts : W → Fml) (E : ℤ → W → SProp 𝓤) (v : Val)
-          → ent 𝓤 (Exit (fsep (flft κ q) T) lasts E v) (Exit T lasts (with_token E) v)
-      token_back {W} T lasts E v = qed 𝓛 (later (some (λ (r : ℤ). (‵ (fsep (flft κ q) T) ⊛ ‵ (i32.own_val r (v ∷ [])))
-          ⊛ some (λ (w : W). ‵ (lasts w) ⊛ raw (E r w)))) ∷ []) ∵
-          updating ! $ await ! tt $ pick ! (λ r. split ! $ split ! $ fsplit ! $ now ! $
-          show ! (λ (r : ℤ). sep 𝓤 (sep 𝓤 (sem 𝓛 T) (sem 𝓛 (i32.own_val r (v ∷ [])))) (ex 𝓤 (λ (w : W).
-          sep 𝓤 (sem 𝓛 (lasts w)) (with_token E r w)))) r $
-          move ! (1 ∷ 2 ∷ []) $ join ! $ frame ! $ move ! (1 ∷ []) $ pick ! (λ w. split ! $
-          show ! (λ (w : W). sep 𝓤 (sem 𝓛 (lasts w)) (with_token E r w)) w $ frame ! $ move ! (1 ∷ 0 ∷ []) $ done !))
-
-      pub lends : (before : List Fml) {T : Fml} (w : List Val) (rest : Fml) {P : SProp 𝓤} (fn : Fn) (vs : List Val)
-          {W : Type 0} (lasts : W → Fml) (E : ℤ → W → SProp 𝓤)
-          → ((b o : ℕ) → at ≡ block_ptr b o → Seq (Go {0}) 𝓛 ((‵ (fsep (flft κ q) T)
-          ⊛ ‵ (under before (fsep ((ShrRef (named 0) κ R).own_val (reference b o) w) rest))) ∷ raw P ∷ [])
-          (prop (WpFn 𝓤 H 𝓣.C 𝓣.Λ fn vs (Exit (fsep (flft κ q) T) lasts E))))
-          → Seq (Go {0}) 𝓛 ((‵ T ⊛ ‵ (under before (fsep (feq (List Val) w (ptr_val at ∷ [])) rest)))
-          ∷ (‵ (lent_at R at x κ) ⊛ ‵ (flft κ q)) ∷ raw P ∷ [])
-          (prop (WpFn 𝓤 H 𝓣.C 𝓣.Λ fn vs (Exit T lasts (with_token E))))
-      unfolding tables_of
-      lends before {T} w rest fn vs lasts E calls = move ! (1 ∷ []) $ split ! $
-          in_a_block ! at (λ p. lent_at R p x κ) (fst∗ 𝓤 (never 𝓤) (sem 𝓛 (shared_of R x 0 0 κ))) (λ b o e.
-          fsplit ! $ drop ! $ use1 𝓛 (‵ (hidden_shr R κ x b o)) (id⊢ 𝓤 _) $ move ! (2 ∷ []) $ split ! $
-          move ! (2 ∷ 1 ∷ []) $
-          use2 𝓛 (‵ (under before (fsep ((ShrRef (named 0) κ R).own_val (reference b o) w) rest)))
-          (adds before (hidden_shr R κ x b o) (feq (List Val) w (ptr_val at ∷ [])) (feq (List Val) w (vptr b o ∷ [])) rest
-          (subst (λ (p : Ptr). ent 𝓤 (sem 𝓛 (feq (List Val) w (ptr_val at ∷ [])))
-          (sem 𝓛 (feq (List Val) w (ptr_val p ∷ [])))) e (id⊢ 𝓤 _))) $
-          move ! (2 ∷ 1 ∷ []) $ fjoin ! $ join ! $
-          suffices ! _ (WpFn-mono 𝓤 H 𝓛.laws (tables_of 𝓤 H 𝓜 𝓣) fn vs (Exit (fsep (flft κ q) T) lasts E)
-          (Exit T lasts (with_token E)) (token_back T lasts E)) $ calls b o e)
-
-      abbrev pub Entry : Fml → List Fml → List Val → Fml → SProp 𝓤 → ℕ → ℕ → SProp 𝓤
-      Entry T before w rest P b o = sep 𝓤 (sep 𝓤 (sem 𝓛 (fsep (flft κ q) T))
-          (sem 𝓛 (under before (fsep ((ShrRef (named 0) κ R).own_val (reference b o) w) rest)))) P
-
-      abbrev pub Hands : Callee → Fn → List Val → Type 2
-      Hands f fn vs = (b o : ℕ) → at ≡ block_ptr b o
-          → (ws : List Word) × (vs ≡ values ws) × HandsOn f fn (ty_int w32) (values ws)
-
-      -- borrow, call, return
-      pub borrows : (before : List Fml) {T : Fml} (w : List Val) (rest : Fml) {P : SProp 𝓤} {f : Callee} (fn : Fn)
-          {W : Type 0} (lasts : W → Fml) (E : ℤ → W → SProp 𝓤) (vs : List Val) → Hands f fn vs
-          → ((b o : ℕ) → ent 𝓤 (Entry T before w rest P b o) (𝓣.C f vs (Exit (fsep (flft κ q) T) lasts E)))
-          → Seq (Go {0}) 𝓛 ((‵ T ⊛ ‵ (under before (fsep (feq (List Val) w (ptr_val at ∷ [])) rest)))
-          ∷ (‵ (lent_at R at x κ) ⊛ ‵ (flft κ q)) ∷ raw P ∷ [])
-          (prop (WpFn 𝓤 H 𝓣.C 𝓣.Λ fn vs (Exit T lasts (with_token E))))
-      borrows before {T} w rest fn lasts E vs hands met = lends before w rest fn vs lasts E (λ b o e. let h = hands b o e in
-          calls_at_once fn h.0 (fsep (flft κ q) T) lasts E h.1 (met b o) h.2)
+    -- borrow, call, return
+    pub borrows : (before : List Fml) {T : Fml} (w : List Val) (rest : Fml) {P : SProp 𝓤} {f : Callee} (fn : Fn)
+        {W : Type 0} (lasts : W → Fml) (E : ℤ → W → SProp 𝓤) (vs : List Val) → Hands f fn vs
+        → ((b o : ℕ) → ent 𝓤 (Entry T before w rest P b o) (𝓣.C f vs (Exit (fsep (flft κ q) T) lasts E)))
+        → Seq (Go {0}) 𝓛 ((‵ T ⊛ ‵ (under before (fsep (feq (List Val) w (ptr_val at ∷ [])) rest)))
+        ∷ (‵ (lent_at R at x κ) ⊛ ‵ (flft κ q)) ∷ raw P ∷ [])
+        (prop (WpFn 𝓤 H 𝓣.C 𝓣.Λ fn vs (Exit T lasts (with_token E))))
+    borrows before {T} w rest fn lasts E vs hands met = lends before w rest fn vs lasts E (λ b o e. let h = hands b o e in
+        calls_at_once fn h.0 (fsep (flft κ q) T) lasts E h.1 (met b o) h.2)

@@ -2,10 +2,10 @@
 -- resources that they own.
 use Rattle.std.proofs.Common.{◌≡◌, ◌<◌, ◌^◌, ℕ, ℤ, List, [], ◌∷◌, ◌++◌, Option, Some, refl, subst, sym}
 use seplogic.Ra.Ura.{Ura}
-use base.Fml.{fall, fex, ftrue}
+use base.Fml.{fall, fex}
 use base.Logic.{all_i, ent, guard_i, snd∗, via}
 use mir.Raw.{raw as bare}
-use mir.Syntax.{impl, tnil, dnil, w32}
+use mir.Syntax.{w32}
 use mir.Val.{Val, vint, vptr, vstruct, vcons, vnil, of_list, of_z, hbits}
 use lib.Signed.{mag}
 use types.Logic.{Logic, sem}
@@ -17,15 +17,12 @@ use denote.Builtin.{RawPtr, i32}
 use denote.Laws.{Is, shows}
 use denote.Memory.{lone}
 use denote.RawPtr.{Ptr, Testable, block_ptr, null_ptr, ptr_val}
-use denote.Signature.{Slot, plain}
 use denote.Steps.{nothing, peeks}
-use Rattle.std.proofs.alloc.Calls.{Al}
 use denote.Struct.Struct.{within}
 use denote.Struct.Owning.{shape}
 use Rattle.std.proofs.GlobalToken.{dealloc_token-Testable}
 use Rattle.std.specs.Ptr.{points_to}
 use Rattle.std.specs.contracts.alloc.Global as Global
-use Rattle.std.proofs.alloc.Global.TheLaws as Global-laws
 use Rattle.std.specs.declared.alloc.Global.{Global as GlobalValue}
 use Rattle.robots_c.specs.Kept.{frees, heap, kept_at, opened_at, owned_at, owned_or_null}
 use Rattle.robots_c.specs.contracts.kept.Handle as Handle
@@ -40,26 +37,6 @@ Fits z = mag z < 2 ^ hbits w32
 -- the machine value of a `Handle`: its pointer and its allocator
 abbrev pub handle_word : ℕ → ℕ → Val → Val
 handle_word b o h = vstruct (vcons (vptr b o) (vcons h vnil))
-
--- the allocator, as the logic describes one
-abbrev pub Heap : Al
-Heap = record {
-  row = Global.the_row;
-  laws = Global-laws.the_row_laws;
-  g = record {
-    dealloc_token = λ a σ p.
-        ftrue;
-  };
-  d = impl [] tnil dnil;
-  drops = impl [] tnil dnil;
-}
-
--- the parameters that aren't references, in a signature with `n` lifetimes
-abbrev pub heap_slot : (n : ℕ) → Slot n
-heap_slot n = plain (λ _. Global.the_row)
-
-abbrev pub pointer_slot : (n : ℕ) → Slot n
-pointer_slot n = plain (λ _. RawPtr)
 
 module _ (R : RattleType) where
   abbrev pub Row : RattleType

@@ -1,4 +1,5 @@
 pub mod Borrowing
+pub mod Closing
 pub mod BatchLemmas
 pub mod KeptSteps
 pub mod LendingLemmas

@@ -2,7 +2,6 @@
 use Rattle.robots_c.proofs.Borrowing.{
   ◌≡◌,
   ℕ,
-  List,
   [],
   ◌∷◌,
   refl,
@@ -54,6 +53,7 @@ use Rattle.robots_c.proofs.Borrowing.{
   tokens,
   raw,
   slice,
+  Lasts,
 }
 use Rattle.robots_c.proofs.Opening.{
   ftrue,
@@ -69,7 +69,6 @@ use Rattle.robots_c.proofs.Opening.{
   await,
   split,
   move,
-  Lasts,
   and_tt,
   kept_given,
   opens_out,

@@ -1,17 +1,10 @@
 -- `robots_query_batch` reads a borrowed robot.
 use Rattle.robots_c.proofs.Borrowing.{
-  ◌≡◌,
   ℕ,
-  List,
   [],
   ◌∷◌,
   refl,
-  ap,
-  ◌∙◌,
-  flft,
-  ‵,
   raw,
-  ◌⊛◌,
   ◌$◌,
   ◌∵◌,
   !,
@@ -33,19 +26,12 @@ use Rattle.robots_c.proofs.Borrowing.{
   sets,
   lands_as,
   Lfts,
-  owns,
-  Ptr,
-  ptr_val,
-  types_at,
-  lent_at,
-  at_exit,
   lasts,
   Args,
   are_values,
   goods,
   hands_on,
   meets,
-  place,
   reference,
   borrows,
   heap,
@@ -59,7 +45,9 @@ use Rattle.robots_c.proofs.Borrowing.{
   sub,
   whole,
   fact,
-  tokens,
+  lent_place,
+  context,
+  ensured_by,
 }
 use Rattle.robots_c.specs.Kept.{Robots}
 use Rattle.robots_c.specs.File.{IsRobotOfSomeFile}
@@ -75,13 +63,12 @@ robots_query_batch_spec 𝓤 𝓛 𝓜 𝓡 wired =
     meets 𝓛 𝓜 𝓡 S (self.spec 𝓛 𝓜.mem 𝓡.returns) self.Key.name code.function (code.unfolded 𝓤 𝓛.H 𝓜 𝓡 wired) (λ z are.
     let a = z.0.3 in let vs = z.0.4 in let κ = z.1.0 in let q = z.1.1 in let x = z.1.2 in
     let κs : Lfts 4 = (κ, z.0.0) in
-    let given_at : ℕ → ℕ → Args callee.signature κs = λ b o. (a.0, (reference 𝓛 𝓜 𝓡 Robots a.1.0 x κ q b o, a.1.1)) in
+    let given_at : ℕ → ℕ → Args callee.signature κs = λ b o. (a.0, (reference x b o, a.1.1)) in
     let first = given_at 0 0 in
-    qed 𝓛 ((‵ (tokens 3 z.0.0 z.0.1) ⊛ ‵ (owns (types_at S.params z.0.0) a vs))
-    ∷ (‵ (lent_at Robots a.1.0 x κ) ⊛ ‵ (flft κ q)) ∷ raw (fact 𝓤 (IsRobotOfSomeFile x)) ∷ []) ∵
+    qed 𝓛 (context 𝓛 𝓜 𝓡 Robots a.1.0 x κ q S z.0 (raw (fact 𝓤 (IsRobotOfSomeFile x)) ∷ [])) ∵
     borrows 𝓛 𝓜 𝓡 Robots a.1.0 x κ q (_ ∷ []) _ _ _ (lasts callee.ended κs first)
-    (λ r w. (c κs first).ensures tt r (at_exit callee.ended κs first w)) _ (λ b o e.
-    let ws = heap 𝓛 a.0 vs.0 are.0 ∷ place (are.1.0 ∙ ap (λ (p : Ptr). ptr_val p ∷ []) e) ∷ slice are.1.1.0.0.0 are.1.1.0.0.1.0 ∷ slice are.1.1.1.0.0.0 are.1.1.1.0.0.1.0 ∷ slice are.1.1.1.1.0.0.0 are.1.1.1.1.0.0.1.0 ∷ [] in (
+    (ensured_by 𝓛 𝓜 𝓡 callee.ended c κs first tt) _ (λ b o e.
+    let ws = heap 𝓛 a.0 vs.0 are.0 ∷ lent_place are.1.0 e ∷ slice are.1.1.0.0.0 are.1.1.0.0.1.0 ∷ slice are.1.1.1.0.0.0 are.1.1.1.0.0.1.0 ∷ slice are.1.1.1.1.0.0.0 are.1.1.1.1.0.0.1.0 ∷ [] in (
       ws,
       are_values ws,
       λ X Q given. enter ! _ _ _ _ _ $ alloc_all ! (λ l. pass_all ! refl (goods ws) $

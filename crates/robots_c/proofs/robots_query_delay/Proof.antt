@@ -1,16 +1,9 @@
 -- `robots_query_delay` reads a borrowed robot.
 use Rattle.robots_c.proofs.Borrowing.{
-  ◌≡◌,
   ℕ,
-  List,
   [],
   ◌∷◌,
   refl,
-  ap,
-  ◌∙◌,
-  flft,
-  ‵,
-  ◌⊛◌,
   ◌$◌,
   ◌∵◌,
   !,
@@ -32,12 +25,6 @@ use Rattle.robots_c.proofs.Borrowing.{
   sets,
   lands_as,
   Lfts,
-  owns,
-  Ptr,
-  ptr_val,
-  types_at,
-  lent_at,
-  at_exit,
   lasts,
   Args,
   are_values,
@@ -48,7 +35,9 @@ use Rattle.robots_c.proofs.Borrowing.{
   reference,
   and_nothing,
   borrows,
-  tokens,
+  lent_place,
+  context,
+  ensured_by,
 }
 use Rattle.robots_c.specs.Kept.{Robots}
 use Rattle.robots_c.specs.contracts.handle.query_delay as callee
@@ -63,13 +52,12 @@ robots_query_delay_spec 𝓤 𝓛 𝓜 𝓡 wired =
     meets 𝓛 𝓜 𝓡 S (self.spec 𝓛 𝓜.mem 𝓡.returns) self.Key.name code.function (code.unfolded 𝓤 𝓛.H 𝓜 𝓡 wired) (λ z are.
     let a = z.0.3 in let vs = z.0.4 in let κ = z.1.0 in let q = z.1.1 in let x = z.1.2 in
     let κs : Lfts 2 = (κ, z.0.0) in
-    let given_at : ℕ → ℕ → Args callee.signature κs = λ b o. (reference 𝓛 𝓜 𝓡 Robots a.0 x κ q b o, a.1) in
+    let given_at : ℕ → ℕ → Args callee.signature κs = λ b o. (reference x b o, a.1) in
     let first = given_at 0 0 in
-    qed 𝓛 ((‵ (tokens 1 z.0.0 z.0.1) ⊛ ‵ (owns (types_at S.params z.0.0) a vs))
-    ∷ (‵ (lent_at Robots a.0 x κ) ⊛ ‵ (flft κ q)) ∷ []) ∵
+    qed 𝓛 (context 𝓛 𝓜 𝓡 Robots a.0 x κ q S z.0 []) ∵
     and_nothing 𝓛 (borrows 𝓛 𝓜 𝓡 Robots a.0 x κ q [] _ _ _ (lasts callee.ended κs first)
-    (λ r w. (c κs first).ensures tt r (at_exit callee.ended κs first w)) _ (λ b o e.
-    let ws = place (are.0 ∙ ap (λ (p : Ptr). ptr_val p ∷ []) e) ∷ place are.1.0.0 ∷ [] in (
+    (ensured_by 𝓛 𝓜 𝓡 callee.ended c κs first tt) _ (λ b o e.
+    let ws = lent_place are.0 e ∷ place are.1.0.0 ∷ [] in (
       ws,
       are_values ws,
       λ X Q given. enter ! _ _ _ _ _ $ alloc_all ! (λ l. pass_all ! refl (goods ws) $

@@ -2,13 +2,10 @@
 use Rattle.robots_c.proofs.Borrowing.{
   ◌≡◌,
   ℕ,
-  List,
   [],
   ◌∷◌,
   refl,
   flft,
-  ‵,
-  ◌⊛◌,
   ◌$◌,
   ◌∵◌,
   !,
@@ -37,10 +34,8 @@ use Rattle.robots_c.proofs.Borrowing.{
   sets,
   lands_as,
   Lfts,
-  owns,
   Ptr,
   ptr_val,
-  types_at,
   lasts,
   Args,
   fact,
@@ -52,12 +47,12 @@ use Rattle.robots_c.proofs.Borrowing.{
   pointer_typed,
   heap,
   tokens,
-  ap,
-  ◌∙◌,
-  lent_at,
   reference,
   and_nothing,
   lends,
+  lent_place,
+  context,
+  Lasts,
 }
 use Rattle.robots_c.proofs.Opening.{
   ftrue,
@@ -73,7 +68,6 @@ use Rattle.robots_c.proofs.Opening.{
   await,
   split,
   move,
-  Lasts,
   and_tt,
   kept_given,
   opens_out,
@@ -96,16 +90,15 @@ robots_share_spec 𝓤 𝓛 𝓜 𝓡 wired =
     meets 𝓛 𝓜 𝓡 S (self.spec 𝓛 𝓜.mem 𝓡.returns) self.Key.name fn (code.unfolded 𝓤 𝓛.H 𝓜 𝓡 wired) (λ z are.
     let a = z.0.3 in let vs = z.0.4 in let κ = z.1.0 in let q = z.1.1 in let x = z.1.2 in let out = a.1.1.0 in
     let κs : Lfts 1 = (κ, tt) in
-    let given_at : ℕ → ℕ → Args callee.signature κs = λ b o. (a.0, (reference 𝓛 𝓜 𝓡 Robots a.1.0 x κ q b o, (out.now, tt))) in
+    let given_at : ℕ → ℕ → Args callee.signature κs = λ b o. (a.0, (reference x b o, (out.now, tt))) in
     let made : Lasts callee.ended κs (given_at 0 0) → Ptr → Lasts self.ended z.0.0 a = λ w p. (tt, (tt, (p, tt))) in
     let rest : ℤ → Ptr → SProp 𝓤 = λ r p. sep 𝓤 (fact 𝓤 (r ≢ pos 0 → p ≡ out.now)) (fact 𝓤 (HasFault IsWhyNoHandle r)) in
     let E : ℤ → Lasts self.ended z.0.0 a → SProp 𝓤 = λ r w. sep 𝓤
     (sem 𝓛 (fall (r ≡ pos 0) (λ _. opened_at Robots (λ other. other ≡ x) w.1.1.0))) (rest r w.1.1.0) in
-    qed 𝓛 ((‵ (tokens 1 z.0.0 z.0.1) ⊛ ‵ (owns (types_at S.params z.0.0) a vs))
-    ∷ (‵ (lent_at Robots a.1.0 x κ) ⊛ ‵ (flft κ q)) ∷ []) ∵
+    qed 𝓛 (context 𝓛 𝓜 𝓡 Robots a.1.0 x κ q S z.0 []) ∵
     and_nothing 𝓛 (lends 𝓛 𝓜 𝓡 Robots a.1.0 x κ q (_ ∷ []) _ _ fn _ (lasts self.ended z.0.0 a) E (λ b o e.
-    let words = heap 𝓛 a.0 vs.0 are.0 ∷ place (are.1.0 ∙ ap (λ (p : Ptr). ptr_val p ∷ []) e) ∷ place are.1.1.0.0 ∷ [] in
-    let given_words = heap 𝓛 a.0 vs.0 are.0 ∷ place (are.1.0 ∙ ap (λ (p : Ptr). ptr_val p ∷ []) e) ∷ pointer 𝓛 out.now ∷ [] in
+    let words = heap 𝓛 a.0 vs.0 are.0 ∷ lent_place are.1.0 e ∷ place are.1.1.0.0 ∷ [] in
+    let given_words = heap 𝓛 a.0 vs.0 are.0 ∷ lent_place are.1.0 e ∷ pointer 𝓛 out.now ∷ [] in
     opens_out 𝓛 𝓜 𝓡 Robots (named 0) z.0.0.0 z.0.1.0 out (flft κ q ∷ []) (tokens 0 z.0.0.1 z.0.1.1)
     (lasts self.ended z.0.0 a) E made (lasts callee.ended κs (given_at 0 0))
     (λ r w. sep 𝓤 (fact 𝓤 (r.status ≡ pos 0 → r.value ≡ Some x)) (rest r.status r.at)) (ftrue ∷ ftrue ∷ []) (λ w. ftrue)

@@ -1,7 +1,6 @@
 -- `robots_site_open` writes a pointer to a site, which C owns from then on.
 use Rattle.robots_c.proofs.Borrowing.{
   ◌≡◌,
-  List,
   [],
   ◌∷◌,
   refl,
@@ -52,6 +51,7 @@ use Rattle.robots_c.proofs.Borrowing.{
   tokens,
   raw,
   slice,
+  Lasts,
 }
 use Rattle.robots_c.proofs.Opening.{
   ftrue,
@@ -67,7 +67,6 @@ use Rattle.robots_c.proofs.Opening.{
   await,
   split,
   move,
-  Lasts,
   and_tt,
   kept_given,
   opens_out,

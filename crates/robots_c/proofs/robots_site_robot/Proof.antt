@@ -2,13 +2,10 @@
 use Rattle.robots_c.proofs.Borrowing.{
   ◌≡◌,
   ℕ,
-  List,
   [],
   ◌∷◌,
   refl,
   flft,
-  ‵,
-  ◌⊛◌,
   ◌$◌,
   ◌∵◌,
   !,
@@ -37,10 +34,8 @@ use Rattle.robots_c.proofs.Borrowing.{
   sets,
   lands_as,
   Lfts,
-  owns,
   Ptr,
   ptr_val,
-  types_at,
   lasts,
   Args,
   fact,
@@ -52,13 +47,13 @@ use Rattle.robots_c.proofs.Borrowing.{
   pointer_typed,
   heap,
   tokens,
-  ap,
-  ◌∙◌,
-  lent_at,
   reference,
   and_nothing,
   lends,
   slice,
+  lent_place,
+  context,
+  Lasts,
 }
 use Rattle.robots_c.proofs.Opening.{
   ftrue,
@@ -74,7 +69,6 @@ use Rattle.robots_c.proofs.Opening.{
   await,
   split,
   move,
-  Lasts,
   and_tt,
   kept_given,
   opens_out,
@@ -101,17 +95,16 @@ robots_site_robot_spec 𝓤 𝓛 𝓜 𝓡 wired =
     meets 𝓛 𝓜 𝓡 S (self.spec 𝓛 𝓜.mem 𝓡.returns) self.Key.name fn (code.unfolded 𝓤 𝓛.H 𝓜 𝓡 wired) (λ z are.
     let a = z.0.3 in let vs = z.0.4 in let κ = z.1.0 in let q = z.1.1 in let x = z.1.2 in let out = a.1.1.1.0 in let line = a.1.1.1.1.0 in
     let κs : Lfts 3 = (κ, (z.0.0.0, (z.0.0.1.1.0, tt))) in
-    let given_at : ℕ → ℕ → Args callee.signature κs = λ b o. (a.0, (reference 𝓛 𝓜 𝓡 Sites a.1.0 x κ q b o, (a.1.1.0, (out.now, (line, tt))))) in
+    let given_at : ℕ → ℕ → Args callee.signature κs = λ b o. (a.0, (reference x b o, (a.1.1.0, (out.now, (line, tt))))) in
     let made : Lasts callee.ended κs (given_at 0 0) → Ptr → Lasts self.ended z.0.0 a = λ w p. (tt, (tt, (tt, (p, (w.1.1.1.1.0, tt))))) in
     let rest : ℤ → Ptr → ℕ → SProp 𝓤 = λ r p n. sep 𝓤 (fact 𝓤 (r ≢ pos 0 → p ≡ out.now))
     (fact 𝓤 (HasFaultAt (IsWhyNoRobot a.1.1.0.now x) r line.now n)) in
     let E : ℤ → Lasts self.ended z.0.0 a → SProp 𝓤 = λ r w. sep 𝓤
     (sem 𝓛 (fall (r ≡ pos 0) (λ _. opened_at Robots (IsRobotFor a.1.1.0.now x) w.1.1.1.0))) (rest r w.1.1.1.0 w.1.1.1.1.0) in
-    qed 𝓛 ((‵ (tokens 3 z.0.0 z.0.1) ⊛ ‵ (owns (types_at S.params z.0.0) a vs))
-    ∷ (‵ (lent_at Sites a.1.0 x κ) ⊛ ‵ (flft κ q)) ∷ []) ∵
+    qed 𝓛 (context 𝓛 𝓜 𝓡 Sites a.1.0 x κ q S z.0 []) ∵
     and_nothing 𝓛 (lends 𝓛 𝓜 𝓡 Sites a.1.0 x κ q (_ ∷ []) _ _ fn _ (lasts self.ended z.0.0 a) E (λ b o e.
-    let words = heap 𝓛 a.0 vs.0 are.0 ∷ place (are.1.0 ∙ ap (λ (p : Ptr). ptr_val p ∷ []) e) ∷ slice are.1.1.0.0.0 are.1.1.0.0.1.0 ∷ place are.1.1.1.0.0 ∷ place are.1.1.1.1.0.0 ∷ [] in
-    let given_words = heap 𝓛 a.0 vs.0 are.0 ∷ place (are.1.0 ∙ ap (λ (p : Ptr). ptr_val p ∷ []) e) ∷ slice are.1.1.0.0.0 are.1.1.0.0.1.0 ∷ pointer 𝓛 out.now ∷ place are.1.1.1.1.0.0 ∷ [] in
+    let words = heap 𝓛 a.0 vs.0 are.0 ∷ lent_place are.1.0 e ∷ slice are.1.1.0.0.0 are.1.1.0.0.1.0 ∷ place are.1.1.1.0.0 ∷ place are.1.1.1.1.0.0 ∷ [] in
+    let given_words = heap 𝓛 a.0 vs.0 are.0 ∷ lent_place are.1.0 e ∷ slice are.1.1.0.0.0 are.1.1.0.0.1.0 ∷ pointer 𝓛 out.now ∷ place are.1.1.1.1.0.0 ∷ [] in
     opens_out 𝓛 𝓜 𝓡 Robots (named 1) z.0.0.1.0 z.0.1.1.0 out (flft κ q ∷ flft z.0.0.0 z.0.1.0 ∷ []) (tokens 1 z.0.0.1.1 z.0.1.1.1)
     (lasts self.ended z.0.0 a) E made (lasts callee.ended κs (given_at 0 0))
     (λ r w. sep 𝓤 (fact 𝓤 (r.status ≡ pos 0 → GivesRobot a.1.1.0.now x (λ robot. r.value ≡ Some robot))) (rest r.status r.at w.1.1.1.1.0)) (ftrue ∷ ftrue ∷ ftrue ∷ []) (λ w. fsep (last_value usize z.0.0.1.1.0 line w.1.1.1.1.0) ftrue)
