@@ -1,12 +1,14 @@
--- Borrow, call, return: a C function that borrows a handle hands on its arguments, as the machine has them, to a call
--- that takes a reference in place of the pointer, and returns the call's status.
+-- Borrow, call, return: a C function that borrows a handle hands on its arguments, as the machine has them,
+-- to a call that takes a reference in place of the pointer, and returns the call's status.
 pub use Rattle.std.proofs.Common.{◌≡◌, ℕ, zero, suc, List, [], ◌∷◌, refl, ap, ◌∙◌}
 pub use base.Fml.{flft}
 pub use contract.Lifetimes.{Lfts, Shares}
 pub use contract.Monad.{fact}
 pub use types.Kit.{‵, raw, ◌⊛◌, ◌$◌, ◌∵◌, !, qed, done}
-pub use types.Run.{of_opd, addr, load, look, store, assigns, stop, from, fld, hop, no_more, and_then, returns, enter}
-pub use types.ByLocal.{alloc_all, pass_all, free_all, look_at, look_in_at, get, get_in, through, sets, lands_as}
+pub use types.Run.{of_opd, addr, load, look, store, assigns, stop, from, fld, hop, no_more, and_then, returns}
+pub use types.Run.{enter}
+pub use types.ByLocal.{alloc_all, pass_all, free_all, look_at, look_in_at, get, get_in, through, sets}
+pub use types.ByLocal.{lands_as}
 pub use types.Part.{agg, sub, whole}
 pub use denote.RattleType.{owns}
 pub use denote.RawPtr.{Ptr, ptr_val}
@@ -93,7 +95,8 @@ abbrev pub place : {b o : ℕ} {vs : List Val} → vs ≡ vptr b o ∷ [] → Wo
 place {b} {o} {vs} is = record { type = ty_ptr; listed = vs; value = vptr b o; is = is; good = (tt, tt) }
 
 -- a pointer to what is lent
-abbrev pub lent_place : {at : Ptr} {b o : ℕ} {vs : List Val} → vs ≡ ptr_val at ∷ [] → at ≡ block_ptr b o → Word
+abbrev pub lent_place : {at : Ptr} {b o : ℕ} {vs : List Val} → vs ≡ ptr_val at
+    ∷ [] → at ≡ block_ptr b o → Word
 lent_place is e = place (is ∙ ap (λ (p : Ptr). ptr_val p ∷ []) e)
 
 abbrev pub reference : {X : Type 0} → X → ℕ → ℕ → Bor X
@@ -123,10 +126,12 @@ alone τ [] typed = absurd typed
 alone τ (v ∷ []) typed = (refl, typed.0)
 alone τ (v ∷ w ∷ vs) typed = absurd typed.1
 
-pub heap_typed : {M : Type 1} {𝓤 : Ura M} (𝓛 : Logic 𝓤) (g : Global.the_row.Denot) (vs : List Val) → Is Global.the_row g vs
+pub heap_typed : {M : Type 1} {𝓤 : Ura M} (𝓛 : Logic 𝓤) (g : Global.the_row.Denot) (vs : List Val)
+    → Is Global.the_row g vs
     → (vs ≡ only vs ∷ []) × Good (layout Global.the_row) (only vs)
 heap_typed 𝓛 g vs is =
-    alone (layout Global.the_row) vs (((param_laws 0 Global.the_row Global-laws.the_row_laws).lawful 𝓛).typed g vs is)
+    alone (layout Global.the_row) vs (((param_laws 0 Global.the_row Global-laws.the_row_laws).lawful
+    𝓛).typed g vs is)
 
 abbrev pub heap : {M : Type 1} {𝓤 : Ura M} (𝓛 : Logic 𝓤) (g : Global.the_row.Denot) (vs : List Val)
     → Is Global.the_row g vs → Word
@@ -148,8 +153,20 @@ abbrev pub under : List Fml → Fml → Fml
 under [] F = F
 under (A ∷ As) F = fsep A (under As F)
 
+-- what a call ensures
+abbrev pub ensured_by : {M : Type 1} {𝓤 : Ura M} (T : Ended) (c : Clauses 𝓤 T)
+    (κs : Lfts T.signature.lifetimes) (a : Args T.signature κs) → (c κs a).ghost → Res T.signature κs
+    → Lasts T κs a → SProp 𝓤
+ensured_by T c κs a g r w = (c κs a).ensures g r (at_exit T κs a w)
+
 module _ {M : Type 1} {𝓤 : Ura M} (𝓛 : Logic 𝓤) where
   open 𝓛 use {H}
+
+  -- on entry: tokens, parameters, what is lent, and what else is required
+  abbrev pub context : (R : RattleType) → Ptr → R.Denot → Lft → Share → (S : Signature) → Bound 𝓛 S
+      → List (Item 𝓤) → List (Item 𝓤)
+  context R at x κ q S y Γ = (‵ (tokens S.lifetimes y.0 y.1) ⊛ ‵ (owns (types_at S.params y.0) y.3 y.4))
+      ∷ (‵ (lent_at R at x κ) ⊛ ‵ (flft κ q)) ∷ Γ
 
   -- nothing else is required
   pub and_nothing : {i j : Item 𝓤} {G : Goal 𝓤 H} → Seq (Go {0}) 𝓛 (i ∷ j ∷ raw (emp 𝓤) ∷ []) G
@@ -157,11 +174,13 @@ module _ {M : Type 1} {𝓤 : Ura M} (𝓛 : Logic 𝓤) where
   and_nothing s = use0 𝓛 (raw (emp 𝓤)) (id⊢ 𝓤 _) $ move ! (1 ∷ 2 ∷ 0 ∷ []) $ s
 
   adds : (before : List Fml) (S F F' rest : Fml) → ent 𝓤 (sem 𝓛 F) (sem 𝓛 F')
-      → ent 𝓤 (sep 𝓤 (sem 𝓛 S) (sem 𝓛 (under before (fsep F rest)))) (sem 𝓛 (under before (fsep (fsep F' S) rest)))
+      → ent 𝓤 (sep 𝓤 (sem 𝓛 S) (sem 𝓛 (under before (fsep F rest))))
+      (sem 𝓛 (under before (fsep (fsep F' S) rest)))
   adds [] S F F' rest same = qed 𝓛 (‵ S ∷ ‵ (fsep F rest) ∷ []) ∵ move ! (1 ∷ []) $ fsplit ! $
       use1 𝓛 (‵ F') same $ move ! (0 ∷ 2 ∷ []) $ fjoin ! $ fjoin ! $ done !
   adds (A ∷ As) S F F' rest same = qed 𝓛 (‵ S ∷ ‵ (fsep A (under As (fsep F rest))) ∷ []) ∵ move ! (1 ∷ []) $
-      fsplit ! $ frame ! $ move ! (1 ∷ 0 ∷ []) $ use2 𝓛 (‵ (under As (fsep (fsep F' S) rest))) (adds As S F F' rest same) $ done !
+      fsplit ! $ frame ! $ move ! (1 ∷ 0 ∷ []) $ use2 𝓛 (‵ (under As (fsep (fsep F' S) rest)))
+      (adds As S F F' rest same) $ done !
 
 module _ {M : Type 1} {𝓤 : Ura M} (𝓛 : Logic 𝓤) (𝓜 : Model 𝓤 𝓛.H) (𝓡 : Running 𝓤 𝓛.H 𝓜) where
   open 𝓛 use {H}
@@ -185,52 +204,58 @@ module _ {M : Type 1} {𝓤 : Ura M} (𝓛 : Logic 𝓤) (𝓜 : Model 𝓤 𝓛
         (snd∗ 𝓤 (alive 𝓛 S z.0.0 z.0.1) (sem 𝓛 (owns Rs z.0.3 z.0.4))))
         (owns_show 𝓛 Rs (Ises Rs) (showss 𝓛 Rs) z.0.3 z.0.4)) (walk z))
 
-  -- a call at these values gives Q, of a result of this type
-  pub record CallGives (f : Callee) (τ : Ty) (vs : List Val) (X : SProp 𝓤) (Q : Val → SProp 𝓤) : Type 2 where
+  -- a call at these values gives Q, for some r of which Φ holds with the machine's result
+  pub record CallGives (f : Callee) (vs : List Val) {A : Type 0} (Φ : A → Val → Type 0) (X : SProp 𝓤)
+      (Q : A → Val → SProp 𝓤) : Type 2 where
     pub given_at : Val → SProp 𝓤
     pub called : ent 𝓤 X (𝓣.C f vs given_at)
-    pub after : (v : Val) → ent 𝓤 (given_at v) (H.⇛ (guard 𝓤 (Good τ v) (Q v)))
+    pub after : (v : Val) → ent 𝓤 (given_at v) (H.⇛ (ex 𝓤 (λ (r : A). guard 𝓤 (Φ r v) (Q r v))))
+
+  pub hands_on : {K : Type 0} → K → {E : Env 𝓤 H} {f : Callee} {xs : List Operand} {Γ : List (Item 𝓤)}
+      {q : Post 𝓤 H} {d : Place} {rest : Body} {X : SProp 𝓤} {vs : List Val} {A : Type 0}
+      {Φ : A → Val → Type 0} {Q : A → Val → SProp 𝓤} → CallGives f vs Φ X Q → Opds K 𝓛 (raw X ∷ Γ) E xs vs
+      → ((v : Val) (r : A) → Φ r v → Seq K 𝓛 (raw (Q r v) ∷ Γ) (lands 𝓣.C 𝓣.Λ E d v rest q))
+      → Seq K 𝓛 (raw X ∷ Γ) (runs 𝓣.C 𝓣.Λ E (seq (call f xs d) rest) q)
+  hands_on t {vs = vs} {A = A} {Φ = Φ} {Q = Q} c opds k = calls_from t (framed 𝓤 H 𝓜 𝓣)
+      (raw _) vs c.given_at c.called opds
+      (λ v. use1 𝓛 (later (some (λ (r : A). given (Φ r v) (raw (Q r v))))) (c.after v) $ await t tt $
+      pick t (λ r. learn t (k v r)))
+
+  -- a call gives Q of its result, which is of this type
+  abbrev pub Returns : Callee → Ty → List Val → SProp 𝓤 → (Val → SProp 𝓤) → Type 2
+  Returns f τ vs X Q = CallGives f vs {A = Unit {0}} (λ r v. Good τ v) X (λ r v. Q v)
 
   -- the function hands these values on to the call, and returns its result
   abbrev pub HandsOn : Callee → Fn → Ty → List Val → Type 2
-  HandsOn f fn τ vs = (X : SProp 𝓤) (Q : Val → SProp 𝓤) → CallGives f τ vs X Q
+  HandsOn f fn τ vs = (X : SProp 𝓤) (Q : Val → SProp 𝓤) → Returns f τ vs X Q
       → Seq (Go {0}) 𝓛 (raw X ∷ []) (prop (WpFn 𝓤 H 𝓣.C 𝓣.Λ fn vs Q))
 
-  pub hands_on : {K : Type 0} → K → {E : Env 𝓤 H} {f : Callee} {xs : List Operand} {Γ : List (Item 𝓤)} {q : Post 𝓤 H}
-      {d : Place} {rest : Body} {X : SProp 𝓤} {τ : Ty} {vs : List Val} {Q : Val → SProp 𝓤} → CallGives f τ vs X Q
-      → Opds K 𝓛 (raw X ∷ Γ) E xs vs
-      → ((v : Val) → Good τ v → Seq K 𝓛 (raw (Q v) ∷ Γ) (lands 𝓣.C 𝓣.Λ E d v rest q))
-      → Seq K 𝓛 (raw X ∷ Γ) (runs 𝓣.C 𝓣.Λ E (seq (call f xs d) rest) q)
-  hands_on t {τ = τ} {vs = vs} {Q = Q} c opds k =
-      calls_from t (framed 𝓤 H 𝓜 𝓣) (raw _) vs c.given_at c.called opds (λ v.
-      use1 𝓛 (later (given (Good τ v) (raw (Q v)))) (c.after v) $ await t tt $ learn t (k v))
-
-  -- what a call ensures
-  abbrev pub ensured_by : (T : Ended) (c : Clauses 𝓤 T) (κs : Lfts T.signature.lifetimes) (a : Args T.signature κs)
-      → (c κs a).ghost → Res T.signature κs → Lasts T κs a → SProp 𝓤
-  ensured_by T c κs a g r w = (c κs a).ensures g r (at_exit T κs a w)
-
-  -- at the exit: the tokens, the status, and what is ensured of the last values
+  -- at the exit: tokens, the status, and what is ensured of the last values
   abbrev pub Exit : {W : Type 0} → Fml → (W → Fml) → (ℤ → W → SProp 𝓤) → Val → SProp 𝓤
   Exit {W} T lasts E v = H.⇛ (ex 𝓤 (λ (r : ℤ). sep 𝓤 (sep 𝓤 (sem 𝓛 T) (sem 𝓛 (i32.own_val r (v ∷ []))))
       (ex 𝓤 (λ (w : W). sep 𝓤 (sem 𝓛 (lasts w)) (E r w)))))
 
   status_good : {W : Type 0} (T : Fml) (lasts : W → Fml) (E : ℤ → W → SProp 𝓤) (v : Val)
-      → ent 𝓤 (Exit T lasts E v) (H.⇛ (guard 𝓤 (Good (ty_int w32) v) (Exit T lasts E v)))
+      → ent 𝓤 (Exit T lasts E v) (H.⇛ (ex 𝓤 (λ (u : Unit {0}). guard 𝓤 (Good (ty_int w32) v)
+      (Exit T lasts E v))))
   status_good {W} T lasts E v =
       qed 𝓛 (later (some (λ (r : ℤ). (‵ T ⊛ ‵ (i32.own_val r (v ∷ [])))
       ⊛ some (λ (w : W). ‵ (lasts w) ⊛ raw (E r w)))) ∷ []) ∵
       updating ! $ await ! tt $ pick ! (λ r. split ! $ split ! $ move ! (1 ∷ []) $
       peeks ! i32 (Is i32) (shows 𝓛 i32) r (v ∷ []) (λ is. now ! $
-      check ! (subst (Good (ty_int w32)) (sym (ap only is.0)) (tt, of_z_fits w32 r (record { sfits = is.1 }))) $
+      show ! (λ (u : Unit {0}). guard 𝓤 (Good (ty_int w32) v) (Exit T lasts E v)) tt $
+      check ! (subst (Good (ty_int w32)) (sym (ap only is.0))
+      (tt, of_z_fits w32 r (record { sfits = is.1 }))) $
       updating ! $ now ! $
       show ! (λ (r : ℤ). sep 𝓤 (sep 𝓤 (sem 𝓛 T) (sem 𝓛 (i32.own_val r (v ∷ [])))) (ex 𝓤 (λ (w : W).
       sep 𝓤 (sem 𝓛 (lasts w)) (E r w)))) r $ move ! (1 ∷ 0 ∷ []) $ join ! $ frame ! $ done !))
 
   -- the call is the last of the function, which returns its status
-  pub calls_at_once : {X : List (Item 𝓤)} {f : Callee} (fn : Fn) (ws : List Word) {vs : List Val} {W : Type 0} (T : Fml)
+  pub calls_at_once : {X : List (Item 𝓤)} {f : Callee} (fn : Fn)
+      (ws : List Word) {vs : List Val} {W : Type 0} (T : Fml)
       (lasts : W → Fml) (E : ℤ → W → SProp 𝓤) → vs ≡ values ws → ent 𝓤 (⋆ 𝓛 X) (𝓣.C f vs (Exit T lasts E))
-      → HandsOn f fn (ty_int w32) (values ws) → Seq (Go {0}) 𝓛 X (prop (WpFn 𝓤 H 𝓣.C 𝓣.Λ fn vs (Exit T lasts E)))
+      → HandsOn f fn (ty_int w32) (values ws) → Seq (Go {0}) 𝓛 X (prop (WpFn 𝓤 H 𝓣.C 𝓣.Λ fn vs (Exit T lasts
+      E)))
   calls_at_once {X} {f} fn ws {vs} T lasts E same met hands = by !
       (subst (λ (us : List Val). ent 𝓤 (⋆ 𝓛 X) (WpFn 𝓤 H 𝓣.C 𝓣.Λ fn us (Exit T lasts E))) (sym same)
       (hands (⋆ 𝓛 X) (Exit T lasts E) (record {
@@ -239,28 +264,27 @@ module _ {M : Type 1} {𝓤 : Ura M} (𝓛 : Logic 𝓤) (𝓜 : Model 𝓤 𝓛
         after = status_good T lasts E;
       })).prf)
 
-  -- ---- a handle is borrowed, a call with a reference in place of the pointer is made, and its status is returned
+  -- ---- a handle is borrowed, a call with a reference in place of the pointer is made, and its status is
+  -- returned
   module _ (R : RattleType) (at : Ptr) (x : R.Denot) (κ : Lft) (q : Share) where
-    -- on entry: the tokens, the parameters, what is lent, and what else is required
-    abbrev pub context : (S : Signature) → Bound 𝓛 S → List (Item 𝓤) → List (Item 𝓤)
-    context S y Γ = (‵ (tokens S.lifetimes y.0 y.1) ⊛ ‵ (owns (types_at S.params y.0) y.3 y.4))
-        ∷ (‵ (lent_at R at x κ) ⊛ ‵ (flft κ q)) ∷ Γ
-
     -- with the token of the reference, which is left of it
     abbrev pub with_token : {W : Type 0} → (ℤ → W → SProp 𝓤) → ℤ → W → SProp 𝓤
     with_token E r w = sep 𝓤 (sem 𝓛 (flft κ q)) (E r w)
 
     token_back : {W : Type 0} (T : Fml) (lasts : W → Fml) (E : ℤ → W → SProp 𝓤) (v : Val)
         → ent 𝓤 (Exit (fsep (flft κ q) T) lasts E v) (Exit T lasts (with_token E) v)
-    token_back {W} T lasts E v = qed 𝓛 (later (some (λ (r : ℤ). (‵ (fsep (flft κ q) T) ⊛ ‵ (i32.own_val r (v ∷ [])))
+    token_back {W} T lasts E v = qed 𝓛 (later (some (λ (r : ℤ). (‵ (fsep (flft κ q) T) ⊛ ‵ (i32.own_val r (v
+        ∷ [])))
         ⊛ some (λ (w : W). ‵ (lasts w) ⊛ raw (E r w)))) ∷ []) ∵
         updating ! $ await ! tt $ pick ! (λ r. split ! $ split ! $ fsplit ! $ now ! $
         show ! (λ (r : ℤ). sep 𝓤 (sep 𝓤 (sem 𝓛 T) (sem 𝓛 (i32.own_val r (v ∷ [])))) (ex 𝓤 (λ (w : W).
         sep 𝓤 (sem 𝓛 (lasts w)) (with_token E r w)))) r $
         move ! (1 ∷ 2 ∷ []) $ join ! $ frame ! $ move ! (1 ∷ []) $ pick ! (λ w. split ! $
-        show ! (λ (w : W). sep 𝓤 (sem 𝓛 (lasts w)) (with_token E r w)) w $ frame ! $ move ! (1 ∷ 0 ∷ []) $ done !))
+        show ! (λ (w : W). sep 𝓤 (sem 𝓛 (lasts w)) (with_token E r w)) w $ frame ! $ move ! (1 ∷ 0 ∷ []) $
+        done !))
 
-    pub lends : (before : List Fml) {T : Fml} (w : List Val) (rest : Fml) {P : SProp 𝓤} (fn : Fn) (vs : List Val)
+    pub lends : (before : List Fml) {T : Fml} (w : List Val) (rest : Fml) {P : SProp 𝓤} (fn : Fn)
+        (vs : List Val)
         {W : Type 0} (lasts : W → Fml) (E : ℤ → W → SProp 𝓤)
         → ((b o : ℕ) → at ≡ block_ptr b o → Seq (Go {0}) 𝓛 ((‵ (fsep (flft κ q) T)
         ⊛ ‵ (under before (fsep ((ShrRef (named 0) κ R).own_val (reference x b o) w) rest))) ∷ raw P ∷ [])
@@ -274,27 +298,25 @@ module _ {M : Type 1} {𝓤 : Ura M} (𝓛 : Logic 𝓤) (𝓜 : Model 𝓤 𝓛
         fsplit ! $ drop ! $ use1 𝓛 (‵ (hidden_shr R κ x b o)) (id⊢ 𝓤 _) $ move ! (2 ∷ []) $ split ! $
         move ! (2 ∷ 1 ∷ []) $
         use2 𝓛 (‵ (under before (fsep ((ShrRef (named 0) κ R).own_val (reference x b o) w) rest)))
-        (adds 𝓛 before (hidden_shr R κ x b o) (feq (List Val) w (ptr_val at ∷ [])) (feq (List Val) w (vptr b o ∷ [])) rest
+        (adds 𝓛 before (hidden_shr R κ x b o) (feq (List Val) w (ptr_val at
+        ∷ [])) (feq (List Val) w (vptr b o ∷ [])) rest
         (subst (λ (p : Ptr). ent 𝓤 (sem 𝓛 (feq (List Val) w (ptr_val at ∷ [])))
         (sem 𝓛 (feq (List Val) w (ptr_val p ∷ [])))) e (id⊢ 𝓤 _))) $
         move ! (2 ∷ 1 ∷ []) $ fjoin ! $ join ! $
         suffices ! _ (WpFn-mono 𝓤 H 𝓛.laws (tables_of 𝓤 H 𝓜 𝓣) fn vs (Exit (fsep (flft κ q) T) lasts E)
         (Exit T lasts (with_token E)) (token_back T lasts E)) $ calls b o e)
 
-    abbrev pub Entry : Fml → List Fml → List Val → Fml → SProp 𝓤 → ℕ → ℕ → SProp 𝓤
-    Entry T before w rest P b o = sep 𝓤 (sep 𝓤 (sem 𝓛 (fsep (flft κ q) T))
-        (sem 𝓛 (under before (fsep ((ShrRef (named 0) κ R).own_val (reference x b o) w) rest)))) P
-
-    abbrev pub Hands : Callee → Fn → List Val → Type 2
-    Hands f fn vs = (b o : ℕ) → at ≡ block_ptr b o
-        → (ws : List Word) × (vs ≡ values ws) × HandsOn f fn (ty_int w32) (values ws)
-
     -- borrow, call, return
-    pub borrows : (before : List Fml) {T : Fml} (w : List Val) (rest : Fml) {P : SProp 𝓤} {f : Callee} (fn : Fn)
-        {W : Type 0} (lasts : W → Fml) (E : ℤ → W → SProp 𝓤) (vs : List Val) → Hands f fn vs
-        → ((b o : ℕ) → ent 𝓤 (Entry T before w rest P b o) (𝓣.C f vs (Exit (fsep (flft κ q) T) lasts E)))
+    pub borrows : (before : List Fml) {T : Fml} (w : List Val) (rest : Fml) {P : SProp 𝓤}
+        {f : Callee} (fn : Fn) {W : Type 0} (lasts : W → Fml) (E : ℤ → W → SProp 𝓤) (vs : List Val)
+        → ((b o : ℕ) → at ≡ block_ptr b o → (ws : List Word) × (vs ≡ in_a_row ws)
+        × HandsOn f fn (ty_int w32) (values ws))
+        → ((b o : ℕ) → ent 𝓤 (sep 𝓤 (sep 𝓤 (sem 𝓛 (fsep (flft κ q) T)) (sem 𝓛 (under before
+        (fsep ((ShrRef (named 0) κ R).own_val (reference x b o) w) rest)))) P)
+        (𝓣.C f vs (Exit (fsep (flft κ q) T) lasts E)))
         → Seq (Go {0}) 𝓛 ((‵ T ⊛ ‵ (under before (fsep (feq (List Val) w (ptr_val at ∷ [])) rest)))
         ∷ (‵ (lent_at R at x κ) ⊛ ‵ (flft κ q)) ∷ raw P ∷ [])
         (prop (WpFn 𝓤 H 𝓣.C 𝓣.Λ fn vs (Exit T lasts (with_token E))))
-    borrows before {T} w rest fn lasts E vs hands met = lends before w rest fn vs lasts E (λ b o e. let h = hands b o e in
-        calls_at_once fn h.0 (fsep (flft κ q) T) lasts E h.1 (met b o) h.2)
+    borrows before {T} w rest fn lasts E vs hands met = lends before w rest fn vs lasts E (λ b o e.
+        let h = hands b o e in
+        calls_at_once fn h.0 (fsep (flft κ q) T) lasts E (h.1 ∙ are_values h.0) (met b o) h.2)

@@ -8,12 +8,11 @@
 
 ghost use Rattle.std.specs.Prelude.{◌≡◌, ◌≢◌, ◌⊎◌, ℕ, List, Some, if◌then◌else◌, length, pos, unwrap_or};
 ghost use Rattle.std.specs.Borrow.{sem};
-ghost use base.Fml.{Lft, Share, fall, flft};
-ghost use denote.Struct.Lending.{lent_at};
+ghost use base.Fml.{Lft, Share, flft};
 ghost use Rattle.robots_c.specs.Batch.{IsBatchPutIn, IsWhyNoBatch};
 ghost use Rattle.robots_c.specs.File.{AreAgents, AreSitemaps, GivesRobot, HasDelay, IsRobotFor, IsRobotOfSomeFile};
 ghost use Rattle.robots_c.specs.File.{IsSiteOfSomeFile, bytes_read};
-ghost use Rattle.robots_c.specs.Kept.{Robots, Sites, opened_at, owned_or_null};
+ghost use Rattle.robots_c.specs.Kept.{Robots, Sites, lends, opens, owned_or_null};
 ghost use Rattle.robots_c.specs.Results.{ArePutIn, HasResult, IsMatrixPutIn, is_allowed, line_named, no_result};
 ghost use Rattle.robots_c.specs.Status.{HasFault, HasFaultAt, IsAddress, IsWhyNoAddress, IsWhyNoDelay, IsWhyNoDelayOf};
 ghost use Rattle.robots_c.specs.Status.{IsWhyNoMatrix, IsWhyNoResult, IsWhyNoResults, IsWhyNoRobot, IsWhyNoHandle, IsWhyNone};
@@ -181,7 +180,7 @@ pub extern "C" fn robots_open(
     out: &mut *mut u8,
     line: &mut usize,
 ) -> i32
-    ensures* opened { sem 𝓛 (fall (result ≡ pos 0) (λ _. opened_at Robots (IsRobotFor agent.now (bytes_read file.now)) out.new)) }
+    ensures* opened { sem 𝓛 (opens Robots (IsRobotFor agent.now (bytes_read file.now)) result out.new) }
     ensures kept { result ≢ pos 0 → out.new ≡ out.old }
     ensures why { HasFaultAt (IsWhyNoRobot agent.now (bytes_read file.now)) result line.old line.new }
 {
@@ -200,7 +199,7 @@ pub unsafe extern "C" fn robots_query(
     out: &mut i64,
 ) -> i32
     ghost g: { Lft × Share × RobotValue }
-    requires* lent { sem 𝓛 (lent_at Robots robot g.2 g.0) ∗ sem 𝓛 (flft g.0 g.1) }
+    requires* lent { sem 𝓛 (lends Robots robot g) }
     requires robot { IsRobotOfSomeFile g.2 }
     ensures* lent { sem 𝓛 (flft g.0 g.1) }
     ensures written { result ≡ pos 0 → HasResult g.2.rules url.now out.new }
@@ -219,7 +218,7 @@ pub unsafe extern "C" fn robots_query_many(
     out: &mut [i64],
 ) -> i32
     ghost g: { Lft × Share × RobotValue }
-    requires* lent { sem 𝓛 (lent_at Robots robot g.2 g.0) ∗ sem 𝓛 (flft g.0 g.1) }
+    requires* lent { sem 𝓛 (lends Robots robot g) }
     requires robot { IsRobotOfSomeFile g.2 }
     ensures* lent { sem 𝓛 (flft g.0 g.1) }
     ensures written { result ≡ pos 0 → ArePutIn g.2.rules urls.now out.old out.new }
@@ -240,7 +239,7 @@ pub unsafe extern "C" fn robots_query_batch(
     out: &mut [i64],
 ) -> i32
     ghost g: { Lft × Share × RobotValue }
-    requires* lent { sem 𝓛 (lent_at Robots robot g.2 g.0) ∗ sem 𝓛 (flft g.0 g.1) }
+    requires* lent { sem 𝓛 (lends Robots robot g) }
     requires robot { IsRobotOfSomeFile g.2 }
     ensures* lent { sem 𝓛 (flft g.0 g.1) }
     ensures written { result ≡ pos 0 → IsBatchPutIn g.2.rules urls.now ends.now out.old out.new }
@@ -255,7 +254,7 @@ pub unsafe extern "C" fn robots_query_batch(
 #[unsafe(no_mangle)]
 pub unsafe extern "C" fn robots_query_delay(robot: *const u8, out: &mut u64) -> i32
     ghost g: { Lft × Share × RobotValue }
-    requires* lent { sem 𝓛 (lent_at Robots robot g.2 g.0) ∗ sem 𝓛 (flft g.0 g.1) }
+    requires* lent { sem 𝓛 (lends Robots robot g) }
     ensures* lent { sem 𝓛 (flft g.0 g.1) }
     ensures written { result ≡ pos 0 → g.2.delay ≡ Some out.new }
     ensures kept { result ≢ pos 0 → out.new ≡ out.old }
@@ -269,9 +268,9 @@ pub unsafe extern "C" fn robots_query_delay(robot: *const u8, out: &mut u64) -> 
 #[unsafe(no_mangle)]
 pub unsafe extern "C" fn robots_share(alloc: Global, robot: *const u8, out: &mut *mut u8) -> i32
     ghost g: { Lft × Share × RobotValue }
-    requires* lent { sem 𝓛 (lent_at Robots robot g.2 g.0) ∗ sem 𝓛 (flft g.0 g.1) }
+    requires* lent { sem 𝓛 (lends Robots robot g) }
     ensures* lent { sem 𝓛 (flft g.0 g.1) }
-    ensures* opened { sem 𝓛 (fall (result ≡ pos 0) (λ _. opened_at Robots (λ other. other ≡ g.2) out.new)) }
+    ensures* opened { sem 𝓛 (opens Robots (λ other. other ≡ g.2) result out.new) }
     ensures kept { result ≢ pos 0 → out.new ≡ out.old }
     ensures why { HasFault IsWhyNoHandle result }
 {
@@ -304,7 +303,7 @@ pub unsafe extern "C" fn robots_close(alloc: Global, robot: *mut u8)
 /// fails only if an allocation fails.
 #[unsafe(no_mangle)]
 pub extern "C" fn robots_site_open(alloc: Global, file: &[u8], out: &mut *mut u8) -> i32
-    ensures* opened { sem 𝓛 (fall (result ≡ pos 0) (λ _. opened_at Sites (λ site. site ≡ bytes_read file.now) out.new)) }
+    ensures* opened { sem 𝓛 (opens Sites (λ site. site ≡ bytes_read file.now) result out.new) }
     ensures kept { result ≢ pos 0 → out.new ≡ out.old }
     ensures why { HasFault IsWhyNoHandle result }
 {
@@ -324,9 +323,9 @@ pub unsafe extern "C" fn robots_site_robot(
     line: &mut usize,
 ) -> i32
     ghost g: { Lft × Share × List ℕ }
-    requires* lent { sem 𝓛 (lent_at Sites site g.2 g.0) ∗ sem 𝓛 (flft g.0 g.1) }
+    requires* lent { sem 𝓛 (lends Sites site g) }
     ensures* lent { sem 𝓛 (flft g.0 g.1) }
-    ensures* opened { sem 𝓛 (fall (result ≡ pos 0) (λ _. opened_at Robots (IsRobotFor agent.now g.2) out.new)) }
+    ensures* opened { sem 𝓛 (opens Robots (IsRobotFor agent.now g.2) result out.new) }
     ensures kept { result ≢ pos 0 → out.new ≡ out.old }
     ensures why { HasFaultAt (IsWhyNoRobot agent.now g.2) result line.old line.new }
 {
@@ -351,7 +350,7 @@ pub unsafe extern "C" fn robots_site_matrix(
     out: &mut [i64],
 ) -> i32
     ghost g: { Lft × Share × List ℕ }
-    requires* lent { sem 𝓛 (lent_at Sites site g.2 g.0) ∗ sem 𝓛 (flft g.0 g.1) }
+    requires* lent { sem 𝓛 (lends Sites site g) }
     requires site { IsSiteOfSomeFile g.2 }
     ensures* lent { sem 𝓛 (flft g.0 g.1) }
     ensures written { result ≡ pos 0 → IsMatrixPutIn g.2 agents.now urls.now out.old out.new }
@@ -366,7 +365,7 @@ pub unsafe extern "C" fn robots_site_matrix(
 #[unsafe(no_mangle)]
 pub unsafe extern "C" fn robots_site_delay(site: *const u8, agent: &[u8], out: &mut u64) -> i32
     ghost g: { Lft × Share × List ℕ }
-    requires* lent { sem 𝓛 (lent_at Sites site g.2 g.0) ∗ sem 𝓛 (flft g.0 g.1) }
+    requires* lent { sem 𝓛 (lends Sites site g) }
     ensures* lent { sem 𝓛 (flft g.0 g.1) }
     ensures written { result ≡ pos 0 → HasDelay agent.now g.2 (Some out.new) }
     ensures kept { result ≢ pos 0 → out.new ≡ out.old }
@@ -384,7 +383,7 @@ pub unsafe extern "C" fn robots_site_sitemaps(
     len: &mut usize,
 ) -> i32
     ghost g: { Lft × Share × List ℕ }
-    requires* lent { sem 𝓛 (lent_at Sites site g.2 g.0) ∗ sem 𝓛 (flft g.0 g.1) }
+    requires* lent { sem 𝓛 (lends Sites site g) }
     ensures* lent { sem 𝓛 (flft g.0 g.1) }
     ensures written { result ≡ pos 0 → IsWritten (AreSitemaps g.2) out.old out.new len.new }
     ensures buffer_too_small { result ≡ status_of Fault.BufferTooSmall → IsTooLong (AreSitemaps g.2) (length out.old) len.new }
@@ -405,7 +404,7 @@ pub unsafe extern "C" fn robots_site_agents(
     len: &mut usize,
 ) -> i32
     ghost g: { Lft × Share × List ℕ }
-    requires* lent { sem 𝓛 (lent_at Sites site g.2 g.0) ∗ sem 𝓛 (flft g.0 g.1) }
+    requires* lent { sem 𝓛 (lends Sites site g) }
     ensures* lent { sem 𝓛 (flft g.0 g.1) }
     ensures written { result ≡ pos 0 → IsWritten (AreAgents g.2) out.old out.new len.new }
     ensures buffer_too_small { result ≡ status_of Fault.BufferTooSmall → IsTooLong (AreAgents g.2) (length out.old) len.new }
@@ -422,7 +421,7 @@ pub unsafe extern "C" fn robots_site_agents(
 #[unsafe(no_mangle)]
 pub unsafe extern "C" fn robots_site_is_named(site: *const u8, agent: &[u8]) -> i32
     ghost g: { Lft × Share × List ℕ }
-    requires* lent { sem 𝓛 (lent_at Sites site g.2 g.0) ∗ sem 𝓛 (flft g.0 g.1) }
+    requires* lent { sem 𝓛 (lends Sites site g) }
     ensures* lent { sem 𝓛 (flft g.0 g.1) }
     ensures named { SaysNamed agent.now g.2 result }
 {
@@ -434,9 +433,9 @@ pub unsafe extern "C" fn robots_site_is_named(site: *const u8, agent: &[u8]) -> 
 #[unsafe(no_mangle)]
 pub unsafe extern "C" fn robots_site_share(alloc: Global, site: *const u8, out: &mut *mut u8) -> i32
     ghost g: { Lft × Share × List ℕ }
-    requires* lent { sem 𝓛 (lent_at Sites site g.2 g.0) ∗ sem 𝓛 (flft g.0 g.1) }
+    requires* lent { sem 𝓛 (lends Sites site g) }
     ensures* lent { sem 𝓛 (flft g.0 g.1) }
-    ensures* opened { sem 𝓛 (fall (result ≡ pos 0) (λ _. opened_at Sites (λ other. other ≡ g.2) out.new)) }
+    ensures* opened { sem 𝓛 (opens Sites (λ other. other ≡ g.2) result out.new) }
     ensures kept { result ≢ pos 0 → out.new ≡ out.old }
     ensures why { HasFault IsWhyNoHandle result }
 {

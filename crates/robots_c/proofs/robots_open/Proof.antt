@@ -1,5 +1,8 @@
 -- `robots_open` writes a pointer to a robot, which C owns from then on.
 use Rattle.robots_c.proofs.Borrowing.{
+  List,
+  Word,
+  hands_on,
   ◌≡◌,
   ℕ,
   [],
@@ -43,7 +46,6 @@ use Rattle.robots_c.proofs.Borrowing.{
   lasts,
   Args,
   fact,
-  are_values,
   goods,
   meets,
   place,
@@ -55,9 +57,8 @@ use Rattle.robots_c.proofs.Borrowing.{
   slice,
   Lasts,
 }
-use Rattle.robots_c.proofs.Opening.{
+use Rattle.robots_c.proofs.Keeping.{
   ftrue,
-  fall,
   SProp,
   id⊢,
   sep,
@@ -70,7 +71,6 @@ use Rattle.robots_c.proofs.Opening.{
   split,
   move,
   and_tt,
-  kept_given,
   opens_out,
   owned_now,
   status_typed,
@@ -82,7 +82,7 @@ use Rattle.robots_c.proofs.Opening.{
   Some,
 }
 use Rattle.robots_c.specs.File.{GivesRobot, IsRobotFor, bytes_read}
-use Rattle.robots_c.specs.Kept.{Robots, opened_at}
+use Rattle.robots_c.specs.Kept.{Robots, opens}
 use Rattle.robots_c.specs.Status.{HasFaultAt, IsWhyNoRobot}
 use Rattle.robots_c.specs.contracts.handle.opened as callee
 use Rattle.robots_c.proofs.handle.opened.Met.{met}
@@ -97,20 +97,38 @@ robots_open_spec 𝓤 𝓛 𝓜 𝓡 wired =
     let a = z.0.3 in let vs = z.0.4 in let out = a.1.1.1.0 in let line = a.1.1.1.1.0 in
     let κs : Lfts 3 = (z.0.0.0, (z.0.0.1.0, (z.0.0.1.1.1.0, tt))) in
     let given_at : Args callee.signature κs = (a.0, (a.1.0, (a.1.1.0, (out.now, (line, tt))))) in
-    let made : Lasts callee.ended κs given_at → Ptr → Lasts self.ended z.0.0 a = λ w p. (tt, (tt, (tt, (p, (w.1.1.1.1.0, tt))))) in
+    let made : Lasts callee.ended κs given_at → Ptr → Lasts self.ended z.0.0 a = λ w p. (
+      tt,
+      (
+        tt,
+        (
+          tt,
+          (
+            p,
+            (w.1.1.1.1.0, tt),
+          ),
+        ),
+      ),
+    ) in
     let rest : ℤ → Ptr → ℕ → SProp 𝓤 = λ r p n. sep 𝓤 (fact 𝓤 (r ≢ pos 0 → p ≡ out.now))
     (fact 𝓤 (HasFaultAt (IsWhyNoRobot a.1.0.now (bytes_read a.1.1.0.now)) r line.now n)) in
+    let P : Robots.Denot → Type 0 = IsRobotFor a.1.0.now (bytes_read a.1.1.0.now) in
     let E : ℤ → Lasts self.ended z.0.0 a → SProp 𝓤 = λ r w. sep 𝓤
-    (sem 𝓛 (fall (r ≡ pos 0) (λ _. opened_at Robots (IsRobotFor a.1.0.now (bytes_read a.1.1.0.now)) w.1.1.1.0))) (rest r w.1.1.1.0 w.1.1.1.1.0) in
+    (sem 𝓛 (opens Robots P r w.1.1.1.0)) (rest r w.1.1.1.0 w.1.1.1.1.0) in
     qed 𝓛 ((‵ (tokens 4 z.0.0 z.0.1) ⊛ ‵ (owns (types_at S.params z.0.0) a vs)) ∷ raw (emp 𝓤) ∷ []) ∵
-    let words = heap 𝓛 a.0 vs.0 are.0 ∷ slice are.1.0.0.0 are.1.0.0.1.0 ∷ slice are.1.1.0.0.0 are.1.1.0.0.1.0 ∷ place are.1.1.1.0.0 ∷ place are.1.1.1.1.0.0 ∷ [] in
-    let given_words = heap 𝓛 a.0 vs.0 are.0 ∷ slice are.1.0.0.0 are.1.0.0.1.0 ∷ slice are.1.1.0.0.0 are.1.1.0.0.1.0 ∷ pointer 𝓛 out.now ∷ place are.1.1.1.1.0.0 ∷ [] in
-    opens_out 𝓛 𝓜 𝓡 Robots (named 2) z.0.0.1.1.0 z.0.1.1.1.0 out (flft z.0.0.0 z.0.1.0 ∷ flft z.0.0.1.0 z.0.1.1.0 ∷ []) (tokens 1 z.0.0.1.1.1 z.0.1.1.1.1)
+    let words_with : Word → List Word = λ w. heap 𝓛 a.0 vs.0 are.0 ∷ slice are.1.0.0.0 are.1.0.0.1.0
+    ∷ slice are.1.1.0.0.0 are.1.1.0.0.1.0 ∷ w ∷ place are.1.1.1.1.0.0 ∷ [] in
+    let words = words_with (place are.1.1.1.0.0) in let given_words = words_with (pointer 𝓛 out.now) in
+    opens_out 𝓛 𝓜 𝓡 Robots (named 2) z.0.0.1.1.0 z.0.1.1.1.0 out (flft z.0.0.0 z.0.1.0
+    ∷ flft z.0.0.1.0 z.0.1.1.0 ∷ []) (tokens 1 z.0.0.1.1.1 z.0.1.1.1.1)
     (lasts self.ended z.0.0 a) E made (lasts callee.ended κs given_at)
-    (λ r w. sep 𝓤 (fact 𝓤 (r.status ≡ pos 0 → GivesRobot a.1.0.now (bytes_read a.1.1.0.now) (λ robot. r.value ≡ Some robot))) (rest r.status r.at w.1.1.1.1.0)) (ftrue ∷ ftrue ∷ ftrue ∷ []) (λ w. fsep (last_value usize z.0.0.1.1.1.0 line w.1.1.1.1.0) ftrue)
-    (λ w. id⊢ 𝓤 _) (λ w p. id⊢ 𝓤 _) (λ r w. owned_now 𝓛 𝓜 𝓡 Robots (IsRobotFor a.1.0.now (bytes_read a.1.1.0.now)) (r.status ≡ pos 0 → GivesRobot a.1.0.now (bytes_read a.1.1.0.now) (λ robot. r.value ≡ Some robot))
+    (λ r w. sep 𝓤 (fact 𝓤 (r.status ≡ pos 0 → GivesRobot a.1.0.now (bytes_read a.1.1.0.now)
+    (λ robot. r.value ≡ Some robot))) (rest r.status r.at w.1.1.1.1.0)) (ftrue ∷ ftrue ∷ ftrue
+    ∷ []) (λ w. fsep (last_value usize z.0.0.1.1.1.0 line w.1.1.1.1.0) ftrue)
+    (λ w. id⊢ 𝓤 _) (λ w p. id⊢ 𝓤 _) (λ r w. owned_now 𝓛 𝓜 𝓡 Robots P (r.status ≡ pos 0
+    → GivesRobot a.1.0.now (bytes_read a.1.1.0.now) (λ robot. r.value ≡ Some robot))
     (rest r.status r.at w.1.1.1.1.0) r (λ is. is))
-    (_ ∷ _ ∷ _ ∷ []) _ _ _ _ fn given_words words (are_values given_words) (are_values words)
+    (_ ∷ _ ∷ _ ∷ []) _ _ _ _ fn given_words words
     (met 𝓤 𝓛 𝓜 𝓡 (code.calls-robots_c::handle::opened 𝓡.env wired) (
       (
         κs,
@@ -125,12 +143,13 @@ robots_open_spec 𝓤 𝓛 𝓜 𝓡 wired =
     sets ! (of_opd ! (load ! (through ! refl (stop !)) (look ! 0 refl))) refl (pointer_typed 𝓛 out.now) $
     sets ! (of_opd ! (get ! refl)) refl (pointer_typed 𝓛 out.now) $
     sets ! (addr ! (through ! refl (stop !))) refl (tt, tt) $
-    move ! (1 ∷ []) $ kept_given 𝓛 𝓜 𝓡 Robots ! given (and_then ! (get ! refl) (and_then ! (get ! refl) (and_then ! (get ! refl) (and_then ! (get ! refl) (and_then ! (get ! refl) (no_more !))))))
-    (λ u r is small. let p = pointer_typed 𝓛 r.at in let n = status_typed r.status small in
-    lands_as ! is refl (and_tt _ p.0, (n.1, (p.1, tt))) $
+    move ! (1 ∷ []) $ hands_on 𝓛 𝓜 𝓡 ! given (and_then ! (get ! refl) (and_then ! (get ! refl)
+    (and_then ! (get ! refl) (and_then ! (get ! refl) (and_then ! (get ! refl) (no_more !))))))
+    (λ u r is. let p = pointer_typed 𝓛 r.at in let n = status_typed r.status is.1 in
+    lands_as ! is.0 refl (and_tt _ p.0, (n.1, (p.1, tt))) $
     sets ! (of_opd ! (get_in ! (fld ! refl (stop !)) (sub ! 0 refl (whole !)))) refl n $
     sets ! (of_opd ! (get_in ! (fld ! refl (stop !)) (sub ! 1 refl (whole !)))) refl p $
     sets ! (of_opd ! (get ! refl)) refl p $
     assigns ! (of_opd ! (get ! refl)) (through ! refl (stop !)) (store ! 1 refl p) $
     sets ! (of_opd ! (get ! refl)) refl n $
-    returns ! (look_at ! 0 refl) $ free_all ! refl $ wrote 𝓛 𝓜 𝓡 Robots out Q r small))))
+    returns ! (look_at ! 0 refl) $ free_all ! refl $ wrote 𝓛 𝓜 𝓡 Robots out Q r is.1))))
