@@ -1,6 +1,6 @@
 pub mod BatchLemmas
-pub mod KeptSteps
+pub mod Borrowing
+pub mod Keeping
 pub mod LendingLemmas
 pub mod MatrixLemmas
 pub mod NumberLemmas
-pub mod WalkSteps

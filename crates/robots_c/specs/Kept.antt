@@ -1,9 +1,10 @@
 -- Ownership of what C keeps between calls, at its pointers.
-use Rattle.std.specs.Prelude.{Option, Some, None}
+use Rattle.std.specs.Prelude.{◌≡◌, ℤ, pos, Option, Some, None}
 use mir.Syntax.{Ty}
-use base.Fml.{Fml, ftrue, fex}
+use base.Fml.{Fml, Lft, Share, ftrue, fall, fex, flft, fsep}
 use denote.RattleType.{RattleType}
 use denote.RawPtr.{Ptr}
+use denote.Struct.Lending.{lent_at}
 use Rattle.std.specs.Ptr.{if_non_null}
 use Rattle.std.specs.declared.alloc.Global.{Global}
 use Rattle.std.specs.contracts.impls.GlobalAllocator.TheImpl.{ghosts}
@@ -43,3 +44,11 @@ owned_or_null R at value = if_non_null at (owned_at R at value)
 -- ownership of a value with the property P
 abbrev pub opened_at : (R : RattleType) → (R.Denot → Type 0) → Ptr → Fml
 opened_at R P at = fex R.Denot (λ value. fex (P value) (λ _. owned_at R at value))
+
+-- a status of 0 means that C owns a value with the property P
+abbrev pub opens : (R : RattleType) → (R.Denot → Type 0) → ℤ → Ptr → Fml
+opens R P status at = fall (status ≡ pos 0) (λ _. opened_at R P at)
+
+-- this value is lent for this lifetime, of whose token the caller hands over this share
+abbrev pub lends : (R : RattleType) → Ptr → Lft × Share × R.Denot → Fml
+lends R at g = fsep (lent_at R at g.2 g.0) (flft g.0 g.1)

@@ -1,5 +1,5 @@
 //! A robot that C keeps between calls.
-ghost use Rattle.std.specs.Prelude.{◌≡◌, ◌≢◌, Option, Some, None, IfErr, IfOk, pos};
+ghost use Rattle.std.specs.Prelude.{◌≡◌, ◌≢◌, Some, None, IfErr, IfOk, pos};
 ghost use Rattle.robots_c.specs.File.{GivesRobot, IsRobotFor, bytes_read};
 ghost use Rattle.robots_c.specs.Status.{HasFault, HasFaultAt, IsWhyNoHandle, IsWhyNoRobot, IsWhyNone};
 

@@ -8,12 +8,11 @@
 
 ghost use Rattle.std.specs.Prelude.{◌≡◌, ◌≢◌, ◌⊎◌, ℕ, List, Some, if◌then◌else◌, length, pos, unwrap_or};
 ghost use Rattle.std.specs.Borrow.{sem};
-ghost use base.Fml.{Lft, Share, fall, flft};
-ghost use denote.Struct.Lending.{lent_at};
+ghost use base.Fml.{Lft, Share, flft};
 ghost use Rattle.robots_c.specs.Batch.{IsBatchPutIn, IsWhyNoBatch};
 ghost use Rattle.robots_c.specs.File.{AreAgents, AreSitemaps, GivesRobot, HasDelay, IsRobotFor, IsRobotOfSomeFile};
 ghost use Rattle.robots_c.specs.File.{IsSiteOfSomeFile, bytes_read};
-ghost use Rattle.robots_c.specs.Kept.{Robots, Sites, opened_at, owned_or_null};
+ghost use Rattle.robots_c.specs.Kept.{Robots, Sites, lends, opens, owned_or_null};
 ghost use Rattle.robots_c.specs.Results.{ArePutIn, HasResult, IsMatrixPutIn, is_allowed, line_named, no_result};
 ghost use Rattle.robots_c.specs.Status.{HasFault, HasFaultAt, IsAddress, IsWhyNoAddress, IsWhyNoDelay, IsWhyNoDelayOf};
 ghost use Rattle.robots_c.specs.Status.{IsWhyNoMatrix, IsWhyNoResult, IsWhyNoResults, IsWhyNoRobot, IsWhyNoHandle, IsWhyNone};
@@ -181,9 +180,9 @@ pub extern "C" fn robots_open(
     out: &mut *mut u8,
     line: &mut usize,
 ) -> i32
+    ensures* opened { sem 𝓛 (opens Robots (IsRobotFor agent.now (bytes_read file.now)) result out.new) }
     ensures kept { result ≢ pos 0 → out.new ≡ out.old }
     ensures why { HasFaultAt (IsWhyNoRobot agent.now (bytes_read file.now)) result line.old line.new }
-    ensures* opened { sem 𝓛 (fall (result ≡ pos 0) (λ _. opened_at Robots (IsRobotFor agent.now (bytes_read file.now)) out.new)) }
 {
     let Kept { status, at } = opened(alloc, agent, file, *out as *mut Shared<Robot>, line);
     *out = at as *mut u8;
@@ -200,12 +199,12 @@ pub unsafe extern "C" fn robots_query(
     out: &mut i64,
 ) -> i32
     ghost g: { Lft × Share × RobotValue }
+    requires* lent { sem 𝓛 (lends Robots robot g) }
     requires robot { IsRobotOfSomeFile g.2 }
-    requires* lent { sem 𝓛 (lent_at Robots robot g.2 g.0) ∗ sem 𝓛 (flft g.0 g.1) }
+    ensures* lent { sem 𝓛 (flft g.0 g.1) }
     ensures written { result ≡ pos 0 → HasResult g.2.rules url.now out.new }
     ensures kept { result ≢ pos 0 → out.new ≡ out.old }
     ensures why { HasFault (IsWhyNoResult url.now) result }
-    ensures* lent { sem 𝓛 (flft g.0 g.1) }
 {
     query(alloc, &*(robot as *const Shared<Robot>), url, out)
 }
@@ -219,12 +218,12 @@ pub unsafe extern "C" fn robots_query_many(
     out: &mut [i64],
 ) -> i32
     ghost g: { Lft × Share × RobotValue }
+    requires* lent { sem 𝓛 (lends Robots robot g) }
     requires robot { IsRobotOfSomeFile g.2 }
-    requires* lent { sem 𝓛 (lent_at Robots robot g.2 g.0) ∗ sem 𝓛 (flft g.0 g.1) }
+    ensures* lent { sem 𝓛 (flft g.0 g.1) }
     ensures written { result ≡ pos 0 → ArePutIn g.2.rules urls.now out.old out.new }
     ensures kept { result ≢ pos 0 → out.new ≡ out.old }
     ensures why { HasFault (IsWhyNoResults urls.now (length out.old)) result }
-    ensures* lent { sem 𝓛 (flft g.0 g.1) }
 {
     query_many(alloc, &*(robot as *const Shared<Robot>), urls, out)
 }
@@ -240,12 +239,12 @@ pub unsafe extern "C" fn robots_query_batch(
     out: &mut [i64],
 ) -> i32
     ghost g: { Lft × Share × RobotValue }
+    requires* lent { sem 𝓛 (lends Robots robot g) }
     requires robot { IsRobotOfSomeFile g.2 }
-    requires* lent { sem 𝓛 (lent_at Robots robot g.2 g.0) ∗ sem 𝓛 (flft g.0 g.1) }
+    ensures* lent { sem 𝓛 (flft g.0 g.1) }
     ensures written { result ≡ pos 0 → IsBatchPutIn g.2.rules urls.now ends.now out.old out.new }
     ensures kept { result ≢ pos 0 → out.new ≡ out.old }
     ensures why { HasFault (IsWhyNoBatch urls.now ends.now (length out.old)) result }
-    ensures* lent { sem 𝓛 (flft g.0 g.1) }
 {
     query_batch(alloc, &*(robot as *const Shared<Robot>), urls, ends, out)
 }
@@ -255,11 +254,11 @@ pub unsafe extern "C" fn robots_query_batch(
 #[unsafe(no_mangle)]
 pub unsafe extern "C" fn robots_query_delay(robot: *const u8, out: &mut u64) -> i32
     ghost g: { Lft × Share × RobotValue }
-    requires* lent { sem 𝓛 (lent_at Robots robot g.2 g.0) ∗ sem 𝓛 (flft g.0 g.1) }
+    requires* lent { sem 𝓛 (lends Robots robot g) }
+    ensures* lent { sem 𝓛 (flft g.0 g.1) }
     ensures written { result ≡ pos 0 → g.2.delay ≡ Some out.new }
     ensures kept { result ≢ pos 0 → out.new ≡ out.old }
     ensures why { HasFault (IsWhyNone g.2.delay) result }
-    ensures* lent { sem 𝓛 (flft g.0 g.1) }
 {
     query_delay(&*(robot as *const Shared<Robot>), out)
 }
@@ -269,11 +268,11 @@ pub unsafe extern "C" fn robots_query_delay(robot: *const u8, out: &mut u64) -> 
 #[unsafe(no_mangle)]
 pub unsafe extern "C" fn robots_share(alloc: Global, robot: *const u8, out: &mut *mut u8) -> i32
     ghost g: { Lft × Share × RobotValue }
-    requires* lent { sem 𝓛 (lent_at Robots robot g.2 g.0) ∗ sem 𝓛 (flft g.0 g.1) }
+    requires* lent { sem 𝓛 (lends Robots robot g) }
+    ensures* lent { sem 𝓛 (flft g.0 g.1) }
+    ensures* opened { sem 𝓛 (opens Robots (λ other. other ≡ g.2) result out.new) }
     ensures kept { result ≢ pos 0 → out.new ≡ out.old }
     ensures why { HasFault IsWhyNoHandle result }
-    ensures* opened { sem 𝓛 (fall (result ≡ pos 0) (λ _. opened_at Robots (λ other. other ≡ g.2) out.new)) }
-    ensures* lent { sem 𝓛 (flft g.0 g.1) }
 {
     let Kept { status, at } = shared(
         alloc,
@@ -304,9 +303,9 @@ pub unsafe extern "C" fn robots_close(alloc: Global, robot: *mut u8)
 /// fails only if an allocation fails.
 #[unsafe(no_mangle)]
 pub extern "C" fn robots_site_open(alloc: Global, file: &[u8], out: &mut *mut u8) -> i32
+    ensures* opened { sem 𝓛 (opens Sites (λ site. site ≡ bytes_read file.now) result out.new) }
     ensures kept { result ≢ pos 0 → out.new ≡ out.old }
     ensures why { HasFault IsWhyNoHandle result }
-    ensures* opened { sem 𝓛 (fall (result ≡ pos 0) (λ _. opened_at Sites (λ site. site ≡ bytes_read file.now) out.new)) }
 {
     let Kept { status, at } = site::opened(alloc, file, *out as *mut Shared<Site>);
     *out = at as *mut u8;
@@ -324,11 +323,11 @@ pub unsafe extern "C" fn robots_site_robot(
     line: &mut usize,
 ) -> i32
     ghost g: { Lft × Share × List ℕ }
-    requires* lent { sem 𝓛 (lent_at Sites site g.2 g.0) ∗ sem 𝓛 (flft g.0 g.1) }
+    requires* lent { sem 𝓛 (lends Sites site g) }
+    ensures* lent { sem 𝓛 (flft g.0 g.1) }
+    ensures* opened { sem 𝓛 (opens Robots (IsRobotFor agent.now g.2) result out.new) }
     ensures kept { result ≢ pos 0 → out.new ≡ out.old }
     ensures why { HasFaultAt (IsWhyNoRobot agent.now g.2) result line.old line.new }
-    ensures* opened { sem 𝓛 (fall (result ≡ pos 0) (λ _. opened_at Robots (IsRobotFor agent.now g.2) out.new)) }
-    ensures* lent { sem 𝓛 (flft g.0 g.1) }
 {
     let Kept { status, at } = site::robot_opened(
         alloc,
@@ -351,12 +350,12 @@ pub unsafe extern "C" fn robots_site_matrix(
     out: &mut [i64],
 ) -> i32
     ghost g: { Lft × Share × List ℕ }
+    requires* lent { sem 𝓛 (lends Sites site g) }
     requires site { IsSiteOfSomeFile g.2 }
-    requires* lent { sem 𝓛 (lent_at Sites site g.2 g.0) ∗ sem 𝓛 (flft g.0 g.1) }
+    ensures* lent { sem 𝓛 (flft g.0 g.1) }
     ensures written { result ≡ pos 0 → IsMatrixPutIn g.2 agents.now urls.now out.old out.new }
     ensures kept { result ≢ pos 0 → out.new ≡ out.old }
     ensures why { HasFault (IsWhyNoMatrix agents.now urls.now (length out.old)) result }
-    ensures* lent { sem 𝓛 (flft g.0 g.1) }
 {
     matrix_by(alloc, &*(site as *const Shared<Site>), agents, urls, out)
 }
@@ -366,11 +365,11 @@ pub unsafe extern "C" fn robots_site_matrix(
 #[unsafe(no_mangle)]
 pub unsafe extern "C" fn robots_site_delay(site: *const u8, agent: &[u8], out: &mut u64) -> i32
     ghost g: { Lft × Share × List ℕ }
-    requires* lent { sem 𝓛 (lent_at Sites site g.2 g.0) ∗ sem 𝓛 (flft g.0 g.1) }
+    requires* lent { sem 𝓛 (lends Sites site g) }
+    ensures* lent { sem 𝓛 (flft g.0 g.1) }
     ensures written { result ≡ pos 0 → HasDelay agent.now g.2 (Some out.new) }
     ensures kept { result ≢ pos 0 → out.new ≡ out.old }
     ensures why { HasFault (IsWhyNoDelayOf agent.now g.2) result }
-    ensures* lent { sem 𝓛 (flft g.0 g.1) }
 {
     site::delay(&*(site as *const Shared<Site>), agent, out)
 }
@@ -384,13 +383,13 @@ pub unsafe extern "C" fn robots_site_sitemaps(
     len: &mut usize,
 ) -> i32
     ghost g: { Lft × Share × List ℕ }
-    requires* lent { sem 𝓛 (lent_at Sites site g.2 g.0) ∗ sem 𝓛 (flft g.0 g.1) }
+    requires* lent { sem 𝓛 (lends Sites site g) }
+    ensures* lent { sem 𝓛 (flft g.0 g.1) }
     ensures written { result ≡ pos 0 → IsWritten (AreSitemaps g.2) out.old out.new len.new }
     ensures buffer_too_small { result ≡ status_of Fault.BufferTooSmall → IsTooLong (AreSitemaps g.2) (length out.old) len.new }
     ensures length_kept { result ≢ pos 0 → result ≢ status_of Fault.BufferTooSmall → len.new ≡ len.old }
     ensures kept { result ≢ pos 0 → out.new ≡ out.old }
     ensures why { (result ≡ pos 0) ⊎ ((result ≡ status_of Fault.BufferTooSmall) ⊎ (result ≡ status_of Fault.Memory)) }
-    ensures* lent { sem 𝓛 (flft g.0 g.1) }
 {
     site::sitemaps(alloc, &*(site as *const Shared<Site>), out, len)
 }
@@ -405,13 +404,13 @@ pub unsafe extern "C" fn robots_site_agents(
     len: &mut usize,
 ) -> i32
     ghost g: { Lft × Share × List ℕ }
-    requires* lent { sem 𝓛 (lent_at Sites site g.2 g.0) ∗ sem 𝓛 (flft g.0 g.1) }
+    requires* lent { sem 𝓛 (lends Sites site g) }
+    ensures* lent { sem 𝓛 (flft g.0 g.1) }
     ensures written { result ≡ pos 0 → IsWritten (AreAgents g.2) out.old out.new len.new }
     ensures buffer_too_small { result ≡ status_of Fault.BufferTooSmall → IsTooLong (AreAgents g.2) (length out.old) len.new }
     ensures length_kept { result ≢ pos 0 → result ≢ status_of Fault.BufferTooSmall → len.new ≡ len.old }
     ensures kept { result ≢ pos 0 → out.new ≡ out.old }
     ensures why { (result ≡ pos 0) ⊎ ((result ≡ status_of Fault.BufferTooSmall) ⊎ (result ≡ status_of Fault.Memory)) }
-    ensures* lent { sem 𝓛 (flft g.0 g.1) }
 {
     site::agents(alloc, &*(site as *const Shared<Site>), out, len)
 }
@@ -422,9 +421,9 @@ pub unsafe extern "C" fn robots_site_agents(
 #[unsafe(no_mangle)]
 pub unsafe extern "C" fn robots_site_is_named(site: *const u8, agent: &[u8]) -> i32
     ghost g: { Lft × Share × List ℕ }
-    requires* lent { sem 𝓛 (lent_at Sites site g.2 g.0) ∗ sem 𝓛 (flft g.0 g.1) }
-    ensures named { SaysNamed agent.now g.2 result }
+    requires* lent { sem 𝓛 (lends Sites site g) }
     ensures* lent { sem 𝓛 (flft g.0 g.1) }
+    ensures named { SaysNamed agent.now g.2 result }
 {
     site::is_named(&*(site as *const Shared<Site>), agent)
 }
@@ -434,11 +433,11 @@ pub unsafe extern "C" fn robots_site_is_named(site: *const u8, agent: &[u8]) -> 
 #[unsafe(no_mangle)]
 pub unsafe extern "C" fn robots_site_share(alloc: Global, site: *const u8, out: &mut *mut u8) -> i32
     ghost g: { Lft × Share × List ℕ }
-    requires* lent { sem 𝓛 (lent_at Sites site g.2 g.0) ∗ sem 𝓛 (flft g.0 g.1) }
+    requires* lent { sem 𝓛 (lends Sites site g) }
+    ensures* lent { sem 𝓛 (flft g.0 g.1) }
+    ensures* opened { sem 𝓛 (opens Sites (λ other. other ≡ g.2) result out.new) }
     ensures kept { result ≢ pos 0 → out.new ≡ out.old }
     ensures why { HasFault IsWhyNoHandle result }
-    ensures* opened { sem 𝓛 (fall (result ≡ pos 0) (λ _. opened_at Sites (λ other. other ≡ g.2) out.new)) }
-    ensures* lent { sem 𝓛 (flft g.0 g.1) }
 {
     let Kept { status, at } = site::shared(
         alloc,

@@ -1,195 +1,167 @@
--- `robots_site_robot` reads a borrowed site, and writes a pointer to a robot, which C owns from then on.
-use Rattle.std.proofs.Common.{◌∙◌, Bor, ◌≡◌, ◌≢◌, ℕ, pos, List, [], ◌∷◌, ◌++◌, Some, length, refl, ap}
-use base.Fraction.{full_share}
-use base.Fml.{Lft, ftrue, flft, fall}
-use base.Logic.{SProp, id⊢}
-use mir.Syntax.{named, imm, w8, w32, ty_int, ty_ptr}
-use mir.Val.{Val, vptr}
-use mir.ValLaws.{of_z_fits}
-use prog.Wp.{WpFn}
-use types.Kit.{‵, raw, ◌⊛◌, some, later, prop, ◌$◌, ◌∵◌, !, qed, by, move, keep, drop, split, join}
-use types.Kit.{fsplit, fsplit3, fjoin, pick, regoal, rewrite, use1, await, feq_l, feq_i}
-use types.Run.{of_opd, addr, load, look, store, stop, fld, assigns, no_more, and_then, returns, enter}
-use types.ByLocal.{alloc_all, pass_all, free_all, look_at, get, get_in, through, sets, lands_as}
-use types.Part.{sub, whole}
-use contract.Monad.{fact}
-use contract.Running.{tables}
-use denote.Builtin.{i32, u8, usize, SliceRefOf}
-use denote.Exit.{yes}
-use denote.Memory.{cell_at}
-use denote.RattleType.{RattleType, owns}
-use denote.RawPtr.{Ptr, RawPtr, ptr_val, rawptr_Lawful}
-use denote.Ref.{MutRef, mut_Tells}
-use denote.Struct.Lending.{lent_at}
-use denote.Signed.{sint_Makes}
-use denote.Signature.{types_at, plain}
-use denote.Slice.{ShrSlice, shr_slice_Tells, slice_val}
-use denote.Steps.{nothing, only, heard, owned, opens, closes}
-use denote.Triple.Clauses.{Lasts, lasts}
-use denote.Triple.Entry.{Args}
-use denote.Triple.Spec.{triple_of}
-use denote.Triple.Call.{calls_at}
-use denote.Triple.Table.{framed}
-use denote.Triple.Walked.{Stays, stay_dropped, Goes-dropped, stay_ref, Goes-ref, gave_ref, Goes-gave_ref}
-use denote.Triple.Walked.{walk_of}
-use Rattle.std.proofs.alloc.Calls.{Goes-blank, handle_tells}
-use Rattle.std.proofs.raw_atomic.Walks.{proved_at, leaves}
-use Rattle.std_alloc.proofs.ResultValues.{and_tt}
+-- `robots_site_robot` writes a pointer to a robot of a borrowed site, which C owns from then on.
+use Rattle.robots_c.proofs.Borrowing.{
+  List,
+  Word,
+  hands_on,
+  ◌≡◌,
+  ℕ,
+  [],
+  ◌∷◌,
+  refl,
+  flft,
+  ◌$◌,
+  ◌∵◌,
+  !,
+  qed,
+  of_opd,
+  addr,
+  load,
+  look,
+  store,
+  assigns,
+  stop,
+  fld,
+  no_more,
+  and_then,
+  returns,
+  enter,
+  alloc_all,
+  pass_all,
+  free_all,
+  look_at,
+  get,
+  get_in,
+  sub,
+  whole,
+  through,
+  sets,
+  lands_as,
+  Lfts,
+  Ptr,
+  ptr_val,
+  lasts,
+  Args,
+  fact,
+  goods,
+  meets,
+  place,
+  pointer,
+  pointer_typed,
+  heap,
+  tokens,
+  reference,
+  and_nothing,
+  lends,
+  slice,
+  lent_place,
+  context,
+  Lasts,
+}
+use Rattle.robots_c.proofs.Keeping.{
+  ftrue,
+  SProp,
+  id⊢,
+  sep,
+  ℤ,
+  pos,
+  ◌≢◌,
+  named,
+  sem,
+  await,
+  split,
+  move,
+  and_tt,
+  opens_out,
+  owned_now,
+  status_typed,
+  wrote,
+  last_value,
+  fsep,
+  usize,
+  Some,
+}
 use Rattle.robots_c.specs.File.{GivesRobot, IsRobotFor}
-use Rattle.robots_c.specs.Kept.{Robots, Sites, opened_at}
+use Rattle.robots_c.specs.Kept.{Robots, Sites, opens}
 use Rattle.robots_c.specs.Status.{HasFaultAt, IsWhyNoRobot}
 use Rattle.robots_c.specs.contracts.site.robot_opened as callee
 use Rattle.robots_c.proofs.site.robot_opened.Met.{met}
-use Rattle.robots_c.proofs.KeptSteps.{Row, kept_out, owned_then}
-use Rattle.robots_c.proofs.WalkSteps.{Good, Heap, heap_slot, hears, lent, pointer_slot, slice_good}
-use Rattle.robots_c.proofs.WalkSteps.{status_val, tells}
-use Rattle.robots_c.specs.contracts.robots_site_robot.{ended, clauses}
-use Rattle.robots_c.specs.contracts.robots_site_robot.Key.{name as #self}
+use Rattle.robots_c.specs.contracts.robots_site_robot as self
 use Rattle.robots_c.proofs.robots_site_robot.Statement.{statement}
 use Rattle.robots_c.proofs.robots_site_robot.Code as code
 
-abbrev Opened : List ℕ → List ℕ → (Row Robots).Denot → Type 0
-Opened site agent r = r.status ≡ pos 0 → GivesRobot agent site (λ robot. r.value ≡ Some robot)
-
-abbrev Why : List ℕ → List ℕ → (Row Robots).Denot → ℕ → ℕ → Type 0
-Why site agent r old new = HasFaultAt (IsWhyNoRobot agent site) r.status old new
-
 pub robots_site_robot_spec : {M : Type 1} → statement M
 robots_site_robot_spec 𝓤 𝓛 𝓜 𝓡 wired =
-    let H = 𝓛.H in let 𝓣 = tables 𝓤 H 𝓜 𝓡 𝓡.env in let R : RattleType = Robots in
-    let En = ended in let c = clauses 𝓛 𝓜.mem 𝓡.returns in let fn = code.function in
-    let hs : Stays En.signature.params En.kept = (
-      stay_dropped (heap_slot 3) yes,
+    let S = self.signature in let fn = code.function in
+    meets 𝓛 𝓜 𝓡 S (self.spec 𝓛 𝓜.mem 𝓡.returns) self.Key.name fn (code.unfolded 𝓤 𝓛.H 𝓜 𝓡 wired) (λ z are.
+    let a = z.0.3 in let vs = z.0.4 in let κ = z.1.0 in let q = z.1.1 in let x = z.1.2 in
+    let out = a.1.1.1.0 in let line = a.1.1.1.1.0 in
+    let κs : Lfts 3 = (κ, (z.0.0.0, (z.0.0.1.1.0, tt))) in
+    let given_at : ℕ → ℕ → Args callee.signature κs = λ b o. (
+      a.0,
       (
-        stay_dropped (pointer_slot 3) yes,
+        reference x b o,
         (
-          stay_dropped (SliceRefOf (0 ∷ []) tt (plain (λ _. u8)) (λ κs. tt)) yes,
-          (stay_ref (1 ∷ []) tt (pointer_slot 3), (gave_ref (2 ∷ []) tt (plain (λ _. usize)), tt)),
+          a.1.1.0,
+          (
+            out.now,
+            (line, tt),
+          ),
         ),
       ),
     ) in
-    proved_at 𝓛 En hs c 𝓜 𝓡 (
-      Goes-blank 𝓛 3 (heap_slot 3) yes (λ κs x f. tt),
+    let made : Lasts callee.ended κs (given_at 0 0) → Ptr → Lasts self.ended z.0.0 a = λ w p. (
+      tt,
       (
-        Goes-dropped 𝓛 3 (pointer_slot 3) yes (λ κs x f. refl),
+        tt,
         (
-          Goes-dropped 𝓛 3 (SliceRefOf (0 ∷ []) tt (plain (λ _. u8)) (λ κs. tt)) yes
-              (λ κs x f. refl),
-          (Goes-ref 𝓛 3 1 tt (pointer_slot 3), (Goes-gave_ref 𝓛 3 2 tt (plain (λ _. usize)), tt)),
+          tt,
+          (p, (w.1.1.1.1.0, tt)),
         ),
       ),
-    ) #self fn (code.unfolded 𝓤 H 𝓜 𝓡 wired) (λ z are.
-    let Post : Val → SProp 𝓤 = (walk_of 𝓛 En hs c).post z in
-    let α = z.0.0.0 in let β = z.0.0.1.0 in let γ = z.0.0.1.1.0 in
-    let qα = z.0.1.0 in let qβ = z.0.1.1.0 in let qγ = z.0.1.1.1.0 in
-    let a = z.0.3 in let g = a.0 in let at = a.1.0 in let agent = a.1.1.0 in let out = a.1.1.1.0 in
-    let line = a.1.1.1.1.0 in let p = out.now in let b = out.ref_ptr.0 in let o = out.ref_ptr.1 in
-    let κ = z.1.0 in let q = z.1.1 in let x = z.1.2 in
-    let vs = z.0.4 in
-    let e1 = shr_slice_Tells (named 0) α u8 agent vs.1.1.0 are.1.1.0 in
-    let e2 = mut_Tells (named 1) β RawPtr out vs.1.1.1.0 are.1.1.1.0 in
-    let e3 = mut_Tells (named 2) γ usize line vs.1.1.1.1.0 are.1.1.1.1.0 in
-    let good_p : (x : Ptr) → Good ty_ptr (ptr_val x) = λ x.
-    ((rawptr_Lawful 𝓛).typed x (ptr_val x ∷ []) refl).0 in
-    let Cell = λ (us : List Val). ‵ (cell_at full_share RawPtr.mir us b o) in
-    qed 𝓛 (((‵ (flft α qα) ⊛ ‵ (flft β qβ) ⊛ ‵ (flft γ qγ) ⊛ ‵ ftrue)
-    ⊛ ‵ (owns (types_at En.signature.params z.0.0) a vs)) ∷ (‵ (lent_at Sites at x κ) ⊛ ‵ (flft κ q)) ∷ []) ∵
-    move ! (1 ∷ []) $ lent ! Sites at x κ q (λ bs os e.
-    -- [the reference; κ; the rest]
-    move ! (2 ∷ []) $ split ! $ move ! (1 ∷ []) $ fsplit ! $ handle_tells Heap ! g vs.0 (λ h eh fits.
-    move ! (1 ∷ []) $ fsplit ! $ drop ! $ fsplit ! $ rewrite ! 0
-    (λ (ws : List Val). ‵ ((ShrSlice (named 0) α u8).own_val agent ws)) e1 refl $
-    move ! (1 ∷ []) $ fsplit ! $ move ! (1 ∷ []) $ fsplit ! $
-    rewrite ! 0 (λ (ws : List Val). ‵ ((MutRef (named 2) γ usize).own_val line ws)) e3 refl $
-    -- [`line`; true; `out`; `agent`; the allocator; the lifetime tokens; the reference; κ]
-    move ! (5 ∷ []) $ split ! $ move ! (1 ∷ []) $ split ! $ move ! (1 ∷ []) $ split ! $
-    move ! (6 ∷ 2 ∷ 1 ∷ 0 ∷ 3 ∷ []) $
-    -- [`out`; β; true; γ; α; `line`; true; `agent`; the allocator; the reference; κ]
-    let sa : Val = slice_val agent.ref_ptr (length agent.now) in
-    let sl : Val = vptr line.ref_ptr.0 line.ref_ptr.1 in
-    let ep : vs.1.0 ≡ vptr bs os ∷ [] = are.1.0 ∙ ap (λ (p : Ptr). ptr_val p ∷ []) e in
-    let ws : List Val = h ∷ vptr bs os ∷ sa ∷ vptr b o ∷ sl ∷ [] in
-    regoal ! (λ (us : List Val). prop (WpFn 𝓤 H 𝓣.C 𝓣.Λ fn us Post))
-    (λ j. eh j ++ (ep j ++ (e1 j ++ (e2 j ++ (e3 j ++ []))))) refl $
-    enter ! 𝓣.C 𝓣.Λ fn ws Post $ alloc_all !
-    (λ l. pass_all ! refl (
-      fits,
-      (
-        (tt, tt),
-        (
-          slice_good (named 0) imm w8 agent.ref_ptr _ are.1.1.0.0.1.0,
-          ((tt, tt), ((tt, tt), tt)),
-        ),
-      ),
-    ) $
-    sets ! (of_opd ! (get ! refl)) refl (tt, tt) $
-    sets ! (addr ! (through ! refl (stop !))) refl (tt, tt) $
-    fsplit3 ! $ move ! (1 ∷ 2 ∷ 3 ∷ []) $ opens ! tt RawPtr b o (λ us. move ! (1 ∷ []) $
-    feq_l ! (λ eus. rewrite ! 0 Cell eus refl $
-    -- [the cell; the open borrow, in three entries; the pointer; true; γ; α; `line`; true; `agent`; the
-    -- allocator; the reference; κ]
-    sets ! (of_opd ! (load ! (through ! refl (stop !)) (look ! 0 refl))) refl (good_p p) $
-    sets ! (of_opd ! (get ! refl)) refl (good_p p) $
-    sets ! (addr ! (through ! refl (stop !))) refl (tt, tt) $
-    nothing ! $ move ! (9 ∷ 0 ∷ []) $ fjoin ! $
-    feq_i ! (List Val) (ptr_val p ∷ []) (ptr_val p ∷ []) refl $ fjoin ! $
-    move ! (10 ∷ 0 ∷ []) $ fjoin ! $ move ! (11 ∷ 0 ∷ []) $ fjoin ! $ move ! (10 ∷ 0 ∷ []) $ fjoin ! $
-    move ! (6 ∷ []) $ move ! (7 ∷ 0 ∷ []) $ join ! $ move ! (7 ∷ 0 ∷ []) $ join ! $ move ! (8 ∷ 0 ∷ []) $
-    join ! $ join ! $ nothing ! $ move ! (1 ∷ 0 ∷ []) $ join ! $
-    let k = triple_of 𝓛 callee.signature (callee.spec 𝓛 𝓜.mem 𝓡.returns) in
-    let rf : Bor (List ℕ) = record { ref_ptr = (bs, os); now = x } in
-    let κs : Lft × (Lft × (Lft × Unit {0})) = (κ, (α, (γ, tt))) in
-    let args : Args callee.signature κs = (g, (rf, (agent, (p, (line, tt))))) in
-    let y : k.Ghost = (
+    ) in
+    let rest : ℤ → Ptr → ℕ → SProp 𝓤 = λ r p n. sep 𝓤 (fact 𝓤 (r ≢ pos 0 → p ≡ out.now))
+    (fact 𝓤 (HasFaultAt (IsWhyNoRobot a.1.1.0.now x) r line.now n)) in
+    let E : ℤ → Lasts self.ended z.0.0 a → SProp 𝓤 = λ r w. sep 𝓤
+    (sem 𝓛 (opens Robots (IsRobotFor a.1.1.0.now x) r w.1.1.1.0))
+    (rest r w.1.1.1.0 w.1.1.1.1.0) in
+    qed 𝓛 (context 𝓛 Sites a.1.0 x κ q S z.0 []) ∵
+    and_nothing 𝓛 (lends 𝓛 𝓜 𝓡 Sites a.1.0 x κ q (_ ∷ []) _ _ fn _ (lasts self.ended z.0.0 a) E (λ b o e.
+    let words_with : Word → List Word = λ w. heap 𝓛 a.0 vs.0 are.0 ∷ lent_place are.1.0 e
+    ∷ slice are.1.1.0.0.0 are.1.1.0.0.1.0 ∷ w ∷ place are.1.1.1.1.0.0 ∷ [] in
+    let words = words_with (place are.1.1.1.0.0) in let given_words = words_with (pointer 𝓛 out.now) in
+    opens_out 𝓛 𝓜 𝓡 Robots (named 1) z.0.0.1.0 z.0.1.1.0 out (flft κ q ∷ flft z.0.0.0 z.0.1.0
+    ∷ []) (tokens 1 z.0.0.1.1 z.0.1.1.1)
+    (lasts self.ended z.0.0 a) E made (lasts callee.ended κs (given_at 0 0))
+    (λ r w. sep 𝓤 (fact 𝓤 (r.status ≡ pos 0 → GivesRobot a.1.1.0.now x (λ robot. r.value ≡ Some robot)))
+    (rest r.status r.at w.1.1.1.1.0)) (ftrue ∷ ftrue ∷ ftrue ∷ [])
+    (λ w. fsep (last_value usize z.0.0.1.1.0 line w.1.1.1.1.0) ftrue)
+    (λ w. id⊢ 𝓤 _) (λ w p. id⊢ 𝓤 _) (λ r w. owned_now 𝓛 𝓜 𝓡 Robots (IsRobotFor a.1.1.0.now x)
+    (r.status ≡ pos 0 → GivesRobot a.1.1.0.now x (λ robot. r.value ≡ Some robot))
+    (rest r.status r.at w.1.1.1.1.0) r (λ is. is))
+    (_ ∷ _ ∷ _ ∷ []) _ _ _ _ fn given_words words
+    (met 𝓤 𝓛 𝓜 𝓡 (code.calls-robots_c::site::robot_opened 𝓡.env wired) (
       (
         κs,
-        (q, (qα, (qγ, tt))),
+        (q, (z.0.1.0, (z.0.1.1.1.0, tt))),
         tt,
-        args,
-        (h ∷ [], (vptr bs os ∷ [], (sa ∷ [], (ptr_val p ∷ [], (sl ∷ [], tt))))),
+        given_at b o,
+        (vs.0, (vs.1.0, (vs.1.1.0, (ptr_val out.now ∷ [], (vs.1.1.1.1.0, tt))))),
       ),
       tt,
-    ) in
-    use1 𝓛 (raw (k.pre y)) (id⊢ 𝓤 _) $
-    calls_at ! (framed 𝓤 H 𝓜 𝓣) k (met 𝓤 𝓛 𝓜 𝓡 (code.calls-robots_c::site::robot_opened 𝓡.env wired)) y
-    (and_then ! (get ! refl) (and_then ! (get ! refl) (and_then ! (get ! refl) (and_then !
-    (get ! refl) (and_then ! (get ! refl) (no_more !)))))) (λ u.
-    use1 𝓛 (later (some (λ (r : (Row R).Denot). ((‵ (flft κ q) ⊛ ‵ (flft α qα) ⊛ ‵ (flft γ qγ)
-    ⊛ ‵ ftrue) ⊛ ‵ ((Row R).own_val r (u ∷ []))) ⊛ some (λ (ls : Lasts callee.ended κs args).
-    ‵ (lasts callee.ended κs args ls) ⊛ (raw (fact 𝓤 (Opened x agent.now r))
-    ⊛ (raw (fact 𝓤 (r.status ≢ pos 0 → r.at ≡ p))
-    ⊛ raw (fact 𝓤 (Why x agent.now r line.now ls.1.1.1.1.0)))))))) (id⊢ 𝓤 (k.post y u)) $
-    await ! tt $ pick ! (λ r. split ! $ move ! (1 ∷ []) $ pick ! (λ ls. let w = ls.1.1.1.1.0 in
-    split ! $ move ! (1 ∷ []) $ hears ! (Opened x agent.now r) (λ opened.
-    hears ! (r.status ≢ pos 0 → r.at ≡ p) (λ kept. heard ! (Why x agent.now r line.now w) (λ why.
-    fsplit ! $ drop ! $ fsplit ! $ drop ! $ fsplit ! $ drop ! $ fsplit ! $ drop ! $ fsplit ! $
-    move ! (1 ∷ []) $ drop ! $
-    move ! (1 ∷ []) $ split ! $ move ! (1 ∷ []) $ kept_out R ! r (u ∷ []) (λ eu small.
-    -- [the kept value; the lifetime tokens; the final `line`; the cell; the open borrow, in three entries;
-    -- the pointer; true]
-    let n = r.status in let i : Val = status_val n in
-    let good_i : Good (ty_int w32) i = (tt, of_z_fits w32 n (record { sfits = small })) in
-    lands_as ! (ap only eu) refl (and_tt _ (good_p r.at).0, (good_i.1, ((good_p r.at).1, tt))) $
-    sets ! (of_opd ! (get_in ! (fld ! refl (stop !)) (sub ! 0 refl (whole !)))) refl good_i $
-    sets ! (of_opd ! (get_in ! (fld ! refl (stop !)) (sub ! 1 refl (whole !)))) refl (good_p r.at) $
-    sets ! (of_opd ! (get ! refl)) refl (good_p r.at) $
-    assigns ! (of_opd ! (get ! refl)) (through ! refl (stop !)) (store ! 3 refl (good_p r.at)) $
-    sets ! (of_opd ! (get ! refl)) refl good_i $
-    feq_i ! (List Val) (ptr_val r.at ∷ []) (ptr_val r.at ∷ []) refl $ move ! (4 ∷ 0 ∷ 5 ∷ 6 ∷ 7 ∷ []) $
-    closes ! tt RawPtr r.at (ptr_val r.at ∷ []) b o $
-    -- [the observation; the borrow; β; the kept value; the lifetime tokens; the final `line`; the pointer;
-    -- true]
-    returns ! (look_at ! 0 refl) $ free_all ! refl $
-    fjoin ! $ move ! (5 ∷ 0 ∷ []) $ fjoin ! $
-    nothing ! $ move ! (5 ∷ 0 ∷ []) $ fjoin ! $ move ! (1 ∷ 0 ∷ []) $ fjoin ! $ nothing ! $ fjoin ! $
-    nothing ! $ fjoin ! $ nothing ! $ fjoin ! $
-    -- [the parameters; β; the kept value; the lifetime tokens; true]
-    move ! (3 ∷ []) $ split ! $ move ! (1 ∷ []) $ split ! $ move ! (4 ∷ 1 ∷ []) $ join ! $
-    move ! (1 ∷ 0 ∷ []) $ join ! $
-    -- [the lifetime tokens; κ; the parameters; the kept value; true]
-    move ! (3 ∷ []) $ use1 𝓛 (‵ (fall (n ≡ pos 0) (λ _. opened_at R (IsRobotFor agent.now x) r.at)))
-    (owned_then R 𝓛 (IsRobotFor agent.now x) r.at r.value (n ≡ pos 0) opened) $
-    move ! (0 ∷ 2 ∷ []) $ join ! $ tells ! why $ tells ! kept $
-    owned ! i32 _ (sint_Makes 𝓛 w32) n _ (refl, small) $ keep ! (2 ∷ 3 ∷ 0 ∷ 1 ∷ []) $
-    by ! (leaves 𝓛 En hs c z i n (tt, (tt, (tt, (r.at, (w, tt)))))
-    (tt, (tt, (tt, (tt, (tt, tt)))))))))))))))))))
+    ))
+    (λ X Q given. enter ! _ _ _ _ _ $ alloc_all ! (λ l. pass_all ! refl (goods words) $ await ! tt $ split ! $
+    sets ! (of_opd ! (get ! refl)) refl (tt, tt) $
+    sets ! (addr ! (through ! refl (stop !))) refl (tt, tt) $
+    sets ! (of_opd ! (load ! (through ! refl (stop !)) (look ! 0 refl))) refl (pointer_typed 𝓛 out.now) $
+    sets ! (of_opd ! (get ! refl)) refl (pointer_typed 𝓛 out.now) $
+    sets ! (addr ! (through ! refl (stop !))) refl (tt, tt) $
+    move ! (1 ∷ []) $ hands_on 𝓛 𝓜 𝓡 ! given (and_then ! (get ! refl) (and_then ! (get ! refl)
+    (and_then ! (get ! refl) (and_then ! (get ! refl) (and_then ! (get ! refl) (no_more !))))))
+    (λ u r is. let p = pointer_typed 𝓛 r.at in let n = status_typed r.status is.1 in
+    lands_as ! is.0 refl (and_tt _ p.0, (n.1, (p.1, tt))) $
+    sets ! (of_opd ! (get_in ! (fld ! refl (stop !)) (sub ! 0 refl (whole !)))) refl n $
+    sets ! (of_opd ! (get_in ! (fld ! refl (stop !)) (sub ! 1 refl (whole !)))) refl p $
+    sets ! (of_opd ! (get ! refl)) refl p $
+    assigns ! (of_opd ! (get ! refl)) (through ! refl (stop !)) (store ! 1 refl p) $
+    sets ! (of_opd ! (get ! refl)) refl n $
+    returns ! (look_at ! 0 refl) $ free_all ! refl $ wrote 𝓛 𝓜 𝓡 Robots out Q r is.1))))))

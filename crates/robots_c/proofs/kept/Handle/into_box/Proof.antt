@@ -2,7 +2,7 @@
 use Rattle.std.proofs.Common.{◌≡◌, List, [], ◌∷◌, ◌++◌, refl, sym, ap, subst}
 use lib.Dec.{T as IsT}
 use mathlib.Core.Bool.{true, ◌&&◌}
-use mir.Syntax.{a_type, dcons, dnil, impl, tcons, tnil}
+use mir.Syntax.{a_type, dcons, dnil}
 use mir.Raw.{raw as bare}
 use mir.MapTy.{inst_fn}
 use mir.Val.{Val, vptr, vstruct, vcons, vnil, of_list, has_ty, WT}
@@ -19,14 +19,12 @@ use types.Part.{sub, whole}
 use contract.Monad.{fact, fact_i}
 use contract.BorrowLft.{◌⊑◌}
 use contract.Running.{tables}
-use denote.Exit.{no}
 use denote.RattleType.{RattleType, owns}
 use denote.RawPtr.{Ptr, block_ptr, null_ptr, ptr_val, in_a_block}
 use denote.Memory.{lone}
 use denote.Signature.{types_at, plain}
 use denote.Steps.{nothing, only}
-use denote.Param.{arg, bounded, layout, param}
-use denote.Param.Laws.{Laws, arg_laws}
+use denote.Param.{bounded, layout, param}
 use denote.Param.NoDrop as NoDrop
 use denote.Triple.Clauses.{Lasts, lasts}
 use denote.Triple.Spec.{triple_of}
@@ -40,14 +38,12 @@ use Rattle.std_alloc.specs.Box.Ownership.{box_owns}
 use Rattle.std_alloc.proofs.BoxSteps.Form as box
 use Rattle.std_alloc.proofs.BoxSteps.Steps.{box_out, box_in}
 use Rattle.std_alloc.proofs.ResultValues.{and_tt}
-use Rattle.std.specs.contracts.alloc.Global as Global
-use Rattle.std.proofs.alloc.Global.TheLaws as Global-laws
-use Rattle.std.specs.contracts.impls.GlobalAllocator.TheImpl as TheImpl
 use Rattle.std.proofs.impls.GlobalAllocator.TheImpl.Met as heap
 use Rattle.std_alloc.specs.contracts.boxed.Box.from_raw as callee
 use Rattle.std_alloc.proofs.boxed.Box.from_raw.Met.{met}
 use Rattle.robots_c.specs.contracts.kept.Handle as Handle
-use Rattle.robots_c.proofs.WalkSteps.{Good}
+use Rattle.robots_c.proofs.Borrowing.{Good}
+use Rattle.robots_c.proofs.Keeping.{heap_box}
 use Rattle.robots_c.specs.contracts.kept.Handle.into_box.{ended, clauses}
 use Rattle.robots_c.specs.contracts.kept.Handle.into_box.Key.{name as #self}
 use Rattle.robots_c.proofs.kept.Handle.into_box.Statement.{statement}
@@ -58,22 +54,8 @@ pub into_box_spec : {M : Type 1} → statement M
 unfolding none.code
 into_box_spec {M = M} 𝓤 𝓛 𝓜 𝓡 wired T L dx glue =
     let H = 𝓛.H in let 𝓣 = tables 𝓤 H 𝓜 𝓡 𝓡.env in
-    let A : RattleType = arg (bare (layout Global.the_row)) no Global.the_row in
-    let LA : Laws A = arg_laws (bare
-    (layout Global.the_row)) no Global.the_row Global-laws.the_row_laws refl in
-    let g = TheImpl.ghosts in let d = TheImpl.dict in
-    let dd = impl ("robots_c::Destruct++none::drop" ∷ []) (tcons (layout A) tnil) dnil in
-    let E : box.Bx = record {
-      row = T;
-      laws = L;
-      al = record {
-        row = A;
-        laws = LA;
-        g = g;
-        d = d;
-        drops = dd;
-      };
-    } in
+    let E = heap_box T L in let A = E.al.row in let LA = E.al.laws in
+    let g = E.al.g in let d = E.al.d in let dd = E.al.drops in
     let R : RattleType = param 0 T in let B : RattleType = box.B E in
     let En = ended T dx in let c = clauses T dx 𝓛 𝓜.mem 𝓡.returns in
     let at = bounded (a_type ∷ []) (T, tt) (dcons dx dnil) in let fn = inst_fn at code.function in

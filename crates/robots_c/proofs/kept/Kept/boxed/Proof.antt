@@ -1,6 +1,6 @@
 -- `boxed` turns the box into a raw pointer, whose value C owns.
 use Rattle.std.proofs.Common.{◌≡◌, List, [], ◌∷◌, ◌++◌, Some, refl, sym, ap, ◌∙◌, subst}
-use mir.Syntax.{impl, tcons, tnil, dcons, dnil, a_type, w32, ty_int}
+use mir.Syntax.{dcons, dnil, a_type, w32, ty_int}
 use mir.Raw.{raw as bare}
 use mir.MapTy.{inst_fn}
 use mir.Val.{Val, vptr, vint, of_z, has_ty, WT}
@@ -26,9 +26,8 @@ use denote.RattleType.{RattleType, owns}
 use denote.RawPtr.{Ptr, block_ptr, null_ptr, ptr_val, in_a_block}
 use denote.Signature.{types_at, plain}
 use denote.Steps.{nothing, only}
-use denote.Param.{arg, layout, bounded, param}
+use denote.Param.{bounded, param}
 use Rattle.std_alloc.specs.contracts.boxed.Box as Box
-use denote.Param.Laws.{Laws, arg_laws}
 use denote.Param.NoDrop as NoDrop
 use denote.Triple.Clauses.{Lasts, lasts}
 use denote.Triple.Spec.{triple_of}
@@ -42,12 +41,10 @@ use Rattle.std_alloc.proofs.BoxSteps.Form as box
 use Rattle.std_alloc.proofs.BoxSteps.Steps.{box_out, box_in}
 use Rattle.std_alloc.proofs.ResultValues.{and_tt}
 use Rattle.std.specs.contracts.alloc.Global as Global
-use Rattle.std.proofs.alloc.Global.TheLaws as Global-laws
-use Rattle.std.specs.contracts.impls.GlobalAllocator.TheImpl as TheImpl
 use Rattle.std.proofs.impls.GlobalAllocator.TheImpl.Met as heap
 use Rattle.std_alloc.specs.contracts.boxed.Box.into_raw as callee
 use Rattle.std_alloc.proofs.boxed.Box.into_raw.Met.{met}
-use Rattle.robots_c.proofs.KeptSteps.{word, kept_in}
+use Rattle.robots_c.proofs.Keeping.{heap_box, word, kept_in}
 use Rattle.robots_c.specs.contracts.kept.Kept.boxed.{ended, clauses}
 use Rattle.robots_c.specs.contracts.kept.Kept.boxed.Key.{name as #self}
 use Rattle.robots_c.proofs.kept.Kept.boxed.Statement.{statement}
@@ -58,23 +55,9 @@ pub boxed_spec : {M : Type 1} → statement M
 unfolding none.code
 boxed_spec {M = M} 𝓤 𝓛 𝓜 𝓡 wired T L dx glue =
     let H = 𝓛.H in let 𝓣 = tables 𝓤 H 𝓜 𝓡 𝓡.env in
-    let A : RattleType = arg (bare (layout Global.the_row)) no Global.the_row in
-    let LA : Laws A = arg_laws (bare
-    (layout Global.the_row)) no Global.the_row Global-laws.the_row_laws refl in
-    let g = TheImpl.ghosts in let d = TheImpl.dict in
-    let dd = impl ("robots_c::Destruct++none::drop" ∷ []) (tcons (layout A) tnil) dnil in
-    let E : box.Bx = record {
-      row = T;
-      laws = L;
-      al = record {
-        row = A;
-        laws = LA;
-        g = g;
-        d = d;
-        drops = dd;
-      };
-    } in
-    let R : RattleType = param 0 T in let B : RattleType = Box.the_row R Global.the_row TheImpl.ghosts in
+    let E = heap_box T L in let A = E.al.row in let LA = E.al.laws in
+    let g = E.al.g in let d = E.al.d in let dd = E.al.drops in
+    let R : RattleType = param 0 T in let B : RattleType = Box.the_row R Global.the_row g in
     let En = ended T dx in let c = clauses T dx 𝓛 𝓜.mem 𝓡.returns in
     let at = bounded (a_type ∷ []) (T, tt) (dcons dx dnil) in let fn = inst_fn at code.function in
     let hs : Stays En.signature.params En.kept = (

@@ -24,7 +24,7 @@ use denote.Param.{bounded, param}
 use denote.Triple.Walked.{Stays, stay_dropped, Goes-dropped, walk_of}
 use Rattle.std.proofs.raw_atomic.Walks.{proved_at, leaves}
 use Rattle.std_alloc.proofs.ResultValues.{and_tt}
-use Rattle.robots_c.proofs.KeptSteps.{word, kept_in}
+use Rattle.robots_c.proofs.Keeping.{word, kept_in}
 use Rattle.robots_c.specs.contracts.kept.Kept.nothing.{ended, clauses}
 use Rattle.robots_c.specs.contracts.kept.Kept.nothing.Key.{name as #self}
 use Rattle.robots_c.proofs.kept.Kept.nothing.Statement.{statement}
