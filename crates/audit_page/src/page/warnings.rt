@@ -218,6 +218,7 @@ fn known_row(alloc: Global, cause: Cause) -> Result<KnownRow, AllocError>
     })
 }
 
+/// Whether the causes are the same.
 fn are_same(one: Cause, other: Cause) -> bool
     ensures { IsTrue result → one ≡ other }
 {
