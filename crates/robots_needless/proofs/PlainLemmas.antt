@@ -11,17 +11,17 @@ use Rattle.std.specs.Cmp.Lexicographic.{bytes_decides, on_texts, pointwise}
 use Rattle.std.specs.Ordering.{is_lt, nat_cmp, ordering_then}
 use Rattle.std.specs.declared.cmp.Ordering.{Ordering}
 use Rattle.std.proofs.Math.Dec.{eqb}
-use Rattle.std.proofs.lemmas.Bool.{cases_lt, eq-eqb, false≢true}
+use Rattle.std.proofs.lemmas.Bool.{cases_lt, eq-eqb}
 use Rattle.std.proofs.lemmas.Cmp.{back_total, nat_cmp_total, nat_list_cmp_total, on_total, then_total}
 use Rattle.std.proofs.lemmas.Cmp.{tied_itself}
 use Rattle.std.proofs.lemmas.List.{get_or_append_left, get_or_push, length_push, take-append-drop}
 use Rattle.std.proofs.lemmas.List.{take_at}
-use Rattle.std.proofs.lemmas.List.Elements.{All-contains, Contains-append_cases, Contains-append_left}
+use Rattle.std.proofs.lemmas.List.Elements.{Contains-append_cases, Contains-append_left}
 use Rattle.std.proofs.lemmas.List.Elements.{Contains-append_right, Contains-push, Contains-push_cases}
 use Rattle.std.proofs.lemmas.List.MinMax.{ranks_by}
 use Rattle.std.proofs.lemmas.List.Sorted.{IsPermutation-append_left, IsPermutation-append_right}
 use Rattle.std.proofs.lemmas.List.Sorted.{IsPermutation-refl, IsPermutation-trans, sorted_far}
-use Rattle.texting_robots.specs.Pattern.{IsOverlong, Matches, MatchesWith, dollar}
+use Rattle.texting_robots.specs.Pattern.{Matches, MatchesWith}
 use Rattle.texting_robots.specs.Rules.{PlacedRule}
 use Rattle.texting_robots.proofs.{OrderLemmas.cmp_less, OrderLemmas.cmp_same, PatternLemmas.in_front}
 use Rattle.robots_needless.specs.Internal.{AreDescending, AreLeft, AreNear, IsAfter, IsNoRival}
@@ -29,12 +29,6 @@ use Rattle.robots_needless.specs.Internal.{IsPlain}
 use Rattle.robots_needless.specs.Internal.{IsPlainByte, rule_cmp}
 use Rattle.robots_needless.specs.Needless.{AreApart, rank_of}
 use Rattle.robots_needless.proofs.{TogetherLemmas.rest_to_front}
-
--- ---- a plain pattern has no dollar
-
-pub plain_accepted : (pattern : List ℕ) → All IsPlainByte pattern → ¬ IsOverlong pattern
-plain_accepted pattern plain (has, long) =
-    absurd (false≢true (sym (All-contains IsPlainByte pattern dollar plain has).1))
 
 -- ---- a plain pattern matches the texts that begin with it
 

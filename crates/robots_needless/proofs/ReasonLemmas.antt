@@ -4,12 +4,10 @@ use Rattle.std.proofs.Common.{List, [], ◌∷◌, ◌++◌, subst, arith}
 use Rattle.std.specs.List.{Contains}
 use Rattle.std.proofs.lemmas.List.Elements.{Contains-append_cases, Contains-append_left}
 use Rattle.std.proofs.lemmas.List.Elements.{Contains-append_right}
-use Rattle.texting_robots.specs.Line.{LineValue}
 use Rattle.texting_robots.specs.Rules.{PlacedRule, Rule, unplaced}
-use Rattle.texting_robots.specs.Executable.{placed_rules}
-use Rattle.texting_robots.proofs.{BestLemmas.placed_of, HeldLemmas.computed_are}
+use Rattle.texting_robots.proofs.{BestLemmas.placed_of}
 use Rattle.robots_needless.specs.Internal.{AreNear, CanGo, CanReplace, HasNoRival, IsNoRival}
-use Rattle.robots_needless.specs.Needless.{AreDistinct, Overrules}
+use Rattle.robots_needless.specs.Needless.{Overrules}
 use Rattle.robots_needless.proofs.TogetherLemmas.{unplaced_of}
 
 -- a rule of two lists is one of the first or of the second
@@ -99,8 +97,3 @@ covered_goes others floor rule other none listed is =
 pub allow_goes : (others : List Rule) (floor : ℕ) (rule : Rule) → HasNoRival others floor rule → floor ≡ 0
     → rule.1 ≡ true → CanGo others rule
 allow_goes others floor rule none is allows = inr (inl (allows, rw is at none))
-
--- ---- the rules of a crawler
-
-pub placed_distinct : (agent : List ℕ) (lines : List LineValue) → AreDistinct (placed_rules agent lines)
-placed_distinct agent lines = (computed_are agent lines).once

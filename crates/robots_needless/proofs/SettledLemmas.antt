@@ -138,9 +138,6 @@ module _ (rules left : List PlacedRule) (found : List NeedlessRule) (old new : R
     stay = λ placed has. lines_stay.added placed has;
   }
 
-  pub they_grow : Grow old new stayed stays
-  they_grow = record { found = adds.more; lines = lines_stay.more }
-
   pub reasons_by : (lines : List LineValue) (agent : List ℕ) → rules ≡ placed_rules agent lines
       → All (IsFound rules) found → AreReasons lines old → AreReasons lines new
   reasons_by lines agent are all before line reason at = elim (adds.only line reason at) [

@@ -15,12 +15,13 @@ struct Kinds {
     starred: Vec<Rule>,
 }
 
-/// The plain rules and the others.
+/// The plain rules and the others, each in order.
 fn kinds_of(alloc: Global, rules: Vec<Rule>) -> Result<Kinds, AllocError>
     ensures all { IfOk result (λ kinds. IsPermutation rules.items (kinds.starred.items ++ kinds.plain.items)) }
     ensures plain { IfOk result (λ kinds. All IsPlain kinds.plain.items) }
 {
     let mut rest = rules;
+    rest.reverse();
     let mut plain = Vec::new(alloc);
     let mut starred = Vec::new(alloc);
     while let Some(rule) = rest.pop() {
