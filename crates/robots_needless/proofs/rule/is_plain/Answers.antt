@@ -2,8 +2,8 @@ use Rattle.std.proofs.Common.{All, subst}
 use Rattle.std.proofs.lemmas.Bool.{ne_eqb}
 use Rattle.std.proofs.lemmas.List.{take_all}
 use Rattle.std.proofs.lemmas.List.Elements.{All-more}
-use Rattle.robots_needless.specs.Prefixes.{IsPlainByte}
-use Rattle.robots_needless.proofs.prefixes.is_plain.Goals as goal
+use Rattle.robots_needless.specs.Internal.{IsPlainByte}
+use Rattle.robots_needless.proofs.rule.is_plain.Goals as goal
 
 pub loop-byte-preserved : goal.loop-byte-preserved
 loop-byte-preserved c =
