@@ -3,6 +3,7 @@ use std::fmt::Debug;
 use std::process::Abort;
 use texting_robots::view::View;
 use texting_robots::{Decision, Robot};
+use url::Url;
 
 /// The crawler of the cases that don't name one.
 pub const BOB: &str = "BobBot";
@@ -101,7 +102,14 @@ pub fn check_prepared(rt: &impl Abort, name: &str, robot: &Robot, text: &str, wa
     assert!(rt; answers == [want; 3], "{name}: {text:.60}: {answers:?}");
 }
 
-/// Checks the verdicts on a URL and on its match target.
+/// Checks the verdict on a parsed URL, if the text is one.
+fn check_parsed(rt: &(impl Abort + AllocGlobal), name: &str, robot: &Robot, url: &str, want: bool) {
+    if let Ok(parsed) = Url::parse(rt.alloc(), url) {
+        check_verdict(rt, name, url, robot.allowed_url(&parsed), want);
+    }
+}
+
+/// Checks the verdicts on a URL, parsed and not, and on its match target.
 pub fn check_url(
     rt: &(impl Abort + AllocGlobal),
     name: &str,
@@ -111,6 +119,7 @@ pub fn check_url(
 ) {
     let answer = robot.allowed(rt.alloc(), url).expect(rt, name);
     check_verdict(rt, name, url, answer, want);
+    check_parsed(rt, name, robot, url, want);
     check_prepared(rt, name, robot, prepared(rt, name, url).as_str(), want);
 }
 
@@ -141,6 +150,14 @@ pub fn check_decisions(
             line: *line,
         };
         check_decision(rt, name, robot, url, want);
+    }
+}
+
+/// Checks the sitemaps.
+pub fn check_sitemaps(rt: &impl Abort, name: &str, sitemaps: &[String], want: &[&str]) {
+    check_equal(rt, name, &sitemaps.len(), &want.len());
+    for (sitemap, want) in sitemaps.iter().zip(want) {
+        check_text(rt, name, sitemap.as_str(), want);
     }
 }
 

@@ -1,5 +1,5 @@
 //! A file that is read once for all crawlers, and what it means for each crawler.
-use crate::helpers::{BOB, TextParts, check, check_equal, long_text, robot_of};
+use crate::helpers::{BOB, TextParts, check, check_equal, check_sitemaps, long_text, robot_of};
 use std::process::Abort;
 use texting_robots::{Decision, Error, Robot, Site};
 
@@ -58,14 +58,6 @@ const CRAWLERS: &[CrawlerCase] = &[
 
 fn site_of(rt: &(impl Abort + AllocGlobal), name: &str, file: &[u8]) -> Site {
     Site::new(rt.alloc(), file).expect(rt, name)
-}
-
-/// Checks the sitemaps.
-fn check_sitemaps(rt: &impl Abort, name: &str, sitemaps: &[String], wanted: &[&str]) {
-    check_equal(rt, name, &sitemaps.len(), &wanted.len());
-    for (position, sitemap) in sitemaps.iter().enumerate() {
-        check(rt, name, wanted.get(position) == Some(&sitemap.as_str()));
-    }
 }
 
 fn check_crawler(rt: &(impl Abort + AllocGlobal), site: &Site, case: &CrawlerCase) {

@@ -1,24 +1,13 @@
 //! Long files and long texts: each call succeeds, and none returns `Error::Memory`.
 use crate::helpers::{
-    BOB, TextParts, check, check_equal, check_no_delay_or_sitemap, check_nothing, check_prepared,
-    check_text, check_url, indented, long_robot, long_text, robot_of,
+    BOB, TextParts, check, check_equal, check_no_delay_or_sitemap, check_nothing, check_text,
+    check_url, long_robot, long_text, robot_of,
 };
 use crate::lines::check_lines;
-use crate::patterns::{check_looks, check_match, regex_of};
+use crate::patterns::{check_match, regex_of};
 use crate::urls::{check_address, check_prepared_text};
 use std::process::Abort;
-use texting_robots::Robot;
 use texting_robots::parser::{Line, robots_txt_parse};
-use texting_robots::view::View;
-
-/// A file and a match target, whether it may be fetched, and the maximum number of looks for the verdict.
-struct LookCase {
-    name: &'static str,
-    file: TextParts,
-    text: TextParts,
-    allowed: bool,
-    most: u64,
-}
 
 /// A name, a text, and its only line.
 const ONE_LINE: &[(&str, TextParts, Line<'static>)] = &[
@@ -35,37 +24,6 @@ const ONE_LINE: &[(&str, TextParts, Line<'static>)] = &[
     ),
 ];
 
-const LOOKS: &[LookCase] = &[
-    LookCase {
-        name: "look_count",
-        file: &[("Disallow: /*aaaab", 1)],
-        text: &[("/", 1), ("a", 1000)],
-        allowed: true,
-        most: 2_002,
-    },
-    LookCase {
-        name: "long_segment",
-        file: &[("Disallow: /*", 1), ("a", 2000), ("b", 1)],
-        text: &[("/", 1), ("a", 100_000)],
-        allowed: true,
-        most: 200_002,
-    },
-    LookCase {
-        name: "many_rules",
-        file: &[("Disallow: /*aaaab\n", 1000)],
-        text: &[("/", 1), ("a", 1000)],
-        allowed: true,
-        most: 2_002_000,
-    },
-    LookCase {
-        name: "shorter_rules_are_passed_over",
-        file: &[("Allow: /*b\n", 1000), ("Disallow: /aaaa", 1)],
-        text: &[("/", 1), ("a", 1004)],
-        allowed: false,
-        most: 2_010,
-    },
-];
-
 /// Texts that a pattern of stars matches.
 const STARRED: &[&str] = &["", "/", "/x", "$", "/robots.txt"];
 
@@ -75,28 +33,6 @@ const LONG_URL: &[(&str, bool)] = &[
     ("Disallow: /*a$\nAllow: /aaaaaa", true),
     ("Disallow: /*ab", true),
 ];
-
-/// The number of looks that the robot's verdict takes.
-fn looks_of_verdict(robot: &Robot, text: &str) -> u64 {
-    let mut view = View::new(text);
-    robot.allowed_view(&mut view);
-    view.seen()
-}
-
-/// The number of looks that the robot's decision takes.
-fn looks_of_decision(robot: &Robot, text: &str) -> u64 {
-    let mut view = View::new(text);
-    robot.decision(&mut view);
-    view.seen()
-}
-
-/// Checks the verdict of a robot for this file, and counts the looks.
-fn check_case(rt: &(impl Abort + AllocGlobal), case: &LookCase, text: &str, file: &[u8]) {
-    let robot = robot_of(rt, case.name, BOB, file);
-    check_prepared(rt, case.name, &robot, text, case.allowed);
-    check_looks(rt, case.name, looks_of_verdict(&robot, text), case.most);
-    check_looks(rt, case.name, looks_of_decision(&robot, text), case.most);
-}
 
 #[test]
 fn long_texts_have_their_lines(rt: HostRuntime) {
@@ -153,28 +89,8 @@ fn long_urls(rt: HostRuntime) {
     let url = long_text(&rt, "url", &parts);
     check_equal(&rt, "length", &url.len(), &100_000);
     check_prepared_text(&rt, "path", url.as_str(), path.as_str());
-    check_address(
-        &rt,
-        "address",
-        url.as_str(),
-        "https://www.example.com/robots.txt",
-    );
+    check_address(&rt, url.as_str(), "https://www.example.com/robots.txt");
     check_long_url(&rt, url.as_str());
-}
-
-#[test]
-fn looks_are_bounded(rt: HostRuntime) {
-    for case in LOOKS {
-        let text = long_text(&rt, case.name, case.text);
-        let file = long_text(&rt, case.name, case.file);
-        check_case(&rt, case, text.as_str(), file.as_bytes());
-        check_case(
-            &rt,
-            case,
-            text.as_str(),
-            &indented(&rt, case.name, file.as_bytes()),
-        );
-    }
 }
 
 #[test]
@@ -193,7 +109,6 @@ fn a_million_nul_give_nothing(rt: HostRuntime) {
     check_nothing(&rt, "many_nul", &robot);
 }
 
-/// Nothing here allocates, so the test also passes in `rt try --test --fail-alloc 1`, where the first allocation fails.
 #[test]
 fn many_lf_give_nothing(rt: HostRuntime) {
     let robot = robot_of(&rt, "many_lf", BOB, &[b'\n'; 65_536]);

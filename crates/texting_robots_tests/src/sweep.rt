@@ -52,7 +52,7 @@ fn small_input(rt: &(impl Abort + AllocGlobal), number: u32) -> Vec<u8> {
 fn check_url(rt: &(impl Abort + AllocGlobal), text: &str) {
     check_prepared_text(rt, text, text, if text.is_empty() { "/" } else { text });
     let url = format!(in rt.alloc(); "http://a/{text}").expect(rt, text);
-    check_address(rt, text, url.as_str(), "http://a/robots.txt");
+    check_address(rt, url.as_str(), "http://a/robots.txt");
 }
 
 /// Checks the text as a file.

@@ -1,32 +1,25 @@
 //! The size limit of a file.
 use crate::helpers::{
-    BOB, Decisions, TextParts, check, check_decisions, check_equal, check_nothing, check_text,
+    BOB, Decisions, TextParts, check, check_decisions, check_equal, check_nothing, check_sitemaps,
     long_robot, long_text,
 };
 use std::process::Abort;
 use texting_robots::robot::FILE_LIMIT;
 use texting_robots::{Error, Robot};
 
-/// A file, its size limit, and the decisions with this limit.
-struct LimitCase {
-    name: &'static str,
-    file: TextParts,
-    limit: usize,
-    decisions: Decisions,
-}
-
-const CUT: &[LimitCase] = &[
-    LimitCase {
-        name: "in_the_value",
-        file: &[("Disallow: /abc", 1)],
-        limit: 13,
-        decisions: &[("/abx", false, Some(1)), ("/a", true, None)],
-    },
-    LimitCase {
-        name: "before_the_value",
-        file: &[("Disallow: /abc", 1)],
-        limit: 10,
-        decisions: &[
+/// A name, a file, its size limit, and the decisions with this limit.
+const CUT: &[(&str, TextParts, usize, Decisions)] = &[
+    (
+        "in_the_value",
+        &[("Disallow: /abc", 1)],
+        13,
+        &[("/abx", false, Some(1)), ("/a", true, None)],
+    ),
+    (
+        "before_the_value",
+        &[("Disallow: /abc", 1)],
+        10,
+        &[
             ("", true, Some(1)),
             ("/", true, Some(1)),
             ("/abc", true, Some(1)),
@@ -34,31 +27,31 @@ const CUT: &[LimitCase] = &[
             ("/robots.txt", true, None),
             ("https://example.com/a?b#c", true, Some(1)),
         ],
-    },
-    LimitCase {
-        name: "nowhere",
-        file: &[("Disallow: /abc", 1)],
-        limit: usize::MAX,
-        decisions: &[("/abx", true, None), ("/abc", false, Some(1))],
-    },
-    LimitCase {
-        name: "after_a_line_with_a_bom",
-        file: &[("\u{FEFF}Disallow: /a", 1)],
-        limit: 15,
-        decisions: &[("/a", false, Some(1)), ("/x", true, None)],
-    },
-    LimitCase {
-        name: "in_a_line_with_a_bom",
-        file: &[("\u{FEFF}Disallow: /a", 1)],
-        limit: 14,
-        decisions: &[("/x", false, Some(1))],
-    },
-    LimitCase {
-        name: "after_the_limit_of_new",
-        file: RULE_AFTER,
-        limit: 600_000,
-        decisions: &[("/a", false, Some(2))],
-    },
+    ),
+    (
+        "nowhere",
+        &[("Disallow: /abc", 1)],
+        usize::MAX,
+        &[("/abx", true, None), ("/abc", false, Some(1))],
+    ),
+    (
+        "after_a_line_with_a_bom",
+        &[("\u{FEFF}Disallow: /a", 1)],
+        15,
+        &[("/a", false, Some(1)), ("/x", true, None)],
+    ),
+    (
+        "in_a_line_with_a_bom",
+        &[("\u{FEFF}Disallow: /a", 1)],
+        14,
+        &[("/x", false, Some(1))],
+    ),
+    (
+        "after_the_limit_of_new",
+        RULE_AFTER,
+        600_000,
+        &[("/a", false, Some(2))],
+    ),
 ];
 
 /// A name, a file, and a limit with which the file has no rule, delay or sitemap.
@@ -98,19 +91,10 @@ fn limited(
     Robot::with_limit(rt.alloc(), BOB, file.as_bytes(), limit).expect(rt, name)
 }
 
-/// Checks the sitemaps.
-fn check_sitemaps(rt: &impl Abort, name: &str, sitemaps: &[String], want: &[&str]) {
-    check_equal(rt, name, &sitemaps.len(), &want.len());
-    for (sitemap, want) in sitemaps.iter().zip(want) {
-        check_text(rt, name, sitemap.as_str(), want);
-    }
-}
-
 #[test]
 fn lines_are_cut_at_the_limit(rt: HostRuntime) {
-    for case in CUT {
-        let robot = limited(&rt, case.name, case.file, case.limit);
-        check_decisions(&rt, case.name, &robot, case.decisions);
+    for (name, file, limit, decisions) in CUT {
+        check_decisions(&rt, name, &limited(&rt, name, file, *limit), decisions);
     }
 }
 

@@ -1,63 +1,19 @@
 //! Labeled lines, whether a file names a crawler, the first rule that is too long, and escaped bytes.
 use crate::helpers::{check, check_equal, check_text};
 use std::process::Abort;
-use texting_robots::labels::{
-    LabeledLine, Membership, first_overlong_line, is_named, labeled_lines,
-};
-use texting_robots::parser::Line;
+use texting_robots::labels::{Membership, first_overlong_line, is_named, labeled_lines};
+use texting_robots::parser::file_lines;
 use texting_robots::push_escaped_bytes;
 
 /// A rule before the first user-agent line, a group of two crawlers, and a group of another one.
 const FILE: &[u8] =
     b"Disallow: /x\nUser-agent: a\nUser-agent: B\nDisallow: /y\nUser-agent: c\nAllow: /z";
 
-/// Its lines, labeled for the crawler `b`.
-const LABELED: &[LabeledLine<'static>] = &[
-    LabeledLine {
-        number: 1,
-        membership: Membership::Ungrouped,
-        line: Line::Disallow(b"/x"),
-    },
-    LabeledLine {
-        number: 2,
-        membership: Membership::Own,
-        line: Line::UserAgent(b"a"),
-    },
-    LabeledLine {
-        number: 3,
-        membership: Membership::Own,
-        line: Line::UserAgent(b"B"),
-    },
-    LabeledLine {
-        number: 4,
-        membership: Membership::Own,
-        line: Line::Disallow(b"/y"),
-    },
-    LabeledLine {
-        number: 5,
-        membership: Membership::Other,
-        line: Line::UserAgent(b"c"),
-    },
-    LabeledLine {
-        number: 6,
-        membership: Membership::Other,
-        line: Line::Allow(b"/z"),
-    },
-];
-
-#[test]
-fn lines_are_labeled_for_an_agent(rt: HostRuntime) {
-    let mut lines = labeled_lines("b", FILE);
-    for want in LABELED {
-        check_equal(&rt, "line", &lines.next(), &Some(*want));
-    }
-    check_equal(&rt, "end", &lines.next(), &None);
-}
-
 /// A crawler, a file, and a character for each line: `+` in the crawler's group, `-` in another, a space in none.
 const GROUPS: &[(&str, &[u8], &[u8])] = &[
     // a group of several crawlers, for each of its names and for others
     ("a", FILE, b" +++--"),
+    ("b", FILE, b" +++--"),
     ("c", FILE, b" ---++"),
     ("d", FILE, b" -----"),
     // the group of `*` applies to every crawler that no line names
@@ -132,14 +88,26 @@ fn mask(membership: Membership) -> u8 {
     }
 }
 
-/// Checks the membership of each line.
+/// Checks that the lines of a file are numbered, and the membership of each.
 fn check_masks(rt: &impl Abort, agent: &str, file: &[u8], masks: &[u8]) {
-    let mut lines = labeled_lines(agent, file);
-    for told in masks {
-        let line = lines.next().expect(rt, agent);
-        check_equal(rt, agent, &mask(line.membership), told);
+    check_equal(rt, agent, &file_lines(file).count(), &masks.len());
+    let mut labeled = labeled_lines(agent, file);
+    for (position, line) in file_lines(file).enumerate() {
+        let found = labeled.next().expect(rt, agent);
+        check_equal(
+            rt,
+            agent,
+            &(found.number, found.line),
+            &(position + 1, line),
+        );
+        check_equal(
+            rt,
+            agent,
+            &Some(mask(found.membership)),
+            &masks.get(position).copied(),
+        );
     }
-    check(rt, agent, lines.next().is_none());
+    check(rt, agent, labeled.next().is_none());
 }
 
 /// Checks several files.

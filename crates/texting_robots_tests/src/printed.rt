@@ -18,9 +18,9 @@ fn errors_have_their_texts(rt: HostRuntime) {
     }
 }
 
-/// Checks whether the text contains the part.
-fn check_holds(rt: &impl Abort, text: &str, part: &str, want: bool) {
-    assert!(rt; text.contains(part) == want, "{part}: {text}");
+/// Checks that the text contains the part.
+fn check_holds(rt: &impl Abort, text: &str, part: &str) {
+    assert!(rt; text.contains(part), "{part}: {text}");
 }
 
 /// The file's robot, as printed.
@@ -28,47 +28,41 @@ fn text_of(rt: &(impl Abort + AllocGlobal), file: &[u8]) -> String {
     shown(rt, "text", &robot_of(rt, "robot", BOB, file))
 }
 
-/// Checks that the printed robot has its rule and its delay.
-fn check_rule_and_delay(rt: &(impl Abort + AllocGlobal), file: &[u8]) {
-    let text = text_of(rt, file);
-    check_holds(rt, text.as_str(), "/allow/", true);
-    check_holds(rt, text.as_str(), "Some(42000000)", true);
-}
-
+/// The longest rule is first, with all its stars.
 #[test]
-fn a_robot_shows_its_rules_and_delay(rt: HostRuntime) {
-    let file = b"Allow: /allow/\nCrawl-Delay: 42";
-    check_rule_and_delay(&rt, file);
-    check_rule_and_delay(&rt, &indented(&rt, "file", file));
-}
-
-#[test]
-fn a_robot_shows_what_a_rule_allows(rt: HostRuntime) {
-    let text = text_of(&rt, b"Allow: /open*");
-    check_holds(&rt, text.as_str(), "/open*", true);
-    check_holds(&rt, text.as_str(), "true", true);
-    check_holds(&rt, text.as_str(), "false", false);
-    let text = text_of(&rt, b"Disallow: /shut$");
-    check_holds(&rt, text.as_str(), "/shut$", true);
-    check_holds(&rt, text.as_str(), "false", true);
-    check_holds(&rt, text.as_str(), "true", false);
-}
-
-#[test]
-fn a_robot_shows_a_longer_rule_first_with_all_its_stars(rt: HostRuntime) {
-    let text = text_of(&rt, b"Allow: /\nDisallow: /x***y/");
-    check_holds(
+fn a_robot_shows_its_delay_sitemaps_and_rules(rt: HostRuntime) {
+    let file = b"Allow: /\nDisallow: /x***y$\nCrawl-Delay: 42\nSitemap: s";
+    let want =
+        "Robot { delay: Some(42000000), sitemaps: [\"s\"], rules: [(\"/x***y$\", false, 2), (\"/\", true, 1)] }";
+    check_text(&rt, "file", &text_of(&rt, file), want);
+    check_text(
         &rt,
-        text.as_str(),
-        "[(\"/x***y/\", false, 2), (\"/\", true, 1)]",
-        true,
+        "indented",
+        &text_of(&rt, &indented(&rt, "file", file)),
+        want,
+    );
+}
+
+/// Each of 101 equal rules takes fifteen bytes and its number, and a comma and a space before the next one.
+#[test]
+fn a_robot_shows_all_its_rules(rt: HostRuntime) {
+    let file = long_text(&rt, "file", &[("Disallow: /a\n", 101)]);
+    let text = text_of(&rt, file.as_bytes());
+    check_holds(&rt, &text, "[(\"/a\", false, 1), (\"/a\", false, 2), ");
+    check_holds(&rt, &text, ", (\"/a\", false, 101)] }");
+    let numbers = 9 + 2 * 90 + 3 * 2;
+    let before = "Robot { delay: None, sitemaps: [], rules: [".len();
+    check(
+        &rt,
+        "length",
+        text.len() == before + 101 * 15 + numbers + 100 * 2 + 3,
     );
 }
 
 /// Checks that the printed text has the pattern, but no failure table. That has a number for each byte of a segment, so
 /// the text would be more than twice as long.
 fn check_without_table(rt: &impl Abort, text: &str, pattern: &str) {
-    check_holds(rt, text, pattern, true);
+    check_holds(rt, text, pattern);
     check(rt, text, text.len() < 2 * pattern.len());
 }
 

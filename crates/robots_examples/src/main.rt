@@ -1,5 +1,16 @@
-//! Decides by a robots.txt file whether a crawler may fetch URLs: `may_fetch AGENT FILE URL..`
+//! Callers of the library `texting_robots`: a polite crawler, a link checker, a site audit, a cache of robots, and a
+//! single query of one file. Each has a contract that follows from the library's contracts and those of the crates that
+//! it uses. The program decides by a robots.txt file whether a crawler may fetch URLs:
+//! `robots_examples AGENT FILE URL..`
 #![tactic(auto)]
+
+pub mod audit;
+pub mod cache;
+pub mod crawler;
+pub mod link_check;
+pub mod single_query;
+#[cfg(test)]
+mod tests;
 
 use std::io::ErrorKind;
 use std::{env, fs, io};
@@ -20,13 +31,13 @@ fn main(rt: HostRuntime) -> io::Result<()> {
     let mut words = env::args(&rt)?;
     let _ = words.next();
     let (Some(agent), Some(path)) = (words.next(), words.next()) else {
-        return rt.eprintln("usage: may_fetch AGENT FILE URL..");
+        return rt.eprintln("usage: robots_examples AGENT FILE URL..");
     };
     let file = fs::read(&rt, path.as_str())?;
     let robot = match Robot::new(rt.alloc(), &agent, &file) {
         Ok(robot) => robot,
         Err(Error::Memory) => return Err(io::Error::from(ErrorKind::OutOfMemory)),
-        Err(_) => return rt.eprintln("may_fetch: the file can't be used, as a rule is too long"),
+        Err(_) => return rt.eprintln("robots_examples: a rule of the file is too long"),
     };
     for url in words {
         print_verdict(&rt, &robot, &url)?;

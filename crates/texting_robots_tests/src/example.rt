@@ -1,9 +1,8 @@
 //! An example: what a crawler does before it fetches a page.
-use crate::helpers::{check, check_equal, check_text};
+use crate::helpers::check_equal;
 use std::alloc::Global;
 use std::process::Abort;
-use texting_robots::{Error, Robot, get_robots_url};
-use url::ParseError;
+use texting_robots::{Error, Robot};
 
 /// What a crawler does about a page.
 #[derive(PartialEq, Eq, Debug, Drop)]
@@ -14,15 +13,6 @@ enum Plan {
     Leave,
     /// The file is rejected: a rule for this crawler is too long.
     Unusable,
-}
-
-/// The robots.txt address for a page, or `None` if the page isn't on a site.
-fn file_address(alloc: Global, page: &str) -> Result<Option<String>, Error> {
-    match get_robots_url(alloc, page) {
-        Ok(address) => Ok(Some(address)),
-        Err(ParseError::OutOfMemory | ParseError::Overflow) => Err(Error::Memory),
-        Err(_) => Ok(None),
-    }
 }
 
 /// What the crawler `FerrisBot` does about a page of the site with this file.
@@ -52,16 +42,6 @@ fn check_visit(rt: &(impl Abort + AllocGlobal), file: &[u8], page: &str, want: &
 
 #[test]
 fn a_crawler_plans_its_visit(rt: HostRuntime) {
-    let address = file_address(rt.alloc(), PAGE).expect(&rt, PAGE);
-    let address = address.expect(&rt, PAGE);
-    check_text(
-        &rt,
-        PAGE,
-        address.as_str(),
-        "https://example.com/robots.txt",
-    );
-    let none = file_address(rt.alloc(), "mailto:ferris@example.com").expect(&rt, "mail");
-    check(&rt, "mail", none.is_none());
     check_visit(&rt, FILE, PAGE, &Plan::Fetch(2_500_000));
     check_visit(&rt, FILE, "https://example.com/forest/tree", &Plan::Leave);
     check_visit(&rt, b"Crawl-delay: inf", PAGE, &Plan::Fetch(60_000_000));

@@ -72,7 +72,7 @@ pub fn check_copy(rt: &(impl Abort + AllocGlobal), name: &str, regex: &MinRegex)
 }
 
 /// Checks that there were at most this many looks.
-pub fn check_looks(rt: &impl Abort, name: &str, seen: u64, most: u64) {
+fn check_looks(rt: &impl Abort, name: &str, seen: u64, most: u64) {
     assert!(rt; seen <= most, "{name}: {seen} looks");
 }
 

@@ -1,6 +1,31 @@
-//! The values of delays.
-use crate::helpers::check_equal;
-use texting_robots::parser::read_delay;
+//! The values of lines and of delays.
+use crate::helpers::{check, check_equal};
+use texting_robots::parser::{Line, lines, read_delay};
+
+const LINES: &[u8] =
+    b"User-agent: A\nAllow: /b\nDisallow: /c\nDisallow:\nSitemap: d\nCrawl-delay: 1\nNoindex: /e";
+
+/// The value of each line.
+const VALUES: &[Option<&[u8]>] = &[
+    Some(b"A"),
+    Some(b"/b"),
+    Some(b"/c"),
+    Some(b"/"),
+    Some(b"d"),
+    None,
+    Some(b"Noindex: /e"),
+];
+
+#[test]
+fn a_line_has_the_bytes_that_it_holds(rt: HostRuntime) {
+    let mut lines = lines(LINES);
+    for want in VALUES {
+        let line = lines.next().expect(&rt, "line");
+        check_equal(&rt, "value", &line.value(), &(*want));
+    }
+    check(&rt, "end", lines.next().is_none());
+    check_equal(&rt, "delay", &Line::CrawlDelay(None).value(), &None);
+}
 
 /// The value of a Crawl-delay line, and the delay in microseconds.
 const NUMBERS: &[(&str, u64)] = &[
