@@ -13,6 +13,7 @@ import pytest
 ROOT = Path(__file__).resolve().parent.parent
 CRATES = ROOT / "crates"
 CC = os.environ.get("CC", "cc")
+SIZES = sorted({max(2**power + more, 1) for power in range(17) for more in (-1, 0, 1)})
 DOCUMENTS = {path.relative_to(ROOT).as_posix(): path.read_text() for path in [*sorted(ROOT.glob("*.md")), *sorted(ROOT.glob("docs/*.md"))]}
 
 

@@ -1,24 +1,20 @@
 """Each allocation of a program fails in turn, and so does each read and write: the program gives the right result or reports the
 failure, writes nothing else, and frees all that it allocated. If no allocation fails, none is reported, whatever the size of an input.
 
-The program robots_fault_injection makes each call of the libraries that its input names. `rt ci` runs it with enough memory, on large inputs
-too.
+The program texting_robots_tests makes the call of the library that its input names; tests/host.c does the same through the C library. `rt ci`
+runs the program with enough memory.
 """
 
 import json
 import os
-import re
 import tempfile
 from itertools import count
 
 import pytest
-from support import CRATES, ROOT, Result, run, warning_line
+from support import CRATES, ROOT, SIZES, Result, run, warning_line
 
-CALLS = [line.removesuffix(": right") for line in (CRATES / "robots_fault_injection/stdout").read_text().splitlines()]
+CALLS = [line.removesuffix(": right") for line in (CRATES / "texting_robots_tests/stdout").read_text().splitlines()]
 WITHOUT_MEMORY = [name for name in CALLS if name.endswith(" without memory")]
-WITH_MEMORY = [name for name in CALLS if not re.search(r" without memory$| on large inputs$| of each (size|number)\b", name)]
-# The call that makes what those without memory use.
-SET_UP = "a robot, two patterns and a URL"
 
 VERDICT_INPUT = (CRATES / "robots_verdict/stdin").read_bytes()
 AUDIT_INPUT = (CRATES / "robots_audit/stdin").read_bytes()
@@ -35,6 +31,7 @@ class Failing:
 
     def __init__(self, heap, name, args=(), stdin=b"", **always):
         self.heap, self.name, self.args, self.stdin, self.always = heap, name, args, stdin, always
+        self.allocations = 0
 
     def __call__(self, **failures):
         settings = {**self.always, **failures}
@@ -73,24 +70,30 @@ def break_each(program, kind, is_reported):
     assert number > 1
 
 
+def call_of(heap, name):
+    return Failing(heap, "texting_robots_tests", stdin=f"{name}\n".encode())
+
+
 later = pytest.mark.parametrize("later", [False, True], ids=["one allocation", "one and all later ones"])
 
 
 @later
-@pytest.mark.parametrize("name", WITH_MEMORY)
+@pytest.mark.parametrize("name", [name for name in CALLS if name not in WITHOUT_MEMORY])
 def test_call(failing_heap, name, later):
-    call = Failing(failing_heap, "robots_fault_injection", stdin=f"{name}\n".encode())
+    call = call_of(failing_heap, name)
     fail_each_allocation(call, Result(0, f"{name}: right\n", ""), Result(0, f"{name}: out of memory\n", ""), later)
 
 
 @pytest.mark.parametrize("name", WITHOUT_MEMORY)
 def test_call_without_memory(failing_heap, name):
-    """Every allocation fails after those that make what the call uses: it makes none."""
-    set_up = Failing(failing_heap, "robots_fault_injection", stdin=f"{SET_UP}\n".encode())
-    set_up()
-    call = Failing(failing_heap, "robots_fault_injection", stdin=f"{name}\n".encode())
-    assert call(FAIL_ALLOCATION=set_up.allocations + 1, FAIL_LATER=1) == Result(0, f"{name}: right\n", "")
-    assert (call.allocations, call.failed) == (set_up.allocations, 0)
+    """Every allocation fails after those of the call before `, then`, if there is one."""
+    set_up, _, _ = name.rpartition(", then ")
+    first = call_of(failing_heap, set_up)
+    if set_up:
+        first()
+    call = call_of(failing_heap, name)
+    assert call(FAIL_ALLOCATION=first.allocations + 1, FAIL_LATER=1) == Result(0, f"{name}: right\n", "")
+    assert (call.allocations, call.failed) == (first.allocations, 0)
 
 
 @later
@@ -254,16 +257,20 @@ def test_robots_audit_reads_at_most_1048576_times(failing_heap, size):
     assert (result.status, result.err if result.status else "", program.reads) == (*ended, 1_048_576)
 
 
-SIZES = sorted({max(2**power + more, 1) for power in range(17) for more in (-1, 0, 1)})
-
 # By what has a size: the crawler, the URLs and the file of a run, and the verdicts that both programs print.
 AT_EACH_SIZE = {
     "the crawler's name": lambda size: ("a" * size, ["/b"], f"User-agent: {'a' * size}\nDisallow: /", "deny 2 /b\n"),
     "a path": lambda size: ("a", ["/" + "b" * size], "Disallow: /", f"deny 1 /{'b' * size}\n"),
+    "a path that is escaped": lambda size: ("a", [f"/{'é' * (size // 2)}"], "Disallow: /", f"deny 1 /{'é' * (size // 2)}\n"),
+    "a URL": lambda size: ("a", [f"https://h/é{'b' * size}#c"], "Disallow: /", f"deny 1 https://h/é{'b' * size}#c\n"),
+    "a user": lambda size: ("a", [f"http://{'u' * size}@h/é"], "Disallow: /", f"deny 1 http://{'u' * size}@h/é\n"),
     "a host": lambda size: ("a", [f"http://{'h' * size}/é"], "Disallow: /", f"deny 1 http://{'h' * size}/é\n"),
     "a port": lambda size: ("a", [f"http://h:{min(size, 65_535)}/é"], "Disallow: /", f"deny 1 http://h:{min(size, 65_535)}/é\n"),
     "the number of URLs": lambda size: ("a", ["/b"] * size, "Disallow: /", "deny 1 /b\n" * size),
     "a rule": lambda size: ("a", ["/b"], f"Disallow: /{'c' * size}\nDisallow: /", "deny 2 /b\n"),
+    "a rule with $": lambda size: ("a", ["/b"], f"Disallow: /{'c' * min(size, 4094)}$\nDisallow: /", "deny 2 /b\n"),
+    "the number of stars in a row": lambda size: ("a", ["/b"], f"Disallow: /{'*' * size}", "deny 1 /b\n"),
+    "the number of stars": lambda size: ("a", ["/b"], f"Disallow: /{'c*' * size}\nDisallow: /", "deny 2 /b\n"),
     "the number of rules": lambda size: ("a", ["/b"], "Disallow: /\n" * size, "deny 1 /b\n"),
     "the number of lines": lambda size: ("a", ["/b"], "\n" * size + "Disallow: /", f"deny {size + 1} /b\n"),
     "a sitemap": lambda size: ("a", ["/b"], f"Disallow: /\nSitemap: {'s' * size}", "deny 1 /b\n"),

@@ -14,7 +14,7 @@ from pathlib import Path
 
 import pytest
 from library import LIBRARY, archive, kit, make, random_case
-from support import CC, ROOT, Result, cases_of, compiled, input_of, program, run, shown, spelled, wanted_of
+from support import CC, ROOT, SIZES, Result, cases_of, compiled, input_of, program, run, shown, spelled, wanted_of
 
 STRICT = ["-Wpedantic", "-Werror", f"-I{LIBRARY}"]
 
@@ -380,6 +380,16 @@ def test_large_inputs(robots):
         assert robot.delay() == robots.delay(agent, file) == 0
     assert robots.sitemaps(file) == ["x"] * 1001
     assert status_of(robots, robots.address, f"https://{'a' * 3000}:port/") == (robots.NO_ADDRESS, 0)
+
+
+def test_no_size_is_out_of_memory(robots):
+    """Of a host, a user or a port, and of what is before a rule that is too long."""
+    for size in SIZES:
+        host, port = f"{'a' * size}b.de:8080", f"b.de:{min(size, 65_535)}"
+        for page, address in [(f"{host}/c", host), (f"{'u' * size}@b.de/c", "b.de"), (f"{port}/c", port)]:
+            assert robots.address(f"http://{page}") == f"http://{address}/robots.txt"
+        file = b"#" * size + b"\nDisallow: /" + b"a" * 4096 + b"$"
+        assert status_of(robots, robots.Robot, "Bot", file) == (robots.OVERLONG_RULE, 2)
 
 
 def long_rules(length):

@@ -209,11 +209,11 @@ def test_guide_shows_the_functions_of_another_allocator():
 
 
 def test_readme_shows_the_example():
-    assert code(README, "rust")[0] in (CRATES / "robots_vectors/src/example.rt").read_text()
+    assert code(README, "rust")[0] in (CRATES / "texting_robots_tests/src/example.rt").read_text()
 
 
-def test_guide_shows_may_fetch():
-    assert code(GUIDE, "rust")[0] in (CRATES / "may_fetch/src/main.rt").read_text()
+def test_guide_shows_its_program():
+    assert code(GUIDE, "rust")[0] in (CRATES / "robots_examples/src/main.rt").read_text()
 
 
 def test_readme_shows_what_the_first_command_prints():

@@ -165,13 +165,14 @@ def test_many_pages():
     assert run("robots_verdict", stdin=text.encode()) == Result(0, out, "")
 
 
-def test_messages_of_may_fetch(tmp_path):
+def test_messages_of_robots_examples(tmp_path):
     """The program of docs/GUIDE.md. `rt ci` runs it on its data."""
     path = tmp_path / "robots.txt"
     path.write_bytes(b"Disallow: /$" + b"a" * 4096)
-    assert run("may_fetch", ["Ferris"]) == Result(0, "", "usage: may_fetch AGENT FILE URL..\n")
-    assert run("may_fetch", ["Ferris", path, "/a"]) == Result(0, "", "may_fetch: the file can't be used, as a rule is too long\n")
-    assert run("may_fetch", ["Ferris", tmp_path / "missing", "/a"]).status != 0
+    assert run("robots_examples", ["Ferris"]) == Result(0, "", "usage: robots_examples AGENT FILE URL..\n")
+    message = "robots_examples: a rule of the file is too long\n"
+    assert run("robots_examples", ["Ferris", path, "/a"]) == Result(0, "", message)
+    assert run("robots_examples", ["Ferris", tmp_path / "missing", "/a"]).status != 0
 
 
 def test_small_rules():

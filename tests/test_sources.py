@@ -13,9 +13,9 @@ FAILED = r"(?:\b(?:\w+::)*(?:AllocError|AllocFailed|OutOfMemory|Overflow|Memory|
 
 # Where else the sources construct such an error, and why.
 CONSTRUCTED = {
-    ("robots_fault_injection/src/format.rt", "CacheError::Memory"): "an error whose message is printed",
-    ("robots_vectors/src/printed.rt", "Error::InvalidRobots"): "an error whose message is printed",
-    ("robots_vectors/src/printed.rt", "Error::Memory"): "an error whose message is printed",
+    ("robots_examples/src/tests.rt", "CacheError::Memory"): "an error whose message is printed",
+    ("texting_robots_tests/src/printed.rt", "Error::InvalidRobots"): "an error whose message is printed",
+    ("texting_robots_tests/src/printed.rt", "Error::Memory"): "an error whose message is printed",
 }
 
 # A pattern of such errors alone. A match may turn them into another one. Only `Overflow` of `url` can occur without a failed allocation:

@@ -155,10 +155,13 @@ first_pair bytes ending rest later all end last same none = at bytes ending all 
     at (b ∷ bytes) ending all (zero, inl e) last none =
         rw (e, (last e).0, none e, append-nil bytes, append-nil bytes)
         (ap meant (body_last b bytes all))
-    at bytes ending all (suc k, inl e) last none = rw e (ended bytes (replicate (suc k) cr) all (returns_end k rest))
-    at bytes ending all (k, inr e) last none = rw e (ended bytes (replicate k cr ++ lf ∷ []) all (feed_end k rest))
+    at bytes ending all (suc k, inl e) last none =
+        rw e (ended bytes (replicate (suc k) cr) all (returns_end k rest))
+    at bytes ending all (k, inr e) last none =
+        rw e (ended bytes (replicate k cr ++ lf ∷ []) all (feed_end k rest))
 
-pub meant_joined : (pairs : List Pair) → ArePairs pairs → meant (bodies_of (joined pairs)) ≡ meant (map pair_body pairs)
+pub meant_joined : (pairs : List Pair) → ArePairs pairs
+    → meant (bodies_of (joined pairs)) ≡ meant (map pair_body pairs)
 meant_joined [] are = ap (λ pairs. meant (map pair_body pairs)) cut_nil
 meant_joined (pair ∷ later) (is, are) =
     first_pair pair.body pair.ending (joined later) (map pair_body later) is.body is.ending

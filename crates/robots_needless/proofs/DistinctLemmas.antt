@@ -68,7 +68,8 @@ of_map f (x ∷ xs) y (zero, below, at) = (x, (0, omega arith, refl), at)
 of_map f (x ∷ xs) y (suc k, below, at) =
     let (z, (j, less, has), is) = of_map f xs y (k, omega arith, at) in (z, (suc j, omega arith, has), is)
 
-pub named_in : (n : ℕ) (numbers : List ℕ) → Contains numbers n → list_any (λ number. number == n) numbers ≡ true
+pub named_in : (n : ℕ) (numbers : List ℕ) → Contains numbers n
+    → list_any (λ number. number == n) numbers ≡ true
 named_in n [] (k, below, at) = absurd (omega arith)
 named_in n (first ∷ numbers) (zero, below, at) = rw ((Decides-eqb first n).1 at) refl
 named_in n (first ∷ numbers) (suc k, below, at) = elim (cases_Bool (first == n)) [
@@ -76,7 +77,8 @@ named_in n (first ∷ numbers) (suc k, below, at) = elim (cases_Bool (first == n
   | inr other ↦ rw other (named_in n numbers (k, omega arith, at))
 ]
 
-pub in_named : (n : ℕ) (numbers : List ℕ) → list_any (λ number. number == n) numbers ≡ true → Contains numbers n
+pub in_named : (n : ℕ) (numbers : List ℕ) → list_any (λ number. number == n) numbers ≡ true
+    → Contains numbers n
 in_named n [] is = cc
 in_named n (first ∷ numbers) is =
     elim (or_cases (first == n) (list_any (λ number. number == n) numbers) is) [
@@ -123,36 +125,43 @@ to_filter test (first ∷ rules) placed (suc k, below, at) is =
       | inr fails ↦ rw fails rest
     ]
 
--- ---- lines
-
-named : (n : ℕ) (rules : List PlacedRule) (placed : PlacedRule) → Contains rules placed → placed.line ≡ n
-    → list_any (λ number. number == n) (lines_of rules) ≡ true
-named n [] placed (k, below, at) line = absurd (omega arith)
-named n (first ∷ rules) placed (zero, below, at) line =
-    rw ((Decides-eqb first.line n).1 (ap (λ (p : PlacedRule). p.line) at ∙ line)) refl
-named n (first ∷ rules) placed (suc k, below, at) line = elim (cases_Bool (first.line == n)) [
-  | inl here ↦ rw here refl
-  | inr other ↦ rw other (named n rules placed (k, omega arith, at) line)
-]
-
-names : (n : ℕ) (rules : List PlacedRule) → list_any (λ number. number == n) (lines_of rules) ≡ true
-    → (placed : PlacedRule) × Contains rules placed × (placed.line ≡ n)
-names n [] is = cc
-names n (first ∷ rules) is =
-    elim (or_cases (first.line == n) (list_any (λ number. number == n) (lines_of rules)) is) [
-      | inl here ↦ (first, (0, omega arith, refl), eqb-true first.line n here)
-      | inr later ↦
-          let (placed, listed, line) = names n rules later in
-          (placed, in_cons first rules placed listed, line)
-    ]
-
 -- ---- the rules without the removed ones
 
+module _ (numbers : List ℕ) (rules left removed : List PlacedRule)
+    (same : IsPermutation rules (left ++ removed))
+    (go : (placed : PlacedRule) → Contains removed placed → Contains numbers placed.line)
+    (stay : (placed : PlacedRule) → Contains left placed → ¬ Contains numbers placed.line)
+    (placed : PlacedRule) where
+  to_left : Contains (without numbers rules) placed → Contains left placed
+  to_left has =
+      let (listed, passes) = in_filter _ rules placed has in
+      elim (Contains-append_cases left removed placed
+      (Contains-permutation rules (left ++ removed) placed same listed)) [
+        | inl stays ↦ stays
+        | inr goes ↦
+            let wrong = rw (named_in placed.line numbers (go placed goes)) at passes in
+            absurd (false≢true wrong)
+      ]
+
+  of_left : Contains left placed → Contains (without numbers rules) placed
+  of_left has =
+      let listed = Contains-permutation (left ++ removed) rules placed
+      (IsPermutation-sym rules (left ++ removed) same) (Contains-append_left left removed placed has) in
+      to_filter _ rules placed listed
+      (elim (cases_Bool (list_any (λ number. number == placed.line) numbers)) [
+        | inr none ↦ rw none refl
+        | inl some ↦ absurd (stay placed has (in_named placed.line numbers some))
+      ])
+
+  pub left_without : Contains (without numbers rules) placed ↔ Contains left placed
+  left_without = (to_left, of_left)
+
 module _ (rules kept removed : List PlacedRule) (same : IsPermutation rules (kept ++ removed))
-    (once : AreDistinct rules) (placed : PlacedRule) where
-  not_both : (other : PlacedRule) → Contains kept placed → Contains removed other → other.line ≢ placed.line
-  not_both other has was same_line =
+    (once : AreDistinct rules) where
+  not_both : (placed : PlacedRule) → Contains kept placed → ¬ Contains (lines_of removed) placed.line
+  not_both placed has number =
       let n = placed.line in
+      let (other, was, same_line) = of_map (λ (p : PlacedRule). p.line) removed n number in
       omega (
         arith,
         sum_by-IsPermutation (hit n) rules (kept ++ removed) same,
@@ -162,27 +171,8 @@ module _ (rules kept removed : List PlacedRule) (same : IsPermutation rules (kep
         hit_once n removed other was same_line,
       )
 
-  to_kept : Contains (without (lines_of removed) rules) placed → Contains kept placed
-  to_kept left =
-      let (listed, passes) = in_filter _ rules placed left in
-      elim (Contains-append_cases kept removed placed
-      (Contains-permutation rules (kept ++ removed) placed same listed)) [
-        | inl has ↦ has
-        | inr was ↦
-            let wrong = rw (named placed.line removed placed was refl) at passes in
-            absurd (false≢true wrong)
-      ]
-
-  to_left : Contains kept placed → Contains (without (lines_of removed) rules) placed
-  to_left has =
-      let listed = Contains-permutation (kept ++ removed) rules placed
-      (IsPermutation-sym rules (kept ++ removed) same) (Contains-append_left kept removed placed has) in
-      to_filter _ rules placed listed
-      (elim (cases_Bool (list_any (λ number. number == placed.line) (lines_of removed))) [
-        | inr none ↦ rw none refl
-        | inl some ↦
-            let (other, was, line) = names placed.line removed some in absurd (not_both other has was line)
-      ])
-
-  pub left_are_kept : Contains (without (lines_of removed) rules) placed ↔ Contains kept placed
-  left_are_kept = (to_kept, to_left)
+  pub left_are_kept : (placed : PlacedRule)
+      → Contains (without (lines_of removed) rules) placed ↔ Contains kept placed
+  left_are_kept =
+      left_without (lines_of removed) rules kept removed same (to_map (λ (p : PlacedRule). p.line) removed)
+      not_both

@@ -1,13 +1,13 @@
 -- How generic texts are built, and patterns that match no text in common.
-use Rattle.std.proofs.Common.{◌≡◌, ◌≢◌, ◌<◌, inl, inr, ℕ, zero, suc, ◌+◌, ◌/◌, ◌%◌, ◌==◌, Bool, true, false}
-use Rattle.std.proofs.Common.{List, [], ◌∷◌, ◌++◌, All, length, drop, get_or, ap, sym, subst, refl, ◌∙◌}
-use Rattle.std.proofs.Common.{append_assoc, append-nil, arith, add-one, drop-cons, if◌then◌else◌, nat_lt, not}
+use Rattle.std.proofs.Common.{◌≡◌, ◌≢◌, ◌<◌, inl, inr, ℕ, zero, suc, ◌/◌, ◌%◌, Bool, true, false}
+use Rattle.std.proofs.Common.{List, [], ◌∷◌, All, length, get_or, sym, subst, ◌∙◌}
+use Rattle.std.proofs.Common.{arith, nat_lt, not}
 use Rattle.std.specs.Bool.{IsTrue}
 use Rattle.std.specs.Fmt.{digit_glyph}
 use Rattle.std.proofs.lemmas.Bool.{cases_Bool, cases_lt, false≢true, lt-ltb, ne_eqb, or_parts}
 use Rattle.std.proofs.lemmas.Bool.Decides.{nat_tests}
 use Rattle.std.proofs.lemmas.List.Elements.{All-append, All-cons, All-nil}
-use Rattle.texting_robots.specs.Pattern.{Matches, dollar, star}
+use Rattle.texting_robots.specs.Pattern.{Matches}
 use Rattle.texting_robots.specs.Escape.{escape_byte, escaped, is_escaped}
 use Rattle.robots_needless.specs.Internal.{HeadsDiffer, fresh, generic}
 use Rattle.robots_needless.specs.Needless.{AreApart, Covers, MatchesNothing}
@@ -61,33 +61,6 @@ nothing_by p text is none = nothing_matches p (rw is at none)
 pub not_true : (b : Bool) → IsTrue (not b) → ¬ IsTrue b
 not_true true is too = cc
 not_true false is too = cc
-
--- ---- building a generic text
-
-generic_step : (b next : ℕ) (q : List ℕ) → b ≢ dollar → next ≡ (if b == star then fresh else b)
-    → generic (b ∷ q) ≡ next ∷ generic q
-generic_step b next q other is = elim (cases_Bool (b == star)) [
-  | inl first ↦ rw (is, first) refl
-  | inr plain ↦ rw (is, plain, ne_eqb b dollar other) refl
-]
-
-pub generic_more : (text pattern : List ℕ) (i next : ℕ) → i < length pattern → get_or pattern i 0 ≢ dollar
-    → next ≡ (if get_or pattern i 0 == star then fresh else get_or pattern i 0)
-    → text ++ generic (drop i pattern) ≡ generic pattern
-    → (text ++ next ∷ []) ++ generic (drop (i + 1) pattern) ≡ generic pattern
-generic_more text pattern i next below other is so_far =
-    let rest = drop (suc i) pattern in
-    let here : drop i pattern ≡ get_or pattern i 0 ∷ rest = drop-cons pattern i 0 below in
-    let step : generic (drop i pattern) ≡ next ∷ generic rest =
-    ap generic here ∙ generic_step (get_or pattern i 0) next rest other is in
-    rw add-one (append_assoc text (next ∷ []) (generic rest) ∙ (ap (λ g. text ++ g) (sym step) ∙ so_far))
-
-pub generic_done : (text pattern : List ℕ) (i : ℕ) → i < length pattern → get_or pattern i 0 ≡ dollar
-    → text ++ generic (drop i pattern) ≡ generic pattern → text ≡ generic pattern
-generic_done text pattern i below ends so_far =
-    let rest = drop (suc i) pattern in
-    let here : drop i pattern ≡ dollar ∷ rest = drop-cons pattern i 0 below ∙ ap (λ b. b ∷ rest) ends in
-    sym (append-nil text) ∙ (ap (λ g. text ++ g) (sym (ap generic here)) ∙ so_far)
 
 -- ---- escaped patterns don't contain the fresh byte
 

@@ -1,5 +1,6 @@
 -- Each rule that is removed has another one in its block, which stays.
-use Rattle.std.proofs.Common.{◌≡◌, ◌⊎◌, ◌<◌, ◌≤◌, ◌+◌, ◌∙◌, inl, inr, ℕ, Bool, true, false, List, [], ◌∷◌, All}
+use Rattle.std.proofs.Common.{◌≡◌, ◌⊎◌, ◌<◌, ◌≤◌, ◌+◌, ◌∙◌, inl, inr, ℕ, Bool, true, false, List, [], ◌∷◌}
+use Rattle.std.proofs.Common.{All}
 use Rattle.std.proofs.Common.{Contains, Some, ap, arith, drop, length, length-drop, refl, slice_get, subst}
 use Rattle.std.proofs.Common.{sym}
 use Rattle.std.proofs.lemmas.Bool.{cases_Bool, cases_eq, false≢true}
@@ -212,4 +213,5 @@ all_keep lines found keeps all number has =
     let (one, listed, at) = of_map (λ (o : NeedlessRule). o.line) found number has in
     let (place, is, to) = found_within lines one (All-contains (IsFoundFor lines) found one all listed) in
     let same : number ≡ place + 1 = sym at ∙ is in
-    rw same (keeps_rule lines (numbers_of found) keeps place to (subst (Contains (numbers_of found)) same has))
+    rw same (keeps_rule lines (numbers_of found) keeps place to
+    (subst (Contains (numbers_of found)) same has))

@@ -1,5 +1,6 @@
 -- If the found lines are deleted from a file, each crawler's robot stays the same.
-use Rattle.std.proofs.Common.{◌≡◌, ◌≢◌, ◌≤◌, ◌↔◌, inl, inr, ℕ, zero, suc, ◌+◌, ◌==◌, ◌||◌, Bool, true, false, not}
+use Rattle.std.proofs.Common.{◌≡◌, ◌≢◌, ◌≤◌, ◌↔◌, inl, inr, ℕ, zero, suc, ◌+◌, ◌==◌, ◌||◌, Bool, true, false}
+use Rattle.std.proofs.Common.{not}
 use Rattle.std.proofs.Common.{List, [], ◌∷◌, ◌++◌, Any, IsUtf8, ap, ap₂, sym, refl, subst, ◌∙◌, arith}
 use Rattle.std.proofs.Common.{filter, length, length-append, map}
 use Rattle.std.specs.List.{concat}
@@ -12,14 +13,16 @@ use Rattle.texting_robots.specs.Callers.{unplaced}
 use Rattle.texting_robots.specs.Cut.{IsLineEnd, Pair, joined}
 use Rattle.texting_robots.specs.Internal.{Cut.bodies_of, Cut.cut, Line.line_of}
 use Rattle.texting_robots.specs.{Laws.Same, Line.is_raw, Line.without_front}
-use Rattle.texting_robots.proofs.{BestLemmas.placed_of, CutLemmas.is_cut, CutLemmas.only_cut, GivenLemmas.delay_is_computed}
+use Rattle.texting_robots.proofs.{BestLemmas.placed_of, CutLemmas.is_cut, CutLemmas.only_cut}
+use Rattle.texting_robots.proofs.{GivenLemmas.delay_is_computed}
 use Rattle.texting_robots.proofs.{GivenLemmas.sitemaps_are_computed, HeldLemmas.rejection_is_computed}
 use Rattle.texting_robots.proofs.{LawLemmas.raw_changes_nothing, MainTheoremLemmas.answers_computed}
 use Rattle.texting_robots.proofs.{MainTheoremLemmas.of_lines}
 use Rattle.texting_robots.proofs.LineLemmas.{each_text_has_its_lines, front_is_end, front_read}
 use Rattle.robots_needless.specs.declared.needless.NeedlessRule.{NeedlessRule}
 use Rattle.robots_needless.specs.Blocks.{left_from}
-use Rattle.robots_needless.specs.Deleted.{AreAlike, AreFoundIn, AreWholeLines, HaveSameRobot, IsLeftOf, begin_with_mark}
+use Rattle.robots_needless.specs.Deleted.{AreAlike, AreFoundIn, AreWholeLines, HaveSameRobot, IsLeftOf}
+use Rattle.robots_needless.specs.Deleted.{begin_with_mark}
 use Rattle.robots_needless.specs.Needless.{AreNeedless, lines_without, numbers_of, without}
 use Rattle.robots_needless.proofs.BlockLemmas.{among, left_are}
 use Rattle.robots_needless.proofs.DeletedLemmas.{ArePairs, cut_pairs, meant, meant_joined, pair_body}
@@ -112,10 +115,11 @@ module _ (numbers file left : List ℕ) (is : IsLeftOf numbers file left)
   same_lines =
       ap (λ text. meant (bodies_of text)) without_mark ∙ meant_joined kept kept_pairs
       ∙ sym (ap (filter (λ (line : LineValue). not (is_raw line))) (left_are numbers 0 (file_lines file)
-      ∙ sym (map_left line_of gone 0 (file_bodies file)) ∙ ap (map line_of) (sym (left_are numbers 0 (file_bodies file))
-      ∙ bodies_kept)))
+      ∙ sym (map_left line_of gone 0 (file_bodies file))
+      ∙ ap (map line_of) (sym (left_are numbers 0 (file_bodies file)) ∙ bodies_kept)))
 
-  pub same_result : (agent : List ℕ) → Same agent (file_lines left) agent (lines_without numbers (file_lines file))
+  pub same_result : (agent : List ℕ)
+      → Same agent (file_lines left) agent (lines_without numbers (file_lines file))
   same_result agent = raw_changes_nothing agent _ _ same_lines
 
 -- ---- each file has such lines
@@ -187,7 +191,8 @@ left_within numbers file left is =
 
 of_file : (file : List ℕ) (P : List LineValue → Type 0)
     → HasLines file P → P (file_lines file)
-of_file file P is = of_lines file P is (file_lines file) ((each_text_has_its_lines (map nul_as_lf file) _).1 refl)
+of_file file P is =
+    of_lines file P is (file_lines file) ((each_text_has_its_lines (map nul_as_lf file) _).1 refl)
 
 rejected_alike : (agent other : List ℕ) (lines others : List LineValue)
     → rules_for agent lines ≡ rules_for other others → IsRejected agent lines → IsRejected other others
@@ -226,7 +231,8 @@ module _ (file left : List ℕ) (found : List NeedlessRule) (are : AreFoundIn fi
       (are.lines.together name has)
 
   verdicts_stay : (text : List ℕ) (answer : Bool)
-      → IsVerdict (rules_for agent lines) text answer ↔ IsVerdict (rules_for agent (file_lines left)) text answer
+      → IsVerdict (rules_for agent lines) text answer
+      ↔ IsVerdict (rules_for agent (file_lines left)) text answer
   verdicts_stay text answer =
       both_ways (rw (are.lines.deleted agent) (needless text answer))
       ((same_as_less.0.verdict text answer).1, (same_as_less.0.verdict text answer).0)

@@ -10,9 +10,7 @@ pub mod DistinctLemmas
 pub mod TogetherLemmas
 pub mod HeadLemmas
 pub mod ReasonLemmas
-pub mod StepLemmas
 pub mod BlockLemmas
-pub mod PrefixLemmas
 pub mod PlainLemmas
 pub mod KeptLemmas
 pub mod SettledLemmas

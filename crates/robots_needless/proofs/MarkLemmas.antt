@@ -1,5 +1,7 @@
--- The byte order mark of a file, or a part of it, is cut from a text that doesn't begin with one of its bytes.
-use Rattle.std.proofs.Common.{◌≡◌, ◌≢◌, ◌⊎◌, ◌∙◌, ◌==◌, inl, inr, ℕ, List, [], ◌∷◌, ◌++◌, ap, append_assoc, arith}
+-- The byte order mark of a file, or a part of it, is cut from a text that doesn't begin with one of its
+-- bytes.
+use Rattle.std.proofs.Common.{◌≡◌, ◌≢◌, ◌⊎◌, ◌∙◌, ◌==◌, inl, inr, ℕ, List, [], ◌∷◌, ◌++◌, ap, append_assoc}
+use Rattle.std.proofs.Common.{arith}
 use Rattle.std.proofs.Common.{map, refl}
 use Rattle.std.proofs.lemmas.Bool.{cases_Bool, eqb-true, ne_eqb}
 use Rattle.std.proofs.lemmas.Bool.Decides.{Decides-eqb}
@@ -10,7 +12,8 @@ use Rattle.texting_robots.specs.Line.{nul_as_lf, without, without_front}
 abbrev pub IsTaken : ℕ → List ℕ → Type 0
 IsTaken byte taken = (taken ≡ []) ⊎ (taken ≡ byte ∷ [])
 
-taken : (byte : ℕ) (text : List ℕ) → (front : List ℕ) × IsTaken byte front × (text ≡ front ++ without byte text)
+taken : (byte : ℕ) (text : List ℕ)
+    → (front : List ℕ) × IsTaken byte front × (text ≡ front ++ without byte text)
 taken byte [] = ([], inl refl, refl)
 taken byte (b ∷ text) = elim (cases_Bool (b == byte)) [
   | inl same ↦ rw same (byte ∷ [], inr refl, ap (λ x. x ∷ text) (eqb-true b byte same))

@@ -1,6 +1,7 @@
 -- Each crawler whose name is UTF-8 has the rules of `*`, or those of a crawler that the file names.
 use Rattle.std.proofs.Common.{◌≡◌, ◌≢◌, ◌⊎◌, ◌<◌, ◌≤◌, ◌∙◌, inl, inr, ℕ, zero, suc, true, false}
-use Rattle.std.proofs.Common.{List, [], ◌∷◌, ◌++◌, Contains, IsAscii, IsUtf8, ap, sym, refl, subst, arith, bytes_eq, codes}
+use Rattle.std.proofs.Common.{List, [], ◌∷◌, ◌++◌, Contains, IsAscii, IsUtf8, ap, sym, refl, subst, arith}
+use Rattle.std.proofs.Common.{bytes_eq, codes}
 use Rattle.std.proofs.Common.{encode_utf8, encode_utf8_all, filter_map, get_or, le-ltb, length, lt-ltb, map}
 use Rattle.std.proofs.Common.{None, Option, Some, append-nil}
 use lib.Utf8.{scalar as is_scalar, scalars}
@@ -59,7 +60,8 @@ AllClose [] (b ∷ other) = ⊥
 AllClose (a ∷ one) [] = ⊥
 AllClose (a ∷ one) (b ∷ other) = AreClose a b × AllClose one other
 
-all_close : (one other : List ℕ) → map to_ascii_lowercase one ≡ map to_ascii_lowercase other → AllClose one other
+all_close : (one other : List ℕ) → map to_ascii_lowercase one ≡ map to_ascii_lowercase other
+    → AllClose one other
 all_close [] [] same = tt
 all_close [] (b ∷ other) same = cc
 all_close (a ∷ one) [] same = cc
@@ -103,7 +105,8 @@ one_char : (one : List ℕ) (c : ℕ) → is_scalar c ≡ true → AllClose one 
 one_char one c scalar are = elim (cases_lt c 128) [
   | inl low ↦ one_ascii one c low (subst (AllClose one) (encode_ascii c low) are)
   | inr high ↦
-      let same = same_high one (encode_utf8 c) are (λ k below. elim (cases_lt (get_or (encode_utf8 c) k 0) 128) [
+      let bytes = encode_utf8 c in
+      let same = same_high one bytes are (λ k below. elim (cases_lt (get_or bytes k 0) 128) [
         | inl less ↦
             let is = inside_one c [] (encode_utf8 c) k (sym (append-nil (encode_utf8 c))) below less in
             absurd (omega (arith, is))

@@ -1,253 +1,335 @@
--- Plain rules that go one after the other, by descending order of their list.
-use Rattle.std.proofs.Common.{◌≡◌, ◌≤◌, ◌-◌, inl, inr, ℕ, Option, None, Some, List, [], ◌∷◌, ◌++◌, All}
-use Rattle.std.proofs.Common.{IsPermutation, ap, sym, subst, refl, append_assoc, arith, length, reverse}
-use Rattle.std.specs.HashMap.{Updates}
-use Rattle.std.specs.{List.Contains, Option.IfSome, Prelude.nat_eq}
-use Rattle.std.specs.List.Sorted.{IsNonDecreasingBy}
-use Rattle.std.proofs.lemmas.Bool.{cases_Bool}
-use Rattle.std.proofs.lemmas.List.{get_or-reverse, get_or_append_left, get_or_push, length-reverse}
-use Rattle.std.proofs.lemmas.List.{length_push}
-use Rattle.std.proofs.lemmas.List.Elements.{All-contains, All-weaker, Contains-append_left}
-use Rattle.std.proofs.lemmas.List.Elements.{Contains-append_right, Contains-push_cases}
-use Rattle.std.proofs.lemmas.List.Sorted.{Contains-permutation, IsPermutation-append_comm}
+-- Plain rules, which are tried in the order of their patterns: of those that are kept, only the ones that
+-- begin a rule match a text that it matches.
+use Rattle.std.proofs.Common.{◌≡◌, ◌≢◌, ◌<◌, ◌≤◌, ◌⊎◌, inl, inr, ℕ, ◌+◌, ◌*◌, Bool, true, false, List, []}
+use Rattle.std.proofs.Common.{◌∷◌, ◌++◌, All, if◌then◌else◌}
+use Rattle.std.proofs.Common.{IsTrue, ◌↔◌, ap, sym, subst, refl, ◌∙◌, append_assoc, append-nil, arith, drop}
+use Rattle.std.proofs.Common.{length}
+use Rattle.std.proofs.Common.{IsPermutation, Less, Equal, Greater, get_or, nat_eq, take}
+use Rattle.std.specs.{Cmp.Lexicographic.slice_cmp, List.Contains, List.Sorted.IsSortedBy, List.starts_with}
+use Rattle.std.specs.Cmp.{IsStrictWeakOrder}
+use Rattle.std.specs.Cmp.Lexicographic.{bytes_decides, on_texts, pointwise}
+use Rattle.std.specs.Ordering.{is_lt, nat_cmp, ordering_then}
+use Rattle.std.specs.declared.cmp.Ordering.{Ordering}
+use Rattle.std.proofs.Math.Dec.{eqb}
+use Rattle.std.proofs.lemmas.Bool.{cases_lt, eq-eqb}
+use Rattle.std.proofs.lemmas.Cmp.{back_total, nat_cmp_total, nat_list_cmp_total, on_total, then_total}
+use Rattle.std.proofs.lemmas.Cmp.{tied_itself}
+use Rattle.std.proofs.lemmas.List.{get_or_append_left, get_or_push, length_push, take-append-drop}
+use Rattle.std.proofs.lemmas.List.{take_at}
+use Rattle.std.proofs.lemmas.List.Elements.{Contains-append_cases, Contains-append_left}
+use Rattle.std.proofs.lemmas.List.Elements.{Contains-append_right, Contains-push, Contains-push_cases}
+use Rattle.std.proofs.lemmas.List.MinMax.{ranks_by}
 use Rattle.std.proofs.lemmas.List.Sorted.{IsPermutation-append_left, IsPermutation-append_right}
-use Rattle.std.proofs.lemmas.List.Sorted.{IsPermutation-sym, IsPermutation-trans}
-use Rattle.texting_robots.specs.Rules.{PlacedRule, unplaced}
-use Rattle.texting_robots.proofs.{BestLemmas.placed_of}
-use Rattle.robots_needless.specs.declared.needless.NeedlessRule.{NeedlessRule}
-use Rattle.robots_needless.specs.declared.needless.Reason.{Reason}
-use Rattle.robots_needless.specs.declared.needless.Reason.TheVariants as reasons
-use Rattle.robots_needless.specs.Internal.{AreAmong, CanGo, HasNoRival, IsReducedTo}
-use Rattle.robots_needless.specs.Needless.{IsFound, IsReason, Overrules, rank_of}
-use Rattle.robots_needless.specs.Prefixes.{AreDescending, AreIndexed, AreNotBelow, HasPlace, IsPlain, Places}
-use Rattle.robots_needless.specs.Prefixes.{hash_from, seed}
-use Rattle.robots_needless.proofs.{ReasonLemmas.no_rival_both}
-use Rattle.robots_needless.proofs.TogetherLemmas.{both_ways, denied_permuted, reordered}
+use Rattle.std.proofs.lemmas.List.Sorted.{IsPermutation-refl, IsPermutation-trans, sorted_far}
+use Rattle.texting_robots.specs.Pattern.{Matches, MatchesWith}
+use Rattle.texting_robots.specs.Rules.{PlacedRule}
+use Rattle.texting_robots.proofs.{OrderLemmas.cmp_less, OrderLemmas.cmp_same, PatternLemmas.in_front}
+use Rattle.robots_needless.specs.Internal.{AreDescending, AreLeft, AreNear, IsAfter, IsNoRival}
+use Rattle.robots_needless.specs.Internal.{IsPlain}
+use Rattle.robots_needless.specs.Internal.{IsPlainByte, rule_cmp}
+use Rattle.robots_needless.specs.Needless.{AreApart, rank_of}
+use Rattle.robots_needless.proofs.{TogetherLemmas.rest_to_front}
 
--- ---- lists in another order
+-- ---- a plain pattern matches the texts that begin with it
 
-last_to_first : (one two : List PlacedRule) (rule : PlacedRule)
-    → IsPermutation ((one ++ two) ++ rule ∷ []) ((one ++ rule ∷ []) ++ two)
-last_to_first one two rule =
-    let last : List PlacedRule = rule ∷ [] in
-    subst (λ to. IsPermutation ((one ++ two) ++ last) to) (sym (append_assoc one last two))
-    (subst (λ from. IsPermutation from (one ++ (last ++ two))) (sym (append_assoc one two last))
-    (IsPermutation-append_right one (two ++ last) (last ++ two) (IsPermutation-append_comm two last)))
+nothing_left : (t : List ℕ) → Matches [] t
+unfolding MatchesWith
+nothing_left t = tt
 
-rest_to_front : (front rest : List PlacedRule) (rule : PlacedRule)
-    → IsPermutation (front ++ (rest ++ rule ∷ [])) ((front ++ rule ∷ []) ++ rest)
-rest_to_front front rest rule =
-    let last : List PlacedRule = rule ∷ [] in
-    subst (λ to. IsPermutation (front ++ (rest ++ last)) to) (sym (append_assoc front last rest))
-    (IsPermutation-append_right front (rest ++ last) (last ++ rest) (IsPermutation-append_comm rest last))
+begins : (p t : List ℕ) → All IsPlainByte p → Matches p t → take (length p) t ≡ p
+begins p t plain fits =
+    let (after, is, rest) =
+    (in_front true p [] t plain).0 (subst (λ q. Matches q t) (sym (append-nil p)) fits) in
+    rw is (take_at p after (length p) refl)
 
--- the last of the rest goes to the first or the second list
-module _ (one two rest old : List PlacedRule) (rule : PlacedRule) (last : old ≡ rest ++ rule ∷ []) where
-  pub to_first : (more : List PlacedRule) → more ≡ one ++ rule ∷ []
-      → IsPermutation ((one ++ two) ++ old) ((more ++ two) ++ rest)
-  to_first more added = rw (last, added)
-      (IsPermutation-trans ((one ++ two) ++ (rest ++ rule ∷ [])) (((one ++ two) ++ rule ∷ []) ++ rest)
-      (((one ++ rule ∷ []) ++ two) ++ rest) (rest_to_front (one ++ two) rest rule)
-      (IsPermutation-append_left rest ((one ++ two) ++ rule ∷ []) ((one ++ rule ∷ []) ++ two)
-      (last_to_first one two rule)))
+begun : (p t : List ℕ) → All IsPlainByte p → take (length p) t ≡ p → Matches p t
+begun p t plain is = subst (λ q. Matches q t) (append-nil p) ((in_front true p [] t plain).1 (
+  drop (length p) t,
+  sym (take-append-drop (length p) t) ∙ ap (λ front. front ++ drop (length p) t) is,
+  nothing_left (drop (length p) t),
+))
 
-  pub to_second : (more : List PlacedRule) → more ≡ two ++ rule ∷ []
-      → IsPermutation ((one ++ two) ++ old) ((one ++ more) ++ rest)
-  to_second more added = rw (last, added, ← append_assoc one two (rule ∷ []))
-      (rest_to_front (one ++ two) rest rule)
+-- so the comparison of a plain pattern with the beginning of a text shows whether it matches
+pub plain_by : (p t one other : List ℕ) (same : Bool) → one ≡ p → other ≡ t → All IsPlainByte p
+    → same ≡ pointwise eqb one (take (length one) other) → IsTrue same ↔ Matches p t
+plain_by p t one other same first second plain is =
+    let compared = rw (first, second) at is in
+    let decides = bytes_decides p (take (length p) t) in (
+      λ yes. begun p t plain (sym (decides.0 (sym compared ∙ yes))),
+      λ fits. compared ∙ decides.1 (sym (begins p t plain fits)),
+    )
 
--- ---- ranks
+-- ---- the order of patterns
 
-pub descending_front : (rest old : List PlacedRule) (rule : PlacedRule) → old ≡ rest ++ rule ∷ []
-    → AreDescending old → AreDescending rest
-descending_front rest old rule last ranks i j d less below =
-    let one : List PlacedRule = rule ∷ [] in
-    let rank_at = λ (p : PlacedRule). rank_of p.rule in
-    let all : AreDescending (rest ++ one) = rw last at ranks in
-    let first = ap rank_at (get_or_append_left rest one d i (omega (arith, less, below))) in
-    let second = ap rank_at (get_or_append_left rest one d j below) in
-    let so = all i j d less (omega (arith, below, length_push rest rule)) in
-    omega (arith, first, second, so)
+-- the pattern isn't before the other one
+abbrev Follows : List ℕ → List ℕ → Type 0
+Follows p q = is_lt (slice_cmp nat_cmp p q) ≡ false
 
-pub last_is_lowest : (rest old : List PlacedRule) (rule : PlacedRule) → old ≡ rest ++ rule ∷ []
-    → AreDescending old → AreNotBelow rule rest
-last_is_lowest rest old rule last ranks k d below =
-    let one : List PlacedRule = rule ∷ [] in
-    let rank_at = λ (p : PlacedRule). rank_of p.rule in
-    let all : AreDescending (rest ++ one) = rw last at ranks in
-    let first = ap rank_at (get_or_append_left rest one d k below) in
-    let second = ap rank_at (get_or_push rest rule d (length rest) refl) in
-    let so = all k (length rest) d (omega (arith, below)) (omega (arith, length_push rest rule)) in
-    omega (arith, first, second, so)
+first_bytes : (x y : ℕ) (o : Ordering) → is_lt (ordering_then (nat_cmp x y) o) ≡ false
+    → (y < x) ⊎ ((x ≡ y) × (is_lt o ≡ false))
+first_bytes x y o h = elim (cases_lt y x) [
+  | inl more ↦ inl more
+  | inr most ↦ elim (cases_lt x y) [
+    | inl less ↦ let wrong = rw (cmp_less x y less) at h in cc
+    | inr least ↦ let same : x ≡ y = omega (arith, most, least) in inr (same, rw (same, cmp_same y) at h)
+  ]
+]
 
-pub descending_reversed : (rules : List PlacedRule)
-    → IsNonDecreasingBy (λ (p : PlacedRule). rank_of p.rule) rules → AreDescending (reverse rules)
-descending_reversed rules rises i j d less below =
-    let n = length rules in
-    let rank_at = λ (p : PlacedRule). rank_of p.rule in
-    let len = length-reverse rules in
-    let first = ap rank_at (get_or-reverse rules i d (omega (arith, len, less, below))) in
-    let second = ap rank_at (get_or-reverse rules j d (omega (arith, len, below))) in
-    let so = rises (n - 1 - j) (n - 1 - i) d (omega (arith, less)) (omega (arith, len, less, below)) in
-    omega (arith, first, second, so)
+-- if a pattern isn't the beginning of a later one, no text begins with it and with one that is later still
+parted : (p q r t : List ℕ) → starts_with nat_eq q p ≡ false → Follows q p → Follows r q
+    → take (length p) t ≡ p → take (length r) t ≢ r
+parted [] q r t other later last one = λ two. cc
+parted (x ∷ p) [] r t other later last one = λ two. cc
+parted (x ∷ p) (y ∷ q) [] t other later last one = λ two. cc
+parted (x ∷ p) (y ∷ q) (z ∷ r) [] other later last one = λ two. cc
+parted (x ∷ p) (y ∷ q) (z ∷ r) (w ∷ t) other later last one = λ two.
+    let first : w ≡ x = cc in
+    let second : w ≡ z = cc in
+    elim (first_bytes y x (slice_cmp nat_cmp q p) later) [
+      | inl more ↦ elim (first_bytes z y (slice_cmp nat_cmp r q) last) [
+        | inl again ↦ absurd (omega (arith, first, second, more, again))
+        | inr (same, rest) ↦ absurd (omega (arith, first, second, more, same))
+      ]
+      | inr (is, rest) ↦ elim (first_bytes z y (slice_cmp nat_cmp r q) last) [
+        | inl more ↦ absurd (omega (arith, first, second, more, is))
+        | inr (same, further) ↦
+            let begins_first : take (length p) t ≡ p = cc in
+            let begins_last : take (length r) t ≡ r = cc in
+            parted p q r t (rw (eq-eqb x y (sym is)) at other) rest further begins_first begins_last
+      ]
+    ]
 
-pub all_front : (P : PlacedRule → Type 0) (rest old : List PlacedRule) (rule : PlacedRule)
-    → old ≡ rest ++ rule ∷ [] → All P old → All P rest
-all_front P rest old rule last all k d below =
-    let one : List PlacedRule = rule ∷ [] in
-    subst P (get_or_append_left rest one d k below)
-    (rw last at all k d (omega (arith, below, length_push rest rule, ap length last)))
+-- a text begins with a pattern and with one that is later, but not longer, only if they are the same
+same_pattern : (p r t : List ℕ) → Follows r p → length r ≤ length p → take (length p) t ≡ p
+    → take (length r) t ≡ r → r ≡ p
+same_pattern [] [] t later short one two = refl
+same_pattern [] (z ∷ r) t later short one two = absurd (omega (arith, short))
+same_pattern (x ∷ p) [] t later short one two = cc
+same_pattern (x ∷ p) (z ∷ r) [] later short one two = cc
+same_pattern (x ∷ p) (z ∷ r) (w ∷ t) later short one two =
+    let first : w ≡ x = cc in
+    let second : w ≡ z = cc in
+    elim (first_bytes z x (slice_cmp nat_cmp r p) later) [
+      | inl more ↦ absurd (omega (arith, first, second, more))
+      | inr (is, rest) ↦
+          let begins_first : take (length p) t ≡ p = cc in
+          let begins_last : take (length r) t ≡ r = cc in
+          let tail : r ≡ p = same_pattern p r t rest (omega (arith, short)) begins_first begins_last in
+          cc
+    ]
 
-pub all_last : (P : PlacedRule → Type 0) (rest old : List PlacedRule) (rule : PlacedRule)
-    → old ≡ rest ++ rule ∷ [] → All P old → P rule
-all_last P rest old rule last all =
-    subst P (get_or_push rest rule rule (length rest) refl)
-    (rw last at all (length rest) rule (omega (arith, length_push rest rule, ap length last)))
+-- ---- the order of rules
 
--- ---- rivals
+patterns_first : (s r l : Ordering) → is_lt (ordering_then (ordering_then s r) l) ≡ false → is_lt s ≡ false
+patterns_first Less r l h = h
+patterns_first Equal r l h = refl
+patterns_first Greater r l h = refl
 
-no_rival_last : (rest : List PlacedRule) (floor : ℕ) (rule : PlacedRule) → AreNotBelow rule rest
-    → HasNoRival (unplaced rest) floor rule.rule
-no_rival_last rest floor rule last = record {
-  none = λ x has differ low less.
-      let (placed, listed, is) = placed_of rest x has in
-      let is_above = λ (p : PlacedRule). rank_of rule.rule ≤ rank_of p.rule in
-      let above = All-contains is_above rest placed last listed in
-      let same = ap rank_of is in
-      absurd (omega (arith, above, same, less));
-}
+pattern_follows : (placed other : PlacedRule) → IsAfter placed other → Follows placed.rule.0 other.rule.0
+pattern_follows placed other after = patterns_first _ _ _ after
 
-module _ (kept starred rest : List PlacedRule) where
-  abbrev whole : List PlacedRule
-  whole = (kept ++ starred) ++ rest
+ranks_next : (s l : Ordering) (m n : ℕ) → s ≡ Equal
+    → is_lt (ordering_then (ordering_then s (nat_cmp m n)) l) ≡ false → n ≤ m
+ranks_next s l m n same h = elim (cases_lt m n) [
+  | inl less ↦ let wrong = rw (same, cmp_less m n less) at h in cc
+  | inr most ↦ most
+]
 
-  pub no_rivals : (m n : ℕ) (rule : PlacedRule) → HasNoRival (unplaced kept) m rule.rule → m ≤ n
-      → HasNoRival (unplaced starred) n rule.rule → AreNotBelow rule rest
-      → HasNoRival (unplaced whole) n rule.rule
-  no_rivals m n rule one most two last =
-      no_rival_both (kept ++ starred) rest n n rule.rule
-      (no_rival_both kept starred m n rule.rule one most two) (omega arith) (no_rival_last rest n rule last)
+ranks_then : (placed other : PlacedRule) → IsAfter placed other → placed.rule.0 ≡ other.rule.0
+    → rank_of other.rule ≤ rank_of placed.rule
+ranks_then placed other after same =
+    ranks_next (slice_cmp nat_cmp placed.rule.0 other.rule.0) _ _ _
+    (rw same (tied_itself nat_list_cmp_total other.rule.0)) after
 
-  pub of_kept : (some : List PlacedRule) → AreAmong some kept → AreAmong some whole
-  of_kept some among placed has =
-      Contains-append_left (kept ++ starred) rest placed
-      (Contains-append_left kept starred placed (among placed has))
+not_longer : (m n : ℕ) (a b : Bool) → 2 * m + (if a then 1 else 0) < 2 * n + (if b then 1 else 0) → m ≤ n
+not_longer m n true true less = omega arith
+not_longer m n true false less = omega arith
+not_longer m n false true less = omega arith
+not_longer m n false false less = omega arith
 
-  pub of_starred : AreAmong starred whole
-  of_starred placed has =
-      Contains-append_left (kept ++ starred) rest placed (Contains-append_right kept starred placed has)
+-- a rule that isn't before a rule is none of its rivals
+later_no_rival : (rule other : PlacedRule) → IsPlain rule → IsPlain other → IsAfter other rule
+    → IsNoRival 0 rule.rule other.rule
+later_no_rival rule other plain other_plain after differ low less text fits others =
+    let short = not_longer (length other.rule.0) (length rule.rule.0) other.rule.1 rule.rule.1 less in
+    let same =
+    same_pattern rule.rule.0 other.rule.0 text (pattern_follows other rule after) short
+    (begins rule.rule.0 text plain others) (begins other.rule.0 text other_plain fits) in
+    let above = ranks_then other rule after same in
+    absurd (omega (arith, less, above))
 
-  pub of_rest : AreAmong rest whole
-  of_rest placed has = Contains-append_right (kept ++ starred) rest placed has
+-- and one with which a rule doesn't begin matches no text that a later one matches
+parted_rules : (last rule other : PlacedRule) → IsPlain last → IsPlain other
+    → starts_with nat_eq rule.rule.0 last.rule.0 ≡ false → IsAfter rule last → IsAfter other rule
+    → AreApart last.rule.0 other.rule.0
+parted_rules last rule other plain other_plain begins_not after later text fits others =
+    parted last.rule.0 rule.rule.0 other.rule.0 text begins_not (pattern_follows rule last after)
+    (pattern_follows other rule later) (begins last.rule.0 text plain fits)
+    (begins other.rule.0 text other_plain others)
 
--- ---- what holds among some rules
+abbrev pub is_before : PlacedRule → PlacedRule → Bool
+is_before placed other = is_lt (rule_cmp other placed)
 
-pub overruled_among : (some others : List PlacedRule) (rule : PlacedRule) (line : Option ℕ)
-    → AreAmong some others → IfSome line (λ n. (other : PlacedRule) × Contains some other × (other.line ≡ n)
-    × Overrules other rule)
-    → IfSome line (λ n. (other : PlacedRule) × Contains others other × (other.line ≡ n)
-    × Overrules other rule)
-overruled_among some others rule None among is = is
-overruled_among some others rule (Some n) among (other, listed, at, is) = (other, among other listed, at, is)
+pub weak : IsStrictWeakOrder is_before
+weak =
+    let pattern = on_texts (λ (p : PlacedRule). p.rule.0) in
+    let ranks = on_total (λ (p : PlacedRule). rank_of p.rule) nat_cmp_total in
+    let lines = on_total (λ (p : PlacedRule). p.line) nat_cmp_total in
+    ranks_by (back_total (then_total (then_total pattern ranks) lines)) (λ (p : PlacedRule). p)
 
-module _ (one two : List PlacedRule) (rule : PlacedRule) (found : Option Reason) (others : List PlacedRule)
-    (first : AreAmong one others) (second : AreAmong two others) where
-  pub goes_among : (floor : ℕ) → HasNoRival (unplaced others) floor rule.rule
-      → IfSome found (λ (reason : Reason). (all : List PlacedRule) → AreAmong one all → AreAmong two all
-      → HasNoRival (unplaced all) floor rule.rule → CanGo (unplaced all) rule.rule)
-      → IfSome found (λ (reason : Reason). CanGo (unplaced others) rule.rule)
-  goes_among floor none go = at found go
-    where
-      at : (r : Option Reason)
-          → IfSome r (λ (reason : Reason). (all : List PlacedRule) → AreAmong one all → AreAmong two all
-          → HasNoRival (unplaced all) floor rule.rule → CanGo (unplaced all) rule.rule)
-          → IfSome r (λ (reason : Reason). CanGo (unplaced others) rule.rule)
-      at None is = is
-      at (Some reason) is = is others first second none
+pub sorted_descending : (rules : List PlacedRule) → IsSortedBy is_before rules → All IsPlain rules
+    → AreDescending rules
+sorted_descending rules sorted plain i j d most below =
+    (plain j d below, sorted_far is_before weak rules sorted i j d most below)
 
-  pub holds_among : IfSome found (λ (reason : Reason). (all : List PlacedRule) → AreAmong one all
-      → AreAmong two all → IsReason all rule reason)
-      → IfSome found (λ (reason : Reason). IsReason others rule reason)
-  holds_among holds = at found holds
-    where
-      at : (r : Option Reason)
-          → IfSome r (λ (reason : Reason). (all : List PlacedRule) → AreAmong one all → AreAmong two all
-          → IsReason all rule reason)
-          → IfSome r (λ (reason : Reason). IsReason others rule reason)
-      at None is = is
-      at (Some reason) is = is others first second
+-- ---- rules that are left, the near ones among those that are kept, and the far ones
 
--- ---- the same rules in another order
+pub record AreParted (near_ones far_ones rest : List PlacedRule) : Type 0 where
+  pub order : AreDescending rest
+  pub far : (one other : PlacedRule) → Contains far_ones one → Contains rest other
+      → AreApart one.rule.0 other.rule.0
+  pub near : (one other : PlacedRule) → Contains near_ones one → Contains rest other
+      → IsPlain one × IsAfter other one
 
-pub reduced_permuted : (rules others left : List PlacedRule) (numbers : List ℕ) → IsPermutation rules others
-    → IsReducedTo others left numbers → IsReducedTo rules left numbers
-reduced_permuted rules others left numbers same is = record {
-  removed = is.removed;
-  lines = is.lines;
-  same = IsPermutation-trans rules others (left ++ is.removed) same is.same;
-  denied = λ text. both_ways (denied_permuted rules others same text) (is.denied text);
-}
+module _ (rest old : List PlacedRule) (rule : PlacedRule) (last : old ≡ rest ++ rule ∷ [])
+    (order : AreDescending old) where
+  descending : AreDescending (rest ++ rule ∷ [])
+  descending = rw last at order
 
-pub reason_among : (some all : List PlacedRule) → AreAmong some all → (rule : PlacedRule) (reason : Reason)
-    → IsReason some rule reason → IsReason all rule reason
-reason_among some all among rule reasons.MatchesNothing holds = holds
-reason_among some all among rule reasons.AllowedAnyway holds = holds
-reason_among some all among rule (reasons.NeverDecides line) (other, has, at, is) = (other, among other has, at, is)
-reason_among some all among rule (reasons.NotNeeded line) (other, has, at, another, kind, covers) =
-    (other, among other has, at, another, kind, covers)
+  descending_front : AreDescending rest
+  descending_front i j d most below =
+      let one : List PlacedRule = rule ∷ [] in
+      let first = get_or_append_left rest one d i (omega (arith, most, below)) in
+      let second = get_or_append_left rest one d j below in
+      let (plain, after) = descending i j d most (omega (arith, below, length_push rest rule)) in (
+        subst (λ (p : PlacedRule). IsPlain p) second plain,
+        subst (λ (p : PlacedRule). IsAfter p (get_or rest j d)) first
+            (subst (λ (p : PlacedRule). IsAfter (get_or (rest ++ one) i d) p) second after),
+      )
 
-pub found_permuted : (rules others : List PlacedRule) → IsPermutation rules others
-    → (found : List NeedlessRule) → All (IsFound others) found → All (IsFound rules) found
-found_permuted rules others same found =
-    let among : AreAmong others rules =
-    λ placed. Contains-permutation others rules placed (IsPermutation-sym rules others same) in
-    All-weaker (IsFound others) (IsFound rules)
-    (λ one (placed, listed, at, holds).
-    (placed, among placed listed, at, reason_among others rules among placed one.reason holds)) found
+  -- the rule is plain, and those that are left are plain and not before it
+  in_front_of : (other : PlacedRule) → Contains old other → IsPlain other × IsPlain rule × IsAfter other rule
+  in_front_of other has =
+      let (k, below, is) : Contains (rest ++ rule ∷ []) other = rw last at has in
+      let n = length_push rest rule in
+      let end = get_or_push rest rule other (length rest) refl in
+      let (itself, same) = descending k k other (omega arith) below in
+      let (plain, after) = descending k (length rest) other (omega (arith, below, n)) (omega (arith, n)) in (
+        subst (λ (p : PlacedRule). IsPlain p) is itself,
+        subst (λ (p : PlacedRule). IsPlain p) end plain,
+        subst (λ (p : PlacedRule). IsAfter other p) end
+            (subst (λ (p : PlacedRule). IsAfter p (get_or (rest ++ rule ∷ []) (length rest) other)) is after),
+      )
 
--- plain rules in another order and starred ones, which are the rules
-pub kinds_permuted : (rules plain sorted starred : List PlacedRule) → IsPermutation rules (plain ++ starred)
-    → IsPermutation plain sorted → IsPermutation rules (starred ++ sorted)
-kinds_permuted rules plain sorted starred all same =
-    IsPermutation-trans rules (sorted ++ starred) (starred ++ sorted)
-    (IsPermutation-trans rules (plain ++ starred) (sorted ++ starred) all
-    (IsPermutation-append_left starred plain sorted same)) (IsPermutation-append_comm sorted starred)
+  in_old : (other : PlacedRule) → Contains rest other → Contains old other
+  in_old other has = rw last (Contains-append_left rest (rule ∷ []) other has)
 
--- ---- one more plain rule
+  rule_in_old : Contains old rule
+  rule_in_old = rw last (Contains-push rest rule)
 
-pub plain_kept : (all kept starred rest old : List PlacedRule) (rule : PlacedRule) → old ≡ rest ++ rule ∷ []
-    → (numbers : List ℕ) → IsReducedTo all ((kept ++ starred) ++ old) numbers → (more : List PlacedRule)
-    → more ≡ kept ++ rule ∷ [] → IsReducedTo all ((more ++ starred) ++ rest) numbers
-plain_kept all kept starred rest old rule last numbers is more added =
-    reordered all ((kept ++ starred) ++ old) ((more ++ starred) ++ rest) numbers is
-    (to_first kept starred rest old rule last more added)
-
-pub indexed_none : {S : Type 0} (places : Places S) → AreIndexed [] places
-indexed_none places = record {
-  plain = λ placed (k, below, at). absurd (omega arith);
-  found = λ placed (k, below, at). absurd (omega arith);
-}
-
-module _ {S : Type 0} (old new : Places S) (hash n : ℕ) (h : Updates nat_eq old new hash (Some n)) where
-  still_there : (q : ℕ) → HasPlace old q → HasPlace new q
-  still_there q has = elim (cases_Bool (nat_eq hash q)) [
-    | inl at ↦ rw (h.0 q, at) refl
-    | inr other ↦ rw (h.0 q, other) has
+module _ (near far rest old new_near new_far : List PlacedRule) (rule : PlacedRule)
+    (last : old ≡ rest ++ rule ∷ []) (are : AreParted near far old)
+    (left : AreLeft near far new_near new_far rule) where
+  far_apart : (one other : PlacedRule) → Contains new_far one → Contains old other
+      → AreApart one.rule.0 other.rule.0
+  far_apart one other has other_has = elim (left.far one has) [
+    | inl before ↦ are.far one other before other_has
+    | inr (was_near, begins_not) ↦
+        let (plain, after) = are.near one rule was_near (rule_in_old rest old rule last are.order) in
+        let (other_plain, rule_plain, later) = in_front_of rest old rule last are.order other other_has in
+        parted_rules one rule other plain other_plain begins_not after later
   ]
 
-  pub indexed_more : (rules : List PlacedRule) (placed : PlacedRule)
-      → hash ≡ hash_from (seed placed.rule.1) placed.rule.0 → IsPlain placed → AreIndexed rules old
-      → AreIndexed (rules ++ placed ∷ []) new
-  indexed_more rules placed is plain are = record {
-    plain = λ other has. elim (Contains-push_cases rules placed other has) [
-      | inl before ↦ are.plain other before
-      | inr last ↦ subst (λ (p : PlacedRule). IsPlain p) last plain
-    ];
-    found = λ other has. elim (Contains-push_cases rules placed other has) [
-      | inl before ↦ still_there (hash_from (seed other.rule.1) other.rule.0) (are.found other before)
-      | inr last ↦
-          let here : HasPlace new (hash_from (seed placed.rule.1) placed.rule.0) =
-          subst (λ k. HasPlace new k) is (rw h.1 refl) in
-          subst (λ (p : PlacedRule). HasPlace new (hash_from (seed p.rule.1) p.rule.0)) last here
+  pub same_rules : (starred : List PlacedRule)
+      → IsPermutation ((starred ++ (far ++ near)) ++ old) ((starred ++ (new_far ++ new_near)) ++ old)
+  same_rules starred =
+      IsPermutation-append_left old (starred ++ (far ++ near)) (starred ++ (new_far ++ new_near))
+      (IsPermutation-append_right starred (far ++ near) (new_far ++ new_near) left.same)
+
+  pub rule_goes : AreParted new_near new_far rest
+  rule_goes = record {
+    order = descending_front rest old rule last are.order;
+    far = λ one other has later. far_apart one other has (in_old rest old rule last are.order other later);
+    near = λ one other has later.
+        are.near one other (left.near one has) (in_old rest old rule last are.order other later);
+  }
+
+  pub rule_stays : AreParted (new_near ++ rule ∷ []) new_far rest
+  rule_stays = record {
+    order = rule_goes.order;
+    far = rule_goes.far;
+    near = λ one other has later. elim (Contains-push_cases new_near rule one has) [
+      | inl before ↦ rule_goes.near one other before later
+      | inr same ↦
+          let (plain, rule_plain, after) =
+          in_front_of rest old rule last are.order other (in_old rest old rule last are.order other later) in
+          subst (λ (p : PlacedRule). IsPlain p × IsAfter other p) same (rule_plain, after)
     ];
   }
+
+  pub they_are_near : (starred : List PlacedRule)
+      → AreNear new_near starred ((starred ++ (new_far ++ new_near)) ++ rest) rule
+  they_are_near starred =
+      let plain = new_far ++ new_near in
+      let kept = starred ++ plain in record {
+        first = λ placed has.
+            Contains-append_left kept rest placed (Contains-append_right starred plain placed
+            (Contains-append_right new_far new_near placed has));
+        second = λ placed has.
+            Contains-append_left kept rest placed (Contains-append_left starred plain placed has);
+        only = λ other has. elim (Contains-append_cases kept rest other has) [
+          | inl stays ↦ elim (Contains-append_cases starred plain other stays) [
+            | inl second ↦ inr (inl second)
+            | inr of_plain ↦ elim (Contains-append_cases new_far new_near other of_plain) [
+              | inl is_far ↦
+                  inr (inr (λ differ low less.
+                  far_apart other rule is_far (rule_in_old rest old rule last are.order)))
+              | inr is_near ↦ inl is_near
+            ]
+          ]
+          | inr later ↦
+              let (other_plain, plain_rule, after) =
+              in_front_of rest old rule last are.order other
+              (in_old rest old rule last are.order other later) in
+              inr (inr (later_no_rival rule other plain_rule other_plain after))
+        ];
+      }
+
+pub nothing_parted : (rules : List PlacedRule) → AreDescending rules → AreParted [] [] rules
+nothing_parted rules order = record {
+  order = order;
+  far = λ one other (k, below, at). absurd (omega arith);
+  near = λ one other (k, below, at). absurd (omega arith);
+}
+
+pub near_pushed : (starred far near : List PlacedRule) (rule : PlacedRule)
+    → (starred ++ (far ++ near)) ++ rule ∷ [] ≡ starred ++ (far ++ (near ++ rule ∷ []))
+near_pushed starred far near rule =
+    append_assoc starred (far ++ near) (rule ∷ [])
+    ∙ ap (λ plain. starred ++ plain) (append_assoc far near (rule ∷ []))
+
+-- ---- one of the near rules is left
+
+pub nothing_left_behind : (near far : List PlacedRule) (rule : PlacedRule) → AreLeft near far near far rule
+nothing_left_behind near far rule = record {
+  same = IsPermutation-refl (far ++ near);
+  near = λ placed has. has;
+  far = λ placed has. inl has;
+}
+
+pub one_left : (near far old rest more : List PlacedRule) (last rule : PlacedRule)
+    → AreLeft near far old more rule
+    → old ≡ rest ++ last ∷ [] → starts_with nat_eq rule.rule.0 last.rule.0 ≡ false
+    → AreLeft near far rest (more ++ last ∷ []) rule
+one_left near far old rest more last rule are is begins_not = record {
+  same = IsPermutation-trans (far ++ near) (more ++ old) ((more ++ last ∷ []) ++ rest) are.same
+      (rw is (rest_to_front more rest last));
+  near = λ placed has. are.near placed (rw is (Contains-append_left rest (last ∷ []) placed has));
+  far = λ placed has. elim (Contains-push_cases more last placed has) [
+    | inl before ↦ are.far placed before
+    | inr same ↦
+        let listed = are.near last (rw is (Contains-push rest last)) in
+        inr (subst (λ (p : PlacedRule). Contains near p
+        × (starts_with nat_eq rule.rule.0 p.rule.0 ≡ false)) same (listed, begins_not))
+  ];
+}

@@ -1,18 +1,13 @@
 -- When a rule can go: its rivals, and the rules that cover it.
-use Rattle.std.proofs.Common.{◌≡◌, ◌≤◌, ◌⊎◌, inl, inr, Option, Some, None, false, ℕ, zero, suc, Bool, true}
-use Rattle.std.proofs.Common.{List, [], ◌∷◌, ◌++◌, All, IfSome, subst, refl, arith}
+use Rattle.std.proofs.Common.{◌≡◌, ◌≤◌, ◌⊎◌, inl, inr, ℕ, zero, suc, true}
+use Rattle.std.proofs.Common.{List, [], ◌∷◌, ◌++◌, subst, arith}
 use Rattle.std.specs.List.{Contains}
-use Rattle.std.proofs.lemmas.List.Elements.{All-push, Contains-append_cases}
-use Rattle.texting_robots.specs.Line.{LineValue}
+use Rattle.std.proofs.lemmas.List.Elements.{Contains-append_cases, Contains-append_left}
+use Rattle.std.proofs.lemmas.List.Elements.{Contains-append_right}
 use Rattle.texting_robots.specs.Rules.{PlacedRule, Rule, unplaced}
-use Rattle.std.specs.Option.{IsSomeAnd}
-use Rattle.std.specs.Str.{is_utf8}
-use Rattle.texting_robots.specs.Pattern.{IsOverlong}
-use Rattle.texting_robots.specs.{Escape.escaped, Internal.Group.placed}
-use Rattle.texting_robots.specs.Executable.{placed_rules, rule_with}
-use Rattle.texting_robots.proofs.{BestLemmas.placed_of, HeldLemmas.computed_are}
-use Rattle.robots_needless.specs.Internal.{CanGo, HasNoRival, IsNoRival, CanReplace}
-use Rattle.robots_needless.specs.Needless.{AreDistinct, Overrules}
+use Rattle.texting_robots.proofs.{BestLemmas.placed_of}
+use Rattle.robots_needless.specs.Internal.{AreNear, CanGo, CanReplace, HasNoRival, IsNoRival}
+use Rattle.robots_needless.specs.Needless.{Overrules}
 use Rattle.robots_needless.proofs.TogetherLemmas.{unplaced_of}
 
 -- a rule of two lists is one of the first or of the second
@@ -29,12 +24,29 @@ unplaced_cases left right x has =
 
 -- ---- rivals
 
-pub no_rival_both : (kept rest : List PlacedRule) (m n : ℕ) (rule : Rule) → HasNoRival (unplaced kept) m rule
-    → m ≤ n → HasNoRival (unplaced rest) n rule → HasNoRival (unplaced (kept ++ rest)) n rule
-no_rival_both kept rest m n rule one most two = record {
-  none = λ x has kinds low high. elim (unplaced_cases kept rest x has) [
-    | inl first ↦ one.none x first kinds (omega arith) high
-    | inr second ↦ two.none x second kinds low high
+pub no_rival_near : (one two others : List PlacedRule) (m n : ℕ) (rule : PlacedRule)
+    → AreNear one two others rule → HasNoRival (unplaced one) m rule.rule → m ≤ n
+    → HasNoRival (unplaced two) n rule.rule → HasNoRival (unplaced others) n rule.rule
+no_rival_near one two others m n rule are first most second = record {
+  none = λ x has.
+      let (placed, listed, is) = placed_of others x has in
+      let at : IsNoRival n rule.rule placed.rule = elim (are.only placed listed) [
+        | inl of_one ↦ λ kinds low high.
+            first.none placed.rule (unplaced_of one placed of_one) kinds (omega (arith, most, low)) high
+        | inr others ↦ elim others [
+          | inl of_two ↦ second.none placed.rule (unplaced_of two placed of_two)
+          | inr apart ↦ λ kinds low high. apart kinds (omega arith) high
+        ]
+      ] in subst (λ (r : Rule). IsNoRival n rule.rule r) is at;
+}
+
+pub both_near : (kept rest : List PlacedRule) (rule : PlacedRule) → AreNear kept rest (kept ++ rest) rule
+both_near kept rest rule = record {
+  first = Contains-append_left kept rest;
+  second = Contains-append_right kept rest;
+  only = λ other has. elim (Contains-append_cases kept rest other has) [
+    | inl first ↦ inl first
+    | inr second ↦ inr (inl second)
   ];
 }
 
@@ -85,34 +97,3 @@ covered_goes others floor rule other none listed is =
 pub allow_goes : (others : List Rule) (floor : ℕ) (rule : Rule) → HasNoRival others floor rule → floor ≡ 0
     → rule.1 ≡ true → CanGo others rule
 allow_goes others floor rule none is allows = inr (inl (allows, rw is at none))
-
--- ---- the rules of a crawler
-
-pub placed_distinct : (agent : List ℕ) (lines : List LineValue) → AreDistinct (placed_rules agent lines)
-placed_distinct agent lines = (computed_are agent lines).once
-
--- ---- reading a rule
-
-pub placed_some : (value pattern : List ℕ) (allows : Bool) (line : ℕ) → is_utf8 value ≡ true
-    → pattern ≡ escaped value
-    → ◌≡◌ {A = Option PlacedRule} (Some (record { rule = (pattern, allows); line = line }))
-    (placed line (rule_with value allows))
-placed_some value pattern allows line utf8 is = rw (utf8, is) refl
-
-pub placed_none : (value : List ℕ) (allows : Bool) (line : ℕ) → is_utf8 value ≡ false
-    → ◌≡◌ {A = Option PlacedRule} None (placed line (rule_with value allows))
-placed_none value allows line other = rw other refl
-
-pub overlong_some : (value pattern : List ℕ) (allows : Bool) (line : ℕ) → is_utf8 value ≡ true
-    → pattern ≡ escaped value → IsOverlong pattern
-    → IsSomeAnd (placed line (rule_with value allows)) (λ (placed : PlacedRule). IsOverlong placed.rule.0)
-overlong_some value pattern allows line utf8 is overlong = rw utf8 (rw is at overlong)
-
--- one more rule that isn't overlong
-pub accepted_more : (old new : List PlacedRule) (found : Option PlacedRule) (rule : PlacedRule)
-    → found ≡ Some rule → new ≡ old ++ rule ∷ []
-    → IfSome found (λ (placed : PlacedRule). ¬ IsOverlong placed.rule.0)
-    → All (λ (placed : PlacedRule). ¬ IsOverlong placed.rule.0) old
-    → All (λ (placed : PlacedRule). ¬ IsOverlong placed.rule.0) new
-accepted_more old new found rule is added here before =
-    rw added (All-push (λ (placed : PlacedRule). ¬ IsOverlong placed.rule.0) old rule before (rw is at here))

@@ -1,5 +1,6 @@
 -- What is found for several crawlers: rules that are needless for each of them.
-use Rattle.std.proofs.Common.{◌≡◌, ◌↔◌, inl, inr, ℕ, zero, suc, ◌==◌, Bool, true, false, List, [], ◌∷◌, ◌++◌, All}
+use Rattle.std.proofs.Common.{◌≡◌, ◌↔◌, inl, inr, ℕ, zero, suc, ◌==◌, Bool, true, false, List, [], ◌∷◌, ◌++◌}
+use Rattle.std.proofs.Common.{All}
 use Rattle.std.proofs.Common.{◌+◌, ◌<◌, Some, get_or, length, take, ap, sym, refl, subst, ◌∙◌, arith, codes}
 use Rattle.std.proofs.Common.{filter, map}
 use Rattle.std.specs.BTreeMap.{IsOrdered, Updates, get, keys}
@@ -9,15 +10,13 @@ use Rattle.std.specs.{Ordering.eq_by_cmp, Ordering.nat_cmp}
 use Rattle.std.specs.Cmp.{nat_cmp_total}
 use Rattle.std.proofs.lemmas.Bool.{cases_Bool, false≢true}
 use Rattle.std.proofs.lemmas.List.{take_more}
-use Rattle.std.proofs.lemmas.List.Elements.{All-contains, Contains-append_cases, Contains-append_left}
+use Rattle.std.proofs.lemmas.List.Elements.{All-contains, Contains-append_left}
 use Rattle.std.proofs.lemmas.List.Elements.{All-map, All-nil, Contains-push, Contains-push_cases}
-use Rattle.std.proofs.lemmas.List.Sorted.{Contains-permutation, IsPermutation-sym}
 use Rattle.std.proofs.lemmas.Map.Lookups.{exact_unsigned}
 use Rattle.std.proofs.lemmas.Map.Views.{All-found, btree_map_contains_key_iff, tells_apart}
 use Rattle.texting_robots.specs.Callers.{IsOverlong, IsRejected, LineValue, PlacedRule, Rule, agents_in}
 use Rattle.texting_robots.specs.Callers.{delay_for, file_bodies, file_lines, placed_rules, rules_for}
-use Rattle.texting_robots.specs.Callers.{sitemaps_in, unplaced}
-use Rattle.texting_robots.specs.Verdict.{IsDenied}
+use Rattle.texting_robots.specs.Callers.{sitemaps_in}
 use Rattle.robots_needless.specs.declared.needless.NeedlessRule.{NeedlessRule}
 use Rattle.robots_needless.specs.declared.needless.Reason.{Reason}
 use Rattle.texting_robots.proofs.{BestLemmas.placed_of, HeldLemmas.rejection_is_computed}
@@ -26,10 +25,11 @@ use Rattle.robots_needless.specs.Deleted.{AreFoundIn, begin_with_mark}
 use Rattle.robots_needless.specs.Internal.{AddsFound, AddsLines, AddsNumber, AreFree, AreReasons, AreSettled}
 use Rattle.robots_needless.specs.Internal.{Grow, Has, HasLine, IsReducedTo, IsSettled, Reasons, rule_at}
 use Rattle.robots_needless.specs.Needless.{AreFound, AreNeedless, IsFound, IsFoundFor, numbers_of, without}
-use Rattle.robots_needless.proofs.BlockLemmas.{among, deleted, delays_stay, left_are, same_test, sitemaps_stay}
-use Rattle.robots_needless.proofs.DistinctLemmas.{in_filter, in_named, named_in, of_map, to_filter, to_map}
+use Rattle.robots_needless.proofs.BlockLemmas.{among, deleted, delays_stay, left_are, same_test}
+use Rattle.robots_needless.proofs.BlockLemmas.{sitemaps_stay}
+use Rattle.robots_needless.proofs.DistinctLemmas.{in_named, left_without, named_in, of_map, to_map}
 use Rattle.robots_needless.proofs.KeptLemmas.{all_keep}
-use Rattle.robots_needless.proofs.TogetherLemmas.{both_ways, denied_same, verdicts}
+use Rattle.robots_needless.proofs.TogetherLemmas.{verdicts_without}
 
 -- ---- one more line
 
@@ -123,7 +123,7 @@ not_rejected agent lines all rejected =
 module _ (rules left : List PlacedRule) (found : List NeedlessRule) (old new : Reasons)
     (stayed stays : BTreeSet ℕ) (adds : AddsFound old new found)
     (lines_stay : AddsLines stayed stays left) where
-  pub settled_by : AreAccepted rules → IsReducedTo rules left (numbers_of found) → IsSettled rules new stays
+  pub settled_by : AreAccepted rules → IsReducedTo rules left found → IsSettled rules new stays
   settled_by accepted is = record {
     accepted = accepted;
     left = left;
@@ -137,9 +137,6 @@ module _ (rules left : List PlacedRule) (found : List NeedlessRule) (old new : R
         subst (λ n. HasLine new n) at (adds.added one listed);
     stay = λ placed has. lines_stay.added placed has;
   }
-
-  pub they_grow : Grow old new stayed stays
-  they_grow = record { found = adds.more; lines = lines_stay.more }
 
   pub reasons_by : (lines : List LineValue) (agent : List ℕ) → rules ≡ placed_rules agent lines
       → All (IsFound rules) found → AreReasons lines old → AreReasons lines new
@@ -206,58 +203,24 @@ numbers_are : (entries : List (ℕ × Reason))
 numbers_are [] = refl
 numbers_are (e ∷ entries) = ap (λ ns. e.0 ∷ ns) (numbers_are entries)
 
-module _ (found : Reasons) (stays : BTreeSet ℕ) (list : List NeedlessRule)
-    (are : list ≡ map rule_at found.entries) (free : AreFree list stays) (rules : List PlacedRule)
-    (is : IsSettled rules found stays) (placed : PlacedRule) where
-  named_line : HasLine found placed.line → list_any (λ number. number == placed.line) (numbers_of list) ≡ true
-  named_line has =
-      let key = (btree_map_contains_key_iff nat_cmp_total exact_unsigned found placed.line).0 has in
-      named_in placed.line (numbers_of list)
-      (rw are (subst (λ ns. Contains ns placed.line) (sym (numbers_are found.entries)) key))
-
-  to_left : Contains (without (numbers_of list) rules) placed → Contains is.left placed
-  to_left has =
-      let (listed, passes) = in_filter _ rules placed has in
-      elim (Contains-append_cases is.left is.removed placed
-      (Contains-permutation rules (is.left ++ is.removed) placed is.same listed)) [
-        | inl left ↦ left
-        | inr removed ↦ absurd (false≢true (rw (named_line (is.go placed removed)) at passes))
-      ]
-
-  not_named : Contains is.left placed → list_any (λ number. number == placed.line) (numbers_of list) ≡ true
-      → ⊥
-  not_named left some =
-      let number = in_named placed.line (numbers_of list) some in
-      let (one, listed, at) = of_map (λ (o : NeedlessRule). o.line) list placed.line number in
-      let is_free = λ (o : NeedlessRule). contains nat_cmp stays o.line ≡ false in
-      let none = All-contains is_free list one free listed in
-      let none_here : contains nat_cmp stays placed.line ≡ false =
-      subst (λ n. contains nat_cmp stays n ≡ false) at none in
-      false≢true (sym none_here ∙ is.stay placed left)
-
-  of_left : Contains is.left placed → Contains (without (numbers_of list) rules) placed
-  of_left left =
-      let listed = Contains-permutation (is.left ++ is.removed) rules placed
-      (IsPermutation-sym rules (is.left ++ is.removed) is.same)
-      (Contains-append_left is.left is.removed placed left) in
-      to_filter _ rules placed listed
-      (elim (cases_Bool (list_any (λ number. number == placed.line) (numbers_of list))) [
-        | inr none ↦ rw none refl
-        | inl some ↦ absurd (not_named left some)
-      ])
-
 pub settled_needless : (found : Reasons) (stays : BTreeSet ℕ) (list : List NeedlessRule)
     → list ≡ map rule_at found.entries → AreFree list stays → (rules : List PlacedRule)
     → IsSettled rules found stays → AreNeedless rules (numbers_of list)
 settled_needless found stays list are free rules is text answer =
-    let rest = without (numbers_of list) rules in
-    let to = to_left found stays list are free rules is in
-    let of = of_left found stays list are free rules is in
-    let same : IsDenied (unplaced is.left) text ↔ IsDenied (unplaced rest) text = (
-      denied_same is.left rest text (λ placed. (of placed, to placed)),
-      denied_same rest is.left text (λ placed. (to placed, of placed)),
-    ) in
-    verdicts (unplaced rules) (unplaced rest) text (both_ways (is.denied text) same) answer
+    let numbers = numbers_of list in
+    let members : (placed : PlacedRule) → Contains (without numbers rules) placed ↔ Contains is.left placed =
+    left_without numbers rules is.left is.removed is.same
+    (λ placed removed.
+    let key =
+    (btree_map_contains_key_iff nat_cmp_total exact_unsigned found placed.line).0 (is.go placed removed) in
+    rw are (subst (λ ns. Contains ns placed.line) (sym (numbers_are found.entries)) key))
+    (λ placed left number.
+    let (one, listed, at) = of_map (λ (o : NeedlessRule). o.line) list placed.line number in
+    let is_free = λ (o : NeedlessRule). contains nat_cmp stays o.line ≡ false in
+    let none : contains nat_cmp stays placed.line ≡ false =
+    subst (λ n. contains nat_cmp stays n ≡ false) at (All-contains is_free list one free listed) in
+    false≢true (sym none ∙ is.stay placed left)) in
+    verdicts_without rules is.left numbers text (is.denied text) members answer
 
 pub reasons_listed : (found : Reasons) → IsOrdered nat_cmp found → (list : List NeedlessRule)
     → list ≡ map rule_at found.entries → (lines : List LineValue) → AreReasons lines found

@@ -3,7 +3,8 @@ use Rattle.std.proofs.Common.{◌≡◌, ◌↔◌, inl, inr, ℕ, zero, suc, Bo
 use Rattle.std.proofs.Common.{IsPermutation, ap, refl, sym, subst, ◌∙◌, append_assoc, append-nil, arith}
 use Rattle.std.specs.List.{Contains}
 use Rattle.std.proofs.lemmas.List.{get_or-map, length-map, map-append}
-use Rattle.std.proofs.lemmas.List.Elements.{Contains-append_cases, Contains-append_left}
+use Rattle.std.proofs.lemmas.List.Elements.{All-nil, All-push, Contains-append_cases, Contains-append_left}
+use Rattle.std.proofs.lemmas.List.Elements.{Contains-push}
 use Rattle.std.proofs.lemmas.List.Sorted.{Contains-permutation, IsPermutation-append_comm}
 use Rattle.std.proofs.lemmas.List.Sorted.{IsPermutation-append_left, IsPermutation-append_right}
 use Rattle.std.proofs.lemmas.List.Sorted.{IsPermutation-middle, IsPermutation-refl, IsPermutation-sym}
@@ -11,8 +12,11 @@ use Rattle.std.proofs.lemmas.List.Sorted.{IsPermutation-trans}
 use Rattle.texting_robots.specs.Rules.{PlacedRule, Rule, unplaced}
 use Rattle.texting_robots.specs.Verdict.{IsDenied, IsVerdict}
 use Rattle.texting_robots.proofs.BestLemmas.{placed_of}
-use Rattle.robots_needless.specs.Internal.{CanGo, CanGoInTurn, IsReducedTo}
-use Rattle.robots_needless.specs.Needless.{AreDistinct, AreNeedless, lines_of, without}
+use Rattle.robots_needless.specs.declared.needless.NeedlessRule.{NeedlessRule}
+use Rattle.robots_needless.specs.declared.needless.Reason.{Reason}
+use Rattle.robots_needless.specs.declared.needless.Reason.TheVariants as reasons
+use Rattle.robots_needless.specs.Internal.{AreAmong, CanGoInTurn, Goes, IsReducedTo}
+use Rattle.robots_needless.specs.Needless.{AreDistinct, AreNeedless, IsFound, IsReason, lines_of, without}
 use Rattle.robots_needless.proofs.{DistinctLemmas.left_are_kept, RemovalLemmas.AreWith, RemovalLemmas.can_go}
 
 -- the rule of a member
@@ -90,6 +94,18 @@ denied_permuted rules others same text = (
 pub both_ways : {A B C : Type 0} → A ↔ B → B ↔ C → A ↔ C
 both_ways (to, from) (on, back) = (λ a. on (to a), λ c. from (back c))
 
+-- the rules without some have the same verdicts as those that are left, if these deny the same texts
+pub verdicts_without : (rules left : List PlacedRule) (numbers : List ℕ) (text : List ℕ)
+    → IsDenied (unplaced rules) text ↔ IsDenied (unplaced left) text
+    → SameMembers (without numbers rules) left → (answer : Bool)
+    → IsVerdict (unplaced rules) text answer ↔ IsVerdict (unplaced (without numbers rules)) text answer
+verdicts_without rules left numbers text denied members answer =
+    let rest = without numbers rules in
+    let back : SameMembers left rest = λ placed. ((members placed).1, (members placed).0) in
+    let same : IsDenied (unplaced left) text ↔ IsDenied (unplaced rest) text =
+    (denied_same left rest text back, denied_same rest left text members) in
+    verdicts (unplaced rules) (unplaced rest) text (both_ways denied same) answer
+
 -- ---- rules that are removed one after the other
 
 pub nothing_removed : (rules : List PlacedRule) → IsReducedTo rules rules []
@@ -98,53 +114,96 @@ nothing_removed rules = record {
   lines = refl;
   same = subst (λ all. IsPermutation rules all) (sym (append-nil rules)) (IsPermutation-refl rules);
   denied = λ text. (λ denied. denied, λ denied. denied);
+  reasons = All-nil (IsFound rules);
 }
 
-pub reordered : (rules left others : List PlacedRule) (numbers : List ℕ) → IsReducedTo rules left numbers
-    → IsPermutation left others → IsReducedTo rules others numbers
-reordered rules left others numbers is same = record {
+pub reordered : (rules left others : List PlacedRule) (found : List NeedlessRule)
+    → IsReducedTo rules left found → IsPermutation left others → IsReducedTo rules others found
+reordered rules left others found is same = record {
   removed = is.removed;
   lines = is.lines;
   same = IsPermutation-trans rules (left ++ is.removed) (others ++ is.removed) is.same
       (IsPermutation-append_left is.removed left others same);
   denied = λ text. both_ways (is.denied text) (denied_permuted left others same text);
+  reasons = is.reasons;
 }
 
-pub one_less : (rules others : List PlacedRule) (rule : PlacedRule) (numbers : List ℕ)
-    → IsReducedTo rules (others ++ rule ∷ []) numbers → CanGo (unplaced others) rule.rule
-    → IsReducedTo rules others (numbers ++ rule.line ∷ [])
-one_less rules others rule numbers is can =
-    let one : List PlacedRule = rule ∷ [] in record {
+reason_among : (some all : List PlacedRule) → AreAmong some all → (rule : PlacedRule) (reason : Reason)
+    → IsReason some rule reason → IsReason all rule reason
+reason_among some all among rule reasons.MatchesNothing holds = holds
+reason_among some all among rule reasons.AllowedAnyway holds = holds
+reason_among some all among rule (reasons.NeverDecides line) (other, has, at, is) =
+    (other, among other has, at, is)
+reason_among some all among rule (reasons.NotNeeded line) (other, has, at, another, kind, covers) =
+    (other, among other has, at, another, kind, covers)
+
+one_less : (rules others : List PlacedRule) (rule : PlacedRule) (found : List NeedlessRule)
+    → IsReducedTo rules (others ++ rule ∷ []) found → (reason : Reason) → Goes others rule reason
+    → IsReducedTo rules others (found ++ record { line = rule.line; reason = reason } ∷ [])
+one_less rules others rule found is reason goes =
+    let one : List PlacedRule = rule ∷ [] in
+    let more : List NeedlessRule = record { line = rule.line; reason = reason } ∷ [] in
+    let listed : AreAmong (others ++ one) rules =
+    λ placed has. Contains-permutation ((others ++ one) ++ is.removed) rules placed
+    (IsPermutation-sym rules ((others ++ one) ++ is.removed) is.same)
+    (Contains-append_left (others ++ one) is.removed placed has) in
+    let holds = reason_among others rules
+    (λ placed has. listed placed (Contains-append_left others one placed has)) rule reason goes.holds in
+    record {
       removed = is.removed ++ one;
       lines = map-append (λ (p : PlacedRule). p.line) is.removed one
-          ∙ ap (λ ns. ns ++ rule.line ∷ []) is.lines;
+          ∙ ap (λ ns. ns ++ rule.line ∷ []) is.lines
+          ∙ sym (map-append (λ (r : NeedlessRule). r.line) found more);
       same = IsPermutation-trans rules (others ++ (one ++ is.removed)) (others ++ (is.removed ++ one))
           (subst (λ all. IsPermutation rules all) (append_assoc others one is.removed) is.same)
           (IsPermutation-append_right others (one ++ is.removed) (is.removed ++ one)
           (IsPermutation-append_comm one is.removed));
       denied = λ text. both_ways (is.denied text)
-          (can_go (unplaced others) (unplaced (others ++ one)) rule.rule (with_last others rule) can text);
+          (can_go (unplaced others) (unplaced (others ++ one)) rule.rule (with_last others rule) goes.go
+          text);
+      reasons = All-push (IsFound rules) found _ is.reasons
+          (rule, listed rule (Contains-push others rule), refl, holds);
     }
 
-pub none_less : (rules : List PlacedRule) → IsReducedTo rules rules []
-none_less rules = record {
-  removed = [];
-  lines = refl;
-  same = subst (λ all. IsPermutation rules all) (sym (append-nil rules)) (IsPermutation-refl rules);
-  denied = λ text. (λ denied. denied, λ denied. denied);
-}
+-- ---- the last rule of the rest is tried, with those in front of the rest
 
-pub reduced_needless : (rules left : List PlacedRule) (numbers : List ℕ) → AreDistinct rules
-    → IsReducedTo rules left numbers → AreNeedless rules numbers
-reduced_needless rules left numbers once is text answer =
-    let same = left_are_kept rules left is.removed is.same once in
-    let rest = without (lines_of is.removed) rules in
-    let same_rest : IsDenied (unplaced left) text ↔ IsDenied (unplaced rest) text = (
-      denied_same left rest text (λ placed. ((same placed).1, (same placed).0)),
-      denied_same rest left text same,
-    ) in
-    subst (λ ns. IsVerdict (unplaced rules) text answer ↔ IsVerdict (unplaced (without ns rules)) text answer)
-    is.lines (verdicts (unplaced rules) (unplaced rest) text (both_ways (is.denied text) same_rest) answer)
+pub rest_to_front : (front rest : List PlacedRule) (rule : PlacedRule)
+    → IsPermutation (front ++ (rest ++ rule ∷ [])) ((front ++ rule ∷ []) ++ rest)
+rest_to_front front rest rule =
+    let last : List PlacedRule = rule ∷ [] in
+    subst (λ to. IsPermutation (front ++ (rest ++ last)) to) (sym (append_assoc front last rest))
+    (IsPermutation-append_right front (rest ++ last) (last ++ rest) (IsPermutation-append_comm rest last))
+
+-- it goes to the end of the first list, or of the second one
+module _ (one two rest old : List PlacedRule) (rule : PlacedRule) (last : old ≡ rest ++ rule ∷ []) where
+  pub to_second : (more : List PlacedRule) → more ≡ two ++ rule ∷ []
+      → IsPermutation ((one ++ two) ++ old) ((one ++ more) ++ rest)
+  to_second more added =
+      rw (last, added, ← append_assoc one two (rule ∷ [])) (rest_to_front (one ++ two) rest rule)
+
+  pub to_first : (more : List PlacedRule) → more ≡ one ++ rule ∷ []
+      → IsPermutation ((one ++ two) ++ old) ((more ++ two) ++ rest)
+  to_first more added =
+      let second : List PlacedRule = two ++ rule ∷ [] in
+      rw added (IsPermutation-trans ((one ++ two) ++ old) ((one ++ second) ++ rest)
+      (((one ++ rule ∷ []) ++ two) ++ rest) (to_second second refl)
+      (IsPermutation-append_left rest (one ++ second) ((one ++ rule ∷ []) ++ two)
+      (rest_to_front one two rule)))
+
+module _ (rules front rest old : List PlacedRule) (rule : PlacedRule) (last : old ≡ rest ++ rule ∷ [])
+    (found : List NeedlessRule) (is : IsReducedTo rules (front ++ old) found) where
+  pub rule_kept : (more : List PlacedRule) → front ++ rule ∷ [] ≡ more
+      → IsReducedTo rules (more ++ rest) found
+  rule_kept more added =
+      rw (← added) (reordered rules (front ++ old) ((front ++ rule ∷ []) ++ rest) found is
+      (rw last (rest_to_front front rest rule)))
+
+  pub rule_gone : (reason : Reason) → Goes (front ++ rest) rule reason → (more : List NeedlessRule)
+      → more ≡ found ++ record { line = rule.line; reason = reason } ∷ []
+      → IsReducedTo rules (front ++ rest) more
+  rule_gone reason goes more added =
+      rw added (one_less rules (front ++ rest) rule found
+      (rw (append_assoc front rest (rule ∷ []), ← last) is) reason goes)
 
 -- all of them, for a list of removed rules
 in_turn : (kept removed : List PlacedRule) → CanGoInTurn kept removed → (text : List ℕ)
@@ -165,11 +224,7 @@ in_turn kept (rule ∷ later) (can, rest) text =
 
 pub needless_in_turn : (rules kept removed : List PlacedRule) → AreDistinct rules
     → IsPermutation rules (kept ++ removed) → CanGoInTurn kept removed → AreNeedless rules (lines_of removed)
-needless_in_turn rules kept removed once same can =
-    reduced_needless rules kept (lines_of removed) once (record {
-      removed = removed;
-      lines = refl;
-      same = same;
-      denied = λ text.
-          both_ways (denied_permuted rules (kept ++ removed) same text) (in_turn kept removed can text);
-    })
+needless_in_turn rules kept removed once same can text answer =
+    verdicts_without rules kept (lines_of removed) text
+    (both_ways (denied_permuted rules (kept ++ removed) same text) (in_turn kept removed can text))
+    (left_are_kept rules kept removed same once) answer

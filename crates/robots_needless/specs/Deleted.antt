@@ -43,8 +43,8 @@ begin_with_mark [] = false
 begin_with_mark ([] ∷ bodies) = false
 begin_with_mark ((b ∷ body) ∷ bodies) = (b == 0xEF) || ((b == 0xBB) || (b == 0xBF))
 
--- the found rules of a file: the first line that stays doesn't begin with a byte of the byte order mark, which
--- isn't read at the start of a file
+-- the found rules of a file: the first line that stays doesn't begin with a byte of the byte order mark,
+-- which isn't read at the start of a file
 pub record AreFoundIn (file : List ℕ) (found : List NeedlessRule) : Type 0 where
   pub lines : AreFound (file_lines file) found
   pub front : found ≢ [] → begin_with_mark (lines_without (numbers_of found) (file_bodies file)) ≡ false

@@ -1,17 +1,19 @@
 -- How the check compares patterns, and when it finds a rule needless.
 use Rattle.std.specs.Prelude.{◌≡◌, ◌≢◌, ◌⊎◌, ◌↔◌, ℕ, ◌<◌, ◌≤◌, ◌==◌, true, false, List, [], ◌∷◌}
 use Rattle.std.specs.Prelude.{◌++◌, All, Contains, IsPermutation, None, Option, Some, length, slice_index}
-use Rattle.std.specs.Prelude.{if◌then◌else◌, ◌&&◌, Bool, bytes_eq, codes}
+use Rattle.std.specs.Prelude.{if◌then◌else◌, ◌&&◌, Bool, bytes_eq, codes, nat_eq, slice_index_or}
 use Rattle.std.specs.BTreeMap.{BTreeMap, get}
 use Rattle.std.specs.BTreeSet.{BTreeSet, contains}
-use Rattle.std.specs.{Option.IsSome, Ordering.nat_cmp}
+use Rattle.std.specs.{Cmp.Lexicographic.slice_cmp, List.starts_with, Option.IsSome}
+use Rattle.std.specs.Ordering.{is_lt, nat_cmp, ordering_then}
+use Rattle.std.specs.declared.cmp.Ordering.{Ordering}
 use Rattle.texting_robots.specs.Callers.{IsDenied, IsOverlong, LineValue, PlacedRule, Rule, placed_rules}
 use Rattle.texting_robots.specs.Callers.{unplaced}
 use Rattle.texting_robots.specs.Pattern.{dollar, star}
 use Rattle.robots_needless.specs.declared.needless.NeedlessRule.{NeedlessRule}
 use Rattle.robots_needless.specs.declared.needless.Reason.{Reason}
-use Rattle.robots_needless.specs.Needless.{AreApart, Covers, IsFoundFor, MatchesNothing, lines_of, rank_of}
-use Rattle.robots_needless.specs.Prefixes.{IsPlainByte}
+use Rattle.robots_needless.specs.Needless.{AreApart, Covers, IsFound, IsFoundFor, IsReason, MatchesNothing}
+use Rattle.robots_needless.specs.Needless.{lines_of, numbers_of, rank_of}
 
 -- a byte that no escaped pattern contains
 abbrev pub fresh : ℕ
@@ -23,6 +25,13 @@ abbrev pub generic : List ℕ → List ℕ
 generic [] = fresh ∷ []
 generic (b ∷ q) =
     if b == star then fresh ∷ generic q else if b == dollar then [] else b ∷ generic q
+
+-- neither a star nor a dollar
+abbrev pub IsPlainByte : ℕ → Type 0
+IsPlainByte b = ((b == star) ≡ false) × ((b == dollar) ≡ false)
+
+abbrev pub IsPlain : PlacedRule → Type 0
+IsPlain placed = All IsPlainByte placed.rule.0
 
 -- the matcher of the pattern, which has none if it is plain
 abbrev pub IsMatcherOf : List ℕ → Option (List ℕ) → Type 0
@@ -64,13 +73,19 @@ CanGoInTurn kept [] = Unit {0}
 CanGoInTurn kept (rule ∷ later) =
     CanGo (unplaced (kept ++ later)) rule.rule × CanGoInTurn kept later
 
--- the rules, without some in the lines with these numbers, are the ones left, in some order, which deny the
--- same texts
-pub record IsReducedTo (rules left : List PlacedRule) (numbers : List ℕ) : Type 0 where
+-- the reason holds for the rule among the others, which have the same verdicts without it
+pub record Goes (others : List PlacedRule) (rule : PlacedRule) (reason : Reason) : Type 0 where
+  pub go : CanGo (unplaced others) rule.rule
+  pub holds : IsReason others rule reason
+
+-- the rules, without some for which these are found, are the ones left, in some order, which deny the same
+-- texts
+pub record IsReducedTo (rules left : List PlacedRule) (found : List NeedlessRule) : Type 0 where
   pub removed : List PlacedRule
-  pub lines : lines_of removed ≡ numbers
+  pub lines : lines_of removed ≡ numbers_of found
   pub same : IsPermutation rules (left ++ removed)
   pub denied : (text : List ℕ) → IsDenied (unplaced rules) text ↔ IsDenied (unplaced left) text
+  pub reasons : All (IsFound rules) found
 
 -- the two generic texts differ at some byte, and neither has the fresh byte up to it
 pub record HeadsDiffer (one other : List ℕ) : Type 0 where
@@ -92,6 +107,38 @@ pub record CanReplace (floor : ℕ) (other rule : Rule) : Type 0 where
 -- all of these rules are among the others
 abbrev pub AreAmong : List PlacedRule → List PlacedRule → Type 0
 AreAmong some others = (placed : PlacedRule) → Contains some placed → Contains others placed
+
+-- the others have the rules of these two lists, and besides them only rules that are no rivals of the rule
+pub record AreNear (one two others : List PlacedRule) (rule : PlacedRule) : Type 0 where
+  pub first : AreAmong one others
+  pub second : AreAmong two others
+  pub only : (other : PlacedRule) → Contains others other
+      → Contains one other ⊎ (Contains two other ⊎ IsNoRival 0 rule.rule other.rule)
+
+-- ---- plain rules in the order of their patterns
+
+-- the order of patterns; of equal ones, that of ranks, and then of lines
+abbrev pub rule_cmp : PlacedRule → PlacedRule → Ordering
+rule_cmp one other =
+    ordering_then (ordering_then (slice_cmp nat_cmp one.rule.0 other.rule.0)
+    (nat_cmp (rank_of one.rule) (rank_of other.rule))) (nat_cmp one.line other.line)
+
+-- the rule isn't before the other one
+abbrev pub IsAfter : PlacedRule → PlacedRule → Type 0
+IsAfter placed other = is_lt (rule_cmp placed other) ≡ false
+
+-- the rules are plain, and none is before a later one
+abbrev pub AreDescending : List PlacedRule → Type 0
+AreDescending rules = (i j : ℕ) (d : PlacedRule) → i ≤ j → j < length rules
+    → IsPlain (slice_index_or rules j d) × IsAfter (slice_index_or rules i d) (slice_index_or rules j d)
+
+-- some of the near rules with which the rule doesn't begin are moved to the far ones
+pub record AreLeft (old_near old_far new_near new_far : List PlacedRule) (rule : PlacedRule) : Type 0 where
+  pub same : IsPermutation (old_far ++ old_near) (new_far ++ new_near)
+  pub near : AreAmong new_near old_near
+  pub far : (placed : PlacedRule) → Contains new_far placed
+      → Contains old_far placed
+      ⊎ (Contains old_near placed × (starts_with nat_eq rule.rule.0 placed.rule.0 ≡ false))
 
 -- ---- several crawlers
 

@@ -2,5 +2,4 @@ pub mod Needless
 pub mod Deleted
 pub mod Internal
 pub mod Blocks
-pub mod Prefixes
 pub mod Examples

@@ -1,13 +1,16 @@
 -- Rules that can be removed without changing a verdict.
-use Rattle.std.specs.Prelude.{◌≡◌, ◌≢◌, ◌↔◌, ◌≤◌, ◌<◌, ℕ, ◌+◌, ◌==◌, length, not}
-use Rattle.std.specs.Prelude.{All, AllPairs, Bool, false, true, Contains, IsTrue, List, [], ◌∷◌, codes, filter, map}
+use Rattle.std.specs.Prelude.{◌≡◌, ◌≢◌, ◌↔◌, ◌≤◌, ◌<◌, ℕ, ◌+◌, ◌*◌, ◌==◌, if◌then◌else◌, length, not}
+use Rattle.std.specs.Prelude.{All, AllPairs, Bool, false, true, Contains, IsTrue, List, [], ◌∷◌, codes}
+use Rattle.std.specs.Prelude.{filter, map}
 use Rattle.std.specs.List.{enumerate_from, list_any}
 use Rattle.robots_needless.specs.declared.needless.NeedlessRule.{NeedlessRule}
 use Rattle.robots_needless.specs.declared.needless.Reason.{Reason}
 use Rattle.robots_needless.specs.declared.needless.Reason.TheVariants as reasons
-use Rattle.texting_robots.specs.Callers.{IsRejected, IsVerdict, LineValue, Matches, PlacedRule, Rule, agents_in}
-use Rattle.texting_robots.specs.Callers.{delay_for, placed_rules, robots_file, rules_for, sitemaps_in, unplaced}
-use Rattle.texting_robots.specs.{Group.is_agent, Group.passes_at, Internal.Entries.rank}
+use Rattle.texting_robots.specs.Callers.{IsRejected, IsVerdict, LineValue, Matches, PlacedRule, Rule}
+use Rattle.texting_robots.specs.Callers.{agents_in}
+use Rattle.texting_robots.specs.Callers.{delay_for, placed_rules, robots_file, rules_for, sitemaps_in}
+use Rattle.texting_robots.specs.Callers.{unplaced}
+use Rattle.texting_robots.specs.{Group.is_agent, Group.passes_at}
 use Rattle.texting_robots.specs.Line.{Allow, Disallow}
 
 -- the lines of the rules
@@ -52,7 +55,7 @@ numbers_of found = map (λ (one : NeedlessRule). one.line) found
 
 -- of two matching rules, the one with the higher rank decides, and of two with the same rank the one above
 abbrev pub rank_of : Rule → ℕ
-rank_of rule = rank (length rule.0) rule.1
+rank_of rule = 2 * length rule.0 + (if rule.1 then 1 else 0)
 
 -- the other rule decides where both match
 pub record TakesPrecedence (other placed : PlacedRule) : Type 0 where

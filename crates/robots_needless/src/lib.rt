@@ -8,7 +8,6 @@ pub mod laws;
 pub mod lines;
 pub mod needless;
 mod plain;
-mod prefixes;
 mod rule;
 #[cfg(test)]
 mod tests;

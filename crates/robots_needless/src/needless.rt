@@ -3,8 +3,8 @@ ghost use Rattle.std.specs.Prelude.{◌≡◌, ◌≢◌, ◌≤◌, ◌++◌, �
 ghost use Rattle.std.specs.Prelude.{false, nat_lt, not};
 ghost use Rattle.std.specs.{BTreeSet.contains, Ordering.nat_cmp};
 ghost use Rattle.texting_robots.specs.Callers.{PlacedRule, unplaced};
-ghost use Rattle.robots_needless.specs.Internal.{AreAmong, CanGo, HasNoRival, IsNoRival, IsReducedTo, CanReplace, allows_all};
-ghost use Rattle.robots_needless.specs.Needless.{IsFound, IsReason, Overrules, TakesPrecedence, numbers_of};
+ghost use Rattle.robots_needless.specs.Internal.{AreAmong, AreNear, CanReplace, Goes, HasNoRival, IsNoRival, IsReducedTo, allows_all};
+ghost use Rattle.robots_needless.specs.Needless.{Overrules, TakesPrecedence};
 
 use crate::rule::Rule;
 use std::alloc::{AllocError, Global};
@@ -86,7 +86,7 @@ fn floor_above(budget: &mut Budget, other: &Rule, rule: &Rule, floor: usize) -> 
 }
 
 /// A rank, not below the floor, from which on the rule has no rivals among the others.
-pub(crate) fn rival_floor(budget: &mut Budget, others: &[Rule], rule: &Rule, floor: usize) -> usize
+fn rival_floor(budget: &mut Budget, others: &[Rule], rule: &Rule, floor: usize) -> usize
     ensures most { floor ≤ result }
     ensures none { HasNoRival (unplaced others.now) result rule.now.rule }
 {
@@ -144,7 +144,7 @@ fn can_replace(budget: &mut Budget, other: &Rule, rule: &Rule, floor: usize) -> 
 }
 
 /// The line of the first of the others that overrules the rule.
-pub(crate) fn overruling_line(budget: &mut Budget, others: &[Rule], rule: &Rule) -> Option<usize>
+fn overruling_line(budget: &mut Budget, others: &[Rule], rule: &Rule) -> Option<usize>
     ensures { IfSome result (λ line. (other : PlacedRule) × Contains others.now other × (other.line ≡ line)
         × Overrules other rule.now) }
 {
@@ -171,17 +171,15 @@ fn covering_line(budget: &mut Budget, others: &[Rule], rule: &Rule, floor: usize
 
 /// Why the rule can go, if one of these rules overrules it or can replace it, or if it is an Allow without
 /// rivals. From the floor on it must have no rivals.
-pub(crate) fn reason_among(
+fn reason_among(
     budget: &mut Budget,
     one: &[Rule],
     two: &[Rule],
     rule: &Rule,
     floor: usize,
 ) -> Option<Reason>
-    ensures go { IfSome result (λ _. (others : List PlacedRule) → AreAmong one.now others → AreAmong two.now others
-        → HasNoRival (unplaced others) floor rule.now.rule → CanGo (unplaced others) rule.now.rule) }
-    ensures reason { IfSome result (λ reason. (others : List PlacedRule) → AreAmong one.now others
-        → AreAmong two.now others → IsReason others rule.now reason) }
+    ensures { IfSome result (λ reason. (others : List PlacedRule) → AreAmong one.now others → AreAmong two.now others
+        → HasNoRival (unplaced others) floor rule.now.rule → Goes others rule.now reason) }
 {
     if let Some(line) = overruling_line(budget, one, rule) {
         return Some(Reason::NeverDecides(line));
@@ -203,22 +201,24 @@ pub(crate) fn reason_among(
 
 /// Whether the rule is in none of the lines that stay, and isn't `Allow: /` or an empty
 /// Disallow, which are meant as they are.
-pub(crate) fn may_go(stays: &Numbers, rule: &Rule) -> bool
+fn may_go(stays: &Numbers, rule: &Rule) -> bool
     ensures { result ≡ (not (contains nat_cmp stays.now rule.now.line) && not (allows_all rule.now.rule)) }
 {
     !stays.contains(&rule.line()) && !rule.allows_all()
 }
 
-/// Why the rule can go, if it can: the others have the same verdicts without it.
-fn reason_to_go(
+/// Why the rule can go, if it can: the others have the same verdicts without it. Those that aren't in `kept` or `rest`
+/// must be no rivals; `equal` are some with the same pattern.
+pub(crate) fn reason_to_go(
     budget: &mut Budget,
     stays: &Numbers,
+    equal: &[Rule],
     kept: &[Rule],
     rest: &[Rule],
     rule: &Rule,
 ) -> Option<Reason>
-    ensures go { IfSome result (λ _. CanGo (unplaced (kept.now ++ rest.now)) rule.now.rule) }
-    ensures reason { IfSome result (λ reason. IsReason (kept.now ++ rest.now) rule.now reason) }
+    ensures { IfSome result (λ reason. (others : List PlacedRule) → AreAmong equal.now others
+        → AreNear kept.now rest.now others rule.now → Goes others rule.now reason) }
 {
     if !may_go(stays, rule) || !budget.spend(kept.len().saturating_add(rest.len())) {
         return None;
@@ -226,19 +226,37 @@ fn reason_to_go(
     if rule.matches_nothing() {
         return Some(Reason::MatchesNothing);
     }
+    if let Some(line) = overruling_line(budget, equal, rule) {
+        return Some(Reason::NeverDecides(line));
+    }
     let kept_floor = rival_floor(budget, kept, rule, 0);
     let floor = rival_floor(budget, rest, rule, kept_floor);
     reason_among(budget, kept, rest, rule, floor)
 }
 
+/// The needless rule in the line of this rule.
+pub(crate) fn needless(rule: &Rule, reason: Reason) -> NeedlessRule
+    ensures { result ≡ record { line = rule.now.line; reason = reason } }
+{
+    NeedlessRule {
+        line: rule.line(),
+        reason,
+    }
+}
+
 /// The rules by rank, the highest first, and in file order if ranks are equal. The order decides only
 /// how many needless rules are found.
-fn by_rank(rules: Vec<Rule>) -> Result<Vec<Rule>, AllocError>
-    ensures { IfOk result (λ sorted. IsPermutation rules.items sorted.items) }
+fn by_rank(rules: Vec<Rule>) -> Vec<Rule>
+    ensures { IsPermutation rules.items result.items }
 {
     let mut sorted = rules;
-    sorted.sort_by(|one: &Rule, other: &Rule| other.rank().cmp(&one.rank()))?;
-    Ok(sorted)
+    sorted.sort_unstable_by(|one, other| {
+        other
+            .rank()
+            .cmp(&one.rank())
+            .then(one.line().cmp(&other.line()))
+    });
+    sorted
 }
 
 /// A crawler's rules: those that are needless, and the others.
@@ -256,22 +274,16 @@ pub(crate) fn settle_by_rank(
     rules: Vec<Rule>,
     stays: &Numbers,
 ) -> Result<Settled, AllocError>
-    ensures together { IfOk result (λ after. (all : List PlacedRule)
-        → IsReducedTo all (settled.kept.items ++ rules.items) (numbers_of settled.found.items)
-        → IsReducedTo all after.kept.items (numbers_of after.found.items)) }
-    ensures reasons { IfOk result (λ after. (all : List PlacedRule)
-        → IsReducedTo all (settled.kept.items ++ rules.items) (numbers_of settled.found.items)
-        → All (IsFound all) settled.found.items → All (IsFound all) after.found.items) }
+    ensures { IfOk result (λ after. (all : List PlacedRule)
+        → IsReducedTo all (settled.kept.items ++ rules.items) settled.found.items
+        → IsReducedTo all after.kept.items after.found.items) }
 {
-    let mut rest = by_rank(rules)?;
+    let mut rest = by_rank(rules);
     let mut kept = settled.kept;
     let mut found = settled.found;
     while let Some(rule) = rest.pop() {
-        match reason_to_go(budget, stays, &kept, &rest, &rule) {
-            Some(reason) => found.push(NeedlessRule {
-                line: rule.line(),
-                reason,
-            })?,
+        match reason_to_go(budget, stays, &[], &kept, &rest, &rule) {
+            Some(reason) => found.push(needless(&rule, reason))?,
             None => kept.push(rule)?,
         }
     }

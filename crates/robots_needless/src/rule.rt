@@ -1,25 +1,18 @@
 //! A crawler's rules, prepared for comparison with each other.
-ghost use Rattle.std.specs.Prelude.{◌≡◌, ◌↔◌, ◌++◌, ◌<◌, ◌^◌, All, IfErr, IfOk, IfSome, IsTrue, OnOk, length, option_map};
-ghost use Rattle.std.specs.Prelude.{string_bytes};
-ghost use Rattle.texting_robots.specs.Callers.{IsFileRejected, IsMemoryErrorOr, IsOverlong, Matches, escaped, file_lines, placed_rules};
-ghost use Rattle.std.specs.Option.{IsSomeAnd};
-ghost use Rattle.std.specs.Str.{is_utf8};
-ghost use Rattle.texting_robots.specs.Executable.{rule_with};
-ghost use Rattle.texting_robots.specs.Internal.Entries.{rank};
-ghost use Rattle.texting_robots.specs.Internal.Group.{placed};
-ghost use Rattle.texting_robots.specs.Internal.Site.{rule_of, tag_of};
-ghost use Rattle.robots_needless.specs.Internal.{IsMatcherOf, allows_all, fresh, generic};
+ghost use Rattle.std.specs.Prelude.{◌≡◌, ◌↔◌, ◌+◌, ◌*◌, ◌<◌, ◌^◌, All, IfErr, IfOk, IsTrue, OnOk, if◌then◌else◌, length};
+ghost use Rattle.std.specs.Prelude.{option_map, string_bytes};
+ghost use Rattle.texting_robots.specs.Callers.{IsFileRejected, IsMemoryErrorOr, IsOverlong, Matches, file_lines, placed_rules};
+ghost use Rattle.std.specs.{List.starts_with, Prelude.nat_eq};
+ghost use Rattle.robots_needless.specs.Internal.{IsMatcherOf, IsPlain, IsPlainByte, allows_all, fresh, generic, rule_cmp};
 ghost use Rattle.robots_needless.specs.Needless.{AreApart, Covers, MatchesNothing, rank_of};
-ghost use Rattle.robots_needless.specs.Prefixes.{IsPlain};
 
 use crate::generic::{generic_text, heads_differ};
-use crate::prefixes::is_plain;
 use std::alloc::{AllocError, Global};
+use std::cmp::Ordering;
 use std::marker::Model;
+use texting_robots::Error;
 use texting_robots::minregex::MinRegex;
-use texting_robots::parser::Line;
-use texting_robots::site::{GroupLine, Site};
-use texting_robots::{Error, push_escaped_bytes};
+use texting_robots::site::{Site, SiteRule};
 
 /// A rule with the generic text of its pattern.
 #[derive(Drop)]
@@ -85,6 +78,23 @@ impl Rule {
         is_plain(self.pattern())
     }
 
+    /// The order of patterns; of equal ones, that of ranks, and then of lines.
+    pub(crate) fn order(&self, other: &Rule) -> Ordering
+        ensures { result ≡ rule_cmp self.now other.now }
+    {
+        self.pattern()
+            .cmp(other.pattern())
+            .then(self.rank.cmp(&other.rank))
+            .then(self.line.cmp(&other.line))
+    }
+
+    /// Whether the pattern begins with that of the other one.
+    pub(crate) fn starts_with(&self, other: &Rule) -> bool
+        ensures { result ≡ starts_with nat_eq self.now.rule.0 other.now.rule.0 }
+    {
+        self.pattern().starts_with(other.pattern())
+    }
+
     /// How many bytes of it are compared with another rule.
     pub(crate) fn cost(&self) -> usize
         ensures { result ≡ length (generic self.now.rule.0) }
@@ -133,31 +143,27 @@ impl Rule {
     }
 }
 
+/// Whether the pattern has no star and no dollar.
+fn is_plain(pattern: &[u8]) -> bool
+    ensures { IsTrue result → All IsPlainByte pattern.now }
+{
+    for byte in pattern {
+        if *byte == b'*' {
+            return false;
+        }
+        if *byte == b'$' {
+            return false;
+        }
+    }
+    true
+}
+
 /// The rank of a rule.
 fn rank_of_pattern(len: usize, is_allow: bool) -> usize
     requires { len < 2 ^ 63 }
-    ensures { result ≡ rank len is_allow }
+    ensures { result ≡ 2 * len + (if is_allow then 1 else 0) }
 {
     2 * len + usize::from(is_allow)
-}
-
-/// Whether the value is UTF-8.
-fn is_utf8(value: &[u8]) -> bool
-    ensures { result ≡ is_utf8 value.now }
-{
-    match std::str::from_utf8(value) {
-        Ok(_) => true,
-        Err(_) => false,
-    }
-}
-
-/// The escaped value.
-fn pattern_of(alloc: Global, value: &[u8]) -> Result<String, AllocError>
-    ensures { IfOk result (λ pattern. string_bytes pattern ≡ escaped value.now) }
-{
-    let mut pattern = String::new(alloc);
-    push_escaped_bytes(&mut pattern, value)?;
-    Ok(pattern)
 }
 
 /// The matcher of a pattern, unless the pattern has no star and no dollar.
@@ -173,48 +179,25 @@ fn matcher_of(alloc: Global, pattern: &str) -> Result<Option<Box<MinRegex>>, Err
     Ok(Some(Box::new(alloc, regex)?))
 }
 
-/// The rule with this value, if it is UTF-8.
-fn rule_with(
-    alloc: Global,
-    value: &[u8],
-    is_allow: bool,
-    line: usize,
-) -> Result<Option<Rule>, Error>
-    ensures rule { IfOk result (λ rule. rule ≡ placed line (rule_with value.now is_allow)) }
-    ensures accepted { IfOk result (λ rule. IfSome rule (λ placed. ¬ IsOverlong placed.rule.0)) }
-    ensures rejected { IfErr result (IsMemoryErrorOr
-        (IsSomeAnd (placed line (rule_with value.now is_allow)) (λ placed. IsOverlong placed.rule.0))) }
+/// The rule, prepared for comparison.
+fn prepared(alloc: Global, rule: &SiteRule<'_>) -> Result<Rule, Error>
+    ensures rule { IfOk result (λ made. made ≡ rule.now) }
+    ensures accepted { IfOk result (λ made. ¬ IsOverlong made.rule.0) }
+    ensures rejected { IfErr result (IsMemoryErrorOr (IsOverlong rule.now.rule.0)) }
 {
-    if !is_utf8(value) {
-        return Ok(None);
-    }
-    let pattern = pattern_of(alloc, value)?;
-    let rank = rank_of_pattern(pattern.len(), is_allow);
+    let pattern = rule.pattern(alloc)?;
+    let rank = rank_of_pattern(pattern.len(), rule.is_allow);
     let generic_text = generic_text(alloc, pattern.as_bytes())?;
     match matcher_of(alloc, pattern.as_str()) {
-        Ok(regex) => Ok(Some(Rule {
+        Ok(regex) => Ok(Rule {
             pattern,
             regex,
             generic_text,
-            is_allow,
+            is_allow: rule.is_allow,
             rank,
-            line,
-        })),
+            line: rule.line,
+        }),
         Err(error) => Err(error),
-    }
-}
-
-/// The rule in the line, if it has one.
-fn rule_in(alloc: Global, line: &GroupLine<'_>) -> Result<Option<Rule>, Error>
-    ensures rule { IfOk result (λ rule. rule ≡ rule_of (tag_of line.now)) }
-    ensures accepted { IfOk result (λ rule. IfSome rule (λ placed. ¬ IsOverlong placed.rule.0)) }
-    ensures rejected { IfErr result (IsMemoryErrorOr
-        (IsSomeAnd (rule_of (tag_of line.now)) (λ placed. IsOverlong placed.rule.0))) }
-{
-    match line.line {
-        Line::Allow(value) => rule_with(alloc, value, true, line.number),
-        Line::Disallow(value) => rule_with(alloc, value, false, line.number),
-        Line::UserAgent(_) | Line::Sitemap(_) | Line::CrawlDelay(_) | Line::Raw(_) => Ok(None),
     }
 }
 
@@ -225,10 +208,9 @@ pub(crate) fn rules_for(alloc: Global, site: &Site, agent: &str) -> Result<Vec<R
     ensures rejected { IfErr result (IsMemoryErrorOr (IsFileRejected agent.now site.now)) }
 {
     let mut rules = Vec::new(alloc);
-    for line in site.own_lines(agent) {
-        match rule_in(alloc, &line) {
-            Ok(Some(rule)) => rules.push(rule)?,
-            Ok(None) => {}
+    for rule in site.rules(agent) {
+        match prepared(alloc, &rule) {
+            Ok(rule) => rules.push(rule)?,
             Err(error) => return Err(error),
         }
     }

@@ -4,14 +4,10 @@ use Rattle.std.proofs.Common.{arith, inl, inr, length, not, refl, subst, suc, sy
 use Rattle.std.proofs.lemmas.Bool.{cases_Bool, eqb-true, or_parts}
 use Rattle.std.proofs.lemmas.Bool.Decides.{nat_tests}
 use Rattle.std.specs.List.{list_all, list_any}
-use Rattle.std.specs.Option.{option_map_or}
-use Rattle.std.specs.Str.{byte, is_utf8}
-use Rattle.texting_robots.specs.Callers.{Allow, Disallow, PlacedRule, escaped}
+use Rattle.std.specs.Str.{byte}
+use Rattle.texting_robots.specs.Callers.{PlacedRule, escaped}
 use Rattle.texting_robots.specs.Escape.{is_escaped}
-use Rattle.texting_robots.specs.Executable.{rule_in}
-use Rattle.texting_robots.specs.Internal.Group.{placed}
 use Rattle.robots_warnings.specs.Closed.{is_closing, is_closing_at, is_opening, is_whole_site}
-use Rattle.robots_warnings.specs.Replaced.{is_partial}
 use Rattle.robots_warnings.specs.Internal.Closed.{is_shut}
 
 abbrev only_stars : List ℕ → Bool
@@ -30,7 +26,7 @@ stars_escaped (b ∷ value) = elim (cases_Bool (b == byte "*")) [
   ]
 ]
 
-whole_site_escaped : (value : List ℕ) → is_whole_site (escaped value) ≡ is_whole_site value
+pub whole_site_escaped : (value : List ℕ) → is_whole_site (escaped value) ≡ is_whole_site value
 whole_site_escaped [] = refl
 whole_site_escaped (b ∷ value) = elim (cases_Bool (b == byte "/")) [
   | inl is ↦
@@ -50,46 +46,11 @@ whole_site_escaped (b ∷ value) = elim (cases_Bool (b == byte "/")) [
 some_bytes : (n : ℕ) → (suc n == 0) ≡ false
 some_bytes n = grind (arith, nat_tests)
 
-none_escaped : (value : List ℕ) → (length (escaped value) == 0) ≡ (length value == 0)
+pub none_escaped : (value : List ℕ) → (length (escaped value) == 0) ≡ (length value == 0)
 none_escaped [] = refl
 none_escaped (b ∷ value) = elim (cases_Bool (is_escaped b)) [
   | inl bad ↦ rw bad (some_bytes _ ∙ sym (some_bytes (length value)))
   | inr good ↦ rw good (some_bytes _ ∙ sym (some_bytes (length value)))
-]
-
-and_false : (a : Bool) → (a && false) ≡ false
-and_false true = refl
-and_false false = refl
-
-and_true : (a : Bool) → (a && true) ≡ a
-and_true true = refl
-and_true false = refl
-
--- whether a Disallow with this value closes the whole site
-pub closing_value : (number : ℕ) (value : List ℕ)
-    → option_map_or is_closing (placed number (rule_in (Disallow value))) false
-    ≡ (is_whole_site value && is_utf8 value)
-closing_value number value = elim (cases_Bool (is_utf8 value)) [
-  | inl is ↦ rw is (whole_site_escaped value ∙ sym (and_true (is_whole_site value)))
-  | inr isnt ↦ rw isnt (sym (and_false (is_whole_site value)))
-]
-
--- whether an Allow with this value has a pattern that isn't empty
-pub opening_value : (number : ℕ) (value : List ℕ)
-    → option_map_or is_opening (placed number (rule_in (Allow value))) false
-    ≡ (not (length value == 0) && is_utf8 value)
-opening_value number value = elim (cases_Bool (is_utf8 value)) [
-  | inl is ↦ rw is (ap not (none_escaped value) ∙ sym (and_true (not (length value == 0))))
-  | inr isnt ↦ rw isnt (sym (and_false (not (length value == 0))))
-]
-
--- whether a Disallow with this value is for a part of the site
-pub partial_value : (number : ℕ) (value : List ℕ)
-    → option_map_or is_partial (placed number (rule_in (Disallow value))) false
-    ≡ (not (is_whole_site value) && is_utf8 value)
-partial_value number value = elim (cases_Bool (is_utf8 value)) [
-  | inl is ↦ rw is (ap not (whole_site_escaped value) ∙ sym (and_true (not (is_whole_site value))))
-  | inr isnt ↦ rw isnt (sym (and_false (not (is_whole_site value))))
 ]
 
 -- ---- no closing rule

@@ -1,23 +1,23 @@
 -- The other lines of rules that contradict each other.
 use Rattle.std.proofs.Common.{◌≡◌, ℕ, ◌==◌, ◌&&◌, ◌+◌, ◌<◌, Bool, true, false, List, [], ◌∷◌, length, refl}
 use Rattle.std.proofs.Common.{Option, Some, None, String, arith, bytes_eq, if◌then◌else◌, string_bytes, sym}
-use Rattle.std.proofs.Common.{ap, drop}
+use Rattle.std.proofs.Common.{ap, ap₂, codes, drop, ◌||◌}
+use Rattle.std.proofs.Math.Bool.{or-false, or-true}
 use Rattle.std.proofs.Common.{◌∙◌, ◌⊎◌, cond, inl, inr, map, slice_index_or, subst}
 use Rattle.std.specs.Global.{Global}
-use Rattle.std.specs.HashMap.{Updates, get_by_text, hash_map_len}
-use Rattle.std.specs.List.{list_any}
-use Rattle.std.specs.Map.{lookup}
+use Rattle.std.specs.HashMap.{Updates, get_by_text}
 use Rattle.std.specs.Option.{option_or}
 use Rattle.std.specs.Prelude.{is_some}
+use Rattle.std.specs.Str.{byte}
 use Rattle.std.specs.String.{string_eq}
-use Rattle.std.proofs.lemmas.Bool.{cases_Bool}
+use Rattle.std.proofs.lemmas.Bool.{cases_Bool, false≢true, ne_eqb}
 use Rattle.std.proofs.lemmas.Map.Text.{hash_map_updates_text}
 use Rattle.std.proofs.lemmas.Slice.Eq.{bytes_eq-Decides}
 use Rattle.std.proofs.lemmas.List.{drop_more}
-use Rattle.texting_robots.specs.Callers.{PlacedRule}
-use Rattle.robots_warnings.specs.Conflicts.{allow_beside, at_line, compared, first_of, overruled_by}
-use Rattle.robots_warnings.specs.Conflicts.{overruling}
-use Rattle.robots_warnings.specs.Internal.Conflicts.{HasFirst, Lines}
+use Rattle.texting_robots.specs.Callers.{escaped}
+use Rattle.texting_robots.specs.Escape.{is_escaped}
+use Rattle.robots_warnings.specs.Conflicts.{compared, first_of}
+use Rattle.robots_warnings.specs.Internal.Conflicts.{Lines}
 
 or_assoc : {X : Type 0} (a b c : Option X) → option_or (option_or a b) c ≡ option_or a (option_or b c)
 or_assoc None b c = refl
@@ -67,54 +67,37 @@ agents_next f agents at item old {new} {all} below here named is was =
     ap (λ found. option_or found rest) (is ∙ ap (λ name. option_or old (f name)) same)
     ∙ or_assoc old (f (string_bytes (slice_index_or agents at item))) rest ∙ before
 
--- what no crawler has
-pub none_of_all : (f : List ℕ → Option ℕ) → ((agent : List ℕ) → f agent ≡ None) → (agents : List (List ℕ))
-    → first_of f agents ≡ None
-none_of_all f none [] = refl
-none_of_all f none (agent ∷ agents) =
-    ap (λ x. option_or x (first_of f agents)) (none agent) ∙ none_of_all f none agents
+-- ---- patterns of everything
 
--- ---- nothing to look for
-
-no_entry : {K X : Type 0} (test : K → Bool) (entries : List (K × X)) → length entries ≡ 0
-    → lookup test entries ≡ None
-no_entry test [] none = refl
-no_entry test (entry ∷ entries) none = absurd (omega arith)
-
-pub none_in : {K : Type 0} (keys : List K) → length keys ≡ 0 → (test : K → Bool) → list_any test keys ≡ false
-none_in [] none test = refl
-none_in (key ∷ keys) none test = absurd (omega arith)
-
-nothing : (a b : Bool) (x : Option ℕ) → x ≡ None → (if a then (if b then None else x) else None) ≡ None
-nothing true true x none = refl
-nothing true false x none = none
-nothing false b x none = refl
-
--- without an Allow there is no conflict
-pub no_conflict : {S : Type 0} (is_empty : ℕ → Bool) (lines : Lines S) (rules some : List PlacedRule) (n : ℕ)
-    → HasFirst is_empty true lines rules → hash_map_len lines ≡ 0
-    → first_of (at_line n (allow_beside is_empty rules)) some ≡ None
-no_conflict is_empty lines rules [] n has none = refl
-no_conflict is_empty lines rules (one ∷ some) n has none =
-    let pattern = compared one.rule.0 in
-    let first = sym (has.each pattern)
-    ∙ no_entry (λ key. bytes_eq pattern (string_bytes key)) lines.entries none in
-    ap (λ x. option_or x (first_of (at_line n (allow_beside is_empty rules)) some))
-    (nothing (one.line == n) one.rule.1 _ first)
-    ∙ no_conflict is_empty lines rules some n has none
-
--- without empty Disallows, none is overruled
-pub none_overruled : (is_empty : ℕ → Bool) → ((number : ℕ) → is_empty number ≡ false)
-    → (rules some : List PlacedRule) (n : ℕ) → first_of (at_line n (overruled_by is_empty rules)) some ≡ None
-none_overruled is_empty none rules [] n = refl
-none_overruled is_empty none rules (one ∷ some) n =
-    ap (λ x. option_or x (first_of (at_line n (overruled_by is_empty rules)) some))
-    (by (one.line == n) one.rule.1 (is_empty one.line) (none one.line))
-    ∙ none_overruled is_empty none rules some n
+-- of the values, only `/` and `*` have a pattern that is compared as `/`
+pub slash_or_star : (value : List ℕ)
+    → bytes_eq (compared (escaped value)) (codes "/") ≡ (bytes_eq value (codes "/") || bytes_eq value (codes "*"))
+slash_or_star value =
+    compared_with (escaped value) ∙ ap₂ ◌||◌ (one_escaped (byte "/") refl refl value)
+    (one_escaped (byte "*") refl refl value)
   where
-    by : (here kind is : Bool) → is ≡ false
-        → (if here then (if kind && is then overruling is_empty rules else None) else None) ≡ None
-    by true true true isnt = cc
-    by true true false isnt = refl
-    by true false is isnt = refl
-    by false kind is isnt = refl
+    compared_with : (pattern : List ℕ) → bytes_eq (compared pattern) (codes "/")
+        ≡ (bytes_eq pattern (codes "/") || bytes_eq pattern (codes "*"))
+    compared_with pattern = elim (cases_Bool (bytes_eq pattern (codes "*"))) [
+      | inl is ↦ rw is (sym (or-true (bytes_eq pattern (codes "/"))))
+      | inr isnt ↦ rw isnt (sym (or-false (bytes_eq pattern (codes "/"))))
+    ]
+
+    none_escaped : (value : List ℕ) → bytes_eq (escaped value) [] ≡ bytes_eq value []
+    none_escaped [] = refl
+    none_escaped (b ∷ value) = elim (cases_Bool (is_escaped b)) [
+      | inl bad ↦ rw bad refl
+      | inr good ↦ rw good refl
+    ]
+
+    -- a byte that isn't escaped and doesn't begin an escape
+    one_escaped : (c : ℕ) → is_escaped c ≡ false → (byte "%" == c) ≡ false → (value : List ℕ)
+        → bytes_eq (escaped value) (c ∷ []) ≡ bytes_eq value (c ∷ [])
+    one_escaped c plain other [] = refl
+    one_escaped c plain other (b ∷ value) = elim (cases_Bool (is_escaped b)) [
+      | inl bad ↦
+          let differs : (b == c) ≡ false =
+          ne_eqb b c (λ same. false≢true (sym plain ∙ ap is_escaped (sym same) ∙ bad)) in
+          rw (bad, other, differs) refl
+      | inr good ↦ rw good (ap (λ rest. b == c && rest) (none_escaped value))
+    ]

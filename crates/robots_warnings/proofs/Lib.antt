@@ -6,8 +6,6 @@ pub mod NameLemmas
 pub mod NamesPastLimitLemmas
 pub mod NumberLemmas
 pub mod PositionLemmas
-pub mod PlainLemmas
-pub mod PlainLineLemmas
 pub mod PrintableLemmas
 pub mod RepeatedLemmas
 pub mod ReplacedLemmas

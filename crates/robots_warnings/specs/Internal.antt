@@ -2,7 +2,6 @@
 pub mod Closed
 pub mod Conflicts
 pub mod Names
-pub mod Plain
 pub mod Repeated
 pub mod Replaced
 pub mod Spellings

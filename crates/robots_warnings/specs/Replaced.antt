@@ -1,7 +1,7 @@
 -- Groups of crawlers that have none of the Disallow rules of `*`.
 use Rattle.std.specs.Prelude.{ℕ, Bool, false, not, ◌||◌, ◌&&◌, List, [], ◌∷◌, ◌++◌, bytes_eq, codes}
-use Rattle.std.specs.Prelude.{Option, None, Some, if◌then◌else◌, length}
-use Rattle.std.specs.List.{filter_map, list_any}
+use Rattle.std.specs.Prelude.{filter, if◌then◌else◌, length}
+use Rattle.std.specs.List.{list_any}
 use Rattle.std.specs.Str.{str_to_ascii_lowercase}
 use Rattle.texting_robots.specs.Callers.{LineValue, Label, PlacedRule, placed_rules}
 use Rattle.texting_robots.specs.Group.{is_agent, is_group}
@@ -16,13 +16,9 @@ use Rattle.robots_warnings.specs.Positions.{begin_with_one, name_star, preceding
 abbrev pub star_rules : List LineValue → List PlacedRule
 star_rules lines = placed_rules (codes "*") lines
 
--- the line of the rule, if it is a Disallow
-abbrev pub disallow_in : PlacedRule → Option ℕ
-disallow_in placed = if placed.rule.1 then None else Some placed.line
-
 -- how many Disallows `*` has
 abbrev pub star_count : List LineValue → ℕ
-star_count lines = length (filter_map disallow_in (star_rules lines))
+star_count lines = length (filter (λ placed. not placed.rule.1) (star_rules lines))
 
 -- the rule is a Disallow, but not of the whole site
 abbrev pub is_partial : PlacedRule → Bool

@@ -147,8 +147,9 @@ pub(crate) fn is_in_scope_of(everywhere: bool, membership: Membership) -> bool
 pub(crate) fn rule_checks(value: &[u8]) -> [Check; 9]
     ensures { result ≡ rule_checks value.now }
 {
+    let is_utf8 = is_utf8(value);
     [
-        (Cause::RuleNotUtf8, !is_utf8(value)),
+        (Cause::RuleNotUtf8, !is_utf8),
         (Cause::MissingSlash, has_odd_start(value)),
         (Cause::UrlAsRule, begins_as_url(value)),
         (Cause::UnencodedCharacter, holds_otherwise(value)),
@@ -156,10 +157,7 @@ pub(crate) fn rule_checks(value: &[u8]) -> [Check; 9]
         (Cause::RegexSyntax, is_expression(value)),
         (Cause::DollarNotAtEnd, has_dollar_inside(value)),
         (Cause::DotSegment, has_dot_segment(value)),
-        (
-            Cause::SeveralValues,
-            is_utf8(value) && has_several_values(value),
-        ),
+        (Cause::SeveralValues, is_utf8 && has_several_values(value)),
     ]
 }
 

@@ -1,21 +1,17 @@
 //! Rules that leave nothing but `/robots.txt` to a crawler.
-ghost use Rattle.std.specs.Prelude.{◌≡◌, ◌==◌, ◌||◌, ℕ, IfOk, OnOk, false, map, string_bytes};
+ghost use Rattle.std.specs.Prelude.{◌≡◌, ◌==◌, ◌||◌, ℕ, IfOk, OnOk, map, string_bytes};
 ghost use Rattle.std.specs.BTreeSet.{contains};
 ghost use Rattle.std.specs.List.{list_all};
-ghost use Rattle.std.specs.Option.{option_map_or};
 ghost use Rattle.std.specs.Ordering.{nat_cmp};
 ghost use Rattle.std.specs.Str.{byte};
 ghost use Rattle.texting_robots.specs.Callers.{file_lines, placed_rules};
-ghost use Rattle.texting_robots.specs.Internal.Site.{rule_of, tag_of};
 ghost use Rattle.robots_warnings.specs.Closed.{is_closed, is_closed_for, is_closing, is_opening, is_whole_site};
 ghost use Rattle.robots_warnings.specs.Internal.Closed.{is_shut};
 
 use crate::numbers::{Numbers, insert_if};
-use crate::rules::is_utf8;
 use std::alloc::{AllocError, Global};
 use std::collections::BTreeSet;
-use texting_robots::parser::Line;
-use texting_robots::site::{GroupLine, Site};
+use texting_robots::site::{Site, SiteRule};
 
 /// Whether all bytes are stars.
 fn are_stars(text: &[u8]) -> bool
@@ -34,38 +30,32 @@ pub(crate) fn is_whole_site(value: &[u8]) -> bool
     }
 }
 
-/// Whether the line has a Disallow of the whole site.
-#[tactic(auto, using(crate::proofs::ClosedLemmas::closing_value))]
-fn is_closing(line: &GroupLine<'_>) -> bool
-    ensures { result ≡ option_map_or is_closing (rule_of (tag_of line.now)) false }
+/// Whether the rule is a Disallow of the whole site.
+#[tactic(auto, using(crate::proofs::ClosedLemmas::whole_site_escaped))]
+pub(crate) fn is_closing(rule: &SiteRule<'_>) -> bool
+    ensures { result ≡ is_closing rule.now }
 {
-    match line.line {
-        Line::Disallow(value) => is_whole_site(value) && is_utf8(value),
-        _ => false,
-    }
+    !rule.is_allow && is_whole_site(rule.value.as_bytes())
 }
 
-/// Whether the line has an Allow whose pattern isn't empty.
-#[tactic(auto, using(crate::proofs::ClosedLemmas::opening_value))]
-fn is_opening(line: &GroupLine<'_>) -> bool
-    ensures { result ≡ option_map_or is_opening (rule_of (tag_of line.now)) false }
+/// Whether the rule is an Allow whose pattern isn't empty.
+#[tactic(auto, using(crate::proofs::ClosedLemmas::none_escaped))]
+fn is_opening(rule: &SiteRule<'_>) -> bool
+    ensures { result ≡ is_opening rule.now }
 {
-    match line.line {
-        Line::Allow(value) => !value.is_empty() && is_utf8(value),
-        _ => false,
-    }
+    rule.is_allow && !rule.value.is_empty()
 }
 
-/// Whether a line that applies to the crawler has a Disallow of the whole site, and none has such an Allow.
+/// Whether a rule of the crawler is a Disallow of the whole site, and none is such an Allow.
 fn is_shut(site: &Site, agent: &str) -> bool
     ensures { result ≡ is_shut (placed_rules agent.now (file_lines site.now)) }
 {
     let mut is = false;
-    for line in site.own_lines(agent) {
-        if is_opening(&line) {
+    for rule in site.rules(agent) {
+        if is_opening(&rule) {
             return false;
         }
-        is |= is_closing(&line);
+        is |= is_closing(&rule);
     }
     is
 }
@@ -78,9 +68,8 @@ fn add_closed(numbers: &mut Numbers, site: &Site, agent: &str) -> Result<(), All
     if !is_shut(site, agent) {
         return Ok(());
     }
-    for line in site.own_lines(agent) {
-        let is = is_closing(&line);
-        insert_if(numbers, is, line.number)?;
+    for rule in site.rules(agent) {
+        insert_if(numbers, is_closing(&rule), rule.line)?;
     }
     Ok(())
 }

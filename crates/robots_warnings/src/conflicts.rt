@@ -1,68 +1,35 @@
 //! Rules that contradict each other.
-ghost use Rattle.std.specs.Prelude.{◌≡◌, ◌==◌, ◌&&◌, ℕ, IfOk, List, None, OnOk, Some, false, if◌then◌else◌, map, option_and_then, option_map, string_bytes};
+ghost use Rattle.std.specs.Prelude.{◌≡◌, ◌==◌, ℕ, Bool, IfOk, List, None, OnOk, Some, codes, if◌then◌else◌, map, string_bytes};
 ghost use Rattle.std.specs.BTreeMap.{get};
 ghost use Rattle.std.specs.BTreeSet.{contains};
 ghost use Rattle.std.specs.HashMap.{get_by_text};
-ghost use Rattle.std.specs.Option.{option_map_or, option_or};
+ghost use Rattle.std.specs.Option.{option_or};
 ghost use Rattle.std.specs.Ordering.{nat_cmp};
-ghost use Rattle.std.specs.Str.{bytes_eq, is_utf8};
-ghost use Rattle.texting_robots.specs.Callers.{escaped, file_lines, placed_rules};
-ghost use Rattle.texting_robots.specs.Internal.Site.{rule_of, tag_of};
-ghost use Rattle.robots_warnings.specs.Conflicts.{compared, conflict, conflict_for, overruled, overruled_for, overruling};
-ghost use Rattle.robots_warnings.specs.Internal.Conflicts.{AddsLine, HasFirst, Notes, allow_in, pattern_if};
+ghost use Rattle.std.specs.Str.{bytes_eq};
+ghost use Rattle.texting_robots.specs.Callers.{PlacedRule, file_lines, placed_rules};
+ghost use Rattle.robots_warnings.specs.Conflicts.{allow_beside, compared, conflict, conflict_for, first_line, is_like, overruled, overruled_for, overruling};
+ghost use Rattle.robots_warnings.specs.Internal.Conflicts.{AddsLine, HasFirst, Notes};
 
 use crate::numbers::Numbers;
-use crate::rules::is_utf8;
 use std::alloc::{AllocError, Global};
 use std::collections::{BTreeMap, HashMap};
-use texting_robots::parser::Line;
-use texting_robots::push_escaped_bytes;
-use texting_robots::site::{GroupLine, Site};
+use texting_robots::site::{Site, SiteRule};
 
-/// For a pattern, as it is compared, the line of the first rule with it.
+/// For a pattern, as it is compared, the line of the first Allow with it.
 type Lines = HashMap<String, usize>;
 
 /// For the number of a line, another line that it contradicts.
 pub(crate) type Others = BTreeMap<usize, usize>;
 
-/// The pattern of a rule with this value, if it is UTF-8.
-pub(crate) fn pattern_of(alloc: Global, value: &[u8]) -> Result<Option<String>, AllocError>
-    ensures { IfOk result (λ pattern. option_map string_bytes pattern
-        ≡ (if is_utf8 value.now then Some (escaped value.now) else None)) }
+/// The rule's pattern as it is compared with others, `/` in place of `*`.
+fn compared_pattern(alloc: Global, rule: &SiteRule<'_>) -> Result<String, AllocError>
+    ensures { IfOk result (λ pattern. string_bytes pattern ≡ compared rule.now.rule.0) }
 {
-    if !is_utf8(value) {
-        return Ok(None);
+    let pattern = rule.pattern(alloc)?;
+    if pattern.as_str() == "*" {
+        return Ok(String::from_str(alloc, "/")?);
     }
-    let mut pattern = String::new(alloc);
-    push_escaped_bytes(&mut pattern, value)?;
-    Ok(Some(pattern))
-}
-
-/// The pattern of a rule with this value as it is compared with others, `/` in place of `*`, if it is UTF-8.
-fn compared_pattern_of(alloc: Global, value: &[u8]) -> Result<Option<String>, AllocError>
-    ensures { IfOk result (λ pattern. option_map string_bytes pattern
-        ≡ option_map compared (if is_utf8 value.now then Some (escaped value.now) else None)) }
-{
-    match pattern_of(alloc, value)? {
-        Some(pattern) if pattern.as_str() == "*" => Ok(Some(String::from_str(alloc, "/")?)),
-        pattern => Ok(pattern),
-    }
-}
-
-/// The pattern of the line's rule, as it is compared, if it is of this kind.
-fn pattern_in(
-    alloc: Global,
-    line: &GroupLine<'_>,
-    is_allow: bool,
-) -> Result<Option<String>, AllocError>
-    ensures { IfOk result (λ pattern. option_map string_bytes pattern
-        ≡ option_and_then (pattern_if is_allow) (rule_of (tag_of line.now))) }
-{
-    match line.line {
-        Line::Allow(value) if is_allow => compared_pattern_of(alloc, value),
-        Line::Disallow(value) if !is_allow => compared_pattern_of(alloc, value),
-        _ => Ok(None),
-    }
+    Ok(pattern)
 }
 
 /// Inserts the line for the pattern, unless the pattern has one.
@@ -77,39 +44,34 @@ fn add_first(lines: &mut Lines, pattern: String, number: usize) -> Result<(), Al
     Ok(())
 }
 
-/// Inserts the line for the pattern of its rule, if it is of this kind and no empty Disallow.
-fn add_line(
+/// Inserts the line of the rule for its pattern, if it is an Allow and no empty Disallow.
+fn add_allow(
     alloc: Global,
     lines: &mut Lines,
-    line: &GroupLine<'_>,
-    is_allow: bool,
+    rule: &SiteRule<'_>,
     empty: &Numbers,
 ) -> Result<(), AllocError>
-    ensures { OnOk result (AddsLine (contains nat_cmp empty.now) is_allow lines.old lines.new (rule_of (tag_of line.now))) }
+    ensures { OnOk result (AddsLine (contains nat_cmp empty.now) lines.old lines.new rule.now) }
 {
-    if empty.contains(&line.number) {
+    if !rule.is_allow || empty.contains(&rule.line) {
         return Ok(());
     }
-    match pattern_in(alloc, line, is_allow)? {
-        Some(pattern) => add_first(lines, pattern, line.number),
-        None => Ok(()),
-    }
+    add_first(lines, compared_pattern(alloc, rule)?, rule.line)
 }
 
-/// For each pattern, the line of the crawler's first rule of this kind with it, other than empty Disallows.
-fn first_lines(
+/// For each pattern, the line of the crawler's first Allow with it, other than empty Disallows.
+fn first_allows(
     alloc: Global,
     site: &Site,
     agent: &str,
-    is_allow: bool,
     empty: &Numbers,
 ) -> Result<Lines, AllocError>
-    ensures { IfOk result (λ lines. HasFirst (contains nat_cmp empty.now) is_allow lines
+    ensures { IfOk result (λ lines. HasFirst (contains nat_cmp empty.now) lines
         (placed_rules agent.now (file_lines site.now))) }
 {
     let mut lines = HashMap::new(alloc);
-    for line in site.own_lines(agent) {
-        add_line(alloc, &mut lines, &line, is_allow, empty)?;
+    for rule in site.rules(agent) {
+        add_allow(alloc, &mut lines, &rule, empty)?;
     }
     Ok(lines)
 }
@@ -127,18 +89,20 @@ fn note(others: &mut Others, number: usize, other: Option<usize>) -> Result<(), 
     Ok(())
 }
 
-/// The line of the first Allow of the same, if the line is a Disallow.
-fn allow_in(
+/// The line of the first Allow of the same, if the rule is a Disallow.
+fn allow_beside(
     alloc: Global,
     allowed: &Lines,
-    line: &GroupLine<'_>,
+    rule: &SiteRule<'_>,
 ) -> Result<Option<usize>, AllocError>
-    ensures { IfOk result (λ other. other ≡ option_and_then (allow_in allowed.now) (rule_of (tag_of line.now))) }
+    ensures { IfOk result (λ other. (is_empty : ℕ → Bool) → (rules : List PlacedRule) → HasFirst is_empty allowed.now rules
+        → other ≡ allow_beside is_empty rules rule.now) }
 {
-    match pattern_in(alloc, line, false)? {
-        Some(pattern) => Ok(allowed.get(pattern.as_str()).copied()),
-        None => Ok(None),
+    if rule.is_allow {
+        return Ok(None);
     }
+    let pattern = compared_pattern(alloc, rule)?;
+    Ok(allowed.get(pattern.as_str()).copied())
 }
 
 /// Inserts the lines of the Disallows that apply to the crawler, as does an Allow of the same.
@@ -153,13 +117,10 @@ fn add_conflicts(
         ≡ option_or (get nat_cmp others.old number)
         (conflict_for (contains nat_cmp empty.now) (file_lines site.now) number agent.now)) }
 {
-    let allowed = first_lines(alloc, site, agent, true, empty)?;
-    if allowed.is_empty() {
-        return Ok(());
-    }
-    for line in site.own_lines(agent) {
-        let other = allow_in(alloc, &allowed, &line)?;
-        note(others, line.number, other)?;
+    let allowed = first_allows(alloc, site, agent, empty)?;
+    for rule in site.rules(agent) {
+        let other = allow_beside(alloc, &allowed, &rule)?;
+        note(others, rule.line, other)?;
     }
     Ok(())
 }
@@ -181,37 +142,41 @@ pub(crate) fn conflicts(
     Ok(others)
 }
 
-/// The line of the crawler's first Disallow of `/` or `*`, unless it has an Allow of these.
-fn overruling(
-    alloc: Global,
-    site: &Site,
-    agent: &str,
-    empty: &Numbers,
-) -> Result<Option<usize>, AllocError>
-    ensures { IfOk result (λ line. line ≡ overruling (contains nat_cmp empty.now) (placed_rules agent.now (file_lines site.now))) }
+/// Whether the rule is of this kind, its value is `/` or `*`, and it is no empty Disallow.
+#[tactic(auto, using(crate::proofs::ConflictLemmas::slash_or_star))]
+fn is_of_all(rule: &SiteRule<'_>, is_allow: bool, empty: &Numbers) -> bool
+    ensures { result ≡ is_like (contains nat_cmp empty.now) is_allow (codes "/") rule.now }
 {
-    let allowed = first_lines(alloc, site, agent, true, empty)?;
-    if allowed.contains_key("/") {
-        return Ok(None);
-    }
-    let denied = first_lines(alloc, site, agent, false, empty)?;
-    Ok(denied.get("/").copied())
+    rule.is_allow == is_allow
+        && (rule.value == "/" || rule.value == "*")
+        && !empty.contains(&rule.line)
 }
 
-/// Whether the line is an empty Disallow.
-fn is_empty_rule(line: &GroupLine<'_>, empty: &Numbers) -> bool
-    ensures { result ≡ option_map_or (λ placed. placed.rule.1 && contains nat_cmp empty.now placed.line)
-        (rule_of (tag_of line.now)) false }
+/// The line of the crawler's first such rule.
+fn first_of_all(site: &Site, agent: &str, is_allow: bool, empty: &Numbers) -> Option<usize>
+    ensures { result ≡ first_line (is_like (contains nat_cmp empty.now) is_allow (codes "/"))
+        (placed_rules agent.now (file_lines site.now)) }
 {
-    match line.line {
-        Line::Allow(value) => is_utf8(value) && empty.contains(&line.number),
-        _ => false,
+    for rule in site.rules(agent) {
+        if is_of_all(&rule, is_allow, empty) {
+            return Some(rule.line);
+        }
+    }
+    None
+}
+
+/// The line of the crawler's first Disallow of `/` or `*`, unless it has an Allow of these.
+fn overruling(site: &Site, agent: &str, empty: &Numbers) -> Option<usize>
+    ensures { result ≡ overruling (contains nat_cmp empty.now) (placed_rules agent.now (file_lines site.now)) }
+{
+    match first_of_all(site, agent, true, empty) {
+        Some(_) => None,
+        None => first_of_all(site, agent, false, empty),
     }
 }
 
 /// Inserts the lines of the empty Disallows that apply to the crawler, as does such a Disallow.
 fn add_overruled(
-    alloc: Global,
     others: &mut Others,
     site: &Site,
     agent: &str,
@@ -221,10 +186,10 @@ fn add_overruled(
         ≡ option_or (get nat_cmp others.old number)
         (overruled_for (contains nat_cmp empty.now) (file_lines site.now) number agent.now)) }
 {
-    let other = overruling(alloc, site, agent, empty)?;
-    for line in site.own_lines(agent) {
-        if is_empty_rule(&line, empty) {
-            note(others, line.number, other)?;
+    let other = overruling(site, agent, empty);
+    for rule in site.rules(agent) {
+        if rule.is_allow && empty.contains(&rule.line) {
+            note(others, rule.line, other)?;
         }
     }
     Ok(())
@@ -242,11 +207,8 @@ pub(crate) fn overruled(
         ≡ overruled (contains nat_cmp empty.now) (map string_bytes agents.now) (file_lines site.now) number) }
 {
     let mut others = BTreeMap::new(alloc);
-    if empty.is_empty() {
-        return Ok(others);
-    }
     for agent in agents {
-        add_overruled(alloc, &mut others, site, agent, empty)?;
+        add_overruled(&mut others, site, agent, empty)?;
     }
     Ok(others)
 }

@@ -14,7 +14,6 @@ pub mod google;
 pub mod names;
 mod names_past_limit;
 mod numbers;
-mod plain;
 pub mod positions;
 mod repeated;
 mod replaced;

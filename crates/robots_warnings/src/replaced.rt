@@ -1,84 +1,67 @@
 //! Groups of crawlers that have none of the Disallow rules of `*`.
-ghost use Rattle.std.specs.Prelude.{◌≡◌, ◌++◌, Bool, IfOk, List, OnOk, false, map, string_bytes, ℕ};
+ghost use Rattle.std.specs.Prelude.{◌≡◌, Bool, IfOk, List, OnOk, map, string_bytes, ℕ};
 ghost use Rattle.std.specs.List.{list_any};
-ghost use Rattle.std.specs.Option.{option_map_or};
 ghost use Rattle.std.specs.Str.{str_to_ascii_lowercase};
 ghost use Rattle.texting_robots.specs.Callers.{LineValue, by_value, file_lines, label_by_value};
 ghost use Rattle.texting_robots.specs.Group.{is_group};
-ghost use Rattle.texting_robots.specs.Internal.Site.{rule_of, tag_of};
 ghost use Rattle.robots_warnings.specs.File.{lines_of};
-ghost use Rattle.robots_warnings.specs.Internal.Replaced.{AddsDenied, AddsLacking, HasDenied, HasThose, disallow_lines, is_kept_in, is_other_name};
+ghost use Rattle.robots_warnings.specs.Internal.Replaced.{AddsDenied, AddsLacking, HasDenied, HasThose, is_kept_in};
 ghost use Rattle.robots_warnings.specs.Positions.{begin_with_one};
 ghost use Rattle.robots_warnings.specs.Replaced.{is_first_name, is_lacking, is_partial, is_replacing, lacks_all, replacing};
 ghost use Rattle.robots_warnings.specs.Replaced.{star_count, star_rules};
 
 use crate::closed::is_whole_site;
-use crate::conflicts::pattern_of;
 use crate::names::{Names, add_name};
 use crate::numbers::push_if;
 use crate::positions::{Preceding, name_star, preceding_with};
-use crate::rules::is_utf8;
 use std::alloc::{AllocError, Global};
 use std::collections::{BTreeSet, HashSet};
 use texting_robots::labels::LabeledLine;
 use texting_robots::parser::Line;
-use texting_robots::site::{GroupLine, Site};
+use texting_robots::site::{Site, SiteRule};
 
 /// The patterns of rules.
 type Patterns = HashSet<String>;
-
-/// Appends the number of the line if it has a Disallow rule.
-fn add_disallow(numbers: &mut Vec<usize>, line: &GroupLine<'_>) -> Result<(), AllocError>
-    ensures { OnOk result (numbers.new.items ≡ numbers.old.items ++ disallow_lines (rule_of (tag_of line.now))) }
-{
-    match line.line {
-        Line::Disallow(value) if is_utf8(value) => Ok(numbers.push(line.number)?),
-        _ => Ok(()),
-    }
-}
 
 /// How many Disallows `*` has.
 pub(crate) fn star_count(alloc: Global, site: &Site) -> Result<usize, AllocError>
     ensures { IfOk result (λ count. count ≡ star_count (file_lines site.now)) }
 {
     let mut numbers = Vec::new(alloc);
-    for line in site.own_lines("*") {
-        add_disallow(&mut numbers, &line)?;
+    for rule in site.rules("*") {
+        if !rule.is_allow {
+            numbers.push(rule.line)?;
+        }
     }
     Ok(numbers.len())
 }
 
-/// Whether the line has a Disallow rule, but not of the whole site.
-#[tactic(auto, using(crate::proofs::ClosedLemmas::partial_value))]
-fn is_partial(line: &GroupLine<'_>) -> bool
-    ensures { result ≡ option_map_or is_partial (rule_of (tag_of line.now)) false }
+/// Whether the rule is a Disallow, but not of the whole site.
+#[tactic(auto, using(crate::proofs::ClosedLemmas::whole_site_escaped))]
+fn is_partial(rule: &SiteRule<'_>) -> bool
+    ensures { result ≡ is_partial rule.now }
 {
-    match line.line {
-        Line::Disallow(value) => !is_whole_site(value) && is_utf8(value),
-        _ => false,
-    }
+    !rule.is_allow && !is_whole_site(rule.value.as_bytes())
 }
 
 /// Whether `*` has such a rule.
 fn has_partial(site: &Site) -> bool
     ensures { result ≡ list_any is_partial (star_rules (file_lines site.now)) }
 {
-    for line in site.own_lines("*") {
-        if is_partial(&line) {
+    for rule in site.rules("*") {
+        if is_partial(&rule) {
             return true;
         }
     }
     false
 }
 
-/// Inserts the pattern of the line's rule if it is a Disallow.
-fn add_denied(alloc: Global, denied: &mut Patterns, line: &GroupLine<'_>) -> Result<(), AllocError>
-    ensures { OnOk result (AddsDenied denied.old denied.new (rule_of (tag_of line.now))) }
+/// Inserts the pattern of the rule if it is a Disallow.
+fn add_denied(alloc: Global, denied: &mut Patterns, rule: &SiteRule<'_>) -> Result<(), AllocError>
+    ensures { OnOk result (AddsDenied denied.old denied.new rule.now) }
 {
-    let Line::Disallow(value) = line.line else {
-        return Ok(());
-    };
-    if let Some(pattern) = pattern_of(alloc, value)? {
+    if !rule.is_allow {
+        let pattern = rule.pattern(alloc)?;
         denied.insert(pattern)?;
     }
     Ok(())
@@ -89,25 +72,21 @@ fn denied_patterns(alloc: Global, site: &Site) -> Result<Patterns, AllocError>
     ensures { IfOk result (λ denied. HasDenied denied (star_rules (file_lines site.now))) }
 {
     let mut denied = HashSet::new(alloc);
-    for line in site.own_lines("*") {
-        add_denied(alloc, &mut denied, &line)?;
+    for rule in site.rules("*") {
+        add_denied(alloc, &mut denied, &rule)?;
     }
     Ok(denied)
 }
 
-/// Whether the line's rule is for the whole site, or a Disallow whose pattern is in the set.
-fn is_kept(alloc: Global, denied: &Patterns, line: &GroupLine<'_>) -> Result<bool, AllocError>
-    ensures { IfOk result (λ is. is ≡ option_map_or (is_kept_in denied.now) (rule_of (tag_of line.now)) false) }
+/// Whether the rule is for the whole site, or a Disallow whose pattern is in the set.
+#[tactic(auto, using(crate::proofs::ClosedLemmas::whole_site_escaped))]
+fn is_kept(alloc: Global, denied: &Patterns, rule: &SiteRule<'_>) -> Result<bool, AllocError>
+    ensures { IfOk result (λ is. is ≡ is_kept_in denied.now rule.now) }
 {
-    let (value, is_allow) = match line.line {
-        Line::Allow(value) => (value, true),
-        Line::Disallow(value) => (value, false),
-        _ => return Ok(false),
-    };
-    let Some(pattern) = pattern_of(alloc, value)? else {
-        return Ok(false);
-    };
-    Ok(is_whole_site(pattern.as_bytes()) || (!is_allow && denied.contains(pattern.as_str())))
+    if is_whole_site(rule.value.as_bytes()) {
+        return Ok(true);
+    }
+    Ok(!rule.is_allow && denied.contains(rule.pattern(alloc)?.as_str()))
 }
 
 /// Whether the crawler has none of these Disallows of `*`, and no rule for the whole site.
@@ -115,8 +94,8 @@ fn lacks_all(alloc: Global, site: &Site, denied: &Patterns, agent: &str) -> Resu
     requires { HasDenied denied.now (star_rules (file_lines site.now)) }
     ensures { IfOk result (λ lacks. lacks ≡ lacks_all (file_lines site.now) agent.now) }
 {
-    for line in site.own_lines(agent) {
-        if is_kept(alloc, denied, &line)? {
+    for rule in site.rules(agent) {
+        if is_kept(alloc, denied, &rule)? {
             return Ok(false);
         }
     }
@@ -225,29 +204,6 @@ fn is_replacing(
     Ok(begin_with_one(alloc, names, from_here)? && !name_star(from_here))
 }
 
-/// Whether the line is a user-agent line whose name isn't `*`.
-fn is_other_name(line: Line<'_>) -> bool
-    ensures { result ≡ is_other_name (by_value line.entry) }
-{
-    match line {
-        Line::UserAgent(value) => value != b"*".as_slice(),
-        _ => false,
-    }
-}
-
-/// Whether there is such a line.
-#[tactic(auto, using(crate::proofs::ReplacedLemmas::others_from))]
-fn has_other_names(labels: &[LabeledLine<'_>]) -> bool
-    ensures { result ≡ list_any is_other_name (lines_of (map label_by_value labels.now)) }
-{
-    for labeled in labels {
-        if is_other_name(labeled.line) {
-            return true;
-        }
-    }
-    false
-}
-
 /// The numbers of the first user-agent lines of groups that have none of the Disallow rules of `*` and are those of these
 /// crawlers, if `*` has a Disallow, but not of the whole site.
 pub(crate) fn replacing(
@@ -260,10 +216,6 @@ pub(crate) fn replacing(
         ≡ replacing (map string_bytes agents.now) (file_lines site.now) (map label_by_value labels.now)) }
 {
     let mut found = Vec::new(alloc);
-    // without such a name, the patterns aren't needed
-    if !has_other_names(labels) {
-        return Ok(found);
-    }
     if !has_partial(site) {
         return Ok(found);
     }

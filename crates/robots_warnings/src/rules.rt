@@ -4,14 +4,15 @@ ghost use Rattle.std.specs.Char.{digit_value, is_ascii_hexdigit};
 ghost use Rattle.std.specs.Fn.{FnReturnsAt};
 ghost use Rattle.std.specs.List.{position_or_len};
 ghost use Rattle.std.specs.Str.{is_utf8};
-ghost use Rattle.robots_warnings.specs.Rules.{are_odd_digits, before_byte, begins_class};
+ghost use Rattle.robots_warnings.specs.Rules.{are_odd_digits, before_byte};
 ghost use Rattle.robots_warnings.specs.Rules.{begins_dot_segment, begins_odd_escape};
-ghost use Rattle.robots_warnings.specs.Rules.{begins_any, begins_oddly, begins_range, begins_sign, after_byte, has};
+ghost use Rattle.robots_warnings.specs.Rules.{begins_oddly, begins_sign, after_byte, has};
 ghost use Rattle.robots_warnings.specs.Rules.{has_choice, has_dollar_inside, has_dot_segment, has_final_plus, has_odd_start, holds_otherwise};
 ghost use Rattle.robots_warnings.specs.Rules.{is_expression, is_quoted, is_written_otherwise, needs_no_escape};
 ghost use Rattle.robots_warnings.specs.Rules.{somewhere};
 
 use crate::urls::begins_as_url;
+use memchr::memchr;
 
 /// Whether the text contains the byte.
 pub(crate) fn has(byte: u8, text: &[u8]) -> bool
@@ -21,11 +22,12 @@ pub(crate) fn has(byte: u8, text: &[u8]) -> bool
 }
 
 /// The index of the first occurrence of the byte, or the length of the text if there is none.
+#[tactic(auto, using(texting_robots::proofs::LaneLemmas::found_or_end))]
 pub(crate) fn place(byte: u8, text: &[u8]) -> usize
     ensures value { result ≡ position_or_len (λ b. b == byte) text.now }
     ensures within { result ≤ length text.now }
 {
-    text.iter().take_while(|other| **other != byte).count()
+    memchr(byte, text).unwrap_or(text.len())
 }
 
 /// The text before the first occurrence of the byte, or all of it if there is none.
@@ -119,35 +121,16 @@ fn has_choice(value: &[u8]) -> bool
     has(b')', after_byte(b'|', after_byte(b'(', value)))
 }
 
-/// Whether the text starts with a range, such as `[0-9]`.
-fn begins_range(text: &[u8]) -> bool
-    ensures { result ≡ begins_range text.now }
-{
-    matches!(text, [b'[', _, b'-', _, ..])
-}
-
-/// Whether the text starts with a character class, such as `\d`.
-fn begins_class(text: &[u8]) -> bool
-    ensures { result ≡ begins_class text.now }
-{
-    match text {
-        [b'\\', letter, ..] => letter.is_ascii_alphanumeric(),
-        _ => false,
-    }
-}
-
-/// Whether the text starts with `.*` after a slash or `(`, or before `$`.
-fn begins_any(text: &[u8]) -> bool
-    ensures { result ≡ begins_any text.now }
-{
-    text.starts_with(b"/.*") || text.starts_with(b"(.*") || text.starts_with(b".*$")
-}
-
-/// Whether the text starts with a range, such a `.*` or a character class.
+/// Whether the text starts with a range, such as `[0-9]`, with `.*` after a slash or `(` or before `$`, or with a
+/// character class, such as `\d`.
 fn begins_sign(text: &[u8]) -> bool
     ensures { result ≡ begins_sign text.now }
 {
-    begins_range(text) || begins_any(text) || begins_class(text)
+    match text {
+        [b'[', _, b'-', _, ..] | [b'/' | b'(', b'.', b'*', ..] | [b'.', b'*', b'$', ..] => true,
+        [b'\\', letter, ..] => letter.is_ascii_alphanumeric(),
+        _ => false,
+    }
 }
 
 /// Whether the value ends with a `+` after a dot, `]` or `)`.
@@ -232,13 +215,15 @@ pub(crate) fn has_odd_start(value: &[u8]) -> bool
 }
 
 /// Whether the text starts with a path segment `.` or `..`, which a slash or the end of the URL follows.
+#[tactic(auto, using(crate::proofs::RuleLemmas::no_segment))]
 fn begins_dot_segment(text: &[u8]) -> bool
     ensures { result ≡ begins_dot_segment text.now }
 {
-    text.starts_with(b"/./")
-        || text.starts_with(b"/../")
-        || text == b"/.$".as_slice()
-        || text == b"/..$".as_slice()
+    text.starts_with(b"/.")
+        && (text.starts_with(b"/./")
+            || text.starts_with(b"/../")
+            || text == b"/.$".as_slice()
+            || text == b"/..$".as_slice())
 }
 
 /// Whether the value contains such a segment before its first `?`.

@@ -27,7 +27,6 @@ use crate::file::{counted, is_blank};
 use crate::google::{IGNORING_STAR, LIKE_GOOGLEBOT, googlebot_checks, star_checks};
 use crate::names_past_limit::names_past_limit;
 use crate::numbers::Numbers;
-use crate::plain::{is_plain, is_plain_line};
 use crate::positions::{Preceding, first_delay, last_group, preceding_with, sole_name};
 use crate::repeated::repeated;
 use crate::replaced::{replacing, star_count};
@@ -140,16 +139,6 @@ fn warn_in_general<'a>(
     warn_of_urls(alloc, found, urls)
 }
 
-/// Appends the warnings about the value of a rule.
-fn warn_of_rule(found: &mut Found<'_>, number: usize, value: &[u8]) -> Result<(), AllocError>
-    ensures { OnOk result (Adds found.old.items found.new.items (warned (Some number) None (rule_checks value.now))) }
-{
-    if is_plain(value) {
-        return Ok(());
-    }
-    warn(found, Some(number), None, &rule_checks(value))
-}
-
 /// Appends the warnings about the value of a line. Rules are only checked if `is_in_scope` is true.
 fn warn_of_value(
     alloc: Global,
@@ -164,7 +153,7 @@ fn warn_of_value(
     match line {
         Line::UserAgent(value) => warn(found, at, None, &user_agent_checks(value)),
         Line::Allow(value) | Line::Disallow(value) if is_in_scope => {
-            warn_of_rule(found, number, value)
+            warn(found, at, None, &rule_checks(value))
         }
         Line::CrawlDelay(Some(micros)) => warn(found, at, None, &delay_checks(micros)),
         Line::Sitemap(value) => warn(found, at, None, &sitemap_checks(alloc, value)?),
@@ -198,29 +187,6 @@ fn warn_of_raw_value(
     }
 }
 
-/// Appends the warnings about what a directive with this content, whose tail and comment are `parts`, has besides its
-/// value.
-fn warn_of_directive(
-    found: &mut Found<'_>,
-    is_in_scope: bool,
-    labeled: &LabeledLine<'_>,
-    body: &[u8],
-    parts: (&[u8], &[u8]),
-) -> Result<(), AllocError>
-    requires text { parts.0.now ≡ tail_of body.now }
-    requires comment { parts.1.now ≡ comment_of body.now }
-    ensures { OnOk result (Adds found.old.items found.new.items
-        (warned (Some labeled.now.number) None (directive_checks is_in_scope (by_value labeled.now.line) body.now))) }
-{
-    let lacks_colon = is_without_colon(body);
-    let number = labeled.number;
-    warn(found, Some(number), None, &field_checks(body, lacks_colon))?;
-    if lacks_colon {
-        return Ok(());
-    }
-    warn_of_raw_value(found, is_in_scope, number, labeled.line, parts)
-}
-
 /// Appends the warnings about what a line with this content, whose tail and comment are `parts`, has besides its value,
 /// if it is a directive.
 fn warn_of_content(
@@ -236,10 +202,16 @@ fn warn_of_content(
         (if is_directive (by_value labeled.now.line)
         then directive_checks is_in_scope (by_value labeled.now.line) body.now else []))) }
 {
-    match labeled.line {
-        Line::Raw(_) => Ok(()),
-        _ => warn_of_directive(found, is_in_scope, labeled, body, parts),
+    let number = labeled.number;
+    if let Line::Raw(_) = labeled.line {
+        return Ok(());
     }
+    let lacks_colon = is_without_colon(body);
+    warn(found, Some(number), None, &field_checks(body, lacks_colon))?;
+    if lacks_colon {
+        return Ok(());
+    }
+    warn_of_raw_value(found, is_in_scope, number, labeled.line, parts)
 }
 
 /// Appends the warnings about a line with this content.
@@ -252,9 +224,6 @@ fn warn_of_line(
 ) -> Result<(), AllocError>
     ensures { OnOk result (Adds found.old.items found.new.items (line_warnings everywhere (label_by_value labeled.now) body.now)) }
 {
-    if is_plain_line(labeled.line, body) {
-        return Ok(());
-    }
     let is_in_scope = is_in_scope_of(everywhere, labeled.membership);
     let (tail, comment) = split_content(body);
     warn_of_content(found, is_in_scope, labeled, body, (tail, comment))?;
@@ -494,8 +463,7 @@ fn warn_of_groups(
     warn_at(found, Cause::NonstandardEscape, None, &escapes)?;
     warn_of_crawlers(alloc, found, site, agents, file, labels)?;
     let replacing = replacing(alloc, site, agents, labels)?;
-    let count = star_count(alloc, site)?;
-    let detail = Some(Detail::Rules(count));
+    let detail = Some(Detail::Rules(star_count(alloc, site)?));
     warn_at(found, Cause::ReplacesStar, detail, &replacing)?;
     let repeated = repeated(alloc, everywhere, labels)?;
     warn_at(found, Cause::RepeatedRule, None, &repeated)?;

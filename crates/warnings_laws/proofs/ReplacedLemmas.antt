@@ -1,13 +1,13 @@
 -- A line with `replaces-star` is in the group of a crawler that has no Disallow of `*`.
 use Rattle.std.proofs.Common.{◌≡◌, ◌≤◌, ◌+◌, ◌-◌, ℕ, suc, zero, Bool, true, false, List, [], ◌∷◌, Contains}
-use Rattle.std.proofs.Common.{Some, ap, arith, codes, if◌then◌else◌, inl, inr, length, not, refl, slice_get}
+use Rattle.std.proofs.Common.{Some, ap, arith, codes, if◌then◌else◌, inl, inr, not, refl, slice_get}
 use Rattle.std.proofs.Common.{subst, sym, ◌∙◌}
-use Rattle.std.specs.List.{count_by, filter_map, list_any}
+use Rattle.std.specs.List.{count_by, list_any}
 use Rattle.std.specs.Str.{str_to_ascii_lowercase}
-use Rattle.std.proofs.lemmas.Bool.{cases_Bool, cases_lt, false≢true, or_cases, or_right}
+use Rattle.std.proofs.lemmas.Bool.{cases_lt, false≢true, or_cases, or_right}
 use Rattle.std.proofs.lemmas.List.Folds.{Any-from_list_any, list_any-from_Any}
-use Rattle.std.proofs.lemmas.List.Recursion.{is_count_by}
 use Rattle.std.proofs.lemmas.List.Sorted.{sum_by-IsPermutation}
+use Rattle.std.proofs.lemmas.List.Sums.{length-filter}
 use Rattle.std.proofs.lemmas.Slice.Eq.{bytes_eq-Decides}
 use Rattle.texting_robots.specs.Callers.{AreLabelsOf, AreRulesFor, HoldsRule, Label, LineValue, PlacedRule}
 use Rattle.texting_robots.specs.Callers.{Raw, Rule, Sitemap, UserAgent, placed_rules}
@@ -19,7 +19,7 @@ use Rattle.robots_warnings.specs.declared.positions.Preceding.TheVariants.{Agent
 use Rattle.robots_warnings.specs.Closed.{is_whole_site}
 use Rattle.robots_warnings.specs.File.{lines_of}
 use Rattle.robots_warnings.specs.Positions.{begin_with_one, preceding_with}
-use Rattle.robots_warnings.specs.Replaced.{denies, disallow_in, is_first_name, is_kept, is_partial}
+use Rattle.robots_warnings.specs.Replaced.{denies, is_first_name, is_kept, is_partial}
 use Rattle.robots_warnings.specs.Replaced.{is_replacing, lacks_all, replacing, replacing_from, star_count}
 use Rattle.robots_warnings.specs.Replaced.{star_rules}
 use Rattle.warnings_laws.proofs.WarnedLineLemmas.{AreFrom, IsFrom, all_labels, first_or_later, here, labels_next}
@@ -181,16 +181,8 @@ replaces_star agents name lines labels number labeled has =
 
 -- ---- the number of Disallows
 
-counted : (rules : List PlacedRule)
-    → length (filter_map disallow_in rules) ≡ count_by (λ (placed : PlacedRule). not placed.rule.1) rules
-counted = is_count_by (λ rules. length (filter_map disallow_in rules)) _ refl (λ placed rules.
-    elim (cases_Bool placed.rule.1) [
-      | inl allow ↦ rw allow refl
-      | inr disallow ↦ rw disallow (omega arith)
-    ])
-
 pub star_disallows : (lines : List LineValue) (rules : List PlacedRule) → AreRulesFor (codes "*") lines rules
     → star_count lines ≡ count_by (λ (placed : PlacedRule). not placed.rule.1) rules
 star_disallows lines rules are =
     let moved = one_list (codes "*") lines rules (star_rules lines) are (computed_are (codes "*") lines) in
-    counted (star_rules lines) ∙ sum_by-IsPermutation _ rules (star_rules lines) moved
+    length-filter _ (star_rules lines) ∙ sum_by-IsPermutation _ rules (star_rules lines) moved

@@ -1,25 +1,23 @@
 -- The set of the patterns of the Disallows of `*`, and that of the names of crawlers that have none of these.
-use Rattle.std.specs.Prelude.{◌≡◌, ℕ, Bool, false, not, ◌||◌, ◌&&◌, List, [], Option, None, Some, bytes_eq}
-use Rattle.std.specs.Prelude.{String, codes}
+use Rattle.std.specs.Prelude.{◌≡◌, ℕ, Bool, not, ◌||◌, ◌&&◌, List, String, bytes_eq}
 use Rattle.std.specs.BTreeSet.{BTreeSet, contains}
 use Rattle.std.specs.Global.{Global}
 use Rattle.std.specs.HashSet.{HashSet, contains_text}
-use Rattle.std.specs.List.{cons_option, list_any}
-use Rattle.std.specs.Option.{option_map_or}
+use Rattle.std.specs.List.{list_any}
 use Rattle.std.specs.Str.{str_to_ascii_lowercase}
-use Rattle.texting_robots.specs.Callers.{LineValue, PlacedRule, UserAgent}
+use Rattle.texting_robots.specs.Callers.{LineValue, PlacedRule}
 use Rattle.robots_warnings.specs.Closed.{is_whole_site}
 use Rattle.robots_warnings.specs.Internal.Names.{Key, key_cmp}
-use Rattle.robots_warnings.specs.Replaced.{denies, disallow_in, lacks_all}
+use Rattle.robots_warnings.specs.Replaced.{denies, lacks_all}
 
 -- a set of patterns, for any hash function
 abbrev pub Patterns : Type 0 → Type 0
 Patterns S = HashSet (String Global) S
 
--- the new set is the old one and the pattern of the rule, if there is one and it is a Disallow
-pub record AddsDenied {S : Type 0} (old new : Patterns S) (given : Option PlacedRule) : Type 0 where
+-- the new set is the old one and the pattern of the rule, if it is a Disallow
+pub record AddsDenied {S : Type 0} (old new : Patterns S) (placed : PlacedRule) : Type 0 where
   pub each : (pattern : List ℕ) → contains_text new pattern
-      ≡ (contains_text old pattern || option_map_or (denies pattern) given false)
+      ≡ (contains_text old pattern || denies pattern placed)
 
 -- the set has exactly the patterns of the Disallows among the rules
 pub record HasDenied {S : Type 0} (denied : Patterns S) (rules : List PlacedRule) : Type 0 where
@@ -43,13 +41,3 @@ pub record HasThose (names : BTreeSet Key) (test : List ℕ → Bool) : Type 0 w
 pub record AddsLacking (lines : List LineValue) (old new : BTreeSet Key) (agent : List ℕ) : Type 0 where
   pub each : (key : Key) → contains key_cmp new key ≡ (contains key_cmp old key
       || (lacks_all lines agent && bytes_eq (str_to_ascii_lowercase agent) key.items))
-
--- the line of the rule is appended, if there is a rule and it is a Disallow
-abbrev pub disallow_lines : Option PlacedRule → List ℕ
-disallow_lines None = []
-disallow_lines (Some placed) = cons_option (disallow_in placed) []
-
--- a user-agent line whose name isn't `*`
-abbrev pub is_other_name : LineValue → Bool
-is_other_name (UserAgent value) = not (bytes_eq value (codes "*"))
-is_other_name _ = false

@@ -6,7 +6,7 @@ pub returns-clause-settled : goal.returns-clause-settled
 returns-clause-settled c =
     rw (← c.in_ok-rules.ensures.rules) (settled_by _ _ _ _ _ _ _ c.in_ok-add_found.ensures
     c.in_ok-add_lines.ensures c.in_ok-rules.ensures.accepted
-    (rw (c.deref.ensures.value, c.deref-2.ensures.value) c.in_ok-settled.ensures.together))
+    (rw (c.deref.ensures.value, c.deref-2.ensures.value) c.in_ok-settled.ensures))
 
 pub returns-clause-reasons : goal.returns-clause-reasons
 returns-clause-reasons c =

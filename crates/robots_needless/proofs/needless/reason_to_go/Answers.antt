@@ -1,21 +1,29 @@
-use Rattle.std.proofs.Common.{◌++◌}
-use Rattle.std.proofs.lemmas.List.Elements.{Contains-append_left, Contains-append_right}
-use Rattle.robots_needless.proofs.PlainLemmas.{goes_among, holds_among}
-use Rattle.robots_needless.proofs.ReasonLemmas.{no_rival_both}
+use Rattle.std.proofs.Common.{List}
+use Rattle.std.proofs.lemmas.Option.{IfSome_then}
+use Rattle.texting_robots.specs.Rules.{PlacedRule, unplaced}
+use Rattle.robots_needless.specs.declared.needless.Reason.{Reason}
+use Rattle.robots_needless.specs.Internal.{AreAmong, AreNear, Goes, HasNoRival}
+use Rattle.robots_needless.proofs.ReasonLemmas.{no_rival_near, overruled_goes}
 use Rattle.robots_needless.proofs.needless.reason_to_go.Goals as goal
 
-pub returns-clause-go : goal.returns-clause-go
-returns-clause-go c =
-    let kept = c.args.kept.now in
-    let rest = c.args.rest.now in
-    goes_among kept rest c.args.rule.now _ (kept ++ rest) (Contains-append_left kept rest)
-    (Contains-append_right kept rest) _
-    (no_rival_both kept rest _ _ _ c.rival_floor-kept_floor.ensures.none c.rival_floor-floor.ensures.most
-    c.rival_floor-floor.ensures.none) c.reason_among.ensures.go
+pub returns-in-Some : goal.returns-in-Some
+returns-in-Some c others equal near =
+    let (other, listed, line, is) = c.in-Some.ensures in record {
+      go = overruled_goes others _ other (equal other listed) is;
+      holds = (other, equal other listed, line, is);
+    }
 
-pub returns-clause-reason : goal.returns-clause-reason
-returns-clause-reason c =
-    let kept = c.args.kept.now in
-    let rest = c.args.rest.now in
-    holds_among kept rest c.args.rule.now _ (kept ++ rest) (Contains-append_left kept rest)
-    (Contains-append_right kept rest) c.reason_among.ensures.reason
+pub returns : goal.returns
+returns c =
+    let one = c.args.kept.now in
+    let two = c.args.rest.now in
+    let rule = c.args.rule.now in
+    let floor = c.rival_floor-floor in
+    let on : (reason : Reason) → ((others : List PlacedRule) → AreAmong one others → AreAmong two others
+    → HasNoRival (unplaced others) floor.result rule.rule → Goes others rule reason)
+    → (others : List PlacedRule) → AreAmong c.args.equal.now others → AreNear one two others rule
+    → Goes others rule reason =
+    λ reason goes others equal near. goes others near.first near.second
+    (no_rival_near one two others _ _ rule near c.rival_floor-kept_floor.ensures.none floor.ensures.most
+    floor.ensures.none) in
+    IfSome_then _ c.reason_among.ensures on

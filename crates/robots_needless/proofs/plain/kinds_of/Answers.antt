@@ -1,7 +1,7 @@
 use Rattle.std.proofs.lemmas.List.Elements.{All-nil, All-push}
 use Rattle.std.proofs.lemmas.List.Sorted.{IsPermutation-trans}
-use Rattle.robots_needless.specs.Prefixes.{IsPlain}
-use Rattle.robots_needless.proofs.PlainLemmas.{to_first, to_second}
+use Rattle.robots_needless.specs.Internal.{IsPlain}
+use Rattle.robots_needless.proofs.TogetherLemmas.{to_first, to_second}
 use Rattle.robots_needless.proofs.plain.kinds_of.Goals as goal
 
 pub loop-rule-init : goal.loop-rule-init
@@ -13,7 +13,7 @@ loop-rule-init c = record {
 pub loop-rule-preserved-in-Continue-1 : goal.loop-rule-preserved-in-Continue-1
 loop-rule-preserved-in-Continue-1 c =
     let is = c.loop-rule.invariant in record {
-      same = IsPermutation-trans _ _ _ is.same (to_first c.loop-rule.plain.items c.loop-rule.starred.items
+      same = IsPermutation-trans _ _ _ is.same (to_second c.loop-rule.starred.items c.loop-rule.plain.items
           c.pop.new.self.items c.loop-rule.rest.items c.in-Some.rule c.in-Some.ensures.items _
           c.in_ok-push.ensures.items);
       plain = rw c.in_ok-push.ensures.items (All-push IsPlain c.loop-rule.plain.items c.in-Some.rule is.plain
@@ -23,7 +23,7 @@ loop-rule-preserved-in-Continue-1 c =
 pub loop-rule-preserved : goal.loop-rule-preserved
 loop-rule-preserved c =
     let is = c.loop-rule.invariant in record {
-      same = IsPermutation-trans _ _ _ is.same (to_second c.loop-rule.plain.items c.loop-rule.starred.items
+      same = IsPermutation-trans _ _ _ is.same (to_first c.loop-rule.starred.items c.loop-rule.plain.items
           c.pop.new.self.items c.loop-rule.rest.items c.in-Some.rule c.in-Some.ensures.items _
           c.in_ok-push-2.ensures.items);
       plain = is.plain;

@@ -1,10 +1,10 @@
 use Rattle.std.proofs.Common.{◌++◌, All, IsPermutation, vec_len}
-use Rattle.robots_needless.specs.Prefixes.{IsPlain}
+use Rattle.robots_needless.specs.Internal.{IsPlain}
 use Rattle.robots_needless.proofs.plain.kinds_of.Given as goal
 
 abbrev pub invariant-loop-rule : goal.invariant-loop-rule
 invariant-loop-rule l = record {
-  same : IsPermutation l.fn.rules.items ((l.plain.items ++ l.starred.items) ++ l.rest.items);
+  same : IsPermutation l.fn.rules.items ((l.starred.items ++ l.plain.items) ++ l.rest.items);
   plain : All IsPlain l.plain.items;
 }
 

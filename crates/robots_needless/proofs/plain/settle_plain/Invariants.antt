@@ -1,17 +1,14 @@
-use Rattle.std.proofs.Common.{◌++◌, All, vec_len}
+use Rattle.std.proofs.Common.{◌++◌, [], List, vec_len}
+use Rattle.texting_robots.specs.Rules.{PlacedRule}
 use Rattle.robots_needless.specs.Internal.{IsReducedTo}
-use Rattle.robots_needless.specs.Needless.{IsFound, numbers_of}
-use Rattle.robots_needless.specs.Prefixes.{AreDescending, AreIndexed, IsPlain}
+use Rattle.robots_needless.proofs.PlainLemmas.{AreParted}
 use Rattle.robots_needless.proofs.plain.settle_plain.Given as goal
 
 abbrev pub invariant-loop-rule : goal.invariant-loop-rule
 invariant-loop-rule l = record {
-  reduced : IsReducedTo (l.starred ++ l.fn.rules.items) ((l.kept.rules.items ++ l.starred) ++ l.rest.items)
-      (numbers_of l.found.items);
-  reasons : All (IsFound (l.starred ++ l.fn.rules.items)) l.found.items;
-  indexed : AreIndexed l.kept.rules.items l.kept.places;
-  plain : All IsPlain l.rest.items;
-  descending : AreDescending l.rest.items;
+  reduced : (all : List PlacedRule) → IsReducedTo all (l.starred ++ l.fn.rules.items) []
+      → IsReducedTo all ((l.starred ++ (l.far.items ++ l.near.items)) ++ l.rest.items) l.found.items;
+  parted : AreParted l.near.items l.far.items l.rest.items;
 }
 
 abbrev pub decreases-loop-rule : goal.decreases-loop-rule

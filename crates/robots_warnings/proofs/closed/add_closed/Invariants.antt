@@ -1,19 +1,18 @@
 use Rattle.std.proofs.Common.{◌≡◌, ◌||◌, ℕ}
 use Rattle.std.specs.BTreeSet.{contains}
-use Rattle.std.specs.List.{filter_map, list_any}
+use Rattle.std.specs.List.{list_any}
 use Rattle.std.specs.Ordering.{nat_cmp}
 use Rattle.texting_robots.specs.Callers.{file_lines, placed_rules}
-use Rattle.texting_robots.specs.Internal.Site.{rule_of}
 use Rattle.robots_warnings.specs.Closed.{is_closing_at}
 use Rattle.robots_warnings.proofs.closed.add_closed.Given as goal
 
-abbrev pub invariant-loop-line : goal.invariant-loop-line
-invariant-loop-line l =
+abbrev pub invariant-loop-rule : goal.invariant-loop-rule
+invariant-loop-rule l =
     let rules = placed_rules l.agent (file_lines l.site) in
     record {
-      can_next : (goal.iterator-loop-line).can_next l.line-iterator;
-      is_finite : (goal.iterator-loop-line).is_finite l.line-iterator;
+      can_next : (goal.iterator-loop-rule).can_next l.rule-iterator;
+      is_finite : (goal.iterator-loop-rule).is_finite l.rule-iterator;
       all : (number : ℕ) → (contains nat_cmp l.numbers number
-          || list_any (is_closing_at number) (filter_map rule_of l.line-iterator))
+          || list_any (is_closing_at number) l.rule-iterator)
           ≡ (contains nat_cmp l.fn.numbers number || list_any (is_closing_at number) rules);
     }

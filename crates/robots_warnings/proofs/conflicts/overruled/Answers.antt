@@ -1,22 +1,9 @@
-use Rattle.std.proofs.Common.{ap, sym, ◌∙◌}
-use Rattle.std.specs.BTreeMap.{is_at}
 use Rattle.std.specs.BTreeSet.{contains}
-use Rattle.std.specs.Map.{lookup}
 use Rattle.std.specs.Ordering.{nat_cmp}
-use Rattle.texting_robots.specs.Callers.{file_lines, placed_rules}
+use Rattle.texting_robots.specs.Callers.{file_lines}
 use Rattle.robots_warnings.specs.Conflicts.{overruled_for}
-use Rattle.robots_warnings.proofs.ConflictLemmas.{agents_next, none_in, none_of_all, none_overruled}
+use Rattle.robots_warnings.proofs.ConflictLemmas.{agents_next}
 use Rattle.robots_warnings.proofs.conflicts.overruled.Goals as goal
-
-pub returns-then-is_empty : goal.returns-then-is_empty
-returns-then-is_empty c number =
-    let lines = file_lines c.args.site.now in
-    let is_empty = contains nat_cmp c.args.empty.now in
-    let none = none_in c.args.empty.now.keys (c.is_empty.ensures.0 c.if-is_empty.true) in
-    ap (lookup (is_at (nat_cmp number))) c.new-others.ensures.empty
-    ∙ sym (none_of_all (overruled_for is_empty lines number)
-    (λ agent.
-    let rules = placed_rules agent lines in none_overruled is_empty (λ n. none _) rules rules number) _)
 
 pub loop-agent-preserved : goal.loop-agent-preserved
 loop-agent-preserved c number =

@@ -1,13 +1,11 @@
-use Rattle.std.specs.List.{filter_map}
 use Rattle.texting_robots.specs.Callers.{file_lines}
-use Rattle.texting_robots.specs.Internal.Site.{rule_of}
 use Rattle.robots_warnings.specs.Internal.Replaced.{DeniedWith}
 use Rattle.robots_warnings.specs.Replaced.{star_rules}
 use Rattle.robots_warnings.proofs.replaced.denied_patterns.Given as goal
 
-abbrev pub invariant-loop-line : goal.invariant-loop-line
-invariant-loop-line l = record {
-  can_next : (goal.iterator-loop-line).can_next l.line-iterator;
-  is_finite : (goal.iterator-loop-line).is_finite l.line-iterator;
-  all : DeniedWith l.denied (filter_map rule_of l.line-iterator) (star_rules (file_lines l.site));
+abbrev pub invariant-loop-rule : goal.invariant-loop-rule
+invariant-loop-rule l = record {
+  can_next : (goal.iterator-loop-rule).can_next l.rule-iterator;
+  is_finite : (goal.iterator-loop-rule).is_finite l.rule-iterator;
+  all : DeniedWith l.denied l.rule-iterator (star_rules (file_lines l.site));
 }

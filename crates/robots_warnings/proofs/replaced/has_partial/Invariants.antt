@@ -1,14 +1,12 @@
 use Rattle.std.proofs.Common.{◌≡◌}
-use Rattle.std.specs.List.{filter_map, list_any}
+use Rattle.std.specs.List.{list_any}
 use Rattle.texting_robots.specs.Callers.{file_lines}
-use Rattle.texting_robots.specs.Internal.Site.{rule_of}
 use Rattle.robots_warnings.specs.Replaced.{is_partial, star_rules}
 use Rattle.robots_warnings.proofs.replaced.has_partial.Given as goal
 
-abbrev pub invariant-loop-line : goal.invariant-loop-line
-invariant-loop-line l = record {
-  can_next : (goal.iterator-loop-line).can_next l.line-iterator;
-  is_finite : (goal.iterator-loop-line).is_finite l.line-iterator;
-  all : list_any is_partial (filter_map rule_of l.line-iterator)
-      ≡ list_any is_partial (star_rules (file_lines l.site));
+abbrev pub invariant-loop-rule : goal.invariant-loop-rule
+invariant-loop-rule l = record {
+  can_next : (goal.iterator-loop-rule).can_next l.rule-iterator;
+  is_finite : (goal.iterator-loop-rule).is_finite l.rule-iterator;
+  all : list_any is_partial l.rule-iterator ≡ list_any is_partial (star_rules (file_lines l.site));
 }

@@ -1,4 +1,4 @@
-use Rattle.robots_needless.proofs.PrefixLemmas.{plain_by}
+use Rattle.robots_needless.proofs.PlainLemmas.{plain_by}
 use Rattle.robots_needless.proofs.rule.Rule.is_match.Goals as goal
 
 pub returns-in-None-clause-matches : goal.returns-in-None-clause-matches

@@ -1,0 +1,46 @@
+//! Callers of the library `texting_robots`: a polite crawler, a link checker, a site audit, a cache of robots, and a
+//! single query of one file. Each has a contract that follows from the library's contracts and those of the crates that
+//! it uses. The program decides by a robots.txt file whether a crawler may fetch URLs:
+//! `robots_examples AGENT FILE URL..`
+#![tactic(auto)]
+
+pub mod audit;
+pub mod cache;
+pub mod crawler;
+pub mod link_check;
+pub mod single_query;
+#[cfg(test)]
+mod tests;
+
+use std::io::ErrorKind;
+use std::{env, fs, io};
+use texting_robots::{Error, Robot};
+
+/// Prints whether the crawler may fetch a URL. A string that is neither a URL nor a path is matched too. As it doesn't
+/// start with a slash, usually no rule matches it, and the result is "allow".
+fn print_verdict(rt: &HostRuntime, robot: &Robot, url: &str) -> io::Result<()> {
+    match robot.allowed(rt.alloc(), url) {
+        Ok(true) => println!(rt; "allow {url}"),
+        Ok(false) => println!(rt; "deny {url}"),
+        Err(Error::Memory) => Err(io::Error::from(ErrorKind::OutOfMemory)),
+        Err(Error::InvalidRobots | Error::InvalidRule) => unreachable!(),
+    }
+}
+
+fn main(rt: HostRuntime) -> io::Result<()> {
+    let mut words = env::args(&rt)?;
+    let _ = words.next();
+    let (Some(agent), Some(path)) = (words.next(), words.next()) else {
+        return rt.eprintln("usage: robots_examples AGENT FILE URL..");
+    };
+    let file = fs::read(&rt, path.as_str())?;
+    let robot = match Robot::new(rt.alloc(), &agent, &file) {
+        Ok(robot) => robot,
+        Err(Error::Memory) => return Err(io::Error::from(ErrorKind::OutOfMemory)),
+        Err(_) => return rt.eprintln("robots_examples: a rule of the file is too long"),
+    };
+    for url in words {
+        print_verdict(&rt, &robot, &url)?;
+    }
+    Ok(())
+}

@@ -1,0 +1,122 @@
+//! How many bytes verdicts and patterns compare (looks).
+use crate::helpers::{BOB, TextParts, check_equal, check_prepared, indented, long_text, robot_of};
+use crate::patterns::regex_of;
+use std::process::Abort;
+use texting_robots::Robot;
+use texting_robots::view::View;
+
+/// A file and a match target, whether it may be fetched, and the least and the greatest number of looks.
+type LookCase = (TextParts, TextParts, bool, (u64, u64));
+
+/// The rules are tried in the order of their lengths: `/forest*.py`, `/ocean` and `/rust`.
+const THREE: TextParts = &[("Allow: /ocean\nDisallow: /rust\nDisallow: /forest*.py", 1)];
+
+/// Each comparison with a byte of a rule takes a look, also with the byte that differs. What a final star matches takes
+/// none.
+const EXACT: &[LookCase] = &[
+    (THREE, &[("/forest.py", 1)], false, (10, 10)),
+    (THREE, &[("/oceanic", 1)], true, (8, 8)),
+    (THREE, &[("/rustacean", 1)], false, (9, 9)),
+    (THREE, &[("?rustacean", 1)], true, (3, 3)),
+    (THREE, &[("/robots.txt", 1)], true, (0, 0)),
+    (
+        &[("Disallow: /b\n", 1000)],
+        &[("/", 1), ("a", 1000)],
+        true,
+        (2_000, 2_000),
+    ),
+];
+
+const BOUNDED: &[LookCase] = &[
+    (
+        &[("Disallow: /*aaaab", 1)],
+        &[("/", 1), ("a", 1000)],
+        true,
+        (1_001, 2_002),
+    ),
+    (
+        &[("Disallow: /*", 1), ("a", 2000), ("b", 1)],
+        &[("/", 1), ("a", 100_000)],
+        true,
+        (100_001, 200_002),
+    ),
+    (
+        &[("Disallow: /*aaaab\n", 1000)],
+        &[("/", 1), ("a", 1000)],
+        true,
+        (1_001_000, 2_002_000),
+    ),
+    // a shorter rule is passed over
+    (
+        &[("Allow: /*b\n", 1000), ("Disallow: /aaaa", 1)],
+        &[("/", 1), ("a", 1004)],
+        false,
+        (5, 2_010),
+    ),
+];
+
+/// A pattern, a text, and the number of looks.
+const PATTERNS: &[(&str, &str, u64)] = &[
+    ("/*", "/abc", 1),
+    ("/*ab*ba$", "?abba", 1),
+    ("/*ab*ba$", "/abba", 5),
+    ("/*b$", "/aaaaaaab", 2),
+];
+
+/// The number of looks that the robot's verdict takes.
+fn looks_of_verdict(robot: &Robot, text: &str) -> u64 {
+    let mut view = View::new(text);
+    robot.allowed_view(&mut view);
+    view.seen()
+}
+
+/// The number of looks that the robot's decision takes.
+fn looks_of_decision(robot: &Robot, text: &str) -> u64 {
+    let mut view = View::new(text);
+    robot.decision(&mut view);
+    view.seen()
+}
+
+/// Checks the verdict of a robot for this file, and counts the looks.
+fn check_case(
+    rt: &(impl Abort + AllocGlobal),
+    file: &[u8],
+    text: &str,
+    allowed: bool,
+    (least, most): (u64, u64),
+) {
+    let robot = robot_of(rt, text, BOB, file);
+    check_prepared(rt, text, &robot, text, allowed);
+    for seen in [
+        looks_of_verdict(&robot, text),
+        looks_of_decision(&robot, text),
+    ] {
+        assert!(rt; least <= seen && seen <= most, "{text:.60}: {seen} looks");
+    }
+}
+
+/// Checks each case with its file, unchanged and indented.
+fn check_cases(rt: &(impl Abort + AllocGlobal), cases: &[LookCase]) {
+    for (file, text, allowed, looks) in cases {
+        let text = long_text(rt, "text", text);
+        let file = long_text(rt, "file", file);
+        check_case(rt, file.as_bytes(), &text, *allowed, *looks);
+        let longer = indented(rt, "file", file.as_bytes());
+        check_case(rt, &longer, &text, *allowed, *looks);
+    }
+}
+
+#[test]
+fn looks_of_robots_are_counted(rt: HostRuntime) {
+    check_cases(&rt, EXACT);
+    check_cases(&rt, BOUNDED);
+}
+
+#[test]
+fn looks_of_patterns_are_counted(rt: HostRuntime) {
+    for (pattern, text, want) in PATTERNS {
+        let mut view = View::new(text);
+        regex_of(&rt, text, pattern).matches_view(&mut view);
+        check_equal(&rt, text, &view.seen(), want);
+    }
+}

@@ -1,0 +1,78 @@
+//! Tests of the public functions of the library `texting_robots`: worked examples, the cases of the original crate's
+//! tests, and every small input. Each case is data, with a name that is printed if it fails. The program
+//! `robots_verdict` prints what a file means for a crawler (its verdicts, delay and sitemaps, or an error), so such
+//! cases are golden tests of that program.
+//!
+//! The program makes calls of which neither another program nor the C library shows what happens while allocations
+//! fail, and prints for each whether its result is right. `tests/test_allocation_failures.py` makes the allocations
+//! fail; then a call that allocates can also print `out of memory`. A name on standard input chooses one call.
+#![tactic(auto)]
+
+mod calls;
+#[cfg(test)]
+mod example;
+#[cfg(test)]
+mod helpers;
+#[cfg(test)]
+mod labels;
+#[cfg(test)]
+mod limits;
+#[cfg(test)]
+mod lines;
+#[cfg(test)]
+mod looks;
+#[cfg(test)]
+mod patterns;
+#[cfg(test)]
+mod printed;
+mod quiet;
+#[cfg(test)]
+mod sites;
+#[cfg(test)]
+mod sizes;
+#[cfg(test)]
+mod stress;
+#[cfg(test)]
+mod sweep;
+#[cfg(test)]
+mod urls;
+#[cfg(test)]
+mod values;
+#[cfg(test)]
+mod verdicts;
+
+use calls::{CALLS, Call, answer};
+use std::io::Read;
+use std::process::ExitCode;
+use texting_robots::Error;
+
+/// Makes a call and prints its outcome. Returns whether it is an acceptable one.
+fn makes_call(rt: &HostRuntime, name: &str, call: &Call) -> bool {
+    let (word, may_be) = match answer(rt.alloc(), call) {
+        Ok(true) => ("right", true),
+        Ok(false) => ("WRONG", false),
+        Err(Error::Memory) => ("out of memory", true),
+        Err(Error::InvalidRobots | Error::InvalidRule) => ("WRONG ERROR", false),
+    };
+    println!(rt; "{name}: {word}").is_ok() && may_be
+}
+
+/// Makes the call that the line on standard input names, or all if there is none. Returns whether all outcomes are
+/// acceptable.
+fn makes_calls(rt: &HostRuntime, line: &[u8]) -> bool {
+    let mut well = true;
+    for (name, call) in CALLS {
+        if line.is_empty() || line.strip_suffix(b"\n") == Some(name.as_bytes()) {
+            well &= makes_call(rt, name, call);
+        }
+    }
+    well
+}
+
+fn main(rt: HostRuntime) -> ExitCode {
+    let mut buffer = [0; 80];
+    match rt.stdin().read(&mut buffer) {
+        Ok(count) if makes_calls(&rt, &buffer[..count]) => ExitCode::SUCCESS,
+        _ => ExitCode::FAILURE,
+    }
+}
