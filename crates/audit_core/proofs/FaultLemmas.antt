@@ -5,7 +5,8 @@ use Rattle.robots_io.specs.Sanitize.{IsPrintable}
 use Rattle.robots_io.proofs.SanitizeLemmas.{sanitized_lines_printable}
 use Rattle.robots_text.proofs.PartLemmas.{written_printable}
 use Rattle.audit_core.specs.declared.fault.Fault.{Fault}
-use Rattle.audit_core.specs.declared.fault.Fault.TheVariants.{Argument, Empty, File, Malformed, Memory, NotUtf8}
+use Rattle.audit_core.specs.declared.fault.Fault.TheVariants.{Argument, Empty, File, Malformed, Memory}
+use Rattle.audit_core.specs.declared.fault.Fault.TheVariants.{NotUtf8}
 use Rattle.audit_core.specs.declared.fault.Fault.TheVariants.{Read, StdinTwice, UnknownWarning, Usage}
 use Rattle.audit_core.specs.declared.fault.Fault.TheVariants.{Words, Write}
 use Rattle.audit_core.specs.Fault.{fault_line, fault_text}

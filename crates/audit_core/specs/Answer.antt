@@ -1,6 +1,7 @@
 -- What a run answers, and how its report is written. `Appends` and `Keeps` claim nothing about a writer whose
 -- bytes the specification can't observe.
-use Rattle.std.specs.Prelude.{◌≡◌, ℕ, true, false, List, [], Option, Result, Ok, Err, IfErr, IfOk, string_bytes}
+use Rattle.std.specs.Prelude.{◌≡◌, ℕ, true, false, List, [], Option, Result, Ok, Err, IfErr, IfOk}
+use Rattle.std.specs.Prelude.{string_bytes}
 use Rattle.std.specs.Io.KnownBytes.{Appends, Keeps}
 use Rattle.robots_io.specs.Streams.{AppendsBeginning}
 use Rattle.audit_core.specs.declared.answer.Answer.{Answer}

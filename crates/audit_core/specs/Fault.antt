@@ -5,13 +5,15 @@ use Rattle.std.proofs.Common.{refl}
 use Rattle.robots_io.specs.Sanitize.{sanitized_lines}
 use Rattle.robots_io.specs.declared.streams.ReadFault.{ReadFault}
 use Rattle.robots_io.specs.declared.streams.ReadFault.TheVariants as read
-use Rattle.robots_text.specs.Text.{Named, Number, Part, PartValue, ReportLine, Untrusted, Value, label, line_from}
+use Rattle.robots_text.specs.Text.{Named, Number, Part, PartValue, ReportLine, Untrusted, Value, label}
+use Rattle.robots_text.specs.Text.{line_from}
 use Rattle.robots_text.specs.Text.{only, value_text, word, written}
 use Rattle.audit_core.specs.declared.answer.Outcome.{Outcome}
 use Rattle.audit_core.specs.declared.fault.Entry.{Entry}
 use Rattle.audit_core.specs.declared.fault.Entry.TheVariants.{Expectation, Url}
 use Rattle.audit_core.specs.declared.fault.Fault.{Fault}
-use Rattle.audit_core.specs.declared.fault.Fault.TheVariants.{Argument, Empty, File, Malformed, Memory, NotUtf8}
+use Rattle.audit_core.specs.declared.fault.Fault.TheVariants.{Argument, Empty, File, Malformed, Memory}
+use Rattle.audit_core.specs.declared.fault.Fault.TheVariants.{NotUtf8}
 use Rattle.audit_core.specs.declared.fault.Fault.TheVariants.{Read, StdinTwice, UnknownWarning, Usage}
 use Rattle.audit_core.specs.declared.fault.Fault.TheVariants.{Words, Write}
 use Rattle.audit_core.specs.declared.fault.Flaw.{Flaw}

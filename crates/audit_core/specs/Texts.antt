@@ -1,5 +1,5 @@
--- Texts that several reports share: a delay, which group applies to a crawler, and that the file is rejected for
--- it.
+-- Texts that several reports share: a delay, which group applies to a crawler, and that the file is rejected
+-- for it.
 use Rattle.std.specs.Prelude.{ℕ, Bool, true, false, List, [], ◌∷◌, ◌++◌, None, Option, Some, bytes_eq, codes}
 use Rattle.std.proofs.Common.{refl}
 use Rattle.audit_core.specs.declared.group.Group.{Group}

@@ -35,7 +35,8 @@ IsJudgmentOn file agent url (Decided decision other) =
     × IsOtherDecision (bodies_read file) rules (asked_target url) other
 
 -- which of the two notes on Google's crawlers applies: neither; or Google applies the group of Googlebot, for
--- which this is the judgment, as names are compared here; or Google applies no group, so everything is allowed
+-- which this is the judgment, as names are compared here; or Google applies no group, so everything is
+-- allowed
 abbrev pub IsAtGoogle : List ℕ → List ℕ → List ℕ → AtGoogle → Type 0
 IsAtGoogle file agent url Same =
     (gets_googlebots (lines_read file) agent ≡ false) × (gets_nobodys (lines_read file) agent ≡ false)

@@ -41,7 +41,8 @@ counted_next counts new warnings at warning cause below same are more_at name le
     (take at warnings) (slice_index_or warnings at warning)))
 
 -- loop step: one more warning is appended if its place passes the test
-pub placed_next : (test : ℕ → Bool) (warnings : List WarningValue) (at : ℕ) (warning : WarningValue) (place : ℕ)
+pub placed_next : (test : ℕ → Bool) (warnings : List WarningValue) (at : ℕ) (warning : WarningValue)
+    (place : ℕ)
     (found new all : List WarningValue) → at < length warnings
     → place ≡ count_like (slice_index_or warnings at warning).cause (take at warnings)
     → new ≡ found ++ (if test place then slice_index_or warnings at warning ∷ [] else [])

@@ -1,4 +1,5 @@
--- Messages on standard error are printable apart from color codes. Without the codes they are those without colors.
+-- Messages on standard error are printable apart from color codes. Without the codes they are those without
+-- colors.
 use Rattle.std.proofs.Common.{◌≡◌, ℕ, Bool, true, false, List, [], inl, inr, Option, Some, None, string_bytes}
 use Rattle.std.proofs.Common.{◌∙◌, ap, codes, subst, sym}
 use Rattle.clap.specs.declared.parser.matches.ArgMatches.{ArgMatches}
@@ -66,13 +67,15 @@ text_for_terminal has_colors text answer is = silent has_colors answer is.quiet
 colors_kept : (name : Option (List ℕ)) (requested extended : RequestValue) → HasUrls name requested extended
     → extended.has_colors ≡ requested.has_colors
 colors_kept None requested extended is = ap (λ (r : RequestValue). r.has_colors) is
-colors_kept (Some name) requested extended (text, has) = ap (λ (r : RequestValue). r.has_colors) has.extended_is
+colors_kept (Some name) requested extended (text, has) = ap
+    (λ (r : RequestValue). r.has_colors) has.extended_is
 
 asked_colors : (by_default : Bool) (matches : ArgMatches) (requested : RequestValue)
     → IsAsked by_default matches requested
     → requested.has_colors ≡ requested_colors (value_of matches (codes "color")) by_default
 asked_colors by_default matches requested is =
-    colors_kept (value_of matches (codes "urls")) (requested_by is.request) requested is.urls ∙ is.asked.colors
+    colors_kept (value_of matches (codes "urls")) (requested_by is.request) requested is.urls
+    ∙ is.asked.colors
 
 audited_for_terminal : (by_default : Bool) (matches : ArgMatches) (answer : Answer)
     → AnswersAudit by_default matches answer

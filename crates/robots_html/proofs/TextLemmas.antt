@@ -1,6 +1,7 @@
 -- Escaping: a text without bytes that need a reference, and one up to the first such byte.
 use Rattle.std.proofs.Common.{ℕ, zero, suc, ◌+◌, ◌/◌, ◌%◌, ◌<◌, ◌==◌, true, false, List, [], ◌∷◌, ◌++◌, ap}
-use Rattle.std.proofs.Common.{append_assoc, arith, decimal, drop, flat_map, get_or, inl, inr, length, refl, sym, take}
+use Rattle.std.proofs.Common.{append_assoc, arith, decimal, drop, flat_map, get_or, inl, inr, length, refl}
+use Rattle.std.proofs.Common.{sym, take}
 use Rattle.std.proofs.Common.{◌≡◌, ◌∙◌}
 use Rattle.std.specs.Fmt.{digit_glyph, digits, digits_onto}
 use Rattle.std.specs.List.{list_all}
@@ -51,8 +52,10 @@ decimal_written n = plain_text (decimal n) (onto 64 n [] refl)
           | inr other ↦ rw other (onto k (n / 10) (digit_glyph false (n % 10) ∷ text) more)
         ]
 
--- a text is written as its bytes that need no reference, the next one's reference, and what is written for the rest
-pub escaped_at : (text : List ℕ) (count : ℕ) → list_all is_plain (take count text) ≡ true → count < length text
+-- a text is written as its bytes that need no reference, the next one's reference, and what is written for
+-- the rest
+pub escaped_at : (text : List ℕ) (count : ℕ) → list_all is_plain (take count text) ≡ true
+    → count < length text
     → escaped text ≡ take count text ++ (escaped_byte (get_or text count 0) ++ escaped (drop (count + 1) text))
 escaped_at text count plain below =
     let byte = get_or text count 0 in
@@ -74,8 +77,10 @@ reference_added text count later out new whole plain below is added so_far =
     ∙ ap (λ (b : List ℕ). out ++ b) (sym (escaped_at text count plain below)) ∙ so_far)
 
 -- no byte needs a reference any more
-pub all_added : (text : List ℕ) (count : ℕ) (out new whole : List ℕ) → list_all is_plain (take count text) ≡ true
+pub all_added : (text : List ℕ) (count : ℕ) (out new whole : List ℕ) → list_all is_plain (take count text)
+    ≡ true
     → count ≡ length text → new ≡ out ++ take count text → out ++ escaped text ≡ whole → new ≡ whole
 all_added text count out new whole plain all added so_far =
     let taken : take count text ≡ text = take_all count text (omega (arith, all)) in
-    added ∙ ap (λ (b : List ℕ). out ++ b) (sym (plain_text (take count text) plain) ∙ ap escaped taken) ∙ so_far
+    added ∙ ap (λ (b : List ℕ). out ++ b) (sym (plain_text (take count text) plain) ∙ ap escaped taken)
+    ∙ so_far

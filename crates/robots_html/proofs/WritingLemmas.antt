@@ -15,7 +15,8 @@ pub written-with_text : (bytes : List ℕ) (tree : Html)
 written-with_text bytes (text more) = escaped-append bytes more
 written-with_text bytes (element before name attributes children after) =
     rw (escaped-append bytes before) (simp append_assoc)
-written-with_text bytes (void before name attributes after) = rw (escaped-append bytes before) (simp append_assoc)
+written-with_text bytes (void before name attributes after) = rw (escaped-append bytes before)
+    (simp append_assoc)
 written-with_text bytes (style before css after) = rw (escaped-append bytes before) (simp append_assoc)
 
 pub written-followed : (one two : Html) → written (one ⊕ two) ≡ written one ++ written two

@@ -102,7 +102,8 @@ lines_colored has_colors (line ∷ lines) others =
     (one has_colors line) (colored_same (lf ∷ []) (ascii_printable true (lf ∷ []) refl)))
     (lines_colored has_colors lines others)
   where
-    one : (has_colors : Bool) (line : LevelLine) → IsColored (level_text false line) (level_text has_colors line)
+    one : (has_colors : Bool) (line : LevelLine)
+    → IsColored (level_text false line) (level_text has_colors line)
     one false line = colored_same (level_text false line) (level_printable_line line)
     one true line = colored_line line
 

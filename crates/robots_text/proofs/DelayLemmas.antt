@@ -1,5 +1,6 @@
 -- The digits of a delay, and that nothing in it is unsafe to display or part of a command.
-use Rattle.std.proofs.Common.{◌≡◌, ◌∙◌, ℕ, zero, suc, ◌-◌, ◌*◌, ◌/◌, ◌%◌, ◌<◌, ◌==◌, Bool, true, false, List, []}
+use Rattle.std.proofs.Common.{◌≡◌, ◌∙◌, ℕ, zero, suc, ◌-◌, ◌*◌, ◌/◌, ◌%◌, ◌<◌, ◌==◌, Bool, true, false, List}
+use Rattle.std.proofs.Common.{[]}
 use Rattle.std.proofs.Common.{◌++◌, ap, append_assoc, arith, codes, decimal, refl, sym}
 use Rattle.std.specs.Prelude.{if◌then◌else◌}
 use Rattle.std.proofs.lemmas.Bool.{ne_eqb}

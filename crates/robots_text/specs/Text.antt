@@ -1,6 +1,6 @@
--- Lines as data: a specification makes them of parts, each of which is safe by its type. So whatever the parts
--- are, the line is printable, and has no `##[`. A `ReportLine` doesn't begin with `::` either, so no workflow on
--- GitHub takes it for a command; a line that begins with the name of a file may.
+-- Lines as data: a specification makes them of parts, each of which is safe by its type. So whatever the
+-- parts are, the line is printable, and has no `##[`. A `ReportLine` doesn't begin with `::` either, so no
+-- workflow on GitHub takes it for a command; a line that begins with the name of a file may.
 use Rattle.std.specs.Prelude.{◌≡◌, ℕ, ◌-◌, ◌==◌, Bool, true, false, ◌&&◌, List, [], ◌++◌, codes, decimal}
 use Rattle.std.specs.Prelude.{flat_map, if◌then◌else◌, length, map, not, replicate}
 use Rattle.std.specs.List.{list_all}
@@ -128,8 +128,8 @@ pub record NamedLine : Type 0 where
 abbrev pub named_text : NamedLine → List ℕ
 named_text line = sanitized line.name ++ parts_text line.rest
 
--- a line about a place in a file, as compilers write them: the file's name, the place, and the level, which may
--- be in color
+-- a line about a place in a file, as compilers write them: the file's name, the place, and the level, which
+-- may be in color
 pub record LevelLine : Type 0 where
   pub name : List ℕ
   pub place : PartValue

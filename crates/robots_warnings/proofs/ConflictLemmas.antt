@@ -71,7 +71,8 @@ agents_next f agents at item old {new} {all} below here named is was =
 
 -- of the values, only `/` and `*` have a pattern that is compared as `/`
 pub slash_or_star : (value : List ℕ)
-    → bytes_eq (compared (escaped value)) (codes "/") ≡ (bytes_eq value (codes "/") || bytes_eq value (codes "*"))
+    → bytes_eq (compared (escaped value)) (codes "/")
+    ≡ (bytes_eq value (codes "/") || bytes_eq value (codes "*"))
 slash_or_star value =
     compared_with (escaped value) ∙ ap₂ ◌||◌ (one_escaped (byte "/") refl refl value)
     (one_escaped (byte "*") refl refl value)

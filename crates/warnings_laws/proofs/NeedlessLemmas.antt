@@ -1,5 +1,6 @@
 -- Needless rules can be deleted together.
-use Rattle.std.proofs.Common.{◌≡◌, ◌≢◌, ◌≤◌, ◌↔◌, ℕ, Bool, false, inl, inr, List, [], ◌∷◌, Contains, IsUtf8, arith, codes}
+use Rattle.std.proofs.Common.{◌≡◌, ◌≢◌, ◌≤◌, ◌↔◌, ℕ, Bool, false, inl, inr, List, [], ◌∷◌, Contains, IsUtf8}
+use Rattle.std.proofs.Common.{arith, codes}
 use Rattle.std.proofs.Common.{length, ltb-false, refl, subst, subst₂, sym, take, take_all}
 use Rattle.std.specs.Str.{str_to_ascii_lowercase}
 use Rattle.std.proofs.lemmas.Bool.{cases_Bool}
@@ -45,7 +46,8 @@ others_alike lines found agent are isnt =
 -- ---- the bytes of a file
 
 -- if needless lines are found, the whole file is read
-all_read : (requested : RequestValue) (file : List ℕ) (audit : AuditValue) (is : IsAuditOf requested file audit)
+all_read : (requested : RequestValue) (file : List ℕ) (audit : AuditValue)
+    (is : IsAuditOf requested file audit)
     → is.needless ≢ [] → length file ≤ file_limit
 all_read requested file audit is some = elim (cases_Bool (is_too_large file)) [
   | inl large ↦ absurd (some (is.too_large large))

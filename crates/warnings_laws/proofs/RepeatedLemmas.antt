@@ -21,7 +21,8 @@ use Rattle.robots_needless.proofs.DistinctLemmas.{in_filter, to_filter}
 use Rattle.robots_needless.proofs.TogetherLemmas.{unplaced_of, verdicts}
 use Rattle.robots_warnings.specs.Repeated.{above_next, is_checked, is_repeated, repeated, repeated_from}
 use Rattle.robots_warnings.specs.Spellings.{is_rule_with}
-use Rattle.warnings_laws.proofs.WarnedLineLemmas.{AreFrom, IsFrom, all_from, all_labels, first_or_later, from_next}
+use Rattle.warnings_laws.proofs.WarnedLineLemmas.{AreFrom, IsFrom, all_from, all_labels, first_or_later}
+use Rattle.warnings_laws.proofs.WarnedLineLemmas.{from_next}
 use Rattle.warnings_laws.proofs.WarnedLineLemmas.{here, labels_next}
 use Rattle.warnings_laws.proofs.WarningLemmas.{both, named_agent}
 

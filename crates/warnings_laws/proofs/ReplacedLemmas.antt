@@ -22,7 +22,8 @@ use Rattle.robots_warnings.specs.Positions.{begin_with_one, preceding_with}
 use Rattle.robots_warnings.specs.Replaced.{denies, is_first_name, is_kept, is_partial}
 use Rattle.robots_warnings.specs.Replaced.{is_replacing, lacks_all, replacing, replacing_from, star_count}
 use Rattle.robots_warnings.specs.Replaced.{star_rules}
-use Rattle.warnings_laws.proofs.WarnedLineLemmas.{AreFrom, IsFrom, all_labels, first_or_later, here, labels_next}
+use Rattle.warnings_laws.proofs.WarnedLineLemmas.{AreFrom, IsFrom, all_labels, first_or_later, here}
+use Rattle.warnings_laws.proofs.WarnedLineLemmas.{labels_next}
 use Rattle.warnings_laws.proofs.WarningLemmas.{both, none}
 
 -- ---- the rules of the crawler

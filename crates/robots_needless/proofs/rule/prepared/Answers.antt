@@ -7,7 +7,8 @@ use Rattle.robots_needless.proofs.rule.prepared.Goals as goal
 
 pub generic_text-requires : goal.generic_text-requires
 generic_text-requires c =
-    rw (c.as_bytes.ensures.value ∙ c.in_ok-pattern.ensures, ← c.rule.view_is) (escaped_below c.rule.inside.value.now)
+    rw (c.as_bytes.ensures.value ∙ c.in_ok-pattern.ensures, ← c.rule.view_is)
+    (escaped_below c.rule.inside.value.now)
 
 pub invariant_of-result : goal.invariant_of-result
 invariant_of-result c =
