@@ -1,6 +1,6 @@
 -- The other lines of rules that contradict each other.
-use Rattle.std.proofs.Common.{◌≡◌, ℕ, ◌==◌, ◌&&◌, ◌+◌, ◌<◌, Bool, true, false, List, [], ◌∷◌, length, refl}
-use Rattle.std.proofs.Common.{Option, Some, None, String, arith, bytes_eq, if◌then◌else◌, string_bytes, sym}
+use Rattle.std.proofs.Common.{◌≡◌, ℕ, ◌==◌, ◌&&◌, ◌+◌, ◌<◌, true, false, List, [], ◌∷◌, length, refl}
+use Rattle.std.proofs.Common.{Option, Some, None, String, bytes_eq, if◌then◌else◌, string_bytes, sym}
 use Rattle.std.proofs.Common.{ap, ap₂, codes, drop, ◌||◌}
 use Rattle.std.proofs.Math.Bool.{or-false, or-true}
 use Rattle.std.proofs.Common.{◌∙◌, ◌⊎◌, cond, inl, inr, map, slice_index_or, subst}

@@ -1,19 +1,17 @@
 -- How the rules of a group are remembered.
-use Rattle.std.proofs.Common.{◌≡◌, ℕ, ◌||◌, ◌&&◌, Bool, true, false, List, [], ◌∷◌, ◌++◌, ◌∙◌, ap}
+use Rattle.std.proofs.Common.{◌≡◌, ℕ, ◌&&◌, Bool, true, false, List, [], ◌∷◌, ◌++◌, ◌∙◌, ap}
 use Rattle.std.proofs.Common.{◌+◌, ◌<◌, append_assoc, drop, if◌then◌else◌, length, map, not, refl}
-use Rattle.std.proofs.Common.{bytes_eq, slice_index_or, sym}
-use Rattle.std.proofs.Math.Bool.{or-false}
+use Rattle.std.proofs.Common.{bytes_eq, slice_index_or}
 use Rattle.std.proofs.lemmas.List.{drop_more}
 use Rattle.std.specs.HashSet.{Updates, contains}
 use Rattle.texting_robots.specs.declared.labels.LabeledLine.{LabeledLine}
-use Rattle.texting_robots.specs.Callers.{Allow, Disallow, Label, LineValue, by_value, label_by_value}
+use Rattle.texting_robots.specs.Callers.{Label, by_value, label_by_value}
 use Rattle.robots_warnings.specs.declared.repeated.Seen.{Seen}
 use Rattle.robots_warnings.specs.declared.values.Value.{Value}
-use Rattle.robots_warnings.specs.Internal.Repeated.{AddsLine, HasSeen, IsFoundUpto}
-use Rattle.robots_warnings.specs.Internal.Values.{AddsValue, HasValues, Values, value_eq}
+use Rattle.robots_warnings.specs.Internal.Repeated.{AddsLine, IsFoundUpto}
+use Rattle.robots_warnings.specs.Internal.Values.{AddsValue, Values, value_eq}
 use Rattle.robots_warnings.specs.Repeated.{above_next, is_checked, repeated_from}
-use Rattle.robots_warnings.specs.Spellings.{is_rule_with}
-use Rattle.robots_warnings.proofs.NameLemmas.{any_last, either}
+use Rattle.robots_warnings.proofs.NameLemmas.{either}
 
 not_not : (a b : Bool) → b ≡ not a → not b ≡ a
 not_not true b is = rw is refl
@@ -28,53 +26,6 @@ value_added old new key is_new added updates = record {
   each = λ other.
       updates.0 other
       ∙ either (contains value_eq old other) (bytes_eq key.bytes.now other.bytes.now);
-}
-
-more : {S : Type 0} (values seen : Values S) (is_allow : Bool) (above : List LineValue) (line : LineValue)
-    → HasValues values is_allow above
-    → ((key : Value) → contains value_eq seen key
-    ≡ (contains value_eq values key || is_rule_with is_allow key.bytes.now line))
-    → HasValues seen is_allow (above ++ line ∷ [])
-more values seen is_allow above line has each = record {
-  each = λ key. each key
-      ∙ ap (λ (b : Bool). b || is_rule_with is_allow key.bytes.now line) (has.each key)
-      ∙ sym (any_last (is_rule_with is_allow key.bytes.now) above line);
-}
-
--- an Allow is added
-pub allow_added : (old new : Seen) (value : List ℕ) (is : Bool) → AddsValue old.allows new.allows value is
-    → new.disallows ≡ old.disallows → AddsLine old new (Allow value) is
-allow_added old new value is adds same = record {
-  was = λ above has. adds.was true above has.allows;
-  has = λ above has. record {
-    allows = more old.allows new.allows true above (Allow value) has.allows adds.each;
-    disallows = more old.disallows new.disallows false above (Allow value) has.disallows
-        (λ key. rw same (sym (or-false (contains value_eq old.disallows key))));
-  };
-}
-
--- a Disallow is added
-pub disallow_added : (old new : Seen) (value : List ℕ) (is : Bool)
-    → AddsValue old.disallows new.disallows value is → new.allows ≡ old.allows
-    → AddsLine old new (Disallow value) is
-disallow_added old new value is adds same = record {
-  was = λ above has. adds.was false above has.disallows;
-  has = λ above has. record {
-    allows = more old.allows new.allows true above (Disallow value) has.allows
-        (λ key. rw same (sym (or-false (contains value_eq old.allows key))));
-    disallows = more old.disallows new.disallows false above (Disallow value) has.disallows adds.each;
-  };
-}
-
--- a line that is neither a rule nor a user-agent line changes nothing
-pub other_added : (seen : Seen) (line : LineValue) → ((is_allow : Bool) (value : List ℕ) →
-    is_rule_with is_allow value line ≡ false) → (above : List LineValue) → HasSeen seen above
-    → HasSeen seen (above ++ line ∷ [])
-other_added seen line none above has = record {
-  allows = more seen.allows seen.allows true above line has.allows
-      (λ key. rw (none true key.bytes.now) (sym (or-false (contains value_eq seen.allows key))));
-  disallows = more seen.disallows seen.disallows false above line has.disallows
-      (λ key. rw (none false key.bytes.now) (sym (or-false (contains value_eq seen.disallows key))));
 }
 
 -- loop step: one more line was added, and its number was taken if it repeats a rule

@@ -1,5 +1,5 @@
 -- Groups that have none of the Disallow rules of `*`.
-use Rattle.std.proofs.Common.{◌≡◌, ℕ, ◌+◌, ◌<◌, ◌||◌, Bool, false, true, List, [], ◌∷◌, String, drop, length}
+use Rattle.std.proofs.Common.{◌≡◌, ℕ, ◌+◌, ◌<◌, ◌||◌, false, true, List, [], ◌∷◌, String, drop, length}
 use Rattle.std.proofs.Common.{map, refl, slice_index_or, string_bytes, ◌∙◌, bytes_eq}
 use Rattle.std.specs.HashSet.{Updates, contains_text}
 use Rattle.std.specs.Global.{Global}

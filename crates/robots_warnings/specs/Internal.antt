@@ -7,7 +7,7 @@ pub mod Replaced
 pub mod Spellings
 pub mod Values
 pub mod Warned
-use Rattle.std.specs.Prelude.{◌≡◌, ℕ, ◌||◌, ◌++◌, List, Some, map, option_map, slice_get}
+use Rattle.std.specs.Prelude.{◌≡◌, ℕ, ◌||◌, ◌++◌, List, Some, slice_get}
 use Rattle.std.specs.Borrow.{Bor}
 use Rattle.texting_robots.specs.Callers.{LineValue}
 use Rattle.texting_robots.specs.Group.{is_agent}
