@@ -103,7 +103,7 @@ lines_colored has_colors (line ∷ lines) others =
     (lines_colored has_colors lines others)
   where
     one : (has_colors : Bool) (line : LevelLine)
-    → IsColored (level_text false line) (level_text has_colors line)
+        → IsColored (level_text false line) (level_text has_colors line)
     one false line = colored_same (level_text false line) (level_printable_line line)
     one true line = colored_line line
 
