@@ -1,5 +1,5 @@
 -- The list of all warnings, and the explanation of one.
-use Rattle.std.specs.Prelude.{◌≡◌, ◌==◌, ℕ, false, List, [], ◌∷◌, ◌++◌, Result, IfErr, IfOk, ◌⊎◌}
+use Rattle.std.specs.Prelude.{◌≡◌, ◌==◌, ℕ, true, false, List, [], ◌∷◌, ◌++◌, Result, IfErr, IfOk, ◌⊎◌}
 use Rattle.std.specs.Prelude.{bytes_eq, codes, flat_map, if◌then◌else◌, map}
 use Rattle.std.proofs.Common.{refl}
 use Rattle.robots_io.specs.Lines.{lf}
