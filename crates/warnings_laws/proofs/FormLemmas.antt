@@ -19,6 +19,7 @@ use Rattle.robots_warnings.specs.Checks.{rule_checks}
 use Rattle.robots_warnings.specs.Contents.{comment_of, has_odd_comment, has_odd_space, raw_value, tail_of}
 use Rattle.robots_warnings.specs.FieldNames.{is_misspelled}
 use Rattle.robots_warnings.specs.Tokens.{is_product_token, is_usual_name}
+use Rattle.robots_warnings.specs.Table.{topic_of}
 use Rattle.warnings_laws.proofs.ColonLemmas.{HasColon, has_colon, tail_is}
 use Rattle.warnings_laws.proofs.LineLemmas.{keyed, named, token}
 use Rattle.warnings_laws.proofs.QuietLemmas.{Empty, IsQuietDirective, Path, Star, quiet, raw_cases}
@@ -67,6 +68,7 @@ value_plain kind value written body line same =
 
 agent_line : (value body : List ℕ) → IsStatement kind.UserAgent value body
     → IsQuietDirective (UserAgent value) body → HasForm form.Agent body
+unfolding topic_of
 agent_line value body is quiets =
     let line = has_colon kind.UserAgent value body is quiets.with_colon in
     let same = raw_is kind.UserAgent value body line (not-true _ quiets.raw.0) in

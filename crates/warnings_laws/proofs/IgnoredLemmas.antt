@@ -8,7 +8,7 @@ use Rattle.texting_robots.specs.declared.parser.statement.Kind.TheVariants as ki
 use Rattle.robots_warnings.specs.FieldNames.{Row, directive_in, directives, first_that, first_word}
 use Rattle.robots_warnings.specs.FieldNames.{is_accepted, is_either, may_either_mean, meant_by, name_in}
 use Rattle.robots_warnings.specs.FieldNames.{unsupported, unsupported_in}
-use Rattle.robots_warnings.specs.Table.{is_not_about_syntax}
+use Rattle.robots_warnings.specs.Table.{is_not_about_syntax, topic_of}
 use Rattle.robots_warnings.specs.declared.table.Cause.{Cause}
 use Rattle.robots_warnings.specs.declared.table.Cause.TheVariants as cause
 use Rattle.warnings_laws.specs.Syntax.{is_quiet}
@@ -31,16 +31,19 @@ first_one test (row ∷ rows) all =
 
 either : (one other : Option Cause) → IsAboutSyntax one → IsAboutSyntax other
     → is_not_about_syntax (unwrap_or (option_or one other) cause.UnrecognizedLine) ≡ false
+unfolding topic_of
 either None None first second = refl
 either None (Some other) first second = second
 either (Some one) other first second = first
 
 delay_or : (b : Bool) (other : Cause) → is_not_about_syntax other ≡ false
     → is_not_about_syntax (if b then cause.InvalidDelay else other) ≡ false
+unfolding topic_of
 delay_or true other is = refl
 delay_or false other is = is
 
 meant : (body : List ℕ) → is_not_about_syntax (meant_by body) ≡ false
+unfolding topic_of
 meant body =
     let name = name_in body in
     let word = first_word body in

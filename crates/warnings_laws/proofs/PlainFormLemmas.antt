@@ -23,6 +23,7 @@ use Rattle.robots_warnings.specs.Contents.{are_digits, comment_of, has_odd_comme
 use Rattle.robots_warnings.specs.Contents.{is_plain_number, raw_value, tail_of}
 use Rattle.robots_warnings.specs.File.{is_blank}
 use Rattle.robots_warnings.specs.Rules.{after_byte, before_byte, has}
+use Rattle.robots_warnings.specs.Table.{topic_of}
 use Rattle.warnings_laws.proofs.ColonLemmas.{has_colon}
 use Rattle.warnings_laws.proofs.IgnoredLemmas.{not_quiet}
 use Rattle.warnings_laws.proofs.FormLemmas.{agent_form, allow_form, disallow_form, raw_is, value_plain}
@@ -104,6 +105,7 @@ number text is =
 
 delay_line : (delay : Option ℕ) (value body : List ℕ) → IsStatement kind.CrawlDelay value body
     → IsQuietDirective (CrawlDelay delay) body → HasForm form.Delay body
+unfolding topic_of
 delay_line delay value body is quiets =
     let line = has_colon kind.CrawlDelay value body is quiets.with_colon in
     let raw : List ℕ = raw_value (tail_of body) in (
@@ -128,6 +130,7 @@ delay_form delay body (inr (none, e)) all = absurd cc
 
 sitemap_line : (value body : List ℕ) → IsStatement kind.Sitemap value body
     → IsQuietDirective (Sitemap value) body → HasForm form.Sitemap body
+unfolding topic_of
 sitemap_line value body is quiets =
     let line = has_colon kind.Sitemap value body is quiets.with_colon in
     let same = raw_is kind.Sitemap value body line (not-true _ quiets.raw.0) in

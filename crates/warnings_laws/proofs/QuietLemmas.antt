@@ -19,6 +19,7 @@ use Rattle.robots_warnings.specs.FieldNames.{is_misspelled, is_without_colon}
 use Rattle.robots_warnings.specs.Rules.{begins_oddly, has_odd_start, is_quoted, somewhere}
 use Rattle.robots_warnings.specs.SeveralValues.{begins_next_value, has_several_values}
 use Rattle.robots_warnings.specs.Urls.{begins_as_url}
+use Rattle.robots_warnings.specs.Table.{topic_of}
 use Rattle.warnings_laws.proofs.{LineLemmas.utf8_after, TextLemmas.around}
 use Rattle.warnings_laws.specs.Syntax.{AreQuiet, is_quiet}
 
@@ -44,6 +45,7 @@ pub quiet : (line : LineValue) (body : List ℕ)
     → AreQuiet (directive_checks true line body
     ++ (value_checks true line ++ text_checks (tail_of body) (comment_of body)))
     → IsQuietDirective line body
+unfolding topic_of
 quiet line body all =
     let with_colon = not-true (is_without_colon body) all.1.0 in
     let raw : List Check = raw_checks true line (tail_of body) (comment_of body) in
@@ -146,6 +148,7 @@ second false y is both = absurd (false≢true is)
 
 pub rule_value : (value : List ℕ) → AreQuiet (rule_checks value) → Each (λ b. b ≢ 35) value
     → IsRuleValue value
+unfolding topic_of
 rule_value [] all plain = Empty refl
 rule_value (b ∷ text) (utf8, (starts, (url, (escapes, (quoted, (regex, (dollar, (dots, (several, end)))))))))
     plain =

@@ -10,7 +10,7 @@ use Rattle.robots_warnings.specs.Checks.{Check, file_checks, line_checks, positi
 use Rattle.robots_warnings.specs.Facts.{suppresses_line_warnings}
 use Rattle.robots_warnings.specs.File.{lines_of}
 use Rattle.robots_warnings.specs.Positions.{first_delay, is_above_agents, preceding_with, sole_name}
-use Rattle.robots_warnings.specs.Table.{is_not_about_syntax}
+use Rattle.robots_warnings.specs.Table.{is_not_about_syntax, topic_of}
 use Rattle.robots_warnings.specs.Warnings.{line_warnings, lines_warnings}
 use Rattle.robots_warnings.specs.WarningValue.{WarningValue}
 use Rattle.robots_warnings.specs.Warnings.{positions_from, warned, warning_of}
@@ -60,6 +60,7 @@ no_nul true true one two = absurd (false≢true two)
 no_nul true false one two = absurd (false≢true one)
 
 pub quiet_file : (facts : FileFacts) → AreQuiet (file_checks facts) → IsQuietFile facts
+unfolding topic_of
 quiet_file facts (html, (utf_16, (other, (empty, (large, (agent, (mark, (nul, end)))))))) = record {
   shown = neither facts.is_html facts.is_utf_16 html utf_16;
   with_agent = not-true _ agent;
@@ -90,6 +91,7 @@ pub none_above : (last : Option ℕ) (preceding : Preceding) (above : Option (Li
     (labels : List Label)
     → Each IsNotAboutSyntax (positions_from last preceding above delay labels)
     → Each (λ label. is_above_agents label ≡ false) labels
+unfolding topic_of
 none_above last preceding above delay [] all = tt
 none_above last preceding above delay (label ∷ labels) all =
     let checks : List Check =
