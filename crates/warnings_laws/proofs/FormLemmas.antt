@@ -134,12 +134,14 @@ disallow_rule body (pattern, inr is) = (rfc.Disallow pattern, inr is)
 -- the same for the silence about an Allow, and about a Disallow
 allow_quiet : (kind : Kind) (read value body : List ℕ) → IsStatement kind read body
     → IsQuietDirective (Allow value) body → IsRuleLine (word_of kind) body
+unfolding topic_of
 allow_quiet kind read value body is quiets =
     rule_line kind read value body (has_colon kind read body is quiets.with_colon) quiets.spelled
     (not-true _ quiets.raw.0) quiets.value quiets.comment
 
 disallow_quiet : (kind : Kind) (read value body : List ℕ) → IsStatement kind read body
     → IsQuietDirective (Disallow value) body → IsRuleLine (word_of kind) body
+unfolding topic_of
 disallow_quiet kind read value body is quiets =
     rule_line kind read value body (has_colon kind read body is quiets.with_colon) quiets.spelled
     (not-true _ quiets.raw.0) quiets.value quiets.comment

@@ -218,6 +218,7 @@ blank_form body is odd =
 
 -- an ignored line is blank, since otherwise there is a warning
 raw_form : (content body : List ℕ) → content ≡ body → IsQuietLine (Raw content) body → HasForm form.Empty body
+unfolding topic_of
 raw_form content body same all = elim (cases_Bool (is_blank content)) [
   | inl is ↦
       let texts = rw is at all in
