@@ -132,36 +132,6 @@ fn a_crawlers_lines_are_in_the_files_order(rt: HostRuntime) {
     check(&rt, "lines", numbers.as_slice() == [5, 6, 8].as_slice());
 }
 
-/// A rule of a crawler: its value, its pattern, whether it is an Allow, and its line.
-type RuleCase = (&'static str, &'static str, bool, usize);
-
-fn check_rules(rt: &(impl Abort + AllocGlobal), file: &[u8], agent: &str, wanted: &[RuleCase]) {
-    let site = site_of(rt, agent, file);
-    for (rule, want) in site.rules(agent).zip(wanted) {
-        let pattern = rule.pattern(rt.alloc()).expect(rt, agent);
-        check(
-            rt,
-            agent,
-            rule.value == want.0 && pattern.as_str() == want.1,
-        );
-        check_equal(rt, agent, &rule.is_allow, &want.2);
-        check_equal(rt, agent, &rule.line, &want.3);
-    }
-    check_equal(rt, agent, &site.rules(agent).count(), &wanted.len());
-}
-
-/// A value that isn't UTF-8 is no rule, and an empty Disallow is an Allow of `/`.
-#[test]
-fn a_crawlers_rules_have_their_lines(rt: HostRuntime) {
-    let beta = [("/a", "/a", false, 5), ("/b", "/b", true, 8)];
-    check_rules(&rt, FILE, "Beta", beta.as_slice());
-    check_rules(&rt, FILE, "Gamma", [("/", "/", false, 11)].as_slice());
-    let values = b"Disallow: /\xc3\xa9\nDisallow: /\xff\nCrawl-delay: 1\nDisallow:";
-    let all = [("/é", "/%C3%A9", false, 1), ("/", "/", true, 4)];
-    check_rules(&rt, values, "Bot", all.as_slice());
-    check_rules(&rt, b"User-agent: A\nDisallow: /", "Bot", [].as_slice());
-}
-
 /// The first 68 bytes of the file are its first four lines. So no rule comes after a user-agent line.
 #[test]
 fn a_limit_cuts_the_file(rt: HostRuntime) {
