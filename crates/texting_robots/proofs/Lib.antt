@@ -34,7 +34,6 @@ pub mod SegmentLemmas
 pub mod PrefilterLemmas
 pub mod PlacingLemmas
 pub mod BorderLemmas
-mod BorderSamples
 pub mod CollapseLemmas
 pub mod OrderLemmas
 pub mod SortLemmas
