@@ -142,8 +142,7 @@ start_here name run count front rest counted none above ascends = record {
   within = simp length-append (omega arith);
   lines = rw (← counted) (rw (
     drop_front front rest,
-    filter-append (λ
-        (t : Tagged). t.run == run) front rest,
+    filter-append (λ (t : Tagged). t.run == run) front rest,
     none,
   )
       (front_is_run run rest above ascends));
