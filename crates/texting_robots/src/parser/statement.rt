@@ -1,6 +1,6 @@
 //! Directives: which one the content of a line is. A directive consists of a field name, a separator, and a tail, which
 //! is a raw value and possibly a comment.
-ghost use Rattle.std.specs.Prelude.{◌≡◌, ◌↔◌, ◌==◌, IfSome, IsTrue, MatchOption, Some, None, map, true, false, drop, length};
+ghost use Rattle.std.specs.Prelude.{◌≡◌, ◌==◌, IfSome, MatchOption, Some, None, map, true, false, drop, length};
 ghost use Rattle.std.specs.List.{list_any};
 ghost use Rattle.std.specs.Str.{str_to_ascii_lowercase};
 ghost use Rattle.texting_robots.specs.Statement.{field_names};
@@ -73,13 +73,6 @@ pub(crate) fn kind_by(text: &[u8]) -> Option<Kind>
     }
 }
 
-/// Whether the field name is this one, ASCII letters in any case. It tries an exact comparison first.
-fn is_written(key: &[u8], name: &[u8]) -> bool
-    ensures { IsTrue result ↔ (str_to_ascii_lowercase key.now ≡ str_to_ascii_lowercase name.now) }
-{
-    key == name || key.eq_ignore_ascii_case(name)
-}
-
 /// What follows the field name, if the text begins with it, ASCII letters in any case.
 fn after_name<'a>(name: &str, text: &'a [u8]) -> Option<&'a [u8]>
     ensures { let small = str_to_ascii_lowercase name.now in MatchOption result
@@ -87,7 +80,7 @@ fn after_name<'a>(name: &str, text: &'a [u8]) -> Option<&'a [u8]>
         (λ rest. (begins small text.now ≡ true) × (rest.now ≡ drop (length small) text.now)) }
 {
     let (key, rest) = text.split_at_checked(name.len())?;
-    if is_written(key, name.as_bytes()) {
+    if key.eq_ignore_ascii_case(name.as_bytes()) {
         Some(rest)
     } else {
         None
