@@ -130,26 +130,12 @@ fn begins_plainly(digits: &[u8]) -> bool
     }
 }
 
-/// Whether these are the digits of a scheme's default port, `own`, if that is 443 or 80. It doesn't parse a number.
-fn is_own(own: u16, digits: &[u8]) -> bool
-    ensures { IsTrue result → digits.now ≡ decimal own }
-{
-    match own {
-        443 => digits == b"443".as_slice(),
-        80 => digits == b"80".as_slice(),
-        _ => false,
-    }
-}
-
 /// Whether these are the digits of a port that isn't the default one, `own`, as `url` writes a port: without leading
 /// zeros. Few URLs have a port, so it isn't inlined either.
 #[inline(never)]
 fn is_port(own: u16, digits: &[u8]) -> bool
     ensures { IsTrue result ↔ IsOther own digits.now }
 {
-    if is_own(own, digits) {
-        return false;
-    }
     let Ok(text) = str::from_utf8(digits) else {
         return false;
     };

@@ -1,19 +1,11 @@
 use Rattle.std.proofs.Common.{◌≡◌, ◌==◌, ◌∙◌, Ok, ap, arith, not, sym}
 use Rattle.std.proofs.lemmas.Bool.{and_parts, false≢true, ne_eqb, Decides.nat_tests}
-use Rattle.std.proofs.lemmas.Fmt.{IsAscii-decimal, decimal_injective, parse-decimal}
+use Rattle.std.proofs.lemmas.Fmt.{IsAscii-decimal, parse-decimal}
 use Rattle.std.proofs.lemmas.Str.{IsUtf8-from_ascii}
 use Rattle.texting_robots.specs.Internal.Normalized.{IsOther, begins_plainly}
 use Rattle.texting_robots.proofs.normalized.is_port.Goals.{After-from_str_radix}
 use Rattle.texting_robots.proofs.NormalizedLemmas.{decimal_plain, decimal_read}
 use Rattle.texting_robots.proofs.normalized.is_port.Goals as goal
-
-pub returns-then-is_own : goal.returns-then-is_own
-returns-then-is_own c = (
-  λ no. absurd (false≢true no),
-  λ other. let (port, digits, small, differs) = other in
-      let same = c.is_own.ensures c.if-is_own.true in
-      absurd (differs (decimal_injective port c.args.own (omega arith) (omega arith) (sym digits ∙ same))),
-)
 
 pub returns-in_default : goal.returns-in_default
 returns-in_default c = (
