@@ -1,7 +1,7 @@
 //! Absolute URLs that the crate `url` would leave unchanged. Their match target is their last part, so it can be
 //! borrowed.
 ghost use Rattle.std.specs.Prelude.{◌≡◌, ◌<◌, ◌≤◌, ◌≢◌, ◌↔◌, ℕ, List, drop, false, true, length, map, slice_index};
-ghost use Rattle.std.specs.Prelude.{IfSome, IsSome, IsSomeAnd, IsTrue, decimal, option_map};
+ghost use Rattle.std.specs.Prelude.{IfSome, IsSome, IsSomeAnd, IsTrue, option_map};
 ghost use Rattle.std.specs.Char.{is_ascii_lowercase};
 ghost use Rattle.std.specs.List.{prefix_len};
 ghost use Rattle.std.specs.Simd.Lanes.{Each1};
