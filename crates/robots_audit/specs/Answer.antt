@@ -52,10 +52,7 @@ total_lines false audit = []
 -- a page has all URLs, since its tables have a row or a column for each
 abbrev pub has_all_urls : Format → Bool
 has_all_urls Html = true
-has_all_urls Text = false
-has_all_urls Json = false
-has_all_urls Github = false
-has_all_urls Sarif = false
+has_all_urls format = false
 
 -- `--denied` leaves out the URLs that are allowed, except in a page
 abbrev pub leaves_out_allowed : RequestValue → Bool
@@ -86,10 +83,7 @@ output requested audit = output_in requested.format requested audit
 abbrev pub message_in : Format → RequestValue → AuditValue → List ℕ
 message_in Text requested audit =
     ended (listed_lines requested.has_colors (shown_name requested.file) audit.warnings)
-message_in Json requested audit = []
-message_in Html requested audit = []
-message_in Github requested audit = []
-message_in Sarif requested audit = []
+message_in format requested audit = []
 
 -- the message on standard error
 abbrev pub message : RequestValue → AuditValue → List ℕ

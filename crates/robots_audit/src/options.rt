@@ -1,4 +1,5 @@
 //! The options and arguments of `robots_audit`.
+use audit_core::request::Format;
 use clap::builder::ValueParser;
 use clap::{Arg, ArgAction, Command};
 use std::alloc::{AllocError, Global};
@@ -112,7 +113,7 @@ const PARAMETERS: &[Parameter] = &[
         id: "format",
         short: None,
         long: Some("format"),
-        value: Value::OneOf("FORMAT", &["text", "json", "html", "github", "sarif"]),
+        value: Value::OneOf("FORMAT", Format::NAMES),
         help: "How to write the report: text (default), json, an html page, annotations for github, or sarif 2.1.0",
         excludes: &[],
     },

@@ -111,7 +111,7 @@ fn message(
             shown_name(request.file),
             &audit.warnings,
         ),
-        Format::Json | Format::Html | Format::Github | Format::Sarif => Ok(String::new(alloc)),
+        _ => Ok(String::new(alloc)),
     }
 }
 
