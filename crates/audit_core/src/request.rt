@@ -68,3 +68,15 @@ pub struct Request<'a> {
     /// Whether needless rules are looked for.
     pub has_needless: bool,
 }
+
+impl<'a> Request<'a> {
+    ghost use Rattle.std.specs.Prelude.{◌≡◌};
+    ghost use Rattle.audit_core.specs.Request.{has_rows, requested_by};
+
+    /// Whether the report has rows.
+    pub fn has_rows(&self) -> bool
+        ensures { result ≡ has_rows (requested_by self.now) }
+    {
+        !self.is_quiet && self.agent.is_some()
+    }
+}

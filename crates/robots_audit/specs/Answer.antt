@@ -13,7 +13,7 @@ use Rattle.robots_warnings.specs.WarningValue.{WarningValue}
 use Rattle.audit_core.specs.Answer.{IsText}
 use Rattle.audit_core.specs.Audit.{AuditValue, IsAuditOf, all_allowed, rejects_some, shown}
 use Rattle.audit_core.specs.Crawler.{is_crawler_name}
-use Rattle.audit_core.specs.Request.{RequestValue, requested_by}
+use Rattle.audit_core.specs.Request.{RequestValue, has_rows, requested_by}
 use Rattle.audit_core.specs.declared.answer.Answer.{Answer}
 use Rattle.audit_core.specs.declared.answer.Outcome.{Outcome}
 use Rattle.audit_core.specs.declared.fault.Fault.{Fault}
@@ -34,10 +34,6 @@ use Rattle.audit_text.specs.Explain.{explanation, list_text}
 use Rattle.audit_text.specs.Report.{listed_lines, report_lines, total_line}
 
 -- ---- the report and the warnings
-
--- the report has rows if it is about one crawler and `--quiet` isn't given
-abbrev pub has_rows : RequestValue → Bool
-has_rows requested = if requested.is_quiet then false else is_some requested.agent
 
 -- the name of the file in a report, so that editors can open it
 abbrev pub shown_name : Option (List ℕ) → List ℕ
