@@ -1,6 +1,6 @@
 -- What the program answers: to an audit, and to its arguments.
 use Rattle.std.specs.Prelude.{◌≡◌, ◌⊎◌, ℕ, Bool, true, false, List, [], ◌∷◌, ◌++◌, None, Option, Some, codes}
-use Rattle.std.specs.Prelude.{if◌then◌else◌, is_some, IsTrue, not, ◌&&◌, string_bytes, ⊤}
+use Rattle.std.specs.Prelude.{if◌then◌else◌, IsTrue, not, ◌&&◌, string_bytes, ⊤}
 use Rattle.std.specs.List.{list_all, list_any}
 use Rattle.clap.specs.declared.parser.matches.ArgMatches.{ArgMatches}
 use Rattle.robots_html.specs.Html.{document}

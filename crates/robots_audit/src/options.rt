@@ -114,7 +114,7 @@ const PARAMETERS: &[Parameter] = &[
         short: None,
         long: Some("format"),
         value: Value::OneOf("FORMAT", Format::NAMES),
-        help: "How to write the report: text (default), json, an html page, annotations for github, or sarif 2.1.0",
+        help: "How to write the report (default: text)",
         excludes: &[],
     },
     Parameter {
