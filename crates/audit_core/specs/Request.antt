@@ -56,4 +56,3 @@ format_named name =
     else if bytes_eq name (codes "html") then Html
     else if bytes_eq name (codes "github") then Github
     else if bytes_eq name (codes "sarif") then Sarif else Text
-
