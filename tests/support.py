@@ -94,6 +94,7 @@ for name, level, _, text in documented_warnings():
     WARNINGS.setdefault(name, []).append((level, text))
 
 
+FORMATS = re.findall(r'"(\w+)"', re.search(r"const NAMES: [^=]*= &\[(.*?)\];", (CRATES / "audit_core/src/request.rt").read_text(), re.S)[1])
 OF_A_URL = {"not-a-url-or-path", "invalid-url"}
 OF_A_CRAWLER = {"empty-agent", "space-around-agent", "version-in-agent", "googlebot-group", "google-ignores-star"}
 OF_RULES = {"replaces-star"}

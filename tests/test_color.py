@@ -5,7 +5,7 @@ import pty
 import subprocess
 
 import pytest
-from support import program, warning_line
+from support import FORMATS, program, warning_line
 
 FILE = b"User-agent: *\nDisallow: a\n"
 PLAIN = warning_line("2 missing-slash")
@@ -66,7 +66,7 @@ def test_a_report_has_no_colors():
 
 
 def test_other_formats_have_no_colors():
-    for form in ("json", "html", "github", "sarif"):
+    for form in set(FORMATS) - {"text"}:
         error, out = audit(["--color=always", "--format", form, "Ferris"], TERMINAL, True)
         assert (error, "\x1b" in out) == ("", False)
 

@@ -1,6 +1,8 @@
 -- What a run is requested to do.
-use Rattle.std.specs.Prelude.{ℕ, Bool, List, Option, map, option_map}
+use Rattle.std.specs.Prelude.{ℕ, Bool, List, Option, bytes_eq, codes, if◌then◌else◌, is_some, map}
+use Rattle.std.specs.Prelude.{not, option_map, ◌&&◌}
 use Rattle.audit_core.specs.declared.request.Format.{Format}
+use Rattle.audit_core.specs.declared.request.Format.TheVariants.{Github, Html, Json, Sarif, Text}
 use Rattle.audit_core.specs.declared.request.Request.{Request}
 use Rattle.robots_text.specs.declared.level.Level.{Level}
 
@@ -42,3 +44,15 @@ requested_by request = record {
   has_totals = request.has_totals;
   has_needless = request.has_needless;
 }
+
+-- the report has rows if it is about one crawler and `--quiet` isn't given
+abbrev pub has_rows : RequestValue → Bool
+has_rows requested = not requested.is_quiet && is_some requested.agent
+
+-- the format with this name, or text
+abbrev pub format_named : List ℕ → Format
+format_named name =
+    if bytes_eq name (codes "json") then Json
+    else if bytes_eq name (codes "html") then Html
+    else if bytes_eq name (codes "github") then Github
+    else if bytes_eq name (codes "sarif") then Sarif else Text

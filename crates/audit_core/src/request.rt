@@ -17,6 +17,27 @@ pub enum Format {
     Sarif,
 }
 
+impl Format {
+    ghost use Rattle.std.specs.Prelude.{◌≡◌};
+    ghost use Rattle.audit_core.specs.Request.{format_named};
+
+    /// The names of the formats.
+    pub const NAMES: &'static [&'static str] = &["text", "json", "html", "github", "sarif"];
+
+    /// The format with this name, or `Text` if none has it.
+    pub fn named(name: &str) -> Format
+        ensures { result ≡ format_named name.now }
+    {
+        match name.as_bytes() {
+            b"json" => Format::Json,
+            b"html" => Format::Html,
+            b"github" => Format::Github,
+            b"sarif" => Format::Sarif,
+            _ => Format::Text,
+        }
+    }
+}
+
 /// The parsed command line.
 #[derive(Drop)]
 pub struct Request<'a> {
@@ -46,4 +67,16 @@ pub struct Request<'a> {
     pub has_totals: bool,
     /// Whether needless rules are looked for.
     pub has_needless: bool,
+}
+
+impl<'a> Request<'a> {
+    ghost use Rattle.std.specs.Prelude.{◌≡◌};
+    ghost use Rattle.audit_core.specs.Request.{has_rows, requested_by};
+
+    /// Whether the report has rows.
+    pub fn has_rows(&self) -> bool
+        ensures { result ≡ has_rows (requested_by self.now) }
+    {
+        !self.is_quiet && self.agent.is_some()
+    }
 }

@@ -13,7 +13,7 @@ use Rattle.audit_core.specs.Color.{requested_colors}
 use Rattle.audit_core.specs.Request.{RequestValue, requested_by}
 use Rattle.audit_core.specs.declared.answer.Answer.{Answer}
 use Rattle.audit_core.specs.declared.request.Format.{Format}
-use Rattle.audit_core.specs.declared.request.Format.TheVariants.{Github, Html, Json, Sarif, Text}
+use Rattle.audit_core.specs.declared.request.Format.TheVariants.{Text}
 use Rattle.audit_text.proofs.ReportLemmas.{listed_colored, listed_for_terminal}
 use Rattle.robots_audit.specs.Answer.{Answers, AnswersAudit, AnswersOptions, HasUrls, IsAsked, message}
 use Rattle.robots_audit.specs.Answer.{message_in, shown_name}
@@ -27,24 +27,15 @@ message_colored requested audit = by requested.format
     by : (format : Format)
         → IsColored (message_in format (without_colors requested) audit) (message_in format requested audit)
     by Text = listed_colored requested.has_colors (shown_name requested.file) audit.warnings
-    by Json = colored_same [] (nil_printable true)
-    by Html = colored_same [] (nil_printable true)
-    by Github = colored_same [] (nil_printable true)
-    by Sarif = colored_same [] (nil_printable true)
+    by format = colored_same [] (nil_printable true)
 
 pub message_for_terminal : (requested : RequestValue) (audit : AuditValue)
     → IsForTerminal requested.has_colors (message requested audit)
 message_for_terminal requested audit = by requested.format
   where
-    none : IsForTerminal requested.has_colors []
-    none = for_terminal requested.has_colors [] (nil_printable true)
-
     by : (format : Format) → IsForTerminal requested.has_colors (message_in format requested audit)
     by Text = listed_for_terminal requested.has_colors (shown_name requested.file) audit.warnings
-    by Json = none
-    by Html = none
-    by Github = none
-    by Sarif = none
+    by format = for_terminal requested.has_colors [] (nil_printable true)
 
 pub message_printable : (requested : RequestValue) (audit : AuditValue) → requested.has_colors ≡ false
     → IsPrintable (message requested audit)

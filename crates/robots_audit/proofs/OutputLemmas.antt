@@ -11,7 +11,8 @@ use Rattle.audit_json.proofs.JsonLemmas.{json_printable}
 use Rattle.audit_json.proofs.SarifLemmas.{sarif_printable}
 use Rattle.audit_page.proofs.PageLemmas.{page_printable}
 use Rattle.audit_text.specs.Report.{report_lines}
-use Rattle.robots_audit.specs.Answer.{has_rows, output, output_in, reported, shown_name, total_lines}
+use Rattle.audit_core.specs.Request.{has_rows}
+use Rattle.robots_audit.specs.Answer.{output, output_in, reported, shown_name, total_lines}
 
 output_in_printable : (format : Format) (requested : RequestValue) (audit : AuditValue)
     → IsPrintable (output_in format requested audit)

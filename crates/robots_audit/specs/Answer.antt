@@ -1,6 +1,6 @@
 -- What the program answers: to an audit, and to its arguments.
 use Rattle.std.specs.Prelude.{◌≡◌, ◌⊎◌, ℕ, Bool, true, false, List, [], ◌∷◌, ◌++◌, None, Option, Some, codes}
-use Rattle.std.specs.Prelude.{if◌then◌else◌, is_some, IsTrue, not, ◌&&◌, string_bytes, ⊤}
+use Rattle.std.specs.Prelude.{if◌then◌else◌, IsTrue, not, ◌&&◌, string_bytes, ⊤}
 use Rattle.std.specs.List.{list_all, list_any}
 use Rattle.clap.specs.declared.parser.matches.ArgMatches.{ArgMatches}
 use Rattle.robots_html.specs.Html.{document}
@@ -13,7 +13,7 @@ use Rattle.robots_warnings.specs.WarningValue.{WarningValue}
 use Rattle.audit_core.specs.Answer.{IsText}
 use Rattle.audit_core.specs.Audit.{AuditValue, IsAuditOf, all_allowed, rejects_some, shown}
 use Rattle.audit_core.specs.Crawler.{is_crawler_name}
-use Rattle.audit_core.specs.Request.{RequestValue, requested_by}
+use Rattle.audit_core.specs.Request.{RequestValue, has_rows, requested_by}
 use Rattle.audit_core.specs.declared.answer.Answer.{Answer}
 use Rattle.audit_core.specs.declared.answer.Outcome.{Outcome}
 use Rattle.audit_core.specs.declared.fault.Fault.{Fault}
@@ -35,10 +35,6 @@ use Rattle.audit_text.specs.Report.{listed_lines, report_lines, total_line}
 
 -- ---- the report and the warnings
 
--- the report has rows if it is about one crawler and `--quiet` isn't given
-abbrev pub has_rows : RequestValue → Bool
-has_rows requested = if requested.is_quiet then false else is_some requested.agent
-
 -- the name of the file in a report, so that editors can open it
 abbrev pub shown_name : Option (List ℕ) → List ℕ
 shown_name None = codes "robots.txt"
@@ -52,10 +48,7 @@ total_lines false audit = []
 -- a page has all URLs, since its tables have a row or a column for each
 abbrev pub has_all_urls : Format → Bool
 has_all_urls Html = true
-has_all_urls Text = false
-has_all_urls Json = false
-has_all_urls Github = false
-has_all_urls Sarif = false
+has_all_urls format = false
 
 -- `--denied` leaves out the URLs that are allowed, except in a page
 abbrev pub leaves_out_allowed : RequestValue → Bool
@@ -86,10 +79,7 @@ output requested audit = output_in requested.format requested audit
 abbrev pub message_in : Format → RequestValue → AuditValue → List ℕ
 message_in Text requested audit =
     ended (listed_lines requested.has_colors (shown_name requested.file) audit.warnings)
-message_in Json requested audit = []
-message_in Html requested audit = []
-message_in Github requested audit = []
-message_in Sarif requested audit = []
+message_in format requested audit = []
 
 -- the message on standard error
 abbrev pub message : RequestValue → AuditValue → List ℕ

@@ -8,7 +8,7 @@ use Rattle.clap.specs.Words.{first_value, found_of, matched_of, one_text, raw_va
 use Rattle.clap.specs.declared.parser.matches.ArgMatches.{ArgMatches}
 use Rattle.audit_core.specs.Color.{requested_colors}
 use Rattle.audit_core.specs.declared.request.Format.{Format}
-use Rattle.audit_core.specs.declared.request.Format.TheVariants.{Github, Html, Json, Sarif, Text}
+use Rattle.audit_core.specs.declared.request.Format.TheVariants.{Html, Json, Text}
 use Rattle.audit_core.specs.declared.request.Request.{Request}
 use Rattle.audit_core.specs.declared.fault.Fault.{Fault}
 use Rattle.audit_core.specs.declared.fault.Fault.TheVariants.{Memory, StdinTwice, Usage}
@@ -17,6 +17,7 @@ use Rattle.robots_text.specs.declared.level.Level.TheVariants as level
 use Rattle.robots_warnings.specs.Table.{is_name}
 use Rattle.audit_core.specs.Crawler.{single}
 use Rattle.audit_core.specs.Fault.{IsUnknown}
+use Rattle.audit_core.specs.Request.{format_named}
 
 -- the first value of an option or argument
 abbrev pub value_of : ArgMatches → List ℕ → Option (List ℕ)
@@ -61,14 +62,6 @@ abbrev pub level_named : List ℕ → Level
 level_named word =
     if bytes_eq word (codes "error") then level.Error
     else if bytes_eq word (codes "note") then level.Note else level.Warning
-
--- the format with this name; `clap` accepts no others
-abbrev pub format_named : List ℕ → Format
-format_named name =
-    if bytes_eq name (codes "json") then Json
-    else if bytes_eq name (codes "html") then Html
-    else if bytes_eq name (codes "github") then Github
-    else if bytes_eq name (codes "sarif") then Sarif else Text
 
 -- the format that `--json` and `--html`, if they are given, and the value of `--format` request
 abbrev pub requested_format : (is_json is_html : Bool) → Option (List ℕ) → Format

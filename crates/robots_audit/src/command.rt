@@ -3,7 +3,7 @@ ghost use Rattle.std.specs.Prelude.{◌≡◌, ◌≢◌, ◌++◌, IfErr, IfOk,
 ghost use Rattle.std.specs.Prelude.{◌||◌};
 ghost use Rattle.std.specs.List.{list_all};
 ghost use Rattle.robots_warnings.specs.Table.{is_name};
-ghost use Rattle.robots_audit.specs.Command.{AreNamesOf, Asks, file_read, format_named, HasCrawlers};
+ghost use Rattle.robots_audit.specs.Command.{AreNamesOf, Asks, file_read, HasCrawlers};
 ghost use Rattle.robots_audit.specs.Command.{is_stdin, IsUnknownIn, LacksAgent, level_named};
 ghost use Rattle.robots_audit.specs.Command.{reads_stdin_twice, requested_format, values_of, words_of};
 
@@ -82,23 +82,6 @@ fn strict_level(word: Option<&str>) -> Option<Level>
     }
 }
 
-/// The format with this name. `clap` accepts no others.
-fn format_named(name: &str) -> Format
-    ensures { result ≡ format_named name.now }
-{
-    if name == "json" {
-        Format::Json
-    } else if name == "html" {
-        Format::Html
-    } else if name == "github" {
-        Format::Github
-    } else if name == "sarif" {
-        Format::Sarif
-    } else {
-        Format::Text
-    }
-}
-
 /// The format that `--json`, `--html` and the value of `--format` request.
 fn requested_format(is_json: bool, is_html: bool, name: Option<&str>) -> Format
     ensures { result ≡ requested_format is_json is_html (option_map (λ name. name.now) name.entry) }
@@ -106,7 +89,7 @@ fn requested_format(is_json: bool, is_html: bool, name: Option<&str>) -> Format
     match name {
         _ if is_json => Format::Json,
         _ if is_html => Format::Html,
-        Some(name) => format_named(name),
+        Some(name) => Format::named(name),
         None => Format::Text,
     }
 }

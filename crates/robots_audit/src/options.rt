@@ -1,4 +1,5 @@
 //! The options and arguments of `robots_audit`.
+use audit_core::request::Format;
 use clap::builder::ValueParser;
 use clap::{Arg, ArgAction, Command};
 use std::alloc::{AllocError, Global};
@@ -112,8 +113,8 @@ const PARAMETERS: &[Parameter] = &[
         id: "format",
         short: None,
         long: Some("format"),
-        value: Value::OneOf("FORMAT", &["text", "json", "html", "github", "sarif"]),
-        help: "How to write the report: text (default), json, an html page, annotations for github, or sarif 2.1.0",
+        value: Value::OneOf("FORMAT", Format::NAMES),
+        help: "How to write the report (default: text)",
         excludes: &[],
     },
     Parameter {

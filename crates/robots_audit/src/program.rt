@@ -1,6 +1,6 @@
 //! The audit of a file and the report on it, without the command line, input and output.
 ghost use Rattle.std.specs.Prelude.{◌≡◌, IfErr, IfOk, Some, map, option_map, string_bytes};
-ghost use Rattle.robots_audit.specs.Answer.{IsAudited, IsFileUnreadable, has_all_urls, has_rows};
+ghost use Rattle.robots_audit.specs.Answer.{IsAudited, IsFileUnreadable, has_all_urls};
 ghost use Rattle.robots_audit.specs.Answer.{is_warned, leaves_out_allowed, output, message, shown_name};
 ghost use Rattle.audit_core.specs.Request.{requested_by};
 
@@ -51,13 +51,6 @@ fn shown_name<'a>(file: Option<&'a str>) -> &'a str
     }
 }
 
-/// Whether the report has rows.
-fn shows_rows(request: &Request<'_>) -> bool
-    ensures { result ≡ has_rows (requested_by request.now) }
-{
-    !request.is_quiet && request.agent.is_some()
-}
-
 /// Whether reports in this format have all URLs, even with `--denied`.
 fn has_all_urls(format: Format) -> bool
     ensures { result ≡ has_all_urls format }
@@ -76,7 +69,7 @@ fn leaves_out_allowed(request: &Request<'_>) -> bool
 fn output(alloc: Global, request: &Request<'_>, audit: Audit<'_, '_>) -> Result<Vec<u8>, AllocError>
     ensures { IfOk result (λ report. report.items ≡ output (requested_by request.now) audit.entry) }
 {
-    let has_rows = shows_rows(request);
+    let has_rows = request.has_rows();
     let totals = totals_of(&audit.agents);
     let reported = shown(leaves_out_allowed(request), audit);
     match request.format {
@@ -111,7 +104,7 @@ fn message(
             shown_name(request.file),
             &audit.warnings,
         ),
-        Format::Json | Format::Html | Format::Github | Format::Sarif => Ok(String::new(alloc)),
+        _ => Ok(String::new(alloc)),
     }
 }
 
