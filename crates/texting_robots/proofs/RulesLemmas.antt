@@ -24,9 +24,8 @@ no_sitemap _ isnt = refl
 
 -- an error for one cause is also an error for a weaker one
 pub rejected_wider : (P Q : Type 0) (e : Error) → (P → Q) → IsMemoryErrorOr P e → IsMemoryErrorOr Q e
-rejected_wider P Q mine.InvalidRobots wider is = is
 rejected_wider P Q mine.InvalidRule wider is = wider is
-rejected_wider P Q mine.Memory wider is = is
+rejected_wider P Q other wider is = is
 
 -- ---- the first pass
 
@@ -146,7 +145,6 @@ pub rejected_at : (number : ℕ) (captured : Bool) (rule : Option Rule) (taken l
     → IsMemoryErrorOr (IsSomeAnd (cond captured (placed number rule) None)
     (λ (here : PlacedRule). IsOverlong here.rule.0)) e
     → IsRejectionOf all (rejection_at number e)
-rejected_at number captured rule taken left all mine.InvalidRobots whole accepted is = tt
 rejected_at number captured rule taken left all mine.InvalidRule whole accepted is =
     first_overlong number captured rule taken left all whole accepted is
-rejected_at number captured rule taken left all mine.Memory whole accepted is = tt
+rejected_at number captured rule taken left all other whole accepted is = tt

@@ -3,7 +3,9 @@ use Rattle.std.specs.Prelude.{◌≡◌, ◌≢◌, ◌⊎◌, ℕ, ◌*◌, ◌
 use Rattle.std.specs.Prelude.{true, false, List}
 use Rattle.std.specs.Prelude.{Option, Some, None, Contains, count_by, length}
 use Rattle.texting_robots.specs.View.{LooksAtMost, ViewValue}
-use Rattle.texting_robots.specs.{Pattern.Matches, Rules.PlacedRule, Verdict.robots_file}
+use Rattle.texting_robots.specs.declared.decision.Decision.{Decision}
+use Rattle.texting_robots.specs.{Pattern.Matches, Rules.PlacedRule, Rules.unplaced}
+use Rattle.texting_robots.specs.Verdict.{IsVerdict, robots_file}
 
 -- the rule matches the text, and no matching rule is longer
 pub record IsLongestMatch (rules : List PlacedRule) (text : List ℕ) (placed : PlacedRule) : Type 0 where
@@ -48,3 +50,8 @@ pub record LooksForRules (rules : List PlacedRule) (old new : ViewValue) : Type 
   pub all : LooksAtMost old new (2 * length old.text * length rules)
   pub tried : (placed : PlacedRule) → IsLongestMatch rules old.text placed
       → LooksAtMost old new (2 * length old.text * as_long_as placed rules)
+
+-- the rules' verdict on the match target, and the number of the line that decides
+pub record IsDecisionOn (rules : List PlacedRule) (target : List ℕ) (decision : Decision) : Type 0 where
+  pub verdict : IsVerdict (unplaced rules) target decision.allowed
+  pub deciding : IsDecidingLine rules target decision.line
