@@ -170,6 +170,8 @@ static Robot shared(const Robot &robot) {
     return Robot(robots_share(robot.get(), &other) == ROBOTS_OK ? other : nullptr);
 }
 int main() {
+    robots_close(nullptr);
+    if (robots_may_fetch(-1) || robots_version() != ROBOTS_VERSION) return 6;
     Robot robot = opened("Bot", "User-agent: *\nDisallow: /a");
     if (!robot) return 2;
     int64_t one = 0;

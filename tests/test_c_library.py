@@ -162,14 +162,6 @@ int main(void) {
 """
 
 
-def test_header_in_cplusplus(objects, tmp_path):
-    needs("g++", "-xc++")
-    source = tmp_path / "program.cpp"
-    source.write_text('#include "robots.h"\nint main() { robots_close(NULL); return robots_may_fetch(-1) || robots_version() != ROBOTS_VERSION; }')
-    subprocess.run(["g++", "-std=c++11", "-Wall", "-Wextra", *STRICT, source, *objects, "-o", tmp_path / "program"], check=True)
-    assert run(tmp_path / "program").status == 0
-
-
 # ---- packaged by bindings/c/Makefile
 
 

@@ -14,6 +14,7 @@ FAILED = r"(?:\b(?:\w+::)*(?:AllocError|AllocFailed|OutOfMemory|Overflow|Memory|
 # Where else the sources construct such an error, and why.
 CONSTRUCTED = {
     ("robots_examples/src/tests.rt", "CacheError::Memory"): "an error whose message is printed",
+    ("texting_robots_tests/src/files.rt", "-2"): "a verdict by line 2",
     ("texting_robots_tests/src/printed.rt", "Error::InvalidRobots"): "an error whose message is printed",
     ("texting_robots_tests/src/printed.rt", "Error::Memory"): "an error whose message is printed",
 }

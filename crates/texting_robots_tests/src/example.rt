@@ -1,7 +1,6 @@
 //! An example: what a crawler does before it fetches a page.
 use crate::helpers::check_equal;
 use std::alloc::Global;
-use std::process::Abort;
 use texting_robots::{Error, Robot};
 
 /// What a crawler does about a page.
@@ -34,16 +33,18 @@ const PAGE: &str = "https://example.com/ocean/reef.html";
 
 const FILE: &[u8] = b"User-agent: FerrisBot\nDisallow: /forest\nCrawl-delay: 2.5\n";
 
-/// Checks what the crawler does about the page.
-fn check_visit(rt: &(impl Abort + AllocGlobal), file: &[u8], page: &str, want: &Plan) {
-    let plan = visit(rt.alloc(), file, page).expect(rt, page);
-    check_equal(rt, page, &plan, want);
-}
+/// A file, a page, and what the crawler does about it.
+const PLANS: &[(&[u8], &str, Plan)] = &[
+    (FILE, PAGE, Plan::Fetch(2_500_000)),
+    (FILE, "https://example.com/forest/tree", Plan::Leave),
+    (b"Crawl-delay: inf", PAGE, Plan::Fetch(60_000_000)),
+    (b"", PAGE, Plan::Fetch(1_000_000)),
+];
 
 #[test]
 fn a_crawler_plans_its_visit(rt: HostRuntime) {
-    check_visit(&rt, FILE, PAGE, &Plan::Fetch(2_500_000));
-    check_visit(&rt, FILE, "https://example.com/forest/tree", &Plan::Leave);
-    check_visit(&rt, b"Crawl-delay: inf", PAGE, &Plan::Fetch(60_000_000));
-    check_visit(&rt, b"", PAGE, &Plan::Fetch(1_000_000));
+    for (file, page, want) in PLANS {
+        let plan = visit(rt.alloc(), file, page).expect(&rt, page);
+        check_equal(&rt, page, &plan, want);
+    }
 }

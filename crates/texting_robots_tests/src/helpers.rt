@@ -1,8 +1,8 @@
-//! What the tests share: assertions, calls that have to succeed, indented files, long texts, and checks of a robot.
+//! What the tests share: assertions, indented files, long texts, robots, and checks of a robot.
 use std::fmt::Debug;
 use std::process::Abort;
 use texting_robots::view::View;
-use texting_robots::{Decision, Robot};
+use texting_robots::{Decision, Robot, Site};
 use url::Url;
 
 /// The crawler of the cases that don't name one.
@@ -11,11 +11,12 @@ pub const BOB: &str = "BobBot";
 /// The parts of a text, each with the number of its repetitions.
 pub type TextParts = &'static [(&'static str, usize)];
 
-/// URLs, whether each may be fetched, and the number of the line that decides.
-pub type Decisions = &'static [(&'static str, bool, Option<usize>)];
+/// URLs or match targets, and the verdict on each, as in robots.h: n if line n allows it, -n if line n denies it, and 0
+/// if no line decides.
+pub type Verdicts = &'static [(&'static str, i64)];
 
 /// URLs of each kind.
-const TEXTS: &[&str] = &[
+const URLS: &[&str] = &[
     "",
     "/",
     "/x",
@@ -34,24 +35,14 @@ pub fn check_equal<T: PartialEq + Debug>(rt: &impl Abort, name: &str, answer: &T
     assert!(rt; *answer == *want, "{name}: {answer:?}");
 }
 
-/// Checks that the text is the expected one.
-pub fn check_text(rt: &impl Abort, name: &str, text: &str, want: &str) {
-    assert!(rt; text == want, "{name}: {text:.60}");
-}
-
-/// Checks that the verdict on the text is the expected one.
-pub fn check_verdict(rt: &impl Abort, name: &str, text: &str, answer: bool, want: bool) {
-    assert!(rt; answer == want, "{name}: {text:.60}: {answer}");
-}
-
 /// The file with eight spaces before each line after the first; unchanged if it contains a CR.
-pub fn indented(rt: &(impl Abort + AllocGlobal), name: &str, file: &[u8]) -> Vec<u8> {
+pub fn indented(rt: &(impl Abort + AllocGlobal), file: &[u8]) -> Vec<u8> {
     let is_written_by_cr = file.contains(&b'\r');
     let mut text = Vec::new(rt.alloc());
     for (position, byte) in file.iter().enumerate() {
-        text.push(*byte).expect(rt, name);
+        text.push(*byte).expect(rt, "byte");
         if *byte == b'\n' && position < file.len() - 1 && !is_written_by_cr {
-            text.extend_from_slice(b"        ").expect(rt, name);
+            text.extend_from_slice(b"        ").expect(rt, "spaces");
         }
     }
     text
@@ -72,106 +63,78 @@ pub fn robot_of(rt: &(impl Abort + AllocGlobal), name: &str, agent: &str, file: 
     Robot::new(rt.alloc(), agent, file).expect(rt, name)
 }
 
-/// The robot of a long file, which has to be accepted.
-pub fn long_robot(rt: &(impl Abort + AllocGlobal), name: &str, parts: &[(&str, usize)]) -> Robot {
-    robot_of(rt, name, BOB, long_text(rt, name, parts).as_bytes())
-}
-
-/// The match target of the URL.
-pub fn prepared(rt: &(impl Abort + AllocGlobal), name: &str, url: &str) -> String {
-    Robot::prepare_url(rt.alloc(), url).expect(rt, name)
+/// The robots of a file with this size limit, or with the one of `new`: by itself and of a site. They have to be
+/// accepted.
+pub fn robots_of(
+    rt: &(impl Abort + AllocGlobal),
+    agent: &str,
+    file: &[u8],
+    limit: Option<usize>,
+) -> [Robot; 2] {
+    let (robot, site) = match limit {
+        Some(limit) => (
+            Robot::with_limit(rt.alloc(), agent, file, limit),
+            Site::with_limit(rt.alloc(), file, limit),
+        ),
+        None => (
+            Robot::new(rt.alloc(), agent, file),
+            Site::new(rt.alloc(), file),
+        ),
+    };
+    let of_site = site.expect(rt, agent).robot(rt.alloc(), agent);
+    [robot.expect(rt, agent), of_site.expect(rt, agent)]
 }
 
 /// The robot as `Debug` prints it.
-pub fn shown(rt: &(impl Abort + AllocGlobal), name: &str, robot: &Robot) -> String {
-    format!(in rt.alloc(); "{robot:?}").expect(rt, name)
+pub fn shown(rt: &(impl Abort + AllocGlobal), robot: &Robot) -> String {
+    format!(in rt.alloc(); "{robot:?}").expect(rt, "robot")
 }
 
-/// The robot's verdicts on a match target: without counting, by a view, and by the decision.
-fn answers(robot: &Robot, text: &str) -> [bool; 3] {
-    [
-        robot.allowed_prepared(text),
-        robot.allowed_view(&mut View::new(text)),
-        robot.decision(&mut View::new(text)).allowed,
-    ]
+/// The decision of a verdict.
+fn decision_of(verdict: i64) -> Decision {
+    Decision {
+        allowed: verdict >= 0,
+        line: (verdict != 0).then_some(verdict.unsigned_abs() as usize),
+    }
 }
 
-/// Checks the verdicts on a match target by all of the robot's functions.
-pub fn check_prepared(rt: &impl Abort, name: &str, robot: &Robot, text: &str, want: bool) {
-    let answers = answers(robot, text);
-    assert!(rt; answers == [want; 3], "{name}: {text:.60}: {answers:?}");
+/// Checks the verdict on a match target by all of the robot's functions.
+pub fn check_target(rt: &impl Abort, robot: &Robot, text: &str, verdict: i64) {
+    let want = decision_of(verdict);
+    let (mut view, mut other) = (View::new(text), View::new(text));
+    let answers = [robot.allowed_prepared(text), robot.allowed_view(&mut view)];
+    check_equal(rt, text, &answers, &[want.allowed; 2]);
+    let decisions = [robot.decision_prepared(text), robot.decision(&mut other)];
+    check_equal(rt, text, &decisions, &[want; 2]);
 }
 
-/// Checks the verdict on a parsed URL, if the text is one.
-fn check_parsed(rt: &(impl Abort + AllocGlobal), name: &str, robot: &Robot, url: &str, want: bool) {
+/// Checks the verdict on a URL, parsed and not, and on its match target.
+pub fn check_url(rt: &(impl Abort + AllocGlobal), robot: &Robot, url: &str, verdict: i64) {
+    let want = decision_of(verdict);
+    let answer = robot.allowed(rt.alloc(), url).expect(rt, url);
+    check_equal(rt, url, &answer, &want.allowed);
+    let decision = robot.decide(rt.alloc(), url).expect(rt, url);
+    check_equal(rt, url, &decision, &want);
     if let Ok(parsed) = Url::parse(rt.alloc(), url) {
-        check_verdict(rt, name, url, robot.allowed_url(&parsed), want);
+        check_equal(rt, url, &robot.allowed_url(&parsed), &want.allowed);
     }
-}
-
-/// Checks the verdicts on a URL, parsed and not, and on its match target.
-pub fn check_url(
-    rt: &(impl Abort + AllocGlobal),
-    name: &str,
-    robot: &Robot,
-    url: &str,
-    want: bool,
-) {
-    let answer = robot.allowed(rt.alloc(), url).expect(rt, name);
-    check_verdict(rt, name, url, answer, want);
-    check_parsed(rt, name, robot, url, want);
-    check_prepared(rt, name, robot, prepared(rt, name, url).as_str(), want);
-}
-
-/// Checks the decision on a URL's match target.
-fn check_decision(
-    rt: &(impl Abort + AllocGlobal),
-    name: &str,
-    robot: &Robot,
-    url: &str,
-    want: Decision,
-) {
-    let text = prepared(rt, name, url);
-    let decision = robot.decision(&mut View::new(text.as_str()));
-    check_equal(rt, name, &(url, decision), &(url, want));
-}
-
-/// Checks the verdict on each URL, and the line that decides.
-pub fn check_decisions(
-    rt: &(impl Abort + AllocGlobal),
-    name: &str,
-    robot: &Robot,
-    decisions: &[(&str, bool, Option<usize>)],
-) {
-    for (url, allowed, line) in decisions {
-        check_url(rt, name, robot, url, *allowed);
-        let want = Decision {
-            allowed: *allowed,
-            line: *line,
-        };
-        check_decision(rt, name, robot, url, want);
-    }
+    let target = Robot::prepare_url(rt.alloc(), url).expect(rt, url);
+    check_target(rt, robot, &target, verdict);
 }
 
 /// Checks the sitemaps.
 pub fn check_sitemaps(rt: &impl Abort, name: &str, sitemaps: &[String], want: &[&str]) {
     check_equal(rt, name, &sitemaps.len(), &want.len());
     for (sitemap, want) in sitemaps.iter().zip(want) {
-        check_text(rt, name, sitemap.as_str(), want);
+        check_equal(rt, name, &sitemap.as_str(), want);
     }
 }
 
 /// Checks that the robot has no rule, delay or sitemap: it is printed as that of an empty file, and allows every URL.
 pub fn check_nothing(rt: &(impl Abort + AllocGlobal), name: &str, robot: &Robot) {
-    let empty = shown(rt, name, &robot_of(rt, name, BOB, b""));
-    check_text(rt, name, shown(rt, name, robot).as_str(), empty.as_str());
-    for text in TEXTS {
-        check_url(rt, name, robot, text, true);
+    let empty = shown(rt, &robot_of(rt, name, BOB, b""));
+    check_equal(rt, name, &shown(rt, robot), &empty);
+    for url in URLS {
+        check_url(rt, robot, url, 0);
     }
-}
-
-/// Checks that the robot has no delay and no sitemap.
-pub fn check_no_delay_or_sitemap(rt: &impl Abort, name: &str, robot: &Robot) {
-    check_equal(rt, name, &robot.delay, &None);
-    check(rt, name, robot.sitemaps.is_empty());
 }

@@ -1,8 +1,7 @@
 //! How many bytes verdicts and patterns compare (looks).
-use crate::helpers::{BOB, TextParts, check_equal, check_prepared, indented, long_text, robot_of};
+use crate::helpers::{BOB, TextParts, check_equal, indented, long_text, robot_of};
 use crate::patterns::regex_of;
 use std::process::Abort;
-use texting_robots::Robot;
 use texting_robots::view::View;
 
 /// A file and a match target, whether it may be fetched, and the least and the greatest number of looks.
@@ -13,7 +12,7 @@ const THREE: TextParts = &[("Allow: /ocean\nDisallow: /rust\nDisallow: /forest*.
 
 /// Each comparison with a byte of a rule takes a look, also with the byte that differs. What a final star matches takes
 /// none.
-const EXACT: &[LookCase] = &[
+const CASES: &[LookCase] = &[
     (THREE, &[("/forest.py", 1)], false, (10, 10)),
     (THREE, &[("/oceanic", 1)], true, (8, 8)),
     (THREE, &[("/rustacean", 1)], false, (9, 9)),
@@ -25,9 +24,7 @@ const EXACT: &[LookCase] = &[
         true,
         (2_000, 2_000),
     ),
-];
-
-const BOUNDED: &[LookCase] = &[
+    // between one and two looks for each byte and rule
     (
         &[("Disallow: /*aaaab", 1)],
         &[("/", 1), ("a", 1000)],
@@ -63,22 +60,8 @@ const PATTERNS: &[(&str, &str, u64)] = &[
     ("/*b$", "/aaaaaaab", 2),
 ];
 
-/// The number of looks that the robot's verdict takes.
-fn looks_of_verdict(robot: &Robot, text: &str) -> u64 {
-    let mut view = View::new(text);
-    robot.allowed_view(&mut view);
-    view.seen()
-}
-
-/// The number of looks that the robot's decision takes.
-fn looks_of_decision(robot: &Robot, text: &str) -> u64 {
-    let mut view = View::new(text);
-    robot.decision(&mut view);
-    view.seen()
-}
-
-/// Checks the verdict of a robot for this file, and counts the looks.
-fn check_case(
+/// Checks the verdict of a robot for this file by each function that counts looks, and counts them.
+fn check_looks(
     rt: &(impl Abort + AllocGlobal),
     file: &[u8],
     text: &str,
@@ -86,37 +69,35 @@ fn check_case(
     (least, most): (u64, u64),
 ) {
     let robot = robot_of(rt, text, BOB, file);
-    check_prepared(rt, text, &robot, text, allowed);
-    for seen in [
-        looks_of_verdict(&robot, text),
-        looks_of_decision(&robot, text),
-    ] {
+    let (mut view, mut other) = (View::new(text), View::new(text));
+    let answers = [
+        robot.allowed_view(&mut view),
+        robot.decision(&mut other).allowed,
+        robot.allowed_prepared(text),
+    ];
+    check_equal(rt, text, &answers, &[allowed; 3]);
+    for seen in [view.seen(), other.seen()] {
         assert!(rt; least <= seen && seen <= most, "{text:.60}: {seen} looks");
     }
 }
 
-/// Checks each case with its file, unchanged and indented.
-fn check_cases(rt: &(impl Abort + AllocGlobal), cases: &[LookCase]) {
-    for (file, text, allowed, looks) in cases {
-        let text = long_text(rt, "text", text);
-        let file = long_text(rt, "file", file);
-        check_case(rt, file.as_bytes(), &text, *allowed, *looks);
-        let longer = indented(rt, "file", file.as_bytes());
-        check_case(rt, &longer, &text, *allowed, *looks);
-    }
-}
-
+/// The file of each case is also read indented.
 #[test]
 fn looks_of_robots_are_counted(rt: HostRuntime) {
-    check_cases(&rt, EXACT);
-    check_cases(&rt, BOUNDED);
+    for (file, text, allowed, looks) in CASES {
+        let text = long_text(&rt, "text", text);
+        let file = long_text(&rt, "file", file);
+        check_looks(&rt, file.as_bytes(), &text, *allowed, *looks);
+        let longer = indented(&rt, file.as_bytes());
+        check_looks(&rt, &longer, &text, *allowed, *looks);
+    }
 }
 
 #[test]
 fn looks_of_patterns_are_counted(rt: HostRuntime) {
     for (pattern, text, want) in PATTERNS {
         let mut view = View::new(text);
-        regex_of(&rt, text, pattern).matches_view(&mut view);
+        regex_of(&rt, pattern).matches_view(&mut view);
         check_equal(&rt, text, &view.seen(), want);
     }
 }

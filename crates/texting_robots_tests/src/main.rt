@@ -12,11 +12,11 @@ mod calls;
 #[cfg(test)]
 mod example;
 #[cfg(test)]
+mod files;
+#[cfg(test)]
 mod helpers;
 #[cfg(test)]
 mod labels;
-#[cfg(test)]
-mod limits;
 #[cfg(test)]
 mod lines;
 #[cfg(test)]
@@ -25,7 +25,6 @@ mod looks;
 mod patterns;
 #[cfg(test)]
 mod printed;
-mod quiet;
 #[cfg(test)]
 mod sites;
 #[cfg(test)]
@@ -36,10 +35,6 @@ mod stress;
 mod sweep;
 #[cfg(test)]
 mod urls;
-#[cfg(test)]
-mod values;
-#[cfg(test)]
-mod verdicts;
 
 use calls::{CALLS, Call, answer};
 use std::io::Read;

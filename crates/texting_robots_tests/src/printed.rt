@@ -1,7 +1,6 @@
 //! Printed robots, patterns and errors.
-use crate::helpers::{BOB, check, check_text, indented, long_text, robot_of, shown};
+use crate::helpers::{BOB, check, check_equal, indented, long_text, robot_of, shown};
 use crate::patterns::regex_of;
-use std::process::Abort;
 use texting_robots::Error;
 
 const ERRORS: &[(Error, &str)] = &[
@@ -14,18 +13,8 @@ const ERRORS: &[(Error, &str)] = &[
 fn errors_have_their_texts(rt: HostRuntime) {
     for (error, want) in ERRORS {
         let text = error.to_string(rt.alloc()).expect(&rt, want);
-        check_text(&rt, want, text.as_str(), want);
+        check_equal(&rt, want, &text.as_str(), want);
     }
-}
-
-/// Checks that the text contains the part.
-fn check_holds(rt: &impl Abort, text: &str, part: &str) {
-    assert!(rt; text.contains(part), "{part}: {text}");
-}
-
-/// The file's robot, as printed.
-fn text_of(rt: &(impl Abort + AllocGlobal), file: &[u8]) -> String {
-    shown(rt, "text", &robot_of(rt, "robot", BOB, file))
 }
 
 /// The longest rule is first, with all its stars.
@@ -34,22 +23,23 @@ fn a_robot_shows_its_delay_sitemaps_and_rules(rt: HostRuntime) {
     let file = b"Allow: /\nDisallow: /x***y$\nCrawl-Delay: 42\nSitemap: s";
     let want =
         "Robot { delay: Some(42000000), sitemaps: [\"s\"], rules: [(\"/x***y$\", false, 2), (\"/\", true, 1)] }";
-    check_text(&rt, "file", &text_of(&rt, file), want);
-    check_text(
-        &rt,
-        "indented",
-        &text_of(&rt, &indented(&rt, "file", file)),
-        want,
-    );
+    let robot = robot_of(&rt, "file", BOB, file);
+    check_equal(&rt, "file", &shown(&rt, &robot).as_str(), &want);
+    let robot = robot_of(&rt, "indented", BOB, &indented(&rt, file));
+    check_equal(&rt, "indented", &shown(&rt, &robot).as_str(), &want);
 }
 
 /// Each of 101 equal rules takes fifteen bytes and its number, and a comma and a space before the next one.
 #[test]
 fn a_robot_shows_all_its_rules(rt: HostRuntime) {
     let file = long_text(&rt, "file", &[("Disallow: /a\n", 101)]);
-    let text = text_of(&rt, file.as_bytes());
-    check_holds(&rt, &text, "[(\"/a\", false, 1), (\"/a\", false, 2), ");
-    check_holds(&rt, &text, ", (\"/a\", false, 101)] }");
+    let text = shown(&rt, &robot_of(&rt, "file", BOB, file.as_bytes()));
+    for part in [
+        "[(\"/a\", false, 1), (\"/a\", false, 2), ",
+        ", (\"/a\", false, 101)] }",
+    ] {
+        check(&rt, part, text.contains(part));
+    }
     let numbers = 9 + 2 * 90 + 3 * 2;
     let before = "Robot { delay: None, sitemaps: [], rules: [".len();
     check(
@@ -59,24 +49,18 @@ fn a_robot_shows_all_its_rules(rt: HostRuntime) {
     );
 }
 
-/// Checks that the printed text has the pattern, but no failure table. That has a number for each byte of a segment, so
-/// the text would be more than twice as long.
-fn check_without_table(rt: &impl Abort, text: &str, pattern: &str) {
-    check_holds(rt, text, pattern);
-    check(rt, text, text.len() < 2 * pattern.len());
-}
-
-/// Checks that a rule with the pattern is printed without a table.
-fn check_rule(rt: &(impl Abort + AllocGlobal), pattern: &str) {
-    let file = format!(in rt.alloc(); "Disallow: {pattern}").expect(rt, "rule");
-    check_without_table(rt, text_of(rt, file.as_bytes()).as_str(), pattern);
-}
-
+/// A printed pattern or robot has the pattern, but no failure table. That has a number for each byte of a segment, so the
+/// text would be more than twice as long.
 #[test]
 fn patterns_show_without_tables(rt: HostRuntime) {
     let pattern = long_text(&rt, "pattern", &[("/*", 1), ("ab", 1000), ("*", 1)]);
-    let regex = regex_of(&rt, "pattern", pattern.as_str());
-    let text = format!(in rt.alloc(); "{regex:?}").expect(&rt, "pattern");
-    check_without_table(&rt, text.as_str(), pattern.as_str());
-    check_rule(&rt, pattern.as_str());
+    let file = long_text(&rt, "file", &[("Disallow: ", 1), (&pattern, 1)]);
+    let regex = regex_of(&rt, &pattern);
+    for text in [
+        format!(in rt.alloc(); "{regex:?}").expect(&rt, "pattern"),
+        shown(&rt, &robot_of(&rt, "file", BOB, file.as_bytes())),
+    ] {
+        check(&rt, &text, text.contains(pattern.as_str()));
+        check(&rt, &text, text.len() < 2 * pattern.len());
+    }
 }

@@ -1,7 +1,30 @@
 //! A file that is read once for all crawlers, and what it means for each crawler.
-use crate::helpers::{BOB, TextParts, check, check_equal, check_sitemaps, long_text, robot_of};
+use crate::helpers::{Verdicts, check, check_equal, check_sitemaps, check_url, long_text};
 use std::process::Abort;
-use texting_robots::{Decision, Error, Robot, Site};
+use texting_robots::labels::first_overlong_line;
+use texting_robots::{Error, Site};
+
+/// A file that is read up to a limit, the crawlers that it names, its sitemaps, and what it means for some crawlers.
+struct SiteCase {
+    file: &'static [u8],
+    limit: usize,
+    agents: &'static [&'static str],
+    sitemaps: &'static [&'static str],
+    crawlers: &'static [CrawlerCase],
+}
+
+/// A crawler, its delay, the numbers of its lines, its rules, and verdicts on some URLs.
+struct CrawlerCase {
+    agent: &'static str,
+    is_named: bool,
+    delay: Option<u64>,
+    lines: &'static [usize],
+    rules: &'static [RuleCase],
+    verdicts: Verdicts,
+}
+
+/// A rule's value and pattern, whether it is an Allow, and the number of its line.
+type RuleCase = (&'static str, &'static str, bool, usize);
 
 /// Two runs of user-agent lines with a common name, a group for all others, a name that isn't UTF-8, and a name in two
 /// runs. The first two lines are above all user-agent lines.
@@ -10,223 +33,184 @@ const FILE: &[u8] =
     User-agent: beta\nAllow: /b\nSitemap: https://example.com/s.xml\nUser-agent: *\nDisallow: /\nSitemap: /\xff\n\
     User-agent: caf\xe9\nDisallow: /e\nuser-agent: ALPHA\nDisallow: /c\nSitemap: /t";
 
-/// A crawler, its group, its delay, and the decisions on some targets.
-struct CrawlerCase {
-    agent: &'static str,
-    is_named: bool,
-    group: &'static [u8],
-    delay: Option<u64>,
-    decisions: &'static [(&'static str, bool, Option<usize>)],
-}
+const WHOLE: SiteCase = SiteCase {
+    file: FILE,
+    limit: usize::MAX,
+    agents: &["Alpha", "BETA", "*"],
+    sitemaps: &["https://example.com/s.xml", "/t"],
+    crawlers: &[
+        CrawlerCase {
+            agent: "aLpHa",
+            is_named: true,
+            delay: Some(2_000_000),
+            lines: &[5, 6, 16],
+            rules: &[("/a", "/a", false, 5), ("/c", "/c", false, 16)],
+            verdicts: &[("/a", -5), ("/c/d", -16), ("/b", 0), ("/nobody", 0)],
+        },
+        CrawlerCase {
+            agent: "Beta",
+            is_named: true,
+            delay: Some(2_000_000),
+            lines: &[5, 6, 8],
+            rules: &[("/a", "/a", false, 5), ("/b", "/b", true, 8)],
+            verdicts: &[("/a", -5), ("/b", 8), ("/c", 0)],
+        },
+        CrawlerCase {
+            agent: "Gamma",
+            is_named: false,
+            delay: Some(7_000_000),
+            lines: &[11],
+            rules: &[("/", "/", false, 11)],
+            verdicts: &[("/a", -11), ("/e", -11), ("/robots.txt", 0)],
+        },
+    ],
+};
 
-const CRAWLERS: &[CrawlerCase] = &[
-    CrawlerCase {
-        agent: "aLpHa",
-        is_named: true,
-        group: b"aLpHa",
-        delay: Some(2_000_000),
-        decisions: &[
-            ("/a", false, Some(5)),
-            ("/c/d", false, Some(16)),
-            ("/b", true, None),
-            ("/nobody", true, None),
-        ],
-    },
-    CrawlerCase {
-        agent: "Beta",
-        is_named: true,
-        group: b"Beta",
-        delay: Some(2_000_000),
-        decisions: &[
-            ("/a", false, Some(5)),
-            ("/b", true, Some(8)),
-            ("/c", true, None),
-        ],
-    },
-    CrawlerCase {
-        agent: "Gamma",
-        is_named: false,
-        group: b"*",
-        delay: Some(7_000_000),
-        decisions: &[
-            ("/a", false, Some(11)),
-            ("/e", false, Some(11)),
-            ("/robots.txt", true, None),
-        ],
-    },
+/// The first 68 bytes of the file are its first four lines. So no rule comes after a user-agent line.
+const CUT: SiteCase = SiteCase {
+    file: FILE,
+    limit: 68,
+    agents: &["Alpha", "BETA"],
+    sitemaps: &[],
+    crawlers: &[
+        CrawlerCase {
+            agent: "Alpha",
+            is_named: true,
+            delay: Some(7_000_000),
+            lines: &[],
+            rules: &[],
+            verdicts: &[],
+        },
+        CrawlerCase {
+            agent: "Beta",
+            is_named: true,
+            delay: Some(7_000_000),
+            lines: &[],
+            rules: &[],
+            verdicts: &[("/a", 0)],
+        },
+    ],
+};
+
+/// A file without names is for every crawler. A value that isn't UTF-8 is no rule, and an empty Disallow is an Allow
+/// of `/`.
+const UNNAMED: SiteCase = SiteCase {
+    file: b"Disallow: /x\nCrawl-delay: 3\nCrawl-delay: 4\nDisallow: /\xc3\xa9\nDisallow: /\xff\nDisallow:",
+    limit: usize::MAX,
+    agents: &[],
+    sitemaps: &[],
+    crawlers: &[
+        CrawlerCase {
+            agent: "*",
+            is_named: false,
+            delay: Some(3_000_000),
+            lines: UNNAMED_LINES,
+            rules: UNNAMED_RULES,
+            verdicts: &[],
+        },
+        CrawlerCase {
+            agent: "Bot",
+            is_named: false,
+            delay: Some(3_000_000),
+            lines: UNNAMED_LINES,
+            rules: UNNAMED_RULES,
+            verdicts: &[("/x", -1)],
+        },
+    ],
+};
+
+const UNNAMED_LINES: &[usize] = &[1, 2, 3, 4, 5, 6];
+
+const UNNAMED_RULES: &[RuleCase] = &[
+    ("/x", "/x", false, 1),
+    ("/é", "/%C3%A9", false, 4),
+    ("/", "/", true, 6),
 ];
 
-fn site_of(rt: &(impl Abort + AllocGlobal), name: &str, file: &[u8]) -> Site {
-    Site::new(rt.alloc(), file).expect(rt, name)
+const SITES: &[SiteCase] = &[WHOLE, CUT, UNNAMED];
+
+/// Checks the crawler's lines and rules, in the file's order. A crawler that isn't named gets the group of `*`.
+fn check_lines(rt: &(impl Abort + AllocGlobal), site: &Site, case: &CrawlerCase) {
+    let agent = case.agent;
+    let group = if case.is_named { agent } else { "*" };
+    check_equal(rt, agent, &site.is_named(agent), &case.is_named);
+    check_equal(rt, agent, &site.group_name(agent), &group.as_bytes());
+    let mut lines = site.own_lines(agent);
+    for want in case.lines {
+        check_equal(rt, agent, &lines.next().expect(rt, agent).number, want);
+    }
+    check(rt, agent, lines.next().is_none());
+    let mut rules = site.rules(agent);
+    for want in case.rules {
+        let rule = rules.next().expect(rt, agent);
+        let pattern = rule.pattern(rt.alloc()).expect(rt, agent);
+        let answer = (rule.value, pattern.as_str(), rule.is_allow, rule.line);
+        check_equal(rt, agent, &answer, want);
+    }
+    check(rt, agent, rules.next().is_none());
 }
 
-fn check_crawler(rt: &(impl Abort + AllocGlobal), site: &Site, case: &CrawlerCase) {
+/// Checks the crawler's robot.
+fn check_robot(
+    rt: &(impl Abort + AllocGlobal),
+    site: &Site,
+    case: &CrawlerCase,
+    sitemaps: &[&str],
+) {
     let robot = site.robot(rt.alloc(), case.agent).expect(rt, case.agent);
-    check_equal(rt, case.agent, &site.is_named(case.agent), &case.is_named);
-    check_equal(rt, case.agent, &site.group_name(case.agent), &case.group);
-    check_equal(rt, case.agent, &site.delay(case.agent), &case.delay);
-    check_equal(rt, case.agent, &robot.delay, &case.delay);
-    check_sitemaps(rt, case.agent, &robot.sitemaps, SITEMAPS);
-    check_decisions(rt, &robot, case);
-}
-
-fn check_decisions(rt: &(impl Abort + AllocGlobal), robot: &Robot, case: &CrawlerCase) {
-    for (text, allowed, line) in case.decisions {
-        let want = Decision {
-            allowed: *allowed,
-            line: *line,
-        };
-        let decision = robot.decide(rt.alloc(), text).expect(rt, case.agent);
-        check_equal(rt, text, &decision, &want);
-        check_equal(rt, text, &robot.decision_prepared(text), &want);
+    let delays = [site.delay(case.agent), robot.delay];
+    check_equal(rt, case.agent, &delays, &[case.delay; 2]);
+    check_sitemaps(rt, case.agent, &robot.sitemaps, sitemaps);
+    for (url, verdict) in case.verdicts {
+        check_url(rt, &robot, url, *verdict);
     }
 }
-
-const SITEMAPS: &[&str] = &["https://example.com/s.xml", "/t"];
 
 #[test]
 fn each_crawler_gets_its_own_groups(rt: HostRuntime) {
-    let site = site_of(&rt, "site", FILE);
-    for case in CRAWLERS {
-        check_crawler(&rt, &site, case);
+    for case in SITES {
+        let site = Site::with_limit(rt.alloc(), case.file, case.limit).expect(&rt, "site");
+        let agents = site.agents(rt.alloc()).expect(&rt, "agents");
+        check_equal(&rt, "agents", &agents.as_slice(), &case.agents);
+        check_equal(&rt, "agents", &site.has_agents(), &!case.agents.is_empty());
+        let sitemaps = site.sitemaps(rt.alloc()).expect(&rt, "sitemaps");
+        check_sitemaps(&rt, "sitemaps", &sitemaps, case.sitemaps);
+        for crawler in case.crawlers {
+            check_lines(&rt, &site, crawler);
+            check_robot(&rt, &site, crawler, case.sitemaps);
+        }
     }
 }
 
-#[test]
-fn a_url_is_prepared_before_it_is_decided(rt: HostRuntime) {
-    let site = site_of(&rt, "site", b"User-agent: *\nDisallow: /%C3%A9?q");
-    let robot = site.robot(rt.alloc(), "Bot").expect(&rt, "robot");
-    let decision = robot
-        .decide(rt.alloc(), "HTTPS://Example.com:443/x/../é?q#f")
-        .expect(&rt, "URL");
-    let want = Decision {
-        allowed: false,
-        line: Some(2),
-    };
-    check_equal(&rt, "URL", &decision, &want);
-    check(&rt, "text", robot.decision_prepared("/é?q").allowed);
-}
+/// What follows in a file after a rule that ends with letters.
+const OVERLONG_END: &str = "$\nDisallow: /$\nSitemap: /s\nUser-agent: B\nAllow: /$\nDisallow: /b";
 
-#[test]
-fn a_site_lists_names_and_sitemaps(rt: HostRuntime) {
-    let site = site_of(&rt, "site", FILE);
-    let agents = site.agents(rt.alloc()).expect(&rt, "agents");
-    check(
-        &rt,
-        "agents",
-        agents.as_slice() == ["Alpha", "BETA", "*"].as_slice(),
-    );
-    check(&rt, "agents", site.has_agents());
-    let sitemaps = site.sitemaps(rt.alloc()).expect(&rt, "sitemaps");
-    check_sitemaps(&rt, "sitemaps", &sitemaps, SITEMAPS);
-}
-
-/// A rule and a delay of the first group, and a rule of the second.
-#[test]
-fn a_crawlers_lines_are_in_the_files_order(rt: HostRuntime) {
-    let site = site_of(&rt, "site", FILE);
-    let mut numbers = Vec::new(rt.alloc());
-    for line in site.own_lines("Beta") {
-        numbers.push(line.number).expect(&rt, "number");
-    }
-    check(&rt, "lines", numbers.as_slice() == [5, 6, 8].as_slice());
-}
-
-/// The first 68 bytes of the file are its first four lines. So no rule comes after a user-agent line.
-#[test]
-fn a_limit_cuts_the_file(rt: HostRuntime) {
-    let site = Site::with_limit(rt.alloc(), FILE, 68).expect(&rt, "site");
-    let agents = site.agents(rt.alloc()).expect(&rt, "agents");
-    check(
-        &rt,
-        "agents",
-        agents.as_slice() == ["Alpha", "BETA"].as_slice(),
-    );
-    check_equal(&rt, "delay", &site.delay("Alpha"), &Some(7_000_000));
-    let robot = site.robot(rt.alloc(), "Beta").expect(&rt, "robot");
-    check(&rt, "rules", robot.decision_prepared("/a").line.is_none());
-}
-
-#[test]
-fn a_file_without_names_is_for_everyone(rt: HostRuntime) {
-    let site = site_of(&rt, "site", b"Disallow: /x\nCrawl-delay: 3\nCrawl-delay: 4");
-    let agents = site.agents(rt.alloc()).expect(&rt, "agents");
-    check(&rt, "agents", agents.is_empty() && !site.has_agents());
-    check(&rt, "name", !site.is_named("*"));
-    check_equal(&rt, "delay", &site.delay("Bot"), &Some(3_000_000));
-    let robot = site.robot(rt.alloc(), "Bot").expect(&rt, "robot");
-    check_equal(&rt, "line", &robot.decision_prepared("/x").line, &Some(1));
-}
-
-/// A rule that is too long is an error only for the crawler that it applies to, and only when its robot is made.
-#[test]
-fn a_rule_that_is_too_long_is_its_own_crawlers(rt: HostRuntime) {
-    let file = long_text(
-        &rt,
-        "file",
-        &[
-            ("User-agent: A\nCrawl-delay: 1\nDisallow: /", 1),
-            ("a", 4_095),
-            ("$\nSitemap: /s\nUser-agent: B\nDisallow: /b", 1),
-        ],
-    );
-    let site = site_of(&rt, "site", file.as_bytes());
-    check(
-        &rt,
-        "error",
-        matches!(site.robot(rt.alloc(), "A"), Err(Error::InvalidRule)),
-    );
-    check_equal(&rt, "delay", &site.delay("A"), &Some(1_000_000));
-    let sitemaps = site.sitemaps(rt.alloc()).expect(&rt, "sitemaps");
-    check_sitemaps(&rt, "sitemaps", &sitemaps, &["/s"]);
-    let robot = site.robot(rt.alloc(), "B").expect(&rt, "robot");
-    check(&rt, "rule", !robot.decision_prepared("/b").allowed);
-}
-
-/// Line ends, and the numbers of two rules that each come after them. The first has a user-agent line above it, so n
-/// empty lines give the numbers n + 2 and 2n + 3. CRs, and the LF or NUL after them, are one end.
-const EMPTY_LINES: &[(TextParts, usize, usize)] = &[
-    (&[("\n", 1)], 3, 5),
-    (&[("\n", 31)], 33, 65),
-    (&[("\n", 32)], 34, 67),
-    (&[("\n", 33)], 35, 69),
-    (&[("\n", 64)], 66, 131),
-    (&[("\n", 100)], 102, 203),
-    (&[("\0", 1)], 3, 5),
-    (&[("\0", 31)], 33, 65),
-    (&[("\0", 32)], 34, 67),
-    (&[("\0", 33)], 35, 69),
-    (&[("\0", 64)], 66, 131),
-    (&[("\0", 100)], 102, 203),
-    (&[("\n\0", 16)], 34, 67),
-    (&[("\0\n\n", 33)], 101, 201),
-    (&[("\n", 31), ("\0", 33), ("\n", 36)], 102, 203),
-    (&[("\r\n", 50)], 52, 103),
-    (&[("\n\r", 33)], 36, 71),
-    (&[("\0\r", 16)], 19, 37),
-    (&[("\n", 31), ("\r", 40), ("\0", 33)], 66, 131),
-    (&[("\0", 32), ("\r", 1), ("\n", 64), ("\r", 33)], 99, 197),
+/// A crawler, the first of its rules that is too long, and its delay.
+const OVERLONG: &[(&str, Option<usize>, Option<u64>)] = &[
+    ("A", Some(4), Some(1_000_000)),
+    ("B", None, None),
 ];
 
-/// Checks which lines decide on `/a` and on `/b`.
-fn check_lines_of(rt: &impl Abort, name: &str, robot: &Robot, first: usize, second: usize) {
-    check_equal(rt, name, &robot.decision_prepared("/a").line, &Some(first));
-    check_equal(rt, name, &robot.decision_prepared("/b").line, &Some(second));
-}
-
+/// A rule that is too long is an error only for the crawler that it applies to, and only when its robot is made. That of
+/// line 4 has 4,096 bytes with the slash, and then `$`.
 #[test]
-fn empty_lines_are_counted(rt: HostRuntime) {
-    for (ends, first, second) in EMPTY_LINES {
-        let run = long_text(&rt, "ends", ends);
-        let mut file = long_text(&rt, "file", &[("User-agent: *\n", 1)]);
-        file.push_str(&run).expect(&rt, "file");
-        file.push_str("Disallow: /a\n").expect(&rt, "file");
-        file.push_str(&run).expect(&rt, "file");
-        file.push_str("Disallow: /b").expect(&rt, "file");
-        let site = site_of(&rt, "site", file.as_bytes());
-        let of_site = site.robot(rt.alloc(), BOB).expect(&rt, "robot");
-        check_lines_of(&rt, "site", &of_site, *first, *second);
-        let robot = robot_of(&rt, "robot", BOB, file.as_bytes());
-        check_lines_of(&rt, "robot", &robot, *first, *second);
+fn a_rule_that_is_too_long_is_its_own_crawlers(rt: HostRuntime) {
+    let parts = [
+        ("User-agent: A\nCrawl-delay: 1\nAllow: /$\nDisallow: /", 1),
+        ("x", 4_095),
+        (OVERLONG_END, 1),
+    ];
+    let file = long_text(&rt, "file", &parts);
+    let site = Site::new(rt.alloc(), file.as_bytes()).expect(&rt, "site");
+    for (agent, want, delay) in OVERLONG {
+        let line = first_overlong_line(rt.alloc(), agent, file.as_bytes()).expect(&rt, agent);
+        check_equal(&rt, agent, &line, want);
+        check_equal(&rt, agent, &site.delay(agent), delay);
+        let is_error = matches!(site.robot(rt.alloc(), agent), Err(Error::InvalidRule));
+        check_equal(&rt, agent, &is_error, &want.is_some());
     }
+    let robot = site.robot(rt.alloc(), "B").expect(&rt, "robot");
+    check(&rt, "rule", !robot.decision_prepared("/b").allowed);
+    let sitemaps = site.sitemaps(rt.alloc()).expect(&rt, "sitemaps");
+    check_sitemaps(&rt, "sitemaps", &sitemaps, &["/s"]);
 }

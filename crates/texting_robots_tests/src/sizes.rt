@@ -1,39 +1,26 @@
 //! Inputs of each size around a power of two, for calls that no program makes and the C library doesn't have. With
 //! enough memory each succeeds.
-use crate::helpers::{BOB, check, check_equal, check_text, long_text};
-use crate::patterns::{check_copy, regex_of};
+use crate::helpers::{BOB, check, check_equal, long_text, robots_of};
+use crate::patterns::{copy_of, regex_of};
 use std::process::Abort;
 use texting_robots::parser::robots_txt_parse;
 use texting_robots::view::View;
-use texting_robots::{Robot, Site, allowed_in_file, push_escaped_bytes};
+use texting_robots::{allowed_in_file, push_escaped_bytes};
 
-fn check_lines(rt: &(impl Abort + AllocGlobal), file: &[u8], size: usize) {
-    let lines = robots_txt_parse(rt.alloc(), file).expect(rt, "lines");
+/// Checks a file of equal rules, of which the first one decides, and as many sitemaps. A verdict compares two bytes of
+/// each rule.
+fn check_file(rt: &(impl Abort + AllocGlobal), size: usize) {
+    let file = long_text(rt, "file", &[("Disallow: /a\nSitemap:\n", size)]);
+    let lines = robots_txt_parse(rt.alloc(), file.as_bytes()).expect(rt, "lines");
     check_equal(rt, "lines", &lines.len(), &size.saturating_mul(2));
-}
-
-/// Checks a robot of equal rules, of which the first one decides, and as many sitemaps.
-fn check_robot(rt: &impl Abort, robot: &Robot, size: usize) {
-    check_equal(rt, "sitemaps", &robot.sitemaps.len(), &size);
-    let line = robot.decision_prepared("/ab").line;
-    check_equal(rt, "line", &line, &(size > 0).then_some(1));
-}
-
-fn check_whole_robot(rt: &(impl Abort + AllocGlobal), file: &[u8], size: usize) {
-    let robot = Robot::with_limit(rt.alloc(), BOB, file, usize::MAX).expect(rt, "robot");
-    check_robot(rt, &robot, size);
-}
-
-fn check_whole_site(rt: &(impl Abort + AllocGlobal), file: &[u8], size: usize) {
-    let site = Site::with_limit(rt.alloc(), file, usize::MAX).expect(rt, "site");
-    check_robot(rt, &site.robot(rt.alloc(), BOB).expect(rt, "robot"), size);
-}
-
-/// Checks a verdict that compares two bytes of each rule.
-fn check_one_agent(rt: &(impl Abort + AllocGlobal), file: &[u8], size: usize) {
+    for robot in &robots_of(rt, BOB, file.as_bytes(), Some(usize::MAX)) {
+        check_equal(rt, "sitemaps", &robot.sitemaps.len(), &size);
+        let line = robot.decision_prepared("/ab").line;
+        check_equal(rt, "line", &line, &(size > 0).then_some(1));
+    }
     let mut view = View::new("/b");
-    let answer = allowed_in_file(rt.alloc(), BOB, file, &mut view).expect(rt, "answer");
-    check(rt, "answer", answer);
+    let answer = allowed_in_file(rt.alloc(), BOB, file.as_bytes(), &mut view);
+    check(rt, "answer", answer.expect(rt, "answer"));
     check_equal(rt, "looks", &view.seen(), &(size as u64).saturating_mul(2));
 }
 
@@ -41,31 +28,18 @@ fn check_one_agent(rt: &(impl Abort + AllocGlobal), file: &[u8], size: usize) {
 fn check_patterns(rt: &(impl Abort + AllocGlobal), size: usize) {
     for part in ["a*", "a"] {
         let pattern = long_text(rt, part, &[("/", 1), (part, size)]);
-        let regex = regex_of(rt, part, &pattern);
-        check_text(rt, part, regex.as_str(), &pattern);
-        check_copy(rt, part, &regex);
+        let regex = regex_of(rt, &pattern);
+        copy_of(rt, &regex);
+        check_equal(rt, part, &regex.as_str(), &pattern.as_str());
         check(rt, part, regex.is_match(&pattern));
     }
 }
 
-fn check_escaped(rt: &(impl Abort + AllocGlobal), size: usize) {
-    let spaces = long_text(rt, "spaces", &[(" ", size)]);
+/// Checks that the bytes are escaped.
+fn check_escaped(rt: &(impl Abort + AllocGlobal), bytes: &[u8], want: &str) {
     let mut text = String::new(rt.alloc());
-    push_escaped_bytes(&mut text, spaces.as_bytes()).expect(rt, "escaped");
-    check_text(
-        rt,
-        "escaped",
-        &text,
-        &long_text(rt, "escaped", &[("%20", size)]),
-    );
-}
-
-fn check_file(rt: &(impl Abort + AllocGlobal), size: usize) {
-    let file = long_text(rt, "file", &[("Disallow: /a\nSitemap:\n", size)]);
-    check_lines(rt, file.as_bytes(), size);
-    check_whole_robot(rt, file.as_bytes(), size);
-    check_whole_site(rt, file.as_bytes(), size);
-    check_one_agent(rt, file.as_bytes(), size);
+    push_escaped_bytes(&mut text, bytes).expect(rt, "escaped");
+    check_equal(rt, "escaped", &text.as_str(), &want);
 }
 
 /// A power of two, and the numbers next to it.
@@ -85,10 +59,13 @@ fn files_of_each_size_are_read(rt: HostRuntime) {
 
 #[test]
 fn patterns_and_texts_of_each_size_are_made(rt: HostRuntime) {
+    check_escaped(&rt, b"/a b\xFF\x1B[0m", "/a%20b%FF%1B[0m");
     for power in 0..18 {
         for size in sizes(power) {
             check_patterns(&rt, size);
-            check_escaped(&rt, size);
+            let spaces = long_text(&rt, "spaces", &[(" ", size)]);
+            let escaped = long_text(&rt, "escaped", &[("%20", size)]);
+            check_escaped(&rt, spaces.as_bytes(), &escaped);
         }
     }
 }
