@@ -1,5 +1,6 @@
 //! What the warnings have to know about a file as a whole.
 ghost use Rattle.std.specs.Prelude.{◌≡◌, ◌==◌, ◌||◌, map, not};
+ghost use Rattle.std.specs.List.{list_any};
 ghost use Rattle.texting_robots.specs.Callers.{by_value, label_by_value};
 ghost use Rattle.robots_warnings.specs.Facts.{facts_by, facts_of, has_text, suppresses_line_warnings, is_too_large, is_unknown};
 ghost use Rattle.robots_warnings.specs.Facts.{has_damaged_mark, has_nul, kinds_of, mark, nul_at_every_other, seems_html, seems_utf_16, without_start, without_white};
@@ -147,11 +148,23 @@ fn has_damaged_mark(file: &[u8]) -> bool
     matches!(file, [0xEF | 0xBB | 0xBF, ..]) && !file.starts_with(b"\xEF\xBB\xBF")
 }
 
+/// Whether one of the bytes is NUL. It tests all bytes without an early exit, so that the compiler can vectorize the
+/// loop.
+fn is_nul_among(bytes: &[u8]) -> bool
+    ensures { result ≡ list_any (λ b. b == 0) bytes.now }
+{
+    let mut is = false;
+    for byte in bytes {
+        is |= *byte == 0;
+    }
+    is
+}
+
 /// Whether a NUL is within the size limit.
 fn has_nul(file: &[u8]) -> bool
     ensures { result ≡ has_nul file.now }
 {
-    counted(file).contains(&0)
+    is_nul_among(counted(file))
 }
 
 /// Whether a file with these kinds of lines has no directive, but some line that isn't empty or a comment.
