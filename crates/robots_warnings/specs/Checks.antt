@@ -1,6 +1,7 @@
 -- The conditions of warnings about a file, a request, a line and its position, grouped by what they inspect,
 -- in the order of output. Warnings.antt names those of the others.
-use Rattle.std.specs.Prelude.{ℕ, ◌==◌, Bool, true, false, List, [], ◌∷◌, ◌++◌, ◌||◌, Option, None, Some, codes}
+use Rattle.std.specs.Prelude.{ℕ, ◌==◌, Bool, true, false, List, []}
+use Rattle.std.specs.Prelude.{◌∷◌, ◌++◌, ◌||◌, Option, None, Some, codes}
 use Rattle.std.specs.Prelude.{if◌then◌else◌, length, nat_eq, nat_lt, not, ◌&&◌}
 use Rattle.std.specs.List.{starts_with}
 use Rattle.std.specs.Str.{byte, is_utf8}
@@ -17,7 +18,8 @@ use Rattle.robots_warnings.specs.FieldNames.{begins_inner_field, is_misspelled, 
 use Rattle.robots_warnings.specs.File.{is_blank}
 use Rattle.robots_warnings.specs.Positions.{is_above_agents, is_empty_group, is_other_delay, is_split}
 use Rattle.robots_warnings.specs.Positions.{name_star}
-use Rattle.robots_warnings.specs.Rules.{before_byte, begins_dot_segment, has, has_dollar_inside, has_odd_start}
+use Rattle.robots_warnings.specs.Rules.{before_byte, begins_dot_segment}
+use Rattle.robots_warnings.specs.Rules.{has, has_dollar_inside, has_odd_start}
 use Rattle.robots_warnings.specs.Rules.{holds_otherwise, is_expression, is_quoted, somewhere}
 use Rattle.robots_warnings.specs.SeveralValues.{has_several_values}
 use Rattle.robots_warnings.specs.Tokens.{has_space_around, is_product_token, is_usual_name}
@@ -110,7 +112,8 @@ text_checks tail comment =
     ∷ []
 
 -- the position of a line, determined by the number of the last rule or delay, by what precedes the line, by
--- the only name and the first delay of the group above it, and by the lines from this one on. In many healthy files,
+-- the only name and the first delay of the group above it, and by the lines from this one on. In many
+-- healthy files,
 -- the group that is split from another one is that of `*`
 abbrev pub position_checks : Option ℕ → Preceding → Option (List ℕ) → Option ℕ → Label → List LineValue
     → List Check
@@ -144,7 +147,8 @@ value_checks is_in_scope (CrawlDelay (Some micros)) = (cause.DelayOverADay, nat_
 value_checks is_in_scope (Sitemap value) = sitemap_checks value
 value_checks is_in_scope (Raw body) = if is_blank body then [] else (meant_by body, true) ∷ []
 
--- what a directive with a colon has besides its value: the white space around it, a comment, and how a delay is
+-- what a directive with a colon has besides its value: the white space around it, a comment, and how a
+-- delay is
 -- written
 abbrev pub raw_checks : Bool → LineValue → (tail comment : List ℕ) → List Check
 raw_checks is_in_scope (UserAgent value) tail comment = (cause.SpaceAroundValue, has_odd_space value tail) ∷ []

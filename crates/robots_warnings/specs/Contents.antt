@@ -43,7 +43,8 @@ abbrev pub is_path_in_comment : List ℕ → Bool
 is_path_in_comment comment =
     starts_with nat_eq comment (codes "#/") || starts_with nat_eq comment (codes "#!/")
 
--- what is left of the rule is the whole site, which is the value of an empty Disallow, too, for example if nothing
+-- what is left of the rule is the whole site, which is the value of an empty Disallow, too, for example if
+-- nothing
 -- precedes such a comment; an empty Allow has no effect
 abbrev pub is_cut_to_root : (value tail comment : List ℕ) → Bool
 is_cut_to_root value tail comment =

@@ -56,7 +56,8 @@ is_accepted kind word = list_any (bytes_eq (str_to_ascii_lowercase word)) (field
 abbrev pub is_as_long : List ℕ → List ℕ → Bool
 is_as_long name word = nat_le (length word) (length name + 2) && nat_le (length name) (length word + 2)
 
--- the token starts with the name, or is similar to it: in lower case, it has an edit distance of at most 2 from it
+-- the token starts with the name, or is similar to it: in lower case, it has an edit distance of at most 2
+-- from it
 abbrev pub may_mean : List ℕ → List ℕ → Bool
 may_mean name word =
     begins_with name word || (is_as_long name word
@@ -94,7 +95,8 @@ unsupported_in name word = first_that (is_either name word) unsupported
 abbrev pub directive_in : List ℕ → List ℕ → Option Cause
 directive_in name word = first_that (may_either_mean name word) directives
 
--- the warning for an ignored line with this content: for an invalid delay, for a name that other crawlers support
+-- the warning for an ignored line with this content: for an invalid delay, for a name that other crawlers
+-- support
 -- or supported, for a directive, or else for an unrecognized line
 abbrev pub meant_by : List ℕ → Cause
 meant_by body =
@@ -122,7 +124,8 @@ begins_field name text = begins_with name text && slice_index text (length name)
 abbrev pub may_end_line : ℕ → Bool
 may_end_line b = is_space_or_tab b || b == byte "*"
 
--- the text starts with such a byte, one of the usual names and a colon; it may be in what follows the first colon of
+-- the text starts with such a byte, one of the usual names and a colon; it may be in what follows the first
+-- colon of
 -- a line
 abbrev pub begins_inner_field : List ℕ → Bool
 begins_inner_field text =

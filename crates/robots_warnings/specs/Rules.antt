@@ -80,7 +80,8 @@ begins_any text =
 abbrev pub begins_sign : List ℕ → Bool
 begins_sign text = begins_range text || (begins_any text || begins_class text)
 
--- the value has an alternative, such as `(a|b)`: a `)` after a `|` after a `(`; or it contains a range, such a
+-- the value has an alternative, such as `(a|b)`: a `)` after a `|` after a `(`; or it contains a range,
+-- such a
 -- `.*` or a character class; or it ends with a `+` after a dot, `]` or `)`; others are part of names such as
 -- `/canal+`
 abbrev pub is_expression : List ℕ → Bool

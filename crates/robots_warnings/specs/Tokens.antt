@@ -44,7 +44,8 @@ begins_names text =
     && (somewhere begins_crawler_word (drop 4 text) && not (str_eq_ignore_ascii_case (drop 4 text) (codes "bot")))
 
 -- the value is written as names of real crawlers that aren't product tokens are, such as `MJ12bot`,
--- `Offline Explorer` and, with a star at its end, `Mediapartners-Google*`, and doesn't seem to be several names, as
+-- `Offline Explorer` and, with a star at its end, `Mediapartners-Google*`, and doesn't seem to be several
+-- names, as
 -- `Googlebot Bingbot` does, but not `Brightbot 1.0` or `Echobot Bot`
 abbrev pub is_usual_name : List ℕ → Bool
 is_usual_name value =

@@ -7,7 +7,8 @@ use Rattle.robots_warnings.specs.declared.positions.Preceding.{Preceding}
 use Rattle.robots_warnings.specs.declared.positions.Preceding.TheVariants.{Other}
 use Rattle.robots_warnings.specs.declared.table.Cause.{Cause}
 use Rattle.robots_warnings.specs.declared.table.Cause.TheVariants.{AllowedAndDisallowed, ClosesEverything}
-use Rattle.robots_warnings.specs.declared.table.Cause.TheVariants.{EmptyDisallow, GoogleIgnoresStar, GooglebotGroup}
+use Rattle.robots_warnings.specs.declared.table.Cause.TheVariants.{EmptyDisallow}
+use Rattle.robots_warnings.specs.declared.table.Cause.TheVariants.{GoogleIgnoresStar, GooglebotGroup}
 use Rattle.robots_warnings.specs.declared.table.Cause.TheVariants.{GroupPastSizeLimit}
 use Rattle.robots_warnings.specs.declared.table.Cause.TheVariants.{NonstandardEscape, RepeatedRule}
 use Rattle.robots_warnings.specs.declared.table.Cause.TheVariants.{ReplacesStar}

@@ -1,4 +1,5 @@
--- What is found among the rules of a crawler: their lines by their patterns, as they are compared, and sets of
+-- What is found among the rules of a crawler: their lines by their patterns, as they are compared, and sets
+-- of
 -- patterns.
 use Rattle.std.specs.Prelude.{◌≡◌, ℕ, ◌==◌, Bool, List, None, Option, String, true, if◌then◌else◌, not, ◌||◌}
 use Rattle.std.specs.Prelude.{◌&&◌, bytes_eq}
