@@ -24,7 +24,7 @@ use robots_needless::needless::NeedlessRule;
 use robots_warnings::facts::{FileFacts, facts_of};
 use robots_warnings::file::{counted, labels_for};
 use robots_warnings::warning::Warning;
-use robots_warnings::warnings::warnings;
+use robots_warnings::warnings::{FileRead, warnings};
 use std::alloc::{AllocError, Global};
 use std::marker::Model;
 use texting_robots::labels::{LabeledLine, first_overlong_line};
@@ -230,9 +230,13 @@ fn warnings_of<'a>(
 {
     let everywhere = covers_all_groups(request.agent);
     let (named, urls) = (&request.agents, &request.urls);
-    let mut found = warnings(
-        alloc, everywhere, named, agents, urls, file, facts, labels, site,
-    )?;
+    let read = FileRead {
+        bytes: file,
+        facts,
+        labels,
+        site,
+    };
+    let mut found = warnings(alloc, everywhere, named, agents, urls, &read)?;
     add_needless(&mut found, needless)?;
     Ok(found)
 }

@@ -1,15 +1,6 @@
-pub mod ClosedLemmas
-pub mod ConflictLemmas
-pub mod FactLemmas
-pub mod FileLemmas
 pub mod NameLemmas
-pub mod NamesPastLimitLemmas
-pub mod NumberLemmas
-pub mod PositionLemmas
 pub mod PrintableLemmas
-pub mod RepeatedLemmas
-pub mod ReplacedLemmas
 pub mod RuleLemmas
-pub mod SpellingLemmas
+pub mod SeenLemmas
+pub mod StepLemmas
 pub mod TableLemmas
-pub mod WarnedLemmas

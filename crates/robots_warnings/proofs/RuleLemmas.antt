@@ -1,29 +1,201 @@
--- How the value of a rule is examined.
-use Rattle.std.proofs.Common.{◌≡◌, ℕ, ◌+◌, ◌<◌, ◌==◌, ◌||◌, Bool, List, [], ◌∷◌}
-use Rattle.std.proofs.Common.{arith, drop, length, refl, slice_index_or}
-use Rattle.std.proofs.Common.{codes, false, nat_eq}
-use Rattle.std.specs.List.{starts_with}
+-- What is found among the rules of a crawler.
+use Rattle.std.proofs.Common.{◌≡◌, ℕ, ◌==◌, Bool, false, true, List, [], ◌∷◌, arith, inl, inr, length, refl}
+use Rattle.std.proofs.Common.{subst, suc, sym, ◌∙◌, ◌&&◌, ◌+◌, ◌<◌, Option, Some, None, String, bytes_eq}
+use Rattle.std.proofs.Common.{if◌then◌else◌, string_bytes, ap, ap₂, codes, drop, ◌||◌, ◌⊎◌, cond, map}
+use Rattle.std.proofs.Common.{slice_index_or}
+use Rattle.std.proofs.lemmas.Bool.{cases_Bool, eqb-true, false≢true, ne_eqb}
 use Rattle.std.proofs.lemmas.Bool.Decides.{nat_tests}
+use Rattle.std.specs.List.{list_all, list_any}
+use Rattle.std.specs.Str.{byte}
+use Rattle.texting_robots.specs.Callers.{escaped, PlacedRule, by_value, label_by_value}
+use Rattle.texting_robots.specs.Escape.{is_escaped}
+use Rattle.robots_warnings.specs.Closed.{is_whole_site}
+use Rattle.std.proofs.Math.Bool.{or-false, or-true}
+use Rattle.std.specs.Global.{Global}
+use Rattle.std.specs.HashMap.{Updates, get_by_text, hash_map_len}
+use Rattle.std.specs.Map.{lookup}
+use Rattle.std.specs.Option.{option_or}
+use Rattle.std.specs.Prelude.{is_some}
+use Rattle.std.specs.String.{string_eq}
+use Rattle.std.proofs.lemmas.Map.Text.{hash_map_updates_text, hash_set_updates_text}
+use Rattle.std.proofs.lemmas.Slice.Eq.{bytes_eq-Decides}
 use Rattle.std.proofs.lemmas.List.{drop_more}
-use Rattle.robots_warnings.specs.Rules.{begins_dot_segment, holds_otherwise, is_written_otherwise, somewhere}
+use Rattle.robots_warnings.specs.Conflicts.{allow_beside, compared, first_of}
+use Rattle.robots_warnings.specs.Internal.Rules.{HasFirst, Lines}
+use Rattle.std.specs.HashSet as set
+use Rattle.std.specs.HashSet.{contains_text}
+use Rattle.texting_robots.specs.declared.labels.LabeledLine.{LabeledLine}
+use Rattle.texting_robots.specs.Group.{is_group}
+use Rattle.robots_warnings.specs.File.{lines_of}
+use Rattle.robots_warnings.specs.Internal.Rules.{AddsDenied, Patterns}
+use Rattle.robots_warnings.proofs.NameLemmas.{either}
 
--- whether a test holds at some suffix of a string: at the string itself, or at a suffix of all but its first
--- byte
-pub somewhere_next : (test : List ℕ → Bool) (text : List ℕ) → 0 < length text
-    → somewhere test text ≡ (test text || somewhere test (drop 1 text))
-somewhere_next test [] some = absurd (omega arith)
-somewhere_next test (b ∷ text) some = refl
+-- ---- rules for a whole site
 
--- whether a value has a byte that URLs write otherwise, from index `at` on, in terms of the byte there
-pub otherwise_at : (in_query : Bool) (value : List ℕ) (at byte : ℕ) → at < length value
-    → holds_otherwise in_query (drop at value)
-    ≡ (is_written_otherwise in_query (slice_index_or value at byte)
-    || holds_otherwise (in_query || slice_index_or value at byte == 63) (drop (at + 1) value))
-otherwise_at in_query value at byte below = rw (drop_more value at byte below) refl
+abbrev only_stars : List ℕ → Bool
+only_stars text = list_all (λ c. c == byte "*") text
 
--- a text that doesn't start with `/.` doesn't start with a dot segment
-pub no_segment : (text : List ℕ) → starts_with nat_eq text (codes "/.") ≡ false
-    → begins_dot_segment text ≡ false
-no_segment [] none = refl
-no_segment (c ∷ []) none = grind (arith, nat_tests)
-no_segment (c ∷ (d ∷ text)) none = grind (arith, nat_tests)
+-- stars aren't escaped, and no escape has one
+stars_escaped : (value : List ℕ) → only_stars (escaped value) ≡ only_stars value
+stars_escaped [] = refl
+stars_escaped (b ∷ value) = elim (cases_Bool (b == byte "*")) [
+  | inl is ↦
+      subst (λ b. only_stars (escaped (b ∷ value)) ≡ only_stars (b ∷ value)) (sym (eqb-true b (byte "*") is))
+      (stars_escaped value)
+  | inr other ↦ elim (cases_Bool (is_escaped b)) [
+    | inl bad ↦ rw (bad, other) refl
+    | inr good ↦ rw (good, other) refl
+  ]
+]
+
+pub whole_site_escaped : (value : List ℕ) → is_whole_site (escaped value) ≡ is_whole_site value
+whole_site_escaped [] = refl
+whole_site_escaped (b ∷ value) = elim (cases_Bool (b == byte "/")) [
+  | inl is ↦
+      subst (λ b. is_whole_site (escaped (b ∷ value)) ≡ is_whole_site (b ∷ value))
+      (sym (eqb-true b (byte "/") is)) (stars_escaped value)
+  | inr plain ↦ elim (cases_Bool (b == byte "*")) [
+    | inl is ↦
+        subst (λ b. is_whole_site (escaped (b ∷ value)) ≡ is_whole_site (b ∷ value))
+        (sym (eqb-true b (byte "*") is)) (stars_escaped value)
+    | inr other ↦ elim (cases_Bool (is_escaped b)) [
+      | inl bad ↦ rw (bad, plain, other) refl
+      | inr good ↦ rw (good, plain, other) refl
+    ]
+  ]
+]
+
+some_bytes : (n : ℕ) → (suc n == 0) ≡ false
+some_bytes n = grind (arith, nat_tests)
+
+pub none_escaped : (value : List ℕ) → (length (escaped value) == 0) ≡ (length value == 0)
+none_escaped [] = refl
+none_escaped (b ∷ value) = elim (cases_Bool (is_escaped b)) [
+  | inl bad ↦ rw bad (some_bytes _ ∙ sym (some_bytes (length value)))
+  | inr good ↦ rw good (some_bytes _ ∙ sym (some_bytes (length value)))
+]
+
+-- ---- rules that contradict each other
+
+or_assoc : {X : Type 0} (a b c : Option X) → option_or (option_or a b) c ≡ option_or a (option_or b c)
+or_assoc None b c = refl
+or_assoc (Some x) b c = refl
+
+pub or_none : {X : Type 0} (a : Option X) → option_or a None ≡ a
+or_none None = refl
+or_none (Some x) = refl
+
+is_none : {X : Type 0} (a : Option X) → is_some a ≡ false → a ≡ None
+is_none None isnt = refl
+is_none (Some x) isnt = cc
+
+-- inserting the line for a pattern that has none
+pub first_added : {S : Type 0} (old new : Lines S) (key : String Global) (number : ℕ)
+    → is_some (get_by_text old (string_bytes key)) ≡ false → Updates string_eq old new key (Some number)
+    → (other : List ℕ) → get_by_text new other
+    ≡ option_or (get_by_text old other) (if bytes_eq (string_bytes key) other then Some number else None)
+first_added old new key number isnt updates other =
+    hash_map_updates_text (string_bytes key) old new (Some number) updates other
+    ∙ by (cases_Bool (bytes_eq (string_bytes key) other))
+  where
+    by : (bytes_eq (string_bytes key) other ≡ true) ⊎ (bytes_eq (string_bytes key) other ≡ false)
+        → cond (bytes_eq (string_bytes key) other) (Some number) (get_by_text old other)
+        ≡ option_or (get_by_text old other) (if bytes_eq (string_bytes key) other then Some number else None)
+    by (inl is) =
+        let same = (bytes_eq-Decides (string_bytes key) other).0 is in
+        let none = is_none (get_by_text old other)
+        (subst (λ text. is_some (get_by_text old text) ≡ false) same isnt) in
+        rw (is, none) refl
+    by (inr isnt) = rw isnt (sym (or_none (get_by_text old other)))
+
+-- ---- several crawlers
+
+-- loop step: one crawler more was looked at
+pub agents_next : (f : List ℕ → Option ℕ) (agents : List (String Global)) (at : ℕ) (item : String Global)
+    (old : Option ℕ) {new all : Option ℕ} {name : List ℕ} → at < length agents
+    → item ≡ slice_index_or agents at item → name ≡ string_bytes item → new ≡ option_or old (f name)
+    → option_or old (first_of f (map string_bytes (drop at agents))) ≡ all
+    → option_or new (first_of f (map string_bytes (drop (at + 1) agents))) ≡ all
+agents_next f agents at item old {new} {all} below here named is was =
+    let rest = first_of f (map string_bytes (drop (at + 1) agents)) in
+    let names = slice_index_or agents at item ∷ drop (at + 1) agents in
+    let before : option_or old (first_of f (map string_bytes names)) ≡ all
+    = rw (drop_more agents at item below) at was in
+    let same = named ∙ ap string_bytes here in
+    ap (λ found. option_or found rest) (is ∙ ap (λ name. option_or old (f name)) same)
+    ∙ or_assoc old (f (string_bytes (slice_index_or agents at item))) rest ∙ before
+
+-- ---- patterns of everything
+
+-- of the values, only `/` and `*` have a pattern that is compared as `/`
+pub slash_or_star : (value : List ℕ)
+    → bytes_eq (compared (escaped value)) (codes "/")
+    ≡ (bytes_eq value (codes "/") || bytes_eq value (codes "*"))
+slash_or_star value =
+    compared_with (escaped value) ∙ ap₂ ◌||◌ (one_escaped (byte "/") refl refl value)
+    (one_escaped (byte "*") refl refl value)
+  where
+    compared_with : (pattern : List ℕ) → bytes_eq (compared pattern) (codes "/")
+        ≡ (bytes_eq pattern (codes "/") || bytes_eq pattern (codes "*"))
+    compared_with pattern = elim (cases_Bool (bytes_eq pattern (codes "*"))) [
+      | inl is ↦ rw is (sym (or-true (bytes_eq pattern (codes "/"))))
+      | inr isnt ↦ rw isnt (sym (or-false (bytes_eq pattern (codes "/"))))
+    ]
+
+    empty_escaped : (value : List ℕ) → bytes_eq (escaped value) [] ≡ bytes_eq value []
+    empty_escaped [] = refl
+    empty_escaped (b ∷ value) = elim (cases_Bool (is_escaped b)) [
+      | inl bad ↦ rw bad refl
+      | inr good ↦ rw good refl
+    ]
+
+    -- a byte that isn't escaped and doesn't begin an escape
+    one_escaped : (c : ℕ) → is_escaped c ≡ false → (byte "%" == c) ≡ false → (value : List ℕ)
+        → bytes_eq (escaped value) (c ∷ []) ≡ bytes_eq value (c ∷ [])
+    one_escaped c plain other [] = refl
+    one_escaped c plain other (b ∷ value) = elim (cases_Bool (is_escaped b)) [
+      | inl bad ↦
+          let differs : (b == c) ≡ false =
+          ne_eqb b c (λ same. false≢true (sym plain ∙ ap is_escaped (sym same) ∙ bad)) in
+          rw (bad, other, differs) refl
+      | inr good ↦ rw good (ap (λ rest. b == c && rest) (empty_escaped value))
+    ]
+
+-- ---- no Allow
+
+no_entry : {K X : Type 0} (test : K → Bool) (entries : List (K × X)) → length entries ≡ 0
+    → lookup test entries ≡ None
+no_entry test [] none = refl
+no_entry test (entry ∷ entries) none = absurd (omega arith)
+
+pub none_beside : {S : Type 0} (is_empty : ℕ → Bool) (lines : Lines S) (rules : List PlacedRule)
+    (placed : PlacedRule) → HasFirst is_empty lines rules → hash_map_len lines ≡ 0
+    → None ≡ allow_beside is_empty rules placed
+none_beside is_empty lines rules placed has none =
+    let pattern = compared placed.rule.0 in
+    by placed.rule.1 _ (sym (has.each pattern)
+    ∙ no_entry (λ key. bytes_eq pattern (string_bytes key)) lines.entries none)
+  where
+    by : (is_allow : Bool) (other : Option ℕ) → other ≡ None → None ≡ (if is_allow then None else other)
+    by true other is = refl
+    by false other is = sym is
+
+-- ---- groups that have none of the Disallow rules of `*`
+
+-- inserting the pattern of a Disallow makes the set that `AddsDenied` describes
+pub denied_added : {S : Type 0} (old new : Patterns S) (key : String Global) (placed : PlacedRule)
+    → string_bytes key ≡ placed.rule.0 → placed.rule.1 ≡ false → set.Updates string_eq old new key true
+    → AddsDenied old new placed
+denied_added old new key placed is disallow updates = record {
+  each = λ pattern.
+      hash_set_updates_text (string_bytes key) old new true updates pattern
+      ∙ either (contains_text old pattern) (bytes_eq (string_bytes key) pattern)
+      ∙ rw (is, disallow) refl;
+}
+
+-- whether there is a rule or a delay from index `at` on, in terms of the line there
+pub groups_from : (labels : List LabeledLine) (at : ℕ) (labeled : LabeledLine) → at < length labels
+    → list_any is_group (lines_of (map label_by_value (drop at labels)))
+    ≡ (is_group (by_value (slice_index_or labels at labeled).line)
+    || list_any is_group (lines_of (map label_by_value (drop (at + 1) labels))))
+groups_from labels at labeled below = rw (drop_more labels at labeled below) refl

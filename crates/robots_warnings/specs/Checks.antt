@@ -1,8 +1,10 @@
 -- The conditions of warnings about a file, a request, a line and its position, grouped by what they inspect,
 -- in the order of output. Warnings.antt names those of the others.
-use Rattle.std.specs.Prelude.{ℕ, ◌==◌, Bool, true, false, List, [], ◌∷◌, ◌++◌, Option, None, Some}
-use Rattle.std.specs.Prelude.{if◌then◌else◌, length, nat_lt, not, ◌&&◌}
-use Rattle.std.specs.Str.{is_utf8}
+use Rattle.std.specs.Prelude.{ℕ, ◌==◌, Bool, true, false, List, []}
+use Rattle.std.specs.Prelude.{◌∷◌, ◌++◌, ◌||◌, Option, None, Some, codes}
+use Rattle.std.specs.Prelude.{if◌then◌else◌, length, nat_eq, nat_lt, not, ◌&&◌}
+use Rattle.std.specs.List.{starts_with}
+use Rattle.std.specs.Str.{byte, is_utf8}
 use Rattle.texting_robots.specs.Callers.{Allow, CrawlDelay, Disallow, LineValue, Label, Raw, Sitemap}
 use Rattle.texting_robots.specs.Callers.{UserAgent, is_own}
 use Rattle.texting_robots.specs.declared.labels.Membership.{Membership}
@@ -12,15 +14,16 @@ use Rattle.robots_warnings.specs.declared.table.Cause.{Cause}
 use Rattle.robots_warnings.specs.declared.table.Cause.TheVariants as cause
 use Rattle.robots_warnings.specs.Contents.{comment_of, has_odd_comment, has_odd_delay, has_odd_space}
 use Rattle.robots_warnings.specs.Contents.{is_cut_short, is_cut_to_root, tail_of}
-use Rattle.robots_warnings.specs.FieldNames.{has_inner_field, is_misspelled, is_without_colon, meant_by}
+use Rattle.robots_warnings.specs.FieldNames.{begins_inner_field, is_misspelled, is_without_colon, meant_by}
 use Rattle.robots_warnings.specs.File.{is_blank}
-use Rattle.robots_warnings.specs.Positions.{is_above_agents, is_empty_group, is_other_delay}
-use Rattle.robots_warnings.specs.Positions.{is_split_from_others, is_split_from_star}
-use Rattle.robots_warnings.specs.Rules.{has_dollar_inside, has_dot_segment, has_odd_start, holds_otherwise}
-use Rattle.robots_warnings.specs.Rules.{is_expression, is_quoted}
+use Rattle.robots_warnings.specs.Positions.{is_above_agents, is_empty_group, is_other_delay, is_split}
+use Rattle.robots_warnings.specs.Positions.{name_star}
+use Rattle.robots_warnings.specs.Rules.{before_byte, begins_dot_segment}
+use Rattle.robots_warnings.specs.Rules.{has, has_dollar_inside, has_odd_start}
+use Rattle.robots_warnings.specs.Rules.{holds_otherwise, is_expression, is_quoted, somewhere}
 use Rattle.robots_warnings.specs.SeveralValues.{has_several_values}
-use Rattle.robots_warnings.specs.Tokens.{has_slash, has_space_around, is_invalid_name, is_unusual_name}
-use Rattle.robots_warnings.specs.Urls.{begins_as_url, is_absolute_url, is_invalid_url, is_url_or_path}
+use Rattle.robots_warnings.specs.Tokens.{has_space_around, is_product_token, is_usual_name}
+use Rattle.robots_warnings.specs.Urls.{begins_as_url, is_absolute_url, is_invalid_url}
 
 -- a warning, and whether its condition holds
 abbrev pub Check : Type 0
@@ -43,19 +46,15 @@ abbrev pub agent_checks : List ℕ → List Check
 agent_checks agent =
     (cause.EmptyAgent, length agent == 0)
     ∷ (cause.SpaceAroundAgent, has_space_around agent)
-    ∷ (cause.VersionInAgent, has_slash agent)
+    ∷ (cause.VersionInAgent, has (byte "/") agent)
     ∷ []
 
 -- a URL that the user passed
 abbrev pub url_checks : List ℕ → List Check
 url_checks url =
-    (cause.NotAUrlOrPath, not (is_url_or_path url))
+    (cause.NotAUrlOrPath, not (starts_with nat_eq url (codes "/") || begins_as_url url))
     ∷ (cause.InvalidUrl, is_invalid_url url)
     ∷ []
-
--- the content of an ignored line that is neither empty nor a comment
-abbrev pub ignored_checks : List ℕ → List Check
-ignored_checks body = (meant_by body, true) ∷ []
 
 -- the field name in the content of a directive
 abbrev pub field_checks : List ℕ → List Check
@@ -63,10 +62,6 @@ field_checks body =
     (cause.NonstandardField, is_misspelled body)
     ∷ (cause.MissingColon, is_without_colon body)
     ∷ []
-
--- the white space around the value of a line with this tail
-abbrev pub space_checks : (value tail : List ℕ) → List Check
-space_checks value tail = (cause.SpaceAroundValue, has_odd_space value tail) ∷ []
 
 -- the white space and the comment after the value of an Allow or a Disallow; comments are only checked if
 -- `is_in_scope` is true
@@ -77,15 +72,11 @@ raw_rule_checks is_in_scope value tail comment =
     ∷ (cause.HashCutsRule, is_in_scope && is_cut_short value tail comment)
     ∷ []
 
--- how a delay is written
-abbrev pub delay_text_checks : List ℕ → List Check
-delay_text_checks tail = (cause.DelayNotation, has_odd_delay tail) ∷ []
-
 -- the value of a user-agent line
 abbrev pub user_agent_checks : List ℕ → List Check
 user_agent_checks value =
-    (cause.InvalidProductToken, is_invalid_name value)
-    ∷ (cause.UnusualProductToken, is_unusual_name value)
+    (cause.InvalidProductToken, not (is_product_token value) && not (is_usual_name value))
+    ∷ (cause.UnusualProductToken, not (is_product_token value) && is_usual_name value)
     ∷ []
 
 -- the value of an Allow or a Disallow
@@ -94,21 +85,17 @@ rule_checks value =
     (cause.RuleNotUtf8, not (is_utf8 value))
     ∷ (cause.MissingSlash, has_odd_start value)
     ∷ (cause.UrlAsRule, begins_as_url value)
-    ∷ (cause.UnencodedCharacter, holds_otherwise false value)
+    ∷ (cause.UnencodedCharacter, holds_otherwise value)
     ∷ (cause.QuotedRule, is_quoted value)
     ∷ (cause.RegexSyntax, is_expression value)
     ∷ (cause.DollarNotAtEnd, has_dollar_inside value)
-    ∷ (cause.DotSegment, has_dot_segment value)
+    ∷ (cause.DotSegment, somewhere begins_dot_segment (before_byte (byte "?") value))
     ∷ (cause.SeveralValues, is_utf8 value && has_several_values value)
     ∷ []
 
 -- microseconds per day
 abbrev pub day : ℕ
 day = 86400000000
-
--- a delay, in microseconds
-abbrev pub delay_checks : ℕ → List Check
-delay_checks micros = (cause.DelayOverADay, nat_lt day micros) ∷ []
 
 -- the value of a sitemap line
 abbrev pub sitemap_checks : List ℕ → List Check
@@ -120,19 +107,21 @@ sitemap_checks value =
 -- the tail and the comment of any line
 abbrev pub text_checks : (tail comment : List ℕ) → List Check
 text_checks tail comment =
-    (cause.OneLine, has_inner_field tail)
+    (cause.OneLine, has (byte ":") tail && somewhere begins_inner_field tail)
     ∷ (cause.ControlInComment, has_odd_comment comment)
     ∷ []
 
 -- the position of a line, determined by the number of the last rule or delay, by what precedes the line, by
--- the only name and the first delay of the group above it, and by the lines from this one on
+-- the only name and the first delay of the group above it, and by the lines from this one on. In many
+-- healthy files,
+-- the group that is split from another one is that of `*`
 abbrev pub position_checks : Option ℕ → Preceding → Option (List ℕ) → Option ℕ → Label → List LineValue
     → List Check
 position_checks last preceding above delay label lines =
     (cause.RuleBeforeUserAgent, is_above_agents label)
     ∷ (cause.EmptyGroup, is_empty_group last label)
-    ∷ (cause.DelaySplitsGroup, is_split_from_others preceding above label lines)
-    ∷ (cause.DelayAboveStar, is_split_from_star preceding above label lines)
+    ∷ (cause.DelaySplitsGroup, is_split preceding above label lines && not (name_star lines))
+    ∷ (cause.DelayAboveStar, is_split preceding above label lines && name_star lines)
     ∷ (cause.TwoDelays, is_other_delay delay label)
     ∷ []
 
@@ -147,23 +136,26 @@ is_directive _ = true
 abbrev pub is_in_scope_of : Bool → Membership → Bool
 is_in_scope_of everywhere membership = if everywhere then true else is_own membership
 
--- the value of a line; rules are only checked if `is_in_scope` is true
+-- the value of a line, and what an ignored line probably means; rules are only checked if `is_in_scope` is
+-- true
 abbrev pub value_checks : Bool → LineValue → List Check
 value_checks is_in_scope (UserAgent value) = user_agent_checks value
 value_checks is_in_scope (Allow value) = if is_in_scope then rule_checks value else []
 value_checks is_in_scope (Disallow value) = if is_in_scope then rule_checks value else []
 value_checks is_in_scope (CrawlDelay None) = []
-value_checks is_in_scope (CrawlDelay (Some micros)) = delay_checks micros
+value_checks is_in_scope (CrawlDelay (Some micros)) = (cause.DelayOverADay, nat_lt day micros) ∷ []
 value_checks is_in_scope (Sitemap value) = sitemap_checks value
-value_checks is_in_scope (Raw body) = if is_blank body then [] else ignored_checks body
+value_checks is_in_scope (Raw body) = if is_blank body then [] else (meant_by body, true) ∷ []
 
--- what a directive with a colon has besides its value
+-- what a directive with a colon has besides its value: the white space around it, a comment, and how a
+-- delay is
+-- written
 abbrev pub raw_checks : Bool → LineValue → (tail comment : List ℕ) → List Check
-raw_checks is_in_scope (UserAgent value) tail comment = space_checks value tail
+raw_checks is_in_scope (UserAgent value) tail comment = (cause.SpaceAroundValue, has_odd_space value tail) ∷ []
 raw_checks is_in_scope (Allow value) tail comment = raw_rule_checks is_in_scope value tail comment
 raw_checks is_in_scope (Disallow value) tail comment = raw_rule_checks is_in_scope value tail comment
-raw_checks is_in_scope (CrawlDelay delay) tail comment = delay_text_checks tail
-raw_checks is_in_scope (Sitemap value) tail comment = space_checks value tail
+raw_checks is_in_scope (CrawlDelay delay) tail comment = (cause.DelayNotation, has_odd_delay tail) ∷ []
+raw_checks is_in_scope (Sitemap value) tail comment = (cause.SpaceAroundValue, has_odd_space value tail) ∷ []
 raw_checks is_in_scope (Raw content) tail comment = []
 
 -- what a directive with this content has besides its value

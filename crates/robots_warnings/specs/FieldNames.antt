@@ -11,7 +11,7 @@ use Rattle.texting_robots.specs.Statement.{field_names}
 use Rattle.texting_robots.specs.declared.parser.statement.Kind.{Kind}
 use Rattle.texting_robots.specs.declared.parser.statement.Kind.TheVariants as kind
 use Rattle.robots_warnings.specs.File.{space, tab}
-use Rattle.robots_warnings.specs.Rules.{before_byte, has, somewhere}
+use Rattle.robots_warnings.specs.Rules.{before_byte, has}
 use Rattle.robots_warnings.specs.declared.field_names.TheConstants.{DIRECTIVES, KINDS, UNSUPPORTED}
 use Rattle.robots_warnings.specs.declared.table.Cause.{Cause}
 use Rattle.robots_warnings.specs.declared.table.Cause.TheVariants.{InvalidDelay, UnrecognizedLine}
@@ -56,14 +56,12 @@ is_accepted kind word = list_any (bytes_eq (str_to_ascii_lowercase word)) (field
 abbrev pub is_as_long : List ℕ → List ℕ → Bool
 is_as_long name word = nat_le (length word) (length name + 2) && nat_le (length name) (length word + 2)
 
--- the token, in lower case, has an edit distance of at most 2 from the name
-abbrev pub is_near : List ℕ → List ℕ → Bool
-is_near name word =
-    is_as_long name word && nat_le (levenshtein_row nat_eq (str_to_ascii_lowercase word) name (length name)) 2
-
--- the token starts with the name or is similar to it
+-- the token starts with the name, or is similar to it: in lower case, it has an edit distance of at most 2
+-- from it
 abbrev pub may_mean : List ℕ → List ℕ → Bool
-may_mean name word = begins_with name word || is_near name word
+may_mean name word =
+    begins_with name word || (is_as_long name word
+    && nat_le (levenshtein_row nat_eq (str_to_ascii_lowercase word) name (length name)) 2)
 
 -- ---- what an ignored line probably intends, by its field name and its first token
 
@@ -97,16 +95,15 @@ unsupported_in name word = first_that (is_either name word) unsupported
 abbrev pub directive_in : List ℕ → List ℕ → Option Cause
 directive_in name word = first_that (may_either_mean name word) directives
 
--- the warning for an invalid delay, for a name that other crawlers support or supported, for a directive,
--- or else for an unrecognized line
-abbrev pub meant_among : List ℕ → List ℕ → Cause
-meant_among name word =
+-- the warning for an ignored line with this content: for an invalid delay, for a name that other crawlers
+-- support
+-- or supported, for a directive, or else for an unrecognized line
+abbrev pub meant_by : List ℕ → Cause
+meant_by body =
+    let name = name_in body in
+    let word = first_word body in
     if is_accepted kind.CrawlDelay name || is_accepted kind.CrawlDelay word then InvalidDelay
     else unwrap_or (option_or (unsupported_in name word) (directive_in name word)) UnrecognizedLine
-
--- the warning for an ignored line with this content
-abbrev pub meant_by : List ℕ → Cause
-meant_by body = meant_among (name_in body) (first_word body)
 
 -- ---- what is unusual in a directive
 
@@ -127,14 +124,12 @@ begins_field name text = begins_with name text && slice_index text (length name)
 abbrev pub may_end_line : ℕ → Bool
 may_end_line b = is_space_or_tab b || b == byte "*"
 
--- the text starts with such a byte, one of the usual names and a colon
+-- the text starts with such a byte, one of the usual names and a colon; it may be in what follows the first
+-- colon of
+-- a line
 abbrev pub begins_inner_field : List ℕ → Bool
 begins_inner_field text =
     may_end_line (slice_index text 0) && list_any (λ row. begins_field row.0.now (drop 1 text)) DIRECTIVES
-
--- what follows the first colon of a line has a colon too, and contains such a text
-abbrev pub has_inner_field : List ℕ → Bool
-has_inner_field tail = has (byte ":") tail && somewhere begins_inner_field tail
 
 -- there is no colon after the field name
 abbrev pub is_without_colon : List ℕ → Bool

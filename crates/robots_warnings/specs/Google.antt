@@ -1,11 +1,9 @@
 -- Crawlers of Google to which Google applies another group than the one that applies here.
-use Rattle.std.specs.Prelude.{ℕ, Bool, false, not, ◌&&◌, List, [], ◌∷◌, codes, map}
+use Rattle.std.specs.Prelude.{ℕ, Bool, false, not, ◌&&◌, List, codes, map}
 use Rattle.std.specs.List.{before_first, list_any}
 use Rattle.std.specs.Str.{str_eq_ignore_ascii_case}
 use Rattle.texting_robots.specs.Callers.{LineValue, UserAgent, is_named}
 use Rattle.robots_warnings.specs.declared.google.TheConstants.{LIKE_GOOGLEBOT, IGNORING_STAR}
-use Rattle.robots_warnings.specs.declared.table.Cause.TheVariants as cause
-use Rattle.robots_warnings.specs.Checks.{Check}
 use Rattle.robots_warnings.specs.Tokens.{ends_token}
 
 -- those of Google's crawlers that get the group of Googlebot if they have none of their own
@@ -34,37 +32,14 @@ is_line_at_google agent _ = false
 abbrev pub is_named_at_google : List ℕ → List LineValue → Bool
 is_named_at_google agent lines = list_any (is_line_at_google agent) lines
 
--- Google reads the name in no line, and that of Googlebot in one
-abbrev pub has_only_googlebots : List LineValue → List ℕ → Bool
-has_only_googlebots lines name =
-    not (is_named_at_google name lines) && is_named_at_google (codes "Googlebot") lines
-
--- Google reads the name in no line, although there is a group of `*`
-abbrev pub has_only_star : List LineValue → List ℕ → Bool
-has_only_star lines name = not (is_named_at_google name lines) && is_named (codes "*") lines
-
--- the crawler is one of Google's that get the group of Googlebot if they have none of their own
-abbrev pub is_like_googlebot : List ℕ → Bool
-is_like_googlebot agent = list_any (λ name. str_eq_ignore_ascii_case name.now agent) LIKE_GOOGLEBOT
-
--- the crawler is one of Google's that never get the group of `*`
-abbrev pub is_ignoring_star : List ℕ → Bool
-is_ignoring_star agent = list_any (λ name. str_eq_ignore_ascii_case name.now agent) IGNORING_STAR
-
--- Google applies the group of Googlebot to the crawler
+-- Google applies the group of Googlebot to the crawler, which has none of its own there
 abbrev pub gets_googlebots : List LineValue → List ℕ → Bool
-gets_googlebots lines agent = is_like_googlebot agent && has_only_googlebots lines agent
+gets_googlebots lines agent =
+    list_any (λ name. str_eq_ignore_ascii_case name.now agent) LIKE_GOOGLEBOT
+    && (not (is_named_at_google agent lines) && is_named_at_google (codes "Googlebot") lines)
 
 -- Google applies no group to the crawler, although there is a group of `*`
 abbrev pub gets_nobodys : List LineValue → List ℕ → Bool
-gets_nobodys lines agent = is_ignoring_star agent && has_only_star lines agent
-
--- of these crawlers, the one with this name, which gets the group of Googlebot if it has none of its own
-abbrev pub googlebot_checks : List LineValue → List (List ℕ) → List ℕ → List Check
-googlebot_checks lines agents name =
-    (cause.GooglebotGroup, is_given agents name && has_only_googlebots lines name) ∷ []
-
--- of these crawlers, the one with this name, which never gets the group of `*`
-abbrev pub star_checks : List LineValue → List (List ℕ) → List ℕ → List Check
-star_checks lines agents name =
-    (cause.GoogleIgnoresStar, is_given agents name && has_only_star lines name) ∷ []
+gets_nobodys lines agent =
+    list_any (λ name. str_eq_ignore_ascii_case name.now agent) IGNORING_STAR
+    && (not (is_named_at_google agent lines) && is_named (codes "*") lines)

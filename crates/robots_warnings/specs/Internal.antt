@@ -1,10 +1,6 @@
 -- The code's own types by value, and how lists of warnings grow.
-pub mod Closed
-pub mod Conflicts
 pub mod Names
-pub mod Repeated
-pub mod Replaced
-pub mod Spellings
+pub mod Rules
 pub mod Values
 pub mod Warned
 use Rattle.std.specs.Prelude.{◌≡◌, ℕ, ◌||◌, ◌++◌, List, Some, slice_get}

@@ -1,5 +1,6 @@
 -- The message of a warning as the parts of a line.
-use Rattle.std.specs.Prelude.{◌≡◌, ℕ, zero, suc, ◌<◌, Bool, true, false, List, [], ◌∷◌, Option, Some, None}
+use Rattle.std.specs.Prelude.{◌≡◌, ℕ, zero, suc, ◌<◌, Bool, true}
+use Rattle.std.specs.Prelude.{false, List, [], ◌∷◌, ◌++◌, Option, Some, None}
 use Rattle.std.specs.Prelude.{codes, length, slice_index_or}
 use Rattle.std.specs.List.{list_all}
 use Rattle.std.proofs.Common.{arith, refl}
@@ -19,21 +20,21 @@ use Rattle.robots_warnings.specs.WarningValue.{WarningValue}
 
 -- ---- fixed texts
 
--- if all texts are safe in a line, so is the one at an index
-safe_at : (texts : List (List ℕ)) (at : ℕ) → at < length texts → list_all is_fixed texts ≡ true
-    → is_fixed (slice_index_or texts at []) ≡ true
-safe_at [] at below all = absurd (omega (arith, below))
-safe_at (text ∷ texts) zero below all = (and_parts (is_fixed text) (list_all is_fixed texts) all).0
-safe_at (text ∷ texts) (suc at) below all =
-    safe_at texts at (omega (arith, below)) (and_parts (is_fixed text) (list_all is_fixed texts) all).1
+-- if all texts pass a test, so does the one at an index
+pub passes_at : (test : List ℕ → Bool) (texts : List (List ℕ)) (at : ℕ) → at < length texts
+    → list_all test texts ≡ true → test (slice_index_or texts at []) ≡ true
+passes_at test [] at below all = absurd (omega (arith, below))
+passes_at test (text ∷ texts) zero below all = (and_parts (test text) (list_all test texts) all).0
+passes_at test (text ∷ texts) (suc at) below all =
+    passes_at test texts at (omega (arith, below)) (and_parts (test text) (list_all test texts) all).1
 
 pub name_safe : (cause : Cause) → is_fixed (name_of cause) ≡ true
 unfolding name_of
-name_safe cause = safe_at all_names (number_of cause) (tag_small the_type cause) refl
+name_safe cause = passes_at is_fixed all_names (number_of cause) (tag_small the_type cause) refl
 
 pub text_safe : (cause : Cause) → is_fixed (text_of cause) ≡ true
 unfolding text_of
-text_safe cause = safe_at all_texts (number_of cause) (tag_small the_type cause) refl
+text_safe cause = passes_at is_fixed all_texts (number_of cause) (tag_small the_type cause) refl
 
 -- the name and the message of a warning
 abbrev pub fixed_name : Cause → Fixed
@@ -90,7 +91,5 @@ warning_text warning = parts_text (message_parts warning)
 -- the same, followed by the name of the warning
 abbrev pub reported_parts : WarningValue → List PartValue
 reported_parts warning =
-    about_part warning.cause warning.about ∷ reason_part warning.cause warning.about
-    ∷ detail_part warning.detail ∷ detail_end warning.detail
-    ∷ Part (label (codes " [") refl) (Word (fixed_name warning.cause))
-    ∷ only (codes "]") refl ∷ []
+    message_parts warning
+    ++ (Part (label (codes " [") refl) (Word (fixed_name warning.cause)) ∷ only (codes "]") refl ∷ [])

@@ -138,12 +138,3 @@ abbrev pub is_split : Preceding → Option (List ℕ) → Label → List LineVal
 is_split preceding above label lines =
     (is_agent label.line && is_delay preceding)
     && (begin_with_rules false lines && not (name_again above lines))
-
--- and its group is that of `*`, as in many healthy files
-abbrev pub is_split_from_star : Preceding → Option (List ℕ) → Label → List LineValue → Bool
-is_split_from_star preceding above label lines = is_split preceding above label lines && name_star lines
-
--- or it isn't
-abbrev pub is_split_from_others : Preceding → Option (List ℕ) → Label → List LineValue → Bool
-is_split_from_others preceding above label lines =
-    is_split preceding above label lines && not (name_star lines)

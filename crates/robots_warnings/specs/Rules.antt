@@ -1,7 +1,7 @@
 -- Conditions on the value of an Allow or a Disallow line.
 use Rattle.std.specs.Prelude.{ℕ, ◌+◌, ◌-◌, ◌*◌, ◌==◌, nat_eq, nat_lt, Bool, false}
 use Rattle.std.specs.Prelude.{not, ◌||◌, ◌&&◌, List, [], ◌∷◌, bytes_eq, codes}
-use Rattle.std.specs.Prelude.{if◌then◌else◌, length, slice_index}
+use Rattle.std.specs.Prelude.{length, slice_index}
 use Rattle.std.specs.Char.{digit_value, is_ascii_alphanumeric, is_ascii_hexdigit, is_ascii_lowercase}
 use Rattle.std.specs.List.{after_first, before_first, ends_with, list_any, starts_with}
 use Rattle.std.specs.Str.{byte}
@@ -35,19 +35,13 @@ begins_oddly (b ∷ value) = not (b == byte "/" || b == byte "*")
 
 -- ---- bytes that parsed URLs contain in another form
 
--- a byte that a parsed URL contains in a form other than an escaped rule does: it is escaped in only one of
--- them, or the URL has `/` for it, or nothing
-abbrev pub is_written_otherwise : Bool → ℕ → Bool
-is_written_otherwise in_query b =
-    if in_query then (b == byte "\t" || (b == byte "'" || b == byte "`"))
-    else (b == byte "\t" || (b == byte "\\" || (b == byte "^" || (b == byte "{" || b == byte "}"))))
-
--- the value contains such a byte; the query starts at the first `?`, although a star may match a `?` before
--- it
-abbrev pub holds_otherwise : Bool → List ℕ → Bool
-holds_otherwise in_query [] = false
-holds_otherwise in_query (b ∷ value) =
-    is_written_otherwise in_query b || holds_otherwise (in_query || b == byte "?") value
+-- the value contains, in its path or its query, a byte that a parsed URL contains in a form other than an
+-- escaped rule does: it is escaped in only one of them, or the URL has `/` for it, or nothing. The query
+-- starts at the first `?`, although a star may match a `?` before it
+abbrev pub holds_otherwise : List ℕ → Bool
+holds_otherwise value =
+    list_any (λ b. has b (codes "\t\\^{}")) (before_byte (byte "?") value)
+    || list_any (λ b. has b (codes "\t'`")) (after_byte (byte "?") value)
 
 -- ---- quotes
 
@@ -65,10 +59,6 @@ abbrev pub has_odd_start : List ℕ → Bool
 has_odd_start value = begins_oddly value && not (begins_as_url value || is_quoted value)
 
 -- ---- regular expressions
-
--- an alternative, such as `(a|b)`: a `)` after a `|` after a `(`
-abbrev pub has_choice : List ℕ → Bool
-has_choice value = has (byte ")") (after_byte (byte "|") (after_byte (byte "(") value))
 
 -- the text starts with a range, such as `[0-9]`
 abbrev pub begins_range : List ℕ → Bool
@@ -90,15 +80,16 @@ begins_any text =
 abbrev pub begins_sign : List ℕ → Bool
 begins_sign text = begins_range text || (begins_any text || begins_class text)
 
--- the value ends with a `+` after a dot, `]` or `)`; others are part of names such as `/canal+`
-abbrev pub has_final_plus : List ℕ → Bool
-has_final_plus value =
-    ends_with nat_eq value (codes ".+")
-    || (ends_with nat_eq value (codes "]+") || ends_with nat_eq value (codes ")+"))
-
--- the value has an alternative, contains a range, such a `.*` or a character class, or ends with such a `+`
+-- the value has an alternative, such as `(a|b)`: a `)` after a `|` after a `(`; or it contains a range,
+-- such a
+-- `.*` or a character class; or it ends with a `+` after a dot, `]` or `)`; others are part of names such as
+-- `/canal+`
 abbrev pub is_expression : List ℕ → Bool
-is_expression value = has_choice value || (somewhere begins_sign value || has_final_plus value)
+is_expression value =
+    has (byte ")") (after_byte (byte "|") (after_byte (byte "(") value))
+    || (somewhere begins_sign value
+    || (ends_with nat_eq value (codes ".+")
+    || (ends_with nat_eq value (codes "]+") || ends_with nat_eq value (codes ")+"))))
 
 -- ---- dollars
 
@@ -113,19 +104,15 @@ has_dollar_inside value =
 abbrev pub needs_no_escape : ℕ → Bool
 needs_no_escape b = is_ascii_alphanumeric b || has b (codes "-._~")
 
--- one of the hexadecimal digits is lowercase, or the byte that they mean needs no escape
-abbrev pub are_odd_digits : ℕ → ℕ → Bool
-are_odd_digits high low =
-    (is_ascii_lowercase high || is_ascii_lowercase low)
-    || needs_no_escape (digit_value high * 16 + digit_value low)
-
--- the text starts with a percent escape that has such digits
+-- the text starts with a percent escape one of whose digits is lowercase, or which means a byte that needs no
+-- escape
 abbrev pub begins_odd_escape : List ℕ → Bool
 begins_odd_escape text =
     let high = slice_index text 1 in
     let low = slice_index text 2 in
     (slice_index text 0 == byte "%" && (is_ascii_hexdigit high && is_ascii_hexdigit low))
-    && are_odd_digits high low
+    && ((is_ascii_lowercase high || is_ascii_lowercase low)
+    || needs_no_escape (digit_value high * 16 + digit_value low))
 
 -- ---- dot segments
 
@@ -134,7 +121,3 @@ abbrev pub begins_dot_segment : List ℕ → Bool
 begins_dot_segment text =
     starts_with nat_eq text (codes "/./") || starts_with nat_eq text (codes "/../")
     || bytes_eq text (codes "/.$") || bytes_eq text (codes "/..$")
-
--- the value contains such a segment before its first `?`
-abbrev pub has_dot_segment : List ℕ → Bool
-has_dot_segment value = somewhere begins_dot_segment (before_byte (byte "?") value)

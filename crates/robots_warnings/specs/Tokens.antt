@@ -1,7 +1,7 @@
 -- The name of a crawler, in a request or in a user-agent line.
 use Rattle.std.specs.Prelude.{ℕ, ◌-◌, ◌==◌, nat_eq, Bool, not, ◌||◌, ◌&&◌, List, bytes_eq, codes, length}
 use Rattle.std.specs.Prelude.{drop, if◌then◌else◌, take}
-use Rattle.std.specs.List.{ends_with, list_all, list_any}
+use Rattle.std.specs.List.{ends_with, list_all}
 use Rattle.std.specs.Char.{is_ascii_alphabetic, is_ascii_digit}
 use Rattle.std.specs.Str.{byte, str_eq_ignore_ascii_case, trim}
 use Rattle.robots_warnings.specs.Rules.{somewhere}
@@ -10,9 +10,6 @@ use Rattle.robots_warnings.specs.Urls.{begins_in_any_case}
 -- the text starts or ends with Unicode white space
 abbrev pub has_space_around : List ℕ → Bool
 has_space_around text = not (bytes_eq (trim text) text)
-
-abbrev pub has_slash : List ℕ → Bool
-has_slash text = list_any (λ b. b == byte "/") text
 
 -- the byte can occur in a product token: ASCII letters, `_` and `-`
 abbrev pub is_token_byte : ℕ → Bool
@@ -40,29 +37,16 @@ begins_crawler_word text =
     begins_in_any_case (codes "bot") text
     || (begins_in_any_case (codes "crawler") text || begins_in_any_case (codes "spider") text)
 
--- the text contains such a word, and isn't just `bot`
-abbrev pub is_another_name : List ℕ → Bool
-is_another_name text =
-    somewhere begins_crawler_word text && not (str_eq_ignore_ascii_case text (codes "bot"))
-
--- the text starts with `bot` and a space, and another name follows
+-- the text starts with `bot` and a space, and another name follows: such a word, but not just `bot`
 abbrev pub begins_names : List ℕ → Bool
-begins_names text = begins_in_any_case (codes "bot ") text && is_another_name (drop 4 text)
-
--- the value seems to be several names, such as `Googlebot Bingbot`, but not `Brightbot 1.0` or `Echobot Bot`
-abbrev pub seems_several_names : List ℕ → Bool
-seems_several_names value = somewhere begins_names value
+begins_names text =
+    begins_in_any_case (codes "bot ") text
+    && (somewhere begins_crawler_word (drop 4 text) && not (str_eq_ignore_ascii_case (drop 4 text) (codes "bot")))
 
 -- the value is written as names of real crawlers that aren't product tokens are, such as `MJ12bot`,
--- `Offline Explorer` and, with a star at its end, `Mediapartners-Google*`
+-- `Offline Explorer` and, with a star at its end, `Mediapartners-Google*`, and doesn't seem to be several
+-- names, as
+-- `Googlebot Bingbot` does, but not `Brightbot 1.0` or `Echobot Bot`
 abbrev pub is_usual_name : List ℕ → Bool
 is_usual_name value =
-    (not (length value == 0) && list_all is_name_byte (without_star value)) && not (seems_several_names value)
-
--- neither a product token nor such a name
-abbrev pub is_invalid_name : List ℕ → Bool
-is_invalid_name value = not (is_product_token value) && not (is_usual_name value)
-
--- such a name, and not a product token
-abbrev pub is_unusual_name : List ℕ → Bool
-is_unusual_name value = not (is_product_token value) && is_usual_name value
+    (not (length value == 0) && list_all is_name_byte (without_star value)) && not (somewhere begins_names value)

@@ -1,6 +1,5 @@
 -- Conditions on URLs and paths.
-use Rattle.std.specs.Prelude.{ℕ, nat_eq, Bool, ◌||◌, ◌&&◌, not, List, None, codes, is_err, length, take}
-use Rattle.std.specs.List.{starts_with}
+use Rattle.std.specs.Prelude.{ℕ, Bool, ◌||◌, ◌&&◌, not, List, None, codes, is_err, length, take}
 use Rattle.std.specs.Str.{is_utf8, str_eq_ignore_ascii_case}
 use Rattle.url.specs.Parser.{parse_url}
 
@@ -12,10 +11,6 @@ begins_in_any_case front text = str_eq_ignore_ascii_case (take (length front) te
 abbrev pub begins_as_url : List ℕ → Bool
 begins_as_url text =
     begins_in_any_case (codes "http://") text || begins_in_any_case (codes "https://") text
-
--- the text starts like an http(s) URL or a path
-abbrev pub is_url_or_path : List ℕ → Bool
-is_url_or_path text = starts_with nat_eq text (codes "/") || begins_as_url text
 
 -- the specification of `url` states that parsing the text fails
 abbrev pub is_unparsable : List ℕ → Bool

@@ -1,13 +1,14 @@
 -- All warnings about a file and a request, in the order of output.
-use Rattle.std.specs.Prelude.{ℕ, Bool, List, [], ◌∷◌, ◌++◌, Option, Some, None, flat_map}
+use Rattle.std.specs.Prelude.{ℕ, Bool, List, [], ◌∷◌, ◌++◌, ◌&&◌, Option, Some, None, codes, flat_map}
 use Rattle.std.specs.Prelude.{if◌then◌else◌, map, not, ◌||◌}
-use Rattle.texting_robots.specs.Callers.{LineValue, Label, bodies_read}
+use Rattle.texting_robots.specs.Callers.{LineValue, Label, bodies_read, is_named}
 use Rattle.robots_warnings.specs.declared.facts.FileFacts.{FileFacts}
 use Rattle.robots_warnings.specs.declared.positions.Preceding.{Preceding}
 use Rattle.robots_warnings.specs.declared.positions.Preceding.TheVariants.{Other}
 use Rattle.robots_warnings.specs.declared.table.Cause.{Cause}
 use Rattle.robots_warnings.specs.declared.table.Cause.TheVariants.{AllowedAndDisallowed, ClosesEverything}
 use Rattle.robots_warnings.specs.declared.table.Cause.TheVariants.{EmptyDisallow}
+use Rattle.robots_warnings.specs.declared.table.Cause.TheVariants.{GoogleIgnoresStar, GooglebotGroup}
 use Rattle.robots_warnings.specs.declared.table.Cause.TheVariants.{GroupPastSizeLimit}
 use Rattle.robots_warnings.specs.declared.table.Cause.TheVariants.{NonstandardEscape, RepeatedRule}
 use Rattle.robots_warnings.specs.declared.table.Cause.TheVariants.{ReplacesStar}
@@ -16,7 +17,7 @@ use Rattle.robots_warnings.specs.declared.warning.Detail.TheVariants.{Line, Rule
 use Rattle.robots_warnings.specs.Closed.{is_closed}
 use Rattle.robots_warnings.specs.Conflicts.{conflict, overruled}
 use Rattle.robots_warnings.specs.EmptyDisallows.{is_empty_at}
-use Rattle.robots_warnings.specs.Google.{googlebot_checks, like_googlebot, star_checks, ignoring_star}
+use Rattle.robots_warnings.specs.Google.{ignoring_star, is_given, is_named_at_google, like_googlebot}
 use Rattle.robots_warnings.specs.Checks.{Check, agent_checks, file_checks, line_checks, position_checks}
 use Rattle.robots_warnings.specs.Checks.{is_in_scope_of, url_checks}
 use Rattle.robots_warnings.specs.Facts.{suppresses_line_warnings}
@@ -117,21 +118,21 @@ crawler_warnings is_empty agents lines labels = flat_map
     (λ label. rule_warnings (conflict is_empty agents lines) (overruled is_empty agents lines)
     (is_closed agents lines) label.number) labels
 
--- warnings about one of Google's crawlers that gets the group of Googlebot, if it is among these
-abbrev pub googlebot_warnings : Bool → List (List ℕ) → List LineValue → List ℕ → List WarningValue
-googlebot_warnings everywhere agents lines name =
-    warned None (crawler_shown everywhere name) (googlebot_checks lines agents name)
-
--- the same of one that never gets the group of `*`
-abbrev pub star_warnings : Bool → List (List ℕ) → List LineValue → List ℕ → List WarningValue
-star_warnings everywhere agents lines name =
-    warned None (crawler_shown everywhere name) (star_checks lines agents name)
+-- this warning about the crawler with this name, if it is among these, Google reads its name in no line, and
+-- there is the group that Google applies or doesn't apply to it
+abbrev pub google_warning : Cause → (has_group : Bool) → (everywhere : Bool) → List (List ℕ) → List LineValue
+    → List ℕ → List WarningValue
+google_warning cause has_group everywhere agents lines name =
+    warned None (crawler_shown everywhere name)
+    ((cause, has_group && (is_given agents name && not (is_named_at_google name lines))) ∷ [])
 
 -- warnings about those of Google's crawlers that are among these, each once
 abbrev pub google_warnings : Bool → List (List ℕ) → List LineValue → List WarningValue
 google_warnings everywhere agents lines =
-    flat_map (googlebot_warnings everywhere agents lines) like_googlebot
-    ++ flat_map (star_warnings everywhere agents lines) ignoring_star
+    flat_map (google_warning GooglebotGroup (is_named_at_google (codes "Googlebot") lines) everywhere agents
+    lines) like_googlebot
+    ++ flat_map (google_warning GoogleIgnoresStar (is_named (codes "*") lines) everywhere agents lines)
+    ignoring_star
 
 -- warnings about the rules of a group or of a crawler as a whole
 abbrev pub group_warnings : Bool → List (List ℕ) → (bodies : List (List ℕ)) → List LineValue → List Label

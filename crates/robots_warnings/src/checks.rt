@@ -2,34 +2,27 @@
 ghost use Rattle.std.specs.Prelude.{◌≡◌, IfOk, map, option_map};
 ghost use Rattle.texting_robots.specs.Callers.{label_by_value};
 ghost use Rattle.robots_warnings.specs.FieldNames.{is_without_colon};
-ghost use Rattle.robots_warnings.specs.Checks.{agent_checks, delay_checks, delay_text_checks, field_checks, file_checks, ignored_checks, is_in_scope_of, position_checks, raw_rule_checks, rule_checks, sitemap_checks, space_checks, text_checks, url_checks, user_agent_checks};
+ghost use Rattle.robots_warnings.specs.Checks.{agent_checks, field_checks, file_checks, is_in_scope_of, position_checks, raw_rule_checks, rule_checks, sitemap_checks, text_checks, url_checks, user_agent_checks};
 ghost use Rattle.robots_warnings.specs.File.{lines_of};
 
-use crate::contents::{
-    has_odd_comment, has_odd_delay, has_odd_space, is_cut_short, is_cut_to_root,
-};
+use crate::contents::{has_odd_comment, has_odd_space, is_cut_short, is_cut_to_root};
 use crate::facts::FileFacts;
-use crate::field_names::{has_inner_field, is_misspelled, meant_by};
-use crate::positions::{
-    Preceding, is_above_agents, is_empty_group, is_other_delay, is_split_from_others,
-    is_split_from_star,
-};
+use crate::field_names::{begins_inner_field, is_misspelled};
+use crate::positions::{Preceding, is_empty_group, is_other_delay, is_split, name_star};
 use crate::rules::{
-    has_dollar_inside, has_dot_segment, has_odd_start, holds_otherwise, is_expression, is_quoted,
-    is_utf8,
+    before_byte, begins_dot_segment, begins_oddly, has, has_dollar_inside, holds_otherwise,
+    is_expression, is_quoted, is_utf8, somewhere,
 };
 use crate::several_values::has_several_values;
 use crate::table::Cause;
-use crate::tokens::{has_slash, has_space_around, is_invalid_name, is_unusual_name};
-use crate::urls::{begins_as_url, is_absolute_url, is_invalid_url, is_url_or_path};
+use crate::tokens::{has_space_around, is_product_token, is_usual_name};
+use crate::urls::{begins_as_url, is_absolute_url, is_invalid_url};
 use std::alloc::{AllocError, Global};
 use texting_robots::labels::{LabeledLine, Membership};
+use texting_robots::parser::Line;
 
 /// A warning, and whether its condition holds.
 pub(crate) type Check = (Cause, bool);
-
-/// Microseconds per day.
-const DAY: u64 = 86_400_000_000;
 
 /// Checks of a file.
 pub(crate) fn file_checks(facts: FileFacts) -> [Check; 8]
@@ -57,7 +50,7 @@ pub(crate) fn agent_checks(agent: &str) -> [Check; 3]
     [
         (Cause::EmptyAgent, agent.is_empty()),
         (Cause::SpaceAroundAgent, has_space_around(agent)),
-        (Cause::VersionInAgent, has_slash(agent)),
+        (Cause::VersionInAgent, has(b'/', agent.as_bytes())),
     ]
 }
 
@@ -65,17 +58,11 @@ pub(crate) fn agent_checks(agent: &str) -> [Check; 3]
 pub(crate) fn url_checks(alloc: Global, url: &str) -> Result<[Check; 2], AllocError>
     ensures { IfOk result (λ checks. checks ≡ url_checks url.now) }
 {
+    let begins = url.starts_with("/") || begins_as_url(url.as_bytes());
     Ok([
-        (Cause::NotAUrlOrPath, !is_url_or_path(url)),
+        (Cause::NotAUrlOrPath, !begins),
         (Cause::InvalidUrl, is_invalid_url(alloc, url)?),
     ])
-}
-
-/// Checks of the content of an ignored line that is neither empty nor a comment.
-pub(crate) fn ignored_checks(alloc: Global, body: &[u8]) -> Result<[Check; 1], AllocError>
-    ensures { IfOk result (λ checks. checks ≡ ignored_checks body.now) }
-{
-    Ok([(meant_by(alloc, body)?, true)])
 }
 
 /// Checks of the field name in the content of a directive, which has no colon after it if `lacks_colon` is true.
@@ -87,13 +74,6 @@ pub(crate) fn field_checks(body: &[u8], lacks_colon: bool) -> [Check; 2]
         (Cause::NonstandardField, is_misspelled(body)),
         (Cause::MissingColon, lacks_colon),
     ]
-}
-
-/// Checks of the white space around the value of a line with this tail.
-pub(crate) fn space_checks(value: &[u8], tail: &[u8]) -> [Check; 1]
-    ensures { result ≡ space_checks value.now tail.now }
-{
-    [(Cause::SpaceAroundValue, has_odd_space(value, tail))]
 }
 
 /// Checks of the white space and the comment after the value of an Allow or a Disallow. Comments are only checked if
@@ -119,20 +99,15 @@ pub(crate) fn raw_rule_checks(
     ]
 }
 
-/// Checks of how a delay is written.
-pub(crate) fn delay_text_checks(tail: &[u8]) -> [Check; 1]
-    ensures { result ≡ delay_text_checks tail.now }
-{
-    [(Cause::DelayNotation, has_odd_delay(tail))]
-}
-
 /// Checks of the value of a user-agent line.
 pub(crate) fn user_agent_checks(value: &[u8]) -> [Check; 2]
     ensures { result ≡ user_agent_checks value.now }
 {
+    let is_other = !is_product_token(value);
+    let is_usual = is_usual_name(value);
     [
-        (Cause::InvalidProductToken, is_invalid_name(value)),
-        (Cause::UnusualProductToken, is_unusual_name(value)),
+        (Cause::InvalidProductToken, is_other && !is_usual),
+        (Cause::UnusualProductToken, is_other && is_usual),
     ]
 }
 
@@ -148,24 +123,23 @@ pub(crate) fn rule_checks(value: &[u8]) -> [Check; 9]
     ensures { result ≡ rule_checks value.now }
 {
     let is_utf8 = is_utf8(value);
+    let is_url = begins_as_url(value);
+    let is_quoted = is_quoted(value);
+    let has_dots = somewhere(before_byte(b'?', value), begins_dot_segment);
     [
         (Cause::RuleNotUtf8, !is_utf8),
-        (Cause::MissingSlash, has_odd_start(value)),
-        (Cause::UrlAsRule, begins_as_url(value)),
+        (
+            Cause::MissingSlash,
+            begins_oddly(value) && !(is_url || is_quoted),
+        ),
+        (Cause::UrlAsRule, is_url),
         (Cause::UnencodedCharacter, holds_otherwise(value)),
-        (Cause::QuotedRule, is_quoted(value)),
+        (Cause::QuotedRule, is_quoted),
         (Cause::RegexSyntax, is_expression(value)),
         (Cause::DollarNotAtEnd, has_dollar_inside(value)),
-        (Cause::DotSegment, has_dot_segment(value)),
+        (Cause::DotSegment, has_dots),
         (Cause::SeveralValues, is_utf8 && has_several_values(value)),
     ]
-}
-
-/// Checks of a delay in microseconds.
-pub(crate) fn delay_checks(micros: u64) -> [Check; 1]
-    ensures { result ≡ delay_checks micros }
-{
-    [(Cause::DelayOverADay, micros > DAY)]
 }
 
 /// Checks of the value of a sitemap line.
@@ -182,8 +156,9 @@ pub(crate) fn sitemap_checks(alloc: Global, value: &[u8]) -> Result<[Check; 2], 
 pub(crate) fn text_checks(tail: &[u8], comment: &[u8]) -> [Check; 2]
     ensures { result ≡ text_checks tail.now comment.now }
 {
+    let has_field = has(b':', tail) && somewhere(tail, begins_inner_field);
     [
-        (Cause::OneLine, has_inner_field(tail)),
+        (Cause::OneLine, has_field),
         (Cause::ControlInComment, has_odd_comment(comment)),
     ]
 }
@@ -201,17 +176,15 @@ pub(crate) fn position_checks(
     ensures { result ≡ position_checks last preceding (option_map (λ name. name.now) above.entry) delay
         (label_by_value labeled.now) (lines_of (map label_by_value from_here.now)) }
 {
+    let is_rule = matches!(labeled.line, Line::Allow(_) | Line::Disallow(_));
+    let is_above_agents = is_rule && labeled.membership == Membership::Ungrouped;
+    let is_split = is_split(preceding, above, labeled, from_here);
+    let is_star = is_split && name_star(from_here);
     [
-        (Cause::RuleBeforeUserAgent, is_above_agents(labeled)),
+        (Cause::RuleBeforeUserAgent, is_above_agents),
         (Cause::EmptyGroup, is_empty_group(last, labeled)),
-        (
-            Cause::DelaySplitsGroup,
-            is_split_from_others(preceding, above, labeled, from_here),
-        ),
-        (
-            Cause::DelayAboveStar,
-            is_split_from_star(preceding, above, labeled, from_here),
-        ),
+        (Cause::DelaySplitsGroup, is_split && !is_star),
+        (Cause::DelayAboveStar, is_star),
         (Cause::TwoDelays, is_other_delay(delay, labeled)),
     ]
 }

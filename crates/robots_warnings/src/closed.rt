@@ -1,16 +1,14 @@
 //! Rules that leave nothing but `/robots.txt` to a crawler.
-ghost use Rattle.std.specs.Prelude.{◌≡◌, ◌==◌, ◌||◌, ℕ, IfOk, OnOk, map, string_bytes};
+ghost use Rattle.std.specs.Prelude.{◌≡◌, ◌==◌, ◌||◌, ℕ, OnOk};
 ghost use Rattle.std.specs.BTreeSet.{contains};
-ghost use Rattle.std.specs.List.{list_all};
+ghost use Rattle.std.specs.List.{list_all, list_any};
 ghost use Rattle.std.specs.Ordering.{nat_cmp};
 ghost use Rattle.std.specs.Str.{byte};
 ghost use Rattle.texting_robots.specs.Callers.{file_lines, placed_rules};
-ghost use Rattle.robots_warnings.specs.Closed.{is_closed, is_closed_for, is_closing, is_opening, is_whole_site};
-ghost use Rattle.robots_warnings.specs.Internal.Closed.{is_shut};
+ghost use Rattle.robots_warnings.specs.Closed.{is_closed_for, is_closing, is_opening, is_whole_site};
 
 use crate::numbers::{Numbers, insert_if};
-use std::alloc::{AllocError, Global};
-use std::collections::BTreeSet;
+use std::alloc::AllocError;
 use texting_robots::site::{Site, SiteRule};
 
 /// Whether all bytes are stars.
@@ -31,7 +29,7 @@ pub(crate) fn is_whole_site(value: &[u8]) -> bool
 }
 
 /// Whether the rule is a Disallow of the whole site.
-#[tactic(auto, using(crate::proofs::ClosedLemmas::whole_site_escaped))]
+#[tactic(auto, using(crate::proofs::RuleLemmas::whole_site_escaped))]
 pub(crate) fn is_closing(rule: &SiteRule<'_>) -> bool
     ensures { result ≡ is_closing rule.now }
 {
@@ -39,49 +37,35 @@ pub(crate) fn is_closing(rule: &SiteRule<'_>) -> bool
 }
 
 /// Whether the rule is an Allow whose pattern isn't empty.
-#[tactic(auto, using(crate::proofs::ClosedLemmas::none_escaped))]
+#[tactic(auto, using(crate::proofs::RuleLemmas::none_escaped))]
 fn is_opening(rule: &SiteRule<'_>) -> bool
     ensures { result ≡ is_opening rule.now }
 {
     rule.is_allow && !rule.value.is_empty()
 }
 
-/// Whether a rule of the crawler is a Disallow of the whole site, and none is such an Allow.
-fn is_shut(site: &Site, agent: &str) -> bool
-    ensures { result ≡ is_shut (placed_rules agent.now (file_lines site.now)) }
+/// Whether a rule of the crawler is such an Allow.
+fn is_opened(site: &Site, agent: &str) -> bool
+    ensures { result ≡ list_any is_opening (placed_rules agent.now (file_lines site.now)) }
 {
-    let mut is = false;
     for rule in site.rules(agent) {
         if is_opening(&rule) {
-            return false;
+            return true;
         }
-        is |= is_closing(&rule);
     }
-    is
+    false
 }
 
 /// Inserts the line numbers of the Disallows of the whole site that apply to the crawler, unless such an Allow does.
-fn add_closed(numbers: &mut Numbers, site: &Site, agent: &str) -> Result<(), AllocError>
+pub(crate) fn add_closed(numbers: &mut Numbers, site: &Site, agent: &str) -> Result<(), AllocError>
     ensures { OnOk result ((number : ℕ) → contains nat_cmp numbers.new number
         ≡ (contains nat_cmp numbers.old number || is_closed_for (file_lines site.now) number agent.now)) }
 {
-    if !is_shut(site, agent) {
+    if is_opened(site, agent) {
         return Ok(());
     }
     for rule in site.rules(agent) {
         insert_if(numbers, is_closing(&rule), rule.line)?;
     }
     Ok(())
-}
-
-/// The line numbers of the rules that leave nothing but `/robots.txt` to one of these crawlers.
-pub(crate) fn closed(alloc: Global, site: &Site, agents: &[String]) -> Result<Numbers, AllocError>
-    ensures { IfOk result (λ numbers. (number : ℕ) → contains nat_cmp numbers number
-        ≡ is_closed (map string_bytes agents.now) (file_lines site.now) number) }
-{
-    let mut numbers = BTreeSet::new(alloc);
-    for agent in agents {
-        add_closed(&mut numbers, site, agent)?;
-    }
-    Ok(numbers)
 }

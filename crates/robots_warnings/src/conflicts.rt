@@ -7,12 +7,13 @@ ghost use Rattle.std.specs.Option.{option_or};
 ghost use Rattle.std.specs.Ordering.{nat_cmp};
 ghost use Rattle.std.specs.Str.{bytes_eq};
 ghost use Rattle.texting_robots.specs.Callers.{PlacedRule, file_lines, placed_rules};
-ghost use Rattle.robots_warnings.specs.Conflicts.{allow_beside, compared, conflict, conflict_for, first_line, is_like, overruled, overruled_for, overruling};
-ghost use Rattle.robots_warnings.specs.Internal.Conflicts.{AddsLine, HasFirst, Notes};
+ghost use Rattle.robots_warnings.specs.Conflicts.{allow_beside, compared, conflict_for, first_line, is_like, overruled_for, overruling};
+ghost use Rattle.robots_warnings.specs.Internal.Rules.{AddsLine, AreOf, HasFirst, Notes};
 
+use crate::closed::add_closed;
 use crate::numbers::Numbers;
 use std::alloc::{AllocError, Global};
-use std::collections::{BTreeMap, HashMap};
+use std::collections::{BTreeMap, BTreeSet, HashMap};
 use texting_robots::site::{Site, SiteRule};
 
 /// For a pattern, as it is compared, the line of the first Allow with it.
@@ -101,49 +102,15 @@ fn allow_beside(
     if rule.is_allow {
         return Ok(None);
     }
+    if allowed.is_empty() {
+        return Ok(None);
+    }
     let pattern = compared_pattern(alloc, rule)?;
     Ok(allowed.get(pattern.as_str()).copied())
 }
 
-/// Inserts the lines of the Disallows that apply to the crawler, as does an Allow of the same.
-fn add_conflicts(
-    alloc: Global,
-    others: &mut Others,
-    site: &Site,
-    agent: &str,
-    empty: &Numbers,
-) -> Result<(), AllocError>
-    ensures { OnOk result ((number : ℕ) → get nat_cmp others.new number
-        ≡ option_or (get nat_cmp others.old number)
-        (conflict_for (contains nat_cmp empty.now) (file_lines site.now) number agent.now)) }
-{
-    let allowed = first_allows(alloc, site, agent, empty)?;
-    for rule in site.rules(agent) {
-        let other = allow_beside(alloc, &allowed, &rule)?;
-        note(others, rule.line, other)?;
-    }
-    Ok(())
-}
-
-/// For the Disallows that apply to one of these crawlers, as does an Allow of the same, the line of this Allow.
-pub(crate) fn conflicts(
-    alloc: Global,
-    site: &Site,
-    agents: &[String],
-    empty: &Numbers,
-) -> Result<Others, AllocError>
-    ensures { IfOk result (λ others. (number : ℕ) → get nat_cmp others number
-        ≡ conflict (contains nat_cmp empty.now) (map string_bytes agents.now) (file_lines site.now) number) }
-{
-    let mut others = BTreeMap::new(alloc);
-    for agent in agents {
-        add_conflicts(alloc, &mut others, site, agent, empty)?;
-    }
-    Ok(others)
-}
-
 /// Whether the rule is of this kind, its value is `/` or `*`, and it is no empty Disallow.
-#[tactic(auto, using(crate::proofs::ConflictLemmas::slash_or_star))]
+#[tactic(auto, using(crate::proofs::RuleLemmas::slash_or_star))]
 fn is_of_all(rule: &SiteRule<'_>, is_allow: bool, empty: &Numbers) -> bool
     ensures { result ≡ is_like (contains nat_cmp empty.now) is_allow (codes "/") rule.now }
 {
@@ -175,40 +142,66 @@ fn overruling(site: &Site, agent: &str, empty: &Numbers) -> Option<usize>
     }
 }
 
-/// Inserts the lines of the empty Disallows that apply to the crawler, as does such a Disallow.
-fn add_overruled(
-    others: &mut Others,
+/// Inserts the lines of the Disallows that apply to the crawler, as does an Allow of the same, and of the empty Disallows
+/// that apply to it, as does such a Disallow.
+fn add_others(
+    alloc: Global,
+    conflicts: &mut Others,
+    overruled: &mut Others,
     site: &Site,
     agent: &str,
     empty: &Numbers,
 ) -> Result<(), AllocError>
-    ensures { OnOk result ((number : ℕ) → get nat_cmp others.new number
-        ≡ option_or (get nat_cmp others.old number)
+    ensures conflicts { OnOk result ((number : ℕ) → get nat_cmp conflicts.new number
+        ≡ option_or (get nat_cmp conflicts.old number)
+        (conflict_for (contains nat_cmp empty.now) (file_lines site.now) number agent.now)) }
+    ensures overruled { OnOk result ((number : ℕ) → get nat_cmp overruled.new number
+        ≡ option_or (get nat_cmp overruled.old number)
         (overruled_for (contains nat_cmp empty.now) (file_lines site.now) number agent.now)) }
 {
+    let allowed = first_allows(alloc, site, agent, empty)?;
     let other = overruling(site, agent, empty);
     for rule in site.rules(agent) {
+        let allow = allow_beside(alloc, &allowed, &rule)?;
+        note(conflicts, rule.line, allow)?;
         if rule.is_allow && empty.contains(&rule.line) {
-            note(others, rule.line, other)?;
+            note(overruled, rule.line, other)?;
         }
     }
     Ok(())
 }
 
-/// For the empty Disallows that apply to one of these crawlers, as does a Disallow of `/` or `*` and no Allow of these,
-/// the line of this Disallow.
-pub(crate) fn overruled(
+/// What is to be said about lines with rules of some crawlers.
+#[derive(Drop)]
+pub(crate) struct RuleLines {
+    /// For the Disallows that apply to one of the crawlers, as does an Allow of the same, the line of this Allow.
+    pub(crate) conflicts: Others,
+    /// For the empty Disallows that apply to one of them, as does a Disallow of `/` or `*` and no Allow of these, the
+    /// line of this Disallow.
+    pub(crate) overruled: Others,
+    /// The rules that leave nothing but `/robots.txt` to one of them.
+    pub(crate) closed: Numbers,
+}
+
+/// What is to be said about the rules of these crawlers.
+pub(crate) fn rule_lines(
     alloc: Global,
     site: &Site,
     agents: &[String],
     empty: &Numbers,
-) -> Result<Others, AllocError>
-    ensures { IfOk result (λ others. (number : ℕ) → get nat_cmp others number
-        ≡ overruled (contains nat_cmp empty.now) (map string_bytes agents.now) (file_lines site.now) number) }
+) -> Result<RuleLines, AllocError>
+    ensures { IfOk result (AreOf (contains nat_cmp empty.now) (map string_bytes agents.now) (file_lines site.now)) }
 {
-    let mut others = BTreeMap::new(alloc);
+    let mut conflicts = BTreeMap::new(alloc);
+    let mut overruled = BTreeMap::new(alloc);
+    let mut closed = BTreeSet::new(alloc);
     for agent in agents {
-        add_overruled(&mut others, site, agent, empty)?;
+        add_others(alloc, &mut conflicts, &mut overruled, site, agent, empty)?;
+        add_closed(&mut closed, site, agent)?;
     }
-    Ok(others)
+    Ok(RuleLines {
+        conflicts,
+        overruled,
+        closed,
+    })
 }

@@ -4,29 +4,19 @@ ghost use Rattle.std.specs.Prelude.{◌≡◌};
 ghost use Rattle.std.specs.Char.{is_ascii_digit};
 ghost use Rattle.std.specs.List.{list_all, list_any};
 ghost use Rattle.robots_warnings.specs.Contents.{are_digits, comment_of, has_odd_comment, has_odd_delay, has_odd_space};
-ghost use Rattle.robots_warnings.specs.Contents.{has_path_in_comment, is_control, is_cut, is_cut_short, is_cut_to_root};
-ghost use Rattle.robots_warnings.specs.Contents.{is_plain_number, raw_value, tail_of};
-ghost use Rattle.robots_warnings.specs.File.{hash};
-ghost use Rattle.robots_warnings.specs.Rules.{before_byte};
+ghost use Rattle.robots_warnings.specs.Contents.{is_control, is_cut, is_cut_short, is_cut_to_root, raw_value, tail_of};
 
 use crate::closed::is_whole_site;
 use crate::field_names::{without_end, without_front};
 use crate::rules::{after_byte, before_byte, begins_oddly, has, is_utf8, place};
 
-/// What precedes the comment, and the comment, which starts with `#` and is empty if there is none.
-fn split_comment<'a>(body: &'a [u8]) -> (&'a [u8], &'a [u8])
-    ensures text { result.0.now ≡ before_byte hash body.now }
-    ensures comment { result.1.now ≡ comment_of body.now }
-{
-    body.split_at(place(b'#', body))
-}
-
-/// The tail, which is between the first colon and the comment, and the comment.
+/// The tail, which is between the first colon and the comment, and the comment, which starts with `#` and is empty if
+/// there is none.
 pub(crate) fn split_content<'a>(body: &'a [u8]) -> (&'a [u8], &'a [u8])
     ensures tail { result.0.now ≡ tail_of body.now }
     ensures comment { result.1.now ≡ comment_of body.now }
 {
-    let (text, comment) = split_comment(body);
+    let (text, comment) = body.split_at(place(b'#', body));
     (after_byte(b':', text), comment)
 }
 
@@ -52,18 +42,14 @@ fn is_cut(value: &[u8], tail: &[u8], comment: &[u8]) -> bool
     !comment.is_empty() && !value.is_empty() && tail.ends_with(value)
 }
 
-/// Whether nothing precedes the comment, which is written as a path.
-fn has_path_in_comment(tail: &[u8], comment: &[u8]) -> bool
-    ensures { result ≡ has_path_in_comment tail.now comment.now }
-{
-    (comment.starts_with(b"#/") || comment.starts_with(b"#!/")) && raw_value(tail).is_empty()
-}
-
-/// Whether a comment leaves a rule for the whole site, or an empty Disallow.
+/// Whether a comment leaves a rule for the whole site, or an empty Disallow: it directly follows the value, or nothing
+/// precedes it, and it is written as a path.
 pub(crate) fn is_cut_to_root(value: &[u8], tail: &[u8], comment: &[u8]) -> bool
     ensures { result ≡ is_cut_to_root value.now tail.now comment.now }
 {
-    (is_cut(value, tail, comment) || has_path_in_comment(tail, comment)) && is_whole_site(value)
+    let is_path = comment.starts_with(b"#/") || comment.starts_with(b"#!/");
+    (is_cut(value, tail, comment) || (is_path && raw_value(tail).is_empty()))
+        && is_whole_site(value)
 }
 
 /// Whether a comment directly follows the value of a rule that is read and matches some paths, but not the whole site.
@@ -87,37 +73,19 @@ fn are_digits(text: &[u8]) -> bool
     !text.is_empty() && are_all_digits(text)
 }
 
-/// Whether the text is digits, possibly with a point and more digits.
-fn is_plain_number(text: &[u8]) -> bool
-    ensures { result ≡ is_plain_number text.now }
-{
-    are_digits(before_byte(b'.', text)) && (!has(b'.', text) || are_digits(after_byte(b'.', text)))
-}
-
-/// Whether a delay is written in another way.
+/// Whether a delay isn't written as digits, possibly with a point and more digits.
 pub(crate) fn has_odd_delay(tail: &[u8]) -> bool
     ensures { result ≡ has_odd_delay tail.now }
 {
-    !is_plain_number(raw_value(tail))
+    let raw = raw_value(tail);
+    !(are_digits(before_byte(b'.', raw)) && (!has(b'.', raw) || are_digits(after_byte(b'.', raw))))
 }
 
-/// Whether the byte is a control character of ASCII other than a tab and DEL.
-fn is_control(byte: u8) -> bool
-    ensures { result ≡ is_control byte }
-{
-    (byte < b' ') & (byte != b'\t')
-}
-
-/// Whether the text contains such a character. It tests all bytes without an early exit, so that the compiler can
-/// vectorize the loop.
+/// Whether the text contains a control character of ASCII other than a tab and DEL.
 fn has_control(text: &[u8]) -> bool
     ensures { result ≡ list_any is_control text.now }
 {
-    let mut has = false;
-    for byte in text {
-        has |= is_control(*byte);
-    }
-    has
+    text.iter().any(|byte| *byte < b' ' && *byte != b'\t')
 }
 
 /// Whether the comment contains such a character or isn't UTF-8.

@@ -1,5 +1,5 @@
 //! What the warnings have to know about a file as a whole.
-ghost use Rattle.std.specs.Prelude.{◌≡◌, ◌==◌, ◌||◌, map, not, take};
+ghost use Rattle.std.specs.Prelude.{◌≡◌, ◌==◌, ◌||◌, map, not};
 ghost use Rattle.std.specs.List.{list_any};
 ghost use Rattle.texting_robots.specs.Callers.{by_value, label_by_value};
 ghost use Rattle.robots_warnings.specs.Facts.{facts_by, facts_of, has_text, suppresses_line_warnings, is_too_large, is_unknown};
@@ -7,13 +7,10 @@ ghost use Rattle.robots_warnings.specs.Facts.{has_damaged_mark, has_nul, kinds_o
 ghost use Rattle.robots_warnings.specs.File.{lines_of};
 ghost use Rattle.robots_warnings.specs.Internal.{kinds_with};
 
-use crate::file::{counted, is_blank};
+use crate::file::{counted, first, is_blank};
 use texting_robots::labels::LabeledLine;
 use texting_robots::parser::Line;
 use texting_robots::robot::FILE_LIMIT;
-
-/// How many bytes at the start of a file are examined to detect UTF-16.
-const FIRST: usize = 64;
 
 /// Which kinds of lines a file has.
 #[derive(Clone, Copy, PartialEq, Eq)]
@@ -71,7 +68,7 @@ fn kinds_with(kinds: LineKinds, line: Line<'_>) -> LineKinds
 }
 
 /// The kinds of the lines.
-#[tactic(auto, using(crate::proofs::FactLemmas::kinds_next))]
+#[tactic(auto, using(crate::proofs::StepLemmas::kinds_next))]
 fn kinds_of(labels: &[LabeledLine<'_>]) -> LineKinds
     ensures { result ≡ kinds_of (lines_of (map label_by_value labels.now)) }
 {
@@ -95,7 +92,7 @@ fn is_as_due(is_due: bool, byte: u8) -> bool
 }
 
 /// Whether every other byte is NUL, from the first one on if `here`, else from the second one on.
-#[tactic(auto, using(crate::proofs::FactLemmas::nul_from))]
+#[tactic(auto, using(crate::proofs::StepLemmas::nul_from))]
 fn has_nuls(here: bool, bytes: &[u8]) -> bool
     ensures { result ≡ nul_at_every_other here bytes.now }
 {
@@ -109,18 +106,11 @@ fn has_nuls(here: bool, bytes: &[u8]) -> bool
     true
 }
 
-/// The first 64 bytes of a file, or all if it is shorter.
-fn first_bytes<'a>(file: &'a [u8]) -> &'a [u8]
-    ensures { result.now ≡ take 64 file.now }
-{
-    &file[..FIRST.min(file.len())]
-}
-
 /// Whether the file looks like UTF-16.
 fn seems_utf_16(file: &[u8]) -> bool
     ensures { result ≡ seems_utf_16 file.now }
 {
-    let first = first_bytes(file);
+    let first = first(64, file);
     file.starts_with(&[0xff, 0xfe])
         || file.starts_with(&[0xfe, 0xff])
         || (file.len() >= 4 && (has_nuls(true, first) || has_nuls(false, first)))

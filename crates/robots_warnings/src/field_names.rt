@@ -1,12 +1,14 @@
 //! Field names: which one was probably intended in an ignored line, and what is unusual about that of a directive.
 ghost use Rattle.std.specs.Prelude.{◌≡◌, ◌≤◌, IfOk, length, map};
 ghost use Rattle.std.specs.List.{list_any, position_or_len};
-ghost use Rattle.robots_warnings.specs.FieldNames.{begins_field, begins_inner_field, begins_with, directive_in, has_inner_field, first_that, first_word, is_accepted, is_either, is_any_accepted, is_misspelled, is_name};
-ghost use Rattle.robots_warnings.specs.FieldNames.{is_near, is_space_or_tab, is_without_colon, may_either_mean, may_mean};
-ghost use Rattle.robots_warnings.specs.FieldNames.{meant_among, meant_by, name_in, without_end, without_front};
+ghost use Rattle.robots_warnings.specs.FieldNames.{begins_field, begins_inner_field, begins_with, directive_in};
+ghost use Rattle.robots_warnings.specs.FieldNames.{first_that, first_word, is_accepted, is_any_accepted, is_either, is_misspelled, is_name};
+ghost use Rattle.robots_warnings.specs.FieldNames.{is_space_or_tab, is_without_colon, may_either_mean, may_mean, meant_by, name_in};
+ghost use Rattle.robots_warnings.specs.FieldNames.{without_end, without_front};
 ghost use Rattle.robots_warnings.specs.Internal.{name_value};
 
-use crate::rules::{before_byte, has, somewhere};
+use crate::file::first;
+use crate::rules::before_byte;
 use crate::table::Cause;
 use std::alloc::{AllocError, Global};
 use strsim::generic_levenshtein;
@@ -44,13 +46,6 @@ const KINDS: [Kind; 5] = [
     Kind::CrawlDelay,
 ];
 
-/// Whether a byte is a space or a tab.
-fn is_space_or_tab(byte: u8) -> bool
-    ensures { result ≡ is_space_or_tab byte }
-{
-    byte == b' ' || byte == b'\t'
-}
-
 /// The text without leading spaces and tabs.
 pub(crate) fn without_front<'a>(text: &'a [u8]) -> &'a [u8]
     ensures { result.now ≡ without_front text.now }
@@ -86,7 +81,7 @@ fn word_len(text: &[u8]) -> usize
     ensures within { result ≤ length text.now }
 {
     text.iter()
-        .take_while(|byte| !is_space_or_tab(**byte))
+        .take_while(|byte| !(**byte == b' ' || **byte == b'\t'))
         .count()
 }
 
@@ -110,7 +105,7 @@ fn is_name(name: &str, word: &[u8]) -> bool
 fn begins_with(name: &str, word: &[u8]) -> bool
     ensures { result ≡ begins_with name.now word.now }
 {
-    is_name(name, &word[..name.len().min(word.len())])
+    is_name(name, first(name.len(), word))
 }
 
 /// Whether the token is one of the accepted names of this kind of directive.
@@ -125,10 +120,14 @@ fn is_accepted(kind: Kind, word: &[u8]) -> bool
     false
 }
 
-/// Whether the token, in lower case, has an edit distance of at most 2 from the name.
-fn is_near(alloc: Global, name: &str, word: &[u8]) -> Result<bool, AllocError>
-    ensures { IfOk result (λ answer. answer ≡ is_near name.now word.now) }
+/// Whether the token starts with the name or is similar to it: in lower case, it has an edit distance of at most 2 from
+/// it.
+fn may_mean(alloc: Global, name: &str, word: &[u8]) -> Result<bool, AllocError>
+    ensures { IfOk result (λ answer. answer ≡ may_mean name.now word.now) }
 {
+    if begins_with(name, word) {
+        return Ok(true);
+    }
     if name.len().abs_diff(word.len()) > 2 {
         return Ok(false);
     }
@@ -136,19 +135,17 @@ fn is_near(alloc: Global, name: &str, word: &[u8]) -> Result<bool, AllocError>
     Ok(generic_levenshtein(alloc, &lowered, name.as_bytes())? <= 2)
 }
 
-/// Whether the token starts with the name or is similar to it.
-fn may_mean(alloc: Global, name: &str, word: &[u8]) -> Result<bool, AllocError>
-    ensures { IfOk result (λ answer. answer ≡ may_mean name.now word.now) }
-{
-    Ok(begins_with(name, word) || is_near(alloc, name, word)?)
-}
-
-/// Whether a line's field name `name`, or its first token `word`, is the known name.
+/// The warning for the first of these names that is the field name `name` or the first token `word`.
 #[tactic(auto, unfolding(crate::specs::FieldNames::is_either))]
-fn is_either(name: &[u8], word: &[u8], known: &str) -> bool
-    ensures { result ≡ is_either name.now word.now known.now }
+fn first_in(names: &[(&str, Cause)], name: &[u8], word: &[u8]) -> Option<Cause>
+    ensures { result ≡ first_that (is_either name.now word.now) (map name_value names.now) }
 {
-    is_name(known, name) || is_name(known, word)
+    for (known, cause) in names {
+        if is_name(known, name) || is_name(known, word) {
+            return Some(*cause);
+        }
+    }
+    None
 }
 
 /// Whether a line's field name `name`, or its first token `word`, starts with the known name or is similar to it.
@@ -157,18 +154,6 @@ fn may_either_mean(alloc: Global, name: &[u8], word: &[u8], known: &str) -> Resu
     ensures { IfOk result (λ answer. answer ≡ may_either_mean name.now word.now known.now) }
 {
     Ok(may_mean(alloc, known, name)? || may_mean(alloc, known, word)?)
-}
-
-/// The warning for the first of these names that is the field name or the first token.
-fn first_in(names: &[(&str, Cause)], name: &[u8], word: &[u8]) -> Option<Cause>
-    ensures { result ≡ first_that (is_either name.now word.now) (map name_value names.now) }
-{
-    for (known, cause) in names {
-        if is_either(name, word, known) {
-            return Some(*cause);
-        }
-    }
-    None
 }
 
 /// The warning for the first directive with which one of the two starts or to which it is similar.
@@ -183,10 +168,11 @@ fn directive_in(alloc: Global, name: &[u8], word: &[u8]) -> Result<Option<Cause>
     Ok(None)
 }
 
-/// The warning for an ignored line with this field name and this first token.
-fn meant_among(alloc: Global, name: &[u8], word: &[u8]) -> Result<Cause, AllocError>
-    ensures { IfOk result (λ cause. cause ≡ meant_among name.now word.now) }
+/// The warning for an ignored line with this content.
+pub(crate) fn meant_by(alloc: Global, body: &[u8]) -> Result<Cause, AllocError>
+    ensures { IfOk result (λ cause. cause ≡ meant_by body.now) }
 {
+    let (name, word) = (name_in(body), first_word(body));
     if is_accepted(Kind::CrawlDelay, name) || is_accepted(Kind::CrawlDelay, word) {
         return Ok(Cause::InvalidDelay);
     }
@@ -197,13 +183,6 @@ fn meant_among(alloc: Global, name: &[u8], word: &[u8]) -> Result<Cause, AllocEr
         Some(cause) => Ok(cause),
         None => Ok(Cause::UnrecognizedLine),
     }
-}
-
-/// The warning for an ignored line with this content.
-pub(crate) fn meant_by(alloc: Global, body: &[u8]) -> Result<Cause, AllocError>
-    ensures { IfOk result (λ cause. cause ≡ meant_by body.now) }
-{
-    meant_among(alloc, name_in(body), first_word(body))
 }
 
 /// Whether the text starts with one of these names.
@@ -220,42 +199,28 @@ pub(crate) fn is_misspelled(body: &[u8]) -> bool
     !begins_with_any(&DIRECTIVES, without_front(body))
 }
 
+/// Whether the text starts with one of these names and a colon.
+fn begins_field(names: &[(&str, Cause)], text: &[u8]) -> bool
+    ensures { result ≡ list_any (λ row. begins_field row.0.now text.now) names.now }
+{
+    names.iter().any(|(name, _)| begins_with(name, text) && text.get(name.len()) == Some(&b':'))
+}
+
+/// Whether the text starts with a space, a tab or a star, one of the usual names and a colon.
+pub(crate) fn begins_inner_field(text: &[u8]) -> bool
+    ensures { result ≡ begins_inner_field text.now }
+{
+    match text {
+        [b' ' | b'\t' | b'*', after @ ..] => begins_field(&DIRECTIVES, after),
+        _ => false,
+    }
+}
+
 /// Whether the token is an accepted name of a directive.
 fn is_any_accepted(word: &[u8]) -> bool
     ensures { result ≡ is_any_accepted word.now }
 {
     KINDS.iter().any(|kind| is_accepted(*kind, word))
-}
-
-/// Whether the text starts with the name and a colon.
-fn begins_field(name: &str, text: &[u8]) -> bool
-    ensures { result ≡ begins_field name.now text.now }
-{
-    begins_with(name, text) && text.get(name.len()) == Some(&b':')
-}
-
-/// Whether the text starts with one of these names and a colon.
-fn begins_any_field(names: &[(&str, Cause)], text: &[u8]) -> bool
-    ensures { result ≡ list_any (λ row. begins_field row.0.now text.now) names.now }
-{
-    names.iter().any(|row| begins_field(row.0, text))
-}
-
-/// Whether the text starts with a space, a tab or a star, one of the usual names and a colon.
-fn begins_inner_field(text: &[u8]) -> bool
-    ensures { result ≡ begins_inner_field text.now }
-{
-    match text {
-        [b' ' | b'\t' | b'*', after @ ..] => begins_any_field(&DIRECTIVES, after),
-        _ => false,
-    }
-}
-
-/// Whether such a text occurs in what follows the first colon of a line.
-pub(crate) fn has_inner_field(tail: &[u8]) -> bool
-    ensures { result ≡ has_inner_field tail.now }
-{
-    has(b':', tail) && somewhere(tail, begins_inner_field)
 }
 
 /// Whether a directive with this content has no colon after the field name.

@@ -7,19 +7,18 @@ use std::alloc::{AllocError, Global};
 use texting_robots::labels::{LabeledLine, labeled_lines};
 use texting_robots::robot::FILE_LIMIT;
 
+/// The first bytes of a text, as many as `count`, or all if it is shorter.
+pub(crate) fn first(count: usize, text: &[u8]) -> &[u8]
+    ensures { result.now ≡ take count text.now }
+{
+    &text[..count.min(text.len())]
+}
+
 /// The bytes within the size limit, which are those that a robot reads.
 pub fn counted<'a>(file: &'a [u8]) -> &'a [u8]
     ensures { result.now ≡ take file_limit file.now }
 {
-    &file[..FILE_LIMIT.min(file.len())]
-}
-
-/// The capacity for the lines of a file: 1 more than its bytes LF, CR and NUL, which can end a line.
-fn most_lines(file: &[u8]) -> usize {
-    let ends = counted(file)
-        .iter()
-        .filter(|byte| matches!(**byte, b'\n' | b'\r' | 0));
-    ends.count().saturating_add(1)
+    first(FILE_LIMIT, file)
 }
 
 /// The lines of a file, each with its number and its membership in the crawler's group.
@@ -30,15 +29,11 @@ pub fn labels_for<'a>(
 ) -> Result<Vec<LabeledLine<'a>>, AllocError>
     ensures { IfOk result (λ labels. map label_by_value labels.items ≡ labels_for agent.now (lines_read file.now)) }
 {
-    let mut labels = Vec::with_capacity(alloc, most_lines(file))?;
-    for labeled in labeled_lines(agent, counted(file)) {
-        labels.push(labeled)?;
-    }
-    Ok(labels)
+    labeled_lines(agent, counted(file)).collect(alloc)
 }
 
 /// Whether the line content is empty: only spaces and tabs, possibly followed by a comment.
-#[tactic(auto, using(crate::proofs::FileLemmas::blank_at))]
+#[tactic(auto, using(crate::proofs::StepLemmas::blank_at))]
 pub fn is_blank(body: &[u8]) -> bool
     ensures { result ≡ is_blank body.now }
 {

@@ -1,14 +1,10 @@
 //! Crawlers of Google to which Google applies another group than the one that applies here.
-ghost use Rattle.std.specs.Prelude.{◌≡◌, ◌||◌, map, string_bytes};
+ghost use Rattle.std.specs.Prelude.{◌≡◌, map, string_bytes};
 ghost use Rattle.std.specs.List.{list_any};
 ghost use Rattle.std.specs.Str.{str_eq_ignore_ascii_case};
 ghost use Rattle.texting_robots.specs.Callers.{by_value, file_lines};
-ghost use Rattle.robots_warnings.specs.Google.{gets_googlebots, gets_nobodys, googlebot_checks, has_only_googlebots};
-ghost use Rattle.robots_warnings.specs.Google.{has_only_star, is_given, is_line_at_google, is_named_at_google};
-ghost use Rattle.robots_warnings.specs.Google.{star_checks};
+ghost use Rattle.robots_warnings.specs.Google.{gets_googlebots, gets_nobodys, is_given, is_line_at_google, is_named_at_google};
 
-use crate::checks::Check;
-use crate::table::Cause;
 use crate::tokens::token_front;
 use texting_robots::parser::{Line, file_lines};
 use texting_robots::site::Site;
@@ -30,22 +26,13 @@ pub(crate) const IGNORING_STAR: [&str; 4] = [
     "Mediapartners-Google",
 ];
 
-/// Whether `before` is true, or the crawler has this name, ASCII letters in any case.
-fn or_has_name(before: bool, agent: &str, name: &str) -> bool
-    ensures { result ≡ (before || str_eq_ignore_ascii_case name.now agent.now) }
-{
-    before || name.eq_ignore_ascii_case(agent)
-}
-
 /// Whether one of these crawlers has this name, ASCII letters in any case.
-fn is_given(agents: &[String], name: &str) -> bool
+pub(crate) fn is_given(agents: &[String], name: &str) -> bool
     ensures { result ≡ is_given (map string_bytes agents.now) name.now }
 {
-    let mut found = false;
-    for agent in agents {
-        found = or_has_name(found, agent, name);
-    }
-    found
+    agents
+        .iter()
+        .any(|agent| name.eq_ignore_ascii_case(agent.as_str()))
 }
 
 /// Whether the line is a user-agent line in which Google reads the name of this crawler.
@@ -59,7 +46,7 @@ fn is_line_at_google(agent: &str, line: Line<'_>) -> bool
 }
 
 /// Whether Google reads the name of the crawler in a user-agent line.
-fn is_named_at_google(site: &Site, agent: &str) -> bool
+pub(crate) fn is_named_at_google(site: &Site, agent: &str) -> bool
     ensures { result ≡ is_named_at_google agent.now (file_lines site.now) }
 {
     for line in file_lines(site.text()) {
@@ -68,20 +55,6 @@ fn is_named_at_google(site: &Site, agent: &str) -> bool
         }
     }
     false
-}
-
-/// Whether Google reads the name in no user-agent line, and that of Googlebot in one.
-fn has_only_googlebots(site: &Site, name: &str) -> bool
-    ensures { result ≡ has_only_googlebots (file_lines site.now) name.now }
-{
-    !is_named_at_google(site, name) && is_named_at_google(site, "Googlebot")
-}
-
-/// Whether Google reads the name in no user-agent line, although there is a group of `*`.
-fn has_only_star(site: &Site, name: &str) -> bool
-    ensures { result ≡ has_only_star (file_lines site.now) name.now }
-{
-    !is_named_at_google(site, name) && site.is_named("*")
 }
 
 /// Whether one of these names is that of the crawler, ASCII letters in any case.
@@ -95,29 +68,14 @@ fn is_one_of(names: &[&str], agent: &str) -> bool
 pub fn gets_googlebots(site: &Site, agent: &str) -> bool
     ensures { result ≡ gets_googlebots (file_lines site.now) agent.now }
 {
-    is_one_of(&LIKE_GOOGLEBOT, agent) && has_only_googlebots(site, agent)
+    is_one_of(&LIKE_GOOGLEBOT, agent)
+        && !is_named_at_google(site, agent)
+        && is_named_at_google(site, "Googlebot")
 }
 
 /// Whether Google applies no group to the crawler, although there is one of `*`.
 pub fn gets_nobodys(site: &Site, agent: &str) -> bool
     ensures { result ≡ gets_nobodys (file_lines site.now) agent.now }
 {
-    is_one_of(&IGNORING_STAR, agent) && has_only_star(site, agent)
-}
-
-/// Checks of the one of these crawlers with this name, which gets the group of Googlebot if it has none of its
-/// own.
-pub(crate) fn googlebot_checks(site: &Site, agents: &[String], name: &str) -> [Check; 1]
-    ensures { result ≡ googlebot_checks (file_lines site.now) (map string_bytes agents.now) name.now }
-{
-    let holds = is_given(agents, name) && has_only_googlebots(site, name);
-    [(Cause::GooglebotGroup, holds)]
-}
-
-/// Checks of the one of these crawlers with this name, which never gets the group of `*`.
-pub(crate) fn star_checks(site: &Site, agents: &[String], name: &str) -> [Check; 1]
-    ensures { result ≡ star_checks (file_lines site.now) (map string_bytes agents.now) name.now }
-{
-    let holds = is_given(agents, name) && has_only_star(site, name);
-    [(Cause::GoogleIgnoresStar, holds)]
+    is_one_of(&IGNORING_STAR, agent) && !is_named_at_google(site, agent) && site.is_named("*")
 }

@@ -23,7 +23,7 @@ fn insert_name(alloc: Global, names: &mut Names, line: Line<'_>) -> Result<bool,
 }
 
 /// The names in these lines.
-#[tactic(auto, using(crate::proofs::NamesPastLimitLemmas::read_more))]
+#[tactic(auto, using(crate::proofs::SeenLemmas::read_more))]
 fn names_read(alloc: Global, labels: &[LabeledLine<'_>]) -> Result<Names, AllocError>
     ensures { IfOk result (λ names. HasNames names (lines_of (map label_by_value labels.now))) }
 {

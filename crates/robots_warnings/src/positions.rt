@@ -3,10 +3,8 @@ ghost use Rattle.std.specs.Prelude.{◌≡◌, false, map, option_map};
 ghost use Rattle.std.specs.Str.{str_eq_ignore_ascii_case};
 ghost use Rattle.texting_robots.specs.Callers.{by_value, label_by_value};
 ghost use Rattle.robots_warnings.specs.File.{lines_of};
-ghost use Rattle.texting_robots.specs.Line.{delay_in};
-ghost use Rattle.robots_warnings.specs.Positions.{are_different, begin_with_rules, first_delay, group_number, is_above_agents};
-ghost use Rattle.robots_warnings.specs.Positions.{begin_with_name, is_split_from_others, is_split_from_star, name_again, name_star, sole_name};
-ghost use Rattle.robots_warnings.specs.Positions.{is_after, is_empty_group, is_other_delay, is_split, last_group, preceding_with};
+ghost use Rattle.robots_warnings.specs.Positions.{begin_with_name, begin_with_rules, first_delay, is_empty_group};
+ghost use Rattle.robots_warnings.specs.Positions.{is_other_delay, is_split, last_group, name_star, preceding_with, sole_name};
 
 use texting_robots::labels::{LabeledLine, Membership};
 use texting_robots::parser::Line;
@@ -65,55 +63,36 @@ pub(crate) fn sole_name<'a>(
     }
 }
 
-/// The number of the line, if it is a rule or a delay.
-fn group_number(labeled: &LabeledLine<'_>) -> Option<usize>
-    ensures { result ≡ group_number (label_by_value labeled.now) }
-{
-    match labeled.line {
-        Line::Allow(_) | Line::Disallow(_) | Line::CrawlDelay(_) => Some(labeled.number),
-        Line::UserAgent(_) | Line::Sitemap(_) | Line::Raw(_) => None,
-    }
-}
-
 /// The number of the last rule or delay.
-#[tactic(auto, using(crate::proofs::PositionLemmas::last_from))]
+#[tactic(auto, using(crate::proofs::StepLemmas::last_from))]
 pub(crate) fn last_group(labels: &[LabeledLine<'_>]) -> Option<usize>
     ensures { result ≡ last_group (map label_by_value labels.now) }
 {
     let mut last = None;
     for labeled in labels {
-        last = group_number(labeled).or(last);
+        match labeled.line {
+            Line::Allow(_) | Line::Disallow(_) | Line::CrawlDelay(_) => last = Some(labeled.number),
+            Line::UserAgent(_) | Line::Sitemap(_) | Line::Raw(_) => {}
+        }
     }
     last
-}
-
-/// Whether the line with this number comes after the last rule or delay, or there is none.
-fn is_after(last: Option<usize>, number: usize) -> bool
-    ensures { result ≡ is_after last number }
-{
-    match last {
-        Some(last) => last < number,
-        None => true,
-    }
-}
-
-/// Whether the line is a rule that belongs to no group.
-pub(crate) fn is_above_agents(labeled: &LabeledLine<'_>) -> bool
-    ensures { result ≡ is_above_agents (label_by_value labeled.now) }
-{
-    matches!(labeled.line, Line::Allow(_) | Line::Disallow(_))
-        && labeled.membership == Membership::Ungrouped
 }
 
 /// Whether the line is a user-agent line with no rule or delay after it.
 pub(crate) fn is_empty_group(last: Option<usize>, labeled: &LabeledLine<'_>) -> bool
     ensures { result ≡ is_empty_group last (label_by_value labeled.now) }
 {
-    matches!(labeled.line, Line::UserAgent(_)) && is_after(last, labeled.number)
+    match labeled.line {
+        Line::UserAgent(_) => match last {
+            Some(last) => last < labeled.number,
+            None => true,
+        },
+        _ => false,
+    }
 }
 
 /// Whether these lines begin with user-agent lines, and a rule follows in their group.
-#[tactic(auto, using(crate::proofs::PositionLemmas::rules_from))]
+#[tactic(auto, using(crate::proofs::StepLemmas::rules_from))]
 fn begin_with_rules(labels: &[LabeledLine<'_>]) -> bool
     ensures { result ≡ begin_with_rules false (lines_of (map label_by_value labels.now)) }
 {
@@ -137,7 +116,7 @@ fn is_same_name(one: &[u8], other: &[u8]) -> bool
 }
 
 /// Whether these lines begin with user-agent lines, one of which has this name.
-#[tactic(auto, using(crate::proofs::PositionLemmas::name_from))]
+#[tactic(auto, using(crate::proofs::StepLemmas::name_from))]
 fn begin_with_name(name: &[u8], labels: &[LabeledLine<'_>]) -> bool
     ensures { result ≡ begin_with_name name.now (lines_of (map label_by_value labels.now)) }
 {
@@ -151,18 +130,8 @@ fn begin_with_name(name: &[u8], labels: &[LabeledLine<'_>]) -> bool
     false
 }
 
-/// Whether there is such a name, and these lines begin with it.
-fn name_again(name: Option<&[u8]>, labels: &[LabeledLine<'_>]) -> bool
-    ensures { result ≡ name_again (option_map (λ name. name.now) name.entry) (lines_of (map label_by_value labels.now)) }
-{
-    match name {
-        Some(name) => begin_with_name(name, labels),
-        None => false,
-    }
-}
-
 /// Whether one of these lines names `*`, and no rule is above it.
-#[tactic(auto, using(crate::proofs::PositionLemmas::star_from))]
+#[tactic(auto, using(crate::proofs::StepLemmas::star_from))]
 pub(crate) fn name_star(labels: &[LabeledLine<'_>]) -> bool
     ensures { result ≡ name_star (lines_of (map label_by_value labels.now)) }
 {
@@ -178,7 +147,7 @@ pub(crate) fn name_star(labels: &[LabeledLine<'_>]) -> bool
 
 /// Whether the line is a user-agent line that only delays separate from one above it, and its group has rules, but
 /// doesn't have `above`, the only name above it. `from_here` are the lines from this one on.
-fn is_split(
+pub(crate) fn is_split(
     preceding: Preceding,
     above: Option<&[u8]>,
     labeled: &LabeledLine<'_>,
@@ -190,58 +159,20 @@ fn is_split(
     matches!(labeled.line, Line::UserAgent(_))
         && preceding == Preceding::Delay
         && begin_with_rules(from_here)
-        && !name_again(above, from_here)
-}
-
-/// Whether this is so, and the group is that of `*`.
-pub(crate) fn is_split_from_star(
-    preceding: Preceding,
-    above: Option<&[u8]>,
-    labeled: &LabeledLine<'_>,
-    from_here: &[LabeledLine<'_>],
-) -> bool
-    ensures { result ≡ is_split_from_star preceding (option_map (λ name. name.now) above.entry)
-        (label_by_value labeled.now) (lines_of (map label_by_value from_here.now)) }
-{
-    is_split(preceding, above, labeled, from_here) && name_star(from_here)
-}
-
-/// Whether this is so, and the group isn't that of `*`.
-pub(crate) fn is_split_from_others(
-    preceding: Preceding,
-    above: Option<&[u8]>,
-    labeled: &LabeledLine<'_>,
-    from_here: &[LabeledLine<'_>],
-) -> bool
-    ensures { result ≡ is_split_from_others preceding (option_map (λ name. name.now) above.entry)
-        (label_by_value labeled.now) (lines_of (map label_by_value from_here.now)) }
-{
-    is_split(preceding, above, labeled, from_here) && !name_star(from_here)
-}
-
-/// Whether the two are different delays.
-fn are_different(one: Option<u64>, other: Option<u64>) -> bool
-    ensures { result ≡ are_different one other }
-{
-    match (one, other) {
-        (Some(one), Some(other)) => one != other,
-        _ => false,
-    }
-}
-
-/// The delay in the line.
-fn delay_in(line: Line<'_>) -> Option<u64>
-    ensures { result ≡ delay_in (by_value line.entry) }
-{
-    match line {
-        Line::CrawlDelay(delay) => delay,
-        _ => None,
-    }
+        && match above {
+            Some(name) => !begin_with_name(name, from_here),
+            None => true,
+        }
 }
 
 /// Whether the line is a delay in a group, and differs from the first delay of this group.
 pub(crate) fn is_other_delay(first: Option<u64>, labeled: &LabeledLine<'_>) -> bool
     ensures { result ≡ is_other_delay first (label_by_value labeled.now) }
 {
-    labeled.membership != Membership::Ungrouped && are_different(first, delay_in(labeled.line))
+    match (first, labeled.line) {
+        (Some(first), Line::CrawlDelay(Some(delay))) => {
+            labeled.membership != Membership::Ungrouped && first != delay
+        }
+        _ => false,
+    }
 }

@@ -1,7 +1,7 @@
 //! Rules that repeat a rule above them in their group.
 ghost use Rattle.std.specs.Prelude.{◌≡◌, IfOk, [], map};
 ghost use Rattle.texting_robots.specs.Callers.{by_value, label_by_value};
-ghost use Rattle.robots_warnings.specs.Internal.Repeated.{AddsLine, HasSeen};
+ghost use Rattle.robots_warnings.specs.Internal.Values.{AddsLine, HasSeen};
 ghost use Rattle.robots_warnings.specs.Internal.Values.{AddsValue};
 ghost use Rattle.robots_warnings.specs.Repeated.{is_checked, repeated};
 
@@ -61,7 +61,7 @@ fn is_checked(everywhere: bool, membership: Membership) -> bool
 }
 
 /// The numbers of the rules that are checked, belong to a group, and repeat a rule above them in it.
-#[tactic(auto, using(crate::proofs::RepeatedLemmas::found_next))]
+#[tactic(auto, using(crate::proofs::SeenLemmas::found_next))]
 pub(crate) fn repeated(
     alloc: Global,
     everywhere: bool,

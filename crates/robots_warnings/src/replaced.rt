@@ -5,9 +5,9 @@ ghost use Rattle.std.specs.Str.{str_to_ascii_lowercase};
 ghost use Rattle.texting_robots.specs.Callers.{LineValue, by_value, file_lines, label_by_value};
 ghost use Rattle.texting_robots.specs.Group.{is_group};
 ghost use Rattle.robots_warnings.specs.File.{lines_of};
-ghost use Rattle.robots_warnings.specs.Internal.Replaced.{AddsDenied, AddsLacking, HasDenied, HasThose, is_kept_in};
+ghost use Rattle.robots_warnings.specs.Internal.Rules.{AddsDenied, AddsLacking, HasDenied, HasThose, is_kept_in};
 ghost use Rattle.robots_warnings.specs.Positions.{begin_with_one};
-ghost use Rattle.robots_warnings.specs.Replaced.{is_first_name, is_lacking, is_partial, is_replacing, lacks_all, replacing};
+ghost use Rattle.robots_warnings.specs.Replaced.{is_lacking, is_partial, is_replacing, lacks_all, replacing};
 ghost use Rattle.robots_warnings.specs.Replaced.{star_count, star_rules};
 
 use crate::closed::is_whole_site;
@@ -37,7 +37,7 @@ pub(crate) fn star_count(alloc: Global, site: &Site) -> Result<usize, AllocError
 }
 
 /// Whether the rule is a Disallow, but not of the whole site.
-#[tactic(auto, using(crate::proofs::ClosedLemmas::whole_site_escaped))]
+#[tactic(auto, using(crate::proofs::RuleLemmas::whole_site_escaped))]
 fn is_partial(rule: &SiteRule<'_>) -> bool
     ensures { result ≡ is_partial rule.now }
 {
@@ -79,7 +79,7 @@ fn denied_patterns(alloc: Global, site: &Site) -> Result<Patterns, AllocError>
 }
 
 /// Whether the rule is for the whole site, or a Disallow whose pattern is in the set.
-#[tactic(auto, using(crate::proofs::ClosedLemmas::whole_site_escaped))]
+#[tactic(auto, using(crate::proofs::RuleLemmas::whole_site_escaped))]
 fn is_kept(alloc: Global, denied: &Patterns, rule: &SiteRule<'_>) -> Result<bool, AllocError>
     ensures { IfOk result (λ is. is ≡ is_kept_in denied.now rule.now) }
 {
@@ -131,17 +131,8 @@ fn lacking(alloc: Global, site: &Site, agents: &[String]) -> Result<Names, Alloc
     Ok(names)
 }
 
-/// Whether the set contains the name, in lower case.
-fn contains_name(alloc: Global, names: &Names, name: &[u8]) -> Result<bool, AllocError>
-    ensures { IfOk result (λ has. (test : List ℕ → Bool) → HasThose names.now test
-        → has ≡ test (str_to_ascii_lowercase name.now)) }
-{
-    let lowered = name.to_ascii_lowercase(alloc)?;
-    Ok(names.contains(&lowered))
-}
-
-/// Whether these lines begin with user-agent lines, one of whose names is in the set.
-#[tactic(auto, using(crate::proofs::PositionLemmas::name_from))]
+/// Whether these lines begin with user-agent lines, one of whose names is in the set, in lower case.
+#[tactic(auto, using(crate::proofs::StepLemmas::name_from))]
 fn begin_with_one(
     alloc: Global,
     names: &Names,
@@ -153,7 +144,8 @@ fn begin_with_one(
     for labeled in labels {
         match labeled.line {
             Line::UserAgent(value) => {
-                if contains_name(alloc, names, value)? {
+                let lowered = value.to_ascii_lowercase(alloc)?;
+                if names.contains(&lowered) {
                     return Ok(true);
                 }
             }
@@ -165,7 +157,7 @@ fn begin_with_one(
 }
 
 /// Whether one of these lines is a rule or a delay.
-#[tactic(auto, using(crate::proofs::ReplacedLemmas::groups_from))]
+#[tactic(auto, using(crate::proofs::RuleLemmas::groups_from))]
 fn have_group(labels: &[LabeledLine<'_>]) -> bool
     ensures { result ≡ list_any is_group (lines_of (map label_by_value labels.now)) }
 {
@@ -176,13 +168,6 @@ fn have_group(labels: &[LabeledLine<'_>]) -> bool
         }
     }
     false
-}
-
-/// Whether the line is a user-agent line that isn't below another one of the same group.
-fn is_first_name(preceding: Preceding, line: Line<'_>) -> bool
-    ensures { result ≡ is_first_name preceding (by_value line.entry) }
-{
-    matches!(line, Line::UserAgent(_)) && preceding != Preceding::Agent
 }
 
 /// Whether the line is the first user-agent line of a group that has rules or delays and one of these names, but isn't
@@ -198,7 +183,8 @@ fn is_replacing(
         → HasThose names.now (is_lacking agents lines)
         → is ≡ is_replacing agents lines preceding (by_value line.entry) (lines_of (map label_by_value from_here.now))) }
 {
-    if !is_first_name(preceding, line) || !have_group(from_here) {
+    let is_first = matches!(line, Line::UserAgent(_)) && preceding != Preceding::Agent;
+    if !is_first || !have_group(from_here) {
         return Ok(false);
     }
     Ok(begin_with_one(alloc, names, from_here)? && !name_star(from_here))

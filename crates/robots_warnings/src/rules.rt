@@ -2,16 +2,12 @@
 ghost use Rattle.std.specs.Prelude.{◌≡◌, ◌<◌, ◌≤◌, ◌==◌, ℕ, Bool, List, false, length, true};
 ghost use Rattle.std.specs.Char.{digit_value, is_ascii_hexdigit};
 ghost use Rattle.std.specs.Fn.{FnReturnsAt};
-ghost use Rattle.std.specs.List.{position_or_len};
+ghost use Rattle.std.specs.List.{list_any, position_or_len};
 ghost use Rattle.std.specs.Str.{is_utf8};
-ghost use Rattle.robots_warnings.specs.Rules.{are_odd_digits, before_byte};
-ghost use Rattle.robots_warnings.specs.Rules.{begins_dot_segment, begins_odd_escape};
-ghost use Rattle.robots_warnings.specs.Rules.{begins_oddly, begins_sign, after_byte, has};
-ghost use Rattle.robots_warnings.specs.Rules.{has_choice, has_dollar_inside, has_dot_segment, has_final_plus, has_odd_start, holds_otherwise};
-ghost use Rattle.robots_warnings.specs.Rules.{is_expression, is_quoted, is_written_otherwise, needs_no_escape};
-ghost use Rattle.robots_warnings.specs.Rules.{somewhere};
+ghost use Rattle.robots_warnings.specs.Rules.{after_byte, before_byte, begins_dot_segment, begins_odd_escape};
+ghost use Rattle.robots_warnings.specs.Rules.{begins_oddly, begins_sign, has, has_dollar_inside, holds_otherwise};
+ghost use Rattle.robots_warnings.specs.Rules.{is_expression, is_quoted, needs_no_escape, somewhere};
 
-use crate::urls::begins_as_url;
 use memchr::memchr;
 
 /// Whether the text contains the byte.
@@ -48,7 +44,7 @@ pub(crate) fn after_byte(byte: u8, text: &[u8]) -> &[u8]
 }
 
 /// Whether the test holds for the rest of the text from some byte on.
-#[tactic(auto, using(crate::proofs::RuleLemmas::somewhere_next))]
+#[tactic(auto, using(crate::proofs::StepLemmas::somewhere_next))]
 pub fn somewhere<F: Fn(&[u8]) -> bool>(text: &[u8], test: F) -> bool
     requires { F.IsAlwaysCallable test }
     ensures { (p : List ℕ → Bool) → ((x : List ℕ) (r : Bool) → FnReturnsAt F.Fn test x r → r ≡ p x)
@@ -81,30 +77,18 @@ pub(crate) fn begins_oddly(value: &[u8]) -> bool
     !matches!(value, [] | [b'/' | b'*', ..])
 }
 
-/// Whether a parsed URL contains this byte, in its query or its path, in a form other than an escaped rule does.
-fn is_written_otherwise(in_query: bool, byte: u8) -> bool
-    ensures { result ≡ is_written_otherwise in_query byte }
+/// Whether the text contains one of these bytes.
+fn has_any(bytes: &[u8], text: &[u8]) -> bool
+    ensures { result ≡ list_any (λ b. has b bytes.now) text.now }
 {
-    if in_query {
-        matches!(byte, b'\t' | b'\'' | b'`')
-    } else {
-        matches!(byte, b'\t' | b'\\' | b'^' | b'{' | b'}')
-    }
+    text.iter().any(|byte| has(*byte, bytes))
 }
 
-/// Whether the value contains a byte that a parsed URL contains in another form.
-#[tactic(auto, using(crate::proofs::RuleLemmas::otherwise_at))]
+/// Whether the value contains a byte that a parsed URL contains in another form, in its path or its query.
 pub(crate) fn holds_otherwise(value: &[u8]) -> bool
-    ensures { result ≡ holds_otherwise false value.now }
+    ensures { result ≡ holds_otherwise value.now }
 {
-    let mut in_query = false;
-    for byte in value {
-        if is_written_otherwise(in_query, *byte) {
-            return true;
-        }
-        in_query = in_query || *byte == b'?';
-    }
-    false
+    has_any(b"\t\\^{}", before_byte(b'?', value)) || has_any(b"\t'`", after_byte(b'?', value))
 }
 
 /// Whether the value is in single or double quotes.
@@ -112,13 +96,6 @@ pub(crate) fn is_quoted(value: &[u8]) -> bool
     ensures { result ≡ is_quoted value.now }
 {
     matches!(value, [b'"', .., b'"'] | [b'\'', .., b'\''])
-}
-
-/// Whether the value has an alternative, such as `(a|b)`.
-fn has_choice(value: &[u8]) -> bool
-    ensures { result ≡ has_choice value.now }
-{
-    has(b')', after_byte(b'|', after_byte(b'(', value)))
 }
 
 /// Whether the text starts with a range, such as `[0-9]`, with `.*` after a slash or `(` or before `$`, or with a
@@ -133,19 +110,16 @@ fn begins_sign(text: &[u8]) -> bool
     }
 }
 
-/// Whether the value ends with a `+` after a dot, `]` or `)`.
-fn has_final_plus(value: &[u8]) -> bool
-    ensures { result ≡ has_final_plus value.now }
-{
-    value.ends_with(b".+") || value.ends_with(b"]+") || value.ends_with(b")+")
-}
-
-/// Whether the value has an alternative, contains a range, such a `.*` or a character class, or ends with such a
-/// `+`.
+/// Whether the value has an alternative, such as `(a|b)`, contains a range, such a `.*` or a character class, or ends
+/// with a `+` after a dot, `]` or `)`.
 pub(crate) fn is_expression(value: &[u8]) -> bool
     ensures { result ≡ is_expression value.now }
 {
-    has_choice(value) || somewhere(value, begins_sign) || has_final_plus(value)
+    has(b')', after_byte(b'|', after_byte(b'(', value)))
+        || somewhere(value, begins_sign)
+        || value.ends_with(b".+")
+        || value.ends_with(b"]+")
+        || value.ends_with(b")+")
 }
 
 /// Whether a byte other than a star or `$` occurs after the first `$` of the value.
@@ -177,46 +151,24 @@ pub(crate) fn hex_value(digit: u8) -> u8
     }
 }
 
-/// Whether one of two hexadecimal digits is lowercase, or the byte that they mean needs no escape.
-fn are_odd_digits(high: u8, low: u8) -> bool
-    requires high { is_ascii_hexdigit high ≡ true }
-    requires low { is_ascii_hexdigit low ≡ true }
-    ensures { result ≡ are_odd_digits high low }
-{
-    high.is_ascii_lowercase()
-        || low.is_ascii_lowercase()
-        || needs_no_escape(hex_value(high) * 16 + hex_value(low))
-}
-
-/// Whether the text starts with a percent escape that has such digits.
-fn begins_odd_escape(text: &[u8]) -> bool
+/// Whether the text starts with a percent escape one of whose digits is lowercase, or which means a byte that needs no
+/// escape.
+pub(crate) fn begins_odd_escape(text: &[u8]) -> bool
     ensures { result ≡ begins_odd_escape text.now }
 {
     match text {
         [b'%', high, low, ..] if high.is_ascii_hexdigit() && low.is_ascii_hexdigit() => {
-            are_odd_digits(*high, *low)
+            high.is_ascii_lowercase()
+                || low.is_ascii_lowercase()
+                || needs_no_escape(hex_value(*high) * 16 + hex_value(*low))
         }
         _ => false,
     }
 }
 
-/// Whether the value contains such an escape.
-pub(crate) fn has_odd_escape(value: &[u8]) -> bool
-    ensures { result ≡ somewhere begins_odd_escape value.now }
-{
-    somewhere(value, begins_odd_escape)
-}
-
-/// Whether the first byte is neither `/` nor `*`, and the value isn't an absolute URL or in quotes.
-pub(crate) fn has_odd_start(value: &[u8]) -> bool
-    ensures { result ≡ has_odd_start value.now }
-{
-    begins_oddly(value) && !(begins_as_url(value) || is_quoted(value))
-}
-
 /// Whether the text starts with a path segment `.` or `..`, which a slash or the end of the URL follows.
-#[tactic(auto, using(crate::proofs::RuleLemmas::no_segment))]
-fn begins_dot_segment(text: &[u8]) -> bool
+#[tactic(auto, using(crate::proofs::StepLemmas::no_segment))]
+pub(crate) fn begins_dot_segment(text: &[u8]) -> bool
     ensures { result ≡ begins_dot_segment text.now }
 {
     text.starts_with(b"/.")
@@ -224,11 +176,4 @@ fn begins_dot_segment(text: &[u8]) -> bool
             || text.starts_with(b"/../")
             || text == b"/.$".as_slice()
             || text == b"/..$".as_slice())
-}
-
-/// Whether the value contains such a segment before its first `?`.
-pub(crate) fn has_dot_segment(value: &[u8]) -> bool
-    ensures { result ≡ has_dot_segment value.now }
-{
-    somewhere(before_byte(b'?', value), begins_dot_segment)
 }

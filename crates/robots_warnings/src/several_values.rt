@@ -1,39 +1,9 @@
 //! Values of a rule or a sitemap that seem to be several ones.
 ghost use Rattle.std.specs.Prelude.{◌≡◌};
-ghost use Rattle.robots_warnings.specs.SeveralValues.{begins_list, begins_next_value, begins_space, begins_tag};
+ghost use Rattle.robots_warnings.specs.SeveralValues.{begins_next_value};
 ghost use Rattle.robots_warnings.specs.SeveralValues.{begins_unseen, begins_wide_space, has_several_values};
 
 use crate::rules::somewhere;
-
-/// Whether the text starts with a comma, and then with a path or with `http`.
-fn begins_list(text: &[u8]) -> bool
-    ensures { result ≡ begins_list text.now }
-{
-    match text {
-        [b',', after @ ..] => after.starts_with(b"/") || after.starts_with(b"http"),
-        _ => false,
-    }
-}
-
-/// Whether the text starts with a tag of HTML.
-fn begins_tag(text: &[u8]) -> bool
-    ensures { result ≡ begins_tag text.now }
-{
-    match text {
-        [b'<', next, ..] => next.is_ascii_alphabetic() || *next == b'/' || *next == b'!',
-        _ => false,
-    }
-}
-
-/// Whether the text starts with a space or a control character.
-fn begins_space(text: &[u8]) -> bool
-    ensures { result ≡ begins_space text.now }
-{
-    match text {
-        [first, ..] => *first <= b' ',
-        [] => false,
-    }
-}
 
 /// Whether the text starts with white space of Unicode that isn't ASCII.
 fn begins_wide_space(text: &[u8]) -> bool
@@ -59,15 +29,17 @@ fn begins_unseen(text: &[u8]) -> bool
     )
 }
 
-/// Whether the text starts with what seems to separate or to end a value.
+/// Whether the text starts with what seems to separate or to end a value: a space or a control character; a comma, and
+/// then a path or `http`; a tag of HTML; or one of the above.
 fn begins_next_value(text: &[u8]) -> bool
     ensures { result ≡ begins_next_value text.now }
 {
-    begins_space(text)
-        || begins_list(text)
-        || begins_tag(text)
-        || begins_wide_space(text)
-        || begins_unseen(text)
+    match text {
+        [b',', after @ ..] => after.starts_with(b"/") || after.starts_with(b"http"),
+        [b'<', next, ..] => next.is_ascii_alphabetic() || *next == b'/' || *next == b'!',
+        [0..=b' ', ..] => true,
+        _ => begins_wide_space(text) || begins_unseen(text),
+    }
 }
 
 /// Whether the value of a rule or a sitemap contains one of these.

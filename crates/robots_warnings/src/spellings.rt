@@ -4,13 +4,13 @@ ghost use Rattle.std.specs.Char.{is_ascii_hexdigit};
 ghost use Rattle.std.specs.List.{list_any, slice_split};
 ghost use Rattle.texting_robots.specs.Callers.{LineValue, by_value, label_by_value};
 ghost use Rattle.robots_warnings.specs.File.{lines_of};
-ghost use Rattle.robots_warnings.specs.Internal.Spellings.{AddsValue, HasValues, has_odd_line};
+ghost use Rattle.robots_warnings.specs.Internal.Values.{AddsRuleValue, HasRuleValues, has_odd_line};
 ghost use Rattle.robots_warnings.specs.Spellings.{is_agent_line, is_escape, is_unpaired, is_unpaired_at, nonstandard_escapes};
 ghost use Rattle.robots_warnings.specs.Spellings.{standard_escape, standard_spelling, unpaired_in};
 
 use crate::checks::is_in_scope_of;
 use crate::numbers::push_if;
-use crate::rules::{has_odd_escape, hex_value, needs_no_escape};
+use crate::rules::{begins_odd_escape, hex_value, needs_no_escape, somewhere};
 use std::alloc::{AllocError, Global};
 use std::collections::BTreeSet;
 use texting_robots::labels::LabeledLine;
@@ -68,14 +68,14 @@ fn standard_spelling(alloc: Global, value: &[u8]) -> Result<Vec<u8>, AllocError>
 }
 
 /// Inserts the value of the line, if it is a rule of this kind.
-#[tactic(auto, using(crate::proofs::SpellingLemmas::value_added))]
+#[tactic(auto, using(crate::proofs::SeenLemmas::value_added))]
 fn add_value(
     alloc: Global,
     values: &mut Values,
     is_allow: bool,
     line: Line<'_>,
 ) -> Result<(), AllocError>
-    ensures { OnOk result (AddsValue values.old values.new is_allow (by_value line.entry)) }
+    ensures { OnOk result (AddsRuleValue values.old values.new is_allow (by_value line.entry)) }
 {
     let value = match line {
         Line::Allow(value) if is_allow => value,
@@ -87,9 +87,9 @@ fn add_value(
 }
 
 /// The values of the rules of this kind in the group.
-#[tactic(auto, using(crate::proofs::SpellingLemmas::values_more))]
+#[tactic(auto, using(crate::proofs::SeenLemmas::values_more))]
 fn values_of(alloc: Global, is_allow: bool, group: &[LabeledLine<'_>]) -> Result<Values, AllocError>
-    ensures { IfOk result (λ values. HasValues values is_allow (lines_of (map label_by_value group.now))) }
+    ensures { IfOk result (λ values. HasRuleValues values is_allow (lines_of (map label_by_value group.now))) }
 {
     let mut values = BTreeSet::new(alloc);
     for labeled in group {
@@ -100,10 +100,10 @@ fn values_of(alloc: Global, is_allow: bool, group: &[LabeledLine<'_>]) -> Result
 
 /// Whether the value has a nonstandard escape, and its standard spelling isn't one of these values.
 fn is_unpaired(alloc: Global, values: &Values, value: &[u8]) -> Result<bool, AllocError>
-    ensures { IfOk result (λ is. (is_allow : Bool) (lines : List LineValue) → HasValues values.now is_allow lines
+    ensures { IfOk result (λ is. (is_allow : Bool) (lines : List LineValue) → HasRuleValues values.now is_allow lines
         → is ≡ is_unpaired lines is_allow value.now) }
 {
-    if !has_odd_escape(value) {
+    if !somewhere(value, begins_odd_escape) {
         return Ok(false);
     }
     let spelling = standard_spelling(alloc, value)?;
@@ -119,8 +119,8 @@ fn is_unpaired_at(
     disallows: &Values,
     labeled: &LabeledLine<'_>,
 ) -> Result<bool, AllocError>
-    ensures { IfOk result (λ is. (lines : List LineValue) → HasValues allows.now true lines
-        → HasValues disallows.now false lines
+    ensures { IfOk result (λ is. (lines : List LineValue) → HasRuleValues allows.now true lines
+        → HasRuleValues disallows.now false lines
         → is ≡ is_unpaired_at everywhere lines (label_by_value labeled.now)) }
 {
     if !is_in_scope_of(everywhere, labeled.membership) {
@@ -138,13 +138,13 @@ fn has_odd_line(labeled: &LabeledLine<'_>) -> bool
     ensures { result ≡ has_odd_line (label_by_value labeled.now) }
 {
     match labeled.line {
-        Line::Allow(value) | Line::Disallow(value) => has_odd_escape(value),
+        Line::Allow(value) | Line::Disallow(value) => somewhere(value, begins_odd_escape),
         _ => false,
     }
 }
 
 /// Whether one of the lines is such a rule.
-#[tactic(auto, using(crate::proofs::SpellingLemmas::odd_from))]
+#[tactic(auto, using(crate::proofs::SeenLemmas::odd_from))]
 fn has_odd_lines(group: &[LabeledLine<'_>]) -> bool
     ensures { result ≡ list_any has_odd_line (map label_by_value group.now) }
 {
@@ -158,7 +158,7 @@ fn has_odd_lines(group: &[LabeledLine<'_>]) -> bool
 
 /// Appends the numbers of the rules of a group that are checked, have a nonstandard escape, and whose standard spelling
 /// isn't a rule of their kind in the group.
-#[tactic(auto, using(crate::proofs::SpellingLemmas::unpaired_from, crate::proofs::SpellingLemmas::none_unpaired))]
+#[tactic(auto, using(crate::proofs::SeenLemmas::unpaired_from, crate::proofs::SeenLemmas::none_unpaired))]
 fn add_unpaired(
     alloc: Global,
     found: &mut Vec<usize>,

@@ -1,8 +1,7 @@
 //! Conditions on the name of a crawler.
 ghost use Rattle.std.specs.Prelude.{◌≡◌, ◌≤◌, length};
 ghost use Rattle.std.specs.List.{before_first, list_all, position_or_len};
-ghost use Rattle.robots_warnings.specs.Tokens.{begins_crawler_word, begins_names, ends_token, has_slash, has_space_around, is_invalid_name, is_name_byte, is_product_token};
-ghost use Rattle.robots_warnings.specs.Tokens.{is_another_name, is_token_byte, is_unusual_name, is_usual_name, seems_several_names, without_star};
+ghost use Rattle.robots_warnings.specs.Tokens.{begins_crawler_word, begins_names, ends_token, has_space_around, is_name_byte, is_product_token, is_token_byte, is_usual_name};
 
 use crate::rules::somewhere;
 use crate::urls::begins_in_any_case;
@@ -12,13 +11,6 @@ pub fn has_space_around(text: &str) -> bool
     ensures { result ≡ has_space_around text.now }
 {
     text.trim() != text
-}
-
-/// Whether the text contains a slash, for example before a version.
-pub(crate) fn has_slash(text: &str) -> bool
-    ensures { result ≡ has_slash text.now }
-{
-    text.as_bytes().iter().any(|byte| *byte == b'/')
 }
 
 /// Whether the byte can occur in a product token.
@@ -35,19 +27,15 @@ fn are_token_bytes(bytes: &[u8]) -> bool
     bytes.iter().all(|byte| is_token_byte(*byte))
 }
 
-/// Whether the byte can't occur in a product token.
-fn ends_token(byte: u8) -> bool
-    ensures { result ≡ ends_token byte }
-{
-    !is_token_byte(byte)
-}
-
 /// The number of bytes before the first one that can't occur in a product token.
 fn token_len(value: &[u8]) -> usize
     ensures value { result ≡ position_or_len ends_token value.now }
     ensures within { result ≤ length value.now }
 {
-    value.iter().take_while(|byte| !ends_token(**byte)).count()
+    value
+        .iter()
+        .take_while(|byte| is_token_byte(**byte))
+        .count()
 }
 
 /// The bytes before the first one that can't occur in a product token.
@@ -58,7 +46,7 @@ pub(crate) fn token_front(value: &[u8]) -> &[u8]
 }
 
 /// Whether the value of a user-agent line is a product token, or `*`.
-fn is_product_token(value: &[u8]) -> bool
+pub(crate) fn is_product_token(value: &[u8]) -> bool
     ensures { result ≡ is_product_token value.now }
 {
     value == b"*".as_slice() || (!value.is_empty() && are_token_bytes(value))
@@ -78,16 +66,6 @@ pub fn are_name_bytes(bytes: &[u8]) -> bool
     bytes.iter().all(|byte| is_name_byte(*byte))
 }
 
-/// The value without a star at its end.
-fn without_star(value: &[u8]) -> &[u8]
-    ensures { result.now ≡ without_star value.now }
-{
-    match value {
-        [name @ .., b'*'] => name,
-        _ => value,
-    }
-}
-
 /// Whether the text starts with a word for a crawler.
 fn begins_crawler_word(text: &[u8]) -> bool
     ensures { result ≡ begins_crawler_word text.now }
@@ -97,47 +75,27 @@ fn begins_crawler_word(text: &[u8]) -> bool
         || begins_in_any_case(b"spider", text)
 }
 
-/// Whether the text contains such a word, and isn't just `bot`.
-fn is_another_name(text: &[u8]) -> bool
-    ensures { result ≡ is_another_name text.now }
-{
-    somewhere(text, begins_crawler_word) && !text.eq_ignore_ascii_case(b"bot")
-}
-
-/// Whether the text starts with `bot` and a space, and another name follows.
+/// Whether the text starts with `bot` and a space, and another name follows: such a word, but not just `bot`.
 fn begins_names(text: &[u8]) -> bool
     ensures { result ≡ begins_names text.now }
 {
     match text {
-        [_, _, _, _, rest @ ..] => begins_in_any_case(b"bot ", text) && is_another_name(rest),
+        [_, _, _, _, rest @ ..] => {
+            begins_in_any_case(b"bot ", text)
+                && somewhere(rest, begins_crawler_word)
+                && !rest.eq_ignore_ascii_case(b"bot")
+        }
         _ => false,
     }
 }
 
-/// Whether the value seems to be several names.
-fn seems_several_names(value: &[u8]) -> bool
-    ensures { result ≡ seems_several_names value.now }
-{
-    somewhere(value, begins_names)
-}
-
-/// Whether the value is written as names of real crawlers that aren't product tokens are.
-fn is_usual_name(value: &[u8]) -> bool
+/// Whether the value is written as names of real crawlers that aren't product tokens are, possibly with a star at its end.
+pub(crate) fn is_usual_name(value: &[u8]) -> bool
     ensures { result ≡ is_usual_name value.now }
 {
-    !value.is_empty() && are_name_bytes(without_star(value)) && !seems_several_names(value)
-}
-
-/// Whether the value of a user-agent line is neither a product token nor such a name.
-pub(crate) fn is_invalid_name(value: &[u8]) -> bool
-    ensures { result ≡ is_invalid_name value.now }
-{
-    !is_product_token(value) && !is_usual_name(value)
-}
-
-/// Whether the value of a user-agent line is such a name, and not a product token.
-pub(crate) fn is_unusual_name(value: &[u8]) -> bool
-    ensures { result ≡ is_unusual_name value.now }
-{
-    !is_product_token(value) && is_usual_name(value)
+    let name = match value {
+        [name @ .., b'*'] => name,
+        _ => value,
+    };
+    !value.is_empty() && are_name_bytes(name) && !somewhere(value, begins_names)
 }

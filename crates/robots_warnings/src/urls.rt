@@ -1,8 +1,9 @@
 //! Conditions on URLs and paths.
 ghost use Rattle.std.specs.Prelude.{◌≡◌, ◌&&◌, IfOk, not};
 ghost use Rattle.robots_warnings.specs.Urls.{begins_as_url, begins_in_any_case, is_absolute_url, is_invalid_url};
-ghost use Rattle.robots_warnings.specs.Urls.{is_unparsable, is_url_or_path};
+ghost use Rattle.robots_warnings.specs.Urls.{is_unparsable};
 
+use crate::file::first;
 use std::alloc::{AllocError, Global};
 use url::{ParseError, Url};
 
@@ -10,7 +11,7 @@ use url::{ParseError, Url};
 pub(crate) fn begins_in_any_case(front: &[u8], text: &[u8]) -> bool
     ensures { result ≡ begins_in_any_case front.now text.now }
 {
-    text[..front.len().min(text.len())].eq_ignore_ascii_case(front)
+    first(front.len(), text).eq_ignore_ascii_case(front)
 }
 
 /// Whether the text starts with `http://` or `https://`.
@@ -18,13 +19,6 @@ pub(crate) fn begins_as_url(text: &[u8]) -> bool
     ensures { result ≡ begins_as_url text.now }
 {
     begins_in_any_case(b"http://", text) || begins_in_any_case(b"https://", text)
-}
-
-/// Whether the text starts like an http(s) URL or a path.
-pub(crate) fn is_url_or_path(text: &str) -> bool
-    ensures { result ≡ is_url_or_path text.now }
-{
-    text.starts_with("/") || begins_as_url(text.as_bytes())
 }
 
 /// Whether `url` can't parse the text.

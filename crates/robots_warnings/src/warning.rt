@@ -2,7 +2,7 @@
 ghost use Rattle.std.specs.Prelude.{◌≡◌, ◌++◌, OnOk, option_map, string_bytes};
 ghost use Rattle.robots_text.specs.Raw.{raw_line, raw_text};
 ghost use Rattle.robots_text.specs.Text.{part_text, parts_text};
-ghost use Rattle.robots_warnings.specs.Message.{about_label, about_part, detail_end, detail_part, is_about_crawler};
+ghost use Rattle.robots_warnings.specs.Message.{about_part, detail_end, detail_part};
 ghost use Rattle.robots_warnings.specs.Message.{message_parts, reason_part, reported_parts, warning_text};
 
 use crate::table::Cause;
@@ -55,27 +55,21 @@ impl<'a> Warning<'a> {
     }
 }
 
-/// What comes before the URL or the crawler's name.
-fn about_label(cause: Cause) -> &'static str
-    ensures { result.now ≡ (about_label (is_about_crawler cause)).text }
+/// The URL or the crawler's name that a message begins with, if there is one.
+fn about_part<'a>(cause: Cause, about: Option<&'a str>) -> Part<'a>
+    ensures { raw_text result ≡ part_text (about_part cause (option_map (λ name. name.now) about.entry)) }
 {
+    let Some(name) = about else {
+        return Part("", Value::Nothing);
+    };
+    let name = Value::Untrusted(name.as_bytes());
     match cause {
         Cause::EmptyAgent
         | Cause::SpaceAroundAgent
         | Cause::VersionInAgent
         | Cause::GooglebotGroup
-        | Cause::GoogleIgnoresStar => "crawler '",
-        _ => "URL '",
-    }
-}
-
-/// The URL or the crawler's name that a message begins with, if there is one.
-fn about_part<'a>(cause: Cause, about: Option<&'a str>) -> Part<'a>
-    ensures { raw_text result ≡ part_text (about_part cause (option_map (λ name. name.now) about.entry)) }
-{
-    match about {
-        Some(name) => Part(about_label(cause), Value::Untrusted(name.as_bytes())),
-        None => Part("", Value::Nothing),
+        | Cause::GoogleIgnoresStar => Part("crawler '", name),
+        _ => Part("URL '", name),
     }
 }
 

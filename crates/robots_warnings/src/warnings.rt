@@ -1,32 +1,27 @@
 //! All warnings about a file and a request.
 ghost use Rattle.std.specs.Prelude.{◌≡◌, [], IfOk, OnOk, flat_map, if◌then◌else◌, map, option_map, string_bytes};
-ghost use Rattle.std.specs.BTreeMap.{get};
-ghost use Rattle.std.specs.BTreeSet.{contains};
-ghost use Rattle.std.specs.Ordering.{nat_cmp};
 ghost use Rattle.texting_robots.specs.Callers.{bodies_read, by_value, file_lines, label_by_value};
 ghost use Rattle.robots_warnings.specs.Checks.{directive_checks, is_directive, raw_checks, rule_checks, value_checks};
 ghost use Rattle.robots_warnings.specs.Contents.{comment_of, tail_of};
 ghost use Rattle.robots_warnings.specs.EmptyDisallows.{is_empty_at};
 ghost use Rattle.robots_warnings.specs.Internal.{Adds};
-ghost use Rattle.robots_warnings.specs.Warnings.{agent_warnings, crawler_shown, crawler_warnings, file_lines_warnings, general_warnings};
-ghost use Rattle.robots_warnings.specs.Warnings.{google_warnings, googlebot_warnings, group_warnings, line_warnings, lines_warnings};
-ghost use Rattle.robots_warnings.specs.Warnings.{past_limit_warnings, position_warnings, rule_warnings, star_warnings, url_warnings, warned, warned_at, warned_beside, warnings};
+ghost use Rattle.robots_warnings.specs.Internal.Rules.{warnings_at};
+ghost use Rattle.robots_warnings.specs.Warnings.{agent_warnings, crawler_warnings, file_lines_warnings, general_warnings};
+ghost use Rattle.robots_warnings.specs.Warnings.{google_warning, google_warnings, group_warnings, line_warnings, lines_warnings};
+ghost use Rattle.robots_warnings.specs.Warnings.{past_limit_warnings, position_warnings, url_warnings, warned, warned_at, warned_beside, warnings};
 
 use crate::checks::{
-    Check, agent_checks, delay_checks, delay_text_checks, field_checks, file_checks,
-    ignored_checks, is_in_scope_of, position_checks, raw_rule_checks, rule_checks, sitemap_checks,
-    space_checks, text_checks, url_checks, user_agent_checks,
+    Check, agent_checks, field_checks, file_checks, is_in_scope_of, position_checks,
+    raw_rule_checks, rule_checks, sitemap_checks, text_checks, url_checks, user_agent_checks,
 };
-use crate::closed::closed;
-use crate::conflicts::{Others, conflicts, overruled};
-use crate::contents::split_content;
+use crate::conflicts::{RuleLines, rule_lines};
+use crate::contents::{has_odd_delay, has_odd_space, split_content};
 use crate::empty_disallows::empty_disallows;
 use crate::facts::{FileFacts, suppresses_line_warnings};
-use crate::field_names::is_without_colon;
+use crate::field_names::{is_without_colon, meant_by};
 use crate::file::{counted, is_blank};
-use crate::google::{IGNORING_STAR, LIKE_GOOGLEBOT, googlebot_checks, star_checks};
+use crate::google::{IGNORING_STAR, LIKE_GOOGLEBOT, is_given, is_named_at_google};
 use crate::names_past_limit::names_past_limit;
-use crate::numbers::Numbers;
 use crate::positions::{Preceding, first_delay, last_group, preceding_with, sole_name};
 use crate::repeated::repeated;
 use crate::replaced::{replacing, star_count};
@@ -37,6 +32,19 @@ use std::alloc::{AllocError, Global};
 use texting_robots::labels::LabeledLine;
 use texting_robots::parser::{Line, file_bodies};
 use texting_robots::site::Site;
+
+/// Microseconds per day.
+const DAY: u64 = 86_400_000_000;
+
+/// A file as it was read.
+#[derive(Clone, Copy)]
+pub struct FileRead<'f, 'b> {
+    pub bytes: &'f [u8],
+    pub facts: FileFacts,
+    /// The lines within the size limit.
+    pub labels: &'f [LabeledLine<'b>],
+    pub site: &'f Site,
+}
 
 /// The warnings found so far.
 type Found<'a> = Vec<Warning<'a>>;
@@ -84,13 +92,6 @@ fn warn_at(
     Ok(())
 }
 
-/// The name of a crawler in a warning about it: none if the report is about a single crawler.
-fn crawler_shown<'a>(everywhere: bool, agent: &'a str) -> Option<&'a str>
-    ensures { option_map (λ name. name.now) result ≡ crawler_shown everywhere agent.now }
-{
-    if everywhere { Some(agent) } else { None }
-}
-
 /// Appends the warnings about the crawlers that the user named.
 fn warn_of_agents<'a>(
     found: &mut Found<'a>,
@@ -101,7 +102,7 @@ fn warn_of_agents<'a>(
         (flat_map (agent_warnings everywhere) (map (λ name. name.now) named.now))) }
 {
     for name in named {
-        let shown = crawler_shown(everywhere, name);
+        let shown = if everywhere { Some(*name) } else { None };
         warn(found, None, shown, &agent_checks(name))?;
     }
     Ok(())
@@ -155,9 +156,13 @@ fn warn_of_value(
         Line::Allow(value) | Line::Disallow(value) if is_in_scope => {
             warn(found, at, None, &rule_checks(value))
         }
-        Line::CrawlDelay(Some(micros)) => warn(found, at, None, &delay_checks(micros)),
+        Line::CrawlDelay(Some(micros)) => {
+            warn(found, at, None, &[(Cause::DelayOverADay, micros > DAY)])
+        }
         Line::Sitemap(value) => warn(found, at, None, &sitemap_checks(alloc, value)?),
-        Line::Raw(body) if !is_blank(body) => warn(found, at, None, &ignored_checks(alloc, body)?),
+        Line::Raw(body) if !is_blank(body) => {
+            warn(found, at, None, &[(meant_by(alloc, body)?, true)])
+        }
         _ => Ok(()),
     }
 }
@@ -176,13 +181,17 @@ fn warn_of_raw_value(
     let at = Some(number);
     match line {
         Line::UserAgent(value) | Line::Sitemap(value) => {
-            warn(found, at, None, &space_checks(value, parts.0))
+            let is_odd = has_odd_space(value, parts.0);
+            warn(found, at, None, &[(Cause::SpaceAroundValue, is_odd)])
         }
         Line::Allow(value) | Line::Disallow(value) => {
             let checks = raw_rule_checks(is_in_scope, value, parts.0, parts.1);
             warn(found, at, None, &checks)
         }
-        Line::CrawlDelay(_) => warn(found, at, None, &delay_text_checks(parts.0)),
+        Line::CrawlDelay(_) => {
+            let is_odd = has_odd_delay(parts.0);
+            warn(found, at, None, &[(Cause::DelayNotation, is_odd)])
+        }
         Line::Raw(_) => Ok(()),
     }
 }
@@ -257,17 +266,17 @@ fn warn_of_lines(
 fn warn_of_file_lines(
     alloc: Global,
     found: &mut Found<'_>,
-    facts: FileFacts,
     everywhere: bool,
-    labels: &[LabeledLine<'_>],
-    file: &[u8],
+    read: &FileRead<'_, '_>,
 ) -> Result<(), AllocError>
-    ensures { OnOk result (Adds found.old.items found.new.items (file_lines_warnings facts everywhere (map label_by_value labels.now) (bodies_read file.now))) }
+    ensures { OnOk result (Adds found.old.items found.new.items
+        (file_lines_warnings read.now.facts everywhere (map label_by_value read.now.labels.now)
+        (bodies_read read.now.bytes.now))) }
 {
-    if suppresses_line_warnings(facts) {
+    if suppresses_line_warnings(read.facts) {
         return Ok(());
     }
-    warn_of_lines(alloc, found, everywhere, labels, file)
+    warn_of_lines(alloc, found, everywhere, read.labels, read.bytes)
 }
 
 /// Appends the warnings about the positions of lines.
@@ -294,16 +303,15 @@ fn warn_of_positions(found: &mut Found<'_>, labels: &[LabeledLine<'_>]) -> Resul
 fn warn_past_limit(
     alloc: Global,
     found: &mut Found<'_>,
-    facts: FileFacts,
-    file: &[u8],
-    labels: &[LabeledLine<'_>],
+    read: &FileRead<'_, '_>,
 ) -> Result<(), AllocError>
-    ensures { OnOk result (Adds found.old.items found.new.items (past_limit_warnings facts file.now (map label_by_value labels.now))) }
+    ensures { OnOk result (Adds found.old.items found.new.items
+        (past_limit_warnings read.now.facts read.now.bytes.now (map label_by_value read.now.labels.now))) }
 {
-    if !facts.is_too_large || suppresses_line_warnings(facts) {
+    if !read.facts.is_too_large || suppresses_line_warnings(read.facts) {
         return Ok(());
     }
-    let numbers = names_past_limit(alloc, file, labels)?;
+    let numbers = names_past_limit(alloc, read.bytes, read.labels)?;
     warn_at(found, Cause::GroupPastSizeLimit, None, &numbers)
 }
 
@@ -329,21 +337,14 @@ fn warn_beside(
 }
 
 /// Appends the warnings about the line with this number.
-fn warn_of_number(
-    found: &mut Found<'_>,
-    number: usize,
-    conflicts: &Others,
-    overruled: &Others,
-    closed: &Numbers,
-) -> Result<(), AllocError>
-    ensures { OnOk result (Adds found.old.items found.new.items (rule_warnings (get nat_cmp conflicts.now)
-        (get nat_cmp overruled.now) (contains nat_cmp closed.now) number)) }
+fn warn_of_number(found: &mut Found<'_>, number: usize, lines: &RuleLines) -> Result<(), AllocError>
+    ensures { OnOk result (Adds found.old.items found.new.items (warnings_at lines.now number)) }
 {
-    let allow = conflicts.get(&number).copied();
+    let allow = lines.conflicts.get(&number).copied();
     warn_beside(found, Cause::AllowedAndDisallowed, number, allow)?;
-    let disallow = overruled.get(&number).copied();
+    let disallow = lines.overruled.get(&number).copied();
     warn_beside(found, Cause::EmptyDisallow, number, disallow)?;
-    let closes = closed.contains(&number);
+    let closes = lines.closed.contains(&number);
     warn(
         found,
         Some(number),
@@ -356,16 +357,13 @@ fn warn_of_number(
 fn warn_of_numbers(
     found: &mut Found<'_>,
     labels: &[LabeledLine<'_>],
-    conflicts: &Others,
-    overruled: &Others,
-    closed: &Numbers,
+    lines: &RuleLines,
 ) -> Result<(), AllocError>
-    ensures { OnOk result (Adds found.old.items found.new.items (flat_map (λ label. rule_warnings
-        (get nat_cmp conflicts.now) (get nat_cmp overruled.now) (contains nat_cmp closed.now) label.number)
-        (map label_by_value labels.now))) }
+    ensures { OnOk result (Adds found.old.items found.new.items
+        (flat_map (λ label. warnings_at lines.now label.number) (map label_by_value labels.now))) }
 {
     for labeled in labels {
-        warn_of_number(found, labeled.number, conflicts, overruled, closed)?;
+        warn_of_number(found, labeled.number, lines)?;
     }
     Ok(())
 }
@@ -374,60 +372,37 @@ fn warn_of_numbers(
 fn warn_of_crawlers(
     alloc: Global,
     found: &mut Found<'_>,
-    site: &Site,
     agents: &[String],
-    file: &[u8],
-    labels: &[LabeledLine<'_>],
+    read: &FileRead<'_, '_>,
 ) -> Result<(), AllocError>
     ensures { OnOk result (Adds found.old.items found.new.items
-        (crawler_warnings (is_empty_at (bodies_read file.now) (map label_by_value labels.now))
-        (map string_bytes agents.now) (file_lines site.now) (map label_by_value labels.now))) }
+        (crawler_warnings (is_empty_at (bodies_read read.now.bytes.now) (map label_by_value read.now.labels.now))
+        (map string_bytes agents.now) (file_lines read.now.site.now) (map label_by_value read.now.labels.now))) }
 {
-    let empty = empty_disallows(alloc, labels, file)?;
-    let conflicts = conflicts(alloc, site, agents, &empty)?;
-    let overruled = overruled(alloc, site, agents, &empty)?;
-    let closed = closed(alloc, site, agents)?;
-    warn_of_numbers(found, labels, &conflicts, &overruled, &closed)
+    let empty = empty_disallows(alloc, read.labels, read.bytes)?;
+    let lines = rule_lines(alloc, read.site, agents, &empty)?;
+    warn_of_numbers(found, read.labels, &lines)
 }
 
-/// Appends the warnings about those of these crawlers with one of these names, which get the group of Googlebot
-/// if they have none of their own.
-fn warn_of_googlebots<'a>(
+/// Appends this warning about those of these crawlers with one of these names that have no group of their own at
+/// Google. `has_group` is true if there is the group that Google applies or doesn't apply to them.
+fn warn_of_names<'a>(
     found: &mut Found<'a>,
+    cause: Cause,
+    has_group: bool,
     everywhere: bool,
     site: &Site,
     agents: &[String],
     names: &[&'a str],
 ) -> Result<(), AllocError>
     ensures { OnOk result (Adds found.old.items found.new.items
-        (flat_map (googlebot_warnings everywhere (map string_bytes agents.now) (file_lines site.now))
+        (flat_map (google_warning cause has_group everywhere (map string_bytes agents.now) (file_lines site.now))
         (map (λ name. name.now) names.now))) }
 {
     for name in names {
-        let shown = crawler_shown(everywhere, name);
-        let checks = googlebot_checks(site, agents, name);
-        warn(found, None, shown, &checks)?;
-    }
-    Ok(())
-}
-
-/// Appends the warnings about those of these crawlers with one of these names, which never get the group of
-/// `*`.
-fn warn_of_star<'a>(
-    found: &mut Found<'a>,
-    everywhere: bool,
-    site: &Site,
-    agents: &[String],
-    names: &[&'a str],
-) -> Result<(), AllocError>
-    ensures { OnOk result (Adds found.old.items found.new.items
-        (flat_map (star_warnings everywhere (map string_bytes agents.now) (file_lines site.now))
-        (map (λ name. name.now) names.now))) }
-{
-    for name in names {
-        let shown = crawler_shown(everywhere, name);
-        let checks = star_checks(site, agents, name);
-        warn(found, None, shown, &checks)?;
+        let shown = if everywhere { Some(*name) } else { None };
+        let holds = has_group && is_given(agents, name) && !is_named_at_google(site, name);
+        warn(found, None, shown, &[(cause, holds)])?;
     }
     Ok(())
 }
@@ -442,8 +417,27 @@ fn warn_of_google(
     ensures { OnOk result (Adds found.old.items found.new.items
         (google_warnings everywhere (map string_bytes agents.now) (file_lines site.now))) }
 {
-    warn_of_googlebots(found, everywhere, site, agents, &LIKE_GOOGLEBOT)?;
-    warn_of_star(found, everywhere, site, agents, &IGNORING_STAR)
+    let has_googlebot = is_named_at_google(site, "Googlebot");
+    let like = &LIKE_GOOGLEBOT;
+    warn_of_names(
+        found,
+        Cause::GooglebotGroup,
+        has_googlebot,
+        everywhere,
+        site,
+        agents,
+        like,
+    )?;
+    let (has_star, ignoring) = (site.is_named("*"), &IGNORING_STAR);
+    warn_of_names(
+        found,
+        Cause::GoogleIgnoresStar,
+        has_star,
+        everywhere,
+        site,
+        agents,
+        ignoring,
+    )
 }
 
 /// Appends the warnings about the rules of a group or of a crawler as a whole.
@@ -451,17 +445,17 @@ fn warn_of_groups(
     alloc: Global,
     found: &mut Found<'_>,
     everywhere: bool,
-    site: &Site,
     agents: &[String],
-    file: &[u8],
-    labels: &[LabeledLine<'_>],
+    read: &FileRead<'_, '_>,
 ) -> Result<(), AllocError>
     ensures { OnOk result (Adds found.old.items found.new.items (group_warnings everywhere
-        (map string_bytes agents.now) (bodies_read file.now) (file_lines site.now) (map label_by_value labels.now))) }
+        (map string_bytes agents.now) (bodies_read read.now.bytes.now) (file_lines read.now.site.now)
+        (map label_by_value read.now.labels.now))) }
 {
+    let (labels, site) = (read.labels, read.site);
     let escapes = nonstandard_escapes(alloc, everywhere, labels)?;
     warn_at(found, Cause::NonstandardEscape, None, &escapes)?;
-    warn_of_crawlers(alloc, found, site, agents, file, labels)?;
+    warn_of_crawlers(alloc, found, agents, read)?;
     let replacing = replacing(alloc, site, agents, labels)?;
     let detail = Some(Detail::Rules(star_count(alloc, site)?));
     warn_at(found, Cause::ReplacesStar, detail, &replacing)?;
@@ -471,28 +465,26 @@ fn warn_of_groups(
 }
 
 /// All warnings about a file and a request, in the order of output. `everywhere` is false for a report on a single
-/// crawler, and else the rules of all groups are checked. `facts`, `labels` and `site` are those of this file,
-/// `named` are the crawlers that the user named, and `agents` those reported on.
+/// crawler, and else the rules of all groups are checked. `named` are the crawlers that the user named, and `agents`
+/// those reported on.
 pub fn warnings<'a>(
     alloc: Global,
     everywhere: bool,
     named: &[&'a str],
     agents: &[String],
     urls: &[&'a str],
-    file: &[u8],
-    facts: FileFacts,
-    labels: &[LabeledLine<'_>],
-    site: &Site,
+    read: &FileRead<'_, '_>,
 ) -> Result<Vec<Warning<'a>>, AllocError>
     ensures { IfOk result (λ found. found.items
         ≡ warnings everywhere (map (λ name. name.now) named.now) (map string_bytes agents.now)
-        (map (λ url. url.now) urls.now) file.now facts (map label_by_value labels.now) (file_lines site.now)) }
+        (map (λ url. url.now) urls.now) read.now.bytes.now read.now.facts
+        (map label_by_value read.now.labels.now) (file_lines read.now.site.now)) }
 {
     let mut found = Vec::new(alloc);
-    warn_in_general(alloc, &mut found, facts, everywhere, named, urls)?;
-    warn_of_file_lines(alloc, &mut found, facts, everywhere, labels, file)?;
-    warn_of_positions(&mut found, labels)?;
-    warn_past_limit(alloc, &mut found, facts, file, labels)?;
-    warn_of_groups(alloc, &mut found, everywhere, site, agents, file, labels)?;
+    warn_in_general(alloc, &mut found, read.facts, everywhere, named, urls)?;
+    warn_of_file_lines(alloc, &mut found, everywhere, read)?;
+    warn_of_positions(&mut found, read.labels)?;
+    warn_past_limit(alloc, &mut found, read)?;
+    warn_of_groups(alloc, &mut found, everywhere, agents, read)?;
     Ok(found)
 }

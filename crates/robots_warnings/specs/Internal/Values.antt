@@ -1,10 +1,16 @@
--- Sets of the values of rules.
-use Rattle.std.specs.Prelude.{◌≡◌, ℕ, Bool, List, ◌||◌, bytes_eq}
-use Rattle.std.specs.HashSet.{HashSet, contains}
+-- Sets of the values of rules, and the rules of a group that were seen so far.
+use Rattle.std.specs.Prelude.{◌≡◌, ℕ, Bool, List, ◌||◌, bytes_eq, false, true, ◌++◌}
+use Rattle.std.specs.HashSet as hash
+use Rattle.std.specs.HashSet.{HashSet}
 use Rattle.std.specs.List.{list_any}
-use Rattle.texting_robots.specs.Callers.{LineValue}
+use Rattle.texting_robots.specs.Callers.{LineValue, Allow, Disallow, Label}
 use Rattle.robots_warnings.specs.declared.values.Value.{Value}
 use Rattle.robots_warnings.specs.Spellings.{is_rule_with}
+use Rattle.std.specs.BTreeSet.{BTreeSet, contains}
+use Rattle.robots_warnings.specs.Internal.Names.{Key, key_cmp}
+use Rattle.robots_warnings.specs.Rules.{begins_odd_escape, somewhere}
+use Rattle.robots_warnings.specs.declared.repeated.Seen.{Seen}
+use Rattle.robots_warnings.specs.Repeated.{above_next, is_repeated, repeated, repeated_from}
 
 abbrev pub value_eq : Value → Value → Bool
 value_eq one two = bytes_eq one.bytes.now two.bytes.now
@@ -16,12 +22,48 @@ Values S = HashSet Value S
 -- the set has exactly the values of the rules of this kind in these lines
 pub record HasValues {S : Type 0} (values : Values S) (is_allow : Bool) (lines : List LineValue)
     : Type 0 where
-  pub each : (key : Value) → contains value_eq values key
+  pub each : (key : Value) → hash.contains value_eq values key
       ≡ list_any (is_rule_with is_allow key.bytes.now) lines
 
 -- the value was inserted, and `is` is true if the set had it already
 pub record AddsValue {S : Type 0} (old new : Values S) (value : List ℕ) (is : Bool) : Type 0 where
   pub was : (is_allow : Bool) (lines : List LineValue) → HasValues old is_allow lines
       → is ≡ list_any (is_rule_with is_allow value) lines
-  pub each : (key : Value) → contains value_eq new key
-      ≡ (contains value_eq old key || bytes_eq value key.bytes.now)
+  pub each : (key : Value) → hash.contains value_eq new key
+      ≡ (hash.contains value_eq old key || bytes_eq value key.bytes.now)
+
+-- the set has exactly the values of the rules of this kind in these lines
+pub record HasRuleValues (values : BTreeSet Key) (is_allow : Bool) (lines : List LineValue) : Type 0 where
+  pub each : (key : Key) → contains key_cmp values key ≡ list_any (is_rule_with is_allow key.items) lines
+
+-- the new set is the old one and the value of the line, if it is a rule of this kind
+pub record AddsRuleValue (old new : BTreeSet Key) (is_allow : Bool) (line : LineValue) : Type 0 where
+  pub each : (key : Key) → contains key_cmp new key
+      ≡ (contains key_cmp old key || is_rule_with is_allow key.items line)
+
+-- the line is a rule with a nonstandard escape
+abbrev pub has_odd_value : LineValue → Bool
+has_odd_value (Allow value) = somewhere begins_odd_escape value
+has_odd_value (Disallow value) = somewhere begins_odd_escape value
+has_odd_value _ = false
+
+abbrev pub has_odd_line : Label → Bool
+has_odd_line label = has_odd_value label.line
+
+-- the sets have exactly the values of the rules in these lines
+pub record HasSeen (seen : Seen) (above : List LineValue) : Type 0 where
+  pub allows : HasValues seen.allows true above
+  pub disallows : HasValues seen.disallows false above
+
+-- the line was added if it is a rule, or all rules were dropped if it is a user-agent line; `is` is true if
+-- the line repeats a rule
+pub record AddsLine (old new : Seen) (line : LineValue) (is : Bool) : Type 0 where
+  pub was : (above : List LineValue) → HasSeen old above → is ≡ is_repeated above line
+  pub has : (above : List LineValue) → HasSeen old above → HasSeen new (above_next above line)
+
+-- the search: `found` with the numbers among the labels that are left is the result
+pub record IsFoundUpto (everywhere : Bool) (seen : Seen) (found : List ℕ) (left all : List Label)
+    : Type 0 where
+  pub above : List LineValue
+  pub has : HasSeen seen above
+  pub numbers : found ++ repeated_from everywhere above left ≡ repeated everywhere all

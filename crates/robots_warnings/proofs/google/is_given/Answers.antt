@@ -1,13 +1,15 @@
-use Rattle.std.proofs.Common.{◌<◌, arith, length}
+use Rattle.std.proofs.Common.{String, rules, string_bytes, sym, tests, ◌∙◌}
+use Rattle.std.proofs.lemmas.Iterator.{YieldsList-from_slice}
+use Rattle.std.proofs.lemmas.Iterator.Search.{any_from_yields_List}
+use Rattle.std.specs.Global.{Global}
 use Rattle.std.specs.Str.{str_eq_ignore_ascii_case}
-use Rattle.robots_warnings.proofs.NameLemmas.{any_next}
+use Rattle.robots_warnings.proofs.TableLemmas.{any_part}
 use Rattle.robots_warnings.proofs.google.is_given.Goals as goal
 
-pub loop-agent-preserved : goal.loop-agent-preserved
-loop-agent-preserved c =
+pub returns : goal.returns
+returns c =
+    let name = c.args.name.now in
     let agents = c.args.agents.now in
-    let at = c.loop-agent.agent-index in
-    let item = c.agent-item.result in
-    let below : at < length agents = omega arith in
-    any_next (λ agent. str_eq_ignore_ascii_case c.args.name.now agent) agents at item below c.agent-item.is
-    c.deref.ensures c.loop-agent.invariant c.or_has_name-found.ensures
+    any_from_yields_List (λ (agent : String Global). str_eq_ignore_ascii_case name (string_bytes agent)) _ _ _
+    c.any.ensures.ran (YieldsList-from_slice agents cc) (λ x b q k. search (rules, tests))
+    ∙ sym (any_part (str_eq_ignore_ascii_case name) string_bytes agents)

@@ -1,5 +1,5 @@
 use Rattle.std.proofs.Common.{[], append-nil, refl, ◌∙◌}
-use Rattle.robots_warnings.proofs.NamesPastLimitLemmas.{found_more}
+use Rattle.robots_warnings.proofs.SeenLemmas.{found_more}
 use Rattle.robots_warnings.proofs.names_past_limit.names_past_limit.Goals as goal
 
 pub loop-index-init : goal.loop-index-init

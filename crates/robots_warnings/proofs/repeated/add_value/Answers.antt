@@ -1,7 +1,7 @@
-use Rattle.robots_warnings.proofs.RepeatedLemmas.{value_added}
+use Rattle.robots_warnings.proofs.SeenLemmas.{value_inserted}
 use Rattle.robots_warnings.proofs.repeated.add_value.Goals as goal
 
 pub returns : goal.returns
 returns c =
-    value_added c.args.values.now c.insert.new.self (record { bytes = c.args.bytes }) c.in_ok-insert.field-0
+    value_inserted c.args.values.now c.insert.new.self (record { bytes = c.args.bytes }) c.in_ok-insert.field-0
     c.in_ok-insert.ensures.added c.in_ok-insert.ensures.updates

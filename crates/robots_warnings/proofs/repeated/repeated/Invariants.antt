@@ -1,6 +1,6 @@
 use Rattle.std.proofs.Common.{drop, map}
 use Rattle.texting_robots.specs.Callers.{label_by_value}
-use Rattle.robots_warnings.specs.Internal.Repeated.{IsFoundUpto}
+use Rattle.robots_warnings.specs.Internal.Values.{IsFoundUpto}
 use Rattle.robots_warnings.proofs.repeated.repeated.Given as goal
 
 abbrev pub invariant-loop-labeled : goal.invariant-loop-labeled

@@ -1,5 +1,5 @@
 use Rattle.std.proofs.Common.{rules}
-use Rattle.robots_warnings.proofs.ReplacedLemmas.{denied_added}
+use Rattle.robots_warnings.proofs.RuleLemmas.{denied_added}
 use Rattle.robots_warnings.proofs.replaced.add_denied.Goals as goal
 
 pub returns-in_ok-insert : goal.returns-in_ok-insert

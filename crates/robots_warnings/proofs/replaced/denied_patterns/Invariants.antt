@@ -1,5 +1,5 @@
 use Rattle.texting_robots.specs.Callers.{file_lines}
-use Rattle.robots_warnings.specs.Internal.Replaced.{DeniedWith}
+use Rattle.robots_warnings.specs.Internal.Rules.{DeniedWith}
 use Rattle.robots_warnings.specs.Replaced.{star_rules}
 use Rattle.robots_warnings.proofs.replaced.denied_patterns.Given as goal
 

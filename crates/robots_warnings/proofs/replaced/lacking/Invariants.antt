@@ -1,6 +1,6 @@
 use Rattle.std.proofs.Common.{map, string_bytes, take}
 use Rattle.texting_robots.specs.Callers.{file_lines}
-use Rattle.robots_warnings.specs.Internal.Replaced.{HasDenied, HasThose}
+use Rattle.robots_warnings.specs.Internal.Rules.{HasDenied, HasThose}
 use Rattle.robots_warnings.specs.Replaced.{is_lacking, star_rules}
 use Rattle.robots_warnings.proofs.replaced.lacking.Given as goal
 

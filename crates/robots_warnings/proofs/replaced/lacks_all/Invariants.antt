@@ -1,7 +1,7 @@
 use Rattle.std.proofs.Common.{◌≡◌}
 use Rattle.std.specs.List.{list_any}
 use Rattle.texting_robots.specs.Callers.{file_lines, placed_rules}
-use Rattle.robots_warnings.specs.Internal.Replaced.{is_kept_in}
+use Rattle.robots_warnings.specs.Internal.Rules.{is_kept_in}
 use Rattle.robots_warnings.proofs.replaced.lacks_all.Given as goal
 
 abbrev pub invariant-loop-rule : goal.invariant-loop-rule

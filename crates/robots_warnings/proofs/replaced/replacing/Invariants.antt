@@ -1,7 +1,7 @@
 use Rattle.std.proofs.Common.{◌≡◌, ◌++◌, length, map, string_bytes}
 use Rattle.texting_robots.specs.Callers.{file_lines, label_by_value}
 use Rattle.robots_warnings.specs.declared.positions.Preceding.TheVariants.{Other}
-use Rattle.robots_warnings.specs.Internal.Replaced.{HasThose}
+use Rattle.robots_warnings.specs.Internal.Rules.{HasThose}
 use Rattle.robots_warnings.specs.Replaced.{is_lacking, replacing_from}
 use Rattle.robots_warnings.proofs.replaced.replacing.Given as goal
 

@@ -1,6 +1,6 @@
 use Rattle.std.proofs.Common.{arith, rules}
 use Rattle.std.proofs.lemmas.Grind.{common_steps}
-use Rattle.robots_warnings.proofs.RuleLemmas.{somewhere_next}
+use Rattle.robots_warnings.proofs.StepLemmas.{somewhere_next}
 use Rattle.robots_warnings.proofs.rules.somewhere.Goals as goal
 
 pub returns-then-test : goal.returns-then-test

@@ -2,8 +2,8 @@ use Rattle.std.proofs.Common.{◌≡◌, append-nil, false, map, rules, sym}
 use Rattle.std.specs.List.{list_any}
 use Rattle.texting_robots.specs.Callers.{label_by_value}
 use Rattle.robots_warnings.specs.File.{lines_of}
-use Rattle.robots_warnings.specs.Internal.Spellings.{has_odd_line}
-use Rattle.robots_warnings.proofs.SpellingLemmas.{none_unpaired}
+use Rattle.robots_warnings.specs.Internal.Values.{has_odd_line}
+use Rattle.robots_warnings.proofs.SeenLemmas.{none_unpaired}
 use Rattle.robots_warnings.proofs.spellings.add_unpaired.Goals as goal
 
 pub returns-then-not-has_odd_lines : goal.returns-then-not-has_odd_lines

@@ -3,7 +3,7 @@ use Rattle.std.proofs.lemmas.Iterator.Consumers.{map_from_collect}
 use Rattle.std.proofs.lemmas.Iterator.Splits.{YieldsList-from_slice_split}
 use Rattle.texting_robots.specs.Callers.{label_by_value}
 use Rattle.robots_warnings.specs.Spellings.{is_agent_line}
-use Rattle.robots_warnings.proofs.SpellingLemmas.{split_by_value}
+use Rattle.robots_warnings.proofs.SeenLemmas.{split_by_value}
 use Rattle.robots_warnings.proofs.spellings.groups.Goals as goal
 
 pub returns : goal.returns

@@ -1,7 +1,7 @@
 use Rattle.std.proofs.Common.{◌≡◌, drop, map}
 use Rattle.std.specs.List.{list_any}
 use Rattle.texting_robots.specs.Callers.{label_by_value}
-use Rattle.robots_warnings.specs.Internal.Spellings.{has_odd_line}
+use Rattle.robots_warnings.specs.Internal.Values.{has_odd_line}
 use Rattle.robots_warnings.proofs.spellings.has_odd_lines.Given as goal
 
 abbrev pub invariant-loop-labeled : goal.invariant-loop-labeled

@@ -1,6 +1,6 @@
 use Rattle.std.proofs.Common.{◌∙◌, append-nil, arith, sym}
 use Rattle.std.proofs.lemmas.Grind.{common_steps}
-use Rattle.robots_warnings.proofs.SpellingLemmas.{next_byte, next_escape, no_bytes}
+use Rattle.robots_warnings.proofs.SeenLemmas.{next_byte, next_escape, no_bytes}
 use Rattle.robots_warnings.proofs.spellings.standard_spelling.Goals as goal
 
 pub loop-rest-preserved-then-begins_escape : goal.loop-rest-preserved-then-begins_escape

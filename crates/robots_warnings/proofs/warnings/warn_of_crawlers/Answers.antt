@@ -19,14 +19,14 @@ agreeing labels p q r =
 
 pub returns : goal.returns
 returns c =
-    let labels = map label_by_value c.args.labels.now in
+    let labels = map label_by_value c.args.read.now.labels.now in
     let agents = map string_bytes c.args.agents.now in
-    let lines = file_lines c.args.site.now in
-    let empty : contains nat_cmp c.in_ok-empty.empty ≡ is_empty_at (bodies_read c.args.file.now) labels =
+    let lines = file_lines c.args.read.now.site.now in
+    let empty : contains nat_cmp c.in_ok-empty.empty ≡ is_empty_at (bodies_read c.args.read.now.bytes.now) labels =
     λ i n. c.in_ok-empty.ensures n i in
     let same = agreeing labels
-    (λ n. c.in_ok-conflicts.ensures n ∙ ap (λ is_empty. conflict is_empty agents lines n) empty)
-    (λ n. c.in_ok-overruled.ensures n ∙ ap (λ is_empty. overruled is_empty agents lines n) empty)
-    (λ n. c.in_ok-closed.ensures n) in
+    (λ n. c.in_ok-lines.ensures.conflicts n ∙ ap (λ is_empty. conflict is_empty agents lines n) empty)
+    (λ n. c.in_ok-lines.ensures.overruled n ∙ ap (λ is_empty. overruled is_empty agents lines n) empty)
+    c.in_ok-lines.ensures.closed in
     subst (λ more. OnOk c.warn_of_numbers.result
     (Adds c.args.found.now.items c.warn_of_numbers.new.found.items more)) same c.warn_of_numbers.ensures

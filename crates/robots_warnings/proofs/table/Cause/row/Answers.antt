@@ -1,11 +1,9 @@
-use Rattle.std.proofs.Common.{[], sym, ap, ◌∙◌}
-use Rattle.std.specs.Prelude.{slice_index_or}
+use Rattle.std.proofs.Common.{[]}
 use Rattle.robots_warnings.specs.Internal.{Row}
 use Rattle.robots_text.specs.declared.level.Level.TheVariants as level
-use Rattle.robots_warnings.specs.Table.{level_of, name_of, number_of, text_of}
-use Rattle.robots_warnings.specs.Table.{topic_of}
+use Rattle.robots_warnings.specs.Table.{level_of, name_of, text_of, topic_of}
 use Rattle.robots_warnings.specs.declared.table.Topic.TheVariants.{Syntax}
-use Rattle.robots_warnings.proofs.TableLemmas.{own_row, part_at}
+use Rattle.robots_warnings.proofs.TableLemmas.{own_row, part_in}
 use Rattle.robots_warnings.proofs.table.Cause.row.Goals as goal
 
 pub returns-clause-own : goal.returns-clause-own
@@ -13,20 +11,16 @@ returns-clause-own c = own_row (λ (row : Row). row.0) c.args.self c.row_at.ensu
 
 pub returns-clause-level : goal.returns-clause-level
 unfolding level_of
-returns-clause-level c = sym (part_at (λ (row : Row). row.1) level.Warning c.row_at.ensures)
-    ∙ ap (λ levels. slice_index_or levels (number_of c.args.self) level.Warning) c.rows.ensures.levels
+returns-clause-level c = part_in (λ (row : Row). row.1) level.Warning c.row_at.ensures c.rows.ensures.levels
 
 pub returns-clause-topic : goal.returns-clause-topic
 unfolding topic_of
-returns-clause-topic c = sym (part_at (λ (row : Row). row.2) Syntax c.row_at.ensures)
-    ∙ ap (λ topics. slice_index_or topics (number_of c.args.self) Syntax) c.rows.ensures.topics
+returns-clause-topic c = part_in (λ (row : Row). row.2) Syntax c.row_at.ensures c.rows.ensures.topics
 
 pub returns-clause-name : goal.returns-clause-name
 unfolding name_of
-returns-clause-name c = sym (part_at (λ (row : Row). row.3.now) [] c.row_at.ensures)
-    ∙ ap (λ names. slice_index_or names (number_of c.args.self) []) c.rows.ensures.names
+returns-clause-name c = part_in (λ (row : Row). row.3.now) [] c.row_at.ensures c.rows.ensures.names
 
 pub returns-clause-text : goal.returns-clause-text
 unfolding text_of
-returns-clause-text c = sym (part_at (λ (row : Row). row.4.now) [] c.row_at.ensures)
-    ∙ ap (λ texts. slice_index_or texts (number_of c.args.self) []) c.rows.ensures.texts
+returns-clause-text c = part_in (λ (row : Row). row.4.now) [] c.row_at.ensures c.rows.ensures.texts

@@ -1,28 +1,36 @@
--- Rules with a nonstandard escape, and the standard spelling.
+-- How names and the values of rules are remembered, and how lines are found by them.
 use Rattle.std.proofs.Common.{◌≡◌, ℕ, ◌+◌, ◌<◌, Bool, true, false, List, [], ◌∷◌, ◌++◌, ◌∙◌, ◌||◌, ◌&&◌, ap}
 use Rattle.std.proofs.Common.{arith, drop, filter, if◌then◌else◌, inl, inr, length, map, refl}
-use Rattle.std.proofs.Common.{slice_index_or, sym, take}
+use Rattle.std.proofs.Common.{slice_index_or, sym, take, append_assoc, not, bytes_eq}
 use Rattle.std.proofs.Math.Bool.{or-false}
-use Rattle.std.proofs.lemmas.Bool.{cases_Bool}
-use Rattle.std.proofs.lemmas.List.{drop_more, map-append, take_more}
+use Rattle.std.proofs.lemmas.Bool.{cases_Bool, or_parts}
+use Rattle.std.proofs.lemmas.List.{drop_more, map-append, take_more, length_push}
 use Rattle.std.proofs.lemmas.List.Folds.{list_any-append}
 use Rattle.std.proofs.lemmas.Map.Text.{is_eq-slice_cmp}
 use Rattle.std.proofs.lemmas.Simd.{map-map}
 use Rattle.std.specs.BTreeSet.{BTreeSet, Updates, contains}
 use Rattle.std.specs.Borrow.{Bor}
 use Rattle.std.specs.Global.{Vec}
-use Rattle.std.specs.List.{list_any, onto_first, slice_split}
-use Rattle.std.specs.Prelude.{Err, IfOk, Ok, Result, bytes_eq, cond, slice_index}
+use Rattle.std.specs.List.{list_any, onto_first, slice_split, enumerate_from}
+use Rattle.std.specs.Prelude.{Err, IfOk, Ok, Result, cond, slice_index}
 use Rattle.texting_robots.specs.declared.labels.LabeledLine.{LabeledLine}
 use Rattle.texting_robots.specs.Callers.{Allow, CrawlDelay, Disallow, Label, LineValue, Raw, Sitemap}
-use Rattle.texting_robots.specs.Callers.{UserAgent, by_value, label_by_value}
+use Rattle.texting_robots.specs.Callers.{UserAgent, by_value, label_by_value, file_lines}
 use Rattle.robots_warnings.specs.File.{lines_of}
-use Rattle.robots_warnings.specs.Internal.Names.{Key, key_cmp}
-use Rattle.robots_warnings.specs.Internal.Spellings.{AddsValue, HasValues, has_odd_line, has_odd_value}
+use Rattle.robots_warnings.specs.Internal.Names.{Key, key_cmp, AddsLine, HasNames, IsFoundUpto}
+use Rattle.robots_warnings.specs.Internal.Names.{past_limit_from}
+use Rattle.robots_warnings.specs.Internal.Values.{AddsRuleValue, HasRuleValues, has_odd_line, has_odd_value}
 use Rattle.robots_warnings.specs.Spellings.{is_agent_line, is_escape, is_unpaired_at, is_unpaired_line}
 use Rattle.robots_warnings.specs.Spellings.{standard_escape, standard_spelling}
 use Rattle.robots_warnings.proofs.NameLemmas.{either}
-use Rattle.robots_warnings.proofs.NumberLemmas.{picked}
+use Rattle.robots_warnings.proofs.StepLemmas.{picked}
+use Rattle.std.specs.HashSet as hash
+use Rattle.robots_warnings.specs.declared.repeated.Seen.{Seen}
+use Rattle.robots_warnings.specs.declared.values.Value.{Value}
+use Rattle.robots_warnings.specs.Internal.Values as sets
+use Rattle.robots_warnings.specs.Repeated.{above_next, is_checked, repeated_from}
+use Rattle.std.proofs.Math.Seq.{take-append_seam}
+use Rattle.robots_warnings.specs.NamesPastLimit.{is_past_limit}
 
 -- ---- the standard spelling
 
@@ -63,9 +71,9 @@ value_added old new value updates key =
 -- loop step: the set has the values of one more line
 pub values_more : (group : List LabeledLine) (at : ℕ) (labeled : LabeledLine) {old new : BTreeSet Key}
     {is_allow : Bool}
-    → at < length group → HasValues old is_allow (lines_of (map label_by_value (take at group)))
-    → AddsValue old new is_allow (by_value (slice_index_or group at labeled).line)
-    → HasValues new is_allow (lines_of (map label_by_value (take (at + 1) group)))
+    → at < length group → HasRuleValues old is_allow (lines_of (map label_by_value (take at group)))
+    → AddsRuleValue old new is_allow (by_value (slice_index_or group at labeled).line)
+    → HasRuleValues new is_allow (lines_of (map label_by_value (take (at + 1) group)))
 values_more group at labeled below has adds = record {
   each = λ key. rw (adds.each key, has.each key, take_more group at labeled below)
       (simp (map-append, list_any-append, or-false));
@@ -76,10 +84,6 @@ values_more group at labeled below has adds = record {
 pub and_false : (a b : Bool) → b ≡ false → (a && b) ≡ false
 and_false true b is = is
 and_false false b is = refl
-
-pub neither : (a b : Bool) → (a || b) ≡ false → (a ≡ false) × (b ≡ false)
-neither true b is = cc
-neither false b is = (refl, is)
 
 plain_is_paired : (group : List LineValue) (line : LineValue) → has_odd_value line ≡ false
     → is_unpaired_line group line ≡ false
@@ -95,7 +99,7 @@ pub none_unpaired : (everywhere : Bool) (group : List LineValue) (labels : List 
     → list_any has_odd_line labels ≡ false → filter (is_unpaired_at everywhere group) labels ≡ []
 none_unpaired everywhere group [] none = refl
 none_unpaired everywhere group (label ∷ labels) none =
-    let (here, later) = neither _ _ none in
+    let (here, later) = or_parts _ _ none in
     rw (and_false _ _ (plain_is_paired group label.line here)) (none_unpaired everywhere group labels later)
 
 -- whether there is a rule with a nonstandard escape from index `at` on, in terms of the line there
@@ -149,3 +153,82 @@ split_by_value (Ok parts) labels are =
     sym (map-map (map label_by_value) (λ (part : Bor (List LabeledLine)). part.now) parts.items)
     ∙ ap (map (map label_by_value)) are ∙ split_mapped label_by_value is_agent_line labels
 split_by_value (Err error) labels are = are
+
+-- ---- rules that repeat another one
+
+not_not : (a b : Bool) → b ≡ not a → not b ≡ a
+not_not true b is = rw is refl
+not_not false b is = rw is refl
+
+-- inserting a value
+pub value_inserted : {S : Type 0} (old new : sets.Values S) (key : Value) (is_new : Bool)
+    → is_new ≡ not (hash.contains sets.value_eq old key)
+    → hash.Updates sets.value_eq old new key true → sets.AddsValue old new key.bytes.now (not is_new)
+value_inserted old new key is_new added updates = record {
+  was = λ is_allow lines has. not_not (hash.contains sets.value_eq old key) is_new added ∙ has.each key;
+  each = λ other.
+      updates.0 other
+      ∙ either (hash.contains sets.value_eq old other) (bytes_eq key.bytes.now other.bytes.now);
+}
+
+-- loop step: one more line was added, and its number was taken if it repeats a rule
+pub found_next : (everywhere : Bool) {seen new_seen : Seen} {found new : List ℕ} (labels : List LabeledLine)
+    (at : ℕ) (labeled : LabeledLine) {all : List Label} {is : Bool} → at < length labels
+    → sets.IsFoundUpto everywhere seen found (map label_by_value (drop at labels)) all
+    → sets.AddsLine seen new_seen (by_value (slice_index_or labels at labeled).line) is
+    → new ≡ found ++ (if is_checked everywhere (slice_index_or labels at labeled).membership && is
+    then (slice_index_or labels at labeled).number ∷ [] else [])
+    → sets.IsFoundUpto everywhere new_seen new (map label_by_value (drop (at + 1) labels)) all
+found_next everywhere {seen} {new_seen} {found} {new} labels at labeled {all} {is} below before adds added =
+    let label : Label = label_by_value (slice_index_or labels at labeled) in
+    let left : List Label = map label_by_value (drop (at + 1) labels) in
+    let upto : sets.IsFoundUpto everywhere seen found (label ∷ left) all =
+    rw (drop_more labels at labeled below) at before in
+    let above = upto.above in
+    let rest = repeated_from everywhere (above_next above label.line) left in
+    let one : Bool → List ℕ = λ is.
+    if is_checked everywhere label.membership && is then label.number ∷ [] else [] in
+    record {
+      above = above_next above label.line;
+      has = adds.has above upto.has;
+      numbers = ap (λ (t : List ℕ). t ++ rest) added ∙ append_assoc found (one is) rest
+          ∙ ap (λ (t : Bool). found ++ (one t ++ rest)) (adds.was above upto.has) ∙ upto.numbers;
+    }
+
+-- ---- names past the size limit
+
+-- loop step: the set has the names of one more line within the size limit
+pub read_more : (labels : List LabeledLine) (at : ℕ) (labeled : LabeledLine) {old new : BTreeSet Key}
+    {is_new : Bool}
+    → at < length labels → HasNames old (lines_of (map label_by_value (take at labels)))
+    → AddsLine old new (by_value (slice_index_or labels at labeled).line) is_new
+    → HasNames new (lines_of (map label_by_value (take (at + 1) labels)))
+read_more labels at labeled below has adds =
+    rw (take_more labels at labeled below) (simp (map-append, map-append) (adds.has _ has))
+
+-- loop step: one more line was examined, and its number was taken if its name is new
+pub found_more : {read : List LineValue} {file : List ℕ} {index : ℕ} {line : LineValue}
+    {left : List LineValue}
+    {names new_names : BTreeSet Key} {old new : List ℕ} {is_new : Bool}
+    → IsFoundUpto read file names old index (line ∷ left) → AddsLine names new_names line is_new
+    → new ≡ old ++ (if is_new then (index + 1) ∷ [] else [])
+    → IsFoundUpto read file new_names new (index + 1) left
+found_more {read} {file} {index} {line} {left} {old} {is_new} upto adds added =
+    let before = upto.before in
+    let rest : List ℕ = past_limit_from read file (index + 1) left in
+    let one : Bool → List ℕ = λ is. if is then (index + 1) ∷ [] else [] in
+    let so_far : take index (file_lines file) ≡ before =
+    rw (← upto.count, ← upto.parts) (take-append_seam before (line ∷ left)) in
+    let is : is_new ≡ is_past_limit read file (index, line) = rw so_far
+    (adds.was (read ++ before) upto.has) in
+    let taken = picked (λ (p : ℕ × LineValue). p.0 + 1) (is_past_limit read file (index, line)) (index, line)
+    (filter (is_past_limit read file) (enumerate_from (index + 1) left)) in
+    record {
+      before = before ++ line ∷ [];
+      count = length_push before line ∙ ap (λ n. n + 1) upto.count;
+      parts = append_assoc before (line ∷ []) left ∙ upto.parts;
+      has = rw (← append_assoc) (adds.has (read ++ before) upto.has);
+      all = ap (λ (t : List ℕ). t ++ rest) added ∙ append_assoc old (one is_new) rest
+          ∙ ap (λ (t : Bool). old ++ (one t ++ rest)) is ∙ ap (λ (t : List ℕ). old ++ t) (sym taken)
+          ∙ upto.all;
+    }

@@ -1,0 +1,119 @@
+-- Steps of loops over bytes and over lines.
+use Rattle.std.proofs.Common.{◌≡◌, ℕ, ◌+◌, ◌<◌, ◌==◌, ◌||◌, ◌&&◌, List, drop, length, refl, slice_index_or}
+use Rattle.std.proofs.Common.{Bool, map, not, take, ◌∷◌, [], arith, codes, false, nat_eq, ◌++◌, ap}
+use Rattle.std.proofs.Common.{append-nil, append_assoc, flat_map, sym, ◌∙◌, cond, true, if◌then◌else◌}
+use Rattle.std.proofs.lemmas.List.{drop_more, map-append, take_more}
+use Rattle.robots_warnings.specs.File.{hash, is_blank, space, tab, lines_of}
+use Rattle.std.proofs.Math.Bool.{or-false}
+use Rattle.std.proofs.lemmas.List.Folds.{list_any-append}
+use Rattle.texting_robots.specs.declared.labels.LabeledLine.{LabeledLine}
+use Rattle.texting_robots.specs.Callers.{by_value, label_by_value, Label}
+use Rattle.robots_warnings.specs.Facts.{kinds_of, nul_at_every_other}
+use Rattle.robots_warnings.specs.Internal.{kinds_with}
+use Rattle.std.specs.Option.{option_or}
+use Rattle.robots_warnings.specs.Positions.{begin_with_one, begin_with_rules, group_number, last_group}
+use Rattle.robots_warnings.specs.Positions.{name_star}
+use Rattle.std.specs.List.{starts_with}
+use Rattle.std.proofs.lemmas.Bool.Decides.{nat_tests}
+use Rattle.robots_warnings.specs.Rules.{begins_dot_segment, somewhere}
+use Rattle.std.proofs.lemmas.List.Concat.{flat_map-append}
+use Rattle.robots_warnings.specs.WarningValue.{WarningValue}
+
+-- ---- the bytes of a line
+
+-- whether a line is empty or a comment from index `at` on, in terms of the byte there
+pub blank_at : (body : List ℕ) (at byte : ℕ) → at < length body
+    → is_blank (drop at body)
+    ≡ (slice_index_or body at byte == hash
+    || ((slice_index_or body at byte == space || slice_index_or body at byte == tab)
+    && is_blank (drop (at + 1) body)))
+blank_at body at byte below = rw (drop_more body at byte below) refl
+
+-- ---- the file as a whole
+
+-- whether every other byte is NUL from index `at` on, in terms of the byte there
+pub nul_from : (here : Bool) (bytes : List ℕ) (at byte : ℕ) → at < length bytes
+    → nul_at_every_other here (drop at bytes)
+    ≡ ((not here || slice_index_or bytes at byte == 0)
+    && nul_at_every_other (not here) (drop (at + 1) bytes))
+nul_from here bytes at byte below = rw (drop_more bytes at byte below) refl
+
+-- the kinds of the first lines, with one more line
+pub kinds_next : (labels : List LabeledLine) (at : ℕ) (labeled : LabeledLine) → at < length labels
+    → kinds_of (lines_of (map label_by_value (take (at + 1) labels)))
+    ≡ kinds_with (kinds_of (lines_of (map label_by_value (take at labels))))
+    (by_value (slice_index_or labels at labeled).line)
+kinds_next labels at labeled below = rw (take_more labels at labeled below)
+    (simp (map-append, list_any-append, or-false))
+
+-- ---- the positions of lines
+
+-- the number of the last rule or delay from index `at` on, in terms of the line there
+pub last_from : (labels : List LabeledLine) (at : ℕ) (labeled : LabeledLine) → at < length labels
+    → last_group (map label_by_value (drop at labels))
+    ≡ option_or (last_group (map label_by_value (drop (at + 1) labels)))
+    (group_number (label_by_value (slice_index_or labels at labeled)))
+last_from labels at labeled below = rw (drop_more labels at labeled below) refl
+
+-- whether the lines from index `at` on begin with rules, in terms of the line there
+pub rules_from : (begun : Bool) (labels : List LabeledLine) (at : ℕ) (labeled : LabeledLine)
+    → at < length labels
+    → begin_with_rules begun (lines_of (map label_by_value (drop at labels)))
+    ≡ begin_with_rules begun (by_value (slice_index_or labels at labeled).line
+    ∷ lines_of (map label_by_value (drop (at + 1) labels)))
+rules_from begun labels at labeled below = rw (drop_more labels at labeled below) refl
+
+-- whether the lines from index `at` on begin with such a name, in terms of the line there
+pub name_from : (test : List ℕ → Bool) (labels : List LabeledLine) (at : ℕ) (labeled : LabeledLine)
+    → at < length labels
+    → begin_with_one test (lines_of (map label_by_value (drop at labels)))
+    ≡ begin_with_one test (by_value (slice_index_or labels at labeled).line
+    ∷ lines_of (map label_by_value (drop (at + 1) labels)))
+name_from test labels at labeled below = rw (drop_more labels at labeled below) refl
+
+-- whether the lines from index `at` on name `*` above their rules, in terms of the line there
+pub star_from : (labels : List LabeledLine) (at : ℕ) (labeled : LabeledLine) → at < length labels
+    → name_star (lines_of (map label_by_value (drop at labels)))
+    ≡ name_star (by_value (slice_index_or labels at labeled).line
+    ∷ lines_of (map label_by_value (drop (at + 1) labels)))
+star_from labels at labeled below = rw (drop_more labels at labeled below) refl
+
+-- ---- the value of a rule
+
+-- whether a test holds at some suffix of a string: at the string itself, or at a suffix of all but its first
+-- byte
+pub somewhere_next : (test : List ℕ → Bool) (text : List ℕ) → 0 < length text
+    → somewhere test text ≡ (test text || somewhere test (drop 1 text))
+somewhere_next test [] some = absurd (omega arith)
+somewhere_next test (b ∷ text) some = refl
+
+-- a text that doesn't start with `/.` doesn't start with a dot segment
+pub no_segment : (text : List ℕ) → starts_with nat_eq text (codes "/.") ≡ false
+    → begins_dot_segment text ≡ false
+no_segment [] none = refl
+no_segment (c ∷ []) none = grind (arith, nat_tests)
+no_segment (c ∷ (d ∷ text)) none = grind (arith, nat_tests)
+
+-- ---- warnings that are appended line by line
+
+-- loop step: the warnings about one line more were appended
+pub warned_next : (f : Label → List WarningValue) (labels : List LabeledLine) (at : ℕ) (labeled : LabeledLine)
+    (old : List WarningValue) {found new : List WarningValue} → at < length labels
+    → found ≡ old ++ flat_map f (map label_by_value (take at labels))
+    → new ≡ found ++ f (label_by_value (slice_index_or labels at labeled))
+    → new ≡ old ++ flat_map f (map label_by_value (take (at + 1) labels))
+warned_next f labels at labeled old below was is =
+    let front = flat_map f (map label_by_value (take at labels)) in
+    let last = f (label_by_value (slice_index_or labels at labeled)) in
+    is ∙ ap (λ found. found ++ last) was ∙ append_assoc old front last
+    ∙ ap (λ more. old ++ more)
+    (sym (rw (take_more labels at labeled below) (simp (map-append, flat_map-append, append-nil))))
+
+-- ---- the numbers of lines
+
+-- the numbers of one item more, for which `holds` is the condition
+pub picked : {X : Type 0} (number : X → ℕ) (holds : Bool) (x : X) (xs : List X)
+    → map number (cond holds (x ∷ xs) xs)
+    ≡ (if holds then number x ∷ [] else []) ++ map number xs
+picked number true x xs = refl
+picked number false x xs = refl

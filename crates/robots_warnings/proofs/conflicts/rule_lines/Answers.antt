@@ -1,0 +1,29 @@
+use Rattle.std.specs.BTreeSet.{contains}
+use Rattle.std.specs.Ordering.{nat_cmp}
+use Rattle.texting_robots.specs.Callers.{file_lines}
+use Rattle.robots_warnings.specs.Closed.{is_closed_for}
+use Rattle.robots_warnings.specs.Conflicts.{conflict_for, overruled_for}
+use Rattle.robots_warnings.proofs.RuleLemmas.{agents_next}
+use Rattle.robots_warnings.proofs.NameLemmas.{any_next}
+use Rattle.robots_warnings.proofs.conflicts.rule_lines.Goals as goal
+
+pub loop-agent-preserved : goal.loop-agent-preserved
+loop-agent-preserved c =
+    let agents = c.args.agents.now in
+    let at = c.loop-agent.agent-index in
+    let item = c.agent-item.result in
+    let lines = file_lines c.args.site.now in
+    let is_empty = contains nat_cmp c.args.empty.now in
+    let below = c.loop-agent-test.true in
+    let was = c.loop-agent.invariant in
+    record {
+      conflicts = λ number.
+          agents_next (conflict_for is_empty lines number) agents at item _ below c.agent-item.is
+          c.deref.ensures (c.in_ok-add_others.ensures.conflicts number) (was.conflicts number);
+      overruled = λ number.
+          agents_next (overruled_for is_empty lines number) agents at item _ below c.agent-item.is
+          c.deref.ensures (c.in_ok-add_others.ensures.overruled number) (was.overruled number);
+      closed = λ number.
+          any_next (is_closed_for lines number) agents at item below c.agent-item.is
+          c.deref-in-loop-agent.ensures (was.closed number) (c.in_ok-add_closed.ensures number);
+    }

@@ -1,0 +1,25 @@
+use Rattle.std.proofs.Common.{◌≡◌, ℕ, List, drop, map, string_bytes, take}
+use Rattle.std.specs.BTreeMap.{get}
+use Rattle.std.specs.BTreeSet.{contains}
+use Rattle.std.specs.Option.{option_or}
+use Rattle.std.specs.Ordering.{nat_cmp}
+use Rattle.texting_robots.specs.Callers.{file_lines}
+use Rattle.robots_warnings.specs.Closed.{is_closed}
+use Rattle.robots_warnings.specs.Conflicts.{conflict, overruled}
+use Rattle.robots_warnings.proofs.conflicts.rule_lines.Given as goal
+
+-- those of the first crawlers, and those of the others, are all
+abbrev pub invariant-loop-agent : goal.invariant-loop-agent
+invariant-loop-agent l =
+    let lines = file_lines l.site in
+    let is_empty = contains nat_cmp l.empty in
+    let all : List (List ℕ) = map string_bytes l.agents in
+    let left : List (List ℕ) = map string_bytes (drop l.agent-index l.agents) in
+    record {
+      conflicts : (number : ℕ) → option_or (get nat_cmp l.conflicts number)
+          (conflict is_empty left lines number) ≡ conflict is_empty all lines number;
+      overruled : (number : ℕ) → option_or (get nat_cmp l.overruled number)
+          (overruled is_empty left lines number) ≡ overruled is_empty all lines number;
+      closed : (number : ℕ) → contains nat_cmp l.closed number
+          ≡ is_closed (map string_bytes (take l.agent-index l.agents)) lines number;
+    }

@@ -1,6 +1,0 @@
-use Rattle.std.proofs.Common.{ap, take, ◌∙◌}
-use Rattle.std.proofs.lemmas.List.{take_min}
-use Rattle.robots_warnings.proofs.facts.first_bytes.Goals as goal
-
-pub returns : goal.returns
-returns c = ap (λ n. take n c.args.file.now) c.min.ensures ∙ take_min _ _
