@@ -11,7 +11,7 @@ use Rattle.texting_robots.specs.Internal.Statement.{IsOptionalComment}
 use Rattle.texting_robots.specs.Trim.{IsTrimOf}
 use Rattle.texting_robots.specs.declared.parser.statement.Kind.{Kind}
 use Rattle.texting_robots.proofs.TrimLemmas.{each_append}
-use Rattle.rfc9309_laws.proofs.EachLemmas.{each_weaker}
+use Rattle.rfc9309_laws.proofs.SyntaxLemmas.{each_weaker}
 use Rattle.robots_warnings.specs.Contents.{comment_of, tail_of}
 use Rattle.robots_warnings.specs.FieldNames.{is_any_accepted, is_space_or_tab, is_without_colon, name_in}
 use Rattle.robots_warnings.specs.FieldNames.{without_end, without_front}

@@ -12,7 +12,7 @@ use Rattle.std.proofs.lemmas.Str.{IsUtf8-from_is_utf8, is_utf8-from_IsUtf8}
 use Rattle.texting_robots.specs.Cut.{lf}
 use Rattle.texting_robots.specs.Internal.Statement.{IsOptionalComment}
 use Rattle.texting_robots.specs.declared.parser.statement.Kind.{Kind}
-use Rattle.rfc9309_laws.proofs.{EachLemmas.passing, KeyedLemmas.word_of, Utf8Lemmas.comment_text}
+use Rattle.rfc9309_laws.proofs.{SyntaxLemmas.passing, KeyedLemmas.word_of, CharLemmas.comment_text}
 use Rattle.rfc9309_laws.specs.HasForm.{is_comment_byte}
 use Rattle.rfc9309_laws.specs.Rfc9309 as rfc
 use Rattle.robots_warnings.specs.Contents.{comment_of, has_odd_comment, is_control, raw_value, tail_of}

@@ -15,7 +15,7 @@ use Rattle.texting_robots.specs.Cut.{lf}
 use Rattle.texting_robots.specs.Internal.Statement.{IsOptionalComment}
 use Rattle.texting_robots.specs.Statement.{IsStatement}
 use Rattle.texting_robots.specs.declared.parser.statement.Kind.TheVariants as kind
-use Rattle.rfc9309_laws.proofs.{EachLemmas.passing}
+use Rattle.rfc9309_laws.proofs.{SyntaxLemmas.passing}
 use Rattle.rfc9309_laws.specs.LineForms.{HasForm}
 use Rattle.rfc9309_laws.specs.LineForms as form
 use Rattle.rfc9309_laws.specs.Rfc9309 as rfc

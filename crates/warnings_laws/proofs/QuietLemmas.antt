@@ -9,7 +9,7 @@ use Rattle.std.proofs.lemmas.Bool.{and_from, cases_Bool, eqb-true, false≢true,
 use Rattle.std.proofs.lemmas.Bool.{or_cases, or_parts}
 use Rattle.std.proofs.lemmas.{Bool.Decides.nat_tests, Slice.Eq.bytes_eq-Decides}
 use Rattle.texting_robots.specs.Callers.{LineValue}
-use Rattle.rfc9309_laws.proofs.{EachLemmas.each_front, Utf8Lemmas.value_text}
+use Rattle.rfc9309_laws.proofs.{SyntaxLemmas.each_front, CharLemmas.value_text}
 use Rattle.rfc9309_laws.specs.HasForm.{is_value_byte}
 use Rattle.rfc9309_laws.specs.Rfc9309 as rfc
 use Rattle.robots_warnings.specs.Checks.{Check, directive_checks, raw_checks}

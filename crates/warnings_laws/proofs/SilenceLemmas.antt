@@ -4,7 +4,7 @@ use Rattle.std.proofs.Common.{None, Option, Some, map, not, refl}
 use Rattle.std.specs.List.{AllByRecursion as Each, AllZip}
 use Rattle.std.proofs.lemmas.Bool.{false≢true, not-true}
 use Rattle.texting_robots.specs.Callers.{IsLineOf, Label}
-use Rattle.rfc9309_laws.proofs.EachLemmas.{each_front}
+use Rattle.rfc9309_laws.proofs.SyntaxLemmas.{each_front}
 use Rattle.rfc9309_laws.specs.LineForms.{HasForm}
 use Rattle.robots_warnings.specs.Checks.{Check, file_checks, line_checks, position_checks}
 use Rattle.robots_warnings.specs.Facts.{suppresses_line_warnings}

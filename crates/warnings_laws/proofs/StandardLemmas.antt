@@ -6,7 +6,7 @@ use Rattle.std.proofs.lemmas.Bool.{cases_Bool, false≢true, ltb-false, not-fals
 use Rattle.std.proofs.lemmas.List.{take_all}
 use Rattle.texting_robots.specs.Callers.{IsRobotOfFile, RobotValue, file_limit, lines_read}
 use Rattle.rfc9309_laws.specs.Rfc9309.{Group, IsFile}
-use Rattle.rfc9309_laws.proofs.EachLemmas.{each_front}
+use Rattle.rfc9309_laws.proofs.SyntaxLemmas.{each_front}
 use Rattle.robots_warnings.specs.Facts.{facts_of, is_too_large}
 use Rattle.robots_warnings.specs.File.{labels_for}
 use Rattle.robots_warnings.specs.Table.{is_not_about_syntax}

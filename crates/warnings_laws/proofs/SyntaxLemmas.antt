@@ -8,7 +8,7 @@ use Rattle.texting_robots.specs.Callers.{IsLineOf, Label, LineValue}
 use Rattle.texting_robots.specs.Callers.{file_bodies, file_limit, group_name, lines_read}
 use Rattle.texting_robots.specs.Labels.{AreLabelsOf}
 use Rattle.texting_robots.proofs.{LabelLemmas.each_line_has_its_label, LineLemmas.lines_of_file_bodies}
-use Rattle.rfc9309_laws.proofs.{EachLemmas.each_front}
+use Rattle.rfc9309_laws.proofs.{SyntaxLemmas.each_front}
 use Rattle.rfc9309_laws.proofs.{LineFormLemmas.forms_make_file, RobotLemmas.forms_robot}
 use Rattle.rfc9309_laws.specs.LineForms.{AreForms, Form}
 use Rattle.robots_warnings.specs.Checks.{file_checks}
