@@ -259,27 +259,23 @@ empty body is =
       is_nl = inr (inl refl);
     }
 
+rule_of : (word value line : List ℕ) → rfc.IsKeyed word value line
+    → rfc.IsPattern value value ⊎ rfc.IsStarPattern value
+    → rfc.IsRuleWith word value line ⊎ (rfc.IsStarPattern value × rfc.IsKeyed word value line)
+rule_of word value line keyed (inl plain) =
+    inl (record { value = value; is_pattern = plain; is_line = keyed })
+rule_of word value line keyed (inr star) = inr (star, keyed)
+
 rule : (body : List ℕ) → has_form Rule body ≡ true → HasForm Rule body
 rule body is =
     let both = and_parts (is_keyed (codes "allow") body || is_keyed (codes "disallow") body) _ is in
     let value = value_in body in
+    let form = pattern value both.1 in
     elim (or_cases (is_keyed (codes "allow") body) (is_keyed (codes "disallow") body) both.0) [
       | inl allow ↦ let line = is_line (codes "allow") body allow in
-          elim (pattern value both.1) [
-            | inl plain ↦ (
-              rfc.Allow value,
-              inl (record { value = value; is_pattern = plain; is_line = line }),
-            )
-            | inr star ↦ (rfc.Allow value, inr (star, line))
-          ]
+          (rfc.Allow value, rule_of (codes "allow") value (body ++ lf ∷ []) line form)
       | inr disallow ↦ let line = is_line (codes "disallow") body disallow in
-          elim (pattern value both.1) [
-            | inl plain ↦ (
-              rfc.Disallow value,
-              inl (record { value = value; is_pattern = plain; is_line = line }),
-            )
-            | inr star ↦ (rfc.Disallow value, inr (star, line))
-          ]
+          (rfc.Disallow value, rule_of (codes "disallow") value (body ++ lf ∷ []) line form)
     ]
 
 other_form : (body : List ℕ) → has_form Other body ≡ true → HasForm Other body

@@ -123,30 +123,16 @@ closes_everything agent lines rules number text is are differs =
 
 -- ---- the first number that a function gives
 
-abbrev gives : ℕ → Option ℕ → Bool
-gives n None = false
-gives n (Some m) = m == n
-
-any_gives : {X : Type 0} (f : X → Option ℕ) (xs : List X) (n : ℕ) → first_of f xs ≡ Some n
-    → list_any (λ x. gives n (f x)) xs ≡ true
-any_gives f [] n is = cc
-any_gives f (x ∷ xs) n is = by (f x) (any_gives f xs n) is
-  where
-    by : (a : Option ℕ) → (first_of f xs ≡ Some n → list_any (λ x. gives n (f x)) xs ≡ true)
-        → option_or a (first_of f xs) ≡ Some n
-        → (gives n a || list_any (λ x. gives n (f x)) xs) ≡ true
-    by None later is = later is
-    by (Some m) later is = rw (eq-eqb m n cc) refl
-
-given : (n : ℕ) (a : Option ℕ) → gives n a ≡ true → a ≡ Some n
-given n None is = cc
-given n (Some m) is = ap Some (eqb-true m n is)
-
 pub first_found : {X : Type 0} (f : X → Option ℕ) (xs : List X) (n : ℕ) → first_of f xs ≡ Some n
     → Any (λ x. f x ≡ Some n) xs
-first_found f xs n is =
-    let (k, x, below, at, passes) = Any-from_list_any (λ x. gives n (f x)) xs (any_gives f xs n is) in
-    (k, x, below, at, given n (f x) passes)
+first_found f [] n is = cc
+first_found f (x ∷ xs) n is = by (f x) refl (first_found f xs n) is
+  where
+    by : (a : Option ℕ) → f x ≡ a → (first_of f xs ≡ Some n → Any (λ x. f x ≡ Some n) xs)
+        → option_or a (first_of f xs) ≡ Some n → Any (λ x. f x ≡ Some n) (x ∷ xs)
+    by None none later is =
+        let (k, y, below, at, given) = later is in (suc k, y, omega arith, at, given)
+    by (Some m) some later is = (0, x, omega arith, refl, some ∙ is)
 
 any_some : {X : Type 0} (f : X → Option ℕ) (xs : List X)
     → list_any (λ x. is_some (f x)) xs ≡ is_some (first_of f xs)

@@ -117,12 +117,10 @@ rule_line kind read value body is with_colon spelled space checks odd =
     ]
 
 allow_rule : (body : List ℕ) → IsRuleLine (codes "allow") body → HasForm form.Rule body
-allow_rule body (pattern, inl is) = (rfc.Allow pattern, inl is)
-allow_rule body (pattern, inr is) = (rfc.Allow pattern, inr is)
+allow_rule body (pattern, is) = (rfc.Allow pattern, is)
 
 disallow_rule : (body : List ℕ) → IsRuleLine (codes "disallow") body → HasForm form.Rule body
-disallow_rule body (pattern, inl is) = (rfc.Disallow pattern, inl is)
-disallow_rule body (pattern, inr is) = (rfc.Disallow pattern, inr is)
+disallow_rule body (pattern, is) = (rfc.Disallow pattern, is)
 
 pub allow_form : (value body : List ℕ) → IsLineOf (Allow value) body → IsQuietLine (Allow value) body
     → HasForm form.Rule body
