@@ -1,44 +1,218 @@
--- A file in the standard's grammar consists of the lines of its groups.
-use Rattle.std.proofs.Common.{◌≡◌, inl, inr, ℕ, List, [], ◌∷◌, ◌++◌, filter, flat_map, map, sym}
-use Rattle.std.proofs.Common.{refl, ap, append-nil, ◌∙◌}
-use Rattle.std.proofs.Common.{subst}
-use Rattle.std.specs.List.{AllByRecursion as Each}
-use Rattle.rfc9309_laws.proofs.{EndLemmas.file_sources, EndLemmas.file_sources_are, RuleLemmas.token_line}
-use Rattle.rfc9309_laws.proofs.MemberLemmas.{member_line, sitemap_line}
+-- A text built from the standard's productions consists of lines. A file of the grammar consists of the lines
+-- of its groups, and its sitemaps are those of its sitemap lines.
+use Rattle.std.proofs.Common.{◌≡◌, ◌≢◌, inl, inr, ℕ, List, [], ◌∷◌, ◌++◌, append-nil, append_assoc, ap}
+use Rattle.std.proofs.Common.{filter, flat_map, map, refl, subst, sym, ◌∙◌}
+use Rattle.std.specs.List.{AllByRecursion as Each, AllZip}
+use Rattle.texting_robots.specs.Executable.{file_bodies, file_lines, sitemaps_in}
+use Rattle.texting_robots.specs.Line.{nul_as_lf, without_front}
+use Rattle.rfc9309_laws.proofs.SyntaxLemmas.{each_front, repeats_both, repeats_none, repeats_one}
+use Rattle.rfc9309_laws.proofs.ReadLemmas.{after_bom, file_sources, low_of_front, BeginsLow, IsBefore}
+use Rattle.rfc9309_laws.proofs.ReadLemmas.{bare_no_nul, end_bytes, last_end_adds_none, line_before}
+use Rattle.rfc9309_laws.proofs.ReadLemmas.{line_sources, low_append, sources_in, sources_of, file_same}
+use Rattle.rfc9309_laws.proofs.ReadLemmas.{lines_in}
+use Rattle.rfc9309_laws.proofs.KeyedLemmas.{AreFree, HasNoRule, IsLineOf}
+use Rattle.rfc9309_laws.proofs.MemberLemmas.{member_line, sitemap_line, token_line}
 use Rattle.rfc9309_laws.proofs.OtherLemmas.{empty_line, other_line}
-use Rattle.rfc9309_laws.proofs.RepeatLemmas.{Makes, both_make, items_make, line_makes, listed}
-use Rattle.rfc9309_laws.proofs.RepeatLemmas.{none_makes}
-use Rattle.rfc9309_laws.proofs.SourceLemmas.{delays_put, group_put, groups_put, with_delay, with_group}
-use Rattle.rfc9309_laws.proofs.Sources.{IsRead, Parts, onto, parts_in, parts_of, with_member, with_source}
-use Rattle.rfc9309_laws.proofs.Sources.{with_token}
-use Rattle.rfc9309_laws.proofs.SyntaxLemmas.{repeats_both, repeats_none, repeats_one}
+use Rattle.rfc9309_laws.proofs.Sources.{delays_put, group_put, groups_put, with_delay, with_group, IsRead}
+use Rattle.rfc9309_laws.proofs.Sources.{Parts, Source, onto, parts_in, parts_of, with_member, with_source}
+use Rattle.rfc9309_laws.proofs.Sources.{with_token, with_address}
+use Rattle.rfc9309_laws.specs.LineForms.{Form, IsLine, Empty, Agent, Rule, Delay, Sitemap, Other}
 use Rattle.rfc9309_laws.specs.StandardRobot.{IsFileBelow, IsFileWith}
+use Rattle.std.proofs.{lemmas.Grind.flat_map-append}
+use Rattle.texting_robots.specs.{Internal.Cut.bodies_of, Trim.IsTrimOf}
+use Rattle.texting_robots.proofs.{CutFromFront.bodies_nil, TrimLemmas.each_append}
 use Rattle.rfc9309_laws.specs.Rfc9309 as rfc
+use Rattle.texting_robots.specs.Line as library
+
+-- ---- lines
+
+pub record Line : Type 0 where
+  pub form : Form
+  pub sources : List Source
+  pub text : List ℕ
+  pub is : IsLineOf form sources text
+
+abbrev pub forms_of : List Line → List Form
+forms_of lines = map (λ (line : Line). line.form) lines
+
+abbrev pub sources_from : List Line → List Source
+sources_from lines = flat_map (λ (line : Line). line.sources) lines
+
+abbrev pub joined : List Line → List ℕ
+joined lines = flat_map (λ (line : Line). line.text) lines
+
+pub line_bodies : (line : Line) (rest : List ℕ)
+    → IsBefore line.is.body (bodies_of (line.text ++ rest)) (bodies_of rest)
+line_bodies line rest =
+    let is = line.is in
+    subst (λ text. IsBefore is.body (bodies_of text) (bodies_of rest))
+    (sym (ap (λ text. text ++ rest) is.whole ∙ append_assoc is.body is.nl rest))
+    (line_before is.body is.nl rest is.bare is.is_nl)
+
+lines_read : (lines : List Line) → sources_of (joined lines) ≡ sources_from lines
+lines_read [] = ap sources_in bodies_nil
+lines_read (line ∷ lines) =
+    let is = line.is in
+    let rest : List ℕ = joined lines in
+    ap (λ text. sources_of (text ++ rest)) is.whole
+    ∙ ap sources_of (append_assoc is.body is.nl rest)
+    ∙ line_sources is.body is.nl rest is.bare is.is_nl
+    ∙ ap (λ sources. sources ++ sources_of rest) is.sourced
+    ∙ ap (λ sources. line.sources ++ sources) (lines_read lines)
+
+pub each_read : (lines : List Line) → Each IsRead (sources_from lines)
+each_read [] = tt
+each_read (line ∷ lines) =
+    each_append IsRead line.sources (sources_from lines) line.is.read (each_read lines)
+
+-- no byte is NUL, and the first one is ASCII
+abbrev AreBytes : List ℕ → Type 0
+AreBytes text = Each (λ b. b ≢ 0) text × BeginsLow text
+
+bytes_append : (text later : List ℕ) → AreBytes text → AreBytes later → AreBytes (text ++ later)
+bytes_append text later is also =
+    (each_append (λ b. b ≢ 0) text later is.0 also.0, low_append text later is.1 also.1)
+
+lines_bytes : (lines : List Line) → AreBytes (joined lines)
+lines_bytes [] = (tt, tt)
+lines_bytes (line ∷ lines) =
+    let is = line.is in
+    let body : AreBytes is.body = (bare_no_nul is.body is.bare, is.low) in
+    let bytes = bytes_append is.body is.nl body (end_bytes is.nl is.is_nl) in
+    bytes_append line.text (joined lines) (subst AreBytes (sym is.whole) bytes) (lines_bytes lines)
+
+pub lines_free : (lines : List Line) → HasNoRule (sources_from lines) → AreFree (forms_of lines)
+lines_free [] none = tt
+lines_free (line ∷ lines) none =
+    line.is.counted (sources_from lines) (forms_of lines) (lines_free lines) none
+
+-- each line lists a sitemap or none
+abbrev IsAddressLine : List (List ℕ) → List ℕ → Type 0
+IsAddressLine addresses text = rfc.IsOneOr rfc.IsSitemapLine rfc.IsUnlisted addresses text
+
+listed : (form : Form) (text : List ℕ) → IsLine form text
+    → (addresses : List (List ℕ)) × IsAddressLine addresses text
+listed Empty text is = ([], inr (inr (inr (inl is)), refl))
+listed Agent text is = ([], inr (inl is, refl))
+listed Rule text (member, inl is) = ([], inr (inr (inl (member, inl is)), refl))
+listed Rule text (member, inr is) = ([], inr (inr (inl (member, inr (inl is))), refl))
+listed Delay text (member, is) = ([], inr (inr (inl (member, inr (inr is))), refl))
+listed Sitemap text (address, is) = (address ∷ [], inl (address, is, refl))
+listed Other text is = ([], inr (inr (inr (inr is)), refl))
+
+lines_listed : (lines : List Line)
+    → (addresses : List (List ℕ)) × rfc.Repeats IsAddressLine addresses (joined lines)
+lines_listed [] = ([], repeats_none IsAddressLine)
+lines_listed (line ∷ lines) =
+    let is = line.is in
+    let (addresses, one) = listed line.form (is.body ++ is.nl) (is.again is.nl is.is_nl) in
+    let (more, rest) = lines_listed lines in
+    let first = repeats_one IsAddressLine addresses (is.body ++ is.nl) one in
+    (addresses ++ more, repeats_both (subst (rfc.Repeats IsAddressLine addresses) (sym is.whole) first) rest)
+
+-- ---- the effect of a text's source lines
+
+-- the text consists of lines; adding their source lines before others has the effect of `make` on the result
+-- of those others
+pub record Makes {A : Type 0} (put : Source → A → A) (make : A → A) (text : List ℕ) : Type 0 where
+  pub lines : List Line
+  pub same : (following : A) → onto put (sources_from lines) following ≡ make following
+  pub whole : text ≡ joined lines
+
+onto_both : {X A : Type 0} (put : X → A → A) (xs ys : List X) (following : A)
+    → onto put (xs ++ ys) following ≡ onto put xs (onto put ys following)
+onto_both put [] ys following = refl
+onto_both put (x ∷ xs) ys following = ap (put x) (onto_both put xs ys following)
+
+module _ {A : Type 0} {put : Source → A → A} where
+  -- the text is a single line
+  pub line_makes : {make : A → A} {form : Form} {sources : List Source} {text : List ℕ}
+      → IsLineOf form sources text → ((following : A) → onto put sources following ≡ make following)
+      → Makes put make text
+  line_makes {form = form} {sources = sources} {text = text} is same = record {
+    lines = record { form = form; sources = sources; text = text; is = is } ∷ [];
+    same = λ following. ap (λ all. onto put all following) (append-nil sources) ∙ same following;
+    whole = sym (append-nil text);
+  }
+
+  pub both_make : {first second : A → A} {text later : List ℕ} → Makes put first text
+      → Makes put second later
+      → Makes put (λ following. first (second following)) (text ++ later)
+  both_make {second = second} is also =
+      let sources = flat_map-append (λ (line : Line). line.sources) is.lines also.lines in
+      let texts = flat_map-append (λ (line : Line). line.text) is.lines also.lines in
+      record {
+        lines = is.lines ++ also.lines;
+        same = λ following.
+            ap (λ all. onto put all following) sources
+            ∙ onto_both put (sources_from is.lines) (sources_from also.lines) following
+            ∙ ap (onto put (sources_from is.lines)) (also.same following)
+            ∙ is.same (second following);
+        whole = cc;
+      }
+
+  -- a text of parts, each of which has one item or none
+  pub items_make : {X : Type 0} (act : X → A → A) (P : X → List ℕ → Type 0)
+      (Q : List ℕ → Type 0)
+      → ((item : X) (text : List ℕ) → P item text → Makes put (act item) text)
+      → ((text : List ℕ) → Q text → Makes put (λ following. following) text)
+      → {items : List X} {text : List ℕ} → rfc.Repeats (rfc.IsOneOr P Q) items text
+      → Makes put (onto act items) text
+  items_make {X} act P Q one other is = rw (is.written, is.whole) (units_make is.units is.each)
+    where
+      units_make : (units : List (rfc.RepeatUnit X))
+          → Each (λ unit. rfc.IsOneOr P Q unit.items unit.bytes) units
+          → Makes put (onto act (flat_map (λ unit. unit.items) units))
+          (flat_map (λ unit. unit.bytes) units)
+      units_make [] all = record { lines = []; same = λ following. refl; whole = refl }
+      units_make (unit ∷ units) (inl (item, is, same), all) =
+          rw same (both_make (one item unit.bytes is) (units_make units all))
+      units_make (unit ∷ units) (inr (is, none), all) =
+          rw none (both_make (other unit.bytes is) (units_make units all))
+
+-- ---- a file that consists of lines
+
+module _ (Content : List ℕ → Type 0) (text : List ℕ) (file : rfc.IsFileOf Content text) (lines : List Line)
+    (whole : file.rest ++ file.nl ≡ joined lines) where
+  bytes : AreBytes (file.rest ++ file.nl)
+  bytes = subst AreBytes (sym whole) (lines_bytes lines)
+
+  pub no_nul : Each (λ b. b ≢ 0) file.rest
+  no_nul = each_front (λ b. b ≢ 0) file.rest file.nl bytes.0
+
+  pub after_front : without_front (map nul_as_lf (file.bom ++ file.rest)) ≡ file.rest
+  after_front = after_bom file.bom file.rest file.is_bom no_nul (low_of_front file.rest file.nl bytes.1)
+
+  pub bodies_are : file_bodies text ≡ bodies_of file.rest
+  bodies_are = ap file_bodies file.whole ∙ ap bodies_of after_front
+
+  pub sources_are : file_sources text ≡ sources_from lines
+  sources_are =
+      ap sources_in bodies_are ∙ sym (last_end_adds_none file.rest file.nl file.is_nl) ∙ ap sources_of whole
+      ∙ lines_read lines
 
 -- adding the text's source lines at the start of some `Parts` has the effect of `make`
 abbrev Writes : (Parts → Parts) → List ℕ → Type 0
 Writes make text = Makes with_source make text
 
--- ---- lines
+-- ---- the lines of a file
 
 skipped : (text : List ℕ) → rfc.IsSkipped text → Writes (λ parts. parts) text
 skipped text (inl is) =
-    none_makes (empty_line text is) (listed [] (inr (inr (inr (inl is)), refl)))
+    line_makes (empty_line text is) (λ parts. refl)
 skipped text (inr (inl (address, is))) =
     line_makes (sitemap_line address text is) (λ parts. refl)
-    (listed (address ∷ []) (inl (address, is, refl)))
 skipped text (inr (inr is)) =
-    none_makes (other_line text is) (listed [] (inr (inr (inr (inr is)), refl)))
+    line_makes (other_line text is) (λ parts. refl)
 
 token_made : (token text : List ℕ) → rfc.IsStartGroupLine token text → Writes (with_token token) text
 token_made token text is =
-    line_makes (token_line token text is) (λ parts. refl) (listed [] (inr (inl (token, is), refl)))
+    line_makes (token_line token text is) (λ parts. refl)
 
 member_made : (member : rfc.Member) (text : List ℕ) → rfc.IsMemberLine member text
     → Writes (with_member member) text
 member_made member text is =
-    let read = member_line member text is in
-    line_makes read.is_line read.written (listed [] (inr (inr (inl (member, is)), refl)))
+    let (form, read) = member_line member text is in line_makes read.is_line read.written
 
 -- ---- groups, and delays before them
 
@@ -50,11 +224,9 @@ group_made group text is =
     both_make (items_make with_token rfc.IsStartGroupLine rfc.IsSkipped token_made skipped is.are_agents)
     (items_make with_member rfc.IsMemberLine rfc.IsSkipped member_made skipped is.are_members)) in
     rw is.whole (record {
-      sources = all.sources;
-      read = all.read;
+      lines = all.lines;
       same = λ parts. all.same parts ∙ group_put is.token is.tokens group parts is.written;
-      reads = all.reads;
-      listing = all.listing;
+      whole = all.whole;
     })
 
 -- the line of a delay with this number
@@ -64,23 +236,23 @@ IsNumberLine number text = rfc.IsDelayLine (rfc.Delay number) text
 number_made : (number text : List ℕ) → IsNumberLine number text → Writes (with_delay number) text
 number_made number text is = member_made (rfc.Delay number) text (inr (inr is))
 
+abbrev HasNumbers : List (List ℕ) → List ℕ → Type 0
+HasNumbers numbers text = rfc.IsOneOr IsNumberLine rfc.IsSkipped numbers text
+
+lead_numbers : (unit : List ℕ) → rfc.IsLeadUnit unit → (numbers : List (List ℕ)) × HasNumbers numbers unit
+lead_numbers unit (inr is) = ([], inr (is, refl))
+lead_numbers unit (inl (rfc.Delay number, is)) = (number ∷ [], inl (number, is, refl))
+lead_numbers unit (inl (rfc.Allow pattern, is)) = absurd is
+lead_numbers unit (inl (rfc.Disallow pattern, is)) = absurd is
+
 -- lines of delays, and others, have some numbers
 numbered : (units : List (List ℕ)) → Each rfc.IsLeadUnit units
-    → (numbers : List (List ℕ))
-    × rfc.Repeats (rfc.IsOneOr IsNumberLine rfc.IsSkipped) numbers (flat_map (λ unit. unit) units)
-numbered [] all = ([], repeats_none (rfc.IsOneOr IsNumberLine rfc.IsSkipped))
-numbered (unit ∷ units) (inr is, all) =
-    let (numbers, rest) = numbered units all in
-    let P = rfc.IsOneOr IsNumberLine rfc.IsSkipped in
-    let first = repeats_one P [] unit (inr (is, refl)) in
-    (numbers, repeats_both first rest)
-numbered (unit ∷ units) (inl (rfc.Allow pattern, is), all) = absurd is
-numbered (unit ∷ units) (inl (rfc.Disallow pattern, is), all) = absurd is
-numbered (unit ∷ units) (inl (rfc.Delay number, is), all) =
-    let (numbers, rest) = numbered units all in
-    let P = rfc.IsOneOr IsNumberLine rfc.IsSkipped in
-    let first = repeats_one P (number ∷ []) unit (inl (number, is, refl)) in
-    (number ∷ numbers, repeats_both first rest)
+    → (numbers : List (List ℕ)) × rfc.Repeats HasNumbers numbers (flat_map (λ unit. unit) units)
+numbered [] all = ([], repeats_none HasNumbers)
+numbered (unit ∷ units) all =
+    let (first, one) = lead_numbers unit all.0 in
+    let (numbers, rest) = numbered units all.1 in
+    (first ++ numbers, repeats_both (repeats_one HasNumbers first unit one) rest)
 
 pub has_delays : (text : List ℕ) (groups : List rfc.Group) → rfc.IsFile groups text
     → (numbers : List (List ℕ)) × IsFileWith numbers groups text
@@ -119,26 +291,30 @@ pub record FileRead (numbers : List (List ℕ)) (groups : List rfc.Group) (text 
   pub none : filter rfc.is_rule (parts_in (file_sources text)).ungrouped ≡ []
   pub lists : (addresses : List (List ℕ)) × rfc.ListsSitemaps addresses text
 
+pub file_made : (numbers : List (List ℕ)) (groups : List rfc.Group) (text : List ℕ)
+    → IsFileBelow numbers groups text
+    → Writes (λ parts. onto with_delay numbers (onto with_group groups parts)) text
+file_made numbers groups text content =
+    rw content.whole (
+    both_make (items_make with_delay IsNumberLine rfc.IsSkipped number_made skipped content.is_front)
+    (items_make with_group rfc.IsWideGroup rfc.IsSkipped group_made skipped content.are_groups))
+
 pub file_with : (text : List ℕ) (numbers : List (List ℕ)) (groups : List rfc.Group)
     → IsFileWith numbers groups text → FileRead numbers groups text
 file_with text numbers groups file =
-    let content = file.is_content in
-    let make : Parts → Parts = λ parts. onto with_delay numbers (onto with_group groups parts) in
-    let all : Writes make (file.rest ++ file.nl) =
-    rw content.whole (
-    both_make (items_make with_delay IsNumberLine rfc.IsSkipped number_made skipped content.is_front)
-    (items_make with_group rfc.IsWideGroup rfc.IsSkipped group_made skipped content.are_groups)) in
-    let sources = file_sources_are (IsFileBelow numbers groups) text file all.sources all.reads in
+    let all = file_made numbers groups (file.rest ++ file.nl) file.is_content in
+    let sources = sources_are (IsFileBelow numbers groups) text file all.lines all.whole in
     let parts : parts_in (file_sources text) ≡ parts_of (map rfc.Delay numbers) (rfc.merged groups) =
     ap parts_in sources ∙ all.same (parts_of [] []) ∙ ap (onto with_delay numbers) (groups_put groups)
     ∙ delays_put numbers (parts_of [] (rfc.merged groups))
     ∙ ap (λ members. parts_of members (rfc.merged groups)) (append-nil (map rfc.Delay numbers)) in
+    let (addresses, lists) = lines_listed all.lines in
     record {
-      read = subst (Each IsRead) (sym sources) all.read;
+      read = subst (Each IsRead) (sym sources) (each_read all.lines);
       parts = parts;
       none = ap (λ (p : Parts). filter rfc.is_rule p.ungrouped) parts ∙ no_rules numbers;
       lists = (
-        all.listing.0,
+        addresses,
         record {
           bom = file.bom;
           rest = file.rest;
@@ -146,7 +322,7 @@ file_with text numbers groups file =
           whole = file.whole;
           is_bom = file.is_bom;
           is_nl = file.is_nl;
-          is_content = all.listing.1;
+          is_content = subst (rfc.Repeats IsAddressLine addresses) (sym all.whole) lists;
         },
       );
     }
@@ -160,3 +336,50 @@ file_read text groups file =
 pub groups_written : (text : List ℕ) (numbers : List (List ℕ)) (groups : List rfc.Group)
     → FileRead numbers groups text → (parts_in (file_sources text)).groups ≡ rfc.merged groups
 groups_written text numbers groups is = ap (λ (p : Parts). p.groups) is.parts
+
+-- adding the text's source lines at the start of a list of addresses has the effect of `make`
+abbrev Lists : (List (List ℕ) → List (List ℕ)) → List ℕ → Type 0
+Lists make text = Makes with_address make text
+
+sitemap_lists : (address text : List ℕ) → rfc.IsSitemapLine address text
+    → Lists (◌∷◌ address) text
+sitemap_lists address text is = line_makes (sitemap_line address text is) (λ following. refl)
+
+unlisted : (text : List ℕ) → rfc.IsUnlisted text → Lists (λ following. following) text
+unlisted text (inl (token, is)) = line_makes (token_line token text is) (λ following. refl)
+unlisted text (inr (inl (member, is))) =
+    let (form, read) = member_line member text is in line_makes read.is_line read.unlisted
+unlisted text (inr (inr (inl is))) = line_makes (empty_line text is) (λ following. refl)
+unlisted text (inr (inr (inr is))) = line_makes (other_line text is) (λ following. refl)
+
+-- the addresses in source lines
+abbrev addresses_in : List Source → List (List ℕ)
+addresses_in sources = onto with_address sources []
+
+each_put : (addresses : List (List ℕ)) → onto ◌∷◌ addresses [] ≡ addresses
+each_put [] = refl
+each_put (address ∷ addresses) = ap (λ following. address ∷ following) (each_put addresses)
+
+trims_read : (sources : List Source) → Each IsRead sources
+    → AllZip IsTrimOf (sitemaps_in (lines_in sources)) (addresses_in sources)
+trims_read [] all = tt
+trims_read ((library.Sitemap value, address) ∷ sources) (is, all) = rw is.0 (is.1, trims_read sources all)
+trims_read (_ ∷ sources) (_, all) = trims_read sources all
+
+module _ (text : List ℕ) (addresses : List (List ℕ)) (file : rfc.ListsSitemaps addresses text) where
+  file_lists : Lists (onto ◌∷◌ addresses) (file.rest ++ file.nl)
+  file_lists =
+      items_make ◌∷◌ rfc.IsSitemapLine rfc.IsUnlisted sitemap_lists unlisted file.is_content
+
+  read : file_sources text ≡ sources_from file_lists.lines
+  read = sources_are _ text file file_lists.lines file_lists.whole
+
+  pub addresses_are : addresses_in (file_sources text) ≡ addresses
+  addresses_are = ap addresses_in read ∙ file_lists.same [] ∙ each_put addresses
+
+  pub sitemaps_are_read : AllZip IsTrimOf (sitemaps_in (file_lines text)) addresses
+  sitemaps_are_read =
+      rw ((file_same text []).1, read) (
+      subst (AllZip IsTrimOf (sitemaps_in (lines_in (sources_from file_lists.lines))))
+      (file_lists.same [] ∙ each_put addresses)
+      (trims_read (sources_from file_lists.lines) (each_read file_lists.lines)))

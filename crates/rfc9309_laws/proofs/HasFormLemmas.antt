@@ -1,22 +1,19 @@
 -- A line that passes the test of a form has the form.
 use Rattle.std.proofs.Common.{◌≡◌, ◌⊎◌, inl, inr, ℕ, zero, suc, ◌==◌, ◌||◌, ◌&&◌, true, false, List, []}
-use Rattle.std.proofs.Common.{◌∷◌, ◌++◌, append_assoc, ap, arith, bytes_eq, codes, refl}
-use Rattle.std.proofs.Common.{subst, sym, ◌∙◌}
+use Rattle.std.proofs.Common.{◌∷◌, ◌++◌, append_assoc, ap, arith, bytes_eq, codes, refl, subst, sym, ◌∙◌}
 use Rattle.std.specs.List.{AllByRecursion as Each, Contains, list_all, list_any}
 use Rattle.std.proofs.lemmas.Bool.{and_parts, cases_Bool, eqb-true, false≢true, not-true, or_cases}
 use Rattle.std.proofs.lemmas.Bool.{or_parts}
-use Rattle.std.proofs.lemmas.{Bool.Decides.nat_tests, Slice.Eq.bytes_eq-Decides}
-use Rattle.texting_robots.specs.Cut.{lf}
-use Rattle.rfc9309_laws.proofs.{EachLemmas.passing, Utf8Lemmas.comment_text, Utf8Lemmas.value_text}
-use Rattle.rfc9309_laws.specs.HasForm.{are_some, colon, has_byte, has_form, hash, is_blank}
-use Rattle.rfc9309_laws.specs.HasForm.{is_comment_text}
+use Rattle.rfc9309_laws.proofs.CharLemmas.{comment_text, value_text}
+use Rattle.rfc9309_laws.specs.HasForm.{are_some, colon, has_byte, has_form, hash, is_blank, is_comment_text}
 use Rattle.rfc9309_laws.specs.HasForm.{is_digit, is_identifier_byte, is_keyed, is_number, is_other_name}
 use Rattle.rfc9309_laws.specs.HasForm.{is_pattern, is_product_token, is_value_text, kept_before, lower}
-use Rattle.rfc9309_laws.specs.HasForm.{name_in}
-use Rattle.rfc9309_laws.specs.HasForm.{stripped, text_after, text_before, text_from, value_in}
-use Rattle.rfc9309_laws.specs.HasForm.{without_leading}
-use Rattle.rfc9309_laws.specs.HasForm.{without_trailing}
+use Rattle.rfc9309_laws.specs.HasForm.{name_in, stripped, text_after, text_before, text_from, value_in}
+use Rattle.rfc9309_laws.specs.HasForm.{without_leading, without_trailing}
 use Rattle.rfc9309_laws.specs.LineForms.{Form, HasForm, Empty, Agent, Rule, Delay, Sitemap, Other}
+use Rattle.std.proofs.{lemmas.Bool.Decides.nat_tests, lemmas.Slice.Eq.bytes_eq-Decides}
+use Rattle.texting_robots.specs.{Cut.lf}
+use Rattle.rfc9309_laws.proofs.{SyntaxLemmas.passing, ValueLemmas.identifier_byte}
 use Rattle.rfc9309_laws.specs.Rfc9309 as rfc
 
 -- ---- a text and its parts
@@ -74,7 +71,7 @@ trailing : (text : List ℕ) → IsBefore (without_trailing text) text
 trailing [] = record { back = []; whole = refl; back_blank = tt }
 trailing (b ∷ text) = kept b (without_trailing text) text (trailing text)
 
-leading : (text : List ℕ)
+pub leading : (text : List ℕ)
     → (front : List ℕ) × Each rfc.IsWs front × (text ≡ front ++ without_leading text)
 leading [] = ([], tt, refl)
 leading (b ∷ text) = elim (cases_Bool (is_blank b)) [
@@ -190,9 +187,6 @@ is_line word body is =
 
 -- ---- values
 
-identifier_byte : (b : ℕ) → is_identifier_byte b ≡ true → rfc.IsIdentifierByte b
-identifier_byte b is = grind (arith, nat_tests)
-
 identifier : (word : List ℕ) → are_some is_identifier_byte word ≡ true → rfc.IsIdentifier word
 identifier [] is = absurd (false≢true is)
 identifier (b ∷ word) is = passing rfc.IsIdentifierByte is_identifier_byte identifier_byte (b ∷ word) is
@@ -265,27 +259,23 @@ empty body is =
       is_nl = inr (inl refl);
     }
 
+rule_of : (word value line : List ℕ) → rfc.IsKeyed word value line
+    → rfc.IsPattern value value ⊎ rfc.IsStarPattern value
+    → rfc.IsRuleWith word value line ⊎ (rfc.IsStarPattern value × rfc.IsKeyed word value line)
+rule_of word value line keyed (inl plain) =
+    inl (record { value = value; is_pattern = plain; is_line = keyed })
+rule_of word value line keyed (inr star) = inr (star, keyed)
+
 rule : (body : List ℕ) → has_form Rule body ≡ true → HasForm Rule body
 rule body is =
     let both = and_parts (is_keyed (codes "allow") body || is_keyed (codes "disallow") body) _ is in
     let value = value_in body in
+    let form = pattern value both.1 in
     elim (or_cases (is_keyed (codes "allow") body) (is_keyed (codes "disallow") body) both.0) [
       | inl allow ↦ let line = is_line (codes "allow") body allow in
-          elim (pattern value both.1) [
-            | inl plain ↦ (
-              rfc.Allow value,
-              inl (record { value = value; is_pattern = plain; is_line = line }),
-            )
-            | inr star ↦ (rfc.Allow value, inr (star, line))
-          ]
+          (rfc.Allow value, rule_of (codes "allow") value (body ++ lf ∷ []) line form)
       | inr disallow ↦ let line = is_line (codes "disallow") body disallow in
-          elim (pattern value both.1) [
-            | inl plain ↦ (
-              rfc.Disallow value,
-              inl (record { value = value; is_pattern = plain; is_line = line }),
-            )
-            | inr star ↦ (rfc.Disallow value, inr (star, line))
-          ]
+          (rfc.Disallow value, rule_of (codes "disallow") value (body ++ lf ∷ []) line form)
     ]
 
 other_form : (body : List ℕ) → has_form Other body ≡ true → HasForm Other body

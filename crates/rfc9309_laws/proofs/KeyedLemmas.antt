@@ -1,24 +1,35 @@
--- A line with a field name, a colon and a value is a directive.
-use Rattle.std.proofs.Common.{◌≡◌, ◌≢◌, ◌⊎◌, inl, inr, ℕ, ◌<◌, List, [], ◌∷◌}
-use Rattle.std.proofs.Common.{◌++◌, map, get_or, codes, sym, refl, ap, ◌∙◌, subst}
-use Rattle.std.proofs.Common.{append_assoc, arith, filter, true}
-use Rattle.std.specs.{List.list_all, List.AllByRecursion as Each, List.Contains, Char.to_ascii_lowercase}
-use Rattle.std.proofs.lemmas.Bool.Decides.{nat_tests}
-use Rattle.texting_robots.specs.declared.parser.statement.Kind.{Kind}
-use Rattle.texting_robots.specs.declared.parser.statement.Kind.TheVariants as kind
+-- What is known of a line of the grammar: it is content with a terminator, has its form with any other
+-- terminator too, passes the test of its form, and is read as its source line. Lines with a field name, a
+-- colon and a value are such lines.
+use Rattle.std.proofs.Common.{◌≡◌, ◌≢◌, ◌⊎◌, inl, inr, ℕ, ◌<◌, ◌==◌, ◌||◌, Bool, true, false, List, [], ◌∷◌}
+use Rattle.std.proofs.Common.{◌++◌, append-nil, ap, arith, bytes_eq, drop, map, refl, subst, sym, ◌∙◌}
+use Rattle.std.proofs.Common.{append_assoc, codes, filter, get_or}
+use Rattle.std.specs.List.{AllByRecursion as Each, list_all, Contains}
+use Rattle.std.proofs.lemmas.Bool.{and_from, eq-eqb, false_from_ne_true, ne_eqb}
+use Rattle.std.proofs.lemmas.Str.{IsUtf8-append, IsUtf8-encode, IsUtf8-nil, encode_ascii}
+use Rattle.std.proofs.lemmas.Str.{is_utf8-from_IsUtf8}
+use lib.Utf8.{low_scalar}
 use Rattle.texting_robots.specs.Statement.{IsBlank, IsStatement, field_names}
-use Rattle.texting_robots.specs.Internal.Statement.{IsOptionalComment, colon, hash}
-use Rattle.texting_robots.specs.{Line.LineValue, Trim.IsTrimOf, Internal.Line.line_with}
-use Rattle.texting_robots.proofs.{LineLemmas.line_stated, StatementLemmas.statement_found}
-use Rattle.texting_robots.proofs.TrimLemmas.{blanks_skipped, same_trim, each_append}
+use Rattle.texting_robots.proofs.TrimLemmas.{each_append, blanks_skipped, same_trim}
 use Rattle.rfc9309_laws.proofs.CharLemmas.{IsCharByte, IsCharText, char_text}
-use Rattle.rfc9309_laws.proofs.EachLemmas.{each_weaker}
-use Rattle.rfc9309_laws.proofs.ReadLemmas.{BeginsLow, IsBare, Reads, reads_line}
-use Rattle.rfc9309_laws.proofs.{ValueLemmas.blanks_after, WordLemmas.identifier}
-use Rattle.rfc9309_laws.proofs.WordLemmas.{identifier_bounds, is_identifier_byte}
-use Rattle.rfc9309_laws.proofs.Sources.{Source, between_gone, is_not_raw, source_of, text_kept, written}
-use Rattle.rfc9309_laws.proofs.{Sources.written_is, SyntaxLemmas.many}
+use Rattle.rfc9309_laws.proofs.ReadLemmas.{BeginsLow, IsBare}
+use Rattle.rfc9309_laws.proofs.ValueLemmas.{blank_no_letter, identifier_bounds, blanks_after, identifier}
+use Rattle.rfc9309_laws.specs.HasForm.{colon, has_byte, hash, is_blank, is_comment_byte, is_comment_text}
+use Rattle.rfc9309_laws.specs.HasForm.{is_value_byte, is_value_text, kept_before, name_in, stripped}
+use Rattle.rfc9309_laws.specs.HasForm.{text_after, text_before, text_from, without_leading}
+use Rattle.rfc9309_laws.specs.HasForm.{without_trailing, has_form, is_identifier_byte, is_keyed, lower}
+use Rattle.rfc9309_laws.specs.HasForm.{value_in}
+use Rattle.rfc9309_laws.proofs.Sources.{IsRead, Source, is_not_raw, parts_in, source_of, written}
+use Rattle.rfc9309_laws.specs.LineForms.{Form, IsLine, Agent, Rule}
+use Rattle.rfc9309_laws.proofs.SyntaxLemmas.{each_weaker, many}
+use Rattle.std.specs.{Char.to_ascii_lowercase, Str.IsUtf8}
+use Rattle.std.proofs.{lemmas.Bool.Decides.nat_tests, lemmas.Slice.Eq.bytes_eq-Decides}
+use Rattle.texting_robots.specs.{Internal.Statement.IsOptionalComment, declared.parser.statement.Kind.Kind}
+use Rattle.texting_robots.specs.{Line.LineValue, Trim.IsTrimOf, Internal.Line.line_with}
+use Rattle.rfc9309_laws.proofs.{HasFormLemmas.blank}
+use Rattle.texting_robots.proofs.{LineLemmas.line_stated, StatementLemmas.statement_found}
 use Rattle.rfc9309_laws.specs.Rfc9309 as rfc
+use Rattle.texting_robots.specs.declared.parser.statement.Kind.TheVariants as kind
 
 -- ---- bytes
 
@@ -35,7 +46,7 @@ char_value b is = (inr (omega arith), is.1)
 pub blanks_value : (blanks : List ℕ) → Each IsBlank blanks → Each IsValueByte blanks
 blanks_value = each_weaker IsBlank IsValueByte blank_value
 
-values_bare : (bytes : List ℕ) → Each IsValueByte bytes → Each IsBare bytes
+pub values_bare : (bytes : List ℕ) → Each IsValueByte bytes → Each IsBare bytes
 values_bare = each_weaker IsValueByte IsBare (λ b is. is.0)
 
 -- a byte before the colon: a bare ASCII byte that isn't a colon
@@ -45,75 +56,250 @@ IsFrontByte byte = IsBare byte × (byte < 128) × (byte ≢ colon)
 blank_front : (b : ℕ) → IsBlank b → IsFrontByte b
 blank_front b is = (grind arith, omega arith, λ e. omega arith)
 
-pub identifier_front : (word : List ℕ) → Each rfc.IsIdentifierByte word → Each IsFrontByte word
-identifier_front = each_weaker rfc.IsIdentifierByte IsFrontByte (λ b is.
-    let bounds = identifier_bounds b is in (inr (omega arith), omega arith, bounds.2))
+pub blanks_low : (blanks : List ℕ) → Each IsBlank blanks → BeginsLow blanks
+blanks_low [] all = tt
+blanks_low (b ∷ blanks) all = let is = all.0 in omega arith
 
--- a byte whose lower case is an identifier byte may occur before the colon
-key_letter : (b : ℕ) → rfc.IsIdentifierByte (to_ascii_lowercase b) → IsFrontByte b
-key_letter b is =
+-- ---- tests
+
+pub passes : (P : ℕ → Type 0) (test : ℕ → Bool) → ((b : ℕ) → P b → test b ≡ true) → (text : List ℕ)
+    → Each P text → list_all test text ≡ true
+passes P test is [] all = refl
+passes P test is (b ∷ text) all = and_from (test b) _ (is b all.0) (passes P test is text all.1)
+
+pub or_second : (x y : Bool) → y ≡ true → (x || y) ≡ true
+or_second true y is = refl
+or_second false y is = is
+
+pub or_first : (x y : Bool) → x ≡ true → (x || y) ≡ true
+or_first true y is = refl
+or_first false y is = absurd cc
+
+pub same_bytes : (text other : List ℕ) → text ≡ other → bytes_eq text other ≡ true
+same_bytes text other = (bytes_eq-Decides text other).1
+
+-- ---- the parts before and after a byte
+
+pub record ArePartsAt (stop : ℕ) (front rest text : List ℕ) : Type 0 where
+  pub before : text_before stop text ≡ front
+  pub from : text_from stop text ≡ rest
+
+pub parts_at : (stop : ℕ) (front rest : List ℕ) → Each (λ b. b ≢ stop) front
+    → ArePartsAt stop front (stop ∷ rest) (front ++ stop ∷ rest)
+parts_at stop [] rest all =
+    let is = eq-eqb stop stop refl in record { before = rw is refl; from = rw is refl }
+parts_at stop (b ∷ front) rest all =
+    let other = ne_eqb b stop all.0 in
+    let later = parts_at stop front rest all.1 in
+    record { before = rw other (ap (λ t. b ∷ t) later.before); from = rw other later.from }
+
+parts_none : (stop : ℕ) (text : List ℕ) → Each (λ b. b ≢ stop) text → ArePartsAt stop text [] text
+parts_none stop [] all = record { before = refl; from = refl }
+parts_none stop (b ∷ text) all =
+    let other = ne_eqb b stop all.0 in
+    let later = parts_none stop text all.1 in
+    record { before = rw other (ap (λ t. b ∷ t) later.before); from = rw other later.from }
+
+pub has_at : (stop : ℕ) (front rest : List ℕ) → has_byte stop (front ++ stop ∷ rest) ≡ true
+has_at stop [] rest = rw (eq-eqb stop stop refl) refl
+has_at stop (b ∷ front) rest = or_second (b == stop) _ (has_at stop front rest)
+
+-- ---- spaces and tabs at both ends
+
+pub blank_passes : (b : ℕ) → rfc.IsWs b → is_blank b ≡ true
+blank_passes b is = grind (arith, nat_tests)
+
+-- neither a space nor a tab
+abbrev pub IsSolid : ℕ → Type 0
+IsSolid b = is_blank b ≡ false
+
+pub leading_gone : (front text : List ℕ) → Each rfc.IsWs front
+    → without_leading (front ++ text) ≡ without_leading text
+leading_gone [] text all = refl
+leading_gone (b ∷ front) text all = rw (blank_passes b all.0) (leading_gone front text all.1)
+
+trailing_gone : (kept back : List ℕ) → Each IsSolid kept → Each rfc.IsWs back
+    → without_trailing (kept ++ back) ≡ kept
+trailing_gone [] [] all after = refl
+trailing_gone [] (b ∷ back) all after =
+    rw (trailing_gone [] back tt after.1, blank_passes b after.0) refl
+trailing_gone (b ∷ kept) back all after = rw (trailing_gone kept back all.1 after) (last kept)
+  where
+    last : (kept : List ℕ) → kept_before b kept ≡ b ∷ kept
+    last [] = rw all.0 refl
+    last (c ∷ kept) = refl
+
+pub stripped_is : (front kept back : List ℕ) → Each rfc.IsWs front → Each IsSolid kept
+    → Each rfc.IsWs back → stripped (front ++ (kept ++ back)) ≡ kept
+stripped_is front [] back before all after =
+    ap without_trailing (leading_gone front back before
+    ∙ rw append-nil at (leading_gone back [] after))
+stripped_is front (b ∷ kept) back before all after =
+    ap without_trailing (leading_gone front (b ∷ (kept ++ back)) before)
+    ∙ rw all.0 (trailing_gone (b ∷ kept) back all after)
+
+pub solid_char : (b : ℕ) → IsCharByte b → IsSolid b
+solid_char b is = grind (arith, nat_tests)
+
+-- ---- the name of a line, before its colon
+
+-- a byte of a name
+abbrev pub IsNameByte : ℕ → Type 0
+IsNameByte b = IsFrontByte b × IsSolid b
+
+pub identifier_name : (word : List ℕ) → Each rfc.IsIdentifierByte word → Each IsNameByte word
+identifier_name = each_weaker rfc.IsIdentifierByte IsNameByte (λ b is.
+    let bounds = identifier_bounds b is in
+    ((inr (omega arith), omega arith, bounds.2), grind (arith, nat_tests)))
+
+-- a byte whose lower case is an identifier byte may occur in a name
+name_letter : (b : ℕ) → rfc.IsIdentifierByte (to_ascii_lowercase b) → IsNameByte b
+name_letter b is =
     let bounds = identifier_bounds (to_ascii_lowercase b) is in (
-      inr (grind (arith, nat_tests)),
-      grind (arith, nat_tests),
-      λ e. bounds.2 (ap to_ascii_lowercase e),
+      (inr (grind (arith, nat_tests)), grind (arith, nat_tests), λ e. bounds.2 (ap to_ascii_lowercase e)),
+      false_from_ne_true (is_blank b) (λ yes. blank_no_letter b (blank b yes) is),
     )
 
-pub key_letters : (key word : List ℕ) → map to_ascii_lowercase key ≡ word → Each rfc.IsIdentifierByte word
-    → Each IsFrontByte key
-key_letters [] word e all = tt
-key_letters (b ∷ key) [] e all = absurd cc
-key_letters (b ∷ key) (c ∷ word) e all =
+pub name_letters : (key word : List ℕ) → map to_ascii_lowercase key ≡ word → Each rfc.IsIdentifierByte word
+    → Each IsNameByte key
+name_letters [] word e all = tt
+name_letters (b ∷ key) [] e all = absurd cc
+name_letters (b ∷ key) (c ∷ word) e all =
     let same : to_ascii_lowercase b ≡ c = cc in
-    (key_letter b (subst rfc.IsIdentifierByte (sym same) all.0), key_letters key word (cc) all.1)
+    (name_letter b (subst rfc.IsIdentifierByte (sym same) all.0), name_letters key word (cc) all.1)
 
-pub front_bytes : (margin key blanks : List ℕ) → Each IsBlank margin → Each IsFrontByte key
-    → Each IsBlank blanks
-    → Each IsFrontByte (margin ++ (key ++ blanks))
-front_bytes margin key blanks before is after =
-    let fronts = each_weaker IsBlank IsFrontByte blank_front in
-    each_append IsFrontByte margin (key ++ blanks) (fronts margin before)
-    (each_append IsFrontByte key blanks is (fronts blanks after))
+-- the line has this name before its first colon, and this text after it
+pub record IsNamed (key rest body : List ℕ) : Type 0 where
+  pub has : has_byte colon body ≡ true
+  pub name : name_in body ≡ key
+  pub after : text_after colon body ≡ rest
+  pub low : BeginsLow body
+  pub bare : Each IsBare rest → Each IsBare body
 
-pub low_body : (front rest : List ℕ) → Each IsFrontByte front → BeginsLow (front ++ colon ∷ rest)
-low_body [] rest all = omega arith
-low_body (b ∷ front) rest all = all.0.1
+pub named : (margin name blanks rest : List ℕ) → Each rfc.IsWs margin → Each IsNameByte name
+    → Each rfc.IsWs blanks → IsNamed name rest ((margin ++ (name ++ blanks)) ++ colon ∷ rest)
+named margin name blanks rest before is following =
+    let front : List ℕ = margin ++ (name ++ blanks) in
+    let fronts = each_weaker rfc.IsWs IsFrontByte blank_front in
+    let all : Each IsFrontByte front =
+    each_append IsFrontByte margin (name ++ blanks) (fronts margin before)
+    (each_append IsFrontByte name blanks (each_weaker IsNameByte IsFrontByte (λ b byte. byte.0) name is)
+    (fronts blanks following)) in
+    let parts =
+    parts_at colon front rest (each_weaker IsFrontByte (λ b. b ≢ colon) (λ b byte. byte.2) front all) in
+    record {
+      has = has_at colon front rest;
+      name =
+          ap stripped parts.before
+          ∙ stripped_is margin name blanks before (each_weaker IsNameByte IsSolid (λ b byte. byte.1) name is)
+          following;
+      after = ap (drop 1) parts.from;
+      low = low_body front all;
+      bare = λ bare.
+          each_append IsBare front (colon ∷ rest)
+          (each_weaker IsFrontByte IsBare (λ b byte. byte.0) front all)
+          (inr (omega arith), bare);
+    }
+  where
+    low_body : (front : List ℕ) → Each IsFrontByte front → BeginsLow (front ++ colon ∷ rest)
+    low_body [] all = omega arith
+    low_body (b ∷ front) all = all.0.1
 
--- a line with a colon, and its terminator
-pub reads_colon : (source : Source) (front rest nl : List ℕ)
-    → source_of (front ++ colon ∷ rest) ≡ source → Each IsFrontByte front → Each IsBare rest
-    → rfc.IsNl nl
-    → Reads (filter is_not_raw (source ∷ [])) ((front ++ colon ∷ rest) ++ nl)
-reads_colon source front rest nl same all bare =
-    reads_line source (front ++ colon ∷ rest) nl same
-    (each_append IsBare front (colon ∷ rest) (each_weaker IsFrontByte IsBare (λ b is. is.0) front all)
-    (inr (omega arith), bare)) (low_body front rest all)
+-- ---- values and comments
 
--- ---- the end of a line
+pub char_passes : (b : ℕ) → IsCharByte b → is_value_byte b ≡ true
+char_passes b is = grind (arith, nat_tests)
 
-comment_unit : (bytes : List ℕ) → rfc.IsCommentUnit bytes → Each IsBare bytes
+pub value_passes : (text : List ℕ) → IsCharText text → is_value_text text ≡ true
+value_passes text is =
+    and_from _ (list_all is_value_byte text) (is_utf8-from_IsUtf8 text is.utf8)
+    (passes IsCharByte is_value_byte char_passes text is.bytes)
+
+ascii_utf8 : (b : ℕ) → b < 128 → IsUtf8 (b ∷ [])
+ascii_utf8 b small = subst IsUtf8 (encode_ascii b small) (IsUtf8-encode b (low_scalar b (omega arith)))
+
+bare_passes : (b : ℕ) → IsBare b → is_comment_byte b ≡ true
+bare_passes b is = grind (arith, nat_tests)
+
+comment_unit : (bytes : List ℕ) → rfc.IsCommentUnit bytes → Each IsBare bytes × IsUtf8 bytes
 comment_unit bytes (inl is) =
-    each_weaker IsCharByte IsBare (λ b is. (char_value b is).0) bytes (char_text bytes is).bytes
-comment_unit bytes (inr (inl (b, is, whole))) = rw whole ((blank_value b is).0, tt)
-comment_unit bytes (inr (inr is)) = rw is (inr (omega arith), tt)
+    let text = char_text bytes is in
+    (each_weaker IsCharByte IsBare (λ b is. (char_value b is).0) bytes text.bytes, text.utf8)
+comment_unit bytes (inr (inl (b, is, whole))) =
+    rw whole (((blank_value b is).0, tt), ascii_utf8 b (omega arith))
+comment_unit bytes (inr (inr is)) = rw is ((inr (omega arith), tt), ascii_utf8 hash (omega arith))
 
-pub comment_text : (text : List ℕ) → rfc.IsMany rfc.IsCommentUnit text → Each IsBare text
-comment_text = many tt (each_append IsBare) comment_unit
+pub comment_text : (text : List ℕ) → rfc.IsMany rfc.IsCommentUnit text
+    → Each IsBare text × (is_comment_text text ≡ true)
+comment_text text is =
+    let (bare, utf8) =
+    many {Q = λ t. Each IsBare t × IsUtf8 t} (tt, IsUtf8-nil)
+    (λ xs ys is also. (each_append IsBare xs ys is.0 also.0, IsUtf8-append xs ys is.1 also.1)) comment_unit
+    text is in (
+      bare,
+      and_from _ (list_all is_comment_byte text) (is_utf8-from_IsUtf8 text utf8)
+          (passes IsBare is_comment_byte bare_passes text bare),
+    )
 
-comment_bare : (comment : List ℕ) → (comment ≡ []) ⊎ rfc.IsComment comment → Each IsBare comment
-comment_bare comment (inl none) = rw none tt
-comment_bare comment (inr is) = rw is.whole (inr (omega arith), comment_text is.text is.is_text)
+-- the comment of a line, or nothing
+pub record IsRemark (comment : List ℕ) : Type 0 where
+  pub is : IsOptionalComment comment
+  pub bare : Each IsBare comment
+  pub low : BeginsLow comment
+  pub passes : is_comment_text (drop 1 comment) ≡ true
 
-pub comment_is : (comment : List ℕ) → (comment ≡ []) ⊎ rfc.IsComment comment
-    → IsOptionalComment comment
-comment_is comment (inl none) = inl none
-comment_is comment (inr is) = inr (is.text, is.whole)
+pub remark : (comment : List ℕ) → (comment ≡ []) ⊎ rfc.IsComment comment → IsRemark comment
+remark comment (inl none) =
+    let text = comment_text [] (record { units = []; each = tt; whole = refl }) in
+    rw none (record { is = inl refl; bare = tt; low = tt; passes = text.1 })
+remark comment (inr is) =
+    let text = comment_text is.text is.is_text in
+    rw is.whole (record {
+      is = inr (is.text, refl);
+      bare = (inr (omega arith), text.0);
+      low = omega arith;
+      passes = text.1;
+    })
 
--- a value, and possibly a comment after it
-pub end_bare : (values comment : List ℕ) → Each IsValueByte values
-    → (comment ≡ []) ⊎ rfc.IsComment comment
-    → Each IsBare (values ++ comment)
-end_bare values comment all is =
-    each_append IsBare values comment (values_bare values all) (comment_bare comment is)
+-- a text without `#`, and a comment or nothing
+pub parts_comment : (region comment : List ℕ) → Each (λ b. b ≢ hash) region → IsOptionalComment comment
+    → ArePartsAt hash region comment (region ++ comment)
+parts_comment region comment all (inl none) = rw (none, append-nil) (parts_none hash region all)
+parts_comment region comment all (inr (text, is)) = rw is (parts_at hash region text all)
+
+-- ---- a line and what is known of it
+
+-- No rule is above the first user-agent line.
+abbrev pub AreFree : List Form → Type 0
+AreFree [] = Unit {0}
+AreFree (Agent ∷ forms) = Unit {0}
+AreFree (Rule ∷ forms) = ⊥
+AreFree (_ ∷ forms) = AreFree forms
+
+-- no rule is before the first token
+abbrev pub HasNoRule : List Source → Type 0
+HasNoRule sources = filter rfc.is_rule (parts_in sources).ungrouped ≡ []
+
+-- in lines that begin with one of this form and with these source lines, no rule is above the first
+-- user-agent line if the source lines have no rule before the first token
+abbrev pub IsCounted : Form → List Source → Type 0
+IsCounted form sources =
+    (following : List Source) (forms : List Form) → (HasNoRule following → AreFree forms)
+    → HasNoRule (sources ++ following) → AreFree (form ∷ forms)
+
+-- the text is a line of this form with these source lines, one or none
+pub record IsLineOf (form : Form) (sources : List Source) (text : List ℕ) : Type 0 where
+  pub body : List ℕ
+  pub nl : List ℕ
+  pub whole : text ≡ body ++ nl
+  pub is_nl : rfc.IsNl nl
+  pub again : (end : List ℕ) → rfc.IsNl end → IsLine form (body ++ end)
+  pub tested : has_form form body ≡ true
+  pub bare : Each IsBare body
+  pub low : BeginsLow body
+  pub sourced : filter is_not_raw (source_of body ∷ []) ≡ sources
+  pub read : Each IsRead sources
+  pub counted : IsCounted form sources
 
 -- ---- the directive
 
@@ -144,21 +330,44 @@ module _ (kind : Kind) (value read text : List ℕ) (line : rfc.IsKeyed (word_of
   abbrev body : List ℕ
   body = front ++ colon ∷ (region ++ eol.comment)
 
-  are_front : Each IsFrontByte front
-  are_front =
-      front_bytes line.margin line.key line.blanks line.margin_blank
-      (key_letters line.key (word_of kind) line.is_key (identifier (word_of kind) (word_letters kind)))
+  named_key : IsNamed line.key (region ++ eol.comment) body
+  named_key =
+      named line.margin line.key line.blanks (region ++ eol.comment) line.margin_blank
+      (name_letters line.key (word_of kind) line.is_key (identifier (word_of kind) (word_letters kind)))
       line.blanks_blank
 
   are_values : Each IsValueByte region
   are_values =
-      each_append IsValueByte line.gap (value ++ eol.blanks) (blanks_value line.gap line.gap_blank) (
-      each_append IsValueByte value eol.blanks (
-      each_weaker IsCharByte IsValueByte char_value value chars.bytes) (
-      blanks_value eol.blanks eol.are_blanks))
+      each_append IsValueByte line.gap (value ++ eol.blanks) (blanks_value line.gap line.gap_blank)
+      (each_append IsValueByte value eol.blanks
+      (each_weaker IsCharByte IsValueByte char_value value chars.bytes)
+      (blanks_value eol.blanks eol.are_blanks))
 
   no_hash : Each (λ b. b ≢ hash) region
   no_hash = each_weaker IsValueByte (λ b. b ≢ hash) (λ b is. is.1) region are_values
+
+  comment : IsRemark eol.comment
+  comment = remark eol.comment eol.is_comment
+
+  at_hash : ArePartsAt hash region eol.comment (text_after colon body)
+  at_hash = rw named_key.after (parts_comment region eol.comment no_hash comment.is)
+
+  value_is : value_in body ≡ value
+  value_is =
+      ap stripped at_hash.before
+      ∙ stripped_is line.gap value eol.blanks line.gap_blank
+      (each_weaker IsCharByte IsSolid solid_char value chars.bytes) eol.are_blanks
+
+  value_written : written body ≡ value
+  unfolding written
+  value_written = value_is
+
+  keyed_passes : is_keyed (word_of kind) body ≡ true
+  keyed_passes =
+      let is_word =
+      same_bytes (lower (name_in body)) (word_of kind) (ap lower named_key.name ∙ line.is_key) in
+      and_from _ _ (and_from (has_byte colon body) _ named_key.has is_word)
+      (ap (λ t. is_comment_text (drop 1 t)) at_hash.from ∙ comment.passes)
 
   states : IsStatement kind read body
   states = record {
@@ -174,34 +383,66 @@ module _ (kind : Kind) (value read text : List ℕ) (line : rfc.IsKeyed (word_of
     separated = inl (line.blanks, line.blanks_blank, refl);
     parted = refl;
     no_hash = no_hash;
-    is_comment = comment_is eol.comment eol.is_comment;
+    is_comment = comment.is;
     trimmed =
         same_trim region (value ++ eol.blanks) read
         (blanks_skipped line.gap (value ++ eol.blanks) line.gap_blank)
         (blanks_after eol.blanks value read eol.are_blanks chars.utf8 trim);
   }
 
-  value_written : written body ≡ value
-  value_written =
-      written_is front region eol.comment
-      (each_weaker IsFrontByte (λ b. b ≢ colon) (λ b is. is.2) front are_front) no_hash
-      (comment_is eol.comment eol.is_comment)
-      ∙ between_gone line.gap value eol.blanks line.gap_blank eol.are_blanks
-      ∙ text_kept value (each_weaker IsCharByte (λ b. 32 < b) (λ b is. is.0) value chars.bytes)
+  again : (end : List ℕ) → rfc.IsNl end → rfc.IsKeyed (word_of kind) value (body ++ end)
+  again end is_nl = record {
+    margin = line.margin;
+    key = line.key;
+    blanks = line.blanks;
+    gap = line.gap;
+    eol = eol.blanks ++ (eol.comment ++ end);
+    whole = simp append_assoc;
+    margin_blank = line.margin_blank;
+    is_key = line.is_key;
+    blanks_blank = line.blanks_blank;
+    gap_blank = line.gap_blank;
+    is_eol = record {
+      blanks = eol.blanks;
+      comment = eol.comment;
+      nl = end;
+      whole = refl;
+      are_blanks = eol.are_blanks;
+      is_comment = eol.is_comment;
+      is_nl = is_nl;
+    };
+  }
 
-  -- the line is read as `found`, with its value as written
-  pub keyed_reads : (found : LineValue) → ((text : List ℕ) → line_with kind read text ≡ found)
-      → Reads (filter is_not_raw ((found, value) ∷ [])) text
-  keyed_reads found is =
-      subst (Reads (filter is_not_raw ((found, value) ∷ [])))
-      (sym (
-      line.whole
-      ∙ ap
-      (λ e. line.margin ++ (line.key ++ (line.blanks ++ (codes ":" ++ (line.gap ++ (value ++ e))))))
-      eol.whole
-      ∙ simp append_assoc))
-      (reads_colon (found, value) front (region ++ eol.comment) eol.nl
-      (ap (λ l. (l, written body))
+  -- the line is read as `found`; each line with this field name and value has the form, and passes its test
+  pub keyed_line : (form : Form) (found : LineValue)
+      → ((body : List ℕ) → line_with kind read body ≡ found)
+      → Each IsRead (filter is_not_raw ((found, value) ∷ []))
+      → IsCounted form (filter is_not_raw ((found, value) ∷ []))
+      → ((other : List ℕ) → rfc.IsKeyed (word_of kind) value other → IsLine form other)
+      → ((body : List ℕ) → is_keyed (word_of kind) body ≡ true → value_in body ≡ value
+      → has_form form body ≡ true)
+      → IsLineOf form (filter is_not_raw ((found, value) ∷ [])) text
+  keyed_line form found is is_read counted has passes =
+      let source : ◌≡◌ {A = Source} (source_of body) (found, value) =
+      ap (λ found. (found, written body))
       (line_stated body kind read (statement_found kind read body states) ∙ is body)
-      ∙ ap (λ v. (found, v)) value_written) are_front
-      (end_bare region eol.comment are_values eol.is_comment) eol.is_nl)
+      ∙ ap (λ v. (found, v)) value_written in
+      record {
+        body = body;
+        nl = eol.nl;
+        whole =
+            line.whole
+            ∙ ap (λ e. line.margin ++ (line.key ++ (line.blanks ++ (codes ":" ++ (line.gap ++ (value ++ e))))))
+            eol.whole
+            ∙ simp append_assoc;
+        is_nl = eol.is_nl;
+        again = λ end is_nl. has (body ++ end) (again end is_nl);
+        tested = passes body keyed_passes value_is;
+        bare =
+            named_key.bare (each_append IsBare region eol.comment (values_bare region are_values) comment.bare);
+        low = named_key.low;
+        sourced =
+            ap (λ (source : Source). filter is_not_raw (source ∷ [])) source;
+        read = is_read;
+        counted = counted;
+      }

@@ -1,29 +1,132 @@
 -- A text whose lines have the forms of the grammar's lines, with each rule below a user-agent line, is a file
--- of the grammar. Each user-agent line begins a group of its own, whose members are those up to the next
--- user-agent line. The text is built from its last line on.
-use Rattle.std.proofs.Common.{◌≡◌, ◌≢◌, inl, inr, ℕ, zero, suc, List, [], ◌∷◌, ◌++◌, sym, refl, ap}
-use Rattle.std.proofs.Common.{◌∙◌}
-use Rattle.std.proofs.Common.{append_assoc, arith, subst}
-use Rattle.std.specs.Prelude.{Contains}
-use Rattle.std.specs.List.{AllZip, AllByRecursion as Each}
-use Rattle.std.proofs.lemmas.List.Elements.{recursion_from_All}
-use Rattle.texting_robots.specs.{Executable.file_bodies, Internal.Cut.bodies_of, Line.without_front}
-use Rattle.rfc9309_laws.proofs.EndLemmas.{nothing_replaced}
+-- of the grammar. It consists of the contents of its lines, each with terminators after it. Each user-agent
+-- line begins a group of its own, whose members are those up to the next user-agent line. The text is built
+-- from its last line on.
+use Rattle.std.proofs.Common.{◌≡◌, ◌⊎◌, inl, inr, ℕ, List, [], ◌∷◌, ◌++◌, sym, refl, ap, ◌∙◌, append_assoc}
+use Rattle.std.proofs.Common.{◌≢◌, zero, suc, arith, subst}
+use Rattle.std.specs.List.{AllByRecursion as Each, AllZip}
+use Rattle.texting_robots.specs.Cut.{IsBodyByte, cr, lf}
+use Rattle.texting_robots.proofs.CrLfLemmas.{body_step, step}
+use Rattle.rfc9309_laws.specs.Rfc9309.{IsLastNl, IsNl}
+use Rattle.rfc9309_laws.specs.LineForms.{Form, IsLine, HasForm, Empty, Agent, Rule, Delay, Sitemap, Other}
+use Rattle.rfc9309_laws.specs.LineForms.{AreForms, AreRulesBelowAgents}
 use Rattle.rfc9309_laws.proofs.SyntaxLemmas.{repeats_both, repeats_none, repeats_one}
-use Rattle.rfc9309_laws.proofs.TerminatorLemmas.{AreEnded, IsEndByte, completed, line_ended}
-use Rattle.rfc9309_laws.specs.LineForms.{Agent, AreForms, AreRulesBelowAgents, Delay, Empty, Form}
-use Rattle.rfc9309_laws.specs.LineForms.{HasForm}
-use Rattle.rfc9309_laws.specs.LineForms.{IsLine, Other, Rule, Sitemap}
+use Rattle.std.proofs.{lemmas.Bool.ne_eqb, lemmas.List.Elements.recursion_from_All}
+use Rattle.texting_robots.specs.{Internal.Cut.bodies_of, Executable.file_bodies, Line.without_front}
+use Rattle.texting_robots.proofs.{CutFromFront.bodies_nil, CutLemmas.byte_cases}
+use Rattle.std.specs.{Prelude.Contains}
+use Rattle.rfc9309_laws.proofs.{ReadLemmas.nothing_replaced, KeyedLemmas.AreFree, OtherLemmas.line_ended}
 use Rattle.rfc9309_laws.specs.Rfc9309 as rfc
 
--- ---- rules above the first user-agent line
+-- ---- the contents of a text, and the terminators after them
 
--- no rule is above the first user-agent line
-abbrev pub AreFree : List Form → Type 0
-AreFree [] = Unit {0}
-AreFree (Agent ∷ forms) = Unit {0}
-AreFree (Rule ∷ forms) = ⊥
-AreFree (_ ∷ forms) = AreFree forms
+abbrev pub IsEndByte : ℕ → Type 0
+IsEndByte byte = (byte ≡ cr) ⊎ (byte ≡ lf)
+
+-- the content, one or more bytes of terminators, and the rest
+pub record IsEndedBefore (Rest : List ℕ → Type 0) (body text : List ℕ) : Type 0 where
+  pub end : ℕ
+  pub ends : List ℕ
+  pub rest : List ℕ
+  pub whole : text ≡ body ++ (end ∷ (ends ++ rest))
+  pub is_end : IsEndByte end
+  pub are_ends : Each IsEndByte ends
+  pub is_rest : Rest rest
+
+-- the text consists of these contents, each with a terminator after it
+abbrev pub AreEnded : List (List ℕ) → List ℕ → Type 0
+AreEnded [] text = text ≡ []
+AreEnded (body ∷ bodies) text = Each IsBodyByte body × IsEndedBefore (AreEnded bodies) body text
+
+-- with a terminator after its last line, a text consists of such lines
+abbrev IsCompleted : List (List ℕ) → List ℕ → Type 0
+IsCompleted bodies text = (nl : List ℕ) × IsLastNl nl × AreEnded bodies (text ++ nl)
+
+-- one more line with this terminator
+new_line : (end : ℕ) (bodies : List (List ℕ)) (text : List ℕ) → IsEndByte end → AreEnded bodies text
+    → AreEnded ([] ∷ bodies) (end ∷ text)
+new_line end bodies text is are = (
+  tt,
+  record {
+    end = end;
+    ends = [];
+    rest = text;
+    whole = refl;
+    is_end = is;
+    are_ends = tt;
+    is_rest = are;
+  },
+)
+
+byte_before : (b : ℕ) (body : List ℕ) (bodies : List (List ℕ)) (text : List ℕ) → IsBodyByte b
+    → AreEnded (body ∷ bodies) text → AreEnded ((b ∷ body) ∷ bodies) (b ∷ text)
+byte_before b body bodies text is (bytes, line) = (
+  (is, bytes),
+  record {
+    end = line.end;
+    ends = line.ends;
+    rest = line.rest;
+    whole = ap (λ t. b ∷ t) line.whole;
+    is_end = line.is_end;
+    are_ends = line.are_ends;
+    is_rest = line.is_rest;
+  },
+)
+
+-- a CR before terminators is one more byte of them
+return_before : (bodies : List (List ℕ)) (text : List ℕ) → AreEnded ([] ∷ bodies) text
+    → AreEnded ([] ∷ bodies) (cr ∷ text)
+return_before bodies text (bytes, line) = (
+  tt,
+  record {
+    end = cr;
+    ends = line.end ∷ line.ends;
+    rest = line.rest;
+    whole = ap (λ t. cr ∷ t) line.whole;
+    is_end = inl refl;
+    are_ends = (line.is_end, line.are_ends);
+    is_rest = line.is_rest;
+  },
+)
+
+after_return : (bodies : List (List ℕ)) (text : List ℕ) → IsCompleted bodies text
+    → IsCompleted (body_step cr bodies) (cr ∷ text)
+after_return [] text (nl, is, are) = (nl, is, new_line cr [] (text ++ nl) (inl refl) are)
+after_return ([] ∷ bodies) text (nl, is, are) = (nl, is, return_before bodies (text ++ nl) are)
+after_return ((b ∷ body) ∷ bodies) text (nl, is, are) =
+    (nl, is, new_line cr ((b ∷ body) ∷ bodies) (text ++ nl) (inl refl) are)
+
+after_byte : (b : ℕ) (bodies : List (List ℕ)) (text : List ℕ) → IsBodyByte b → IsCompleted bodies text
+    → IsCompleted (body_step b bodies) (b ∷ text)
+after_byte b [] text other (nl, is, are) =
+    rw (ne_eqb b lf other.1, ne_eqb b cr other.0) (
+      lf ∷ [],
+      inr (inr (inl refl)),
+      rw (nothing text nl are)
+          (byte_before b [] [] (lf ∷ []) other (new_line lf [] [] (inr refl) refl)),
+    )
+  where
+    nothing : (text nl : List ℕ) → text ++ nl ≡ [] → text ≡ []
+    nothing [] nl e = refl
+    nothing (c ∷ text) nl e = cc
+after_byte b (body ∷ bodies) text other (nl, is, are) =
+    rw (ne_eqb b lf other.1, ne_eqb b cr other.0)
+    (nl, is, byte_before b body bodies (text ++ nl) other are)
+
+after_step : (b : ℕ) (bodies : List (List ℕ)) (text : List ℕ) → IsCompleted bodies text
+    → IsCompleted (body_step b bodies) (b ∷ text)
+after_step b bodies text is = elim (byte_cases b) [
+  | inl feed ↦ let (nl, last, are) = is in
+      rw feed (nl, last, new_line lf bodies (text ++ nl) (inr refl) are)
+  | inr (inl return) ↦ rw return (after_return bodies text is)
+  | inr (inr other) ↦ after_byte b bodies text other is
+]
+
+completed : (text : List ℕ) → IsCompleted (bodies_of text) text
+completed [] = rw bodies_nil ([], inl refl, refl)
+completed (b ∷ text) = rw (step b text) (after_step b (bodies_of text) text (completed text))
+
+-- ---- rules above the first user-agent line
 
 past : (form : Form) (above : List Form) → form ≢ Agent → Contains (form ∷ above) Agent
     → Contains above Agent
@@ -183,7 +286,7 @@ tail_of [] (body ∷ bodies) text all are = absurd all
 tail_of (form ∷ forms) [] text all are = absurd all
 tail_of (form ∷ forms) (body ∷ bodies) text (is, all) (bytes, line) =
     let tail = tail_of forms bodies line.rest all line.is_rest in
-    let ended = line_ended body (line.end ∷ []) bytes (is_nl line.end line.is_end) form is in
+    let ended = line_ended body bytes form is (line.end ∷ []) (is_nl line.end line.is_end) in
     let after = ends_before line.ends line.rest line.are_ends tail in
     let whole : text ≡ (body ++ line.end ∷ []) ++ (line.ends ++ line.rest) =
     line.whole ∙ simp append_assoc in
@@ -194,20 +297,20 @@ pub forms_make_file : (text : List ℕ) (forms : List Form) → AreForms forms t
 forms_make_file text forms are =
     let rest = without_front text in
     let (bom, is_bom, whole) = are.bom in
-    let ended = completed rest in
+    let (nl, last, ended) = completed rest in
     let no_nul = recursion_from_All (λ byte. byte ≢ 0) text are.no_nul in
     let bodies : file_bodies text ≡ bodies_of rest =
     ap (λ t. bodies_of (without_front t)) (nothing_replaced text no_nul) in
     let each : AllZip HasForm forms (bodies_of rest) = subst (AllZip HasForm forms) bodies are.each in
-    let tail = tail_of forms (bodies_of rest) (rest ++ ended.nl) each ended.are in (
+    let tail = tail_of forms (bodies_of rest) (rest ++ nl) each ended in (
       tail.groups,
       record {
         bom = bom;
         rest = rest;
-        nl = ended.nl;
+        nl = nl;
         whole = whole;
         is_bom = is_bom;
-        is_nl = ended.is_nl;
+        is_nl = last;
         is_content = record {
           front = tail.lead;
           rest = tail.rest;

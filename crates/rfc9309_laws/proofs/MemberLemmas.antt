@@ -1,31 +1,282 @@
--- The lines of delays, of members and of sitemaps.
-use Rattle.std.proofs.Common.{◌≡◌, inl, inr, ℕ, List, [], ◌∷◌, ◌++◌}
-use Rattle.std.proofs.Common.{codes, All, Some, sym, refl, subst, append-nil, arith, ap}
-use Rattle.std.specs.{List.AllByRecursion as Each, Char.IsAsciiDigit}
-use Rattle.std.proofs.lemmas.{Bool.ne_eqb, Str.Parse.without_leading_plus_none}
+-- The lines of product tokens, rules, delays and sitemaps.
+use Rattle.std.proofs.Common.{◌≡◌, ◌≢◌, ◌⊎◌, inl, inr, ℕ, ◌==◌, ◌||◌, true, List, [], ◌∷◌, ◌++◌, All, Some}
+use Rattle.std.proofs.Common.{append-nil, append_assoc, ap, arith, codes, drop, get_or, refl, subst, sym}
+use Rattle.std.proofs.Common.{◌∙◌}
+use Rattle.std.proofs.lemmas.Bool.{and_from, ne_eqb}
 use Rattle.std.proofs.lemmas.List.Elements.{All-from_recursion, All-nil}
 use Rattle.texting_robots.specs.Delay.{Decimal, NamesDelay, Writes}
-use Rattle.texting_robots.specs.{Line.CrawlDelay, Line.Sitemap}
-use Rattle.texting_robots.specs.Internal.{Delay.delay_of, Delay.rounded, Line.delay_or_raw}
-use Rattle.texting_robots.specs.Internal.{Statement.trimmed}
+use Rattle.texting_robots.specs.Line.{UserAgent, Allow, CrawlDelay, Disallow}
+use Rattle.texting_robots.specs.Internal.Line.{line_with, delay_or_raw}
+use Rattle.texting_robots.specs.Internal.Delay.{delay_of, rounded}
 use Rattle.texting_robots.proofs.DelayLemmas.{is_delay_of, one_delay, rounded_rounds}
-use Rattle.texting_robots.proofs.TrimLemmas.{trimmed_is_trim, each_append}
-use Rattle.rfc9309_laws.proofs.{CharLemmas.chars_text, EachLemmas.each_weaker, KeyedLemmas.keyed_reads}
-use Rattle.rfc9309_laws.proofs.RuleLemmas.{IsLineOf, IsPlain, MemberRead, plain_text, rule_line}
-use Rattle.rfc9309_laws.proofs.RuleLemmas.{star_line}
-use Rattle.rfc9309_laws.proofs.RuleLemmas.{trim_is_utf8}
+use Rattle.texting_robots.proofs.TrimLemmas.{each_append, trimmed_is_trim}
+use Rattle.rfc9309_laws.proofs.CharLemmas.{IsCharByte, IsCharText, chars_text, text_append}
+use Rattle.rfc9309_laws.proofs.KeyedLemmas.{IsLineOf, keyed_line, has_at, or_first, or_second, parts_at}
+use Rattle.rfc9309_laws.proofs.KeyedLemmas.{passes, same_bytes, value_passes}
+use Rattle.rfc9309_laws.proofs.ValueLemmas.{IsVisible, trim_some, trim_utf8, visible_trim, visible_utf8}
+use Rattle.rfc9309_laws.proofs.Sources.{Parts, Source, allowed_in, with_address, with_member, with_source}
+use Rattle.rfc9309_laws.specs.HasForm.{are_some, has_byte, has_form, is_digit, is_identifier_byte, is_keyed}
+use Rattle.rfc9309_laws.specs.HasForm.{is_number, is_pattern, is_product_token, is_value_text, value_in}
+use Rattle.rfc9309_laws.specs.LineForms.{Form, Agent, Rule, Delay, Sitemap}
+use Rattle.std.specs.{List.AllByRecursion as Each, Char.IsAsciiDigit, Str.is_utf8}
+use Rattle.std.proofs.{lemmas.Bool.Decides.nat_tests, lemmas.Str.Parse.without_leading_plus_none}
+use Rattle.std.proofs.{lemmas.Str.is_utf8-from_IsUtf8}
+use Rattle.texting_robots.specs.{Trim.IsTrimOf, Internal.Statement.trimmed}
+use Rattle.rfc9309_laws.proofs.{SyntaxLemmas.each_weaker}
+use Rattle.texting_robots.specs.Line as library
 use Rattle.texting_robots.specs.declared.parser.statement.Kind.TheVariants as kind
 use Rattle.rfc9309_laws.specs.Rfc9309 as rfc
+
+-- ---- product tokens
+
+-- visible, and not `#`
+abbrev pub IsPlain : ℕ → Type 0
+IsPlain byte = IsVisible byte × (byte ≢ 35)
+
+identifier_plain : (b : ℕ) → rfc.IsIdentifierByte b → IsPlain b
+identifier_plain b is = ((omega arith, omega arith), λ e. omega arith)
+
+pub token_plain : (token : List ℕ) → rfc.IsProductToken token → Each IsPlain token
+token_plain [] is = tt
+token_plain (b ∷ token) (inl is) =
+    each_weaker rfc.IsIdentifierByte IsPlain identifier_plain (b ∷ token) is
+token_plain (b ∷ token) (inr is) =
+    subst (Each IsPlain) (sym is) (((omega arith, omega arith), λ e. omega arith), tt)
+
+-- plain bytes are characters, and trimming leaves them unchanged
+pub plain_text : (bytes : List ℕ) → Each IsPlain bytes → IsCharText bytes × IsTrimOf bytes bytes
+plain_text bytes plain =
+    let visible = each_weaker IsPlain IsVisible (λ b is. is.0) bytes plain in (
+      record {
+        bytes = each_weaker IsPlain IsCharByte (λ b is. (is.0.0, is.1)) bytes plain;
+        utf8 = visible_utf8 bytes visible;
+      },
+      visible_trim bytes visible,
+    )
+
+identifier_passes : (b : ℕ) → rfc.IsIdentifierByte b → is_identifier_byte b ≡ true
+identifier_passes b is = grind (arith, nat_tests)
+
+pub name_passes : (name : List ℕ) → rfc.IsIdentifier name → are_some is_identifier_byte name ≡ true
+name_passes [] is = absurd is
+name_passes (b ∷ name) is = passes rfc.IsIdentifierByte is_identifier_byte identifier_passes (b ∷ name) is
+
+token_passes : (token : List ℕ) → rfc.IsProductToken token → is_product_token token ≡ true
+token_passes token (inl is) = rw (name_passes token is) refl
+token_passes token (inr is) =
+    or_second (are_some is_identifier_byte token) _ (same_bytes token (codes "*") is)
+
+pub token_line : (token text : List ℕ) → rfc.IsStartGroupLine token text
+    → IsLineOf Agent ((UserAgent token, token) ∷ []) text
+token_line token text (is, line) =
+    let (chars, trim) = plain_text token (token_plain token is) in
+    keyed_line kind.UserAgent token token text line chars trim Agent (UserAgent token) (λ body. refl) (tt, tt)
+    (λ following forms more none. tt) (λ other line. (token, (is, line)))
+    (λ body key value. and_from (is_keyed (codes "user-agent") body) _ key
+    (ap is_product_token value ∙ token_passes token is))
+
+-- ---- rules
+
+-- a line of this form, whose source line is that of the member
+pub record MemberRead (form : Form) (member : rfc.Member) (text : List ℕ) : Type 0 where
+  pub source : Source
+  pub is_line : IsLineOf form (source ∷ []) text
+  pub written : (parts : Parts) → with_source source parts ≡ with_member member parts
+  pub unlisted : (following : List (List ℕ)) → with_address source following ≡ following
+
+disallowed : (read body : List ℕ) → read ≢ [] → line_with kind.Disallow read body ≡ Disallow read
+disallowed [] body some = absurd (some refl)
+disallowed (b ∷ read) body some = refl
+
+-- trimming characters gives UTF-8
+pub trim_is_utf8 : (text : List ℕ) → IsCharText text → is_utf8 (trimmed text) ≡ true
+trim_is_utf8 text chars =
+    is_utf8-from_IsUtf8 (trimmed text) (trim_utf8 text (trimmed text) chars.utf8 (trimmed_is_trim text))
+
+pub slash_plain : IsPlain 47
+slash_plain = ((omega arith, omega arith), λ e. omega arith)
+
+pub star_plain : IsPlain 42
+star_plain = ((omega arith, omega arith), λ e. omega arith)
+
+-- a pattern as it stands in a line: nothing, or a plain byte and characters
+pub record IsRuleValue (value : List ℕ) : Type 0 where
+  pub chars : IsCharText value
+  pub passes : is_pattern value ≡ true
+  pub plain : (b : ℕ) (text : List ℕ) → value ≡ b ∷ text → IsVisible b
+
+begun : (b : ℕ) (value : List ℕ) → IsPlain b → (b == 0x2F || b == 0x2A) ≡ true
+    → rfc.IsPatternWith (b ∷ []) value → IsRuleValue value
+begun b value plain first is =
+    let text = chars_text is.text is.is_text in
+    rw is.whole (record {
+      chars = text_append (b ∷ []) is.text (plain_text (b ∷ []) (plain, tt)).0 text;
+      passes = and_from (b == 0x2F || b == 0x2A) _ first (value_passes is.text text);
+      plain = λ c text e. subst IsVisible (ap (λ (t : List ℕ). get_or t 0 0) e) plain.0;
+    })
+
+-- a value of spaces and tabs is an empty value after these spaces and tabs
+pub emptied : (word value text : List ℕ) → Each rfc.IsWs value → rfc.IsKeyed word value text
+    → rfc.IsKeyed word [] text
+emptied word value text all line = record {
+  margin = line.margin;
+  key = line.key;
+  blanks = line.blanks;
+  gap = line.gap ++ value;
+  eol = line.eol;
+  whole = line.whole ∙ simp append_assoc;
+  margin_blank = line.margin_blank;
+  is_key = line.is_key;
+  blanks_blank = line.blanks_blank;
+  gap_blank = each_append rfc.IsWs line.gap value line.gap_blank all;
+  is_eol = line.is_eol;
+}
+
+-- any line with this field name and this pattern is a line of the member
+abbrev IsMember : List ℕ → rfc.Member → List ℕ → Type 0
+IsMember word member pattern =
+    (other : List ℕ) → rfc.IsKeyed word pattern other → rfc.IsRule member other ⊎ rfc.IsStarRule member other
+
+-- an Allow or a Disallow, by its field name
+record IsRuleLine (word : List ℕ) (member : rfc.Member) (pattern text : List ℕ) : Type 0 where
+  value : IsRuleValue pattern
+  line : rfc.IsKeyed word pattern text
+  again : IsMember word member pattern
+
+plain_rule : (word pattern text : List ℕ) (member : rfc.Member)
+    → ((other : List ℕ) → rfc.IsRuleWith word pattern other → rfc.IsRule member other)
+    → rfc.IsRuleWith word pattern text → IsRuleLine word member pattern text
+plain_rule word pattern text member is rule = elim rule.is_pattern [
+  | inl (path, same) ↦ rw same (record {
+    value = begun 47 rule.value slash_plain refl path;
+    line = rule.is_line;
+    again = λ other line.
+        inl (is other (record { value = rule.value; is_pattern = inl (path, same); is_line = line }));
+  })
+  | inr (blanks, none) ↦ rw none (record {
+    value = record {
+      chars = (plain_text [] tt).0;
+      passes = refl;
+      plain = λ b text e. cc;
+    };
+    line = emptied word rule.value text blanks rule.is_line;
+    again = λ other line. inl (is other (record { value = []; is_pattern = inr (tt, none); is_line = line }));
+  })
+]
+
+star_rule : (word pattern text : List ℕ) (member : rfc.Member)
+    → ((other : List ℕ) → rfc.IsKeyed word pattern other → rfc.IsStarRule member other)
+    → rfc.IsStarPattern pattern → rfc.IsKeyed word pattern text → IsRuleLine word member pattern text
+star_rule word pattern text member star is line = record {
+  value = begun 42 pattern star_plain refl is;
+  line = line;
+  again = λ other line. inr (star other line);
+}
+
+rule_passes : (pattern body : List ℕ)
+    → (is_keyed (codes "allow") body || is_keyed (codes "disallow") body) ≡ true → value_in body ≡ pattern
+    → is_pattern pattern ≡ true → has_form Rule body ≡ true
+rule_passes pattern body key value is = and_from _ (is_pattern (value_in body)) key (ap is_pattern value ∙ is)
+
+allow : (pattern read text : List ℕ) → IsTrimOf read pattern → allowed_in pattern read ≡ rfc.Allow pattern
+    → IsRuleLine (codes "allow") (rfc.Allow pattern) pattern text
+    → MemberRead Rule (rfc.Allow pattern) text
+allow pattern read text trim same rule =
+    let chars = rule.value.chars in
+    let utf8 = is_utf8-from_IsUtf8 read (trim_utf8 pattern read chars.utf8 trim) in
+    record {
+      source = (Allow read, pattern);
+      is_line =
+          keyed_line kind.Allow pattern read text rule.line chars trim Rule (Allow read) (λ body. refl)
+          (rw (same, utf8) (read, trim, refl), tt)
+          (λ following forms more none. let some = rw same at none in cc)
+          (λ other line. (rfc.Allow pattern, rule.again other line))
+          (λ body key value.
+          rule_passes pattern body (or_first (is_keyed (codes "allow") body) _ key) value rule.value.passes);
+      written = λ parts. ap (λ member. with_member member parts) same;
+      unlisted = λ following. refl;
+    }
+
+allow_line : (pattern text : List ℕ) → IsRuleLine (codes "allow") (rfc.Allow pattern) pattern text
+    → MemberRead Rule (rfc.Allow pattern) text
+allow_line [] text rule = allow [] [] text (visible_trim [] tt) refl rule
+allow_line (b ∷ pattern) text rule =
+    allow (b ∷ pattern) (trimmed (b ∷ pattern)) text (trimmed_is_trim (b ∷ pattern)) refl rule
+
+disallow_passes : (pattern body : List ℕ) → is_pattern pattern ≡ true
+    → is_keyed (codes "disallow") body ≡ true → value_in body ≡ pattern → has_form Rule body ≡ true
+disallow_passes pattern body is key value =
+    rule_passes pattern body (or_second (is_keyed (codes "allow") body) _ key) value is
+
+disallow_line : (pattern text : List ℕ) → IsRuleLine (codes "disallow") (rfc.Disallow pattern) pattern text
+    → MemberRead Rule (rfc.Disallow pattern) text
+disallow_line [] text rule =
+    let slash = codes "/" in
+    record {
+      source = (Allow slash, []);
+      is_line =
+          keyed_line kind.Disallow [] [] text rule.line rule.value.chars (visible_trim [] tt) Rule
+          (Allow slash)
+          (λ body. refl)
+          (rw (is_utf8-from_IsUtf8 slash (plain_text slash (slash_plain, tt)).0.utf8) refl, tt)
+          (λ following forms more none. cc) (λ other line. (rfc.Disallow [], rule.again other line))
+          (λ body. disallow_passes [] body refl);
+      written = λ parts. refl;
+      unlisted = λ following. refl;
+    }
+disallow_line (b ∷ pattern) text rule =
+    let value : List ℕ = b ∷ pattern in
+    let read = trimmed value in
+    let trim = trimmed_is_trim value in
+    record {
+      source = (Disallow read, value);
+      is_line =
+          keyed_line kind.Disallow value read text rule.line rule.value.chars trim Rule (Disallow read)
+          (λ body. disallowed read body (trim_some b pattern read (rule.value.plain b pattern refl) trim))
+          (rw (trim_is_utf8 value rule.value.chars) (read, trim, refl), tt) (λ following forms more none. cc)
+          (λ other line. (rfc.Disallow value, rule.again other line))
+          (λ body. disallow_passes value body rule.value.passes);
+      written = λ parts. refl;
+      unlisted = λ following. refl;
+    }
+
+pub rule_line : (member : rfc.Member) (text : List ℕ) → rfc.IsRule member text ⊎ rfc.IsStarRule member text
+    → MemberRead Rule member text
+rule_line (rfc.Allow pattern) text (inl is) =
+    allow_line pattern text (plain_rule (codes "allow") pattern text (rfc.Allow pattern) (λ other line. line) is)
+rule_line (rfc.Allow pattern) text (inr (is, line)) =
+    allow_line pattern text
+    (star_rule (codes "allow") pattern text (rfc.Allow pattern) (λ other line. (is, line)) is line)
+rule_line (rfc.Disallow pattern) text (inl is) =
+    disallow_line pattern text (plain_rule (codes "disallow") pattern text (rfc.Disallow pattern) (λ other line. line) is)
+rule_line (rfc.Disallow pattern) text (inr (is, line)) =
+    disallow_line pattern text
+    (star_rule (codes "disallow") pattern text (rfc.Disallow pattern) (λ other line. (is, line)) is line)
+rule_line (rfc.Delay number) text (inl is) = absurd is
+rule_line (rfc.Delay number) text (inr is) = absurd is
 
 -- ---- delays
 
 abbrev decimal_of : List ℕ → List ℕ → Decimal
 decimal_of units fraction = record { whole = units; fraction = fraction; exponent = [] }
 
+digit_passes : (b : ℕ) → rfc.IsDigitByte b → is_digit b ≡ true
+digit_passes b is = grind (arith, nat_tests)
+
+digits_pass : (digits : List ℕ) → rfc.IsDigits digits → are_some is_digit digits ≡ true
+digits_pass [] is = absurd is
+digits_pass (b ∷ digits) is = passes rfc.IsDigitByte is_digit digit_passes (b ∷ digits) is
+
+no_point : (digits : List ℕ) → rfc.IsDigits digits → Each (λ b. b ≢ 0x2E) digits
+no_point [] is = tt
+no_point (b ∷ digits) is =
+    each_weaker rfc.IsDigitByte (λ b. b ≢ 0x2E) (λ b digit e. omega arith) (b ∷ digits) is
+
 record Numbered (number : List ℕ) : Type 0 where
   delay : ℕ
   is : delay_of number ≡ Some delay
   plain : Each IsPlain number
+  passes : is_number number ≡ true
 
 digit_plain : (b : ℕ) → rfc.IsDigitByte b → IsPlain b
 digit_plain b is = ((omega arith, omega arith), λ e. omega arith)
@@ -33,8 +284,8 @@ digit_plain b is = ((omega arith, omega arith), λ e. omega arith)
 -- a number that begins with a digit has no sign, so it denotes a delay
 numbered_by : (d : ℕ) (rest units fraction : List ℕ) → rfc.IsDigitByte d
     → Writes (d ∷ rest) (decimal_of units fraction) → Each IsPlain (d ∷ rest)
-    → Numbered (d ∷ rest)
-numbered_by d rest units fraction digit writes plain =
+    → is_number (d ∷ rest) ≡ true → Numbered (d ∷ rest)
+numbered_by d rest units fraction digit writes plain passes =
     let n = decimal_of units fraction in
     let no_plus = without_leading_plus_none (d ∷ rest) (λ e. omega (arith, digit.0)) in
     let names : NamesDelay (d ∷ rest) (rounded n) =
@@ -43,9 +294,10 @@ numbered_by d rest units fraction digit writes plain =
       delay = rounded n;
       is = sym (is_delay_of (d ∷ rest) (Some (rounded n)) names);
       plain = plain;
+      passes = passes;
     }
 
-pub all_digits : (digits : List ℕ) → rfc.IsDigits digits → All IsAsciiDigit digits × Each IsPlain digits
+all_digits : (digits : List ℕ) → rfc.IsDigits digits → All IsAsciiDigit digits × Each IsPlain digits
 all_digits [] is = absurd is
 all_digits (d ∷ ds) is = (
   All-from_recursion IsAsciiDigit (d ∷ ds) is,
@@ -65,9 +317,9 @@ whole_numbered (d ∷ ds) is =
       some = omega arith;
       is_point = inr (refl, refl);
       is_tail = inl (refl, refl);
-    }) digits.1
+    }) digits.1 (or_first (are_some is_digit (d ∷ ds)) _ (digits_pass (d ∷ ds) is))
 
-pub point_plain : Each IsPlain (codes ".")
+point_plain : Each IsPlain (codes ".")
 point_plain = (((omega arith, omega arith), λ e. omega arith), tt)
 
 parts_numbered : (units fraction : List ℕ) → rfc.IsDigits units → rfc.IsDigits fraction
@@ -76,6 +328,8 @@ parts_numbered [] fraction is following = absurd is
 parts_numbered (d ∷ ds) fraction is following =
     let units = all_digits (d ∷ ds) is in
     let digits = all_digits fraction following in
+    let number : List ℕ = (d ∷ ds) ++ 0x2E ∷ fraction in
+    let parts = parts_at 0x2E (d ∷ ds) fraction (no_point (d ∷ ds) is) in
     numbered_by d (ds ++ (codes "." ++ fraction)) (d ∷ ds) fraction is.0 (record {
       point = codes ".";
       tail = [];
@@ -87,50 +341,53 @@ parts_numbered (d ∷ ds) fraction is following =
       is_tail = inl (refl, refl);
     }) (each_append IsPlain (d ∷ ds) (codes "." ++ fraction) units.1
     (each_append IsPlain (codes ".") fraction point_plain digits.1))
+    (or_second (are_some is_digit number) _
+    (and_from (has_byte 0x2E number) _ (has_at 0x2E (d ∷ ds) fraction) (and_from _ _
+    (ap (are_some is_digit) parts.before ∙ digits_pass (d ∷ ds) is)
+    (ap (λ t. are_some is_digit (drop 1 t)) parts.from ∙ digits_pass fraction following))))
 
 numbered : (number : List ℕ) → rfc.IsNumber number → Numbered number
 numbered number (inl is) = whole_numbered number is
 numbered number (inr is) =
     subst Numbered (sym is.whole) (parts_numbered is.units is.fraction is.are_units is.is_fraction)
 
-delay_given : (number text : List ℕ) → Numbered number → rfc.IsKeyed (codes "crawl-delay") number text
-    → MemberRead (rfc.Delay number) text
-delay_given number text n line =
+pub delay_line : (member : rfc.Member) (text : List ℕ) → rfc.IsDelayLine member text
+    → MemberRead Delay member text
+delay_line (rfc.Allow pattern) text is = absurd is
+delay_line (rfc.Disallow pattern) text is = absurd is
+delay_line (rfc.Delay number) text (is, line) =
+    let n = numbered number is in
     let (chars, trim) = plain_text number n.plain in
-    let found = CrawlDelay (Some n.delay) in
     record {
-      source = (found, number);
-      is_line = record {
-        read = (one_delay number (Some n.delay)).1 (sym n.is);
-        reads =
-            keyed_reads kind.CrawlDelay number number text line chars trim found
-            (λ body. ap (λ delay. delay_or_raw delay body) n.is);
-      };
+      source = (CrawlDelay (Some n.delay), number);
+      is_line =
+          keyed_line kind.CrawlDelay number number text line chars trim Delay (CrawlDelay (Some n.delay))
+          (λ body. ap (λ delay. delay_or_raw delay body) n.is)
+          ((one_delay number (Some n.delay)).1 (sym n.is), tt) (λ following forms more none. more none)
+          (λ other line. (rfc.Delay number, (is, line)))
+          (λ body key value. and_from (is_keyed (codes "crawl-delay") body) _ key
+          (ap is_number value ∙ n.passes));
       written = λ parts. refl;
       unlisted = λ following. refl;
     }
 
-delay_line : (member : rfc.Member) (text : List ℕ) → rfc.IsDelayLine member text
-    → MemberRead member text
-delay_line (rfc.Allow pattern) text is = absurd is
-delay_line (rfc.Disallow pattern) text is = absurd is
-delay_line (rfc.Delay number) text is = delay_given number text (numbered number is.0) is.1
-
+-- a line of a member, of one form or the other
 pub member_line : (member : rfc.Member) (text : List ℕ) → rfc.IsMemberLine member text
-    → MemberRead member text
-member_line member text (inl is) = rule_line member text is
-member_line member text (inr (inl is)) = star_line member text is
-member_line member text (inr (inr is)) = delay_line member text is
+    → (form : Form) × MemberRead form member text
+member_line member text (inl is) = (Rule, rule_line member text (inl is))
+member_line member text (inr (inl is)) = (Rule, rule_line member text (inr is))
+member_line member text (inr (inr is)) = (Delay, delay_line member text is)
 
 -- ---- sitemaps
 
 pub sitemap_line : (address text : List ℕ) → rfc.IsSitemapLine address text
-    → IsLineOf (Sitemap (trimmed address), address) text
+    → IsLineOf Sitemap ((library.Sitemap (trimmed address), address) ∷ []) text
 sitemap_line address text (is, line) =
     let chars = chars_text address is in
-    let read = trimmed address in
+    let value = trimmed address in
     let trim = trimmed_is_trim address in
-    record {
-      read = (rw (trim_is_utf8 address chars) refl, trim);
-      reads = keyed_reads kind.Sitemap address read text line chars trim (Sitemap read) (λ body. refl);
-    }
+    keyed_line kind.Sitemap address value text line chars trim Sitemap (library.Sitemap value) (λ body. refl)
+    ((rw (trim_is_utf8 address chars) refl, trim), tt) (λ following forms more none. more none)
+    (λ other line. (address, (is, line)))
+    (λ body key value. and_from (is_keyed (codes "sitemap") body) _ key
+    (ap is_value_text value ∙ value_passes address chars))

@@ -1,61 +1,82 @@
--- Empty lines, comments, and records that the library ignores.
-use Rattle.std.proofs.Common.{◌≡◌, ◌⊎◌, inl, inr, ℕ, List, [], ◌∷◌, ◌++◌}
-use Rattle.std.proofs.Common.{Option, Some, None, map, append-nil, get_or, sym, refl, ap, ◌∙◌, subst}
-use Rattle.std.proofs.Common.{append_assoc}
-use Rattle.std.proofs.Common.{arith}
-use Rattle.std.specs.{List.AllByRecursion as Each, List.Contains, Char.to_ascii_lowercase}
-use Rattle.std.proofs.lemmas.{Bool.Decides.nat_tests, List.map-append}
-use Rattle.texting_robots.specs.{declared.parser.statement.Kind.Kind, Line.Raw}
-use Rattle.texting_robots.specs.Statement.{IsAfterBlanks, IsAfterColon, IsBlank, IsStatement}
+-- Empty lines, comments, and records that the library ignores; and what all lines have in common.
+use Rattle.std.proofs.Common.{◌≡◌, ◌⊎◌, inl, inr, ℕ, true, false, not, List, [], ◌∷◌, ◌++◌, Option, Some}
+use Rattle.std.proofs.Common.{None, append-nil, append_assoc, ap, arith, bytes_eq, drop, filter, get_or}
+use Rattle.std.proofs.Common.{refl, subst, sym, ◌∙◌, ◌≢◌}
+use Rattle.std.specs.List.{AllByRecursion as Each, Contains, list_all, list_any}
+use Rattle.std.proofs.lemmas.Bool.{and_from, false_from_ne_true, false≢true}
+use Rattle.texting_robots.specs.Cut.{IsBodyByte, cr, lf}
+use Rattle.texting_robots.specs.Statement.{IsAfterBlanks, IsAfterColon, IsStatement}
 use Rattle.texting_robots.specs.Internal.Statement.{IsOptionalComment, kind_by, skip_blanks, statement_of}
-use Rattle.texting_robots.proofs.{LineLemmas.line_raw, LineLemmas.line_without_kind}
+use Rattle.texting_robots.proofs.LineLemmas.{line_raw, line_without_kind}
 use Rattle.texting_robots.proofs.StatementLemmas.{NoBlank, found_statement, kept, skip_front}
-use Rattle.rfc9309_laws.proofs.KeyedLemmas.{blanks_value, comment_is, comment_text, end_bare, front_bytes}
-use Rattle.rfc9309_laws.proofs.KeyedLemmas.{identifier_front, reads_colon}
-use Rattle.rfc9309_laws.proofs.ReadLemmas.{BeginsLow, Reads, low_append, reads_line}
-use Rattle.rfc9309_laws.proofs.WordLemmas.{IsWritten, Stops, identifier_bounds, same_word}
-use Rattle.rfc9309_laws.proofs.WordLemmas.{written as expressed}
-use Rattle.rfc9309_laws.proofs.Sources.{source_of, written}
+use Rattle.rfc9309_laws.proofs.KeyedLemmas.{IsLineOf, IsNamed, IsValueByte, blank_passes, blanks_low}
+use Rattle.rfc9309_laws.proofs.KeyedLemmas.{blanks_value, comment_text, identifier_name, named}
+use Rattle.rfc9309_laws.proofs.KeyedLemmas.{parts_comment, passes, remark, values_bare}
+use Rattle.rfc9309_laws.proofs.MemberLemmas.{delay_line, name_passes, rule_line, sitemap_line, token_line}
+use Rattle.rfc9309_laws.proofs.ReadLemmas.{IsBare, low_append}
+use Rattle.rfc9309_laws.proofs.ValueLemmas.{IsWritten, Stops, blank_no_letter, identifier_bounds, same_word}
+use Rattle.rfc9309_laws.proofs.ValueLemmas.{written as expressed}
+use Rattle.rfc9309_laws.proofs.Sources.{Source, is_not_raw, written}
+use Rattle.rfc9309_laws.specs.HasForm.{colon, has_byte, has_form, hash, is_blank, is_comment_text}
+use Rattle.rfc9309_laws.specs.HasForm.{is_other_name, lower}
+use Rattle.rfc9309_laws.specs.LineForms.{Form, HasForm, IsLine, Empty, Agent, Rule, Delay, Sitemap, Other}
+use Rattle.std.specs.{Char.to_ascii_lowercase}
+use Rattle.std.proofs.{lemmas.Bool.Decides.nat_tests, lemmas.List.map-append}
+use Rattle.std.proofs.{lemmas.Map.Views.Contains-from_any, lemmas.Slice.Eq.bytes_eq-Decides}
+use Rattle.texting_robots.specs.{declared.parser.statement.Kind.Kind}
+use Rattle.texting_robots.proofs.{TrimLemmas.each_append}
+use Rattle.rfc9309_laws.proofs.{SyntaxLemmas.each_weaker}
 use Rattle.rfc9309_laws.specs.Rfc9309 as rfc
 
 -- ---- empty lines and comments
-
-pub blanks_low : (blanks : List ℕ) → Each IsBlank blanks → BeginsLow blanks
-blanks_low [] all = tt
-blanks_low (b ∷ blanks) all = let is = all.0 in omega arith
-
-pub comment_low : (comment : List ℕ) → IsOptionalComment comment → BeginsLow comment
-comment_low comment (inl none) = subst BeginsLow (sym none) tt
-comment_low comment (inr (text, is)) = subst BeginsLow (sym is) (omega arith)
 
 comment_no_key : (comment : List ℕ) → IsOptionalComment comment → kind_by (skip_blanks comment) ≡ None
 comment_no_key comment (inl none) = ap (λ c. kind_by (skip_blanks c)) none
 comment_no_key comment (inr (text, is)) = ap (λ c. kind_by (skip_blanks c)) is
 
-pub empty_line : (text : List ℕ) → rfc.IsEol text → Reads [] text
+pub empty_line : (text : List ℕ) → rfc.IsEol text → IsLineOf Empty [] text
 empty_line text eol =
     let body : List ℕ = eol.blanks ++ eol.comment in
-    let comment = comment_is eol.comment eol.is_comment in
+    let comment = remark eol.comment eol.is_comment in
     let none : kind_by (skip_blanks body) ≡ None =
-    ap kind_by (skip_front eol.blanks eol.comment eol.are_blanks)
-    ∙ comment_no_key eol.comment comment in
-    let low =
-    low_append eol.blanks eol.comment (blanks_low eol.blanks eol.are_blanks)
-    (comment_low eol.comment comment) in
-    subst (Reads []) (sym (eol.whole ∙ sym (append_assoc eol.blanks eol.comment eol.nl)))
-    (reads_line (Raw body, written body) body eol.nl
-    (ap (λ line. (line, written body)) (line_without_kind body _ refl none))
-    (end_bare eol.blanks eol.comment (blanks_value eol.blanks eol.are_blanks) eol.is_comment) low eol.is_nl)
+    ap kind_by (skip_front eol.blanks eol.comment eol.are_blanks) ∙ comment_no_key eol.comment comment.is in
+    let values = blanks_value eol.blanks eol.are_blanks in
+    let parts =
+    parts_comment eol.blanks eol.comment
+    (each_weaker IsValueByte (λ b. b ≢ hash) (λ b is. is.1) eol.blanks values) comment.is in
+    record {
+      body = body;
+      nl = eol.nl;
+      whole = eol.whole ∙ sym (append_assoc eol.blanks eol.comment eol.nl);
+      is_nl = eol.is_nl;
+      again = λ end is_nl. record {
+        blanks = eol.blanks;
+        comment = eol.comment;
+        nl = end;
+        whole = append_assoc eol.blanks eol.comment end;
+        are_blanks = eol.are_blanks;
+        is_comment = eol.is_comment;
+        is_nl = is_nl;
+      };
+      tested =
+          and_from _ _
+          (ap (list_all is_blank) parts.before
+          ∙ passes rfc.IsWs is_blank blank_passes eol.blanks eol.are_blanks)
+          (ap (λ t. is_comment_text (drop 1 t)) parts.from ∙ comment.passes);
+      bare = each_append IsBare eol.blanks eol.comment (values_bare eol.blanks values) comment.bare;
+      low = low_append eol.blanks eol.comment (blanks_low eol.blanks eol.are_blanks) comment.low;
+      sourced =
+          ap (λ line. filter is_not_raw ((line, written body) ∷ [])) (line_without_kind body _ refl none);
+      read = tt;
+      counted = λ following forms more none. more none;
+    }
 
 -- ---- lower case
-
-abbrev low : List ℕ → List ℕ
-low text = map to_ascii_lowercase text
 
 low_byte : (b : ℕ) → rfc.IsIdentifierByte b → rfc.IsIdentifierByte (to_ascii_lowercase b)
 low_byte b is = grind (arith, nat_tests)
 
-low_letters : (word : List ℕ) → Each rfc.IsIdentifierByte word → Each rfc.IsIdentifierByte (low word)
+low_letters : (word : List ℕ) → Each rfc.IsIdentifierByte word → Each rfc.IsIdentifierByte (lower word)
 low_letters [] all = tt
 low_letters (b ∷ word) all = (low_byte b all.0, low_letters word all.1)
 
@@ -78,32 +99,28 @@ written_begins spelling (inl (is, has)) =
 written_begins spelling (inr two) =
     subst Begins (sym two.whole) (word_begins two.word (32 ∷ two.letter ∷ two.back) two.is_word)
 
-pub blank_no_letter : (b : ℕ) → IsBlank b → rfc.IsIdentifierByte (to_ascii_lowercase b) → ⊥
-blank_no_letter b is letter =
-    let bounds = identifier_bounds (to_ascii_lowercase b) letter in grind (arith, nat_tests)
-
 -- a string whose lower case begins with an identifier byte begins with neither a space nor a tab
-word_plain : (word rest : List ℕ) → Begins (low word) → NoBlank (word ++ rest)
+word_plain : (word rest : List ℕ) → Begins (lower word) → NoBlank (word ++ rest)
 word_plain [] rest is = absurd is
 word_plain (b ∷ word) rest is = λ blank. blank_no_letter b blank is
 
 -- an identifier ends before spaces or tabs and a colon
-colon_stops : (blanks text : List ℕ) → Each IsBlank blanks → Stops (low (blanks ++ 58 ∷ text))
+colon_stops : (blanks text : List ℕ) → Each rfc.IsWs blanks → Stops (lower (blanks ++ 58 ∷ text))
 colon_stops [] text all = λ letter. (identifier_bounds 58 letter).2 refl
 colon_stops (b ∷ blanks) text all = blank_no_letter b all.0
 
 -- an identifier ends before what follows a field name
 tail_stops : (tail rest : List ℕ) → IsAfterColon tail rest ⊎ IsAfterBlanks tail rest
-    → Stops (low rest)
+    → Stops (lower rest)
 tail_stops tail rest (inl (blanks, all, whole)) =
-    subst Stops (sym (ap low whole)) (colon_stops blanks tail all)
+    subst Stops (sym (ap lower whole)) (colon_stops blanks tail all)
 tail_stops tail rest (inr ([], all, some, whole, plain)) = absurd (some refl)
 tail_stops tail rest (inr (b ∷ blanks, all, some, whole, plain)) =
-    subst Stops (sym (ap low whole)) (blank_no_letter b all.0)
+    subst Stops (sym (ap lower whole)) (blank_no_letter b all.0)
 
 -- spaces or tabs and a colon aren't a space and an identifier byte
-no_letter : (blanks text more : List ℕ) (b : ℕ) → Each IsBlank blanks → rfc.IsIdentifierByte b
-    → low (blanks ++ 58 ∷ text) ≡ 32 ∷ b ∷ more → ⊥
+no_letter : (blanks text more : List ℕ) (b : ℕ) → Each rfc.IsWs blanks → rfc.IsIdentifierByte b
+    → lower (blanks ++ 58 ∷ text) ≡ 32 ∷ b ∷ more → ⊥
 no_letter [] text more b all letter e =
     let wrong : ◌≡◌ {A = ℕ} 58 32 = ap (λ (l : List ℕ). get_or l 0 0) e in
     omega (arith, wrong)
@@ -115,6 +132,12 @@ no_letter (c ∷ d ∷ blanks) text more b all letter e =
 
 -- ---- other records
 
+unlisted : (name : List ℕ) → (Contains rfc.names_read name → ⊥)
+    → list_any (bytes_eq name) rfc.names_read ≡ false
+unlisted name none =
+    false_from_ne_true _ (λ some. none
+    (Contains-from_any (λ xs ys. (bytes_eq-Decides xs ys).0) name rfc.names_read some))
+
 module _ (text : List ℕ) (o : rfc.IsOtherLine text) where
   abbrev after_name : List ℕ
   after_name = o.blanks ++ 58 ∷ o.value
@@ -122,25 +145,26 @@ module _ (text : List ℕ) (o : rfc.IsOtherLine text) where
   abbrev body : List ℕ
   body = o.margin ++ (o.name ++ after_name)
 
-  low_name : Each rfc.IsIdentifierByte (low o.name)
+  low_name : Each rfc.IsIdentifierByte (lower o.name)
   low_name = low_letters o.name (letters o.name o.is_name)
 
   -- after the leading spaces and tabs, the line begins with the record's name, and with the field name if the
   -- line is a directive
   same_text : (kind : Kind) (value : List ℕ) (s : IsStatement kind value body)
-      → low o.name ++ low after_name ≡ low s.key ++ low s.rest
+      → lower o.name ++ lower after_name ≡ lower s.key ++ lower s.rest
   same_text kind value s =
       let name = word_plain o.name after_name (at o.name o.is_name) in
-      let key = word_plain s.key s.rest (written_begins (low s.key) (expressed kind (low s.key) s.is_key)) in
+      let key =
+      word_plain s.key s.rest (written_begins (lower s.key) (expressed kind (lower s.key) s.is_key)) in
       sym (map-append to_ascii_lowercase o.name after_name)
-      ∙ ap low (
+      ∙ ap lower (
       sym (skip_front o.margin (o.name ++ after_name) o.margin_blank ∙ kept (o.name ++ after_name) name)
       ∙ ap skip_blanks s.whole
       ∙ skip_front s.margin (s.key ++ s.rest) s.margin_blank
       ∙ kept (s.key ++ s.rest) key)
       ∙ map-append to_ascii_lowercase s.key s.rest
     where
-      at : (name : List ℕ) → rfc.IsIdentifier name → Begins (low name)
+      at : (name : List ℕ) → rfc.IsIdentifier name → Begins (lower name)
       at [] is = is
       at (b ∷ name) is = low_byte b is.0
 
@@ -148,18 +172,18 @@ module _ (text : List ℕ) (o : rfc.IsOtherLine text) where
   unstated kind value s =
       let same = same_text kind value s in
       let stops = colon_stops o.blanks o.value o.blanks_blank in
-      elim (expressed kind (low s.key) s.is_key) [
+      elim (expressed kind (lower s.key) s.is_key) [
         | inl (is, has) ↦
             let words =
-            same_word (low o.name) (low s.key) (low after_name) (low s.rest) (low_name, stops)
-            (letters (low s.key) is, tail_stops s.tail s.rest s.separated) same in
+            same_word (lower o.name) (lower s.key) (lower after_name) (lower s.rest) (low_name, stops)
+            (letters (lower s.key) is, tail_stops s.tail s.rest s.separated) same in
             o.is_other (subst (Contains rfc.names_read) (sym words.0) has)
         | inr two ↦
-            let more : List ℕ = two.back ++ low s.rest in
+            let more : List ℕ = two.back ++ lower s.rest in
             let rest : List ℕ = 32 ∷ two.letter ∷ more in
-            let whole : low s.key ++ low s.rest ≡ two.word ++ rest = rw (two.whole, append_assoc) in
+            let whole : lower s.key ++ lower s.rest ≡ two.word ++ rest = rw (two.whole, append_assoc) in
             let words =
-            same_word (low o.name) two.word (low after_name) rest (low_name, stops)
+            same_word (lower o.name) two.word (lower after_name) rest (low_name, stops)
             (letters two.word two.is_word, blank_no_letter 32 (inl refl)) (same ∙ whole) in
             no_letter o.blanks o.value more two.letter o.blanks_blank two.is_letter words.1
       ]
@@ -169,14 +193,101 @@ module _ (text : List ℕ) (o : rfc.IsOtherLine text) where
   no_statement None e = e
   no_statement (Some (kind, value)) e = absurd (unstated kind value (found_statement kind value body e))
 
-  pub other_line : Reads [] text
+  other_passes : is_other_name o.name ≡ true
+  other_passes = and_from _ _ (name_passes o.name o.is_name) (ap not (unlisted (lower o.name) o.is_other))
+
+  pub other_line : IsLineOf Other [] text
   other_line =
-      let front : List ℕ = o.margin ++ (o.name ++ o.blanks) in
-      let whole : body ≡ front ++ 58 ∷ o.value = simp append_assoc in
+      let whole : body ≡ (o.margin ++ (o.name ++ o.blanks)) ++ colon ∷ o.value = simp append_assoc in
       let raw = line_raw body (no_statement (statement_of body) refl) in
-      let same : source_of body ≡ (Raw body, written body) = ap (λ line. (line, written body)) raw in
-      subst (Reads []) (sym (o.whole ∙ simp append_assoc))
-      (reads_colon (Raw body, written body) front o.value o.nl (ap source_of (sym whole) ∙ same)
-      (front_bytes o.margin o.name o.blanks o.margin_blank
-      (identifier_front o.name (letters o.name o.is_name)) o.blanks_blank)
-      (comment_text o.value o.is_value) o.is_nl)
+      let name =
+      named o.margin o.name o.blanks o.value o.margin_blank
+      (identifier_name o.name (letters o.name o.is_name)) o.blanks_blank in
+      let line : IsNamed o.name o.value body = rw whole name in
+      let value = comment_text o.value o.is_value in
+      record {
+        body = body;
+        nl = o.nl;
+        whole = o.whole ∙ simp append_assoc;
+        is_nl = o.is_nl;
+        again = λ end is_nl. record {
+          margin = o.margin;
+          name = o.name;
+          blanks = o.blanks;
+          value = o.value;
+          nl = end;
+          whole = simp append_assoc;
+          margin_blank = o.margin_blank;
+          is_name = o.is_name;
+          is_other = o.is_other;
+          blanks_blank = o.blanks_blank;
+          is_value = o.is_value;
+          is_nl = is_nl;
+        };
+        tested =
+            and_from _ _
+            (and_from (has_byte colon body) _ line.has (ap is_other_name line.name ∙ other_passes))
+            (ap is_comment_text line.after ∙ value.1);
+        bare = line.bare value.0;
+        low = line.low;
+        sourced = ap (λ line. filter is_not_raw ((line, written body) ∷ [])) raw;
+        read = tt;
+        counted = λ following forms more none. more none;
+      }
+
+-- ---- all lines
+
+pub line_of : (form : Form) (text : List ℕ) → IsLine form text
+    → (sources : List Source) × IsLineOf form sources text
+line_of Empty text is = ([], empty_line text is)
+line_of Agent text (token, is) = (_, token_line token text is)
+line_of Rule text (member, is) = (_, (rule_line member text is).is_line)
+line_of Delay text (member, is) = (_, (delay_line member text is).is_line)
+line_of Sitemap text (address, is) = (_, sitemap_line address text is)
+line_of Other text is = ([], other_line text is)
+
+-- what precedes the terminator is the content
+before_end : (body front nl : List ℕ) → Each IsBodyByte body → rfc.IsNl nl
+    → body ++ lf ∷ [] ≡ front ++ nl → front ≡ body
+before_end [] [] nl bytes is e = refl
+before_end [] (f ∷ front) nl bytes is e = absurd (none front nl is (ap rest e))
+  where
+    rest : List ℕ → List ℕ
+    rest [] = []
+    rest (b ∷ text) = text
+
+    none : (front nl : List ℕ) → rfc.IsNl nl → [] ≡ front ++ nl → ⊥
+    none [] nl (inl is) e = cc
+    none [] nl (inr (inl is)) e = cc
+    none [] nl (inr (inr is)) e = cc
+    none (b ∷ front) nl is e = cc
+before_end (b ∷ body) [] nl bytes (inl is) e = let same : b ≡ cr = cc in absurd (bytes.0.0 same)
+before_end (b ∷ body) [] nl bytes (inr (inl is)) e = let same : b ≡ lf = cc in absurd (bytes.0.1 same)
+before_end (b ∷ body) [] nl bytes (inr (inr is)) e = let same : b ≡ cr = cc in absurd (bytes.0.0 same)
+before_end (b ∷ body) (f ∷ front) nl bytes is e =
+    let same : f ≡ b = cc in
+    let later : body ++ lf ∷ [] ≡ front ++ nl = cc in
+    let others = before_end body front nl bytes.1 is later in
+    cc
+
+-- what is known of a line with this content, whichever terminator follows it
+module _ (body : List ℕ) (bytes : Each IsBodyByte body) (form : Form) (is : HasForm form body) where
+  abbrev line : (sources : List Source) × IsLineOf form sources (body ++ lf ∷ [])
+  line = line_of form (body ++ lf ∷ []) is
+
+  content : line.1.body ≡ body
+  content = before_end body line.1.body line.1.nl bytes line.1.is_nl line.1.whole
+
+  pub form_tested : has_form form body ≡ true
+  form_tested = subst (λ b. has_form form b ≡ true) content line.1.tested
+
+  pub line_ended : (end : List ℕ) → rfc.IsNl end → IsLine form (body ++ end)
+  line_ended end is_nl = subst (λ b. IsLine form (b ++ end)) content (line.1.again end is_nl)
+
+-- only an empty line has an empty content
+pub only_empty : (form : Form) → HasForm form [] → form ≡ Empty
+only_empty form is = at form (form_tested [] tt form is)
+  where
+    at : (form : Form) → has_form form [] ≡ true → form ≡ Empty
+    at Empty is = refl
+    at _ is = absurd (false≢true is)

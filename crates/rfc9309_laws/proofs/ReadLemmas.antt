@@ -1,16 +1,20 @@
--- The source lines of a text that consists of lines. Ignored lines have none.
-use Rattle.std.proofs.Common.{◌≡◌, ◌≢◌, ◌⊎◌, inl, inr, ℕ, ◌<◌, ◌≤◌, List}
-use Rattle.std.proofs.Common.{[], ◌∷◌, ◌++◌, map, filter, cond, not, sym, refl, ap, ◌∙◌}
-use Rattle.std.proofs.Common.{append-nil, append_assoc, arith, subst}
-use Rattle.std.specs.List.{AllByRecursion as Each}
-use Rattle.std.proofs.lemmas.{Bool.ne_eqb, List.Elements.filter-append}
-use Rattle.texting_robots.specs.{Cut.IsBodyByte, Cut.cr, Cut.lf, Line.is_raw, Internal.Cut.bodies_of}
-use Rattle.rfc9309_laws.specs.Rfc9309.{IsLastNl, IsNl}
-use Rattle.texting_robots.proofs.{CutFromFront.bodies_nil, CutLemmas.byte_cases}
-use Rattle.texting_robots.proofs.CrLfLemmas.{body_return, body_step, step}
-use Rattle.texting_robots.proofs.{LineLemmas.line_without_kind, TrimLemmas.each_append}
-use Rattle.rfc9309_laws.proofs.EachLemmas.{each_weaker}
+-- The source lines of a text that consists of lines. Ignored lines have none. The last line of a file may
+-- lack a terminator, and a byte order mark may come first.
+use Rattle.std.proofs.Common.{◌≡◌, ◌≢◌, ◌⊎◌, inl, inr, ℕ, ◌<◌, ◌≤◌, List, [], ◌∷◌, ◌++◌, map, filter, cond}
+use Rattle.std.proofs.Common.{not, sym, refl, ap, ◌∙◌, append-nil, arith, Bool}
+use Rattle.std.proofs.lemmas.Bool.{ne_eqb, cases_Bool, cond-false}
+use Rattle.texting_robots.specs.Cut.{cr, lf}
+use Rattle.texting_robots.specs.Line.{is_raw, LineValue, nul_as_lf, without_front}
+use Rattle.rfc9309_laws.specs.Rfc9309.{IsLastNl, IsNl, IsBom}
+use Rattle.texting_robots.proofs.CrLfLemmas.{body_byte, body_return, body_step, step}
 use Rattle.rfc9309_laws.proofs.Sources.{Source, is_not_raw, source_of, written}
+use Rattle.texting_robots.specs.Executable.{file_bodies, file_lines}
+use Rattle.std.specs.{List.AllByRecursion as Each}
+use Rattle.std.proofs.{lemmas.List.Elements.filter-append}
+use Rattle.texting_robots.specs.{Internal.Cut.bodies_of, Laws.Same, Internal.Line.line_of}
+use Rattle.texting_robots.proofs.{CutFromFront.bodies_nil, CutLemmas.byte_cases}
+use Rattle.texting_robots.proofs.{LineLemmas.line_without_kind, LawLemmas.raw_changes_nothing}
+use Rattle.rfc9309_laws.proofs.{SyntaxLemmas.each_weaker}
 
 -- ---- the source lines of a text
 
@@ -27,129 +31,20 @@ empty_adds_none bodies =
     ap (λ line. cond (not (is_raw line)) ((line, written []) ∷ sources_in bodies) (sources_in bodies))
     (line_without_kind [] [] refl refl)
 
--- ---- lines with the same source lines
-
-abbrev first_of : List (List ℕ) → List ℕ
-first_of [] = []
-first_of (body ∷ bodies) = body
-
-abbrev rest_of : List (List ℕ) → List (List ℕ)
-rest_of [] = []
-rest_of (body ∷ bodies) = bodies
-
--- the first lines are equal, and the others have the same source lines, for example if one list has an empty
--- line more
-record AreAlike (bodies others : List (List ℕ)) : Type 0 where
-  first : first_of bodies ≡ first_of others
-  rest : sources_in (rest_of bodies) ≡ sources_in (rest_of others)
-
-parted : (bodies : List (List ℕ))
-    → sources_in bodies
-    ≡ filter is_not_raw (source_of (first_of bodies) ∷ []) ++ sources_in (rest_of bodies)
-parted [] = sym (append-nil (sources_in ([] ∷ [])) ∙ empty_adds_none [])
-parted (body ∷ bodies) = filter-append is_not_raw (source_of body ∷ []) (map source_of bodies)
-
-alike_sources : (bodies others : List (List ℕ)) → AreAlike bodies others
-    → sources_in bodies ≡ sources_in others
-alike_sources bodies others are = rw (parted bodies, parted others, are.first, are.rest) refl
-
-return_alike : (bodies : List (List ℕ)) → AreAlike (body_return bodies) ([] ∷ bodies)
-return_alike [] = record { first = refl; rest = refl }
-return_alike ([] ∷ bodies) = record { first = refl; rest = sym (empty_adds_none bodies) }
-return_alike ((b ∷ body) ∷ bodies) = record { first = refl; rest = refl }
-
-pub byte_before : (b : ℕ) (bodies : List (List ℕ)) → IsBodyByte b
-    → body_step b bodies ≡ (b ∷ first_of bodies) ∷ rest_of bodies
-byte_before b [] is = rw (ne_eqb b lf is.1, ne_eqb b cr is.0) refl
-byte_before b (body ∷ bodies) is = rw (ne_eqb b lf is.1, ne_eqb b cr is.0) refl
-
-step_alike : (b : ℕ) (bodies others : List (List ℕ)) → AreAlike bodies others
-    → AreAlike (body_step b bodies) (body_step b others)
-step_alike b bodies others are =
-    let same = alike_sources bodies others are in
-    let here = return_alike bodies in
-    let there = return_alike others in
-    elim (byte_cases b) [
-      | inl feed ↦ rw feed (record { first = refl; rest = same })
-      | inr (inl return) ↦ rw return
-          (record { first = here.first ∙ sym there.first; rest = here.rest ∙ same ∙ sym there.rest })
-      | inr (inr other) ↦ rw (byte_before b bodies other, byte_before b others other)
-          (record { first = ap (λ body. b ∷ body) are.first; rest = are.rest })
-    ]
-
-end_alike : (nl rest : List ℕ) → IsNl nl → AreAlike (bodies_of (nl ++ rest)) ([] ∷ bodies_of rest)
-end_alike nl rest (inl is) = rw (is, step cr rest) (return_alike (bodies_of rest))
-end_alike nl rest (inr (inl is)) = rw (is, step lf rest) (record { first = refl; rest = refl })
-end_alike nl rest (inr (inr is)) =
-    rw (is, step cr (lf ∷ rest), step lf rest) (record { first = refl; rest = refl })
-
--- a terminator after the last line changes no source line
-pub last_end_adds_none : (text nl : List ℕ) → IsLastNl nl → sources_of (text ++ nl) ≡ sources_of text
-last_end_adds_none text nl (inl none) = rw (none, append-nil) refl
-last_end_adds_none text nl (inr is) = alike_sources _ _ (at text)
-  where
-    at : (text : List ℕ) → AreAlike (bodies_of (text ++ nl)) (bodies_of text)
-    at [] =
-        let end : AreAlike (bodies_of nl) ([] ∷ []) =
-        rw (append-nil, bodies_nil) at (end_alike nl [] is) in
-        rw bodies_nil (record { first = end.first; rest = end.rest })
-    at (b ∷ text) = rw (step b (text ++ nl), step b text) (step_alike b _ _ (at text))
-
--- ---- a line and its terminator
+-- ---- bytes
 
 -- a tab, or a byte from 32 up
 abbrev pub IsBare : ℕ → Type 0
 IsBare byte = (byte ≡ 9) ⊎ (32 ≤ byte)
-
-line_alike : (body nl rest : List ℕ) → Each IsBare body → IsNl nl
-    → AreAlike (bodies_of (body ++ (nl ++ rest))) (body ∷ bodies_of rest)
-line_alike [] nl rest bare is = end_alike nl rest is
-line_alike (b ∷ body) nl rest bare is =
-    let byte = bare.0 in
-    rw (step b (body ++ (nl ++ rest))) (
-    subst (AreAlike (body_step b (bodies_of (body ++ (nl ++ rest)))))
-    (byte_before b (body ∷ bodies_of rest) (λ e. omega arith, λ e. omega arith))
-    (step_alike b _ (body ∷ bodies_of rest) (line_alike body nl rest bare.1 is)))
-
-line_sources : (body nl rest : List ℕ) → Each IsBare body → IsNl nl
-    → sources_of ((body ++ nl) ++ rest) ≡ filter is_not_raw (source_of body ∷ []) ++ sources_of rest
-line_sources body nl rest bare is =
-    ap sources_of (append_assoc body nl rest)
-    ∙ alike_sources _ (body ∷ bodies_of rest) (line_alike body nl rest bare is)
-    ∙ parted (body ∷ bodies_of rest)
-
--- ---- a text that consists of lines
 
 -- the text is empty, or its first byte is ASCII
 abbrev pub BeginsLow : List ℕ → Type 0
 BeginsLow [] = Unit {0}
 BeginsLow (byte ∷ text) = byte < 128
 
--- the text consists of complete lines, which have these source lines, and it contains no NUL
-pub record Reads (sources : List Source) (text : List ℕ) : Type 0 where
-  pub sources_of : (rest : List ℕ) → sources_of (text ++ rest) ≡ sources ++ sources_of rest
-  pub no_nul : Each (λ byte. byte ≢ 0) text
-  pub low : BeginsLow text
-
 pub low_append : (xs ys : List ℕ) → BeginsLow xs → BeginsLow ys → BeginsLow (xs ++ ys)
 low_append [] ys low more = more
 low_append (x ∷ xs) ys low more = low
-
-pub reads_nothing : Reads [] []
-reads_nothing = record { sources_of = λ rest. refl; no_nul = tt; low = tt }
-
-pub reads_both : {sources more : List Source} {text later : List ℕ} → Reads sources text
-    → Reads more later
-    → Reads (sources ++ more) (text ++ later)
-reads_both {sources} {more} {text} {later} is also = record {
-  sources_of = λ rest.
-      ap sources_of (append_assoc text later rest)
-      ∙ is.sources_of (later ++ rest)
-      ∙ ap (λ ls. sources ++ ls) (also.sources_of rest)
-      ∙ sym (append_assoc sources more (sources_of rest));
-  no_nul = each_append (λ byte. byte ≢ 0) text later is.no_nul also.no_nul;
-  low = low_append text later is.low also.low;
-}
 
 pub bare_no_nul : (body : List ℕ) → Each IsBare body → Each (λ byte. byte ≢ 0) body
 bare_no_nul = each_weaker IsBare (λ byte. byte ≢ 0) (λ byte is e. omega arith)
@@ -159,14 +54,154 @@ end_bytes nl (inl is) = rw is (((λ e. cc), tt), omega arith)
 end_bytes nl (inr (inl is)) = rw is (((λ e. cc), tt), omega arith)
 end_bytes nl (inr (inr is)) = rw is (((λ e. cc), ((λ e. cc), tt)), omega arith)
 
--- a line with this source line, and its terminator
-pub reads_line : (source : Source) (body nl : List ℕ) → source_of body ≡ source
-    → Each IsBare body → BeginsLow body
-    → IsNl nl → Reads (filter is_not_raw (source ∷ [])) (body ++ nl)
-reads_line source body nl same bare low is = record {
-  sources_of = λ rest.
-      line_sources body nl rest bare is
-      ∙ ap (λ (t : Source). filter is_not_raw (t ∷ []) ++ sources_of rest) same;
-  no_nul = each_append (λ byte. byte ≢ 0) body nl (bare_no_nul body bare) (end_bytes nl is).0;
-  low = low_append body nl low (end_bytes nl is).1;
-}
+-- ---- the contents of a text after one more line
+
+-- the content is before the others, of which an empty one may have been first
+pub record IsBefore (body : List ℕ) (bodies others : List (List ℕ)) : Type 0 where
+  pub later : List (List ℕ)
+  pub whole : bodies ≡ body ∷ later
+  pub same : (later ≡ others) ⊎ (others ≡ [] ∷ later)
+
+after_return : (bodies : List (List ℕ)) → IsBefore [] (body_return bodies) bodies
+after_return [] = record { later = []; whole = refl; same = inl refl }
+after_return ([] ∷ bodies) = record { later = bodies; whole = refl; same = inr refl }
+after_return ((b ∷ body) ∷ bodies) =
+    record { later = (b ∷ body) ∷ bodies; whole = refl; same = inl refl }
+
+end_before : (nl rest : List ℕ) → IsNl nl → IsBefore [] (bodies_of (nl ++ rest)) (bodies_of rest)
+end_before nl rest (inl is) = rw (is, step cr rest) (after_return (bodies_of rest))
+end_before nl rest (inr (inl is)) =
+    rw (is, step lf rest) (record { later = bodies_of rest; whole = refl; same = inl refl })
+end_before nl rest (inr (inr is)) =
+    rw (is, step cr (lf ∷ rest), step lf rest)
+    (record { later = bodies_of rest; whole = refl; same = inl refl })
+
+pub line_before : (body nl rest : List ℕ) → Each IsBare body → IsNl nl
+    → IsBefore body (bodies_of (body ++ (nl ++ rest))) (bodies_of rest)
+line_before [] nl rest bare is = end_before nl rest is
+line_before (b ∷ body) nl rest bare is =
+    let byte = bare.0 in
+    let later = line_before body nl rest bare.1 is in
+    record {
+      later = later.later;
+      whole =
+          step b (body ++ (nl ++ rest)) ∙ ap (body_step b) later.whole
+          ∙ rw (ne_eqb b lf (λ e. omega arith), ne_eqb b cr (λ e. omega arith)) refl;
+      same = later.same;
+    }
+
+pub line_sources : (body nl rest : List ℕ) → Each IsBare body → IsNl nl
+    → sources_of (body ++ (nl ++ rest)) ≡ filter is_not_raw (source_of body ∷ []) ++ sources_of rest
+line_sources body nl rest bare is =
+    let line = line_before body nl rest bare is in
+    let first : List Source = filter is_not_raw (source_of body ∷ []) in
+    let later : sources_in line.later ≡ sources_of rest = elim line.same [
+      | inl same ↦ ap sources_in same
+      | inr more ↦ sym (ap sources_in more ∙ empty_adds_none line.later)
+    ] in
+    ap sources_in line.whole
+    ∙ filter-append is_not_raw (source_of body ∷ []) (map source_of line.later)
+    ∙ ap (λ sources. first ++ sources) later
+
+-- ---- a terminator after the last line
+
+-- the contents, and possibly an empty one more
+abbrev pub IsSameOrMore : List (List ℕ) → List (List ℕ) → Type 0
+IsSameOrMore bodies others = (bodies ≡ others) ⊎ (bodies ≡ others ++ [] ∷ [])
+
+return_more : (bodies : List (List ℕ))
+    → IsSameOrMore (body_return (bodies ++ [] ∷ [])) (body_return bodies)
+return_more [] = inl refl
+return_more ([] ∷ bodies) = inr refl
+return_more ((b ∷ body) ∷ bodies) = inr refl
+
+byte_more : (b : ℕ) (bodies : List (List ℕ))
+    → IsSameOrMore (body_step b (bodies ++ [] ∷ [])) (body_step b bodies)
+byte_more b bodies = elim (byte_cases b) [
+  | inl feed ↦ rw feed (inr refl)
+  | inr (inl return) ↦ rw return (return_more bodies)
+  | inr (inr other) ↦ rw (ne_eqb b lf other.1, ne_eqb b cr other.0) (at bodies)
+]
+  where
+    at : (bodies : List (List ℕ)) → IsSameOrMore (body_byte b (bodies ++ [] ∷ [])) (body_byte b bodies)
+    at [] = inl refl
+    at (body ∷ bodies) = inr refl
+
+one_end : (nl : List ℕ) → IsNl nl → bodies_of nl ≡ [] ∷ []
+one_end nl (inl is) = rw (is, step cr [], bodies_nil) refl
+one_end nl (inr (inl is)) = rw (is, step lf [], bodies_nil) refl
+one_end nl (inr (inr is)) = rw (is, step cr (lf ∷ []), step lf [], bodies_nil) refl
+
+pub end_more : (text nl : List ℕ) → IsLastNl nl
+    → IsSameOrMore (bodies_of (text ++ nl)) (bodies_of text)
+end_more text nl (inl none) = rw (none, append-nil) (inl refl)
+end_more text nl (inr is) = at text
+  where
+    at : (text : List ℕ) → IsSameOrMore (bodies_of (text ++ nl)) (bodies_of text)
+    at [] = rw bodies_nil (inr (one_end nl is))
+    at (b ∷ text) = rw (step b (text ++ nl), step b text) (elim (at text) [
+      | inl same ↦ inl (ap (body_step b) same)
+      | inr more ↦ rw more (byte_more b (bodies_of text))
+    ])
+
+-- a terminator after the last line changes no source line
+pub last_end_adds_none : (text nl : List ℕ) → IsLastNl nl → sources_of (text ++ nl) ≡ sources_of text
+last_end_adds_none text nl is = elim (end_more text nl is) [
+  | inl same ↦ ap sources_in same
+  | inr more ↦ ap sources_in more ∙ at (bodies_of text)
+]
+  where
+    at : (bodies : List (List ℕ)) → sources_in (bodies ++ [] ∷ []) ≡ sources_in bodies
+    at [] = empty_adds_none []
+    at (body ∷ bodies) =
+        ap (λ sources. cond (is_not_raw (source_of body)) (source_of body ∷ sources) sources) (at bodies)
+
+pub nothing_replaced : (text : List ℕ) → Each (λ byte. byte ≢ 0) text → map nul_as_lf text ≡ text
+nothing_replaced [] all = refl
+nothing_replaced (b ∷ text) all =
+    ap (λ c. c ∷ map nul_as_lf text) (cond-false _ _ _ (ne_eqb b 0 all.0))
+    ∙ ap (λ t. b ∷ t) (nothing_replaced text all.1)
+
+low_front : (text : List ℕ) → BeginsLow text → without_front text ≡ text
+low_front [] low = refl
+low_front (b ∷ text) low =
+    rw (
+      ne_eqb b 0xEF (λ e. omega arith),
+      ne_eqb b 0xBB (λ e. omega arith),
+      ne_eqb b 0xBF (λ e. omega arith),
+    )
+    refl
+
+pub after_bom : (bom text : List ℕ) → IsBom bom → Each (λ byte. byte ≢ 0) text → BeginsLow text
+    → without_front (map nul_as_lf (bom ++ text)) ≡ text
+after_bom bom text (inl none) all low = rw (none, nothing_replaced text all) (low_front text low)
+after_bom bom text (inr is) all low = rw (is, nothing_replaced text all) refl
+
+pub low_of_front : (text more : List ℕ) → BeginsLow (text ++ more) → BeginsLow text
+low_of_front [] more low = tt
+low_of_front (b ∷ text) more low = low
+
+-- the source lines of a file without its byte order mark
+abbrev pub file_sources : List ℕ → List Source
+file_sources text = sources_in (file_bodies text)
+
+-- the lines as the library reads them, without the values as written
+abbrev pub lines_in : List Source → List LineValue
+lines_in sources = map (λ source. source.0) sources
+
+abbrev is_kept : LineValue → Bool
+is_kept line = not (is_raw line)
+
+lines_kept : (bodies : List (List ℕ))
+    → filter is_kept (map line_of bodies) ≡ filter is_kept (lines_in (sources_in bodies))
+lines_kept [] = refl
+lines_kept (body ∷ bodies) = elim (cases_Bool (is_kept (line_of body))) [
+  | inl kept ↦ rw (kept, kept) (ap (λ lines. line_of body ∷ lines) (lines_kept bodies))
+  | inr dropped ↦ rw dropped (lines_kept bodies)
+]
+
+-- a crawler gets the same from a file as from its source lines
+pub file_same : (text agent : List ℕ)
+    → Same agent (file_lines text) agent (lines_in (file_sources text))
+file_same text agent =
+    raw_changes_nothing agent (file_lines text) (lines_in (file_sources text)) (lines_kept (file_bodies text))

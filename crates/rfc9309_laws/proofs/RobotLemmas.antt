@@ -1,22 +1,89 @@
 -- The robot of a file in the standard's grammar has the rules, the delay and the sitemaps that the file
--- states.
-use Rattle.std.proofs.Common.{◌≡◌, ℕ, List, [], ◌∷◌, filter, map, sym, refl, ap, ◌∙◌, subst}
-use Rattle.std.specs.{List.AllZip, Prelude.take}
-use Rattle.texting_robots.specs.{Executable.delay_for, Executable.file_lines, Executable.placed_rules}
-use Rattle.texting_robots.specs.Executable.{rules_for}
+-- states. A file in the standard's own grammar is also one in the extended grammar.
+use Rattle.std.proofs.Common.{inl, inr, ℕ, List, [], refl, sym, subst, append-nil, ◌≡◌, ◌∷◌, filter, map}
+use Rattle.std.proofs.Common.{ap, ◌∙◌}
+use Rattle.texting_robots.specs.Executable.{delay_for, file_lines, placed_rules, rules_for}
 use Rattle.texting_robots.specs.Robot.{IsFileRejected, IsRobotOf, IsRobotOfFile, RobotValue, file_limit}
-use Rattle.texting_robots.specs.{Line.AreFileLinesOf, Line.nul_as_lf, Rules.IsRejected, Trim.IsTrimOf}
+use Rattle.texting_robots.specs.Line.{AreFileLinesOf, nul_as_lf}
 use Rattle.texting_robots.proofs.GivenLemmas.{delay_is_computed, sitemaps_are_computed}
 use Rattle.texting_robots.proofs.HeldLemmas.{rejection_is_computed, rules_are_computed}
-use Rattle.texting_robots.proofs.{LineLemmas.each_text_has_its_lines, MainTheoremLemmas.of_lines}
-use Rattle.rfc9309_laws.proofs.{DelayAsLemmas.delay_written, EndLemmas.file_same, EndLemmas.file_sources}
-use Rattle.rfc9309_laws.proofs.{EndLemmas.lines_in, FileLemmas.file_with, FileLemmas.has_delays}
-use Rattle.rfc9309_laws.proofs.{LineFormLemmas.forms_make_file, SitemapLemmas.sitemaps_are_read}
-use Rattle.rfc9309_laws.proofs.{Sources.Parts, StandardLemmas.rules_read}
+use Rattle.rfc9309_laws.proofs.GroupLemmas.{delay_written, rules_written}
+use Rattle.rfc9309_laws.proofs.ReadLemmas.{file_same, file_sources, lines_in}
+use Rattle.rfc9309_laws.proofs.FileLemmas.{FileRead, file_read, file_with, groups_written, has_delays}
+use Rattle.rfc9309_laws.proofs.FileLemmas.{sitemaps_are_read}
 use Rattle.rfc9309_laws.specs.LineForms.{AreForms, Form}
 use Rattle.rfc9309_laws.specs.StandardRobot.{IsDelayAs, IsFileWith, IsRejectedAs, IsRobotAs, delay_among}
 use Rattle.rfc9309_laws.specs.StandardRobot.{is_delay}
+use Rattle.rfc9309_laws.proofs.{SyntaxLemmas.each_weaker, LineFormLemmas.forms_make_file, Sources.Parts}
+use Rattle.std.specs.{List.AllZip, Prelude.take}
+use Rattle.texting_robots.specs.{Rules.IsRejected, Trim.IsTrimOf}
+use Rattle.texting_robots.proofs.{LineLemmas.each_text_has_its_lines, MainTheoremLemmas.of_lines}
+use Rattle.rfc9309_laws.specs.{ReadAs.IsReadAs}
 use Rattle.rfc9309_laws.specs.Rfc9309 as rfc
+
+-- P implies Q
+abbrev pub IsWeaker : {X : Type 0} → (X → List ℕ → Type 0) → (X → List ℕ → Type 0) → Type 0
+IsWeaker {X} P Q = (x : X) (text : List ℕ) → P x text → Q x text
+
+pub repeats_weaker : {X : Type 0} (P Q : X → List ℕ → Type 0) → IsWeaker P Q
+    → IsWeaker (rfc.Repeats (rfc.IsOneOr P rfc.IsEmptyLine)) (rfc.Repeats (rfc.IsOneOr Q rfc.IsSkipped))
+repeats_weaker P Q weaker items text is = record {
+  units = is.units;
+  each =
+      each_weaker (λ unit. rfc.IsOneOr P rfc.IsEmptyLine unit.items unit.bytes)
+      (λ unit. rfc.IsOneOr Q rfc.IsSkipped unit.items unit.bytes)
+      (λ unit. one_or unit.items unit.bytes) is.units is.each;
+  written = is.written;
+  whole = is.whole;
+}
+  where
+    one_or : IsWeaker (rfc.IsOneOr P rfc.IsEmptyLine) (rfc.IsOneOr Q rfc.IsSkipped)
+    one_or items text (inl (item, is, same)) = inl (item, weaker item text is, same)
+    one_or items text (inr (is, none)) = inr (inl is, none)
+
+pub group_is_wide : IsWeaker rfc.IsGroup rfc.IsWideGroup
+group_is_wide group text is = record {
+  token = is.token;
+  tokens = is.tokens;
+  start = is.start;
+  agents = is.agents;
+  lines = is.lines;
+  whole = is.whole;
+  is_start = is.is_start;
+  are_agents =
+      repeats_weaker rfc.IsStartGroupLine rfc.IsStartGroupLine (λ token text is. is) is.tokens is.agents
+      is.are_agents;
+  written = is.written;
+  are_members =
+      repeats_weaker rfc.IsRule rfc.IsMemberLine (λ member text is. inl is) group.members is.lines
+      is.are_members;
+}
+
+pub robotstxt_is_file : (text : List ℕ) (groups : List rfc.Group) → rfc.IsRobotstxt groups text
+    → rfc.IsFile groups text
+robotstxt_is_file text groups is = record {
+  bom = [];
+  rest = text;
+  nl = [];
+  whole = refl;
+  is_bom = inl refl;
+  is_nl = inl refl;
+  is_content = subst (rfc.IsWideFile groups) (sym (append-nil text)) (record {
+    front = [];
+    rest = text;
+    whole = refl;
+    is_front = record { units = []; each = tt; whole = refl };
+    are_groups = repeats_weaker rfc.IsGroup rfc.IsWideGroup group_is_wide groups text is;
+  });
+}
+
+-- a file in the standard's grammar is read as the groups and rules that it defines
+pub rules_read : (text agent : List ℕ) (numbers : List (List ℕ)) (groups : List rfc.Group)
+    → FileRead numbers groups text
+    → AllZip IsReadAs (rfc.rules_for agent (rfc.merged groups)) (rules_for agent (file_lines text))
+rules_read text agent numbers groups is =
+    rw (← groups_written text numbers groups is, (file_same text agent).0.rules) (
+    rules_written agent (file_sources text) is.read is.none)
 
 lines_are : (text : List ℕ) → AreFileLinesOf (file_lines text) text
 lines_are text = (each_text_has_its_lines (map nul_as_lf text) (file_lines text)).1 refl
@@ -25,7 +92,7 @@ all_delays : (numbers : List (List ℕ)) → filter is_delay (map rfc.Delay numb
 all_delays [] = refl
 all_delays (number ∷ numbers) = ap (λ members. rfc.Delay number ∷ members) (all_delays numbers)
 
-robot_as : (agent text : List ℕ) (groups : List rfc.Group) (numbers addresses : List (List ℕ))
+pub robot_as : (agent text : List ℕ) (groups : List rfc.Group) (numbers addresses : List (List ℕ))
     (robot : RobotValue)
     → IsFileWith numbers groups text → rfc.ListsSitemaps addresses text → IsRobotOfFile agent text robot
     → IsRobotAs agent (rfc.merged groups) numbers addresses robot
@@ -56,30 +123,16 @@ robot_as agent text groups numbers addresses robot file lists is =
           (sitemaps_are_read text addresses lists);
     }
 
-pub robot_written : (agent file : List ℕ) (groups : List rfc.Group) (numbers addresses : List (List ℕ))
-    (robot : RobotValue)
-    → IsFileWith numbers groups (take file_limit file) → rfc.ListsSitemaps addresses (take file_limit file)
-    → IsRobotOfFile agent (take file_limit file) robot
-    → IsRobotAs agent (rfc.merged groups) numbers addresses robot
-robot_written agent file = robot_as agent (take file_limit file)
-
-rejected_as : (agent text : List ℕ) (numbers : List (List ℕ)) (groups : List rfc.Group)
-    → IsFileWith numbers groups text → IsFileRejected agent text → IsRejectedAs agent (rfc.merged groups)
-rejected_as agent text numbers groups file rejected =
+pub rejected_as : (agent text : List ℕ) (groups : List rfc.Group) → rfc.IsFile groups text
+    → IsFileRejected agent text → IsRejectedAs agent (rfc.merged groups)
+rejected_as agent text groups file rejected =
     let lines = file_lines text in
-    let is = of_lines text (IsRejected agent) rejected lines (lines_are text) in (
+    let (numbers, read) = file_read text groups file in (
       rules_for agent lines,
-      rules_read text agent numbers groups (file_with text numbers groups file),
-      (rejection_is_computed agent lines).0 is,
+      rules_read text agent numbers groups read,
+      (rejection_is_computed agent lines).0
+          (of_lines text (IsRejected agent) rejected lines (lines_are text)),
     )
-
-pub rejected_written : (agent file : List ℕ) (groups : List rfc.Group)
-    → rfc.IsFile groups (take file_limit file) → IsFileRejected agent (take file_limit file)
-    → IsRejectedAs agent (rfc.merged groups)
-rejected_written agent file groups is rejected =
-    let text = take file_limit file in
-    let (numbers, also) = has_delays text groups is in
-    rejected_as agent text numbers groups also rejected
 
 -- a file whose lines have the forms has groups, delays and sitemaps, and the robot is theirs
 pub forms_robot : (agent file : List ℕ) (forms : List Form) (robot : RobotValue)
@@ -98,5 +151,5 @@ forms_robot agent file forms robot are is =
       addresses,
       with_delays,
       lists,
-      robot_written agent file groups numbers addresses robot with_delays lists is,
+      robot_as agent text groups numbers addresses robot with_delays lists is,
     )

@@ -1,56 +1,19 @@
 -- The samples in `specs/Sample.antt` are files of the grammar, line by line.
-use Rattle.std.proofs.Common.{◌≡◌, ◌⊎◌, inl, inr, ℕ, Bool, true, not, List, [], ◌∷◌}
-use Rattle.std.proofs.Common.{◌++◌}
-use Rattle.std.proofs.Common.{codes, ◌==◌, ◌||◌, ◌&&◌, bytes_eq, flat_map, drop, nat_le, refl, ap}
-use Rattle.std.proofs.Common.{arith}
-use Rattle.std.specs.List.{AllByRecursion as Each, Contains, list_all}
-use Rattle.std.proofs.lemmas.Bool.{false≢true, Decides.nat_tests}
-use Rattle.std.proofs.lemmas.List.{Elements.All-contains, Sums.AllPass-from_list_all}
+use Rattle.std.proofs.Common.{◌≡◌, inl, inr, ℕ, Bool, true, not, List, [], ◌∷◌, ◌++◌, codes, bytes_eq}
+use Rattle.std.proofs.Common.{flat_map, drop, refl, arith}
+use Rattle.std.specs.List.{AllByRecursion as Each, Contains}
 use Rattle.rfc9309_laws.specs.Sample.{cr, cr_lf, lf, path}
-use Rattle.rfc9309_laws.proofs.{EachLemmas.passing, WordLemmas.identifier}
-use Rattle.rfc9309_laws.proofs.BareLemmas.{group_is_wide, repeats_weaker}
 use Rattle.rfc9309_laws.proofs.SyntaxLemmas.{repeats_both, repeats_none, repeats_one}
+use Rattle.rfc9309_laws.proofs.RobotLemmas.{group_is_wide, repeats_weaker}
+use Rattle.std.specs.Str.{chars, is_utf8}
+use lib.Utf8.{encode}
+use Rattle.rfc9309_laws.proofs.CharLemmas.{comment_text, value_text}
+use Rattle.std.proofs.{lemmas.Bool.false≢true, lemmas.List.Elements.All-contains}
+use Rattle.std.proofs.{lemmas.List.Sums.AllPass-from_list_all}
+use Rattle.rfc9309_laws.proofs.{ValueLemmas.identifier}
+use Rattle.rfc9309_laws.specs.{HasForm.is_comment_text}
 use Rattle.rfc9309_laws.specs.Rfc9309 as rfc
 use Rattle.rfc9309_laws.specs.Sample as sample
-
--- ---- texts whose parts pass a computed test
-
--- a text split into parts of one byte each
-singles : (P : List ℕ → Type 0) (text : List ℕ) → Each (λ b. P (b ∷ [])) text → rfc.IsMany P text
-singles P [] all = record { units = []; each = tt; whole = refl }
-singles P (b ∷ text) all =
-    let rest = singles P text all.1 in
-    record {
-      units = (b ∷ []) ∷ rest.units;
-      each = (all.0, rest.each);
-      whole = ap (λ t. b ∷ t) rest.whole;
-    }
-
-abbrev is_one : ℕ → Bool
-is_one b = nat_le 0x21 b && (nat_le b 0x7F && not (b == 0x23))
-
-one : (b : ℕ) → is_one b ≡ true → rfc.IsUtf8CharNoctl (b ∷ [])
-one b is = inl (grind (arith, nat_tests))
-
--- characters of one byte each
-ones : (text : List ℕ) → list_all is_one text ≡ true → rfc.IsMany rfc.IsUtf8CharNoctl text
-ones text all = singles rfc.IsUtf8CharNoctl text (passing _ is_one one text all)
-
-abbrev is_remark : ℕ → Bool
-is_remark b = is_one b || ((b == 0x20 || b == 0x09) || b == 0x23)
-
-remark : (b : ℕ) → is_remark b ≡ true → rfc.IsCommentUnit (b ∷ [])
-remark b is = elim (at b is) [
-  | inl e ↦ inl (one b e)
-  | inr (inl blank) ↦ inr (inl (b, blank, refl))
-  | inr (inr hash) ↦ inr (inr (ap (λ c. c ∷ []) hash))
-]
-  where
-    at : (b : ℕ) → is_remark b ≡ true → (is_one b ≡ true) ⊎ (rfc.IsWs b ⊎ (b ≡ 0x23))
-    at b is = grind (arith, nat_tests)
-
-remarks : (text : List ℕ) → list_all is_remark text ≡ true → rfc.IsMany rfc.IsCommentUnit text
-remarks text all = singles rfc.IsCommentUnit text (passing _ is_remark remark text all)
 
 -- ---- the parts of lines
 
@@ -81,7 +44,7 @@ cr_lf_end : rfc.IsEol cr_lf
 cr_lf_end = end [] cr_lf tt (inr (inr refl))
 
 -- spaces or tabs, a comment and a line feed
-comment : (blanks text : List ℕ) → Each rfc.IsWs blanks → list_all is_remark text ≡ true
+comment : (blanks text : List ℕ) → Each rfc.IsWs blanks → is_comment_text text ≡ true
     → rfc.IsEol (blanks ++ (codes "#" ++ text ++ lf))
 comment blanks text all is = record {
   blanks = blanks;
@@ -89,7 +52,7 @@ comment blanks text all is = record {
   nl = lf;
   whole = refl;
   are_blanks = all;
-  is_comment = inr (record { text = text; is_text = remarks text is; whole = refl });
+  is_comment = inr (record { text = text; is_text = comment_text text is; whole = refl });
   is_nl = feed;
 }
 
@@ -124,6 +87,7 @@ bot = (
 )
 
 more : rfc.IsEmptyLine (codes "\t# more of it # here" ++ lf)
+unfolding is_utf8 chars encode
 more = comment (codes "\t") (codes " more of it # here") tab refl
 
 other_bot : rfc.IsStartGroupLine (codes "other-bot_x") (codes " User-Agent\t:\tother-bot_x " ++ cr)
@@ -145,32 +109,11 @@ other_bot = (
 )
 
 is_path : rfc.IsPathPattern path
-is_path = record {
-  text = codes "a!\"*$"
-      ++ 0xC3 ∷ 0xB6 ∷ 0xE3 ∷ 0x83 ∷ 0x84 ∷ 0xF0 ∷ 0x9F ∷ 0xA4 ∷ 0x96 ∷ [];
-  is_text = record {
-    units =
-        codes "a" ∷ codes "!" ∷ codes "\"" ∷ codes "*" ∷ codes "$" ∷ (0xC3 ∷ 0xB6 ∷ [])
-        ∷ (0xE3 ∷ 0x83 ∷ 0x84 ∷ []) ∷ (0xF0 ∷ 0x9F ∷ 0xA4 ∷ 0x96 ∷ []) ∷ [];
-    each = (
-      one 97 refl,
-      (one 33 refl, (one 34 refl, (one 42 refl, (one 36 refl, (of_two, (of_three, (of_four, tt))))))),
-    );
-    whole = refl;
-  };
-  whole = refl;
-}
-  where
-    of_two : rfc.IsUtf8CharNoctl (0xC3 ∷ 0xB6 ∷ [])
-    of_two = grind arith
-
-    of_three : rfc.IsUtf8CharNoctl (0xE3 ∷ 0x83 ∷ 0x84 ∷ [])
-    of_three = grind arith
-
-    of_four : rfc.IsUtf8CharNoctl (0xF0 ∷ 0x9F ∷ 0xA4 ∷ 0x96 ∷ [])
-    of_four = grind arith
+unfolding is_utf8 chars encode
+is_path = record { text = drop 1 path; is_text = value_text (drop 1 path) refl; whole = refl }
 
 allow : rfc.IsRule (rfc.Allow path) (codes "allow: " ++ path ++ codes " # after" ++ lf)
+unfolding is_utf8 chars encode
 allow = record {
   value = path;
   is_pattern = inl (is_path, refl);
@@ -193,15 +136,17 @@ star : rfc.IsStartGroupLine (codes "*") (codes "USER-AGENT: *" ++ lf)
 star = (inr refl, fed (codes "USER-AGENT") refl)
 
 disallow_all : rfc.IsRule (rfc.Disallow (codes "/")) (codes "disallow: /" ++ lf)
+unfolding is_utf8 chars encode
 disallow_all = record {
   value = codes "/";
-  is_pattern = inl (record { text = []; is_text = ones [] refl; whole = refl }, refl);
+  is_pattern = inl (record { text = []; is_text = value_text [] refl; whole = refl }, refl);
   is_line = fed (codes "disallow") refl;
 }
 
 -- ---- the lines of the extended grammar
 
 front : rfc.IsEmptyLine (codes "# in front" ++ lf)
+unfolding is_utf8 chars encode
 front = comment [] (codes " in front") tt refl
 
 delay : rfc.IsDelayLine (rfc.Delay (codes "2")) (codes "crawl-delay: 2" ++ cr_lf)
@@ -217,14 +162,16 @@ wide_bot = (
 )
 
 sitemap : rfc.IsSitemapLine (codes "https://a/s") (codes "Sitemap: https://a/s" ++ lf)
+unfolding is_utf8 chars encode
 sitemap = (
-  ones (codes "https://a/s") refl,
+  value_text (codes "https://a/s") refl,
   fed (codes "Sitemap") refl,
 )
 
 gif : rfc.IsStarRule (rfc.Disallow (codes "*.gif$")) (codes "Disallow: *.gif$" ++ cr)
+unfolding is_utf8 chars encode
 gif = (
-  record { text = codes ".gif$"; is_text = ones (codes ".gif$") refl; whole = refl },
+  record { text = codes ".gif$"; is_text = value_text (codes ".gif$") refl; whole = refl },
   keyed (codes "Disallow") cr refl (end [] cr tt (inl refl)),
 )
 
@@ -241,6 +188,7 @@ fraction = (
 )
 
 host : rfc.IsOtherLine (codes "Host: a # b" ++ lf)
+unfolding is_utf8 chars encode
 host = record {
   margin = [];
   name = codes "Host";
@@ -252,7 +200,7 @@ host = record {
   is_name = identifier (codes "Host") refl;
   is_other = other;
   blanks_blank = tt;
-  is_value = remarks (codes " a # b") refl;
+  is_value = comment_text (codes " a # b") refl;
   is_nl = feed;
 }
   where

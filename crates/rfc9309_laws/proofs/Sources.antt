@@ -1,73 +1,19 @@
--- Source lines: the line as the library reads it, with its value as written.
-use Rattle.std.proofs.Common.{◌≡◌, ◌≢◌, ℕ, ◌<◌, Bool, false, true, not, ◌==◌, ◌||◌}
-use Rattle.std.proofs.Common.{if◌then◌else◌, List, [], ◌∷◌, ◌++◌, filter, refl, ap, ◌∙◌}
-use Rattle.std.proofs.Common.{append-nil, arith, Option, Some, None}
-use Rattle.std.specs.List.{AllByRecursion as Each}
-use Rattle.std.proofs.lemmas.Bool.Decides.{nat_tests}
-use Rattle.std.proofs.lemmas.{Bool.cond-false, Bool.ne_eqb, List.Elements.filter-append}
+-- Source lines: the line as the library reads it, with its value as written. The source lines of groups give
+-- back the groups, merged.
+use Rattle.std.proofs.Common.{◌≡◌, ℕ, Bool, false, not, List, [], ◌∷◌, Option, Some, None, ◌++◌, refl, ap}
+use Rattle.std.proofs.Common.{◌∙◌, append-nil, map}
 use Rattle.texting_robots.specs.Line.{LineValue, UserAgent, Allow, CrawlDelay, Disallow, Sitemap, Raw}
 use Rattle.texting_robots.specs.Line.{is_raw}
-use Rattle.texting_robots.specs.Delay.{IsDelay}
-use Rattle.texting_robots.specs.{Statement.IsBlank, Internal.Line.line_of, Trim.IsTrimOf}
-use Rattle.texting_robots.specs.{Executable.rule_in, Executable.sitemap_in, Rules.Rule}
-use Rattle.texting_robots.specs.Internal.Statement.{IsOptionalComment, colon, hash, space, tab, region_of}
-use Rattle.texting_robots.proofs.StatementLemmas.{region_is}
-use Rattle.rfc9309_laws.specs.ReadAs.{IsReadAs}
+use Rattle.texting_robots.specs.Executable.{rule_in, sitemap_in}
+use Rattle.texting_robots.specs.{Delay.IsDelay, Internal.Line.line_of, Trim.IsTrimOf, Rules.Rule}
+use Rattle.rfc9309_laws.specs.{HasForm.value_in, ReadAs.IsReadAs}
 use Rattle.rfc9309_laws.specs.Rfc9309 as rfc
 
 -- ---- the value as written
 
-abbrev pub no_blank : ℕ → Bool
-no_blank b = not (b == space || b == tab)
-
-abbrev after_colon : List ℕ → List ℕ
-after_colon [] = []
-after_colon (b ∷ text) = if b == colon then text else after_colon text
-
--- the bytes between the first colon and the next `#`, without spaces and tabs
+-- the value, between the colon and a comment
 unfoldable pub written : List ℕ → List ℕ
-written body = filter no_blank (region_of (after_colon body))
-
-after_front : (front tail : List ℕ) → Each (λ b. b ≢ colon) front
-    → after_colon (front ++ colon ∷ tail) ≡ tail
-after_front [] tail all = refl
-after_front (b ∷ front) tail all = cond-false _ _ _ (ne_eqb b colon all.0)
-    ∙ after_front front tail all.1
-
-pub written_is : (front region comment : List ℕ) → Each (λ b. b ≢ colon) front
-    → Each (λ b. b ≢ hash) region
-    → IsOptionalComment comment
-    → written (front ++ colon ∷ (region ++ comment)) ≡ filter no_blank region
-unfolding written
-written_is front region comment no_colon no_hash is =
-    ap (λ t. filter no_blank (region_of t)) (after_front front (region ++ comment) no_colon)
-    ∙ ap (filter no_blank) (region_is region comment no_hash is)
-
-blank_gone : (b : ℕ) → IsBlank b → no_blank b ≡ false
-blank_gone b is = grind (arith, nat_tests)
-
-blanks_gone : (blanks : List ℕ) → Each IsBlank blanks → filter no_blank blanks ≡ []
-blanks_gone [] all = refl
-blanks_gone (b ∷ blanks) all = rw (blank_gone b all.0) (blanks_gone blanks all.1)
-
-byte_kept : (b : ℕ) → 32 < b → no_blank b ≡ true
-byte_kept b above = grind (arith, nat_tests)
-
-pub text_kept : (text : List ℕ) → Each (λ b. 32 < b) text → filter no_blank text ≡ text
-text_kept [] all = refl
-text_kept (b ∷ text) all = rw (byte_kept b all.0) (ap (λ t. b ∷ t) (text_kept text all.1))
-
--- spaces and tabs around a value are dropped
-pub between_gone : (gap value following : List ℕ) → Each IsBlank gap → Each IsBlank following
-    → filter no_blank (gap ++ (value ++ following)) ≡ filter no_blank value
-between_gone gap value following before after =
-    rw (
-      filter-append no_blank gap (value ++ following),
-      blanks_gone gap before,
-      filter-append no_blank value following,
-      blanks_gone following after,
-    )
-    (append-nil (filter no_blank value))
+written body = value_in body
 
 -- ---- source lines
 
@@ -76,10 +22,6 @@ Source = LineValue × List ℕ
 
 abbrev pub source_of : List ℕ → Source
 source_of body = (line_of body, written body)
-
--- the source line of a product token
-abbrev pub token_source : List ℕ → Source
-token_source token = (UserAgent token, token)
 
 -- the line isn't ignored
 abbrev pub is_not_raw : Source → Bool
@@ -157,3 +99,51 @@ address_before line text following = following
 -- adds the address of a sitemap, as written
 abbrev pub with_address : Source → List (List ℕ) → List (List ℕ)
 with_address source following = address_before source.0 source.1 following
+
+abbrev pub with_group : rfc.Group → Parts → Parts
+with_group group parts =
+    with_tokens group.tokens (parts_of (group.members ++ parts.ungrouped) parts.groups)
+
+abbrev pub with_delay : List ℕ → Parts → Parts
+with_delay number parts = with_member (rfc.Delay number) parts
+
+members_put : (members : List rfc.Member) (parts : Parts)
+    → onto with_member members parts ≡ parts_of (members ++ parts.ungrouped) parts.groups
+members_put [] parts = refl
+members_put (member ∷ members) parts = ap (with_member member) (members_put members parts)
+
+-- adding tokens one by one is the same as adding them at once
+put_twice : (token : List ℕ) (tokens : List (List ℕ)) (members : List rfc.Member) (later : List rfc.Group)
+    → rfc.put_before (token ∷ []) [] (rfc.put_before tokens members later)
+    ≡ rfc.put_before (token ∷ tokens) members later
+put_twice token tokens [] [] = refl
+put_twice token tokens [] (next ∷ later) = refl
+put_twice token tokens (member ∷ members) later = refl
+
+tokens_put : (token : List ℕ) (tokens : List (List ℕ)) (parts : Parts)
+    → onto with_token (token ∷ tokens) parts ≡ with_tokens (token ∷ tokens) parts
+tokens_put token [] parts = refl
+tokens_put token (next ∷ tokens) parts =
+    ap (with_token token) (tokens_put next tokens parts)
+    ∙ ap (parts_of []) (put_twice token (next ∷ tokens) parts.ungrouped parts.groups)
+
+-- adding a group's tokens and members one by one is the same as adding the group at once
+pub group_put : (token : List ℕ) (tokens : List (List ℕ)) (group : rfc.Group) (parts : Parts)
+    → group.tokens ≡ token ∷ tokens
+    → onto with_token (token ∷ tokens) (onto with_member group.members parts) ≡ with_group group parts
+group_put token tokens group parts same =
+    rw (same, members_put group.members parts)
+    (tokens_put token tokens (parts_of (group.members ++ parts.ungrouped) parts.groups))
+
+pub groups_put : (groups : List rfc.Group)
+    → onto with_group groups (parts_of [] []) ≡ parts_of [] (rfc.merged groups)
+groups_put [] = refl
+groups_put (group ∷ later) =
+    ap (with_group group) (groups_put later)
+    ∙ ap (λ m. with_tokens group.tokens (parts_of m (rfc.merged later))) (append-nil group.members)
+
+-- delays are added to the members before any token
+pub delays_put : (numbers : List (List ℕ)) (parts : Parts)
+    → onto with_delay numbers parts ≡ parts_of (map rfc.Delay numbers ++ parts.ungrouped) parts.groups
+delays_put [] parts = refl
+delays_put (number ∷ numbers) parts = ap (with_delay number) (delays_put numbers parts)

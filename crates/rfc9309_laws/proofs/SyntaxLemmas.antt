@@ -1,9 +1,27 @@
--- Concatenating texts that repeat a production.
-use Rattle.std.proofs.Common.{ℕ, List, [], ◌∷◌, ◌++◌, flat_map, sym, refl, append-nil}
-use Rattle.std.specs.List.{AllByRecursion as Each}
-use Rattle.std.proofs.lemmas.Grind.{flat_map-append}
+-- Properties of each item of a list, and concatenating texts that repeat a production.
+use Rattle.std.proofs.Common.{◌≡◌, Bool, true, List, [], ◌∷◌, ◌++◌, ℕ, flat_map, sym, refl, append-nil}
+use Rattle.std.specs.List.{AllByRecursion as Each, list_all}
 use Rattle.rfc9309_laws.specs.Rfc9309.{IsMany, RepeatUnit, Repeats}
-use Rattle.texting_robots.proofs.TrimLemmas.{each_append}
+use Rattle.std.proofs.{lemmas.Bool.and_parts, lemmas.Grind.flat_map-append}
+use Rattle.texting_robots.proofs.{TrimLemmas.each_append}
+
+pub each_weaker : {X : Type 0} (P Q : X → Type 0) → ((x : X) → P x → Q x) → (xs : List X)
+    → Each P xs → Each Q xs
+each_weaker P Q weaker [] all = tt
+each_weaker P Q weaker (x ∷ xs) all = (weaker x all.0, each_weaker P Q weaker xs all.1)
+
+pub each_front : {X : Type 0} (P : X → Type 0) (xs ys : List X) → Each P (xs ++ ys) → Each P xs
+each_front P [] ys all = tt
+each_front P (x ∷ xs) ys all = (all.0, each_front P xs ys all.1)
+
+-- from a computed test of all items to a property of each item
+pub passing : {X : Type 0} (P : X → Type 0) (test : X → Bool) → ((x : X) → test x ≡ true → P x)
+    → (xs : List X) → list_all test xs ≡ true
+    → Each P xs
+passing P test is [] all = tt
+passing P test is (x ∷ xs) all =
+    let both = and_parts (test x) (list_all test xs) all in
+    (is x both.0, passing P test is xs both.1)
 
 module _ {X : Type 0} (P : List X → List ℕ → Type 0) where
   pub repeats_none : Repeats P [] []

@@ -1,25 +1,261 @@
--- The parts of a directive that has a colon after its field name.
-use Rattle.std.proofs.Common.{◌≡◌, ◌≢◌, inl, inr, ℕ, ◌==◌, true, false, List, [], ◌∷◌, ◌++◌}
-use Rattle.std.proofs.Common.{ap, append-nil, append_assoc, arith, not, refl, subst, sym, ◌∙◌}
-use Rattle.std.specs.List.{AllByRecursion as Each, Contains, list_any}
-use Rattle.std.specs.Str.{str_to_ascii_lowercase}
-use Rattle.std.proofs.lemmas.Bool.{and_parts, false≢true, ne_eqb, not-false, not-true}
-use Rattle.std.proofs.lemmas.Bool.Decides.{nat_tests}
-use Rattle.texting_robots.specs.Statement.{IsAfterColon, IsBlank, IsStatement, StartsValue}
-use Rattle.texting_robots.specs.Statement.{field_names}
-use Rattle.texting_robots.specs.Internal.Statement.{IsOptionalComment}
-use Rattle.texting_robots.specs.Trim.{IsTrimOf}
-use Rattle.texting_robots.specs.declared.parser.statement.Kind.{Kind}
-use Rattle.texting_robots.proofs.TrimLemmas.{each_append}
-use Rattle.rfc9309_laws.proofs.EachLemmas.{each_weaker}
-use Rattle.robots_warnings.specs.Contents.{comment_of, tail_of}
-use Rattle.robots_warnings.specs.FieldNames.{is_any_accepted, is_space_or_tab, is_without_colon, name_in}
-use Rattle.robots_warnings.specs.FieldNames.{without_end, without_front}
-use Rattle.robots_warnings.specs.Rules.{before_byte}
-use Rattle.warnings_laws.proofs.KeyLemmas.{IsPlainByte, begins_solid, not_continued, plain_key, solid_key}
-use Rattle.warnings_laws.proofs.TextLemmas.{after_is, before_all, before_front, before_is, from_is, from_none}
-use Rattle.warnings_laws.proofs.TextLemmas.{trailing}
+-- The parts of a directive that has a colon after its field name: what is before and after a byte, what is
+-- between spaces and tabs, and the field name, which is one of the usual names.
+use Rattle.std.proofs.Common.{◌≡◌, ◌≢◌, inl, inr, ℕ, ◌==◌, true, List, [], ◌∷◌, ◌++◌, ap, arith, drop}
+use Rattle.std.proofs.Common.{length, not, refl, subst, sym, ◌∙◌, reverse, ◌&&◌, Bool, false, bytes_eq}
+use Rattle.std.proofs.Common.{codes, map, take, append-nil, append_assoc}
+use Rattle.std.specs.List.{AllByRecursion as Each, position_or_len, Contains, list_all, list_any}
+use Rattle.std.proofs.Math.Seq.{drop-append-add, drop-append_seam, take-append_seam}
+use Rattle.std.proofs.lemmas.Bool.{eq-eqb, ne_eqb, and_parts, eqb-false, false≢true, not-true, not-false}
+use Rattle.std.proofs.lemmas.List.{drop_all, reverse-append, reverse-reverse, take_all, map-append}
+use Rattle.std.proofs.lemmas.List.{take-map}
+use Rattle.robots_warnings.specs.FieldNames.{is_space_or_tab, without_end, without_front, begins_with}
+use Rattle.robots_warnings.specs.FieldNames.{is_any_accepted, is_without_colon, name_in}
+use Rattle.robots_warnings.specs.Contents.{raw_value, comment_of, tail_of}
+use Rattle.robots_warnings.specs.Rules.{after_byte, before_byte}
+use Rattle.std.proofs.lemmas.List.Elements.{All-contains, All-from_recursion}
+use Rattle.std.proofs.lemmas.List.Sums.{AllPass-from_list_all, take_while-cons}
+use Rattle.texting_robots.specs.Statement.{field_names, IsAfterColon, IsBlank, IsStatement, StartsValue}
+use Rattle.rfc9309_laws.proofs.KeyedLemmas.{leading_gone, word_of}
+use Rattle.std.proofs.{lemmas.Bool.Decides.nat_tests}
+use Rattle.texting_robots.proofs.{TrimLemmas.each_append}
+use Rattle.std.specs.{Char.to_ascii_lowercase, Str.str_to_ascii_lowercase}
+use Rattle.texting_robots.specs.{declared.parser.statement.Kind.Kind, Internal.Statement.IsOptionalComment}
+use Rattle.texting_robots.specs.{Trim.IsTrimOf}
+use Rattle.rfc9309_laws.proofs.{HasFormLemmas.leading, SyntaxLemmas.each_weaker}
 use Rattle.rfc9309_laws.specs.Rfc9309 as rfc
+use Rattle.texting_robots.specs.declared.parser.statement.Kind.TheVariants as kind
+
+-- ---- the first occurrence of a byte
+
+pub at_front : (stop : ℕ) (front rest : List ℕ) → Each (λ b. b ≢ stop) front
+    → position_or_len (λ b. b == stop) (front ++ stop ∷ rest) ≡ length front
+at_front stop [] rest all = let is = eq-eqb stop stop refl in rw is refl
+at_front stop (b ∷ front) rest all =
+    let other = ne_eqb b stop all.0 in
+    let later = at_front stop front rest all.1 in
+    rw (other, later) (omega arith)
+
+pub nowhere : (stop : ℕ) (text : List ℕ) → Each (λ b. b ≢ stop) text
+    → position_or_len (λ b. b == stop) text ≡ length text
+nowhere stop [] all = refl
+nowhere stop (b ∷ text) all =
+    let other = ne_eqb b stop all.0 in
+    let later = nowhere stop text all.1 in
+    rw (other, later) (omega arith)
+
+pub before_is : (stop : ℕ) (front rest : List ℕ) → Each (λ b. b ≢ stop) front
+    → before_byte stop (front ++ stop ∷ rest) ≡ front
+before_is stop front rest all =
+    rw (at_front stop front rest all) (take-append_seam front (stop ∷ rest))
+
+pub before_all : (stop : ℕ) (text : List ℕ) → Each (λ b. b ≢ stop) text → before_byte stop text ≡ text
+before_all stop text all = rw (nowhere stop text all) (take_all (length text) text (omega arith))
+
+pub from_is : (stop : ℕ) (front rest : List ℕ) → Each (λ b. b ≢ stop) front
+    → drop (position_or_len (λ b. b == stop) (front ++ stop ∷ rest)) (front ++ stop ∷ rest) ≡ stop ∷ rest
+from_is stop front rest all = rw (at_front stop front rest all) (drop-append_seam front (stop ∷ rest))
+
+pub from_none : (stop : ℕ) (text : List ℕ) → Each (λ b. b ≢ stop) text
+    → drop (position_or_len (λ b. b == stop) text) text ≡ []
+from_none stop text all = rw (nowhere stop text all) (drop_all (length text) text (omega arith))
+
+pub after_is : (stop : ℕ) (front rest : List ℕ) → Each (λ b. b ≢ stop) front
+    → after_byte stop (front ++ stop ∷ rest) ≡ rest
+after_is stop front rest all =
+    rw (at_front stop front rest all, drop-append-add front (stop ∷ rest) 1) refl
+
+-- the first bytes aren't the one that is looked for
+pub before_front : (stop : ℕ) (front rest : List ℕ) → Each (λ b. b ≢ stop) front
+    → before_byte stop (front ++ rest) ≡ front ++ before_byte stop rest
+before_front stop [] rest all = refl
+before_front stop (b ∷ front) rest all =
+    take_while-cons (λ c. not (c == stop)) b (front ++ rest)
+    ∙ rw (ne_eqb b stop all.0) (ap (λ t. b ∷ t) (before_front stop front rest all.1))
+
+-- ---- spaces and tabs at both ends
+
+each_reverse : (P : ℕ → Type 0) (xs : List ℕ) → Each P xs → Each P (reverse xs)
+each_reverse P [] all = tt
+each_reverse P (x ∷ xs) all =
+    subst (Each P) (sym (reverse-append (x ∷ []) xs))
+    (each_append P (reverse xs) (x ∷ []) (each_reverse P xs all.1) (all.0, tt))
+
+pub trailing : (text : List ℕ)
+    → (back : List ℕ) × Each rfc.IsWs back × (text ≡ without_end text ++ back)
+trailing text =
+    let (front, all, whole) = leading (reverse text) in (
+      reverse front,
+      each_reverse rfc.IsWs front all,
+      sym (reverse-reverse text) ∙ ap reverse whole ∙ reverse-append front (without_front (reverse text)),
+    )
+
+-- spaces and tabs, the raw value, and spaces and tabs
+pub record IsAround (text : List ℕ) : Type 0 where
+  pub front : List ℕ
+  pub back : List ℕ
+  pub whole : text ≡ front ++ (raw_value text ++ back)
+  pub front_blank : Each rfc.IsWs front
+  pub back_blank : Each rfc.IsWs back
+
+pub around : (text : List ℕ) → IsAround text
+around text =
+    let (front, before, whole) = leading text in
+    let (back, after, rest) = trailing (without_front text) in
+    record {
+      front = front;
+      back = back;
+      whole = whole ∙ ap (λ t. front ++ t) rest;
+      front_blank = before;
+      back_blank = after;
+    }
+
+-- ---- accepted names
+
+-- a property of all accepted names of the kind holds for this one
+pub of_name : (P : List ℕ → Type 0) (kind : Kind) (name : List ℕ) → Each P (field_names kind)
+    → Contains (field_names kind) name → P name
+of_name P kind name all is =
+    All-contains P (field_names kind) name (All-from_recursion P (field_names kind) all) is
+
+-- ---- bytes of a name
+
+-- neither a colon nor `#`
+abbrev pub IsPlainByte : ℕ → Type 0
+IsPlainByte b = (b ≢ 58) × (b ≢ 35)
+
+abbrev is_plain_byte : ℕ → Bool
+is_plain_byte b = not (b == 58) && not (b == 35)
+
+plain_byte : (b : ℕ) → is_plain_byte (to_ascii_lowercase b) ≡ true → IsPlainByte b
+plain_byte b is =
+    let both = and_parts (not (to_ascii_lowercase b == 58)) _ is in (
+      λ e. eqb-false (to_ascii_lowercase b) 58 (not-true _ both.0) (ap to_ascii_lowercase e),
+      λ e. eqb-false (to_ascii_lowercase b) 35 (not-true _ both.1) (ap to_ascii_lowercase e),
+    )
+
+plain_bytes : (key word : List ℕ) → map to_ascii_lowercase key ≡ word → list_all is_plain_byte word ≡ true
+    → Each IsPlainByte key
+plain_bytes [] word e all = tt
+plain_bytes (b ∷ key) [] e all = absurd cc
+plain_bytes (b ∷ key) (c ∷ word) e all =
+    let same : to_ascii_lowercase b ≡ c = cc in
+    let both = and_parts (is_plain_byte c) (list_all is_plain_byte word) all in
+    (plain_byte b (subst (λ d. is_plain_byte d ≡ true) (sym same) both.0), plain_bytes key word (cc) both.1)
+
+-- the text begins with a byte that is neither a space nor a tab
+abbrev pub begins_solid : List ℕ → Bool
+begins_solid [] = false
+begins_solid (b ∷ text) = not (is_space_or_tab b)
+
+abbrev is_in_order : List ℕ → Bool
+is_in_order name = list_all is_plain_byte name && begins_solid name
+
+all_in_order : (kind : Kind) → list_all is_in_order (field_names kind) ≡ true
+all_in_order kind.UserAgent = refl
+all_in_order _ = refl
+
+in_order : (kind : Kind) (name : List ℕ) → Contains (field_names kind) name
+    → (list_all is_plain_byte name ≡ true) × (begins_solid name ≡ true)
+in_order kind name is =
+    let all = AllPass-from_list_all is_in_order (field_names kind) (all_in_order kind) in
+    and_parts (list_all is_plain_byte name) _
+    (All-contains (λ name. is_in_order name ≡ true) (field_names kind) name all is)
+
+-- a name has neither a colon nor `#`
+pub plain_key : (kind : Kind) (key : List ℕ) → Contains (field_names kind) (str_to_ascii_lowercase key)
+    → Each IsPlainByte key
+plain_key kind key is =
+    plain_bytes key (map to_ascii_lowercase key) refl (in_order kind (map to_ascii_lowercase key) is).0
+
+-- ---- the usual names
+
+abbrev pub usual_names : List (List ℕ)
+usual_names =
+    codes "user-agent" ∷ codes "allow" ∷ codes "disallow" ∷ codes "sitemap" ∷ codes "crawl-delay" ∷ []
+
+-- the text, in lower case, starts with one of the usual names
+abbrev begins_usual : List ℕ → Bool
+begins_usual text =
+    list_any (λ (name : List ℕ). bytes_eq (take (length name) text) (map to_ascii_lowercase name)) usual_names
+
+-- if a text that starts with this name starts with a usual one, this name is the standard's
+abbrev IsUsualOnly : Kind → List ℕ → Type 0
+IsUsualOnly kind name = (more : List ℕ) → begins_usual (name ++ more) ≡ true → name ≡ word_of kind
+
+other : {name word : List ℕ} → (false ≡ true) → name ≡ word
+other is = absurd (false≢true is)
+
+all_usual : (kind : Kind) → Each (IsUsualOnly kind) (field_names kind)
+all_usual kind.UserAgent = (λ more is. refl, (λ more is. other is, (λ more is. other is, tt)))
+all_usual kind.Allow = (λ more is. refl, tt)
+all_usual kind.Disallow = (
+  λ more is. refl,
+  (
+    λ more is. other is,
+    (λ more is. other is, (λ more is. other is, (λ more is. other is, (λ more is. other is, tt)))),
+  ),
+)
+all_usual kind.Sitemap = (λ more is. refl, (λ more is. other is, (λ more is. other is, tt)))
+all_usual kind.CrawlDelay = (λ more is. refl, (λ more is. other is, (λ more is. other is, tt)))
+
+-- the field name of a line that starts with a usual one is the standard's
+pub usual_key : (kind : Kind) (key rest : List ℕ) → Contains (field_names kind) (str_to_ascii_lowercase key)
+    → list_any (λ (name : List ℕ). begins_with name (key ++ rest)) usual_names ≡ true
+    → map to_ascii_lowercase key ≡ word_of kind
+unfolding begins_with
+usual_key kind key rest is begins =
+    of_name (IsUsualOnly kind) kind (map to_ascii_lowercase key) (all_usual kind) is
+    (map to_ascii_lowercase rest) (rw (← map-append, take-map, take-map, take-map, take-map, take-map) begins)
+
+-- ---- no accepted name continues another one
+
+abbrev kinds : List Kind
+kinds = kind.UserAgent ∷ kind.Allow ∷ kind.Disallow ∷ kind.Sitemap ∷ kind.CrawlDelay ∷ []
+
+-- the text, which is in lower case, is an accepted name
+abbrev is_accepted_as : List ℕ → Bool
+is_accepted_as text = list_any (λ (k : Kind). list_any (bytes_eq text) (field_names k)) kinds
+
+-- no accepted name is this one, a byte and more
+abbrev IsNotContinued : List ℕ → Type 0
+IsNotContinued name = (b : ℕ) (more : List ℕ) → is_accepted_as (name ++ b ∷ more) ≡ false
+
+all_ended : (kind : Kind) → Each IsNotContinued (field_names kind)
+all_ended kind.UserAgent = (λ b more. refl, (λ b more. refl, (λ b more. refl, tt)))
+all_ended kind.Allow = (λ b more. refl, tt)
+all_ended kind.Disallow = (
+  λ b more. refl,
+  (λ b more. refl, (λ b more. refl, (λ b more. refl, (λ b more. refl, (λ b more. refl, tt))))),
+)
+all_ended kind.Sitemap = (λ b more. refl, (λ b more. refl, (λ b more. refl, tt)))
+all_ended kind.CrawlDelay = (λ b more. refl, (λ b more. refl, (λ b more. refl, tt)))
+
+pub not_continued : (kind : Kind) (key more : List ℕ) (b : ℕ)
+    → Contains (field_names kind) (str_to_ascii_lowercase key)
+    → is_any_accepted (key ++ b ∷ more) ≡ false
+not_continued kind key more b is =
+    rw (lowered key (b ∷ more))
+    (of_name IsNotContinued kind (map to_ascii_lowercase key) (all_ended kind) is (to_ascii_lowercase b)
+    (map to_ascii_lowercase more))
+  where
+    lowered : (text after : List ℕ) → str_to_ascii_lowercase (text ++ after)
+        ≡ map to_ascii_lowercase text ++ map to_ascii_lowercase after
+    lowered text after = map-append to_ascii_lowercase text after
+
+-- ---- the first byte of a name
+
+solid_byte : (b : ℕ) → not (is_space_or_tab (to_ascii_lowercase b)) ≡ true
+    → not (is_space_or_tab b) ≡ true
+solid_byte b is = grind (arith, nat_tests)
+
+solid_text : (key : List ℕ) → begins_solid (map to_ascii_lowercase key) ≡ true → begins_solid key ≡ true
+solid_text [] is = is
+solid_text (b ∷ key) is = solid_byte b is
+
+pub solid_key : (kind : Kind) (key : List ℕ) → Contains (field_names kind) (str_to_ascii_lowercase key)
+    → begins_solid key ≡ true
+solid_key kind key is =
+    solid_text key (in_order kind (map to_ascii_lowercase key) is).1
 
 -- ---- the parts
 
@@ -109,14 +345,6 @@ stays (x ∷ xs) ys (d ∷ kept) back c solid all e =
     let (more, is) = stays xs ys kept back c solid all cc in
     (more, ap (λ y. y ∷ kept) (sym same) ∙ ap (λ t. x ∷ t) is)
 
-pub margin_gone : (margin text : List ℕ) → Each IsBlank margin
-    → without_front (margin ++ text) ≡ without_front text
-margin_gone [] text all = refl
-margin_gone (b ∷ margin) text all = rw (white b all.0) (margin_gone margin text all.1)
-  where
-    white : (b : ℕ) → IsBlank b → is_space_or_tab b ≡ true
-    white b is = grind (arith, nat_tests)
-
 pub front_kept : (text more : List ℕ) → begins_solid text ≡ true → without_front (text ++ more) ≡ text ++ more
 front_kept [] more is = absurd (false≢true is)
 front_kept (b ∷ text) more is = rw (not-true _ is) refl
@@ -131,7 +359,7 @@ continued kind margin key blanks text b c before is solid =
     let (back, all, ends) = trailing whole in
     let (more, same) =
     stays (key ++ b ∷ blanks) text (without_end whole) back c solid all (simp append_assoc ends) in
-    rw (margin_gone margin whole before, kept, same, append_assoc)
+    rw (leading_gone margin whole before, kept, same, append_assoc)
     (not_continued kind key (blanks ++ c ∷ more) b is)
 
 -- ---- the directive

@@ -1,51 +1,138 @@
--- Theorems about `allowed-and-disallowed`, and about first lines, which `empty-disallow` has, too.
-use Rattle.std.proofs.Common.{◌≡◌, ◌⊎◌, ◌==◌, ◌&&◌, ◌||◌, ℕ, Bool, true, false, List, [], ◌∷◌, Any, Contains}
-use Rattle.std.proofs.Common.{None, Option, Some, ap, ap₂, arith, bytes_eq, codes, if◌then◌else◌, inl, inr}
-use Rattle.std.proofs.Common.{length, not, refl, subst, sym, ◌∙◌}
-use Rattle.std.specs.List.{list_any}
-use Rattle.std.specs.Option.{option_or}
-use Rattle.std.specs.Prelude.{is_some}
-use Rattle.std.specs.Str.{byte}
-use Rattle.std.proofs.lemmas.Bool.{cases_Bool, eq-eqb, eqb-true}
+-- What `closes-everything`, `hash-cuts-rule` and `allowed-and-disallowed` imply; and about first lines, which
+-- `empty-disallow` has, too.
+use Rattle.std.proofs.Common.{◌≡◌, ◌≢◌, ℕ, ◌<◌, ◌==◌, ◌&&◌, ◌||◌, Bool, true, false, List, [], ◌∷◌}
+use Rattle.std.proofs.Common.{Contains, ap, arith, inl, inr, length, not, refl, subst, suc, sym, ◌⊎◌, Any}
+use Rattle.std.proofs.Common.{None, Option, Some, ap₂, bytes_eq, codes, if◌then◌else◌, ◌∙◌}
+use Rattle.std.specs.List.{list_all, list_any}
+use Rattle.std.proofs.lemmas.Bool.{cases_Bool, eqb-true, or_cases, eq-eqb}
 use Rattle.std.proofs.lemmas.List.Folds.{Any-from_list_any, list_any-from_Any}
-use Rattle.std.proofs.lemmas.List.Sorted.{Contains-permutation}
-use Rattle.std.proofs.lemmas.Slice.Eq.{bytes_eq-Decides}
-use Rattle.texting_robots.specs.Callers.{AreRulesFor, HoldsRule, IsDecidingLine, LineValue, Matches}
-use Rattle.texting_robots.specs.Callers.{PlacedRule, Rule, escaped, placed_rules}
-use Rattle.texting_robots.proofs.HeldLemmas.{computed_are, one_list}
-use Rattle.robots_warnings.specs.Closed.{is_whole_site}
-use Rattle.robots_warnings.specs.Conflicts.{IsConflict, allow_beside, at_line, compared, conflict}
-use Rattle.robots_warnings.specs.Conflicts.{conflict_for}
-use Rattle.robots_warnings.specs.Conflicts.{first_line, first_of, is_like, line_if}
-use Rattle.warnings_laws.proofs.ClosedLemmas.{whole_site_matches}
+use Rattle.texting_robots.specs.Callers.{AreRulesFor, IsDenied, LineValue, Matches, PlacedRule, Rule}
+use Rattle.texting_robots.specs.Callers.{escaped, placed_rules, unplaced, HoldsRule, IsDecidingLine}
+use Rattle.texting_robots.specs.Pattern.{MatchesWith, star}
+use Rattle.robots_warnings.specs.Closed.{is_closed_for, is_closing_at, is_opening, is_whole_site}
 use Rattle.warnings_laws.proofs.WarningLemmas.{both, none, one_value}
+use Rattle.robots_warnings.specs.Conflicts.{IsConflict, allow_beside, at_line, compared, conflict_for}
+use Rattle.robots_warnings.specs.Conflicts.{first_line, first_of, is_like, line_if}
+use Rattle.texting_robots.proofs.{HeldLemmas.computed_are, BestLemmas.placed_of}
+use Rattle.std.specs.{Str.byte, Option.option_or, Prelude.is_some}
+use Rattle.std.proofs.{lemmas.Option.same_Some, lemmas.Bool.Decides.nat_tests}
+use Rattle.std.proofs.{lemmas.Slice.Eq.bytes_eq-Decides}
+use Rattle.robots_needless.proofs.{TogetherLemmas.unplaced_of}
+use Rattle.texting_robots.specs.{Verdict.robots_file}
+use Rattle.robots_warnings.specs.{Contents.is_cut_to_root}
+
+-- ---- patterns
+
+stars_match : (pattern text : List ℕ) → list_all (λ c. c == byte "*") pattern ≡ true → Matches pattern text
+unfolding MatchesWith
+stars_match [] text stars = tt
+stars_match (b ∷ pattern) text stars =
+    let (first, later) = both (b == star) _ stars in
+    subst (λ b. Matches (b ∷ pattern) text) (sym (eqb-true b star first))
+    (text, ([], refl), stars_match pattern text later)
+
+pub whole_site_matches : (pattern text : List ℕ) → is_whole_site pattern ≡ true
+    → Matches pattern (byte "/" ∷ text)
+unfolding MatchesWith
+whole_site_matches [] text whole = cc
+whole_site_matches (b ∷ pattern) text whole =
+    let (first, stars) = both (b == byte "/" || b == star) _ whole in
+    elim (or_cases (b == byte "/") (b == star) first) [
+      | inl is ↦
+          subst (λ b. Matches (b ∷ pattern) (byte "/" ∷ text)) (sym (eqb-true b (byte "/") is))
+          (text, refl, stars_match pattern text stars)
+      | inr is ↦
+          subst (λ b. Matches (b ∷ pattern) (byte "/" ∷ text)) (sym (eqb-true b star is))
+          (byte "/" ∷ text, ([], refl), stars_match pattern (byte "/" ∷ text) stars)
+    ]
+
+-- none of these bytes is escaped
+stars_stay : (pattern : List ℕ) → list_all (λ c. c == byte "*") pattern ≡ true → escaped pattern ≡ pattern
+stars_stay [] stars = refl
+stars_stay (b ∷ pattern) stars =
+    let (first, later) = both (b == star) _ stars in
+    rw (eqb-true b star first, stars_stay pattern later) refl
+
+whole_site_stays : (pattern : List ℕ) → is_whole_site pattern ≡ true → escaped pattern ≡ pattern
+whole_site_stays [] whole = refl
+whole_site_stays (b ∷ pattern) whole =
+    let (first, stars) = both (b == byte "/" || b == star) _ whole in
+    elim (or_cases (b == byte "/") (b == star) first) [
+      | inl is ↦ rw (eqb-true b (byte "/") is, stars_stay pattern stars) refl
+      | inr is ↦ rw (eqb-true b star is, stars_stay pattern stars) refl
+    ]
+
+pub cut_to_root_matches : (value tail comment path : List ℕ) → is_cut_to_root value tail comment ≡ true
+    → Matches (escaped value) (byte "/" ∷ path)
+cut_to_root_matches value tail comment path is =
+    let whole = (both _ _ is).1 in
+    rw (whole_site_stays value whole) (whole_site_matches value path whole)
+
+some_bytes : (pattern : List ℕ) → is_whole_site pattern ≡ true → 0 < length pattern
+some_bytes [] whole = cc
+some_bytes (b ∷ pattern) whole = omega arith
+
+-- ---- rules
+
+-- all lists of a crawler's rules have the same members
+pub also_listed : {agent : List ℕ} {lines : List LineValue} {rules others : List PlacedRule}
+    → AreRulesFor agent lines rules → AreRulesFor agent lines others → (placed : PlacedRule)
+    → Contains rules placed → Contains others placed
+also_listed are also placed has = (also.held placed).1 ((are.held placed).0 has)
+
+none_opens : (rules : List PlacedRule) (placed : PlacedRule) → list_any is_opening rules ≡ false
+    → Contains rules placed → is_opening placed ≡ false
+none_opens rules placed shut (k, below, at) = elim (cases_Bool (is_opening placed)) [
+  | inl opens ↦
+      let some = list_any-from_Any is_opening rules (k, placed, below, at, opens) in
+      cc
+  | inr isnt ↦ isnt
+]
+
+not_none : (n : ℕ) → (suc n == 0) ≡ false
+not_none n = grind (arith, nat_tests)
+
+-- an Allow that doesn't open has no bytes
+no_bytes : (pattern : List ℕ) → (true && not (length pattern == 0)) ≡ false → length pattern ≡ 0
+no_bytes [] shut = refl
+no_bytes (b ∷ pattern) shut = let never = rw (not_none (length pattern)) at shut in cc
+
+pub closes_everything : (agent : List ℕ) (lines : List LineValue) (rules : List PlacedRule) (number : ℕ)
+    (text : List ℕ) → is_closed_for lines number agent ≡ true → AreRulesFor agent lines rules
+    → byte "/" ∷ text ≢ robots_file → IsDenied (unplaced rules) (byte "/" ∷ text)
+closes_everything agent lines rules number text is are differs =
+    let all = placed_rules agent lines in
+    let (shut, closing) = both _ _ is in
+    let (k, placed, below, at, passes) = Any-from_list_any (is_closing_at number) all closing in
+    let (closes, here) = both _ _ passes in
+    let (denies, whole) = both _ _ closes in
+    let own = computed_are agent lines in (
+      differs,
+      placed.rule.0,
+      subst (λ (b : Bool). Contains (unplaced rules) (placed.rule.0, b)) (none _ denies)
+          (unplaced_of rules placed (also_listed own are placed (k, below, at))),
+      whole_site_matches placed.rule.0 text whole,
+      λ pattern has matches.
+          let (allow, listed, same) = placed_of rules (pattern, true) has in
+          let opens = none_opens all allow (none _ shut) (also_listed are own allow listed) in
+          let empty = no_bytes pattern
+          (subst (λ (rule : Rule). (rule.1 && not (length rule.0 == 0)) ≡ false) same opens) in
+          let some = some_bytes placed.rule.0 whole in
+          omega arith,
+    )
 
 -- ---- the first number that a function gives
 
-abbrev gives : ℕ → Option ℕ → Bool
-gives n None = false
-gives n (Some m) = m == n
-
-any_gives : {X : Type 0} (f : X → Option ℕ) (xs : List X) (n : ℕ) → first_of f xs ≡ Some n
-    → list_any (λ x. gives n (f x)) xs ≡ true
-any_gives f [] n is = cc
-any_gives f (x ∷ xs) n is = by (f x) (any_gives f xs n) is
-  where
-    by : (a : Option ℕ) → (first_of f xs ≡ Some n → list_any (λ x. gives n (f x)) xs ≡ true)
-        → option_or a (first_of f xs) ≡ Some n
-        → (gives n a || list_any (λ x. gives n (f x)) xs) ≡ true
-    by None later is = later is
-    by (Some m) later is = rw (eq-eqb m n cc) refl
-
-given : (n : ℕ) (a : Option ℕ) → gives n a ≡ true → a ≡ Some n
-given n None is = cc
-given n (Some m) is = ap Some (eqb-true m n is)
-
 pub first_found : {X : Type 0} (f : X → Option ℕ) (xs : List X) (n : ℕ) → first_of f xs ≡ Some n
     → Any (λ x. f x ≡ Some n) xs
-first_found f xs n is =
-    let (k, x, below, at, passes) = Any-from_list_any (λ x. gives n (f x)) xs (any_gives f xs n is) in
-    (k, x, below, at, given n (f x) passes)
+first_found f [] n is = cc
+first_found f (x ∷ xs) n is = by (f x) refl (first_found f xs n) is
+  where
+    by : (a : Option ℕ) → f x ≡ a → (first_of f xs ≡ Some n → Any (λ x. f x ≡ Some n) xs)
+        → option_or a (first_of f xs) ≡ Some n → Any (λ x. f x ≡ Some n) (x ∷ xs)
+    by None none later is =
+        let (k, y, below, at, given) = later is in (suc k, y, omega arith, at, given)
+    by (Some m) some later is = (0, x, omega arith, refl, some ∙ is)
 
 any_some : {X : Type 0} (f : X → Option ℕ) (xs : List X)
     → list_any (λ x. is_some (f x)) xs ≡ is_some (first_of f xs)
@@ -63,15 +150,15 @@ pub first_some : {X : Type 0} (f : X → Option ℕ) (xs : List X) (x : X) → C
 first_some f xs x (k, below, at) is =
     sym (any_some f xs) ∙ list_any-from_Any (λ x. is_some (f x)) xs (k, x, below, at, is)
 
-pub if_both : (a b : Bool) (x : Option ℕ) (n : ℕ) → (if a then (if b then None else x) else None) ≡ Some n
-    → (a ≡ true) × (b ≡ false) × (x ≡ Some n)
-if_both true true x n is = cc
-if_both true false x n is = (refl, refl, is)
-if_both false b x n is = cc
+pub if_found : (a : Bool) (x : Option ℕ) (n : ℕ) → (if a then x else None) ≡ Some n
+    → (a ≡ true) × (x ≡ Some n)
+if_found true x n is = (refl, is)
+if_found false x n is = cc
 
-if_some : (a : Bool) (m n : ℕ) → (if a then Some m else None) ≡ Some n → (a ≡ true) × (m ≡ n)
-if_some true m n is = (refl, cc)
-if_some false m n is = cc
+pub unless_found : (a : Bool) (x : Option ℕ) (n : ℕ) → (if a then None else x) ≡ Some n
+    → (a ≡ false) × (x ≡ Some n)
+unless_found true x n is = cc
+unless_found false x n is = (refl, is)
 
 kind_is : (is_allow kind : Bool) → (if is_allow then kind else not kind) ≡ true → kind ≡ is_allow
 kind_is true kind is = is
@@ -85,7 +172,8 @@ pub like_found : (is_empty : ℕ → Bool) (rules : List PlacedRule) (is_allow :
 like_found is_empty rules is_allow pattern other found =
     let (k, one, below, at, gives) =
     first_found (line_if (is_like is_empty is_allow pattern)) rules other found in
-    let (is, line) = if_some _ one.line other gives in
+    let (is, same_line) = if_found _ (Some one.line) other gives in
+    let line = same_Some _ _ same_line in
     let (stated, like) = both _ _ is in
     let (kind, same) = both _ _ like in (
       one,
@@ -119,13 +207,14 @@ listed rules placed is_allow number has kind at =
     subst (λ (b : Bool). Contains rules (record { rule = (placed.rule.0, b); line = number })) kind
     (subst (λ (n : ℕ). Contains rules (record { rule = placed.rule; line = n })) at has)
 
-conflict_is : (is_empty : ℕ → Bool) (lines : List LineValue) (number other : ℕ) (agent : List ℕ)
+pub conflict_is : (is_empty : ℕ → Bool) (lines : List LineValue) (number other : ℕ) (agent : List ℕ)
     → conflict_for is_empty lines number agent ≡ Some other → IsConflict is_empty agent lines number other
 conflict_is is_empty lines number other agent holds =
     let rules = placed_rules agent lines in
     let (k, placed, below, at, gives) =
     first_found (at_line number (allow_beside is_empty rules)) rules other holds in
-    let (here, denies, found) = if_both (placed.line == number) placed.rule.1 _ other gives in
+    let (here, beside) = if_found (placed.line == number) _ other gives in
+    let (denies, found) = unless_found placed.rule.1 _ other beside in
     let pattern = compared placed.rule.0 in
     let (allow, has, permits, same, stated, line) = like_found is_empty rules true pattern other found in
     record {
@@ -139,30 +228,16 @@ conflict_is is_empty lines number other agent holds =
       stated = stated;
     }
 
-conflict_holds : (is_empty : ℕ → Bool) (lines : List LineValue) (number other : ℕ) (agent : List ℕ)
+pub conflict_holds : (is_empty : ℕ → Bool) (lines : List LineValue) (number other : ℕ) (agent : List ℕ)
     → IsConflict is_empty agent lines number other → is_some (conflict_for is_empty lines number agent) ≡ true
 conflict_holds is_empty lines number other agent is =
     let rules = placed_rules agent lines in
-    let moved = one_list agent lines is.rules rules is.are (computed_are agent lines) in
+    let own = computed_are agent lines in
     let allowed = like_holds is_empty rules true (compared is.pattern) other is.allowed is.same is.stated
-    (Contains-permutation is.rules rules _ moved is.allow) in
+    (also_listed is.are own _ is.allow) in
     first_some (at_line number (allow_beside is_empty rules)) rules
     (record { rule = (is.pattern, false); line = number })
-    (Contains-permutation is.rules rules _ moved is.disallow) (rw (eq-eqb number number refl) allowed)
-
-pub conflict_given : (is_empty : ℕ → Bool) (agents : List (List ℕ)) (lines : List LineValue)
-    (number other : ℕ) → conflict is_empty agents lines number ≡ Some other
-    → Any (λ agent. IsConflict is_empty agent lines number other) agents
-conflict_given is_empty agents lines number other holds =
-    let (k, agent, below, at, is) = first_found (conflict_for is_empty lines number) agents other holds in
-    (k, agent, below, at, conflict_is is_empty lines number other agent is)
-
-pub conflict_found : (is_empty : ℕ → Bool) (agents : List (List ℕ)) (lines : List LineValue)
-    (agent : List ℕ) (number other : ℕ) → Contains agents agent → IsConflict is_empty agent lines number other
-    → is_some (conflict is_empty agents lines number) ≡ true
-conflict_found is_empty agents lines agent number other has is =
-    first_some (conflict_for is_empty lines number) agents agent has
-    (conflict_holds is_empty lines number other agent is)
+    (also_listed is.are own _ is.disallow) (rw (eq-eqb number number refl) allowed)
 
 -- ---- patterns that are compared alike
 
@@ -233,14 +308,13 @@ conflict_never_decides is_empty agent lines rules number other text is wins are 
   decides,
   at,
 ) =
-    let moved = one_list agent lines is.rules rules is.are are in
     let (here, on, holds) = (are.held placed).0 decides.listed in
-    let (there, also, denies) = (are.held _).0 (Contains-permutation is.rules rules _ moved is.disallow) in
+    let (there, also, denies) = (are.held _).0 (also_listed is.are are _ is.disallow) in
     let place : here ≡ there = omega arith in
     let same = one_rule agent lines there placed.rule (is.pattern, false)
     (subst (λ place. HoldsRule agent lines place placed.rule) place holds) denies in
     decides.best (record { rule = (is.allowed, true); line = other })
-    (Contains-permutation is.rules rules _ moved is.allow)
+    (also_listed is.are are _ is.allow)
     (wins.0 (subst (λ (rule : Rule). Matches rule.0 text) same decides.matches))
     (inr (
       sym wins.1 ∙ ap (λ (rule : Rule). length rule.0) (sym same),

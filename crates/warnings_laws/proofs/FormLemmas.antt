@@ -1,31 +1,36 @@
 -- A line without a warning about its syntax has the form of its kind.
-use Rattle.std.proofs.Common.{◌≡◌, ◌≢◌, ◌⊎◌, inl, inr, ℕ, false, List, [], ◌∷◌, ◌++◌}
-use Rattle.std.proofs.Common.{ap, append-nil, codes, refl, subst, sym, ◌∙◌}
-use Rattle.std.specs.List.{AllByRecursion as Each}
-use Rattle.std.proofs.lemmas.Bool.{not-true}
-use Rattle.texting_robots.specs.Callers.{Allow, Disallow, IsLineOf, UserAgent}
-use Rattle.texting_robots.specs.Cut.{lf}
-use Rattle.texting_robots.specs.Internal.Statement.{trimmed}
+use Rattle.std.proofs.Common.{◌≡◌, ◌≢◌, ◌⊎◌, inl, inr, ℕ, false, List, [], ◌∷◌, ◌++◌, ap, append-nil, codes}
+use Rattle.std.proofs.Common.{refl, subst, sym, ◌∙◌, ◌==◌, ◌||◌, true, Option, append_assoc, arith, length}
+use Rattle.std.proofs.Common.{not}
+use Rattle.std.proofs.lemmas.Bool.{not-true, and_parts, cases_Bool, eqb-true, eqb-false, false≢true}
+use Rattle.std.proofs.lemmas.Bool.{not-false, or_cases}
+use Rattle.texting_robots.specs.Callers.{Allow, Disallow, IsLineOf, UserAgent, CrawlDelay, LineValue, Raw}
+use Rattle.texting_robots.specs.Callers.{Sitemap}
+use Rattle.texting_robots.specs.Internal.Statement.{trimmed, IsOptionalComment}
 use Rattle.texting_robots.specs.Statement.{IsBlank, IsStatement}
-use Rattle.texting_robots.specs.Trim.{IsTrimOf}
-use Rattle.texting_robots.specs.declared.parser.statement.Kind.{Kind}
-use Rattle.texting_robots.specs.declared.parser.statement.Kind.TheVariants as kind
 use Rattle.texting_robots.proofs.TrimLemmas.{blanks_skipped, each_append, is_trimmed, trimmed_is_trim}
-use Rattle.rfc9309_laws.proofs.KeyedLemmas.{word_of}
-use Rattle.rfc9309_laws.specs.LineForms.{HasForm}
+use Rattle.robots_warnings.specs.Contents.{comment_of, has_odd_comment, has_odd_space, raw_value, tail_of}
+use Rattle.robots_warnings.specs.Contents.{are_digits, is_plain_number}
+use Rattle.robots_warnings.specs.FieldNames.{is_misspelled, is_without_colon}
+use Rattle.robots_warnings.specs.Tokens.{is_product_token, is_usual_name}
+use Rattle.warnings_laws.proofs.ColonLemmas.{HasColon, has_colon, tail_is, around, after_is, before_all}
+use Rattle.warnings_laws.proofs.ColonLemmas.{before_is, from_is, from_none}
+use Rattle.warnings_laws.proofs.QuietLemmas.{keyed, named, token, Empty, Path, Star, quiet, raw_cases}
+use Rattle.warnings_laws.proofs.QuietLemmas.{raw_plain, rule_value, not_quiet, in_order, IsQuietDirective}
+use Rattle.warnings_laws.proofs.QuietLemmas.{value_units}
+use Rattle.warnings_laws.specs.Syntax.{AreQuiet, IsQuietLine, form_of}
+use Rattle.robots_warnings.specs.Rules.{after_byte, before_byte, has}
+use Rattle.rfc9309_laws.proofs.KeyedLemmas.{has_at, word_of}
+use Rattle.std.specs.{List.AllByRecursion as Each, Char.is_ascii_digit, Str.is_utf8}
+use Rattle.texting_robots.specs.{Cut.lf, Trim.IsTrimOf, declared.parser.statement.Kind.Kind}
+use Rattle.rfc9309_laws.proofs.{HasFormLemmas.blank, SyntaxLemmas.passing}
+use Rattle.rfc9309_laws.specs.{LineForms.HasForm}
+use Rattle.robots_warnings.specs.{Checks.rule_checks, Table.topic_of, File.is_blank}
+use Rattle.warnings_laws.proofs.{WarningLemmas.is_stated}
+use Rattle.std.proofs.{lemmas.Bool.Decides.nat_tests}
+use Rattle.texting_robots.specs.declared.parser.statement.Kind.TheVariants as kind
 use Rattle.rfc9309_laws.specs.LineForms as form
 use Rattle.rfc9309_laws.specs.Rfc9309 as rfc
-use Rattle.robots_warnings.specs.Checks.{rule_checks}
-use Rattle.robots_warnings.specs.Contents.{comment_of, has_odd_comment, has_odd_space, raw_value, tail_of}
-use Rattle.robots_warnings.specs.FieldNames.{is_misspelled}
-use Rattle.robots_warnings.specs.Tokens.{is_product_token, is_usual_name}
-use Rattle.robots_warnings.specs.Table.{topic_of}
-use Rattle.warnings_laws.proofs.ColonLemmas.{HasColon, has_colon, tail_is}
-use Rattle.warnings_laws.proofs.LineLemmas.{keyed, named, token}
-use Rattle.warnings_laws.proofs.QuietLemmas.{Empty, IsQuietDirective, Path, Star, quiet, raw_cases}
-use Rattle.warnings_laws.proofs.QuietLemmas.{raw_plain, rule_value}
-use Rattle.warnings_laws.proofs.TextLemmas.{around}
-use Rattle.warnings_laws.specs.Syntax.{AreQuiet, IsQuietLine}
 
 -- ---- values
 
@@ -66,11 +71,12 @@ value_plain kind value written body line same =
 
 -- ---- user-agent lines
 
-agent_line : (value body : List ℕ) → IsStatement kind.UserAgent value body
-    → IsQuietDirective (UserAgent value) body → HasForm form.Agent body
+pub agent_form : (value body : List ℕ) → IsLineOf (UserAgent value) body → IsQuietLine (UserAgent value) body
+    → HasForm form.Agent body
 unfolding topic_of
-agent_line value body is quiets =
-    let line = has_colon kind.UserAgent value body is quiets.with_colon in
+agent_form value body of all =
+    let quiets = quiet (UserAgent value) body all in
+    let line = has_colon kind.UserAgent value body (is_stated (UserAgent value) body of) quiets.with_colon in
     let same = raw_is kind.UserAgent value body line (not-true _ quiets.raw.0) in
     let name = named (is_product_token value) (is_usual_name value) quiets.value.0 quiets.value.1.0 in (
       value,
@@ -79,20 +85,6 @@ agent_line value body is quiets =
         keyed kind.UserAgent value body line value quiets.spelled same quiets.comment,
       ),
     )
-
-pub agent_form : (value body : List ℕ) → IsLineOf (UserAgent value) body → IsQuietLine (UserAgent value) body
-    → HasForm form.Agent body
-agent_form value body (inl (kind.UserAgent, read, is, e)) all =
-    let same : read ≡ value = cc in
-    agent_line value body (subst (λ v. IsStatement kind.UserAgent v body) same is)
-    (quiet (UserAgent value) body all)
-agent_form value body (inl (kind.Allow, read, is, e)) all = absurd cc
-agent_form value body (inl (kind.Disallow, [], is, e)) all = absurd cc
-agent_form value body (inl (kind.Disallow, b ∷ read, is, e)) all = absurd cc
-agent_form value body (inl (kind.Sitemap, read, is, e)) all = absurd cc
-agent_form value body (inl (kind.CrawlDelay, read, is, inl (delay, reads, e))) all = absurd cc
-agent_form value body (inl (kind.CrawlDelay, read, is, inr (reads, e))) all = absurd cc
-agent_form value body (inr (none, e)) all = absurd cc
 
 -- ---- rules
 
@@ -105,11 +97,12 @@ empty_rule : (word body : List ℕ) → rfc.IsKeyed word [] (body ++ lf ∷ []) 
 empty_rule word body line = ([], inl (record { value = []; is_pattern = inr (tt, refl); is_line = line }))
 
 -- `read` is what is read, and `value` what is checked: `/` for an empty Disallow
-rule_line : (kind : Kind) (read value body : List ℕ) → HasColon kind read body
-    → is_misspelled body ≡ false → has_odd_space value (tail_of body) ≡ false
+rule_line : (kind : Kind) (read value body : List ℕ) → IsStatement kind read body
+    → is_without_colon body ≡ false → is_misspelled body ≡ false → has_odd_space value (tail_of body) ≡ false
     → AreQuiet (rule_checks value) → has_odd_comment (comment_of body) ≡ false
     → IsRuleLine (word_of kind) body
-rule_line kind read value body line spelled space checks odd =
+rule_line kind read value body is with_colon spelled space checks odd =
+    let line = has_colon kind read body is with_colon in
     elim (raw_cases value (tail_of body) space) [
       | inl none ↦ empty_rule (word_of kind) body (keyed kind read body line [] spelled none odd)
       | inr same ↦
@@ -124,50 +117,196 @@ rule_line kind read value body line spelled space checks odd =
     ]
 
 allow_rule : (body : List ℕ) → IsRuleLine (codes "allow") body → HasForm form.Rule body
-allow_rule body (pattern, inl is) = (rfc.Allow pattern, inl is)
-allow_rule body (pattern, inr is) = (rfc.Allow pattern, inr is)
+allow_rule body (pattern, is) = (rfc.Allow pattern, is)
 
 disallow_rule : (body : List ℕ) → IsRuleLine (codes "disallow") body → HasForm form.Rule body
-disallow_rule body (pattern, inl is) = (rfc.Disallow pattern, inl is)
-disallow_rule body (pattern, inr is) = (rfc.Disallow pattern, inr is)
-
--- the same for the silence about an Allow, and about a Disallow
-allow_quiet : (kind : Kind) (read value body : List ℕ) → IsStatement kind read body
-    → IsQuietDirective (Allow value) body → IsRuleLine (word_of kind) body
-unfolding topic_of
-allow_quiet kind read value body is quiets =
-    rule_line kind read value body (has_colon kind read body is quiets.with_colon) quiets.spelled
-    (not-true _ quiets.raw.0) quiets.value quiets.comment
-
-disallow_quiet : (kind : Kind) (read value body : List ℕ) → IsStatement kind read body
-    → IsQuietDirective (Disallow value) body → IsRuleLine (word_of kind) body
-unfolding topic_of
-disallow_quiet kind read value body is quiets =
-    rule_line kind read value body (has_colon kind read body is quiets.with_colon) quiets.spelled
-    (not-true _ quiets.raw.0) quiets.value quiets.comment
+disallow_rule body (pattern, is) = (rfc.Disallow pattern, is)
 
 pub allow_form : (value body : List ℕ) → IsLineOf (Allow value) body → IsQuietLine (Allow value) body
     → HasForm form.Rule body
-allow_form value body (inl (kind.UserAgent, read, is, e)) all = absurd cc
-allow_form value body (inl (kind.Allow, read, is, e)) all =
-    allow_rule body (allow_quiet kind.Allow read value body is (quiet (Allow value) body all))
-allow_form value body (inl (kind.Disallow, [], is, e)) all =
-    disallow_rule body (allow_quiet kind.Disallow [] value body is (quiet (Allow value) body all))
-allow_form value body (inl (kind.Disallow, b ∷ read, is, e)) all = absurd cc
-allow_form value body (inl (kind.Sitemap, read, is, e)) all = absurd cc
-allow_form value body (inl (kind.CrawlDelay, read, is, inl (delay, reads, e))) all = absurd cc
-allow_form value body (inl (kind.CrawlDelay, read, is, inr (reads, e))) all = absurd cc
-allow_form value body (inr (none, e)) all = absurd cc
+unfolding topic_of
+allow_form value body of all =
+    let quiets = quiet (Allow value) body all in
+    elim (is_stated (Allow value) body of) [
+      | inl is ↦ allow_rule body (rule_line kind.Allow value value body is quiets.with_colon quiets.spelled
+          (not-true _ quiets.raw.0) quiets.value quiets.comment)
+      | inr (same, is) ↦ disallow_rule body (rule_line kind.Disallow [] value body is quiets.with_colon
+          quiets.spelled (not-true _ quiets.raw.0) quiets.value quiets.comment)
+    ]
 
 pub disallow_form : (value body : List ℕ) → IsLineOf (Disallow value) body
     → IsQuietLine (Disallow value) body → HasForm form.Rule body
-disallow_form value body (inl (kind.UserAgent, read, is, e)) all = absurd cc
-disallow_form value body (inl (kind.Allow, read, is, e)) all = absurd cc
-disallow_form value body (inl (kind.Disallow, [], is, e)) all = absurd cc
-disallow_form value body (inl (kind.Disallow, b ∷ read, is, e)) all =
-    disallow_rule body (disallow_quiet kind.Disallow (b ∷ read) value body is
-    (quiet (Disallow value) body all))
-disallow_form value body (inl (kind.Sitemap, read, is, e)) all = absurd cc
-disallow_form value body (inl (kind.CrawlDelay, read, is, inl (delay, reads, e))) all = absurd cc
-disallow_form value body (inl (kind.CrawlDelay, read, is, inr (reads, e))) all = absurd cc
-disallow_form value body (inr (none, e)) all = absurd cc
+unfolding topic_of
+disallow_form value body of all =
+    let quiets = quiet (Disallow value) body all in
+    disallow_rule body (rule_line kind.Disallow value value body (is_stated (Disallow value) body of).0
+    quiets.with_colon quiets.spelled (not-true _ quiets.raw.0) quiets.value quiets.comment)
+
+-- ---- delays
+
+digit : (b : ℕ) → is_ascii_digit b ≡ true → rfc.IsDigitByte b
+digit b is = (grind (arith, nat_tests), grind (arith, nat_tests))
+
+digits : (text : List ℕ) → are_digits text ≡ true → rfc.IsDigits text
+digits [] is = absurd (false≢true is)
+digits (b ∷ text) is =
+    let both = and_parts (not (length (b ∷ text) == 0)) _ is in
+    passing rfc.IsDigitByte is_ascii_digit digit (b ∷ text) both.1
+
+-- the text before a byte, that byte, and the text after it; or a text without the byte
+record IsSplitAt (stop : ℕ) (text : List ℕ) : Type 0 where
+  front : List ℕ
+  rest : List ℕ
+  whole : text ≡ front ++ stop ∷ rest
+  before : Each (λ b. b ≢ stop) front
+
+split : (stop : ℕ) (text : List ℕ) → Each (λ b. b ≢ stop) text ⊎ IsSplitAt stop text
+split stop [] = inl tt
+split stop (b ∷ text) = elim (cases_Bool (b == stop)) [
+  | inl is ↦ inr (record {
+    front = [];
+    rest = text;
+    whole = ap (λ c. c ∷ text) (eqb-true b stop is);
+    before = tt;
+  })
+  | inr other ↦ elim (split stop text) [
+    | inl none ↦ inl (eqb-false b stop other, none)
+    | inr some ↦ inr (record {
+      front = b ∷ some.front;
+      rest = some.rest;
+      whole = ap (λ t. b ∷ t) some.whole;
+      before = (eqb-false b stop other, some.before);
+    })
+  ]
+]
+
+number : (text : List ℕ) → is_plain_number text ≡ true → rfc.IsNumber text
+number text is =
+    let both = and_parts (are_digits (before_byte 46 text)) _ is in
+    elim (split 46 text) [
+      | inl none ↦ inl (digits text (rw (before_all 46 text none) at both.0))
+      | inr some ↦ inr (point text some both.0 both.1)
+    ]
+  where
+    point : (text : List ℕ) (some : IsSplitAt 46 text) → are_digits (before_byte 46 text) ≡ true
+        → (not (has 46 text) || are_digits (after_byte 46 text)) ≡ true → rfc.IsFraction text
+    point text some units fraction = record {
+      units = some.front;
+      fraction = some.rest;
+      are_units = digits some.front (rw (some.whole, before_is 46 some.front some.rest some.before) at units);
+      is_fraction = digits some.rest (rw (
+        some.whole,
+        after_is 46 some.front some.rest some.before,
+        has_at 46 some.front some.rest,
+      ) at fraction);
+      whole = some.whole;
+    }
+
+delay_form : (delay : Option ℕ) (body : List ℕ) → IsLineOf (CrawlDelay delay) body
+    → IsQuietDirective (CrawlDelay delay) body → HasForm form.Delay body
+unfolding topic_of
+delay_form delay body of quiets =
+    let (value, is) = is_stated (CrawlDelay delay) body of in
+    let line = has_colon kind.CrawlDelay value body is quiets.with_colon in
+    let raw : List ℕ = raw_value (tail_of body) in (
+      rfc.Delay raw,
+      (
+        number raw (not-false _ (not-true _ quiets.raw.0)),
+        keyed kind.CrawlDelay value body line raw quiets.spelled refl quiets.comment,
+      ),
+    )
+
+-- ---- sitemaps
+
+sitemap_form : (value body : List ℕ) → IsLineOf (Sitemap value) body
+    → IsQuietDirective (Sitemap value) body → HasForm form.Sitemap body
+unfolding topic_of
+sitemap_form value body of quiets =
+    let line = has_colon kind.Sitemap value body (is_stated (Sitemap value) body of) quiets.with_colon in
+    let same = raw_is kind.Sitemap value body line (not-true _ quiets.raw.0) in
+    let url = not-false _ (not-true _ quiets.value.1.0) in
+    let utf8 = and_parts (is_utf8 value) _ url in (
+      value,
+      (
+        value_units value utf8.0 (not-true _ quiets.value.0)
+            (value_plain kind.Sitemap value value body line same),
+        keyed kind.Sitemap value body line value quiets.spelled same quiets.comment,
+      ),
+    )
+
+-- ---- blank lines
+
+-- spaces and tabs, and possibly a comment
+record IsBlankLine (body : List ℕ) : Type 0 where
+  blanks : List ℕ
+  comment : List ℕ
+  whole : body ≡ blanks ++ comment
+  are_blank : Each rfc.IsWs blanks
+  is_comment : IsOptionalComment comment
+
+blank_line : (body : List ℕ) → is_blank body ≡ true → IsBlankLine body
+blank_line [] is = record { blanks = []; comment = []; whole = refl; are_blank = tt; is_comment = inl refl }
+blank_line (b ∷ body) is = elim (or_cases (b == 35) _ is) [
+  | inl hash ↦ record {
+    blanks = [];
+    comment = b ∷ body;
+    whole = refl;
+    are_blank = tt;
+    is_comment = inr (body, ap (λ c. c ∷ body) (eqb-true b 35 hash));
+  }
+  | inr rest ↦
+      let both = and_parts (b == 32 || b == 9) (is_blank body) rest in
+      let line = blank_line body both.1 in
+      record {
+        blanks = b ∷ line.blanks;
+        comment = line.comment;
+        whole = ap (λ t. b ∷ t) line.whole;
+        are_blank = (blank b both.0, line.are_blank);
+        is_comment = line.is_comment;
+      }
+]
+
+no_hash : (blanks : List ℕ) → Each rfc.IsWs blanks → Each (λ b. b ≢ 35) blanks
+no_hash [] all = tt
+no_hash (b ∷ blanks) all = (λ e. omega arith, no_hash blanks all.1)
+
+comment_there : (blanks comment : List ℕ) → Each rfc.IsWs blanks → IsOptionalComment comment
+    → comment_of (blanks ++ comment) ≡ comment
+comment_there blanks comment all (inl none) = rw (none, append-nil) (from_none 35 blanks (no_hash blanks all))
+comment_there blanks comment all (inr (text, is)) = rw is (from_is 35 blanks text (no_hash blanks all))
+
+blank_form : (body : List ℕ) → is_blank body ≡ true → has_odd_comment (comment_of body) ≡ false
+    → HasForm form.Empty body
+blank_form body is odd =
+    let line = blank_line body is in
+    let found = comment_there line.blanks line.comment line.are_blank line.is_comment in
+    record {
+      blanks = line.blanks;
+      comment = line.comment;
+      nl = lf ∷ [];
+      whole = ap (λ t. t ++ lf ∷ []) line.whole ∙ simp append_assoc;
+      are_blanks = line.are_blank;
+      is_comment = in_order line.comment line.is_comment (rw (line.whole, found) at odd);
+      is_nl = inr (inl refl);
+    }
+
+-- an ignored line is blank, since otherwise there is a warning
+raw_form : (content body : List ℕ) → content ≡ body → IsQuietLine (Raw content) body → HasForm form.Empty body
+unfolding topic_of
+raw_form content body same all = elim (cases_Bool (is_blank content)) [
+  | inl is ↦
+      let texts = rw is at all in
+      blank_form body (rw same at is) (not-true _ texts.1.0)
+  | inr isnt ↦ let texts = rw isnt at all in absurd (not_quiet content texts.0)
+]
+
+-- ---- all kinds
+
+pub line_form : (line : LineValue) (body : List ℕ) → IsLineOf line body → IsQuietLine line body
+    → HasForm (form_of line) body
+line_form (UserAgent value) body is all = agent_form value body is all
+line_form (Allow value) body is all = allow_form value body is all
+line_form (Disallow value) body is all = disallow_form value body is all
+line_form (CrawlDelay delay) body is all = delay_form delay body is (quiet (CrawlDelay delay) body all)
+line_form (Sitemap value) body is all = sitemap_form value body is (quiet (Sitemap value) body all)
+line_form (Raw content) body is all = raw_form content body (is_stated (Raw content) body is) all

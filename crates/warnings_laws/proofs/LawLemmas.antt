@@ -1,28 +1,69 @@
--- Every file has an audit, and without `--needless` only one.
-use Rattle.std.proofs.Common.{◌≡◌, ◌⊎◌, ℕ, suc, Bool, false, true, List, [], ◌∷◌, ◌++◌, Contains, ap, ap₂}
-use Rattle.std.proofs.Common.{arith, inl, inr, None, Option, Some, refl, subst, sym, take, ◌∙◌}
-use Rattle.std.specs.Bool.{Decides}
-use Rattle.std.specs.List.{All, AllZip}
-use Rattle.std.proofs.lemmas.Bool.{false≢true}
-use Rattle.std.proofs.lemmas.List.Elements.{All-cons, All-head, All-nil, All-tail}
-use Rattle.texting_robots.specs.Callers.{IsFirstOverlong, IsOverlong, IsRejected, LineValue, PlacedRule, Rule}
-use Rattle.texting_robots.specs.Callers.{delay_for, file_limit, lines_read, placed_rules, unplaced}
-use Rattle.texting_robots.specs.declared.decision.Decision.{Decision}
-use Rattle.texting_robots.proofs.BestLemmas.{each_text_answered}
-use Rattle.texting_robots.proofs.ExampleLemmas.{overlong_decides}
-use Rattle.texting_robots.proofs.HeldLemmas.{rejection_is_computed}
+-- Every file has an audit, and without `--needless` only one. Needless rules can be deleted together.
+use Rattle.std.proofs.Common.{◌≡◌, ◌≢◌, ◌≤◌, ◌↔◌, ℕ, Bool, inl, inr, List, [], ◌∷◌, Contains, IsUtf8, arith}
+use Rattle.std.proofs.Common.{codes, length, ltb-false, refl, subst, subst₂, sym, take, take_all, ◌⊎◌, suc}
+use Rattle.std.proofs.Common.{false, true, ◌++◌, ap, ap₂, None, Option, Some, ◌∙◌}
+use Rattle.std.proofs.lemmas.Bool.{cases_Bool, false≢true}
+use Rattle.texting_robots.specs.Callers.{IsVerdict, LineValue, PlacedRule, agents_in, placed_rules}
+use Rattle.texting_robots.specs.Callers.{file_limit, rules_for, IsFirstOverlong, IsOverlong, IsRejected}
+use Rattle.texting_robots.specs.Callers.{Rule, delay_for, lines_read, unplaced}
+use Rattle.robots_needless.specs.Deleted.{AreFoundIn, HaveSameRobot, IsLeftOf}
+use Rattle.robots_needless.specs.Needless.{AreFound, AreNeedless, lines_without, numbers_of}
+use Rattle.robots_needless.proofs.LeftLemmas.{left_within, same_robot}
+use Rattle.audit_core.specs.Audit.{AuditValue, IsAuditOf, AgentValue, IsAgentAudit, IsRuling, IsVerdictOn}
+use Rattle.audit_core.specs.Audit.{VerdictValue, agents_requested, group_of, labels_requested, rejects_some}
+use Rattle.audit_core.specs.Audit.{warnings_found, warnings_requested}
+use Rattle.std.specs.List.{All, AllByRecursion as Each, AllZip}
+use Rattle.std.proofs.lemmas.List.Elements.{All-cons, All-nil, recursion_from_All}
 use Rattle.texting_robots.proofs.RulesLemmas.{none_unplaced, some_overlong}
 use Rattle.texting_robots.proofs.VerdictLemmas.{one_line_decides, one_verdict}
-use Rattle.robots_io.specs.Verdicts.{IsDecisionOn}
-use Rattle.robots_needless.proofs.SettledLemmas.{nothing_found}
-use Rattle.audit_core.specs.Asked.{asked_target}
-use Rattle.audit_core.specs.Audit.{AgentValue, AuditValue, IsAgentAudit, IsAuditOf, IsRuling}
-use Rattle.audit_core.specs.Request.{RequestValue}
-use Rattle.audit_core.specs.Audit.{IsVerdictOn}
-use Rattle.audit_core.specs.Audit.{VerdictValue, agents_requested, group_of, labels_requested}
-use Rattle.audit_core.specs.Audit.{rejects_some, warnings_found, warnings_requested}
-use Rattle.audit_core.specs.Syntax.{syntax_of}
-use Rattle.robots_warnings.specs.Facts.{is_too_large}
+use Rattle.robots_needless.specs.{declared.needless.NeedlessRule.NeedlessRule}
+use Rattle.robots_warnings.specs.{Facts.is_too_large}
+use Rattle.audit_core.specs.{Request.RequestValue, Asked.asked_target, Syntax.syntax_of}
+use Rattle.std.specs.{Bool.Decides}
+use Rattle.texting_robots.specs.{declared.decision.Decision.Decision}
+use Rattle.texting_robots.proofs.{BestLemmas.each_text_answered, ExampleLemmas.overlong_decides}
+use Rattle.texting_robots.proofs.{HeldLemmas.rejection_is_computed}
+use Rattle.robots_io.specs.{Verdicts.IsDecisionOn}
+use Rattle.robots_needless.proofs.{SettledLemmas.nothing_found}
+
+-- a crawler with this name decides each text as it does without the found lines
+abbrev DecidesAlike : List LineValue → List NeedlessRule → List ℕ → Type 0
+DecidesAlike lines found agent = (text : List ℕ) (answer : Bool)
+    → IsVerdict (rules_for agent lines) text answer
+    ↔ IsVerdict (rules_for agent (lines_without (numbers_of found) lines)) text answer
+
+-- a crawler that has the rules of one of those for which the found lines are needless
+pub alike : (lines : List LineValue) (found : List NeedlessRule) (agent other : List ℕ) → AreFound lines found
+    → Contains (codes "*" ∷ agents_in lines) other → placed_rules agent lines ≡ placed_rules other lines
+    → DecidesAlike lines found agent
+alike lines found agent other are has same =
+    let needless : AreNeedless (placed_rules agent lines) (numbers_of found) =
+    subst (λ (rules : List PlacedRule). AreNeedless rules (numbers_of found)) (sym same)
+    (are.together other has) in
+    λ text answer. rw (are.deleted agent) (needless text answer)
+
+-- ---- the bytes of a file
+
+-- if needless lines are found, the whole file is read
+all_read : (requested : RequestValue) (file : List ℕ) (audit : AuditValue)
+    (is : IsAuditOf requested file audit)
+    → is.needless ≢ [] → length file ≤ file_limit
+all_read requested file audit is some = elim (cases_Bool (is_too_large file)) [
+  | inl large ↦ absurd (some (is.too_large large))
+  | inr small ↦ ltb-false file_limit (length file) small
+]
+
+pub robot_stays : (requested : RequestValue) (file left : List ℕ) (audit : AuditValue) (agent : List ℕ)
+    → (is : IsAuditOf requested file audit) → is.needless ≢ [] → IsLeftOf (numbers_of is.needless) file left
+    → IsUtf8 agent → HaveSameRobot agent (take file_limit file) (take file_limit left)
+robot_stays requested file left audit agent is some deleted utf8 =
+    let short = all_read requested file audit is some in
+    let whole = take_all file_limit file short in
+    let less = left_within (numbers_of is.needless) file left deleted in
+    let all_left = take_all file_limit left (omega (arith, short, less)) in
+    subst₂ (HaveSameRobot agent) (sym whole) (sym all_left)
+    (same_robot file left is.needless (subst (λ f. AreFoundIn f is.needless) whole is.needless_are) some
+    deleted agent utf8)
 
 -- ---- uniqueness
 
@@ -51,32 +92,29 @@ verdict_once rules url one two is too =
     ap₂ (λ url decision. record { url = url; decision = decision }) (is.url_is ∙ sym too.url_is)
     (decided_once rules (asked_target url) one.decision two.decision is.decided too.decided)
 
+abbrev IsShort : PlacedRule → Type 0
+IsShort placed = ¬ IsOverlong placed.rule.0
+
 -- if a list is split before its first overlong rule in two ways, it is the same rule
 cut_once : (front others : List PlacedRule) (one two : PlacedRule) (back after : List PlacedRule)
-    → front ++ one ∷ back ≡ others ++ two ∷ after
-    → All (λ (rule : PlacedRule). ¬ IsOverlong rule.rule.0) front
-    → All (λ (rule : PlacedRule). ¬ IsOverlong rule.rule.0) others → IsOverlong one.rule.0
-    → IsOverlong two.rule.0 → one ≡ two
+    → front ++ one ∷ back ≡ others ++ two ∷ after → Each IsShort front → Each IsShort others
+    → IsOverlong one.rule.0 → IsOverlong two.rule.0 → one ≡ two
 cut_once [] [] one two back after same first second here there = cc
 cut_once [] (rule ∷ others) one two back after same first second here there =
     let is : one ≡ rule = cc in
-    absurd (All-head (λ (rule : PlacedRule). ¬ IsOverlong rule.rule.0) rule others second
-    (subst (λ (rule : PlacedRule). IsOverlong rule.rule.0) is here))
+    absurd (second.0 (subst (λ (rule : PlacedRule). IsOverlong rule.rule.0) is here))
 cut_once (rule ∷ front) [] one two back after same first second here there =
     let is : two ≡ rule = cc in
-    absurd (All-head (λ (rule : PlacedRule). ¬ IsOverlong rule.rule.0) rule front first
-    (subst (λ (rule : PlacedRule). IsOverlong rule.rule.0) is there))
+    absurd (first.0 (subst (λ (rule : PlacedRule). IsOverlong rule.rule.0) is there))
 cut_once (rule ∷ front) (other ∷ others) one two back after same first second here there =
-    let later : front ++ one ∷ back ≡ others ++ two ∷ after = cc in
-    cut_once front others one two back after later
-    (All-tail (λ (rule : PlacedRule). ¬ IsOverlong rule.rule.0) rule front first)
-    (All-tail (λ (rule : PlacedRule). ¬ IsOverlong rule.rule.0) other others second) here there
+    cut_once front others one two back after (cc) first.1 second.1 here there
 
 line_once : (rules : List PlacedRule) (one two : ℕ) → IsFirstOverlong rules one → IsFirstOverlong rules two
     → one ≡ two
 line_once rules one two is too =
     let same = cut_once is.front too.front is.placed too.placed is.back too.back (sym is.whole ∙ too.whole)
-    is.accepted too.accepted is.overlong too.overlong in
+    (recursion_from_All IsShort is.front is.accepted) (recursion_from_All IsShort too.front too.accepted)
+    is.overlong too.overlong in
     sym is.line ∙ ap (λ (placed : PlacedRule). placed.line) same ∙ too.line
 
 not_both : (lines : List LineValue) (agent : List ℕ) (line : ℕ) → ¬ IsRejected agent lines
@@ -103,27 +141,20 @@ agent_once : (urls : List (List ℕ)) (lines : List LineValue) (agent : List ℕ
 agent_once urls lines agent one two is too =
     let (line, verdicts) =
     ruling_once urls lines agent one.rejected two.rejected one.verdicts two.verdicts is.ruling too.ruling in
-    ap₂ (λ agent group. record {
-      agent = agent;
-      group = group;
+    let same : ◌≡◌ {A = AgentValue} (record {
+      agent = one.agent;
+      group = one.group;
       delay = one.delay;
       rejected = one.rejected;
       verdicts = one.verdicts;
-    }) (is.agent_is ∙ sym too.agent_is) (is.group_is ∙ sym too.group_is)
-    ∙ ap₂ (λ delay verdicts. record {
-      agent = two.agent;
-      group = two.group;
-      delay = delay;
-      rejected = one.rejected;
-      verdicts = verdicts;
-    }) (is.delay_is ∙ sym too.delay_is) verdicts
-    ∙ ap (λ rejected. record {
+    }) (record {
       agent = two.agent;
       group = two.group;
       delay = two.delay;
-      rejected = rejected;
+      rejected = two.rejected;
       verdicts = two.verdicts;
-    }) line
+    }) = cc in
+    same
 
 pub same_audit : (requested : RequestValue) (file : List ℕ) (audit other : AuditValue)
     → (is : IsAuditOf requested file audit) → (too : IsAuditOf requested file other)
@@ -133,29 +164,22 @@ same_audit requested file audit other is too same =
     let labels = labels_requested requested file in
     let agents = zip_once (IsAgentAudit requested.urls lines) (agent_once requested.urls lines)
     (agents_requested requested.agents lines) audit.agents other.agents is.agents_are too.agents_are in
-    ap₂ (λ labels warnings. record {
-      labels = labels;
+    let warnings =
+    is.warnings_are ∙ ap (warnings_requested requested file labels) same ∙ sym too.warnings_are in
+    let syntax = is.syntax_is ∙ ap₂ (λ agents needless. syntax_of requested.agent (is_too_large file)
+    (rejects_some agents) (warnings_found requested file labels needless)) agents same ∙ sym too.syntax_is in
+    let equal : ◌≡◌ {A = AuditValue} (record {
+      labels = audit.labels;
       agents = audit.agents;
-      warnings = warnings;
+      warnings = audit.warnings;
       syntax = audit.syntax;
-    }) (is.labels_are ∙ sym too.labels_are)
-    (is.warnings_are ∙ ap (warnings_requested requested file labels) same ∙ sym too.warnings_are)
-    ∙ ap₂ (λ agents syntax. record {
+    }) (record {
       labels = other.labels;
-      agents = agents;
+      agents = other.agents;
       warnings = other.warnings;
-      syntax = syntax;
-    }) agents
-    (is.syntax_is
-    ∙ ap₂ (λ agents needless. syntax_of requested.agent (is_too_large file) (rejects_some agents)
-    (warnings_found requested file labels needless)) agents same
-    ∙ sym too.syntax_is)
-
-pub one_audit : (requested : RequestValue) (file : List ℕ) (audit other : AuditValue)
-    → requested.has_needless ≡ false → IsAuditOf requested file audit → IsAuditOf requested file other
-    → audit ≡ other
-one_audit requested file audit other off is too =
-    same_audit requested file audit other is too (is.unrequested off ∙ sym (too.unrequested off))
+      syntax = other.syntax;
+    }) = cc in
+    equal
 
 -- ---- existence
 
@@ -180,14 +204,14 @@ some_verdict rules url =
 
 -- either no rule is overlong, or there is a first one
 first_overlong : (rules : List PlacedRule)
-    → All (λ (rule : PlacedRule). ¬ IsOverlong rule.rule.0) rules ⊎ ((line : ℕ) × IsFirstOverlong rules line)
-first_overlong [] = inl (All-nil (λ (rule : PlacedRule). ¬ IsOverlong rule.rule.0))
+    → All IsShort rules ⊎ ((line : ℕ) × IsFirstOverlong rules line)
+first_overlong [] = inl (All-nil IsShort)
 first_overlong (rule ∷ rules) = by _ (overlong_decides rule.rule.0) (first_overlong rules)
   where
     by : (is : Bool) → Decides is (IsOverlong rule.rule.0)
-        → All (λ (rule : PlacedRule). ¬ IsOverlong rule.rule.0) rules
+        → All IsShort rules
         ⊎ ((line : ℕ) × IsFirstOverlong rules line)
-        → All (λ (rule : PlacedRule). ¬ IsOverlong rule.rule.0) (rule ∷ rules)
+        → All IsShort (rule ∷ rules)
         ⊎ ((line : ℕ) × IsFirstOverlong (rule ∷ rules) line)
     by true decides later = inr (
       rule.line,
@@ -196,13 +220,13 @@ first_overlong (rule ∷ rules) = by _ (overlong_decides rule.rule.0) (first_ove
         placed = rule;
         back = rules;
         whole = refl;
-        accepted = All-nil (λ (rule : PlacedRule). ¬ IsOverlong rule.rule.0);
+        accepted = All-nil IsShort;
         overlong = decides.0 refl;
         line = refl;
       },
     )
     by false decides (inl none) =
-        inl (All-cons (λ (rule : PlacedRule). ¬ IsOverlong rule.rule.0) rule rules
+        inl (All-cons IsShort rule rules
         (λ overlong. absurd (false≢true (decides.1 overlong))) none)
     by false decides (inr (line, is)) = inr (
       line,
@@ -211,7 +235,7 @@ first_overlong (rule ∷ rules) = by _ (overlong_decides rule.rule.0) (first_ove
         placed = is.placed;
         back = is.back;
         whole = ap (λ rules. rule ∷ rules) is.whole;
-        accepted = All-cons (λ (rule : PlacedRule). ¬ IsOverlong rule.rule.0) rule is.front
+        accepted = All-cons IsShort rule is.front
             (λ overlong. absurd (false≢true (decides.1 overlong))) is.accepted;
         overlong = is.overlong;
         line = is.line;
@@ -222,7 +246,7 @@ some_agent : (urls : List (List ℕ)) (lines : List LineValue) (agent : List ℕ
     → (value : AgentValue) × IsAgentAudit urls lines agent value
 some_agent urls lines agent = by (first_overlong (placed_rules agent lines))
   where
-    by : All (λ (rule : PlacedRule). ¬ IsOverlong rule.rule.0) (placed_rules agent lines)
+    by : All IsShort (placed_rules agent lines)
         ⊎ ((line : ℕ) × IsFirstOverlong (placed_rules agent lines) line)
         → (value : AgentValue) × IsAgentAudit urls lines agent value
     by (inl none) =

@@ -1,27 +1,133 @@
--- What the silence about a directive says of its parts.
-use Rattle.std.proofs.Common.{◌≡◌, ◌≢◌, ◌⊎◌, inl, inr, ℕ, ◌==◌, ◌||◌}
-use Rattle.std.proofs.Common.{◌&&◌, Bool, true, false, List, [], ◌∷◌, ◌++◌}
-use Rattle.std.proofs.Common.{ap, bytes_eq, if◌then◌else◌, length, not, refl, subst, sym, nat_le, nat_lt}
-use Rattle.std.specs.List.{AllByRecursion as Each, list_all}
-use Rattle.std.specs.Str.{is_utf8}
-use Rattle.std.proofs.Common.{arith}
-use Rattle.std.proofs.lemmas.Bool.{and_from, cases_Bool, eqb-true, false≢true, ne_eqb, not-false, not-true}
-use Rattle.std.proofs.lemmas.Bool.{or_cases, or_parts}
-use Rattle.std.proofs.lemmas.{Bool.Decides.nat_tests, Slice.Eq.bytes_eq-Decides}
-use Rattle.texting_robots.specs.Callers.{LineValue}
-use Rattle.rfc9309_laws.proofs.{EachLemmas.each_front, Utf8Lemmas.value_text}
-use Rattle.rfc9309_laws.specs.HasForm.{is_value_byte}
-use Rattle.rfc9309_laws.specs.Rfc9309 as rfc
-use Rattle.robots_warnings.specs.Checks.{Check, directive_checks, raw_checks}
-use Rattle.robots_warnings.specs.Checks.{rule_checks, text_checks, value_checks}
-use Rattle.robots_warnings.specs.Contents.{comment_of, has_odd_comment, has_odd_space, raw_value, tail_of}
-use Rattle.robots_warnings.specs.FieldNames.{is_misspelled, is_without_colon}
+-- What the silence about a line says of its parts. An ignored line that isn't blank has a warning about its
+-- syntax.
+use Rattle.std.proofs.Common.{◌≡◌, ◌⊎◌, inl, inr, ℕ, ◌==◌, ◌&&◌, Bool, true, false, List, [], ◌∷◌, ◌++◌, ap}
+use Rattle.std.proofs.Common.{append_assoc, arith, bytes_eq, codes, length, not, refl, sym, ◌∙◌, nat_lt}
+use Rattle.std.proofs.Common.{◌≢◌, ◌||◌, if◌then◌else◌, subst, nat_le, None, Option, Some, unwrap_or}
+use Rattle.std.specs.List.{list_all, list_any, AllByRecursion as Each}
+use Rattle.std.proofs.lemmas.Bool.{and_from, and_parts, false≢true, not-false, or_cases, or_parts}
+use Rattle.std.proofs.lemmas.Bool.{cases_Bool, eqb-true, ne_eqb, not-true}
+use Rattle.std.proofs.lemmas.Str.{IsCharBoundary-after_ascii, IsUtf8-drop, IsUtf8-from_is_utf8}
+use Rattle.std.proofs.lemmas.Str.{is_utf8-from_IsUtf8}
+use Rattle.rfc9309_laws.proofs.SyntaxLemmas.{passing, each_front}
+use Rattle.rfc9309_laws.proofs.CharLemmas.{comment_text, value_text}
+use Rattle.rfc9309_laws.specs.HasForm.{is_comment_byte, is_value_byte}
+use Rattle.robots_warnings.specs.Contents.{comment_of, has_odd_comment, is_control, raw_value, tail_of}
+use Rattle.robots_warnings.specs.Contents.{has_odd_space}
+use Rattle.robots_warnings.specs.FieldNames.{is_misspelled, without_front, is_without_colon, Row}
+use Rattle.robots_warnings.specs.FieldNames.{directive_in, directives, first_that, first_word, is_accepted}
+use Rattle.robots_warnings.specs.FieldNames.{is_either, may_either_mean, meant_by, name_in, unsupported}
+use Rattle.robots_warnings.specs.FieldNames.{unsupported_in}
+use Rattle.robots_warnings.specs.Tokens.{is_product_token, is_token_byte}
+use Rattle.warnings_laws.proofs.ColonLemmas.{HasColon, comment_is, front_kept, tail_is}
+use Rattle.warnings_laws.proofs.ColonLemmas.{solid_key, usual_key, around}
+use Rattle.robots_warnings.specs.Checks.{Check, directive_checks, raw_checks, rule_checks, text_checks}
+use Rattle.robots_warnings.specs.Checks.{value_checks}
 use Rattle.robots_warnings.specs.Rules.{begins_oddly, has_odd_start, is_quoted, somewhere}
 use Rattle.robots_warnings.specs.SeveralValues.{begins_next_value, has_several_values}
-use Rattle.robots_warnings.specs.Urls.{begins_as_url}
-use Rattle.robots_warnings.specs.Table.{topic_of}
-use Rattle.warnings_laws.proofs.{LineLemmas.utf8_after, TextLemmas.around}
+use Rattle.robots_warnings.specs.Table.{topic_of, is_not_about_syntax}
 use Rattle.warnings_laws.specs.Syntax.{AreQuiet, is_quiet}
+use Rattle.std.specs.{Str.is_utf8, Option.option_or}
+use Rattle.std.proofs.{lemmas.Bool.Decides.nat_tests, lemmas.Slice.Eq.bytes_eq-Decides}
+use Rattle.texting_robots.specs.{Cut.lf, Internal.Statement.IsOptionalComment}
+use Rattle.texting_robots.specs.{declared.parser.statement.Kind.Kind, Callers.LineValue}
+use Rattle.rfc9309_laws.proofs.KeyedLemmas.{leading_gone, word_of}
+use Rattle.robots_warnings.specs.{Urls.begins_as_url, declared.table.Cause.Cause}
+use Rattle.rfc9309_laws.specs.Rfc9309 as rfc
+use Rattle.texting_robots.specs.declared.parser.statement.Kind.TheVariants as kind
+use Rattle.robots_warnings.specs.declared.table.Cause.TheVariants as cause
+
+-- ---- UTF-8
+
+pub utf8_after : (b : ℕ) (text : List ℕ) → is_utf8 (b ∷ text) ≡ true → nat_lt b 128 ≡ true
+    → is_utf8 text ≡ true
+utf8_after b text is small =
+    let all = IsUtf8-from_is_utf8 (b ∷ text) is in
+    is_utf8-from_IsUtf8 text (IsUtf8-drop (b ∷ text) 1 all
+    (IsCharBoundary-after_ascii (b ∷ text) 0 all (omega arith) (grind (arith, nat_tests))))
+
+-- ---- a comment
+
+comment_bytes : (text : List ℕ) → list_any is_control text ≡ false → list_all is_comment_byte text ≡ true
+comment_bytes [] none = refl
+comment_bytes (b ∷ text) none =
+    let parts = or_parts (is_control b) (list_any is_control text) none in
+    and_from (is_comment_byte b) _ (one b parts.0) (comment_bytes text parts.1)
+  where
+    one : (b : ℕ) → is_control b ≡ false → is_comment_byte b ≡ true
+    one b isnt = grind (arith, nat_tests)
+
+pub in_order : (comment : List ℕ) → IsOptionalComment comment → has_odd_comment comment ≡ false
+    → (comment ≡ []) ⊎ rfc.IsComment comment
+in_order comment (inl none) is = inl none
+in_order comment (inr (text, whole)) is =
+    let parts = or_parts (list_any is_control (35 ∷ text)) (not (is_utf8 (35 ∷ text))) (rw whole at is) in
+    inr (record {
+      text = text;
+      is_text = comment_text text (and_from (is_utf8 text) _
+          (utf8_after 35 text (not-false _ parts.1) refl) (comment_bytes text parts.0));
+      whole = whole;
+    })
+
+-- ---- a line with a field name, a colon and a value
+
+pub keyed : (kind : Kind) (value body : List ℕ) (line : HasColon kind value body) (written : List ℕ)
+    → is_misspelled body ≡ false → raw_value (tail_of body) ≡ written
+    → has_odd_comment (comment_of body) ≡ false
+    → rfc.IsKeyed (word_of kind) written (body ++ lf ∷ [])
+keyed kind value body line written spelled is odd =
+    let parts = around line.region in
+    let raw : raw_value line.region ≡ written = ap raw_value (sym (tail_is kind value body line)) ∙ is in
+    let comment = in_order line.comment line.is_comment (rw (comment_is kind value body line) at odd) in
+    let key : List ℕ = line.key in
+    let rest : List ℕ = line.blanks ++ 58 ∷ (line.region ++ line.comment) in
+    let same : body ≡ line.margin ++ (key ++ rest) = line.whole ∙ simp append_assoc in
+    let starts : without_front body ≡ key ++ rest =
+    ap without_front same ∙ leading_gone line.margin (key ++ rest) line.margin_blank
+    ∙ front_kept key rest (solid_key kind key line.is_key) in
+    record {
+      margin = line.margin;
+      key = key;
+      blanks = line.blanks;
+      gap = parts.front;
+      eol = parts.back ++ (line.comment ++ lf ∷ []);
+      whole = ap (λ t. t ++ lf ∷ []) (line.whole
+          ∙ ap (λ r. (line.margin ++ (key ++ line.blanks)) ++ 58 ∷ (r ++ line.comment))
+          (parts.whole ∙ ap (λ v. parts.front ++ (v ++ parts.back)) raw))
+          ∙ simp append_assoc;
+      margin_blank = line.margin_blank;
+      is_key = usual_key kind key rest line.is_key (rw starts at (not-false _ spelled));
+      blanks_blank = line.blanks_blank;
+      gap_blank = parts.front_blank;
+      is_eol = record {
+        blanks = parts.back;
+        comment = line.comment;
+        nl = lf ∷ [];
+        whole = refl;
+        are_blanks = parts.back_blank;
+        is_comment = comment;
+        is_nl = inr (inl refl);
+      };
+    }
+
+-- ---- user-agent lines
+
+token_byte : (b : ℕ) → is_token_byte b ≡ true → rfc.IsIdentifierByte b
+token_byte b is = grind (arith, nat_tests)
+
+pub token : (value : List ℕ) → is_product_token value ≡ true → rfc.IsProductToken value
+token [] is = absurd (false≢true is)
+token (b ∷ value) is = elim (or_cases (bytes_eq (b ∷ value) (codes "*")) _ is) [
+  | inl star ↦ inr ((bytes_eq-Decides (b ∷ value) (codes "*")).0 star)
+  | inr word ↦
+      let both = and_parts (not (length (b ∷ value) == 0)) _ word in
+      inl (passing rfc.IsIdentifierByte is_token_byte token_byte (b ∷ value) both.1)
+]
+
+-- a value that is neither an invalid nor an unusual name is a product token
+pub named : (is usual : Bool) → not (not is && not usual) ≡ true → not (not is && usual) ≡ true → is ≡ true
+named true usual one two = refl
+named false true one two = absurd (false≢true two)
+named false false one two = absurd (false≢true one)
 
 -- ---- the checks
 
@@ -142,7 +248,7 @@ later : (b : ℕ) (text : List ℕ) → somewhere begins_next_value (b ∷ text)
     → somewhere begins_next_value text ≡ false
 later b text none = (or_parts (begins_next_value (b ∷ text)) (somewhere begins_next_value text) none).1
 
-second : (x y : Bool) → x ≡ true → (x && y) ≡ false → y ≡ false
+pub second : (x y : Bool) → x ≡ true → (x && y) ≡ false → y ≡ false
 second true y is both = both
 second false y is both = absurd (false≢true is)
 
@@ -160,3 +266,51 @@ rule_value (b ∷ text) (utf8, (starts, (url, (escapes, (quoted, (regex, (dollar
       | inl slash ↦ Path (record { text = text; is_text = units; whole = ap (λ c. c ∷ text) slash })
       | inr star ↦ Star (record { text = text; is_text = units; whole = ap (λ c. c ∷ text) star })
     ]
+
+-- the warning, if there is one, is about syntax
+abbrev IsAboutSyntax : Option Cause → Type 0
+IsAboutSyntax None = Unit {0}
+IsAboutSyntax (Some cause) = is_not_about_syntax cause ≡ false
+
+first_one : (test : List ℕ → Bool) (rows : List Row)
+    → list_all (λ (row : Row). not (is_not_about_syntax row.1)) rows ≡ true
+    → IsAboutSyntax (first_that test rows)
+first_one test [] all = tt
+first_one test (row ∷ rows) all =
+    let both = and_parts (not (is_not_about_syntax row.1)) _ all in
+    elim (cases_Bool (test row.0)) [
+      | inl is ↦ rw is (not-true _ both.0)
+      | inr isnt ↦ rw isnt (first_one test rows both.1)
+    ]
+
+either : (one other : Option Cause) → IsAboutSyntax one → IsAboutSyntax other
+    → is_not_about_syntax (unwrap_or (option_or one other) cause.UnrecognizedLine) ≡ false
+unfolding topic_of
+either None None first second = refl
+either None (Some other) first second = second
+either (Some one) other first second = first
+
+delay_or : (b : Bool) (other : Cause) → is_not_about_syntax other ≡ false
+    → is_not_about_syntax (if b then cause.InvalidDelay else other) ≡ false
+unfolding topic_of
+delay_or true other is = refl
+delay_or false other is = is
+
+meant : (body : List ℕ) → is_not_about_syntax (meant_by body) ≡ false
+unfolding topic_of
+meant body =
+    let name = name_in body in
+    let word = first_word body in
+    let one = unsupported_in name word in
+    let other = directive_in name word in
+    delay_or (is_accepted kind.CrawlDelay name || is_accepted kind.CrawlDelay word)
+    (unwrap_or (option_or one other) cause.UnrecognizedLine)
+    (either one other (first_one (is_either name word) unsupported refl)
+    (first_one (may_either_mean name word) directives refl))
+
+pub not_quiet : (body : List ℕ) → is_quiet (meant_by body, true) ≡ true → ⊥
+not_quiet body is = false≢true (sym (none (is_not_about_syntax (meant_by body)) (meant body)) ∙ is)
+  where
+    none : (b : Bool) → b ≡ false → (b || not true) ≡ false
+    none true is = is
+    none false is = refl

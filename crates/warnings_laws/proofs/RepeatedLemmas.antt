@@ -1,30 +1,68 @@
 -- A rule with `repeated-rule` decides no verdict, and can be deleted.
-use Rattle.std.proofs.Common.{◌≡◌, ◌≢◌, ◌<◌, ◌≤◌, ◌+◌, ◌↔◌, ℕ, suc, zero, Bool, true, false}
-use Rattle.std.proofs.Common.{List, [], ◌∷◌, ◌++◌, All, Contains, if◌then◌else◌, slice_get, Option, Some}
-use Rattle.std.proofs.Common.{◌&&◌, ◌==◌, ap, arith, inl, inr, refl, subst, sym, ◌∙◌}
-use Rattle.std.specs.List.{list_any}
-use Rattle.std.proofs.lemmas.Bool.{cases_Bool, cases_eq, cases_lt, eqb-true, false_from_ne_true, false≢true}
-use Rattle.std.proofs.lemmas.List.Elements.{Contains-push_cases}
-use Rattle.std.proofs.lemmas.List.Folds.{Any-from_list_any}
-use Rattle.std.proofs.lemmas.Option.{same_Some}
-use Rattle.std.proofs.lemmas.Slice.Eq.{bytes_eq-Decides}
-use Rattle.texting_robots.specs.Callers.{Allow, AreLabelsOf, AreRulesFor, Disallow, IsCaptured, Label}
-use Rattle.texting_robots.specs.Callers.{IsDecidingLine, IsDenied, IsVerdict, LineValue, PlacedRule, Rule}
+use Rattle.std.proofs.Common.{◌≡◌, ◌+◌, ◌⊎◌, ℕ, suc, zero, Bool, true, false, List, [], ◌∷◌, ◌++◌, Contains}
+use Rattle.std.proofs.Common.{Some, arith, if◌then◌else◌, inl, inr, refl, slice_get, subst, sym, ◌≢◌, ◌<◌}
+use Rattle.std.proofs.Common.{◌≤◌, ◌↔◌, All, Option, ◌&&◌, ◌==◌, ap, ◌∙◌}
+use Rattle.texting_robots.specs.Callers.{AreLabelsOf, Label, LineValue, Allow, AreRulesFor, Disallow}
+use Rattle.texting_robots.specs.Callers.{IsCaptured, IsDecidingLine, IsDenied, IsVerdict, PlacedRule, Rule}
 use Rattle.texting_robots.specs.Callers.{group_name, placed_rules, rules_for, unplaced}
+use Rattle.std.proofs.lemmas.Bool.{cases_Bool, cases_eq, cases_lt, eqb-true, false_from_ne_true, false≢true}
 use Rattle.texting_robots.specs.Group.{is_agent, passes_at}
-use Rattle.texting_robots.proofs.BestLemmas.{placed_of}
-use Rattle.texting_robots.proofs.HeldLemmas.{computed_are}
 use Rattle.robots_needless.specs.Blocks.{is_rule, keep_blocks_from, no_rule, with_rule}
 use Rattle.robots_needless.specs.Needless.{lines_without, without}
-use Rattle.robots_needless.proofs.BlockLemmas.{deleted}
 use Rattle.robots_needless.proofs.DistinctLemmas.{in_filter, to_filter}
 use Rattle.robots_needless.proofs.TogetherLemmas.{unplaced_of, verdicts}
 use Rattle.robots_warnings.specs.Repeated.{above_next, is_checked, is_repeated, repeated, repeated_from}
-use Rattle.robots_warnings.specs.Spellings.{is_rule_with}
-use Rattle.warnings_laws.proofs.WarnedLineLemmas.{AreFrom, IsFrom, all_from, all_labels, first_or_later}
-use Rattle.warnings_laws.proofs.WarnedLineLemmas.{from_next}
-use Rattle.warnings_laws.proofs.WarnedLineLemmas.{here, labels_next}
 use Rattle.warnings_laws.proofs.WarningLemmas.{both, named_agent}
+use Rattle.robots_warnings.specs.{File.lines_of, Spellings.is_rule_with}
+use Rattle.std.specs.{List.list_any}
+use Rattle.std.proofs.{lemmas.List.Elements.Contains-push_cases, lemmas.List.Folds.Any-from_list_any}
+use Rattle.std.proofs.{lemmas.Option.same_Some, lemmas.Slice.Eq.bytes_eq-Decides}
+use Rattle.texting_robots.proofs.{BestLemmas.placed_of, HeldLemmas.computed_are}
+use Rattle.robots_needless.proofs.{BlockLemmas.deleted}
+
+-- the rest are the lines from this position on
+pub record IsFrom (lines : List LineValue) (position : ℕ) (rest : List LineValue) : Type 0 where
+  pub each : (i : ℕ) → slice_get lines (position + i) ≡ slice_get rest i
+
+pub all_from : (lines : List LineValue) → IsFrom lines 0 lines
+all_from lines = record { each = λ i. let same : 0 + i ≡ i = omega arith in rw same refl }
+
+module _ {lines : List LineValue} {position : ℕ} {line : LineValue} {rest : List LineValue}
+    (from : IsFrom lines position (line ∷ rest)) where
+  pub here : slice_get lines position ≡ Some line
+  here = subst (λ n. slice_get lines n ≡ Some line) (omega arith) (from.each 0)
+
+  pub from_next : IsFrom lines (position + 1) rest
+  from_next = record {
+    each = λ i. subst (λ n. slice_get lines n ≡ slice_get rest i) (omega arith) (from.each (suc i));
+  }
+
+-- the labels are those of the lines from this position on
+pub record AreFrom (lines : List LineValue) (position : ℕ) (labels : List Label) : Type 0 where
+  pub numbers : (i : ℕ) (label : Label) → slice_get labels i ≡ Some label → label.number ≡ position + i + 1
+  pub from : IsFrom lines position (lines_of labels)
+
+pub all_labels : {name : List ℕ} {lines : List LineValue} {labels : List Label}
+    → AreLabelsOf name lines labels → AreFrom lines 0 labels
+all_labels {lines} are = record {
+  numbers = λ i label at. omega (arith, (are.each i label at).0);
+  from = subst (IsFrom lines 0) (sym are.lines_are) (all_from lines);
+}
+
+pub labels_next : {lines : List LineValue} {position : ℕ} {label : Label} {labels : List Label}
+    → AreFrom lines position (label ∷ labels) → AreFrom lines (position + 1) labels
+labels_next are = record {
+  numbers = λ i later at. omega (arith, are.numbers (suc i) later at);
+  from = from_next are.from;
+}
+
+-- the number is the first one, if the condition holds, or one of the others
+pub first_or_later : (is : Bool) (first number : ℕ) (later : List ℕ)
+    → Contains ((if is then first ∷ [] else []) ++ later) number
+    → ((is ≡ true) × (first ≡ number)) ⊎ Contains later number
+first_or_later true first number later (zero, below, at) = inl (refl, at)
+first_or_later true first number later (suc k, below, at) = inr (k, omega arith, at)
+first_or_later false first number later has = inr has
 
 -- ---- the line above that is repeated
 

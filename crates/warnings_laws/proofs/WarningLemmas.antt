@@ -1,32 +1,42 @@
--- Theorems about warnings: what the conditions of some warnings imply for rules and URLs.
-use Rattle.std.proofs.Common.{◌≡◌, ℕ, Bool, true, false, List, [], ◌∷◌, ◌++◌, Contains}
-use Rattle.std.proofs.Common.{◌&&◌, ◌||◌, ◌==◌, ap, arith, cond, get_or, if◌then◌else◌, inl, inr}
-use Rattle.std.proofs.Common.{drop, suc, filter, map, None, not, Option, refl, slice_get, Some}
-use Rattle.std.proofs.Common.{subst, sym, take, ◌+◌, ◌∙◌}
-use Rattle.std.specs.List.{enumerate_from, list_all, list_any, prefix_len}
-use Rattle.std.specs.Option.{option_map_or}
-use Rattle.std.specs.Str.{byte, is_utf8, str_to_ascii_lowercase}
-use Rattle.std.proofs.lemmas.Bool.{cases_Bool, eq-eqb, eqb-true, false≢true}
-use Rattle.std.proofs.lemmas.List.Folds.{list_any-append}
-use Rattle.std.proofs.lemmas.List.Elements.{Contains-append_cases}
-use Rattle.texting_robots.specs.Callers.{Allow, AreLabelsOf, CrawlDelay, Disallow, HoldsRule}
-use Rattle.texting_robots.specs.Callers.{LineValue, Label, Matches, Raw, Rule}
-use Rattle.texting_robots.specs.Callers.{Sitemap, HasMembership, UserAgent, escaped, group_name}
-use Rattle.texting_robots.specs.Callers.{file_lines, is_agent_named, is_named}
-use Rattle.texting_robots.specs.declared.labels.Membership.{Membership}
+-- Theorems about warnings: what the conditions of some warnings imply for rules, names and URLs.
+use Rattle.std.proofs.Common.{◌≡◌, ◌≢◌, ◌⊎◌, ◌<◌, ℕ, Bool, true, false, List, [], ◌∷◌, ◌++◌, Contains}
+use Rattle.std.proofs.Common.{codes, ◌&&◌, ◌||◌, ◌==◌, ap, arith, cond, get_or, if◌then◌else◌, inl, inr}
+use Rattle.std.proofs.Common.{drop, suc, filter, map, None, not, Option, refl, slice_get, Some, subst, sym}
+use Rattle.std.proofs.Common.{take, ◌+◌, ◌∙◌, ◌/◌, ap₂, append_assoc, append-nil, IsTrue, length}
+use Rattle.std.proofs.Common.{length-append, nat_lt}
+use Rattle.std.specs.List.{enumerate_from, list_all, list_any, prefix_len, AllByRecursion as Each, AllZip}
+use Rattle.std.specs.Str.{byte, is_utf8, str_to_ascii_lowercase, IsUtf8, all_scalars}
+use Rattle.std.specs.Str.{drop_trailing_whitespace, encode_utf8_all, skip_leading_whitespace, trim}
+use Rattle.std.specs.Str.{trim_end, trim_start}
+use Rattle.std.proofs.lemmas.Bool.{or_parts, cases_Bool, eq-eqb, eqb-true, false≢true, and_parts, cond-false}
+use Rattle.texting_robots.specs.Callers.{Allow, AreLabelsOf, CrawlDelay, Disallow, HoldsRule, IsLineOf}
+use Rattle.texting_robots.specs.Callers.{LineValue, Label, Matches, Raw, Rule, Sitemap, HasMembership}
+use Rattle.texting_robots.specs.Callers.{UserAgent, escaped, group_name, file_lines, is_agent_named}
+use Rattle.texting_robots.specs.Callers.{is_named, file_bodies}
 use Rattle.texting_robots.specs.declared.labels.Membership.TheVariants.{Other, Ungrouped, Own}
 use Rattle.texting_robots.specs.Escape.{escape_byte, is_escaped}
 use Rattle.texting_robots.specs.Group.{is_agent, is_group, passes_at}
 use Rattle.texting_robots.specs.Pattern.{MatchesWith, dollar, star}
-use Rattle.texting_robots.specs.Internal.Segments.{is_wildcard}
-use Rattle.texting_robots.proofs.SlashLemmas.{unparsed_prepared}
-use Rattle.texting_robots.proofs.PatternLemmas.{only_wildcards_match}
 use Rattle.robots_warnings.specs.NamesPastLimit.{has_new_name, is_past_limit, names_past_limit}
 use Rattle.robots_warnings.specs.Positions.{is_above_agents, is_outside}
 use Rattle.robots_warnings.specs.Rules.{begins_oddly, has_dollar_inside}
-use Rattle.robots_warnings.specs.Urls.{is_invalid_url}
-use Rattle.audit_core.specs.Asked.{asked_target}
-use Rattle.audit_core.proofs.AskedLemmas.{unparsed_asked}
+use Rattle.std.specs.Char.{encode_utf8, is_whitespace, to_ascii_lowercase}
+use Rattle.std.proofs.lemmas.List.{drop_all, drop_at, drop-map, length-map, map-append, take-append-drop}
+use Rattle.std.proofs.lemmas.List.{take_at, take-map}
+use Rattle.std.proofs.lemmas.Str.{chars-encodes, chars-nil, encodes-append, len_utf8_bounds, length-encode}
+use lib.Utf8.{next}
+use Rattle.std.specs.{Option.option_map_or}
+use Rattle.std.proofs.{lemmas.List.Folds.list_any-append, lemmas.List.Elements.Contains-append_cases}
+use Rattle.std.proofs.{lemmas.Bool.Decides.nat_tests, lemmas.Slice.Eq.bytes_eq-Decides}
+use Rattle.texting_robots.specs.{declared.labels.Membership.Membership, Statement.IsStatement}
+use Rattle.texting_robots.specs.{Internal.Segments.is_wildcard, Trim.IsTrimOf}
+use Rattle.texting_robots.proofs.{CapturedLemmas.some_passes, SlashLemmas.unparsed_prepared}
+use Rattle.texting_robots.proofs.{PatternLemmas.only_wildcards_match, LineLemmas.lines_of_file_bodies}
+use Rattle.texting_robots.proofs.{TrimLemmas.each_append}
+use Rattle.robots_warnings.specs.{Urls.is_invalid_url, Tokens.has_space_around}
+use Rattle.audit_core.specs.{Asked.asked_target}
+use Rattle.audit_core.proofs.{AskedLemmas.unparsed_asked}
+use Rattle.texting_robots.specs.declared.parser.statement.Kind.TheVariants as kind
 
 -- ---- conditions and lines
 
@@ -47,6 +57,48 @@ one_value true true value other same = (refl, cc)
 one_value true false value other same = cc
 one_value false true value other same = cc
 one_value false false value other same = (refl, cc)
+
+pub named_agent : (name : List ℕ) (line : Option LineValue)
+    → option_map_or (is_agent_named name) line false ≡ true → option_map_or is_agent line false ≡ true
+named_agent name None is = cc
+named_agent name (Some (UserAgent value)) is = refl
+named_agent name (Some line) is = cc
+
+-- what the content of a line states that is read so
+abbrev pub IsStated : LineValue → List ℕ → Type 0
+IsStated (UserAgent value) body = IsStatement kind.UserAgent value body
+IsStated (Allow value) body =
+    IsStatement kind.Allow value body ⊎ ((value ≡ codes "/") × IsStatement kind.Disallow [] body)
+IsStated (Disallow value) body = IsStatement kind.Disallow value body × (value ≢ [])
+IsStated (CrawlDelay delay) body = (value : List ℕ) × IsStatement kind.CrawlDelay value body
+IsStated (Sitemap value) body = IsStatement kind.Sitemap value body
+IsStated (Raw content) body = content ≡ body
+
+pub is_stated : (line : LineValue) (body : List ℕ) → IsLineOf line body → IsStated line body
+is_stated line body (inl (kind.UserAgent, value, is, same)) = rw same is
+is_stated line body (inl (kind.Allow, value, is, same)) = rw same (inl is)
+is_stated line body (inl (kind.Disallow, [], is, same)) = rw same (inr (refl, is))
+is_stated line body (inl (kind.Disallow, b ∷ value, is, same)) = rw same (is, λ e. cc)
+is_stated line body (inl (kind.Sitemap, value, is, same)) = rw same is
+is_stated line body (inl (kind.CrawlDelay, value, is, inl (delay, names, same))) = rw same (value, is)
+is_stated line body (inl (kind.CrawlDelay, value, is, inr (names, same))) = rw same refl
+is_stated line body (inr (none, same)) = rw same refl
+
+-- a line in a group that isn't a user-agent line is below one, if there is one
+pub below_agent : (name : List ℕ) (lines : List LineValue) (place : ℕ) (membership : Membership)
+    → HasMembership name lines place membership → is_outside membership ≡ false
+    → passes_at is_agent lines place ≡ false → list_any is_agent lines ≡ true
+    → (j : ℕ) × (j < place) × (passes_at is_agent lines j ≡ true)
+below_agent name lines place Own (inl (group, inl alone)) inside isnt some =
+    let (k, passes) = (some_passes is_agent lines).0 some in absurd (alone k passes)
+below_agent name lines place Own (inl (group, inr (j, below, named, alone))) inside isnt some =
+    (j, below, named_agent name (slice_get lines j) named)
+below_agent name lines place Own (inr run) inside isnt some = absurd (false≢true (sym isnt ∙ run.0))
+below_agent name lines place Other (other, inl agent) inside isnt some =
+    absurd (false≢true (sym isnt ∙ agent))
+below_agent name lines place Other (other, inr (group, j, below, agent)) inside isnt some =
+    (j, below, agent)
+below_agent name lines place Ungrouped has inside isnt some = cc
 
 -- ---- group-past-size-limit
 
@@ -79,10 +131,6 @@ found_line test n (line ∷ lines) number has = elim (cases_Bool (test (n, line)
   | inr isnt ↦ found_later test n line lines number (found_line test (n + 1) lines number (rw isnt at has))
 ]
 
-first_false : (a b : Bool) → not (a || b) ≡ true → a ≡ false
-first_false true b is = cc
-first_false false b is = refl
-
 -- the line is a user-agent line with a name that the lines `read` don't have
 new_name : (read more : List LineValue) (line : LineValue) → has_new_name (read ++ more) line ≡ true
     → (value : List ℕ) × (line ≡ UserAgent value) × (is_named value read ≡ false)
@@ -90,14 +138,10 @@ new_name read more (UserAgent value) is =
     let test = is_agent_named (str_to_ascii_lowercase value) in (
       value,
       refl,
-      first_false (list_any test read) (list_any test more)
-          (ap not (sym (list_any-append test read more)) ∙ is),
+      (or_parts (list_any test read) (list_any test more)
+          (none _ (ap not (sym (list_any-append test read more)) ∙ is))).0,
     )
-new_name read more (Allow value) is = cc
-new_name read more (Disallow value) is = cc
-new_name read more (CrawlDelay delay) is = cc
-new_name read more (Sitemap value) is = cc
-new_name read more (Raw body) is = cc
+new_name read more other is = cc
 
 pub named_past_limit : (read : List LineValue) (file : List ℕ) (number : ℕ)
     → Contains (names_past_limit read file) number
@@ -129,16 +173,6 @@ outside Ungrouped is = refl
 in_group : (kind : Bool) (value : List ℕ) → is_group (cond kind (Allow value) (Disallow value)) ≡ true
 in_group true value = refl
 in_group false value = refl
-
-pub named_agent : (name : List ℕ) (line : Option LineValue)
-    → option_map_or (is_agent_named name) line false ≡ true → option_map_or is_agent line false ≡ true
-named_agent name None is = cc
-named_agent name (Some (UserAgent value)) is = refl
-named_agent name (Some (Allow value)) is = cc
-named_agent name (Some (Disallow value)) is = cc
-named_agent name (Some (CrawlDelay delay)) is = cc
-named_agent name (Some (Sitemap value)) is = cc
-named_agent name (Some (Raw body)) is = cc
 
 pub above_agents_applies_to_none : (name agent : List ℕ) (lines : List LineValue) (labels : List Label)
     (place : ℕ)
@@ -203,17 +237,12 @@ dollar_inside_matches_nothing (b ∷ value) text inside m = elim (cases_Bool (b 
       dollar_inside_matches_nothing value s later_inside later
 ]
 
-neither : (a b : Bool) → not (a || b) ≡ true → (a ≡ false) × (b ≡ false)
-neither true b is = cc
-neither false true is = cc
-neither false false is = (refl, refl)
-
 pub odd_start_matches_no_path : (value text : List ℕ) → begins_oddly value ≡ true
     → ¬ Matches (escaped value) (byte "/" ∷ text)
 unfolding MatchesWith
 odd_start_matches_no_path [] text odd m = cc
 odd_start_matches_no_path (b ∷ value) text odd m =
-    let (not_slash, not_star) = neither (b == byte "/") (b == star) odd in
+    let (not_slash, not_star) = or_parts (b == byte "/") (b == star) (none _ odd) in
     let first : List ℕ → ℕ = λ text. get_or text 0 0 in
     elim (cases_Bool (is_escaped b)) [
       | inl bad ↦
@@ -235,3 +264,169 @@ invalid_url_is_escaped [] is = cc
 invalid_url_is_escaped (b ∷ url) is =
     let unparsable = (both _ _ is).1 in
     unparsed_asked (b ∷ url) unparsable ∙ unparsed_prepared b url unparsable
+
+-- ---- bytes that no other byte equals in lowercase
+
+-- the byte is below or above all ASCII letters
+abbrev IsNoLetter : ℕ → Type 0
+IsNoLetter b = (b < 65) ⊎ (122 < b)
+
+only_itself : (a b : ℕ) → IsNoLetter b → to_ascii_lowercase a ≡ to_ascii_lowercase b → a ≡ b
+only_itself a b is same = grind (arith, nat_tests)
+
+-- no byte of a White_Space character is a letter
+white_bytes : (c : ℕ) → is_whitespace c ≡ true → Each IsNoLetter (encode_utf8 c)
+unfolding encode_utf8
+white_bytes c white = at (nat_lt c 128) (nat_lt c 2048) (nat_lt c 65536) refl
+  where
+    at : (one two three : Bool) → nat_lt c 128 ≡ one
+        → Each IsNoLetter (cond one (c ∷ []) (cond two ((192 + c / 64) ∷ next c ∷ [])
+        (cond three ((224 + c / 4096) ∷ next (c / 64) ∷ next c ∷ [])
+        ((240 + c / 262144) ∷ next (c / 4096) ∷ next (c / 64) ∷ next c ∷ []))))
+    at true two three low = (inl (grind (arith, nat_tests)), tt)
+    at false true three high = (inr (omega arith), (inr (omega arith), tt))
+    at false false true high = (inr (omega arith), (inr (omega arith), (inr (omega arith), tt)))
+    at false false false high =
+        (inr (omega arith), (inr (omega arith), (inr (omega arith), (inr (omega arith), tt))))
+
+same_bytes : (value text : List ℕ) → Each IsNoLetter text
+    → str_to_ascii_lowercase value ≡ str_to_ascii_lowercase text → value ≡ text
+same_bytes [] [] all same = refl
+same_bytes [] (b ∷ text) all same = cc
+same_bytes (a ∷ value) [] all same = cc
+same_bytes (a ∷ value) (b ∷ text) all same = ap₂ (λ first rest. first ∷ rest)
+    (only_itself a b all.0 (ap (λ (t : List ℕ). get_or t 0 0) same))
+    (same_bytes value text all.1 (ap (drop 1) same))
+
+-- texts that are equal in lowercase, cut after the same number of bytes
+cut_alike : (value front back : List ℕ)
+    → str_to_ascii_lowercase value ≡ str_to_ascii_lowercase (front ++ back)
+    → (str_to_ascii_lowercase (take (length front) value) ≡ str_to_ascii_lowercase front)
+    × (str_to_ascii_lowercase (drop (length front) value) ≡ str_to_ascii_lowercase back)
+cut_alike value front back same =
+    let n = length front in
+    let whole = same ∙ map-append to_ascii_lowercase front back in
+    let long = length-map front to_ascii_lowercase in (
+      sym (take-map to_ascii_lowercase n value) ∙ ap (take n) whole ∙ take_at _ _ n long,
+      sym (drop-map to_ascii_lowercase n value) ∙ ap (drop n) whole ∙ drop_at _ _ n long,
+    )
+
+-- ---- a trimmed value has no white space at its ends
+
+some_bytes : (c : ℕ) → 0 < length (encode_utf8 c)
+some_bytes c = omega (arith, length-encode c, (len_utf8_bounds c).0)
+
+encodes_last : (chars : List ℕ) (c : ℕ)
+    → encode_utf8_all (chars ++ c ∷ []) ≡ encode_utf8_all chars ++ encode_utf8 c
+encodes_last chars c = encodes-append chars (c ∷ [])
+    ∙ ap (λ t. encode_utf8_all chars ++ t) (append-nil (encode_utf8 c))
+
+trimmed_start : (value region more : List ℕ) (c : ℕ) → IsTrimOf value region → is_whitespace c ≡ true
+    → ¬ (value ≡ encode_utf8 c ++ more)
+trimmed_start value region more c trimmed white is =
+    let (chars, all, front) = trimmed.front_spaces in
+    let longer = trimmed.front_longest (trimmed.front ++ encode_utf8 c) (more ++ trimmed.back)
+    (trimmed.whole ∙ ap (λ t. trimmed.front ++ (t ++ trimmed.back)) is ∙ simp append_assoc) (
+      chars ++ c ∷ [],
+      each_append (λ char. IsTrue (is_whitespace char)) chars (c ∷ []) all (white, tt),
+      ap (λ t. t ++ encode_utf8 c) front ∙ sym (encodes_last chars c),
+    ) in
+    omega (arith, some_bytes c, simp length-append at longer)
+
+trimmed_end : (value region more : List ℕ) (c : ℕ) → IsTrimOf value region → is_whitespace c ≡ true
+    → ¬ (value ≡ more ++ encode_utf8 c)
+trimmed_end value region more c trimmed white is =
+    let (chars, all, back) = trimmed.back_spaces in
+    let longer = trimmed.back_longest more (encode_utf8 c ++ trimmed.back)
+    (ap (λ t. t ++ trimmed.back) is ∙ simp append_assoc)
+    (c ∷ chars, (white, all), ap (λ t. encode_utf8 c ++ t) back) in
+    omega (arith, some_bytes c, simp length-append at longer)
+
+-- ---- a name that trimming changes
+
+-- the name starts or ends with a White_Space character
+abbrev HasSpaceAround : List ℕ → Type 0
+HasSpaceAround name = (c : ℕ) × (more : List ℕ) × (is_whitespace c ≡ true)
+    × ((name ≡ encode_utf8 c ++ more) ⊎ (name ≡ more ++ encode_utf8 c))
+
+no_value : (name value region : List ℕ) → HasSpaceAround name → IsTrimOf value region
+    → ¬ (str_to_ascii_lowercase value ≡ str_to_ascii_lowercase name)
+no_value name value region (c, more, white, inl is) trimmed same =
+    let n = length (encode_utf8 c) in
+    let (front, _) = cut_alike value (encode_utf8 c) more (same ∙ ap str_to_ascii_lowercase is) in
+    trimmed_start value region (drop n value) c trimmed white (sym (take-append-drop n value)
+    ∙ ap (λ t. t ++ drop n value) (same_bytes _ _ (white_bytes c white) front))
+no_value name value region (c, more, white, inr is) trimmed same =
+    let n = length more in
+    let (_, back) = cut_alike value more (encode_utf8 c) (same ∙ ap str_to_ascii_lowercase is) in
+    trimmed_end value region (take n value) c trimmed white (sym (take-append-drop n value)
+    ∙ ap (λ t. take n value ++ t) (same_bytes _ _ (white_bytes c white) back))
+
+-- nothing is dropped at the end, or the last character is white space
+kept_or_white : (chars : List ℕ) → (drop_trailing_whitespace chars ≡ chars)
+    ⊎ ((front : List ℕ) × (c : ℕ) × (chars ≡ front ++ c ∷ []) × (is_whitespace c ≡ true))
+kept_or_white [] = inl refl
+kept_or_white (c ∷ chars) = elim (kept_or_white chars) [
+  | inr (front, last, is, white) ↦ inr (c ∷ front, last, ap (λ t. c ∷ t) is, white)
+  | inl same ↦
+      let kept = drop_trailing_whitespace chars in
+      elim (cases_Bool (is_whitespace c && length kept == 0)) [
+        | inr stays ↦ inl (cond-false _ _ _ stays ∙ ap (λ t. c ∷ t) same)
+        | inl dropped ↦
+            let (white, none) = and_parts (is_whitespace c) (length kept == 0) dropped in
+            let alone : chars ≡ [] = drop_all 0 chars
+            (omega (arith, ap length same, eqb-true (length kept) 0 none)) in
+            inr ([], c, ap (λ t. c ∷ t) alone, white)
+      ]
+]
+
+same_or_space : (chars : List ℕ) → all_scalars chars ≡ true
+    → (trim (encode_utf8_all chars) ≡ encode_utf8_all chars) ⊎ HasSpaceAround (encode_utf8_all chars)
+unfolding trim_start trim_end
+same_or_space [] is =
+    inl (ap (λ l. trim_end (encode_utf8_all (skip_leading_whitespace l))) chars-nil
+    ∙ ap (λ l. encode_utf8_all (drop_trailing_whitespace l)) chars-nil)
+same_or_space (c ∷ chars) is = elim (cases_Bool (is_whitespace c)) [
+  | inl white ↦ inr (c, encode_utf8_all chars, white, inl refl)
+  | inr dark ↦ elim (kept_or_white (c ∷ chars)) [
+    | inl same ↦
+        let read = chars-encodes (c ∷ chars) is in
+        let start : trim_start (encode_utf8_all (c ∷ chars)) ≡ encode_utf8_all (c ∷ chars)
+        = ap (λ l. encode_utf8_all (skip_leading_whitespace l)) read
+        ∙ ap encode_utf8_all (cond-false _ _ _ dark) in
+        inl (ap trim_end start ∙ ap (λ l. encode_utf8_all (drop_trailing_whitespace l)) read
+        ∙ ap encode_utf8_all same)
+    | inr (front, last, ends, white) ↦
+        inr (last, encode_utf8_all front, white, inr (ap encode_utf8_all ends ∙ encodes_last front last))
+  ]
+]
+
+-- ---- the lines of a file
+
+unnamed_line : (agent : List ℕ) (line : LineValue) (body : List ℕ) → HasSpaceAround agent
+    → IsLineOf line body → is_agent_named (str_to_ascii_lowercase agent) line ≡ false
+unnamed_line agent (UserAgent value) body spaces of =
+    let is = is_stated (UserAgent value) body of in
+    elim (cases_Bool (is_agent_named (str_to_ascii_lowercase agent) (UserAgent value))) [
+      | inr other ↦ other
+      | inl named ↦
+          absurd (no_value agent value is.region spaces is.trimmed ((bytes_eq-Decides _ _).0 named))
+    ]
+unnamed_line agent line body spaces of = refl
+
+unnamed : (agent : List ℕ) (lines : List LineValue) (bodies : List (List ℕ)) → HasSpaceAround agent
+    → AllZip IsLineOf lines bodies → is_named agent lines ≡ false
+unnamed agent [] bodies spaces all = refl
+unnamed agent (line ∷ lines) [] spaces all = absurd all
+unnamed agent (line ∷ lines) (body ∷ bodies) spaces all =
+    rw (unnamed_line agent line body spaces all.0) (unnamed agent lines bodies spaces all.1)
+
+pub space_around_agent : (agent file : List ℕ) → IsUtf8 agent → has_space_around agent ≡ true
+    → is_named agent (file_lines file) ≡ false
+space_around_agent agent file (chars, (is, whole)) around = elim (same_or_space chars is) [
+  | inl same ↦
+      let kept : trim agent ≡ agent = subst (λ t. trim t ≡ t) whole same in
+      absurd (false≢true (sym (ap not ((bytes_eq-Decides (trim agent) agent).1 kept)) ∙ around))
+  | inr spaces ↦ unnamed agent (file_lines file) (file_bodies file) (subst HasSpaceAround whole spaces)
+      (lines_of_file_bodies file (file_bodies file) refl)
+]

@@ -226,7 +226,7 @@ pub fn invalid_url()
 {}
 
 /// A crawler's name with `space-around-agent` matches no user-agent line, in any file.
-#[tactic(auto, using(crate::proofs::SpaceLemmas::space_around_agent))]
+#[tactic(auto, using(crate::proofs::WarningLemmas::space_around_agent))]
 pub fn space_around_agent()
     ensures { (agent file : List ℕ) → IsUtf8 agent → has_space_around agent ≡ true
         → is_named agent (file_lines file) ≡ false }

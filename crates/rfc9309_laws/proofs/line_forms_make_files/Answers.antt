@@ -1,6 +1,6 @@
-use Rattle.std.proofs.lemmas.List.Elements.{recursion_from_All}
-use Rattle.texting_robots.specs.Cut.{IsBodyByte}
-use Rattle.rfc9309_laws.proofs.{FormTestLemmas.form_tested, FormsOfFileLemmas.file_has_forms}
+use Rattle.std.proofs.{lemmas.List.Elements.recursion_from_All}
+use Rattle.texting_robots.specs.{Cut.IsBodyByte}
+use Rattle.rfc9309_laws.proofs.{OtherLemmas.form_tested, FormsOfFileLemmas.file_has_forms}
 use Rattle.rfc9309_laws.proofs.{HasFormLemmas.form_passes, LineFormLemmas.forms_make_file}
 use Rattle.rfc9309_laws.proofs.line_forms_make_files.Goals as goal
 
@@ -15,4 +15,4 @@ returns-clause-test c = form_passes
 
 pub returns-clause-exact : goal.returns-clause-exact
 returns-clause-exact c = λ form body bytes is.
-    form_tested form body (recursion_from_All IsBodyByte body bytes) is
+    form_tested body (recursion_from_All IsBodyByte body bytes) form is

@@ -1,4 +1,4 @@
-use Rattle.warnings_laws.proofs.NeedlessLemmas.{robot_stays}
+use Rattle.warnings_laws.proofs.LawLemmas.{robot_stays}
 use Rattle.warnings_laws.proofs.laws.needless_lines_can_be_deleted.Goals as goal
 
 pub returns : goal.returns

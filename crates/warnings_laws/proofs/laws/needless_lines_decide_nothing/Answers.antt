@@ -1,11 +1,16 @@
+use Rattle.std.proofs.Common.{arith, codes, refl}
 use Rattle.texting_robots.specs.Callers.{lines_read}
-use Rattle.warnings_laws.proofs.NeedlessLemmas.{named_alike, others_alike}
+use Rattle.robots_needless.proofs.CrawlerLemmas.{rules_in_any_case, rules_of_star}
+use Rattle.warnings_laws.proofs.LawLemmas.{alike}
 use Rattle.warnings_laws.proofs.laws.needless_lines_decide_nothing.Goals as goal
 
 pub returns-clause-named : goal.returns-clause-named
 returns-clause-named c = λ requested file audit is agent name has same.
-    named_alike (lines_read file) is.needless agent name is.needless_are.lines has same
+    let lines = lines_read file in
+    alike lines is.needless agent name is.needless_are.lines has (rules_in_any_case agent name lines same)
 
 pub returns-clause-others : goal.returns-clause-others
 returns-clause-others c = λ requested file audit is agent isnt.
-    others_alike (lines_read file) is.needless agent is.needless_are.lines isnt
+    let lines = lines_read file in
+    alike lines is.needless agent (codes "*") is.needless_are.lines (0, omega arith, refl)
+    (rules_of_star agent lines isnt)

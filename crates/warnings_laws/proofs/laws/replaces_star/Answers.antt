@@ -1,4 +1,4 @@
-use Rattle.warnings_laws.proofs.ReplacedLemmas.{replaces_star, star_disallows}
+use Rattle.warnings_laws.proofs.GroupLemmas.{replaces_star, star_disallows}
 use Rattle.warnings_laws.proofs.laws.replaces_star.Goals as goal
 
 pub returns-clause-group : goal.returns-clause-group

@@ -1,4 +1,4 @@
-use Rattle.warnings_laws.proofs.OverruledLemmas.{same_without}
+use Rattle.warnings_laws.proofs.EmptyDisallowLemmas.{same_without}
 use Rattle.warnings_laws.proofs.laws.without_empty_disallows.Goals as goal
 
 pub returns : goal.returns

@@ -1,37 +1,42 @@
--- Lines with `two-delays` can be deleted: the delay of every crawler stays the same.
-use Rattle.std.proofs.Common.{◌≡◌, ◌<◌, ◌+◌, ◌∙◌, ◌||◌, ℕ, suc, zero, Bool, true, false, not}
-use Rattle.std.proofs.Common.{List, [], ◌∷◌, All, Contains, Option, None, Some, filter, map, slice_get, take}
-use Rattle.std.proofs.Common.{ap, ap₂, arith, codes, if◌then◌else◌, inl, inr, refl, subst, sym}
-use Rattle.std.specs.List.{enumerate_from, fold, list_any}
-use Rattle.std.specs.{Option.option_or, Str.str_to_ascii_lowercase}
-use Rattle.std.proofs.lemmas.Bool.{cases_Bool, false≢true}
+-- Warnings about groups. Lines with `two-delays` can be deleted: the delay of every crawler stays the same. A
+-- line with `replaces-star` is in the group of a crawler that has no Disallow of `*`.
+use Rattle.std.proofs.Common.{◌≡◌, ◌+◌, ◌∙◌, ◌||◌, ℕ, suc, zero, Bool, true, false, not, List, [], ◌∷◌, All}
+use Rattle.std.proofs.Common.{Contains, Option, None, Some, filter, map, slice_get, take, ap, ap₂, arith}
+use Rattle.std.proofs.Common.{codes, if◌then◌else◌, inl, inr, refl, subst, sym, ◌≤◌, ◌-◌}
+use Rattle.std.specs.List.{enumerate_from, fold, list_any, count_by}
+use Rattle.std.proofs.lemmas.Bool.{cases_Bool, false≢true, cases_lt, or_cases, or_right}
 use Rattle.std.proofs.lemmas.List.{get_or-map, length-map}
-use Rattle.std.proofs.lemmas.List.Elements.{Contains-append_cases}
 use Rattle.std.proofs.lemmas.Option.{same_Some, slice_get-map}
-use Rattle.texting_robots.specs.Callers.{AreLabelsOf, CrawlDelay, HasMembership, Label}
-use Rattle.texting_robots.specs.Callers.{LineValue, UserAgent, delay_for, group_name}
-use Rattle.texting_robots.specs.declared.groups.GroupTracker.{GroupTracker}
-use Rattle.texting_robots.specs.declared.labels.Membership.{Membership}
-use Rattle.texting_robots.specs.declared.labels.Membership.TheVariants.{Other, Own, Ungrouped}
+use Rattle.texting_robots.specs.Callers.{AreLabelsOf, CrawlDelay, Label, LineValue, UserAgent, delay_for}
+use Rattle.texting_robots.specs.Callers.{group_name, AreRulesFor, HoldsRule, PlacedRule, Raw, Rule, Sitemap}
+use Rattle.texting_robots.specs.Callers.{placed_rules}
 use Rattle.texting_robots.specs.Executable.{captured_delays, delay_before_agents}
-use Rattle.texting_robots.specs.Group.{is_agent, is_agent_named, passes_at}
+use Rattle.texting_robots.specs.Group.{is_agent, is_agent_named, passes_at, is_group}
 use Rattle.texting_robots.specs.Internal.Group.{if_captured, start_of, step}
-use Rattle.texting_robots.specs.Line.{delay_in}
-use Rattle.texting_robots.proofs.CapturedLemmas.{delays_are, given_captured, only_agents, some_passes}
-use Rattle.texting_robots.proofs.CapturedLemmas.{taken_decides}
+use Rattle.texting_robots.proofs.CapturedLemmas.{delays_are, given_captured, only_agents, taken_decides}
 use Rattle.texting_robots.proofs.RulesLemmas.{before_agent, before_agents, first_more}
-use Rattle.robots_needless.specs.Needless.{lines_without}
 use Rattle.robots_warnings.specs.Checks.{Check, position_checks}
-use Rattle.robots_warnings.specs.declared.positions.Preceding.{Preceding}
-use Rattle.robots_warnings.specs.declared.positions.Preceding.TheVariants as preceding
-use Rattle.robots_warnings.specs.declared.table.Cause.TheVariants.{TwoDelays}
-use Rattle.robots_warnings.specs.File.{lines_of}
-use Rattle.robots_warnings.specs.Positions.{are_different, first_delay, is_other_delay, is_outside}
-use Rattle.robots_warnings.specs.Positions.{last_group, preceding_with, sole_name}
+use Rattle.robots_warnings.specs.Positions.{are_different, first_delay, is_other_delay, last_group}
+use Rattle.robots_warnings.specs.Positions.{preceding_with, sole_name, begin_with_one}
 use Rattle.robots_warnings.specs.Warnings.{position_warnings, positions_from, warned, warned_at}
-use Rattle.robots_warnings.specs.WarningValue.{WarningValue}
-use Rattle.warnings_laws.proofs.RepeatedLemmas.{among, holds_among}
-use Rattle.warnings_laws.proofs.WarningLemmas.{both, named_agent, none}
+use Rattle.warnings_laws.proofs.RepeatedLemmas.{among, holds_among, AreFrom, IsFrom, all_labels}
+use Rattle.warnings_laws.proofs.RepeatedLemmas.{first_or_later, here, labels_next}
+use Rattle.warnings_laws.proofs.WarningLemmas.{below_agent, both, none}
+use Rattle.std.proofs.lemmas.List.Folds.{Any-from_list_any, list_any-from_Any}
+use Rattle.texting_robots.specs.Labels.{AreOneRun, IsInOwnGroup}
+use Rattle.texting_robots.proofs.HeldLemmas.{computed_are, one_list}
+use Rattle.robots_warnings.specs.declared.positions.Preceding.TheVariants.{Agent, Delay, Other}
+use Rattle.robots_warnings.specs.Replaced.{denies, is_first_name, is_kept, is_partial, is_replacing}
+use Rattle.robots_warnings.specs.Replaced.{lacks_all, replacing, replacing_from, star_count, star_rules}
+use Rattle.std.specs.{Option.option_or, Str.str_to_ascii_lowercase}
+use Rattle.std.proofs.{lemmas.List.Elements.Contains-append_cases, lemmas.List.Sorted.sum_by-IsPermutation}
+use Rattle.std.proofs.{lemmas.List.Sums.length-filter, lemmas.Slice.Eq.bytes_eq-Decides}
+use Rattle.texting_robots.specs.{declared.groups.GroupTracker.GroupTracker, Line.delay_in}
+use Rattle.robots_needless.specs.{Needless.lines_without}
+use Rattle.robots_warnings.specs.{declared.positions.Preceding.Preceding}
+use Rattle.robots_warnings.specs.{declared.table.Cause.TheVariants.TwoDelays, File.lines_of}
+use Rattle.robots_warnings.specs.{WarningValue.WarningValue, Closed.is_whole_site}
+use Rattle.robots_warnings.specs.declared.positions.Preceding.TheVariants as preceding
 
 -- ---- what the warning says of its line
 
@@ -241,22 +246,6 @@ early_left gone lines same below = elim (cases_Bool (list_any is_agent lines)) [
   | inr none ↦ rw (same, none) refl
 ]
 
--- a delay in a group is below a user-agent line, if there is one
-below_agent : (name : List ℕ) (lines : List LineValue) (place : ℕ) (membership : Membership)
-    → HasMembership name lines place membership → is_outside membership ≡ false
-    → passes_at is_agent lines place ≡ false → list_any is_agent lines ≡ true
-    → (j : ℕ) × (j < place) × (passes_at is_agent lines j ≡ true)
-below_agent name lines place Own (inl (group, inl alone)) inside isnt some =
-    let (k, passes) = (some_passes is_agent lines).0 some in absurd (alone k passes)
-below_agent name lines place Own (inl (group, inr (j, below, named, alone))) inside isnt some =
-    (j, below, named_agent name (slice_get lines j) named)
-below_agent name lines place Own (inr run) inside isnt some = absurd (false≢true (sym isnt ∙ run.0))
-below_agent name lines place Other (other, inl agent) inside isnt some =
-    absurd (false≢true (sym isnt ∙ agent))
-below_agent name lines place Other (other, inr (group, j, below, agent)) inside isnt some =
-    (j, below, agent)
-below_agent name lines place Ungrouped has inside isnt some = cc
-
 -- ---- all lines of a file
 
 module _ {name : List ℕ} {labels : List Label} (labeled : AreLabelsOf name (lines_of labels) labels)
@@ -322,3 +311,165 @@ two_delays_can_be_deleted name agent lines labels numbers labeled all =
     let same = labeled.lines_are in
     subst (λ of. delay_for agent (lines_without numbers of) ≡ delay_for agent of) same
     (delay_stays (subst (λ of. AreLabelsOf name of labels) (sym same) labeled) numbers all agent)
+
+-- ---- the rules of the crawler
+
+-- no Disallow of the crawler has the pattern of a Disallow of `*`
+abbrev pub HasNone : List ℕ → List LineValue → Type 0
+HasNone agent lines =
+    (star other : ℕ) (pattern : List ℕ) → HoldsRule (codes "*") lines star (pattern, false)
+    → ¬ HoldsRule agent lines other (pattern, false)
+
+computed : (agent : List ℕ) (lines : List LineValue) (position : ℕ) (rule : Rule)
+    → HoldsRule agent lines position rule
+    → Contains (placed_rules agent lines) (record { rule = rule; line = position + 1 })
+computed agent lines position rule holds = ((computed_are agent lines).held _).1 (position, refl, holds)
+
+has_none : (agent : List ℕ) (lines : List LineValue) → lacks_all lines agent ≡ true → HasNone agent lines
+has_none agent lines lacks star other pattern starred holds =
+    let (i, within, there) = computed (codes "*") lines star _ starred in
+    let (k, below, at) = computed agent lines other _ holds in
+    let same = (bytes_eq-Decides pattern pattern).1 refl in
+    let denied = list_any-from_Any (denies pattern) (star_rules lines) (i, _, within, there, same) in
+    false≢true (sym (none _ lacks) ∙ list_any-from_Any (is_kept (star_rules lines)) (placed_rules agent lines)
+    (k, _, below, at, or_right (is_whole_site pattern) _ denied))
+
+-- ---- the names of the group
+
+-- the line at this position is a user-agent line with such a name, and there is no rule or delay up to it
+record IsNamed (test : List ℕ → Bool) (lines : List LineValue) : Type 0 where
+  position : ℕ
+  value : List ℕ
+  at : slice_get lines position ≡ Some (UserAgent value)
+  passes : test value ≡ true
+  no_group : (k : ℕ) → k ≤ position → passes_at is_group lines k ≡ false
+
+named_next : {test : List ℕ → Bool} {lines : List LineValue} (line : LineValue) → is_group line ≡ false
+    → IsNamed test lines → IsNamed test (line ∷ lines)
+named_next {lines} line isnt is = record {
+  position = suc is.position;
+  value = is.value;
+  at = is.at;
+  passes = is.passes;
+  no_group = up_to;
+}
+  where
+    up_to : (k : ℕ) → k ≤ suc is.position → passes_at is_group (line ∷ lines) k ≡ false
+    up_to zero most = isnt
+    up_to (suc k) most = is.no_group k (omega arith)
+
+named : (test : List ℕ → Bool) (lines : List LineValue) → begin_with_one test lines ≡ true
+    → IsNamed test lines
+named test [] is = cc
+named test (UserAgent value ∷ lines) is = elim (or_cases (test value) (begin_with_one test lines) is) [
+  | inl passes ↦ record {
+    position = 0;
+    value = value;
+    at = refl;
+    passes = passes;
+    no_group = λ k most. let first : k ≡ 0 = omega arith in rw first refl;
+  }
+  | inr later ↦ named_next (UserAgent value) refl (named test lines later)
+]
+named test (Sitemap value ∷ lines) is = named_next (Sitemap value) refl (named test lines is)
+named test (Raw body ∷ lines) is = named_next (Raw body) refl (named test lines is)
+named test (line ∷ lines) is = cc
+
+one_run : {test : List ℕ → Bool} {lines : List LineValue} {position : ℕ} {rest : List LineValue}
+    → IsFrom lines position rest → (is : IsNamed test rest)
+    → AreOneRun lines position (position + is.position)
+one_run {lines} {position} {rest} from is k group = elim (cases_lt k position) [
+  | inl above ↦ inl (above, omega arith)
+  | inr not_above ↦ elim (cases_lt (position + is.position) k) [
+    | inl below ↦ inr (omega arith, below)
+    | inr within ↦
+        let i = k - position in
+        let same : slice_get lines k ≡ slice_get rest i =
+        subst (λ n. slice_get lines n ≡ slice_get rest i) (omega arith) (from.each i) in
+        absurd (false≢true (sym (is.no_group i (omega arith)) ∙ rw same at group))
+  ]
+]
+
+-- ---- the line
+
+first_agent : (before : Preceding) (line : LineValue) → is_first_name before line ≡ true
+    → (value : List ℕ) × (line ≡ UserAgent value)
+first_agent Agent line is = cc
+first_agent before (UserAgent value) is = (value, refl)
+first_agent Delay line is = cc
+first_agent Other line is = cc
+
+-- the line with this number passes the test for such a line
+record IsFound (agents : List (List ℕ)) (lines : List LineValue) (number : ℕ) : Type 0 where
+  position : ℕ
+  line : LineValue
+  rest : List LineValue
+  before : Preceding
+  number_is : number ≡ position + 1
+  from : IsFrom lines position (line ∷ rest)
+  passes : is_replacing agents lines before line (line ∷ rest) ≡ true
+
+found_from : (agents : List (List ℕ)) (lines : List LineValue) (before : Preceding) (position : ℕ)
+    (labels : List Label) (number : ℕ) → AreFrom lines position labels
+    → Contains (replacing_from agents lines before labels) number → IsFound agents lines number
+found_from agents lines before position [] number are (k, below, at) = absurd (omega arith)
+found_from agents lines before position (label ∷ labels) number are has =
+    let after = preceding_with before label.line in
+    let rest = lines_of labels in
+    elim (first_or_later (is_replacing agents lines before label.line (label.line ∷ rest)) label.number number
+    (replacing_from agents lines after labels) has) [
+      | inl (is, same) ↦ record {
+        position = position;
+        line = label.line;
+        rest = rest;
+        before = before;
+        number_is = omega (arith, are.numbers 0 label refl);
+        from = are.from;
+        passes = is;
+      }
+      | inr later ↦ found_from agents lines after (position + 1) labels number (labels_next are) later
+    ]
+
+if_any : (some : Bool) (numbers : List ℕ) (number : ℕ) → Contains (if some then numbers else []) number
+    → Contains numbers number
+if_any true numbers number has = has
+if_any false numbers number (k, below, at) = absurd (omega arith)
+
+pub replaces_star : (agents : List (List ℕ)) (name : List ℕ) (lines : List LineValue) (labels : List Label)
+    (number : ℕ) → AreLabelsOf name lines labels → Contains (replacing agents lines labels) number
+    → (position : ℕ) × (value agent : List ℕ) × (number ≡ position + 1)
+    × (slice_get lines position ≡ Some (UserAgent value)) × Contains agents agent
+    × IsInOwnGroup (str_to_ascii_lowercase agent) lines position × HasNone agent lines
+replaces_star agents name lines labels number labeled has =
+    let listed = if_any (list_any is_partial (star_rules lines)) _ number has in
+    let found = found_from agents lines Other 0 labels number (all_labels labeled) listed in
+    let (first, names) = both _ _ found.passes in
+    let (value, is) = first_agent found.before found.line (both _ _ first).0 in
+    let by = named _ (found.line ∷ found.rest) (both _ _ names).0 in
+    let (k, agent, below, at, passes) = Any-from_list_any _ agents by.passes in
+    let (lacks, same) = both _ _ passes in
+    let spelling = str_to_ascii_lowercase by.value in
+    let spelled = (bytes_eq-Decides (str_to_ascii_lowercase agent) spelling).0 same in
+    let on = here found.from ∙ ap Some is in (
+      found.position,
+      value,
+      agent,
+      found.number_is,
+      on,
+      (k, below, at),
+      inr (
+        rw on refl,
+        found.position + by.position,
+        rw (found.from.each by.position, by.at, spelled) ((bytes_eq-Decides spelling spelling).1 refl),
+        one_run found.from by,
+      ),
+      has_none agent lines lacks,
+    )
+
+-- ---- the number of Disallows
+
+pub star_disallows : (lines : List LineValue) (rules : List PlacedRule) → AreRulesFor (codes "*") lines rules
+    → star_count lines ≡ count_by (λ (placed : PlacedRule). not placed.rule.1) rules
+star_disallows lines rules are =
+    let moved = one_list (codes "*") lines rules (star_rules lines) are (computed_are (codes "*") lines) in
+    length-filter _ (star_rules lines) ∙ sum_by-IsPermutation _ rules (star_rules lines) moved
