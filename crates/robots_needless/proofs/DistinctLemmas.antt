@@ -1,12 +1,14 @@
 -- Which rules are left without those in some lines.
 use Rattle.std.proofs.Common.{◌≡◌, ◌≢◌, ◌≤◌, ◌↔◌, inl, inr, ℕ, zero, suc, ◌==◌, Bool, true}
 use Rattle.std.proofs.Common.{List, [], ◌∷◌, ◌++◌, All, IsPermutation, ap, sym, refl, ◌∙◌, arith}
-use Rattle.std.proofs.Common.{if◌then◌else◌, map}
+use Rattle.std.proofs.Common.{if◌then◌else◌, get_or, map, subst}
 use Rattle.std.specs.List.{Contains, filter, list_any, sum_by}
-use Rattle.std.proofs.lemmas.Bool.{cases_Bool, eqb-true, false≢true, ne_eqb, or_cases}
+use Rattle.std.proofs.lemmas.Bool.{cases_Bool, eqb-true, false≢true, ne_eqb}
 use Rattle.std.proofs.lemmas.Bool.Decides.{Decides-eqb}
 use Rattle.std.proofs.lemmas.List.Elements.{All-head, All-tail, Contains-append_cases, Contains-append_left}
 use Rattle.std.proofs.lemmas.List.Sorted.{Contains-permutation, IsPermutation-sym, sum_by-IsPermutation}
+use Rattle.std.proofs.lemmas.List.{get_or-map, length-map}
+use Rattle.std.proofs.lemmas.List.Folds.{Any-from_list_any, list_any_at}
 use Rattle.std.proofs.lemmas.List.Sums.{sum_by-append, sum_by-cons}
 use Rattle.texting_robots.specs.Rules.{PlacedRule}
 use Rattle.robots_needless.specs.Needless.{AreDistinct, lines_of, without}
@@ -56,10 +58,7 @@ hit_once n (first ∷ rules) placed (suc k, below, at) line =
 -- ---- members
 
 pub to_map : {A B : Type 0} (f : A → B) (xs : List A) (x : A) → Contains xs x → Contains (map f xs) (f x)
-to_map f [] x (k, below, at) = absurd (omega arith)
-to_map f (z ∷ xs) x (zero, below, at) = (0, omega arith, ap f at)
-to_map f (z ∷ xs) x (suc k, below, at) =
-    let (j, less, is) = to_map f xs x (k, omega arith, at) in (suc j, omega arith, is)
+to_map f xs x (k, below, at) = (k, rw (length-map xs f) below, get_or-map f xs k x (f x) below ∙ ap f at)
 
 pub of_map : {A B : Type 0} (f : A → B) (xs : List A) (y : B) → Contains (map f xs) y
     → (x : A) × Contains xs x × (f x ≡ y)
@@ -70,21 +69,14 @@ of_map f (x ∷ xs) y (suc k, below, at) =
 
 pub named_in : (n : ℕ) (numbers : List ℕ) → Contains numbers n
     → list_any (λ number. number == n) numbers ≡ true
-named_in n [] (k, below, at) = absurd (omega arith)
-named_in n (first ∷ numbers) (zero, below, at) = rw ((Decides-eqb first n).1 at) refl
-named_in n (first ∷ numbers) (suc k, below, at) = elim (cases_Bool (first == n)) [
-  | inl here ↦ rw here refl
-  | inr other ↦ rw other (named_in n numbers (k, omega arith, at))
-]
+named_in n numbers (k, below, at) =
+    list_any_at (λ number. number == n) numbers k n below ((Decides-eqb (get_or numbers k n) n).1 at)
 
 pub in_named : (n : ℕ) (numbers : List ℕ) → list_any (λ number. number == n) numbers ≡ true
     → Contains numbers n
-in_named n [] is = cc
-in_named n (first ∷ numbers) is =
-    elim (or_cases (first == n) (list_any (λ number. number == n) numbers) is) [
-      | inl here ↦ (0, omega arith, eqb-true first n here)
-      | inr later ↦ let (k, below, at) = in_named n numbers later in (suc k, omega arith, at)
-    ]
+in_named n numbers is =
+    let (k, one, below, at, same) = Any-from_list_any (λ number. number == n) numbers is in
+    subst (Contains numbers) (eqb-true one n same) (k, below, at)
 
 -- ---- filters
 
