@@ -1,19 +1,18 @@
 -- The worked examples.
 use Rattle.std.proofs.Common.{◌≡◌, ◌≢◌, ◌<◌, ◌↔◌, ◌⊎◌, inl, inr, ℕ, zero, suc, Bool, true, false, List, []}
-use Rattle.std.proofs.Common.{◌∷◌, All, Contains, codes, get_or, refl, sym, arith}
+use Rattle.std.proofs.Common.{◌∷◌, Contains, codes, get_or, refl, sym, arith}
 use Rattle.std.proofs.lemmas.Bool.{false≢true}
-use Rattle.std.proofs.lemmas.List.Elements.{All-cons, All-nil}
 use Rattle.texting_robots.specs.Rules.{PlacedRule, Rule, unplaced}
 use Rattle.texting_robots.specs.Verdict.{IsVerdict}
 use Rattle.texting_robots.proofs.BestLemmas.{answered}
 use Rattle.texting_robots.proofs.ExampleLemmas.{matching, not_matching}
 use Rattle.texting_robots.proofs.VerdictLemmas.{one_verdict}
-use Rattle.robots_needless.specs.Examples as example
 use Rattle.robots_needless.specs.Examples.{allow_at, deny_at, twice}
 use Rattle.robots_needless.specs.Internal.{fresh, generic}
-use Rattle.robots_needless.proofs.GenericLemmas.{covers_by_generic}
-use Rattle.robots_needless.proofs.{GenericLemmas.heads_apart, RemovalLemmas.AreWith, RemovalLemmas.can_go}
+use Rattle.robots_needless.proofs.GenericLemmas.{covers_by, escaped_below, heads_apart}
+use Rattle.robots_needless.proofs.RemovalLemmas.{AreWith, can_go}
 use Rattle.robots_needless.proofs.TogetherLemmas.{both_ways, verdicts}
+use Rattle.robots_needless.specs.Examples as example
 
 -- of two equal rules, one can go
 again : (others : List Rule) (text : List ℕ) (answer : Bool)
@@ -58,15 +57,10 @@ between = λ needless.
     let denied = (needless text false).0 (answered rules text).0 in
     false≢true (one_verdict (unplaced left) text false true denied (answered left text).0)
 
-no_fresh : All (λ b. b ≢ fresh) (codes "/*a")
-no_fresh =
-    let P : ℕ → Type 0 = λ b. b ≢ fresh in
-    All-cons P 47 (42 ∷ 97 ∷ []) (λ same. omega arith)
-    (All-cons P 42 (97 ∷ []) (λ same. omega arith) (All-cons P 97 [] (λ same. omega arith) (All-nil P)))
-
 pub covering : example.covering
 covering = (
-  covers_by_generic (codes "/*a") (codes "/b*a$") no_fresh (matching _ _ _ refl),
+  covers_by (codes "/*a") (codes "/b*a$") (generic (codes "/b*a$")) (escaped_below (codes "/*a")) refl
+      (matching _ _ _ refl),
   λ covers. not_matching true (codes "/b*a$") (codes "/a") refl (covers (codes "/a") (matching _ _ _ refl)),
 )
 
