@@ -24,13 +24,6 @@ pub record SameAscent (ends : List ℕ) (limit least : ℕ) (left : List ℕ) : 
   pub all : Ascend least left limit → Ascend 0 ends limit
   pub these : Ascend 0 ends limit → Ascend least left limit
 
-pub next_ascent : (ends : List ℕ) (limit least end : ℕ) (left : List ℕ) → least ≤ end → end ≤ limit
-    → SameAscent ends limit least (end ∷ left) → SameAscent ends limit end left
-next_ascent ends limit least end left above below same = record {
-  all = λ later. same.all (above, below, later);
-  these = λ whole. (same.these whole).2;
-}
-
 -- ---- the URLs that are left
 
 -- these URLs are UTF-8 if and only if all are
@@ -63,10 +56,6 @@ pub record SoFar (rules : List PlacedRule) (text ends : List ℕ) (start : ℕ) 
   pub utf8 : All IsUtf8 (pieces text start left)
   pub results : (later : List ℤ) → AllZip (HasResult rules) (pieces text start left) later
       → AllZip (HasResult rules) (pieces text 0 ends) (numbers ++ later)
-
-pub none_so_far : (rules : List PlacedRule) (text ends : List ℕ) → Ascend 0 ends (length text)
-    → All IsUtf8 (pieces text 0 ends) → SoFar rules text ends 0 ends []
-none_so_far rules text ends are all = record { ascend = are; utf8 = all; results = λ later is. is }
 
 pub one_more_end : (rules : List PlacedRule) (text ends : List ℕ) (start end : ℕ) (left : List ℕ)
     (numbers : List ℤ) (number : ℤ) → SoFar rules text ends start (end ∷ left) numbers

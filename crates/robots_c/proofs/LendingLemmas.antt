@@ -67,7 +67,8 @@ module _ {M : Type 1} {𝓤 : Ura M} (𝓛 : Logic 𝓤) where
   -- what `robots_site_open` and `robots_site_share` give
   pub sites_can_be_lent : (P : Sites.Denot → Type 0) (at : Ptr)
       → ent 𝓤 (sem 𝓛 (opened_at Sites P at)) (CanBeLent 𝓛 Sites P at)
-  sites_can_be_lent = can_be_lent Sites (Shared-laws.the_row_laws Site-type.the_row Site-laws.the_row_laws) refl
+  sites_can_be_lent = can_be_lent Sites
+      (Shared-laws.the_row_laws Site-type.the_row Site-laws.the_row_laws) refl
 
 -- and such a robot is one that the queries take
 pub queries_take_it : (agent file : List ℕ) (x : Robots.Denot) → IsRobotFor agent (bytes_read file) x

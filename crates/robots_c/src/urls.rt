@@ -59,25 +59,16 @@ pub(crate) fn result_for(alloc: Global, robot: &Robot, url: &[u8]) -> Result<i64
     }
 }
 
-/// The results for the URLs in a string, in order.
-fn numbers_for(alloc: Global, robot: &Robot, urls: &str) -> Result<Vec<i64>, AllocError>
-    requires { LinesFit robot.now.rules }
-    ensures { IfOk result (λ numbers. AllZip (IsResult robot.now.rules) (items_in urls.now) numbers.items) }
-{
-    let mut numbers = Vec::new(alloc);
-    for url in urls.split('\n') {
-        numbers.push(number_for(alloc, robot, url)?)?;
-    }
-    Ok(numbers)
-}
-
-/// The results for the URLs in a string, one for each.
+/// The results for the URLs in a string, one for each, in order.
 fn results_for(alloc: Global, robot: &Robot, urls: &str) -> Result<Vec<i64>, AllocError>
     requires { IsRobotOfSomeFile robot.now }
     ensures results { IfOk result (λ numbers. AllZip (IsResult robot.now.rules) (items_in urls.now) numbers.items) }
     ensures count { IfOk result (λ numbers. length numbers.items ≡ length (items_in urls.now)) }
 {
-    let numbers = numbers_for(alloc, robot, urls)?;
+    let mut numbers = Vec::new(alloc);
+    for url in urls.split('\n') {
+        numbers.push(number_for(alloc, robot, url)?)?;
+    }
     Ok(numbers)
 }
 

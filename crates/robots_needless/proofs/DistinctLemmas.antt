@@ -1,65 +1,23 @@
 -- Which rules are left without those in some lines.
-use Rattle.std.proofs.Common.{◌≡◌, ◌≢◌, ◌≤◌, ◌↔◌, inl, inr, ℕ, zero, suc, ◌==◌, Bool, true}
-use Rattle.std.proofs.Common.{List, [], ◌∷◌, ◌++◌, All, IsPermutation, ap, sym, refl, ◌∙◌, arith}
-use Rattle.std.proofs.Common.{if◌then◌else◌, map}
-use Rattle.std.specs.List.{Contains, filter, list_any, sum_by}
-use Rattle.std.proofs.lemmas.Bool.{cases_Bool, eqb-true, false≢true, ne_eqb, or_cases}
+use Rattle.std.proofs.Common.{◌≡◌, ◌≢◌, ◌↔◌, inl, inr, ℕ, zero, suc, ◌==◌, Bool, true, List, [], ◌∷◌, ◌++◌}
+use Rattle.std.proofs.Common.{IsPermutation, ap, sym, refl, ◌∙◌, arith, get_or, map, subst, length}
+use Rattle.std.proofs.Common.{length-append, false, ◌+◌}
+use Rattle.std.specs.List.{Contains, filter, list_any}
+use Rattle.std.proofs.lemmas.Bool.{cases_Bool, eqb-true, false≢true, ne_eqb}
 use Rattle.std.proofs.lemmas.Bool.Decides.{Decides-eqb}
-use Rattle.std.proofs.lemmas.List.Elements.{All-head, All-tail, Contains-append_cases, Contains-append_left}
-use Rattle.std.proofs.lemmas.List.Sorted.{Contains-permutation, IsPermutation-sym, sum_by-IsPermutation}
-use Rattle.std.proofs.lemmas.List.Sums.{sum_by-append, sum_by-cons}
+use Rattle.std.proofs.lemmas.List.Elements.{Contains-append_cases, Contains-append_left}
+use Rattle.std.proofs.lemmas.List.Sorted.{Contains-permutation, IsPermutation-sym}
+use Rattle.std.proofs.lemmas.List.{get_or-map, length-map, get_or-append-add, get_or_append_left}
+use Rattle.std.proofs.lemmas.List.{get_or_default}
+use Rattle.std.proofs.lemmas.List.Folds.{Any-from_list_any, list_any_at}
 use Rattle.texting_robots.specs.Rules.{PlacedRule}
 use Rattle.robots_needless.specs.Needless.{AreDistinct, lines_of, without}
-
--- ---- rules in one line
-
-abbrev hit : ℕ → PlacedRule → ℕ
-hit n placed = if placed.line == n then 1 else 0
-
-none_hits : (n : ℕ) (rules : List PlacedRule) → All (λ (placed : PlacedRule). n ≢ placed.line) rules
-    → sum_by (hit n) rules ≡ 0
-none_hits n [] all = refl
-none_hits n (first ∷ rules) all =
-    let P : PlacedRule → Type 0 = λ placed. n ≢ placed.line in
-    let other = ne_eqb first.line n (λ same. All-head P first rules all (sym same)) in
-    let is : hit n first ≡ 0 = rw other refl in
-    omega (arith, sum_by-cons (hit n) first rules, is, none_hits n rules (All-tail P first rules all))
-
-at_most_one : (n : ℕ) (rules : List PlacedRule) → AreDistinct rules → sum_by (hit n) rules ≤ 1
-at_most_one n [] once = omega arith
-at_most_one n (first ∷ rules) once =
-    let more = sum_by-cons (hit n) first rules in
-    elim (cases_Bool (first.line == n)) [
-      | inl here ↦
-          let is : hit n first ≡ 1 = rw here refl in
-          let number = eqb-true first.line n here in
-          let apart : All (λ (placed : PlacedRule). n ≢ placed.line) rules =
-          λ k d below same. once 0 (suc k) d (omega arith) (omega arith) (number ∙ same) in
-          omega (arith, more, is, none_hits n rules apart)
-      | inr other ↦
-          let is : hit n first ≡ 0 = rw other refl in
-          let rest : AreDistinct rules =
-          λ i j d less below. once (suc i) (suc j) d (omega arith) (omega arith) in
-          omega (arith, more, is, at_most_one n rules rest)
-    ]
-
-hit_once : (n : ℕ) (rules : List PlacedRule) (placed : PlacedRule) → Contains rules placed → placed.line ≡ n
-    → 1 ≤ sum_by (hit n) rules
-hit_once n [] placed (k, below, at) line = absurd (omega arith)
-hit_once n (first ∷ rules) placed (zero, below, at) line =
-    let here : first.line ≡ n = ap (λ (p : PlacedRule). p.line) at ∙ line in
-    let is : hit n first ≡ 1 = rw ((Decides-eqb first.line n).1 here) refl in
-    omega (arith, sum_by-cons (hit n) first rules, is)
-hit_once n (first ∷ rules) placed (suc k, below, at) line =
-    omega (arith, sum_by-cons (hit n) first rules, hit_once n rules placed (k, omega arith, at) line)
+use Rattle.std.proofs.lemmas.Map.Keys.{IsDistinct-IsPermutation, IsDistinct-from_apart, apart_from_distinct}
 
 -- ---- members
 
 pub to_map : {A B : Type 0} (f : A → B) (xs : List A) (x : A) → Contains xs x → Contains (map f xs) (f x)
-to_map f [] x (k, below, at) = absurd (omega arith)
-to_map f (z ∷ xs) x (zero, below, at) = (0, omega arith, ap f at)
-to_map f (z ∷ xs) x (suc k, below, at) =
-    let (j, less, is) = to_map f xs x (k, omega arith, at) in (suc j, omega arith, is)
+to_map f xs x (k, below, at) = (k, rw (length-map xs f) below, get_or-map f xs k x (f x) below ∙ ap f at)
 
 pub of_map : {A B : Type 0} (f : A → B) (xs : List A) (y : B) → Contains (map f xs) y
     → (x : A) × Contains xs x × (f x ≡ y)
@@ -70,21 +28,14 @@ of_map f (x ∷ xs) y (suc k, below, at) =
 
 pub named_in : (n : ℕ) (numbers : List ℕ) → Contains numbers n
     → list_any (λ number. number == n) numbers ≡ true
-named_in n [] (k, below, at) = absurd (omega arith)
-named_in n (first ∷ numbers) (zero, below, at) = rw ((Decides-eqb first n).1 at) refl
-named_in n (first ∷ numbers) (suc k, below, at) = elim (cases_Bool (first == n)) [
-  | inl here ↦ rw here refl
-  | inr other ↦ rw other (named_in n numbers (k, omega arith, at))
-]
+named_in n numbers (k, below, at) =
+    list_any_at (λ number. number == n) numbers k n below ((Decides-eqb (get_or numbers k n) n).1 at)
 
 pub in_named : (n : ℕ) (numbers : List ℕ) → list_any (λ number. number == n) numbers ≡ true
     → Contains numbers n
-in_named n [] is = cc
-in_named n (first ∷ numbers) is =
-    elim (or_cases (first == n) (list_any (λ number. number == n) numbers) is) [
-      | inl here ↦ (0, omega arith, eqb-true first n here)
-      | inr later ↦ let (k, below, at) = in_named n numbers later in (suc k, omega arith, at)
-    ]
+in_named n numbers is =
+    let (k, one, below, at, same) = Any-from_list_any (λ number. number == n) numbers is in
+    subst (Contains numbers) (eqb-true one n same) (k, below, at)
 
 -- ---- filters
 
@@ -156,20 +107,34 @@ module _ (numbers : List ℕ) (rules left removed : List PlacedRule)
   pub left_without : Contains (without numbers rules) placed ↔ Contains left placed
   left_without = (to_left, of_left)
 
+abbrev in_one_line : PlacedRule → PlacedRule → Bool
+in_one_line placed other = placed.line == other.line
+
+either_way : (m n : ℕ) → (m == n) ≡ (n == m)
+either_way m n = elim (cases_Bool (m == n)) [
+  | inl same ↦ same ∙ sym ((Decides-eqb n m).1 (sym (eqb-true m n same)))
+  | inr other ↦ other
+      ∙ sym (ne_eqb n m (λ same. false≢true (sym other ∙ (Decides-eqb m n).1 (sym same))))
+]
+
 module _ (rules kept removed : List PlacedRule) (same : IsPermutation rules (kept ++ removed))
     (once : AreDistinct rules) where
   not_both : (placed : PlacedRule) → Contains kept placed → ¬ Contains (lines_of removed) placed.line
-  not_both placed has number =
-      let n = placed.line in
-      let (other, was, same_line) = of_map (λ (p : PlacedRule). p.line) removed n number in
-      omega (
-        arith,
-        sum_by-IsPermutation (hit n) rules (kept ++ removed) same,
-        sum_by-append (hit n) kept removed,
-        at_most_one n rules once,
-        hit_once n kept placed has refl,
-        hit_once n removed other was same_line,
-      )
+  not_both placed (k, below, at) number =
+      let all = kept ++ removed in
+      let (other, (m, within, there), same_line) =
+      of_map (λ (p : PlacedRule). p.line) removed placed.line number in
+      let first : get_or all k other ≡ placed =
+      get_or_append_left kept removed other k below ∙ get_or_default kept k other placed below ∙ at in
+      let second : get_or all (length kept + m) other ≡ other =
+      get_or-append-add kept removed m other ∙ there in
+      let distinct =
+      IsDistinct-IsPermutation in_one_line (λ one two. either_way one.line two.line) rules all same
+      (IsDistinct-from_apart in_one_line rules (λ i j d less far. ne_eqb _ _ (once i j d less far))) in
+      let apart = apart_from_distinct in_one_line all k (length kept + m) other distinct (omega arith)
+      (omega (arith, length-append kept removed)) in
+      let none : (placed.line == other.line) ≡ false = rw (first, second) at apart in
+      false≢true (sym none ∙ (Decides-eqb placed.line other.line).1 (sym same_line))
 
   pub left_are_kept : (placed : PlacedRule)
       → Contains (without (lines_of removed) rules) placed ↔ Contains kept placed

@@ -1,64 +1,52 @@
 -- The worked examples.
-use Rattle.std.proofs.Common.{◌≡◌, ◌≢◌, ◌<◌, inl, inr, ℕ, zero, suc, true, false, List, [], ◌∷◌, All, codes}
-use Rattle.std.proofs.Common.{get_or, refl, arith}
+use Rattle.std.proofs.Common.{◌≡◌, ◌≢◌, ◌<◌, ◌↔◌, ◌⊎◌, inl, inr, ℕ, zero, suc, Bool, true, false, List, []}
+use Rattle.std.proofs.Common.{◌∷◌, Contains, codes, get_or, refl, sym, arith}
 use Rattle.std.proofs.lemmas.Bool.{false≢true}
-use Rattle.std.proofs.lemmas.List.Elements.{All-cons, All-nil}
-use Rattle.std.proofs.lemmas.List.Sorted.{IsPermutation-append_comm, IsPermutation-refl}
 use Rattle.texting_robots.specs.Rules.{PlacedRule, Rule, unplaced}
+use Rattle.texting_robots.specs.Verdict.{IsVerdict}
 use Rattle.texting_robots.proofs.BestLemmas.{answered}
 use Rattle.texting_robots.proofs.ExampleLemmas.{matching, not_matching}
 use Rattle.texting_robots.proofs.VerdictLemmas.{one_verdict}
-use Rattle.robots_needless.specs.Examples as example
 use Rattle.robots_needless.specs.Examples.{allow_at, deny_at, twice}
-use Rattle.robots_needless.specs.Internal.{CanGo, fresh, generic}
-use Rattle.robots_needless.specs.Needless.{AreDistinct}
-use Rattle.robots_needless.proofs.GenericLemmas.{covers_by_generic}
-use Rattle.robots_needless.proofs.{HeadLemmas.heads_apart, TogetherLemmas.needless_in_turn}
+use Rattle.robots_needless.specs.Internal.{fresh, generic}
+use Rattle.robots_needless.proofs.GenericLemmas.{covers_by, escaped_below, heads_apart}
+use Rattle.robots_needless.proofs.RemovalLemmas.{AreWith, can_go}
+use Rattle.robots_needless.proofs.TogetherLemmas.{both_ways, verdicts}
+use Rattle.robots_needless.specs.Examples as example
 
-first_replaces : (others : List Rule) → CanGo ((codes "/a", false) ∷ others) (codes "/a", false)
-first_replaces others = inr (inr (
-  (codes "/a", false),
-  record { listed = (0, omega arith, refl); covers = λ text fits. fits; decides = inl (omega arith) },
-))
-
-two_distinct : AreDistinct twice
-two_distinct zero (suc zero) d less below = λ same. omega arith
-two_distinct zero zero d less below = absurd (omega arith)
-two_distinct zero (suc (suc j)) d less below = absurd (omega arith)
-two_distinct (suc i) j d less below = absurd (omega arith)
+-- of two equal rules, one can go
+again : (others : List Rule) (text : List ℕ) (answer : Bool)
+    → IsVerdict ((codes "/a", false) ∷ (codes "/a", false) ∷ others) text answer
+    ↔ IsVerdict ((codes "/a", false) ∷ others) text answer
+again others text =
+    let rule : Rule = (codes "/a", false) in
+    verdicts (rule ∷ rule ∷ others) (rule ∷ others) text
+    (can_go (rule ∷ others) (rule ∷ rule ∷ others) rule with_one (inr (inr (
+      rule,
+      record { listed = (0, omega arith, refl); covers = λ text fits. fits; decides = inl (omega arith) },
+    ))) text)
+  where
+    with_one : AreWith ((codes "/a", false) ∷ others) (codes "/a", false)
+        ((codes "/a", false) ∷ (codes "/a", false) ∷ others)
+    with_one = record { more = λ x (k, below, at). (suc k, omega arith, at); only = of }
+      where
+        of : (x : Rule) → Contains ((codes "/a", false) ∷ (codes "/a", false) ∷ others) x
+            → Contains ((codes "/a", false) ∷ others) x ⊎ (◌≡◌ {A = Rule} x (codes "/a", false))
+        of x (zero, below, at) = inr (sym at)
+        of x (suc k, below, at) = inl (k, omega arith, at)
 
 pub one_of_two : example.one_of_two
 one_of_two = (
-  needless_in_turn twice (deny_at 2 (codes "/a") ∷ []) (deny_at 1 (codes "/a") ∷ []) two_distinct
-      (IsPermutation-append_comm (deny_at 1 (codes "/a") ∷ []) (deny_at 2 (codes "/a") ∷ []))
-      (first_replaces [], tt),
-  needless_in_turn twice (deny_at 1 (codes "/a") ∷ []) (deny_at 2 (codes "/a") ∷ []) two_distinct
-      (IsPermutation-refl twice) (first_replaces [], tt),
+  again [],
+  again [],
   λ needless.
       let text = codes "/a" in
       let denied = (needless text false).0 (answered twice text).0 in
       false≢true (one_verdict [] text false true denied (answered [] text).0),
 )
 
-abbrev three : List PlacedRule
-three = deny_at 1 (codes "/a") ∷ deny_at 2 (codes "/a") ∷ deny_at 3 (codes "/a") ∷ []
-
-three_distinct : AreDistinct three
-three_distinct zero zero d less below = absurd (omega arith)
-three_distinct zero (suc zero) d less below = λ same. omega arith
-three_distinct zero (suc (suc zero)) d less below = λ same. omega arith
-three_distinct zero (suc (suc (suc j))) d less below = absurd (omega arith)
-three_distinct (suc zero) zero d less below = absurd (omega arith)
-three_distinct (suc zero) (suc zero) d less below = absurd (omega arith)
-three_distinct (suc zero) (suc (suc zero)) d less below = λ same. omega arith
-three_distinct (suc zero) (suc (suc (suc j))) d less below = absurd (omega arith)
-three_distinct (suc (suc i)) j d less below = absurd (omega arith)
-
 pub two_of_three : example.two_of_three
-two_of_three =
-    needless_in_turn three (deny_at 1 (codes "/a") ∷ [])
-    (deny_at 2 (codes "/a") ∷ deny_at 3 (codes "/a") ∷ []) three_distinct (IsPermutation-refl three)
-    (first_replaces ((codes "/a", false) ∷ []), (first_replaces [], tt))
+two_of_three = λ text answer. both_ways (again ((codes "/a", false) ∷ []) text answer) (again [] text answer)
 
 pub between : example.between
 between = λ needless.
@@ -69,15 +57,10 @@ between = λ needless.
     let denied = (needless text false).0 (answered rules text).0 in
     false≢true (one_verdict (unplaced left) text false true denied (answered left text).0)
 
-no_fresh : All (λ b. b ≢ fresh) (codes "/*a")
-no_fresh =
-    let P : ℕ → Type 0 = λ b. b ≢ fresh in
-    All-cons P 47 (42 ∷ 97 ∷ []) (λ same. omega arith)
-    (All-cons P 42 (97 ∷ []) (λ same. omega arith) (All-cons P 97 [] (λ same. omega arith) (All-nil P)))
-
 pub covering : example.covering
 covering = (
-  covers_by_generic (codes "/*a") (codes "/b*a$") no_fresh (matching _ _ _ refl),
+  covers_by (codes "/*a") (codes "/b*a$") (generic (codes "/b*a$")) (escaped_below (codes "/*a")) refl
+      (matching _ _ _ refl),
   λ covers. not_matching true (codes "/b*a$") (codes "/a") refl (covers (codes "/a") (matching _ _ _ refl)),
 )
 

@@ -27,8 +27,9 @@ use Rattle.robots_needless.specs.Needless.{AreNeedless, lines_without, numbers_o
 use Rattle.robots_needless.proofs.BlockLemmas.{among, left_are}
 use Rattle.robots_needless.proofs.DeletedLemmas.{ArePairs, cut_pairs, meant, meant_joined, pair_body}
 use Rattle.robots_needless.proofs.DeletedLemmas.{pairs_left}
-use Rattle.robots_needless.proofs.MarkLemmas.{IsUnmarked, mark_of, mark_off, mark_read}
-use Rattle.robots_needless.proofs.{DistinctLemmas.in_filter, NameLemmas.star_or_named}
+use Rattle.robots_needless.proofs.DeletedLemmas.{IsUnmarked, mark_of, mark_off, mark_read}
+use Rattle.robots_needless.proofs.{DistinctLemmas.in_filter, CrawlerLemmas.split_read}
+use Rattle.robots_needless.proofs.{CrawlerLemmas.star_or_named}
 use Rattle.robots_needless.proofs.TogetherLemmas.{both_ways, unplaced_of}
 
 -- ---- what is left behind it
@@ -123,16 +124,6 @@ module _ (numbers file left : List ℕ) (is : IsLeftOf numbers file left)
   same_result agent = raw_changes_nothing agent _ _ same_lines
 
 -- ---- each file has such lines
-
-split_read : (f : ℕ → ℕ) (text front back : List ℕ) → map f text ≡ front ++ back
-    → (one : List ℕ) × (two : List ℕ) × (text ≡ one ++ two) × (map f one ≡ front) × (map f two ≡ back)
-split_read f text [] back is = ([], text, refl, refl, is)
-split_read f [] (b ∷ front) back is = cc
-split_read f (a ∷ text) (b ∷ front) back is =
-    let first : f a ≡ b = cc in
-    let rest : map f text ≡ front ++ back = cc in
-    let (one, two, whole, fits, left) = split_read f text front back rest in
-    (a ∷ one, two, ap (λ t. a ∷ t) whole, ap₂ (λ x t. x ∷ t) first fits, left)
 
 whole_of : (pairs : List Pair) (text : List ℕ) → map nul_as_lf text ≡ joined pairs
     → (whole : List (List ℕ)) × (map (λ line. map nul_as_lf line) whole ≡ map bytes_of pairs)

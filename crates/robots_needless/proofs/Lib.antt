@@ -2,21 +2,16 @@
 -- (`GenericLemmas`). A rule whose texts are decided in the same way without it can go
 -- (`RemovalLemmas`). Rules that can go one after the other are needless together (`TogetherLemmas`):
 -- no two are in one line, so what is left without these lines are the rules that were kept
--- (`DistinctLemmas`). Which crawlers have the same rules is in `CrawlerLemmas` and `NameLemmas`. What is left
--- of the bytes of a file has the lines that stay (`DeletedLemmas`, `MarkLemmas`, `LeftLemmas`).
+-- (`DistinctLemmas`). Which crawlers have the same rules is in `CrawlerLemmas`. What is left of the bytes of
+-- a file has the lines that stay (`DeletedLemmas`, `LeftLemmas`).
 pub mod GenericLemmas
 pub mod RemovalLemmas
 pub mod DistinctLemmas
 pub mod TogetherLemmas
-pub mod HeadLemmas
-pub mod ReasonLemmas
 pub mod BlockLemmas
 pub mod PlainLemmas
-pub mod KeptLemmas
 pub mod SettledLemmas
 pub mod CrawlerLemmas
-pub mod NameLemmas
 pub mod DeletedLemmas
-pub mod MarkLemmas
 pub mod LeftLemmas
 pub mod ExampleLemmas

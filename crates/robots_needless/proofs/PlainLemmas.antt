@@ -1,34 +1,33 @@
 -- Plain rules, which are tried in the order of their patterns: of those that are kept, only the ones that
 -- begin a rule match a text that it matches.
 use Rattle.std.proofs.Common.{◌≡◌, ◌≢◌, ◌<◌, ◌≤◌, ◌⊎◌, inl, inr, ℕ, ◌+◌, ◌*◌, Bool, true, false, List, []}
-use Rattle.std.proofs.Common.{◌∷◌, ◌++◌, All, if◌then◌else◌}
-use Rattle.std.proofs.Common.{IsTrue, ◌↔◌, ap, sym, subst, refl, ◌∙◌, append_assoc, append-nil, arith, drop}
-use Rattle.std.proofs.Common.{length}
-use Rattle.std.proofs.Common.{IsPermutation, Less, Equal, Greater, get_or, nat_eq, take}
-use Rattle.std.specs.{Cmp.Lexicographic.slice_cmp, List.Contains, List.Sorted.IsSortedBy, List.starts_with}
+use Rattle.std.proofs.Common.{◌∷◌, ◌++◌, All, if◌then◌else◌, IsTrue, ◌↔◌, ap, sym, subst, refl, ◌∙◌}
+use Rattle.std.proofs.Common.{append-nil, arith, drop, length, Less, Equal, Greater, get_or, nat_eq, take}
+use Rattle.std.specs.Cmp.Lexicographic.{slice_cmp, bytes_decides, on_texts, pointwise}
+use Rattle.std.specs.List.{Contains, starts_with}
+use Rattle.std.specs.List.Sorted.{IsSortedBy}
 use Rattle.std.specs.Cmp.{IsStrictWeakOrder}
-use Rattle.std.specs.Cmp.Lexicographic.{bytes_decides, on_texts, pointwise}
 use Rattle.std.specs.Ordering.{is_lt, nat_cmp, ordering_then}
 use Rattle.std.specs.declared.cmp.Ordering.{Ordering}
 use Rattle.std.proofs.Math.Dec.{eqb}
 use Rattle.std.proofs.lemmas.Bool.{cases_lt, eq-eqb}
 use Rattle.std.proofs.lemmas.Cmp.{back_total, nat_cmp_total, nat_list_cmp_total, on_total, then_total}
 use Rattle.std.proofs.lemmas.Cmp.{tied_itself}
-use Rattle.std.proofs.lemmas.List.{get_or_append_left, get_or_push, length_push, take-append-drop}
-use Rattle.std.proofs.lemmas.List.{take_at}
+use Rattle.std.proofs.lemmas.List.{get_or_append_left, get_or_push, length_push, take-append-drop, take_at}
 use Rattle.std.proofs.lemmas.List.Elements.{Contains-append_cases, Contains-append_left}
 use Rattle.std.proofs.lemmas.List.Elements.{Contains-append_right, Contains-push, Contains-push_cases}
 use Rattle.std.proofs.lemmas.List.MinMax.{ranks_by}
-use Rattle.std.proofs.lemmas.List.Sorted.{IsPermutation-append_left, IsPermutation-append_right}
-use Rattle.std.proofs.lemmas.List.Sorted.{IsPermutation-refl, IsPermutation-trans, sorted_far}
+use Rattle.std.proofs.lemmas.List.Sorted.{IsPermutation-append_left, IsPermutation-refl, IsPermutation-trans}
+use Rattle.std.proofs.lemmas.List.Sorted.{sorted_far, Contains-permutation, IsPermutation-sym}
 use Rattle.texting_robots.specs.Pattern.{Matches, MatchesWith}
 use Rattle.texting_robots.specs.Rules.{PlacedRule}
-use Rattle.texting_robots.proofs.{OrderLemmas.cmp_less, OrderLemmas.cmp_same, PatternLemmas.in_front}
-use Rattle.robots_needless.specs.Internal.{AreDescending, AreLeft, AreNear, IsAfter, IsNoRival}
-use Rattle.robots_needless.specs.Internal.{IsPlain}
-use Rattle.robots_needless.specs.Internal.{IsPlainByte, rule_cmp}
+use Rattle.texting_robots.proofs.OrderLemmas.{cmp_less, cmp_same}
+use Rattle.texting_robots.proofs.PatternLemmas.{in_front}
+use Rattle.robots_needless.specs.Internal.{AreDescending, AreLeft, AreNear, IsAfter, IsNoRival, IsPlain}
+use Rattle.robots_needless.specs.Internal.{IsPlainByte, rule_cmp, IsReducing, Reasons}
 use Rattle.robots_needless.specs.Needless.{AreApart, rank_of}
-use Rattle.robots_needless.proofs.{TogetherLemmas.rest_to_front}
+use Rattle.robots_needless.proofs.TogetherLemmas.{rest_to_front, reordered}
+use Rattle.std.specs.BTreeSet.{BTreeSet}
 
 -- ---- a plain pattern matches the texts that begin with it
 
@@ -240,11 +239,16 @@ module _ (near far rest old new_near new_far : List PlacedRule) (rule : PlacedRu
         parted_rules one rule other plain other_plain begins_not after later
   ]
 
-  pub same_rules : (starred : List PlacedRule)
-      → IsPermutation ((starred ++ (far ++ near)) ++ old) ((starred ++ (new_far ++ new_near)) ++ old)
-  same_rules starred =
-      IsPermutation-append_left old (starred ++ (far ++ near)) (starred ++ (new_far ++ new_near))
-      (IsPermutation-append_right starred (far ++ near) (new_far ++ new_near) left.same)
+  -- the kept rules, in another order
+  pub near_moved : (starred : List PlacedRule) {all : List PlacedRule} {start found : Reasons}
+      {stayed stays : BTreeSet ℕ} → IsReducing all (far ++ near) (starred ++ old) start found stayed stays
+      → IsReducing all (new_far ++ new_near) (starred ++ old) start found stayed stays
+  near_moved starred is =
+      reordered is (new_far ++ new_near) (starred ++ old) _
+      (IsPermutation-append_left (starred ++ old) (far ++ near) (new_far ++ new_near) left.same)
+      (λ n has. has) (λ placed has.
+      is.reduced.stay placed (Contains-permutation (new_far ++ new_near) (far ++ near) placed
+      (IsPermutation-sym (far ++ near) (new_far ++ new_near) left.same) has))
 
   pub rule_goes : AreParted new_near new_far rest
   rule_goes = record {
@@ -268,30 +272,29 @@ module _ (near far rest old new_near new_far : List PlacedRule) (rule : PlacedRu
   }
 
   pub they_are_near : (starred : List PlacedRule)
-      → AreNear new_near starred ((starred ++ (new_far ++ new_near)) ++ rest) rule
+      → AreNear new_near starred ((new_far ++ new_near) ++ (starred ++ rest)) rule
   they_are_near starred =
-      let plain = new_far ++ new_near in
-      let kept = starred ++ plain in record {
+      let kept = new_far ++ new_near in
+      let later = starred ++ rest in record {
         first = λ placed has.
-            Contains-append_left kept rest placed (Contains-append_right starred plain placed
-            (Contains-append_right new_far new_near placed has));
+            Contains-append_left kept later placed (Contains-append_right new_far new_near placed has);
         second = λ placed has.
-            Contains-append_left kept rest placed (Contains-append_left starred plain placed has);
-        only = λ other has. elim (Contains-append_cases kept rest other has) [
-          | inl stays ↦ elim (Contains-append_cases starred plain other stays) [
-            | inl second ↦ inr (inl second)
-            | inr of_plain ↦ elim (Contains-append_cases new_far new_near other of_plain) [
-              | inl is_far ↦
-                  inr (inr (λ differ low less.
-                  far_apart other rule is_far (rule_in_old rest old rule last are.order)))
-              | inr is_near ↦ inl is_near
-            ]
+            Contains-append_right kept later placed (Contains-append_left starred rest placed has);
+        only = λ other has. elim (Contains-append_cases kept later other has) [
+          | inl stays ↦ elim (Contains-append_cases new_far new_near other stays) [
+            | inl is_far ↦
+                inr (inr (λ differ low less.
+                far_apart other rule is_far (rule_in_old rest old rule last are.order)))
+            | inr is_near ↦ inl is_near
           ]
-          | inr later ↦
-              let (other_plain, plain_rule, after) =
-              in_front_of rest old rule last are.order other
-              (in_old rest old rule last are.order other later) in
-              inr (inr (later_no_rival rule other plain_rule other_plain after))
+          | inr of_later ↦ elim (Contains-append_cases starred rest other of_later) [
+            | inl second ↦ inr (inl second)
+            | inr one ↦
+                let (other_plain, plain_rule, after) =
+                in_front_of rest old rule last are.order other
+                (in_old rest old rule last are.order other one) in
+                inr (inr (later_no_rival rule other plain_rule other_plain after))
+          ]
         ];
       }
 
@@ -301,12 +304,6 @@ nothing_parted rules order = record {
   far = λ one other (k, below, at). absurd (omega arith);
   near = λ one other (k, below, at). absurd (omega arith);
 }
-
-pub near_pushed : (starred far near : List PlacedRule) (rule : PlacedRule)
-    → (starred ++ (far ++ near)) ++ rule ∷ [] ≡ starred ++ (far ++ (near ++ rule ∷ []))
-near_pushed starred far near rule =
-    append_assoc starred (far ++ near) (rule ∷ [])
-    ∙ ap (λ plain. starred ++ plain) (append_assoc far near (rule ∷ []))
 
 -- ---- one of the near rules is left
 

@@ -1,30 +1,36 @@
 -- Rules that can go one after the other are needless together.
 use Rattle.std.proofs.Common.{◌≡◌, ◌↔◌, inl, inr, ℕ, zero, suc, Bool, true, false, List, [], ◌∷◌, ◌++◌}
-use Rattle.std.proofs.Common.{IsPermutation, ap, refl, sym, subst, ◌∙◌, append_assoc, append-nil, arith}
+use Rattle.std.proofs.Common.{IsPermutation, ap, refl, sym, subst, ◌∙◌, append_assoc, append-nil, arith, ◌≢◌}
+use Rattle.std.proofs.Common.{◌≤◌, ◌⊎◌, Some}
 use Rattle.std.specs.List.{Contains}
-use Rattle.std.proofs.lemmas.List.{get_or-map, length-map, map-append}
-use Rattle.std.proofs.lemmas.List.Elements.{All-nil, All-push, Contains-append_cases, Contains-append_left}
-use Rattle.std.proofs.lemmas.List.Elements.{Contains-push}
+use Rattle.std.proofs.lemmas.List.Elements.{Contains-append_cases, Contains-append_left, Contains-push}
+use Rattle.std.proofs.lemmas.List.Elements.{Contains-append_right, Contains-push_cases}
 use Rattle.std.proofs.lemmas.List.Sorted.{Contains-permutation, IsPermutation-append_comm}
 use Rattle.std.proofs.lemmas.List.Sorted.{IsPermutation-append_left, IsPermutation-append_right}
-use Rattle.std.proofs.lemmas.List.Sorted.{IsPermutation-middle, IsPermutation-refl, IsPermutation-sym}
-use Rattle.std.proofs.lemmas.List.Sorted.{IsPermutation-trans}
+use Rattle.std.proofs.lemmas.List.Sorted.{IsPermutation-middle, IsPermutation-sym, IsPermutation-trans}
 use Rattle.texting_robots.specs.Rules.{PlacedRule, Rule, unplaced}
 use Rattle.texting_robots.specs.Verdict.{IsDenied, IsVerdict}
 use Rattle.texting_robots.proofs.BestLemmas.{placed_of}
-use Rattle.robots_needless.specs.declared.needless.NeedlessRule.{NeedlessRule}
+use Rattle.texting_robots.proofs.VerdictLemmas.{same_verdicts}
 use Rattle.robots_needless.specs.declared.needless.Reason.{Reason}
+use Rattle.robots_needless.specs.Internal.{AreAmong, CanGoInTurn, Goes, AreNear, CanReplace, HasNoRival}
+use Rattle.robots_needless.specs.Internal.{IsNoRival, AddsNumber, Has, HasLine, IsReducing, Reasons}
+use Rattle.robots_needless.specs.Needless.{AreDistinct, AreNeedless, IsReason, lines_of, without, Overrules}
+use Rattle.robots_needless.proofs.DistinctLemmas.{left_are_kept, to_map}
+use Rattle.robots_needless.proofs.RemovalLemmas.{AreWith, can_go}
+use Rattle.robots_needless.specs.declared.needless.Reason.TheVariants.{AllowedAnyway, NeverDecides, NotNeeded}
+use Rattle.std.specs.BTreeMap.{Updates, get}
+use Rattle.std.specs.BTreeSet.{BTreeSet}
+use Rattle.std.specs.Ordering.{eq_by_cmp, nat_cmp}
+use Rattle.std.proofs.lemmas.Bool.{cases_Bool}
+use Rattle.std.proofs.lemmas.Map.Lookups.{exact_unsigned}
+use Rattle.std.proofs.lemmas.Map.Views.{tells_apart}
 use Rattle.robots_needless.specs.declared.needless.Reason.TheVariants as reasons
-use Rattle.robots_needless.specs.Internal.{AreAmong, CanGoInTurn, Goes, IsReducedTo}
-use Rattle.robots_needless.specs.Needless.{AreDistinct, AreNeedless, IsFound, IsReason, lines_of, without}
-use Rattle.robots_needless.proofs.{DistinctLemmas.left_are_kept, RemovalLemmas.AreWith, RemovalLemmas.can_go}
 
 -- the rule of a member
 pub unplaced_of : (rules : List PlacedRule) (placed : PlacedRule) → Contains rules placed
     → Contains (unplaced rules) placed.rule
-unplaced_of rules placed (k, below, at) =
-    let rule = λ (p : PlacedRule). p.rule in
-    (k, rw (length-map rules rule) below, get_or-map rule rules k placed placed.rule below ∙ ap rule at)
+unplaced_of = to_map (λ (p : PlacedRule). p.rule)
 
 -- ---- rules with the same members have the same verdicts
 
@@ -78,18 +84,10 @@ with_last others rule = record {
       ];
 }
 
-members : (rules others : List PlacedRule) → IsPermutation rules others → SameMembers rules others
-members rules others same placed = (
-  Contains-permutation rules others placed same,
-  Contains-permutation others rules placed (IsPermutation-sym rules others same),
-)
-
 pub denied_permuted : (rules others : List PlacedRule) → IsPermutation rules others → (text : List ℕ)
     → IsDenied (unplaced rules) text ↔ IsDenied (unplaced others) text
-denied_permuted rules others same text = (
-  denied_same rules others text (members rules others same),
-  denied_same others rules text (members others rules (IsPermutation-sym rules others same)),
-)
+denied_permuted rules others same text =
+    let (back, to) = same_verdicts rules others same text false in (to, back)
 
 pub both_ways : {A B C : Type 0} → A ↔ B → B ↔ C → A ↔ C
 both_ways (to, from) (on, back) = (λ a. on (to a), λ c. from (back c))
@@ -108,26 +106,6 @@ verdicts_without rules left numbers text denied members answer =
 
 -- ---- rules that are removed one after the other
 
-pub nothing_removed : (rules : List PlacedRule) → IsReducedTo rules rules []
-nothing_removed rules = record {
-  removed = [];
-  lines = refl;
-  same = subst (λ all. IsPermutation rules all) (sym (append-nil rules)) (IsPermutation-refl rules);
-  denied = λ text. (λ denied. denied, λ denied. denied);
-  reasons = All-nil (IsFound rules);
-}
-
-pub reordered : (rules left others : List PlacedRule) (found : List NeedlessRule)
-    → IsReducedTo rules left found → IsPermutation left others → IsReducedTo rules others found
-reordered rules left others found is same = record {
-  removed = is.removed;
-  lines = is.lines;
-  same = IsPermutation-trans rules (left ++ is.removed) (others ++ is.removed) is.same
-      (IsPermutation-append_left is.removed left others same);
-  denied = λ text. both_ways (is.denied text) (denied_permuted left others same text);
-  reasons = is.reasons;
-}
-
 reason_among : (some all : List PlacedRule) → AreAmong some all → (rule : PlacedRule) (reason : Reason)
     → IsReason some rule reason → IsReason all rule reason
 reason_among some all among rule reasons.MatchesNothing holds = holds
@@ -136,34 +114,6 @@ reason_among some all among rule (reasons.NeverDecides line) (other, has, at, is
     (other, among other has, at, is)
 reason_among some all among rule (reasons.NotNeeded line) (other, has, at, another, kind, covers) =
     (other, among other has, at, another, kind, covers)
-
-one_less : (rules others : List PlacedRule) (rule : PlacedRule) (found : List NeedlessRule)
-    → IsReducedTo rules (others ++ rule ∷ []) found → (reason : Reason) → Goes others rule reason
-    → IsReducedTo rules others (found ++ record { line = rule.line; reason = reason } ∷ [])
-one_less rules others rule found is reason goes =
-    let one : List PlacedRule = rule ∷ [] in
-    let more : List NeedlessRule = record { line = rule.line; reason = reason } ∷ [] in
-    let listed : AreAmong (others ++ one) rules =
-    λ placed has. Contains-permutation ((others ++ one) ++ is.removed) rules placed
-    (IsPermutation-sym rules ((others ++ one) ++ is.removed) is.same)
-    (Contains-append_left (others ++ one) is.removed placed has) in
-    let holds = reason_among others rules
-    (λ placed has. listed placed (Contains-append_left others one placed has)) rule reason goes.holds in
-    record {
-      removed = is.removed ++ one;
-      lines = map-append (λ (p : PlacedRule). p.line) is.removed one
-          ∙ ap (λ ns. ns ++ rule.line ∷ []) is.lines
-          ∙ sym (map-append (λ (r : NeedlessRule). r.line) found more);
-      same = IsPermutation-trans rules (others ++ (one ++ is.removed)) (others ++ (is.removed ++ one))
-          (subst (λ all. IsPermutation rules all) (append_assoc others one is.removed) is.same)
-          (IsPermutation-append_right others (one ++ is.removed) (is.removed ++ one)
-          (IsPermutation-append_comm one is.removed));
-      denied = λ text. both_ways (is.denied text)
-          (can_go (unplaced others) (unplaced (others ++ one)) rule.rule (with_last others rule) goes.go
-          text);
-      reasons = All-push (IsFound rules) found _ is.reasons
-          (rule, listed rule (Contains-push others rule), refl, holds);
-    }
 
 -- ---- the last rule of the rest is tried, with those in front of the rest
 
@@ -190,20 +140,111 @@ module _ (one two rest old : List PlacedRule) (rule : PlacedRule) (last : old �
       (IsPermutation-append_left rest (one ++ second) ((one ++ rule ∷ []) ++ two)
       (rest_to_front one two rule)))
 
-module _ (rules front rest old : List PlacedRule) (rule : PlacedRule) (last : old ≡ rest ++ rule ∷ [])
-    (found : List NeedlessRule) (is : IsReducedTo rules (front ++ old) found) where
-  pub rule_kept : (more : List PlacedRule) → front ++ rule ∷ [] ≡ more
-      → IsReducedTo rules (more ++ rest) found
-  rule_kept more added =
-      rw (← added) (reordered rules (front ++ old) ((front ++ rule ∷ []) ++ rest) found is
-      (rw last (rest_to_front front rest rule)))
+-- nothing is removed yet
+pub nothing_removed : (rules others : List PlacedRule) (found : Reasons) (stays : BTreeSet ℕ)
+    → IsPermutation rules others → IsReducing rules [] others found found stays stays
+nothing_removed rules others found stays same = record {
+  reduced = record {
+    removed = [];
+    same = rw (append-nil others) same;
+    denied = denied_permuted rules others same;
+    go = λ placed (k, below, at). absurd (omega arith);
+    stay = λ placed (k, below, at). absurd (omega arith);
+  };
+  grow = record { found = λ line has. has; lines = λ n has. has; reasons = λ line reason is. inl is };
+}
 
-  pub rule_gone : (reason : Reason) → Goes (front ++ rest) rule reason → (more : List NeedlessRule)
-      → more ≡ found ++ record { line = rule.line; reason = reason } ∷ []
-      → IsReducedTo rules (front ++ rest) more
-  rule_gone reason goes more added =
-      rw added (one_less rules (front ++ rest) rule found
-      (rw (append_assoc front rest (rule ∷ []), ← last) is) reason goes)
+module _ {all kept rest : List PlacedRule} {start found : Reasons} {stayed stays : BTreeSet ℕ}
+    (is : IsReducing all kept rest start found stayed stays) where
+  -- in another order, in which more rules are kept
+  pub reordered : (others later : List PlacedRule) (new : BTreeSet ℕ)
+      → IsPermutation (kept ++ rest) (others ++ later) → ((n : ℕ) → Has stays n → Has new n)
+      → ((placed : PlacedRule) → Contains others placed → Has new placed.line)
+      → IsReducing all others later start found stayed new
+  reordered others later new same more stay = record {
+    reduced = record {
+      removed = is.reduced.removed;
+      same = IsPermutation-trans all ((kept ++ rest) ++ is.reduced.removed)
+          ((others ++ later) ++ is.reduced.removed) is.reduced.same
+          (IsPermutation-append_left is.reduced.removed (kept ++ rest) (others ++ later) same);
+      denied = λ text. both_ways (is.reduced.denied text)
+          (denied_permuted (kept ++ rest) (others ++ later) same text);
+      go = is.reduced.go;
+      stay = stay;
+    };
+    grow = record {
+      found = is.grow.found;
+      lines = λ n has. more n (is.grow.lines n has);
+      reasons = is.grow.reasons;
+    };
+  }
+
+  module _ (later : List PlacedRule) (rule : PlacedRule) (last : rest ≡ later ++ rule ∷ []) where
+    pub rule_kept : (new : BTreeSet ℕ) → AddsNumber stays new rule.line
+        → IsReducing all (kept ++ rule ∷ []) later start found stayed new
+    rule_kept new adds =
+        reordered (kept ++ rule ∷ []) later new (rw last (rest_to_front kept later rule)) adds.more
+        (λ placed has. elim (Contains-push_cases kept rule placed has) [
+          | inl before ↦ adds.more placed.line (is.reduced.stay placed before)
+          | inr same ↦ subst (λ (p : PlacedRule). Has new p.line) same adds.added
+        ])
+
+    pub rule_gone : (reason : Reason) (new : Reasons) → Goes (kept ++ later) rule reason
+        → Updates nat_cmp found new rule.line (Some reason) → IsReducing all kept later start new stayed stays
+    rule_gone reason new goes set =
+        let one : List PlacedRule = rule ∷ [] in
+        let others = kept ++ later in
+        let removed = is.reduced.removed in
+        let same : IsPermutation all ((others ++ one) ++ removed) =
+        rw (append_assoc kept later one, ← last) is.reduced.same in
+        let denied : (text : List ℕ)
+        → IsDenied (unplaced all) text ↔ IsDenied (unplaced (others ++ one)) text =
+        rw (append_assoc kept later one, ← last) is.reduced.denied in
+        let listed : AreAmong (others ++ one) all =
+        λ placed has. Contains-permutation ((others ++ one) ++ removed) all placed
+        (IsPermutation-sym all ((others ++ one) ++ removed) same)
+        (Contains-append_left (others ++ one) removed placed has) in
+        let holds = reason_among others all
+        (λ placed has. listed placed (Contains-append_left others one placed has)) rule reason goes.holds in
+        let hit : (line : ℕ) → eq_by_cmp nat_cmp rule.line line ≡ true → get nat_cmp new line ≡ Some reason =
+        λ line here. set.0 line ∙ rw here refl in
+        let more : (line : ℕ) → HasLine found line → HasLine new line =
+        λ line has. elim (cases_Bool (eq_by_cmp nat_cmp rule.line line)) [
+          | inl here ↦ rw (hit line here) refl
+          | inr other ↦ rw (set.2 line other) has
+        ] in
+        record {
+          reduced = record {
+            removed = removed ++ one;
+            same = IsPermutation-trans all (others ++ (one ++ removed)) (others ++ (removed ++ one))
+                (rw (← append_assoc others one removed) same)
+                (IsPermutation-append_right others (one ++ removed) (removed ++ one)
+                (IsPermutation-append_comm one removed));
+            denied = λ text. both_ways (denied text)
+                (can_go (unplaced others) (unplaced (others ++ one)) rule.rule (with_last others rule) goes.go
+                text);
+            go = λ placed has. elim (Contains-push_cases removed rule placed has) [
+              | inl before ↦ more placed.line (is.reduced.go placed before)
+              | inr this ↦ subst (λ (p : PlacedRule). HasLine new p.line) this (rw set.1 refl)
+            ];
+            stay = is.reduced.stay;
+          };
+          grow = record {
+            found = λ line has. more line (is.grow.found line has);
+            lines = is.grow.lines;
+            reasons = λ line why at. elim (cases_Bool (eq_by_cmp nat_cmp rule.line line)) [
+              | inl here ↦
+                  let equal : reason ≡ why = let e = hit line here in cc in
+                  inr (
+                    rule,
+                    listed rule (Contains-push others rule),
+                    tells_apart exact_unsigned rule.line line here,
+                    subst (IsReason all rule) equal holds,
+                  )
+              | inr other ↦ is.grow.reasons line why (sym (set.2 line other) ∙ at)
+            ];
+          };
+        }
 
 -- all of them, for a list of removed rules
 in_turn : (kept removed : List PlacedRule) → CanGoInTurn kept removed → (text : List ℕ)
@@ -228,3 +269,109 @@ needless_in_turn rules kept removed once same can text answer =
     verdicts_without rules kept (lines_of removed) text
     (both_ways (denied_permuted rules (kept ++ removed) same text) (in_turn kept removed can text))
     (left_are_kept rules kept removed same once) answer
+
+-- ---- why a rule can go
+
+-- a rule of two lists is one of the first or of the second
+unplaced_cases : (left right : List PlacedRule) (x : Rule) → Contains (unplaced (left ++ right)) x
+    → Contains (unplaced left) x ⊎ Contains (unplaced right) x
+unplaced_cases left right x has =
+    let (placed, listed, is) = placed_of (left ++ right) x has in
+    elim (Contains-append_cases left right placed listed) [
+      | inl first ↦
+          inl (subst (λ (r : Rule). Contains (unplaced left) r) is (unplaced_of left placed first))
+      | inr second ↦
+          inr (subst (λ (r : Rule). Contains (unplaced right) r) is (unplaced_of right placed second))
+    ]
+
+-- ---- rivals
+
+pub no_rival_near : (one two others : List PlacedRule) (m n : ℕ) (rule : PlacedRule)
+    → AreNear one two others rule → HasNoRival (unplaced one) m rule.rule → m ≤ n
+    → HasNoRival (unplaced two) n rule.rule → HasNoRival (unplaced others) n rule.rule
+no_rival_near one two others m n rule are first most second = record {
+  none = λ x has.
+      let (placed, listed, is) = placed_of others x has in
+      let at : IsNoRival n rule.rule placed.rule = elim (are.only placed listed) [
+        | inl of_one ↦ λ kinds low high.
+            first.none placed.rule (unplaced_of one placed of_one) kinds (omega (arith, most, low)) high
+        | inr others ↦ elim others [
+          | inl of_two ↦ second.none placed.rule (unplaced_of two placed of_two)
+          | inr apart ↦ λ kinds low high. apart kinds (omega arith) high
+        ]
+      ] in subst (λ (r : Rule). IsNoRival n rule.rule r) is at;
+}
+
+pub both_near : (kept rest : List PlacedRule) (rule : PlacedRule) → AreNear kept rest (kept ++ rest) rule
+both_near kept rest rule = record {
+  first = Contains-append_left kept rest;
+  second = Contains-append_right kept rest;
+  only = λ other has. elim (Contains-append_cases kept rest other has) [
+    | inl first ↦ inl first
+    | inr second ↦ inr (inl second)
+  ];
+}
+
+of_one : (floor : ℕ) (rule : Rule) (other : PlacedRule) → IsNoRival floor rule other.rule → (x : Rule)
+    → Contains (unplaced (other ∷ [])) x → IsNoRival floor rule x
+of_one floor rule other apart x (zero, below, is) = subst (λ (r : Rule). IsNoRival floor rule r) is apart
+of_one floor rule other apart x (suc k, below, is) = absurd (omega arith)
+
+-- one more of the others
+pub no_rival_more : (others : List PlacedRule) (other : PlacedRule) (m n : ℕ) (rule : Rule)
+    → HasNoRival (unplaced others) m rule → m ≤ n → IsNoRival n rule other.rule
+    → HasNoRival (unplaced (others ++ other ∷ [])) n rule
+no_rival_more others other m n rule before most apart = record {
+  none = λ x has kinds low high. elim (unplaced_cases others (other ∷ []) x has) [
+    | inl sooner ↦ before.none x sooner kinds (omega arith) high
+    | inr last ↦ of_one n rule other apart x last kinds low high
+  ];
+}
+
+-- ---- a rule that covers the rule is among some of the others
+
+pub overruled_goes : (some others : List PlacedRule) (rule : PlacedRule) (line : ℕ) → AreAmong some others
+    → (other : PlacedRule) × Contains some other × (other.line ≡ line) × Overrules other rule
+    → Goes others rule (NeverDecides line)
+overruled_goes some others rule line among (other, has, at, is) =
+    let listed = among other has in record {
+      go = inr (inr (
+        other.rule,
+        record {
+          listed = unplaced_of others other listed;
+          covers = is.covers;
+          decides = inl is.precedes.above;
+        },
+      ));
+      holds = (other, listed, at, is);
+    }
+
+pub covered_goes : (some others : List PlacedRule) (floor : ℕ) (rule : PlacedRule) (line : ℕ)
+    → AreAmong some others → HasNoRival (unplaced others) floor rule.rule
+    → (other : PlacedRule) × Contains some other × (other.line ≡ line) × (other.line ≢ rule.line)
+    × CanReplace floor other.rule rule.rule → Goes others rule (NotNeeded line)
+covered_goes some others floor rule line among none (other, has, at, another, is) =
+    let listed = among other has in
+    let above = is.above in record {
+      go = inr (inr (
+        other.rule,
+        record {
+          listed = unplaced_of others other listed;
+          covers = is.covers;
+          decides = inr (
+            is.kind,
+            record {
+              none = λ x has differ low less. none.none x has differ (omega arith) less;
+            },
+          );
+        },
+      ));
+      holds = (other, listed, at, another, is.kind, is.covers);
+    }
+
+-- an Allow without rivals
+pub allow_goes : (others : List PlacedRule) (floor : ℕ) (rule : PlacedRule)
+    → HasNoRival (unplaced others) floor rule.rule → floor ≡ 0 → rule.rule.1 ≡ true
+    → Goes others rule AllowedAnyway
+allow_goes others floor rule none is allows =
+    record { go = inr (inl (allows, rw is at none)); holds = allows }

@@ -1,6 +1,7 @@
 -- Blocks of a file from which rules are removed: the group lines below a run of user-agent lines. At crawlers
 -- that ignore delays, user-agent lines above a delay alone would join the next run.
-use Rattle.std.specs.Prelude.{◌≡◌, ℕ, ◌+◌, Bool, true, false, not, List, [], ◌∷◌, Option, Some, None}
+use Rattle.std.specs.Prelude.{◌≡◌, ℕ, ◌+◌, Bool, true, false, not, ◌&&◌, ◌||◌, List, [], ◌∷◌, Option, Some}
+use Rattle.std.specs.Prelude.{None}
 use Rattle.std.specs.Prelude.{if◌then◌else◌}
 use Rattle.std.specs.{BTreeMap.get, Option.is_some, Option.option_map_or, Ordering.nat_cmp}
 use Rattle.texting_robots.specs.{Group.is_agent, Line.LineValue}
@@ -15,8 +16,7 @@ no_rule = record { is_lost = false; has_rule = false }
 -- one more rule, which is removed or stays
 abbrev pub with_rule : Block → Bool → Block
 with_rule block gone =
-    if gone then record { is_lost = not block.has_rule; has_rule = block.has_rule }
-    else record { is_lost = false; has_rule = true }
+    record { is_lost = gone && not block.has_rule; has_rule = not gone || block.has_rule }
 
 -- one more line; none if a line is removed that isn't a rule, or all rules above a user-agent line are
 abbrev pub block_after : Block → Bool → LineValue → Option Block

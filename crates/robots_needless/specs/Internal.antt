@@ -1,10 +1,12 @@
 -- How the check compares patterns, and when it finds a rule needless.
-use Rattle.std.specs.Prelude.{◌≡◌, ◌≢◌, ◌⊎◌, ◌↔◌, ℕ, ◌<◌, ◌≤◌, ◌==◌, true, false, List, [], ◌∷◌}
-use Rattle.std.specs.Prelude.{◌++◌, All, Contains, IsPermutation, None, Option, Some, length, slice_index}
-use Rattle.std.specs.Prelude.{if◌then◌else◌, ◌&&◌, Bool, bytes_eq, codes, nat_eq, slice_index_or}
+use Rattle.std.specs.Prelude.{◌≡◌, ◌≢◌, ◌⊎◌, ◌↔◌, ℕ, ◌<◌, ◌≤◌, ◌==◌, true, false, List, [], ◌∷◌, ◌++◌, All}
+use Rattle.std.specs.Prelude.{Contains, IsPermutation, None, Option, Some, length, slice_index, if◌then◌else◌}
+use Rattle.std.specs.Prelude.{◌&&◌, Bool, bytes_eq, codes, nat_eq, slice_index_or}
 use Rattle.std.specs.BTreeMap.{BTreeMap, get}
 use Rattle.std.specs.BTreeSet.{BTreeSet, contains}
-use Rattle.std.specs.{Cmp.Lexicographic.slice_cmp, List.starts_with, Option.IsSome}
+use Rattle.std.specs.Cmp.Lexicographic.{slice_cmp}
+use Rattle.std.specs.List.{starts_with}
+use Rattle.std.specs.Option.{IsSome}
 use Rattle.std.specs.Ordering.{is_lt, nat_cmp, ordering_then}
 use Rattle.std.specs.declared.cmp.Ordering.{Ordering}
 use Rattle.texting_robots.specs.Callers.{IsDenied, IsOverlong, LineValue, PlacedRule, Rule, placed_rules}
@@ -13,7 +15,7 @@ use Rattle.texting_robots.specs.Pattern.{dollar, star}
 use Rattle.robots_needless.specs.declared.needless.NeedlessRule.{NeedlessRule}
 use Rattle.robots_needless.specs.declared.needless.Reason.{Reason}
 use Rattle.robots_needless.specs.Needless.{AreApart, Covers, IsFound, IsFoundFor, IsReason, MatchesNothing}
-use Rattle.robots_needless.specs.Needless.{lines_of, numbers_of, rank_of}
+use Rattle.robots_needless.specs.Needless.{rank_of}
 
 -- a byte that no escaped pattern contains
 abbrev pub fresh : ℕ
@@ -77,15 +79,6 @@ CanGoInTurn kept (rule ∷ later) =
 pub record Goes (others : List PlacedRule) (rule : PlacedRule) (reason : Reason) : Type 0 where
   pub go : CanGo (unplaced others) rule.rule
   pub holds : IsReason others rule reason
-
--- the rules, without some for which these are found, are the ones left, in some order, which deny the same
--- texts
-pub record IsReducedTo (rules left : List PlacedRule) (found : List NeedlessRule) : Type 0 where
-  pub removed : List PlacedRule
-  pub lines : lines_of removed ≡ numbers_of found
-  pub same : IsPermutation rules (left ++ removed)
-  pub denied : (text : List ℕ) → IsDenied (unplaced rules) text ↔ IsDenied (unplaced left) text
-  pub reasons : All (IsFound rules) found
 
 -- the two generic texts differ at some byte, and neither has the fresh byte up to it
 pub record HeadsDiffer (one other : List ℕ) : Type 0 where
@@ -151,10 +144,8 @@ pub record AddsNumber (old new : BTreeSet ℕ) (number : ℕ) : Type 0 where
   pub more : (n : ℕ) → Has old n → Has new n
   pub added : Has new number
 
--- and the lines of the rules
-pub record AddsLines (old new : BTreeSet ℕ) (rules : List PlacedRule) : Type 0 where
-  pub more : (n : ℕ) → Has old n → Has new n
-  pub added : (placed : PlacedRule) → Contains rules placed → Has new placed.line
+abbrev pub LineSet : Type 0
+LineSet = BTreeSet ℕ
 
 -- a reason for each line of a needless rule
 abbrev pub Reasons : Type 0
@@ -163,33 +154,41 @@ Reasons = BTreeMap ℕ Reason
 abbrev pub HasLine : Reasons → ℕ → Type 0
 HasLine found line = IsSome (get nat_cmp found line)
 
--- the new map has the lines of the old one and of the rules, and no other reasons than theirs
-pub record AddsFound (old new : Reasons) (rules : List NeedlessRule) : Type 0 where
-  pub more : (line : ℕ) → HasLine old line → HasLine new line
-  pub added : (one : NeedlessRule) → Contains rules one → HasLine new one.line
-  pub only : (line : ℕ) (reason : Reason) → get nat_cmp new line ≡ Some reason
-      → (get nat_cmp old line ≡ Some reason) ⊎ Contains rules (record { line = line; reason = reason })
-
--- the rules, without some in the lines that are found, are those left, which are in lines
--- that stay, and deny the same texts; none of the rules is overlong
-pub record IsSettled (rules : List PlacedRule) (found : Reasons) (stays : BTreeSet ℕ) : Type 0 where
-  pub accepted : All (λ (placed : PlacedRule). ¬ IsOverlong placed.rule.0) rules
-  pub left : List PlacedRule
+-- the rules, without some in lines that are found, are the kept ones, which are in lines that stay, and the
+-- rest, in some order; these deny the same texts
+pub record IsReducedTo (rules kept rest : List PlacedRule) (found : Reasons) (stays : BTreeSet ℕ)
+    : Type 0 where
   pub removed : List PlacedRule
-  pub same : IsPermutation rules (left ++ removed)
-  pub denied : (text : List ℕ) → IsDenied (unplaced rules) text ↔ IsDenied (unplaced left) text
+  pub same : IsPermutation rules ((kept ++ rest) ++ removed)
+  pub denied : (text : List ℕ) → IsDenied (unplaced rules) text ↔ IsDenied (unplaced (kept ++ rest)) text
   pub go : (placed : PlacedRule) → Contains removed placed → HasLine found placed.line
-  pub stay : (placed : PlacedRule) → Contains left placed → Has stays placed.line
+  pub stay : (placed : PlacedRule) → Contains kept placed → Has stays placed.line
 
--- the same for the rules of each of these crawlers
-abbrev pub AreSettled : List LineValue → List (List ℕ) → Reasons → BTreeSet ℕ → Type 0
-AreSettled lines agents found stays =
-    (agent : List ℕ) → Contains agents agent → IsSettled (placed_rules agent lines) found stays
-
--- lines that are found stay so, and so do lines that stay
-pub record Grow (old new : Reasons) (stayed stays : BTreeSet ℕ) : Type 0 where
+-- lines that are found stay so, and so do lines that stay; P holds of each new reason
+pub record Grow (P : NeedlessRule → Type 0) (old new : Reasons) (stayed stays : BTreeSet ℕ) : Type 0 where
   pub found : (line : ℕ) → HasLine old line → HasLine new line
   pub lines : (n : ℕ) → Has stayed n → Has stays n
+  pub reasons : (line : ℕ) (reason : Reason) → get nat_cmp new line ≡ Some reason
+      → (get nat_cmp old line ≡ Some reason) ⊎ P (record { line = line; reason = reason })
+
+-- the rules are reduced so, and each new reason holds
+pub record IsReducing (rules kept rest : List PlacedRule) (old new : Reasons) (stayed stays : BTreeSet ℕ)
+    : Type 0 where
+  pub reduced : IsReducedTo rules kept rest new stays
+  pub grow : Grow (IsFound rules) old new stayed stays
+
+-- all rules are kept or removed
+abbrev pub IsSettled : List PlacedRule → Reasons → BTreeSet ℕ → Type 0
+IsSettled rules found stays = (left : List PlacedRule) × IsReducedTo rules left [] found stays
+
+-- none of the rules is overlong
+abbrev pub AreAccepted : List PlacedRule → Type 0
+AreAccepted rules = All (λ (placed : PlacedRule). ¬ IsOverlong placed.rule.0) rules
+
+-- the rules of each of these crawlers are settled, and accepted
+abbrev pub AreSettled : List LineValue → List (List ℕ) → Reasons → BTreeSet ℕ → Type 0
+AreSettled lines agents found stays = (agent : List ℕ) → Contains agents agent
+    → AreAccepted (placed_rules agent lines) × IsSettled (placed_rules agent lines) found stays
 
 -- each reason holds for some crawler
 abbrev pub AreReasons : List LineValue → Reasons → Type 0

@@ -3,7 +3,7 @@
 //! even if a delay is left.
 ghost use Rattle.std.specs.Prelude.{◌≡◌, IsTrue};
 ghost use Rattle.texting_robots.specs.Callers.{by_value, file_lines};
-ghost use Rattle.robots_needless.specs.Blocks.{KeepBlocks, block_after, with_rule};
+ghost use Rattle.robots_needless.specs.Blocks.{KeepBlocks, block_after};
 
 use crate::needless::{Numbers, Reason};
 use std::alloc::AllocError;
@@ -25,29 +25,16 @@ const NO_RULE: Block = Block {
     has_rule: false,
 };
 
-/// The block with one more rule.
-fn with_rule(block: Block, is_gone: bool) -> Block
-    ensures { result ≡ with_rule block is_gone }
-{
-    if is_gone {
-        return Block {
-            is_lost: !block.has_rule,
-            has_rule: block.has_rule,
-        };
-    }
-    Block {
-        is_lost: false,
-        has_rule: true,
-    }
-}
-
 /// The block after one more line. `None` if a line is removed that isn't an Allow or a Disallow, or if all
 /// rules above a user-agent line are.
 fn block_after(block: Block, is_gone: bool, line: Line<'_>) -> Option<Block>
     ensures { result ≡ block_after block is_gone (by_value line.entry) }
 {
     match line {
-        Line::Allow(_) | Line::Disallow(_) => Some(with_rule(block, is_gone)),
+        Line::Allow(_) | Line::Disallow(_) => Some(Block {
+            is_lost: is_gone && !block.has_rule,
+            has_rule: !is_gone || block.has_rule,
+        }),
         Line::UserAgent(_) if is_gone || block.is_lost => None,
         Line::UserAgent(_) => Some(NO_RULE),
         Line::CrawlDelay(_) | Line::Sitemap(_) | Line::Raw(_) if is_gone => None,

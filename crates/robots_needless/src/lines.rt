@@ -2,58 +2,21 @@
 ghost use Rattle.std.specs.Prelude.{◌≡◌, ◌∷◌, All, Contains, IfOk, IsTrue, List, OnOk, codes, false, map, ℕ};
 ghost use Rattle.texting_robots.specs.Callers.{LineValue, agents_in, file_bodies, file_lines, placed_rules};
 ghost use Rattle.robots_needless.specs.Blocks.{KeepBlocks, is_found, left_from};
-ghost use Rattle.robots_needless.specs.Internal.{AddsFound, AddsLines, AddsNumber, AreFree, AreReasons, AreSettled, Grow, IsSettled, rule_at};
+ghost use Rattle.robots_needless.specs.Internal.{AreAccepted, AreFree, AreReasons, AreSettled, Grow, IsSettled, rule_at};
 ghost use Rattle.robots_needless.specs.Deleted.{AreFoundIn, begin_with_mark};
 ghost use Rattle.robots_needless.specs.Needless.{IsFoundFor};
 
 use crate::blocks::{add_lost, keep_blocks};
 use crate::front::left_begin_with_mark;
-use crate::needless::{Budget, NeedlessRule, Numbers, Reason};
+use crate::needless::{BUDGET, Budget, Findings, NeedlessRule, Numbers, Reason};
 use crate::plain::settle;
-use crate::rule::{Rule, rules_for};
+use crate::rule::rules_for;
 use std::alloc::{AllocError, Global};
 use std::collections::{BTreeMap, BTreeSet};
 use texting_robots::{Error, Site};
 
 /// How many times the check begins anew, without the rules that turned out to be needed by another crawler.
 const ROUNDS: usize = 8;
-
-/// What was found for some crawlers.
-#[derive(Drop)]
-struct Findings {
-    /// The lines of rules that are needless for at least one of them, each with the reason.
-    found: BTreeMap<usize, Reason>,
-    /// The lines of rules that are needed by at least one of them.
-    stays: Numbers,
-}
-
-/// Inserts the number.
-fn add_number(numbers: &mut Numbers, number: usize) -> Result<(), AllocError>
-    ensures { OnOk result (AddsNumber numbers.old numbers.new number) }
-{
-    numbers.insert(number)?;
-    Ok(())
-}
-
-/// Inserts the lines of these rules.
-fn add_lines(numbers: &mut Numbers, rules: &[Rule]) -> Result<(), AllocError>
-    ensures { OnOk result (AddsLines numbers.old numbers.new rules.now) }
-{
-    for rule in rules {
-        add_number(numbers, rule.line())?;
-    }
-    Ok(())
-}
-
-/// Inserts these needless rules.
-fn add_found(found: &mut BTreeMap<usize, Reason>, rules: &[NeedlessRule]) -> Result<(), AllocError>
-    ensures { OnOk result (AddsFound found.old found.new rules.now) }
-{
-    for rule in rules {
-        found.insert(rule.line, rule.reason)?;
-    }
-    Ok(())
-}
 
 /// Adds what is found for one more crawler.
 fn add_crawler(
@@ -63,36 +26,14 @@ fn add_crawler(
     budget: &mut Budget,
     findings: &mut Findings,
 ) -> Result<(), Error>
-    ensures grow { OnOk result (Grow findings.old.found findings.new.found findings.old.stays findings.new.stays) }
+    ensures grow { OnOk result (Grow (IsFoundFor (file_lines site.now)) findings.old.found findings.new.found
+        findings.old.stays findings.new.stays) }
+    ensures accepted { OnOk result (AreAccepted (placed_rules agent.now (file_lines site.now))) }
     ensures settled { OnOk result (IsSettled (placed_rules agent.now (file_lines site.now))
         findings.new.found findings.new.stays) }
-    ensures reasons { OnOk result (AreReasons (file_lines site.now) findings.old.found
-        → AreReasons (file_lines site.now) findings.new.found) }
 {
     let rules = rules_for(alloc, site, agent)?;
-    let settled = settle(alloc, budget, rules, &findings.stays)?;
-    add_found(&mut findings.found, &settled.found)?;
-    add_lines(&mut findings.stays, &settled.kept)?;
-    Ok(())
-}
-
-/// Adds what is found for these crawlers.
-fn add_crawlers(
-    alloc: Global,
-    site: &Site,
-    agents: &[&str],
-    budget: &mut Budget,
-    findings: &mut Findings,
-) -> Result<(), Error>
-    ensures grow { OnOk result (Grow findings.old.found findings.new.found findings.old.stays findings.new.stays) }
-    ensures settled { OnOk result (AreSettled (file_lines site.now) (map (λ agent. agent.now) agents.now)
-        findings.new.found findings.new.stays) }
-    ensures reasons { OnOk result (AreReasons (file_lines site.now) findings.old.found
-        → AreReasons (file_lines site.now) findings.new.found) }
-{
-    for agent in agents {
-        add_crawler(alloc, site, agent, budget, findings)?;
-    }
+    settle(alloc, budget, rules, findings)?;
     Ok(())
 }
 
@@ -121,21 +62,23 @@ fn crawlers_of(alloc: Global, site: &Site) -> Result<Vec<&str>, AllocError>
     Ok(agents)
 }
 
-/// What is found for `*` and each crawler that the file names. The rules in the lines that stay are needed.
+/// What is found for these crawlers. The rules in the lines that stay are needed.
 fn findings_for(
     alloc: Global,
     site: &Site,
+    crawlers: &[&str],
     budget: &mut Budget,
     stays: Numbers,
 ) -> Result<Findings, Error>
     ensures settled { IfOk result (λ findings. AreSettled (file_lines site.now)
-        (codes "*" ∷ agents_in (file_lines site.now)) findings.found findings.stays) }
+        (map (λ crawler. crawler.now) crawlers.now) findings.found findings.stays) }
     ensures reasons { IfOk result (λ findings. AreReasons (file_lines site.now) findings.found) }
 {
-    let crawlers = crawlers_of(alloc, site)?;
     let found = BTreeMap::new(alloc);
     let mut findings = Findings { found, stays };
-    add_crawlers(alloc, site, &crawlers, budget, &mut findings)?;
+    for agent in crawlers {
+        add_crawler(alloc, site, agent, budget, &mut findings)?;
+    }
     Ok(findings)
 }
 
@@ -153,13 +96,6 @@ fn listed(alloc: Global, found: &BTreeMap<usize, Reason>) -> Result<Vec<Needless
         })?;
     }
     Ok(list)
-}
-
-/// No rules.
-fn nothing(alloc: Global) -> Vec<NeedlessRule>
-    ensures { (text : List ℕ) → AreFoundIn text result.items }
-{
-    Vec::new(alloc)
 }
 
 /// Whether none of the rules is in one of these lines.
@@ -192,10 +128,11 @@ fn can_be_removed(rules: &[NeedlessRule], findings: &Findings, text: &[u8]) -> b
 fn settled_lines(alloc: Global, site: &Site) -> Result<Vec<NeedlessRule>, Error>
     ensures { IfOk result (λ found. AreFoundIn site.now found.items) }
 {
-    let mut budget = Budget::whole();
+    let mut budget = Budget { left: BUDGET };
     let mut stays = BTreeSet::new(alloc);
+    let crawlers = crawlers_of(alloc, site)?;
     for _ in 0..ROUNDS {
-        let findings = findings_for(alloc, site, &mut budget, stays)?;
+        let findings = findings_for(alloc, site, crawlers.as_slice(), &mut budget, stays)?;
         let found = listed(alloc, &findings.found)?;
         if can_be_removed(&found, &findings, site.text()) {
             return Ok(found);
@@ -203,7 +140,7 @@ fn settled_lines(alloc: Global, site: &Site) -> Result<Vec<NeedlessRule>, Error>
         stays = findings.stays;
         add_lost(site.text(), &findings.found, &mut stays)?;
     }
-    Ok(nothing(alloc))
+    Ok(Vec::new(alloc))
 }
 
 /// The lines of rules that can be removed together without changing a verdict of any crawler, in order. There
@@ -221,7 +158,7 @@ pub fn needless_lines(alloc: Global, site: &Site) -> Result<Vec<NeedlessRule>, A
 {
     match settled_lines(alloc, site) {
         Ok(found) => Ok(found),
-        Err(Error::InvalidRule) => Ok(nothing(alloc)),
+        Err(Error::InvalidRule) => Ok(Vec::new(alloc)),
         Err(Error::Memory | Error::InvalidRobots) => Err(AllocError),
     }
 }

@@ -1,17 +1,16 @@
 //! Which rules of a crawler are needless.
-ghost use Rattle.std.specs.Prelude.{◌≡◌, ◌≢◌, ◌≤◌, ◌++◌, ◌+◌, ◌&&◌, All, Contains, IfOk, IfSome, IsPermutation, IsTrue, List};
-ghost use Rattle.std.specs.Prelude.{false, nat_lt, not};
-ghost use Rattle.std.specs.{BTreeSet.contains, Ordering.nat_cmp};
+ghost use Rattle.std.specs.Prelude.{◌≡◌, ◌≢◌, ◌≤◌, ◌+◌, [], Contains, IfOk, IfSome, IsPermutation, IsTrue, List, OnOk};
+ghost use Rattle.std.specs.Prelude.{false, nat_lt};
 ghost use Rattle.texting_robots.specs.Callers.{PlacedRule, unplaced};
-ghost use Rattle.robots_needless.specs.Internal.{AreAmong, AreNear, CanReplace, Goes, HasNoRival, IsNoRival, IsReducedTo, allows_all};
-ghost use Rattle.robots_needless.specs.Needless.{Overrules, TakesPrecedence};
+ghost use Rattle.robots_needless.specs.Internal.{AddsNumber, AreAmong, AreNear, CanReplace, Goes, HasNoRival, IsNoRival, IsReducing, LineSet, Reasons};
+ghost use Rattle.robots_needless.specs.Needless.{Overrules};
 
 use crate::rule::Rule;
 use std::alloc::{AllocError, Global};
-use std::collections::BTreeSet;
+use std::collections::{BTreeMap, BTreeSet};
 
 /// How many bytes are compared at most. Rules that would take more are taken to be needed.
-const BUDGET: usize = 50_000_000;
+pub(crate) const BUDGET: usize = 50_000_000;
 
 /// Why a rule is needless.
 #[derive(Clone, Copy, Debug, Eq, PartialEq)]
@@ -39,20 +38,30 @@ pub struct NeedlessRule {
 /// The numbers of lines.
 pub(crate) type Numbers = BTreeSet<usize>;
 
+/// What was found for some crawlers.
+#[derive(Drop)]
+pub(crate) struct Findings {
+    /// The lines of rules that are needless for at least one of them, each with the reason.
+    pub(crate) found: BTreeMap<usize, Reason>,
+    /// The lines of rules that are needed by at least one of them.
+    pub(crate) stays: Numbers,
+}
+
+/// Inserts the number.
+pub(crate) fn add_number(numbers: &mut Numbers, number: usize) -> Result<(), AllocError>
+    ensures { OnOk result (AddsNumber numbers.old numbers.new number) }
+{
+    numbers.insert(number)?;
+    Ok(())
+}
+
 /// How many bytes may still be compared.
 #[derive(Drop)]
 pub(crate) struct Budget {
-    left: usize,
+    pub(crate) left: usize,
 }
 
 impl Budget {
-    /// Nothing was compared yet.
-    pub(crate) fn whole() -> Self
-        ensures { result.left ≡ 50000000 }
-    {
-        Budget { left: BUDGET }
-    }
-
     /// Whether so many bytes may still be compared. They are subtracted, and so is one more for the call.
     pub(crate) fn spend(&mut self, bytes: usize) -> bool
         ensures enough { result ≡ nat_lt bytes self.old.left }
@@ -97,24 +106,14 @@ fn rival_floor(budget: &mut Budget, others: &[Rule], rule: &Rule, floor: usize) 
     highest
 }
 
-/// Whether the other rule decides where both match.
-fn takes_precedence(other: &Rule, rule: &Rule) -> bool
-    ensures { IsTrue result → TakesPrecedence other.now rule.now }
-{
-    if rule.rank() < other.rank() {
-        return true;
-    }
-    if other.rank() < rule.rank() {
-        return false;
-    }
-    other.line() < rule.line()
-}
-
 /// Whether the other rule covers the rule, and decides where both match.
 fn overrules(budget: &mut Budget, other: &Rule, rule: &Rule) -> bool
     ensures { IsTrue result → Overrules other.now rule.now }
 {
-    if !takes_precedence(other, rule) {
+    if other.rank() < rule.rank() {
+        return false;
+    }
+    if other.rank() == rule.rank() && other.line() >= rule.line() {
         return false;
     }
     if !budget.spend(rule.cost()) {
@@ -199,16 +198,9 @@ fn reason_among(
     None
 }
 
-/// Whether the rule is in none of the lines that stay, and isn't `Allow: /` or an empty
-/// Disallow, which are meant as they are.
-fn may_go(stays: &Numbers, rule: &Rule) -> bool
-    ensures { result ≡ (not (contains nat_cmp stays.now rule.now.line) && not (allows_all rule.now.rule)) }
-{
-    !stays.contains(&rule.line()) && !rule.allows_all()
-}
-
 /// Why the rule can go, if it can: the others have the same verdicts without it. Those that aren't in `kept` or `rest`
-/// must be no rivals; `equal` are some with the same pattern.
+/// must be no rivals; `equal` are some with the same pattern. A rule in a line that stays can't, nor can `Allow: /` and
+/// an empty Disallow, which are meant as they are.
 pub(crate) fn reason_to_go(
     budget: &mut Budget,
     stays: &Numbers,
@@ -220,7 +212,10 @@ pub(crate) fn reason_to_go(
     ensures { IfSome result (λ reason. (others : List PlacedRule) → AreAmong equal.now others
         → AreNear kept.now rest.now others rule.now → Goes others rule.now reason) }
 {
-    if !may_go(stays, rule) || !budget.spend(kept.len().saturating_add(rest.len())) {
+    if stays.contains(&rule.line()) || rule.allows_all() {
+        return None;
+    }
+    if !budget.spend(kept.len().saturating_add(rest.len())) {
         return None;
     }
     if rule.matches_nothing() {
@@ -232,16 +227,6 @@ pub(crate) fn reason_to_go(
     let kept_floor = rival_floor(budget, kept, rule, 0);
     let floor = rival_floor(budget, rest, rule, kept_floor);
     reason_among(budget, kept, rest, rule, floor)
-}
-
-/// The needless rule in the line of this rule.
-pub(crate) fn needless(rule: &Rule, reason: Reason) -> NeedlessRule
-    ensures { result ≡ record { line = rule.now.line; reason = reason } }
-{
-    NeedlessRule {
-        line: rule.line(),
-        reason,
-    }
 }
 
 /// The rules by rank, the highest first, and in file order if ranks are equal. The order decides only
@@ -259,33 +244,31 @@ fn by_rank(rules: Vec<Rule>) -> Vec<Rule>
     sorted
 }
 
-/// A crawler's rules: those that are needless, and the others.
-#[derive(Drop)]
-pub(crate) struct Settled {
-    pub(crate) found: Vec<NeedlessRule>,
-    pub(crate) kept: Vec<Rule>,
-}
-
-/// Of a crawler's rules without those that are settled, those that can go one after the other, by ascending
-/// rank, without those in the lines that stay.
+/// Settles a crawler's rules, by ascending rank, without those that are settled, of which some were kept. Returns all
+/// that are kept.
 pub(crate) fn settle_by_rank(
     budget: &mut Budget,
-    settled: Settled,
+    settled: Vec<Rule>,
     rules: Vec<Rule>,
-    stays: &Numbers,
-) -> Result<Settled, AllocError>
-    ensures { IfOk result (λ after. (all : List PlacedRule)
-        → IsReducedTo all (settled.kept.items ++ rules.items) settled.found.items
-        → IsReducedTo all after.kept.items after.found.items) }
+    findings: &mut Findings,
+) -> Result<Vec<Rule>, AllocError>
+    ensures { IfOk result (λ left. (all : List PlacedRule) (start : Reasons) (stayed : LineSet)
+        → IsReducing all settled.items rules.items start findings.old.found stayed findings.old.stays
+        → IsReducing all left.items [] start findings.new.found stayed findings.new.stays) }
 {
     let mut rest = by_rank(rules);
-    let mut kept = settled.kept;
-    let mut found = settled.found;
+    let mut kept = settled;
     while let Some(rule) = rest.pop() {
-        match reason_to_go(budget, stays, &[], &kept, &rest, &rule) {
-            Some(reason) => found.push(needless(&rule, reason))?,
-            None => kept.push(rule)?,
+        let line = rule.line();
+        match reason_to_go(budget, &findings.stays, &[], &kept, &rest, &rule) {
+            Some(reason) => {
+                findings.found.insert(line, reason)?;
+            }
+            None => {
+                add_number(&mut findings.stays, line)?;
+                kept.push(rule)?;
+            }
         }
     }
-    Ok(Settled { found, kept })
+    Ok(kept)
 }

@@ -1,10 +1,11 @@
 //! Which of a crawler's plain rules are needless. They are tried in the order of their patterns, so that few rules
 //! are compared: of those above a rule, only the ones that begin it match a text that it matches.
-ghost use Rattle.std.specs.Prelude.{◌≡◌, ◌++◌, [], All, IfOk, IsPermutation, List, OnOk};
+ghost use Rattle.std.specs.Prelude.{◌++◌, [], All, IfOk, IsPermutation, List, OnOk};
 ghost use Rattle.texting_robots.specs.Callers.{PlacedRule};
-ghost use Rattle.robots_needless.specs.Internal.{AreAmong, AreDescending, AreLeft, IsPlain, IsReducedTo};
+ghost use Rattle.robots_needless.specs.Internal.{AreAmong, AreDescending, AreLeft, Grow, IsPlain, IsReducing, IsSettled, LineSet, Reasons};
+ghost use Rattle.robots_needless.specs.Needless.{IsFound};
 
-use crate::needless::{Budget, Numbers, Settled, needless, reason_to_go, settle_by_rank};
+use crate::needless::{Budget, Findings, add_number, reason_to_go, settle_by_rank};
 use crate::rule::Rule;
 use std::alloc::{AllocError, Global};
 
@@ -15,13 +16,12 @@ struct Kinds {
     starred: Vec<Rule>,
 }
 
-/// The plain rules and the others, each in order.
+/// The plain rules and the others.
 fn kinds_of(alloc: Global, rules: Vec<Rule>) -> Result<Kinds, AllocError>
     ensures all { IfOk result (λ kinds. IsPermutation rules.items (kinds.starred.items ++ kinds.plain.items)) }
     ensures plain { IfOk result (λ kinds. All IsPlain kinds.plain.items) }
 {
     let mut rest = rules;
-    rest.reverse();
     let mut plain = Vec::new(alloc);
     let mut starred = Vec::new(alloc);
     while let Some(rule) = rest.pop() {
@@ -70,50 +70,57 @@ fn strongest<'a>(rules: &'a [Rule], rule: &Rule) -> &'a [Rule]
     &rules[end.saturating_sub(1)..end]
 }
 
-/// Of starred rules and of plain rules in descending order: the plain rules that can go one after the other, the last
-/// one first, without those in the lines that stay. Those that are kept are far as soon as no rule that is left begins
-/// with them.
+/// Of starred rules and of plain rules in descending order: settles the plain ones, the last one first, and returns those
+/// that are kept. They are far as soon as no rule that is left begins with them.
 fn settle_plain(
     alloc: Global,
     budget: &mut Budget,
     starred: &[Rule],
     rules: Vec<Rule>,
-    stays: &Numbers,
-) -> Result<Settled, AllocError>
+    findings: &mut Findings,
+) -> Result<Vec<Rule>, AllocError>
     requires { AreDescending rules.items }
-    ensures { IfOk result (λ settled. (all : List PlacedRule) → IsReducedTo all (starred.now ++ rules.items) []
-        → IsReducedTo all (settled.kept.items ++ starred.now) settled.found.items) }
+    ensures { IfOk result (λ kept. (all : List PlacedRule) (start : Reasons) (stayed : LineSet)
+        → IsReducing all [] (starred.now ++ rules.items) start findings.old.found stayed findings.old.stays
+        → IsReducing all kept.items starred.now start findings.new.found stayed findings.new.stays) }
 {
     let mut rest = rules;
     let mut near = Vec::new(alloc);
     let mut far = Vec::new(alloc);
-    let mut found = Vec::new(alloc);
     while let Some(rule) = rest.pop() {
         leave(&mut near, &mut far, &rule)?;
+        let line = rule.line();
         let equal = strongest(&rest, &rule);
-        match reason_to_go(budget, stays, equal, &near, starred, &rule) {
-            Some(reason) => found.push(needless(&rule, reason))?,
-            None => near.push(rule)?,
+        match reason_to_go(budget, &findings.stays, equal, &near, starred, &rule) {
+            Some(reason) => {
+                findings.found.insert(line, reason)?;
+            }
+            None => {
+                add_number(&mut findings.stays, line)?;
+                near.push(rule)?;
+            }
         }
     }
     far.append(&mut near)?;
-    Ok(Settled { found, kept: far })
+    Ok(far)
 }
 
-/// The rules that can go one after the other, without those in the lines that stay: first plain rules,
-/// then the others. There may be more: a rule that several others replace only together isn't found, and
-/// the budget bounds how many bytes are compared.
+/// Finds rules that can go one after the other, without those in the lines that stay: first plain rules,
+/// then the others. The lines of the others stay. There may be more that can go: a rule that several others replace only
+/// together isn't found, and the budget bounds how many bytes are compared.
 pub(crate) fn settle(
     alloc: Global,
     budget: &mut Budget,
     rules: Vec<Rule>,
-    stays: &Numbers,
-) -> Result<Settled, AllocError>
-    ensures { IfOk result (λ settled. IsReducedTo rules.items settled.kept.items settled.found.items) }
+    findings: &mut Findings,
+) -> Result<(), AllocError>
+    ensures settled { OnOk result (IsSettled rules.items findings.new.found findings.new.stays) }
+    ensures grow { OnOk result (Grow (IsFound rules.items) findings.old.found findings.new.found
+        findings.old.stays findings.new.stays) }
 {
     let kinds = kinds_of(alloc, rules)?;
     let plain = descending(kinds.plain);
-    let settled = settle_plain(alloc, budget, &kinds.starred, plain, stays)?;
-    let all = settle_by_rank(budget, settled, kinds.starred, stays)?;
-    Ok(all)
+    let kept = settle_plain(alloc, budget, &kinds.starred, plain, findings)?;
+    settle_by_rank(budget, kept, kinds.starred, findings)?;
+    Ok(())
 }

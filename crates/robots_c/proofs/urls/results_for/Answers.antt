@@ -1,8 +1,32 @@
-use Rattle.robots_c.proofs.NumberLemmas.{as_many, lines_fit}
+use Rattle.std.proofs.Common.{SFits, arith, rules, w64}
+use Rattle.std.proofs.lemmas.Int.{to_z-of_z}
+use Rattle.std.proofs.lemmas.Iterator.Consumers.{YieldsList-at, YieldsList-end, YieldsList-turn}
+use Rattle.std.proofs.lemmas.Iterator.Splits.{YieldsList-from_str_split}
+use Rattle.std.proofs.lemmas.List.{length_push}
+use Rattle.std.proofs.Math.Seq.{take-length}
+use Rattle.robots_c.proofs.NumberLemmas.{as_many, lines_fit, one_more}
 use Rattle.robots_c.proofs.urls.results_for.Goals as goal
 
-pub numbers_for-requires : goal.numbers_for-requires
-numbers_for-requires c = lines_fit c.requires.0 c.requires.1 _ c.requires.2
+pub number_for-requires : goal.number_for-requires
+number_for-requires c = lines_fit c.requires.0 c.requires.1 _ c.requires.2
 
-pub returns-clause-count : goal.returns-clause-count
-returns-clause-count c = as_many _ _ _ c.in_ok-numbers.ensures
+pub loop-url-preserved : goal.loop-url-preserved
+loop-url-preserved c =
+    let split = c.split-url-items.ensures in
+    let gives = YieldsList-at c.into_iter-url-iterator.ensures.into_iter_gives
+    (YieldsList-from_str_split 10 c.args.urls.now (omega arith) split.text split.has_more split.pattern) in
+    let here = YieldsList-turn gives c.loop-url.yielded _ c.loop-url.yielded_by _ _ c.in-Some.url c.in-Some.is
+    c.next.ensures.steps in
+    let fits : SFits w64 c.in_ok-number_for.field-0 = search rules in
+    rw (c.in_ok-push.ensures.items, to_z-of_z w64 c.in_ok-number_for.field-0 fits, length_push)
+    (one_more _ _ _ _ _ _ here c.loop-url.invariant c.in_ok-number_for.ensures.number)
+
+pub returns : goal.returns
+returns c =
+    let split = c.split-url-items.ensures in
+    let gives = YieldsList-at c.into_iter-url-iterator.ensures.into_iter_gives
+    (YieldsList-from_str_split 10 c.args.urls.now (omega arith) split.text split.has_more split.pattern) in
+    let end = YieldsList-end gives c.loop-url.yielded _ c.loop-url.yielded_by _ _ c.in-None.is
+    c.next.ensures.steps in
+    let all = rw (end.1, take-length) at c.loop-url.invariant in
+    record { results = all; count = as_many _ _ _ all }

@@ -3,15 +3,11 @@ use Rattle.std.proofs.lemmas.Option.{IfSome_then}
 use Rattle.texting_robots.specs.Rules.{PlacedRule, unplaced}
 use Rattle.robots_needless.specs.declared.needless.Reason.{Reason}
 use Rattle.robots_needless.specs.Internal.{AreAmong, AreNear, Goes, HasNoRival}
-use Rattle.robots_needless.proofs.ReasonLemmas.{no_rival_near, overruled_goes}
+use Rattle.robots_needless.proofs.TogetherLemmas.{no_rival_near, overruled_goes}
 use Rattle.robots_needless.proofs.needless.reason_to_go.Goals as goal
 
 pub returns-in-Some : goal.returns-in-Some
-returns-in-Some c others equal near =
-    let (other, listed, line, is) = c.in-Some.ensures in record {
-      go = overruled_goes others _ other (equal other listed) is;
-      holds = (other, equal other listed, line, is);
-    }
+returns-in-Some c others equal near = overruled_goes _ others _ _ equal c.in-Some.ensures
 
 pub returns : goal.returns
 returns c =

@@ -1,6 +1,6 @@
 use Rattle.std.proofs.Common.{◌≡◌, ◌∙◌, ◌+◌, ◌++◌, ◌∷◌, [], ap, arith, sym, take}
 use Rattle.std.proofs.lemmas.List.{take_more}
-use Rattle.robots_needless.proofs.ReasonLemmas.{no_rival_more}
+use Rattle.robots_needless.proofs.TogetherLemmas.{no_rival_more}
 use Rattle.robots_needless.proofs.needless.rival_floor.Goals as goal
 
 pub loop-other-preserved : goal.loop-other-preserved

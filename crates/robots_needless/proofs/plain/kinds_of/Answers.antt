@@ -1,12 +1,12 @@
 use Rattle.std.proofs.lemmas.List.Elements.{All-nil, All-push}
-use Rattle.std.proofs.lemmas.List.Sorted.{IsPermutation-trans}
+use Rattle.std.proofs.lemmas.List.Sorted.{IsPermutation-refl, IsPermutation-trans}
 use Rattle.robots_needless.specs.Internal.{IsPlain}
 use Rattle.robots_needless.proofs.TogetherLemmas.{to_first, to_second}
 use Rattle.robots_needless.proofs.plain.kinds_of.Goals as goal
 
 pub loop-rule-init : goal.loop-rule-init
 loop-rule-init c = record {
-  same = rw (c.new-plain.ensures.items, c.new-starred.ensures.items) c.reverse.ensures.permutation;
+  same = rw (c.new-plain.ensures.items, c.new-starred.ensures.items) (IsPermutation-refl c.args.rules.items);
   plain = rw c.new-plain.ensures.items (All-nil IsPlain);
 }
 

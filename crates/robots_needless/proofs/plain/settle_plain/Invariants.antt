@@ -1,13 +1,17 @@
-use Rattle.std.proofs.Common.{◌++◌, [], List, vec_len}
+use Rattle.std.proofs.Common.{◌++◌, [], List, vec_len, ℕ}
+use Rattle.std.specs.BTreeSet.{BTreeSet}
 use Rattle.texting_robots.specs.Rules.{PlacedRule}
-use Rattle.robots_needless.specs.Internal.{IsReducedTo}
+use Rattle.robots_needless.specs.Internal.{IsReducing, Reasons}
 use Rattle.robots_needless.proofs.PlainLemmas.{AreParted}
 use Rattle.robots_needless.proofs.plain.settle_plain.Given as goal
 
 abbrev pub invariant-loop-rule : goal.invariant-loop-rule
 invariant-loop-rule l = record {
-  reduced : (all : List PlacedRule) → IsReducedTo all (l.starred ++ l.fn.rules.items) []
-      → IsReducedTo all ((l.starred ++ (l.far.items ++ l.near.items)) ++ l.rest.items) l.found.items;
+  reducing : (all : List PlacedRule) (start : Reasons) (stayed : BTreeSet ℕ)
+      → IsReducing all [] (l.starred ++ l.fn.rules.items) start l.fn.findings.found stayed
+      l.fn.findings.stays
+      → IsReducing all (l.far.items ++ l.near.items) (l.starred ++ l.rest.items) start l.findings.found stayed
+      l.findings.stays;
   parted : AreParted l.near.items l.far.items l.rest.items;
 }
 
