@@ -5,8 +5,7 @@ use Rattle.std.proofs.Common.{◌++◌, ap, append_assoc, arith, codes, decimal,
 use Rattle.std.specs.Prelude.{if◌then◌else◌}
 use Rattle.std.proofs.lemmas.Bool.{ne_eqb}
 use Rattle.robots_io.specs.Sanitize.{IsPrintableIn}
-use Rattle.robots_io.proofs.CommandLemmas.{IsFront, IsMiddle, decimal_middle, front_append, front_nil}
-use Rattle.robots_io.proofs.CommandLemmas.{front_text, middle_append}
+use Rattle.robots_io.proofs.CommandLemmas.{IsFront, decimal_middle, front_append, front_nil, front_text}
 use Rattle.robots_io.proofs.SanitizeLemmas.{append_printable, ascii_printable, decimal_printable}
 use Rattle.robots_io.proofs.SanitizeLemmas.{nil_printable}
 use Rattle.robots_text.specs.Delay.{delay_text, fraction, million, seconds}
@@ -32,51 +31,32 @@ digit_added old new all digits rest some more added whole =
     ap (λ (t : List ℕ). t ++ later) added ∙ append_assoc old digit later
     ∙ ap (λ (t : List ℕ). old ++ t) (sym (next_digit digits rest some more)) ∙ whole
 
--- ---- strings built in parts
-
-pub added : (old mid new a b : List ℕ) → mid ≡ old ++ a → new ≡ mid ++ b → new ≡ old ++ (a ++ b)
-added old mid new a b one two = two ∙ ap (λ (t : List ℕ). t ++ b) one ∙ append_assoc old a b
-
 -- ---- what a delay contains
 
-fraction_printable : (digits millionths : ℕ) → IsPrintableIn false (fraction digits millionths)
-fraction_printable zero millionths = nil_printable false
-fraction_printable (suc digits) millionths =
-    either (IsPrintableIn false) (millionths == 0) [] _ (nil_printable false)
-    (append_printable false (decimal (millionths * 10 / million))
-    (fraction digits (millionths * 10 % million))
-    (decimal_printable false (millionths * 10 / million)) (fraction_printable digits
-    (millionths * 10 % million)))
+-- a property of the parts of a delay, and of two texts, one after the other, if it holds of each
+module _ (P : List ℕ → Type 0) (none : P []) (joined : (one two : List ℕ) → P one → P two → P (one ++ two))
+    (number : (n : ℕ) → P (decimal n)) (point : P (codes ".")) (unit : P (codes " s")) where
+  fraction_made : (digits millionths : ℕ) → P (fraction digits millionths)
+  fraction_made zero millionths = none
+  fraction_made (suc digits) millionths =
+      let rest = millionths * 10 % million in
+      let digit = millionths * 10 / million in
+      either P (millionths == 0) [] _ none
+      (joined (decimal digit) (fraction digits rest) (number digit) (fraction_made digits rest))
 
-seconds_printable : (micros : ℕ) → IsPrintableIn false (seconds micros)
-seconds_printable micros =
-    let millionths = micros % million in
-    let after = codes "." ++ fraction 6 millionths in
-    let point : IsPrintableIn false after =
-    append_printable false (codes ".") _ (ascii_printable false (codes ".") refl)
-    (fraction_printable 6 millionths) in
-    append_printable false (decimal (micros / million)) _ (decimal_printable false (micros / million))
-    (either (IsPrintableIn false) (millionths == 0) [] after (nil_printable false) point)
+  delay_made : (micros : ℕ) → P (delay_text micros)
+  delay_made micros =
+      let millionths = micros % million in
+      joined (seconds micros) (codes " s") (joined (decimal (micros / million)) _ (number (micros / million))
+      (either P (millionths == 0) [] _ none
+      (joined (codes ".") (fraction 6 millionths) point (fraction_made 6 millionths)))) unit
 
 pub delay_printable : (micros : ℕ) → IsPrintableIn false (delay_text micros)
-delay_printable micros = search (append_printable false, ascii_printable false, seconds_printable)
+delay_printable =
+    delay_made (IsPrintableIn false) (nil_printable false) (append_printable false) (decimal_printable false)
+    (ascii_printable false (codes ".") refl) (ascii_printable false (codes " s") refl)
 
-fraction_front : (digits millionths : ℕ) → IsFront (fraction digits millionths)
-fraction_front zero millionths = front_nil
-fraction_front (suc digits) millionths =
-    let tenths = millionths * 10 in
-    either IsFront (millionths == 0) [] (decimal (tenths / million) ++ fraction digits (tenths % million))
-    front_nil
-    (front_append (decimal (tenths / million)) (fraction digits (tenths % million))
-    (decimal_middle (tenths / million)).front (fraction_front digits (tenths % million)))
-
-pub delay_middle : (micros : ℕ) → IsMiddle (delay_text micros)
-delay_middle micros =
-    let millionths = micros % million in
-    let after = codes "." ++ fraction 6 millionths in
-    let whole = decimal (micros / million) in
-    middle_append (seconds micros) (codes " s")
-    (middle_append whole (if millionths == 0 then [] else after) (decimal_middle (micros / million))
-    (either IsFront (millionths == 0) [] after front_nil
-    (front_append (codes ".") (fraction 6 millionths) (front_text (codes ".") refl)
-    (fraction_front 6 millionths)))) (front_text (codes " s") refl)
+pub delay_front : (micros : ℕ) → IsFront (delay_text micros)
+delay_front =
+    delay_made IsFront front_nil front_append (λ n. (decimal_middle n).front) (front_text (codes ".") refl)
+    (front_text (codes " s") refl)

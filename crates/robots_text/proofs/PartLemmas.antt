@@ -1,17 +1,16 @@
 -- Every line that is made of parts is printable, and no workflow takes it for a command.
-use Rattle.std.proofs.Common.{◌∙◌, ◌==◌, ◌-◌, ap, append-nil, length}
-use Rattle.std.proofs.Common.{◌≡◌, ℕ, true, false, List, [], ◌∷◌, ◌++◌, ◌⊎◌, Bool, codes, decimal, inl}
-use Rattle.std.proofs.Common.{inr, map, refl, suc, zero}
+use Rattle.std.proofs.Common.{◌≡◌, ◌∙◌, ◌==◌, ◌-◌, ℕ, zero, suc, Bool, true, false, List, [], ◌∷◌, ◌++◌}
+use Rattle.std.proofs.Common.{ap, append-nil, append_assoc, codes, decimal, length, map, refl}
 use Rattle.std.specs.List.{AllByRecursion as Each, list_all}
 use Rattle.std.proofs.lemmas.List.{map-append}
 use Rattle.std.proofs.lemmas.List.Concat.{flat_map-append}
-use Rattle.std.specs.Prelude.{not}
+use Rattle.std.specs.Prelude.{not, ◌&&◌}
 use Rattle.std.proofs.lemmas.Bool.{and_parts, not-true, or_right}
 use Rattle.robots_io.specs.Lines.{ended, lf}
 use Rattle.robots_io.specs.Sanitize.{IsPrintable, IsPrintableIn, begins_apart, ends_apart, has_command}
-use Rattle.robots_io.specs.Sanitize.{is_printable_byte, sanitized}
-use Rattle.robots_io.proofs.CommandLemmas.{IsMiddle, after_front, blanks_front, decimal_middle}
-use Rattle.robots_io.proofs.CommandLemmas.{middle_text, sanitized_quiet, seam}
+use Rattle.robots_io.specs.Sanitize.{is_front, is_printable_byte, sanitized}
+use Rattle.robots_io.proofs.CommandLemmas.{IsMiddle, after_front, blanks_front, byte_middle, decimal_middle}
+use Rattle.robots_io.proofs.CommandLemmas.{front_quiet, middle_text, sanitized_quiet, seam}
 use Rattle.robots_io.proofs.SanitizeLemmas.{append_printable, ascii_printable, blanks_printable}
 use Rattle.robots_io.proofs.SanitizeLemmas.{decimal_printable, ended_printable, nil_printable}
 use Rattle.robots_io.proofs.SanitizeLemmas.{sanitized_in_printable}
@@ -25,16 +24,27 @@ use Rattle.robots_text.specs.Text.{blanks, level_text, line_text, named_text, pa
 use Rattle.robots_text.specs.Text.{starts_line, value_text, written}
 use Rattle.robots_text.specs.declared.level.Level.{Level}
 use Rattle.robots_text.specs.declared.level.Level.TheVariants.{Error, Note, Warning}
-use Rattle.robots_text.proofs.DelayLemmas.{delay_middle, delay_printable, either}
+use Rattle.robots_text.proofs.DelayLemmas.{delay_front, delay_printable, either}
 use Rattle.robots_text.proofs.PlainLemmas.{each_printable, starts_append, starts_blanks, starts_decimal}
 use Rattle.robots_text.proofs.PlainLemmas.{starts_plainly}
 
 -- ---- fixed texts and values
 
--- a text without the start of a command, which can follow any other
+-- a text that can follow any other: together they contain no start of a command if the other doesn't
 record IsApart (text : List ℕ) : Type 0 where
-  quiet : has_command text ≡ false
-  begins : (text ≡ []) ⊎ (begins_apart text ≡ true)
+  after : (less : List ℕ) → has_command less ≡ false → has_command (less ++ text) ≡ false
+
+nil_apart : IsApart []
+nil_apart = record { after = λ less quiet. rw append-nil quiet }
+
+apart_append : (one two : List ℕ) → IsApart one → IsApart two → IsApart (one ++ two)
+apart_append one two is too =
+    record { after = λ less quiet. rw (← append_assoc) (too.after (less ++ one) (is.after less quiet)) }
+
+-- a middle, and a text after it
+middle_apart : (one two : List ℕ) → IsMiddle one → has_command two ≡ false → IsApart (one ++ two)
+middle_apart one two is quiet =
+    record { after = λ less before. rw (← append_assoc) ((is.after less before).before two quiet) }
 
 fixed_parts : (text : List ℕ) → is_fixed text ≡ true
     → IsPrintableIn false text × (begins_apart text ≡ true) × (has_command text ≡ false)
@@ -49,13 +59,13 @@ fixed_printable fixed = (fixed_parts fixed.text fixed.safe).0
 fixed_apart : (fixed : Fixed) → IsApart fixed.text
 fixed_apart fixed =
     let parts = fixed_parts fixed.text fixed.safe in
-    record { quiet = parts.2; begins = inr parts.1 }
+    record { after = λ less quiet. seam less fixed.text quiet parts.2 (or_right (ends_apart less) _ parts.1) }
 
 pub label_middle : (front : Label) → IsMiddle front.text
 label_middle front =
     let both = and_parts (is_fixed front.text) (ends_apart front.text) front.safe in
     let parts = fixed_parts front.text both.0 in
-    record { front = record { quiet = parts.2; ends = both.1 }; begins = parts.1 }
+    middle_text front.text (rw (parts.1, parts.2, both.1) refl)
 
 pub label_printable : (front : Label) → IsPrintableIn false front.text
 label_printable front =
@@ -78,81 +88,42 @@ value_printable (Delay micros) = delay_printable micros
 
 value_quiet : (value : Value) → has_command (value_text value) ≡ false
 value_quiet Nothing = refl
-value_quiet (Word word) = (fixed_apart word).quiet
+value_quiet (Word word) = (fixed_parts word.text word.safe).2
 value_quiet (Untrusted bytes) = sanitized_quiet false bytes
 value_quiet (Named name) =
     either (λ text. has_command text ≡ false) (length name == 0) (codes "\"\"") (sanitized name) refl
     (sanitized_quiet false name)
-value_quiet (Number number) = (decimal_middle number).front.quiet
-value_quiet (Delay micros) = (delay_middle micros).front.quiet
+value_quiet (Number number) = front_quiet _ (decimal_middle number).front
+value_quiet (Delay micros) = front_quiet _ (delay_front micros)
 
 -- ---- parts
 
--- a text begins as a label before it does
-begins_append : (one two : List ℕ) → begins_apart one ≡ true → begins_apart (one ++ two) ≡ true
-begins_append [] two is = absurd (cc)
-begins_append (b ∷ one) two is = is
-
-labelled : (front : Label) (text : List ℕ) → has_command text ≡ false → IsApart (front.text ++ text)
-labelled front text quiet = record {
-  quiet = after_front front.text text (label_middle front).front quiet;
-  begins = inr (begins_append front.text text (label_middle front).begins);
-}
-
 number_apart : (number : ℕ) → IsApart (decimal number)
 number_apart number =
-    record { quiet = (decimal_middle number).front.quiet; begins = inr (decimal_middle number).begins }
+    record { after = λ less quiet. front_quiet _ ((decimal_middle number).after less quiet) }
 
-aligned_begins : (n number : ℕ) → begins_apart (blanks n ++ decimal number) ≡ true
-aligned_begins zero number = (decimal_middle number).begins
-aligned_begins (suc n) number = refl
-
-nil_apart : IsApart []
-nil_apart = record { quiet = refl; begins = inl refl }
+blanks_apart : (n : ℕ) → IsApart (blanks n)
+blanks_apart zero = nil_apart
+blanks_apart (suc n) =
+    middle_apart (codes " ") (blanks n) (byte_middle 32 refl) (front_quiet (blanks n) (blanks_front n))
 
 part_apart : (part : PartValue) → IsApart (part_text part)
 part_apart Absent = nil_apart
-part_apart (Part front value) =
-    labelled front (value_text value) (value_quiet value)
+part_apart (Part front value) = middle_apart front.text _ (label_middle front) (value_quiet value)
 part_apart (Only fixed) = rw (append-nil fixed.text) (fixed_apart fixed)
 part_apart (Column width front value) =
     let space = width - length front.text in
-    labelled front (blanks space ++ value_text value)
-    (after_front (blanks space) (value_text value) (blanks_front space)
-    (value_quiet value))
+    middle_apart front.text _ (label_middle front)
+    (after_front (blanks space) (value_text value) (blanks_front space) (value_quiet value))
 part_apart (Count number) = number_apart number
 part_apart (Aligned width number) =
     let space = width - length (decimal number) in
-    record {
-      quiet =
-          after_front (blanks space) (decimal number) (blanks_front space)
-          (decimal_middle number).front.quiet;
-      begins = inr (aligned_begins space number);
-    }
-
-joined_quiet : (one two : List ℕ) → has_command one ≡ false → IsApart two → has_command (one ++ two) ≡ false
-joined_quiet one [] is too = rw (append-nil one) is
-joined_quiet one (b ∷ two) is too = by too.begins
-  where
-    by : (b ∷ two ≡ []) ⊎ (begins_apart (b ∷ two) ≡ true) → has_command (one ++ b ∷ two) ≡ false
-    by (inl none) = absurd (cc)
-    by (inr apart) = seam one (b ∷ two) is too.quiet (or_right _ (begins_apart (b ∷ two)) apart)
-
-joined_begins : (one two : List ℕ) → (one ≡ []) ⊎ (begins_apart one ≡ true) → IsApart two
-    → (one ++ two ≡ []) ⊎ (begins_apart (one ++ two) ≡ true)
-joined_begins [] two is too = too.begins
-joined_begins (b ∷ one) two (inl none) too = absurd (cc)
-joined_begins (b ∷ one) two (inr apart) too = inr apart
+    apart_append (blanks space) (decimal number) (blanks_apart space) (number_apart number)
 
 parts_apart : (parts : List PartValue) → IsApart (parts_text parts)
 parts_apart [] = nil_apart
 parts_apart (part ∷ parts) =
-    let one = part_apart part in
-    let rest = parts_apart parts in
-    record {
-      quiet = joined_quiet (part_text part) (parts_text parts) one.quiet rest;
-      begins = joined_begins (part_text part) (parts_text parts) one.begins rest;
-    }
+    apart_append (part_text part) (parts_text parts) (part_apart part) (parts_apart parts)
 
 pub part_printable : (part : PartValue) → IsPrintableIn false (part_text part)
 part_printable Absent = nil_printable false
@@ -173,11 +144,10 @@ part_printable (Aligned width number) =
 pub parts_printable : (parts : List PartValue) → IsPrintableIn false (parts_text parts)
 parts_printable [] = nil_printable false
 parts_printable (part ∷ parts) =
-    append_printable false (part_text part) (parts_text parts) (part_printable part)
-    (parts_printable parts)
+    append_printable false (part_text part) (parts_text parts) (part_printable part) (parts_printable parts)
 
 pub parts_quiet : (parts : List PartValue) → has_command (parts_text parts) ≡ false
-parts_quiet parts = (parts_apart parts).quiet
+parts_quiet parts = (parts_apart parts).after [] refl
 
 -- ---- lines
 
@@ -200,7 +170,7 @@ line_plain line =
           append_printable false first rest (part_printable line.first) (parts_printable line.rest);
       begins =
           starts_plainly (first ++ rest) (starts_append first rest (part_starts line.first line.begins));
-      inside = joined_quiet first rest (part_apart line.first).quiet (parts_apart line.rest);
+      inside = (apart_append first rest (part_apart line.first) (parts_apart line.rest)).after [] refl;
     }
 
 -- whatever a report says, its lines are plain
@@ -225,33 +195,23 @@ named_printable line =
     (sanitized_in_printable false line.name) (parts_printable line.rest)
 
 pub named_quiet : (line : NamedLine) → has_command (named_text line) ≡ false
-named_quiet line =
-    joined_quiet (sanitized line.name) (parts_text line.rest) (sanitized_quiet false line.name)
-    (parts_apart line.rest)
+named_quiet line = (parts_apart line.rest).after (sanitized line.name) (sanitized_quiet false line.name)
 
 -- ---- lines with a level
-
-level_middle : (has_colors : Bool) (level : Level) → IsMiddle (codes ": " ++ shown_word has_colors level)
-level_middle false Error = middle_text (codes ": " ++ shown_word false Error) refl
-level_middle false Warning = middle_text (codes ": " ++ shown_word false Warning) refl
-level_middle false Note = middle_text (codes ": " ++ shown_word false Note) refl
-level_middle true Error = middle_text (codes ": " ++ shown_word true Error) refl
-level_middle true Warning = middle_text (codes ": " ++ shown_word true Warning) refl
-level_middle true Note = middle_text (codes ": " ++ shown_word true Note) refl
 
 pub level_quiet : (has_colors : Bool) (line : LevelLine) → has_command (level_text has_colors line) ≡ false
 level_quiet has_colors line =
     let word = codes ": " ++ shown_word has_colors line.level in
-    let is = level_middle has_colors line.level in
-    let rest = parts_text line.rest in
-    let after : IsApart (word ++ rest) = record {
-      quiet = after_front word rest is.front (parts_quiet line.rest);
-      begins = inr (begins_append word rest is.begins);
-    } in
-    let place = part_apart line.place in
-    let placed : IsApart (part_text line.place ++ (word ++ rest)) = record {
-      quiet = joined_quiet (part_text line.place) (word ++ rest) place.quiet after;
-      begins = joined_begins (part_text line.place) (word ++ rest) place.begins after;
-    } in
-    joined_quiet (sanitized line.name) (part_text line.place ++ (word ++ rest))
-    (sanitized_quiet false line.name) placed
+    let is = middle_text word (apart has_colors line.level) in
+    let level = middle_apart word _ is (parts_quiet line.rest) in
+    (apart_append (part_text line.place) _ (part_apart line.place) level).after (sanitized line.name)
+    (sanitized_quiet false line.name)
+  where
+    apart : (has_colors : Bool) (level : Level) → let word = codes ": " ++ shown_word has_colors level in
+        (begins_apart word && is_front word) ≡ true
+    apart false Error = refl
+    apart false Warning = refl
+    apart false Note = refl
+    apart true Error = refl
+    apart true Warning = refl
+    apart true Note = refl
