@@ -79,6 +79,7 @@ seam (b ∷ c ∷ d ∷ one) two is too apart =
 
 -- any text without the start of a command can be appended
 pub record IsFront (text : List ℕ) : Type 0 where
+  pub quiet : has_command text ≡ false
   pub before : (more : List ℕ) → has_command more ≡ false → has_command (text ++ more) ≡ false
 
 -- it can also be appended to any such text
@@ -90,18 +91,19 @@ middle : (text : List ℕ) → ((less : List ℕ) → has_command less ≡ false
     → IsMiddle text
 middle text after = record { front = after [] refl; after = after }
 
-pub front_quiet : (text : List ℕ) → IsFront text → has_command text ≡ false
-front_quiet text is = rw append-nil at (is.before [] refl)
+front_by : (text : List ℕ)
+    → ((more : List ℕ) → has_command more ≡ false → has_command (text ++ more) ≡ false) → IsFront text
+front_by text before = record { quiet = rw append-nil at (before [] refl); before = before }
 
 pub front_nil : IsFront []
-front_nil = record { before = λ more quiet. quiet }
+front_nil = front_by [] (λ more quiet. quiet)
 
 -- for a literal, `refl` proves the premise
 pub front_text : (text : List ℕ) → is_front text ≡ true → IsFront text
 front_text text is =
     let both = and_parts (not (has_command text)) (ends_apart text) is in
     let quiet = not-true (has_command text) both.0 in
-    record { before = λ more later. seam text more quiet later (rw both.1 refl) }
+    front_by text (λ more later. seam text more quiet later (rw both.1 refl))
 
 -- a text begins as one before it does
 pub begins_append : (one two : List ℕ) → begins_apart one ≡ true → begins_apart (one ++ two) ≡ true
@@ -111,12 +113,9 @@ begins_append (b ∷ one) two is = is
 pub middle_text : (text : List ℕ) → (begins_apart text && is_front text) ≡ true → IsMiddle text
 middle_text text is =
     let both = and_parts (begins_apart text) (is_front text) is in
-    middle text (λ less quiet. record {
-      before =
-          λ more later. rw append_assoc
-          (seam less (text ++ more) quiet ((front_text text both.1).before more later)
-          (or_right (ends_apart less) _ (begins_append text more both.0)));
-    })
+    middle text (λ less quiet. front_by (less ++ text) (λ more later. rw append_assoc
+    (seam less (text ++ more) quiet ((front_text text both.1).before more later)
+    (or_right (ends_apart less) _ (begins_append text more both.0)))))
 
 -- a text after a front
 pub after_front : (one two : List ℕ) → IsFront one → has_command two ≡ false
@@ -125,7 +124,7 @@ after_front one two is too = is.before two too
 
 pub front_append : (one two : List ℕ) → IsFront one → IsFront two → IsFront (one ++ two)
 front_append one two is too =
-    record { before = λ more quiet. rw append_assoc (is.before (two ++ more) (too.before more quiet)) }
+    front_by (one ++ two) (λ more quiet. rw append_assoc (is.before (two ++ more) (too.before more quiet)))
 
 -- a text before a middle, which is a front then
 pub before_middle : (one two : List ℕ) → has_command one ≡ false → IsMiddle two → IsFront (one ++ two)

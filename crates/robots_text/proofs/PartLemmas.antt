@@ -10,7 +10,7 @@ use Rattle.robots_io.specs.Lines.{ended, lf}
 use Rattle.robots_io.specs.Sanitize.{IsPrintable, IsPrintableIn, begins_apart, ends_apart, has_command}
 use Rattle.robots_io.specs.Sanitize.{is_front, is_printable_byte, sanitized}
 use Rattle.robots_io.proofs.CommandLemmas.{IsMiddle, after_front, blanks_front, byte_middle, decimal_middle}
-use Rattle.robots_io.proofs.CommandLemmas.{front_quiet, middle_text, sanitized_quiet, seam}
+use Rattle.robots_io.proofs.CommandLemmas.{middle_text, sanitized_quiet, seam}
 use Rattle.robots_io.proofs.SanitizeLemmas.{append_printable, ascii_printable, blanks_printable}
 use Rattle.robots_io.proofs.SanitizeLemmas.{decimal_printable, ended_printable, nil_printable}
 use Rattle.robots_io.proofs.SanitizeLemmas.{sanitized_in_printable}
@@ -93,19 +93,18 @@ value_quiet (Untrusted bytes) = sanitized_quiet false bytes
 value_quiet (Named name) =
     either (λ text. has_command text ≡ false) (length name == 0) (codes "\"\"") (sanitized name) refl
     (sanitized_quiet false name)
-value_quiet (Number number) = front_quiet _ (decimal_middle number).front
-value_quiet (Delay micros) = front_quiet _ (delay_front micros)
+value_quiet (Number number) = (decimal_middle number).front.quiet
+value_quiet (Delay micros) = (delay_front micros).quiet
 
 -- ---- parts
 
 number_apart : (number : ℕ) → IsApart (decimal number)
-number_apart number =
-    record { after = λ less quiet. front_quiet _ ((decimal_middle number).after less quiet) }
+number_apart number = record { after = λ less quiet. ((decimal_middle number).after less quiet).quiet }
 
 blanks_apart : (n : ℕ) → IsApart (blanks n)
 blanks_apart zero = nil_apart
 blanks_apart (suc n) =
-    middle_apart (codes " ") (blanks n) (byte_middle 32 refl) (front_quiet (blanks n) (blanks_front n))
+    middle_apart (codes " ") (blanks n) (byte_middle 32 refl) (blanks_front n).quiet
 
 part_apart : (part : PartValue) → IsApart (part_text part)
 part_apart Absent = nil_apart
