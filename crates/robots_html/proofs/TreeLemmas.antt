@@ -5,26 +5,17 @@ use Rattle.robots_html.specs.Html.{Html, element, style, text, void, with_text, 
 
 pub with_text-nil : (html : Html) → with_text [] html ≡ html
 with_text-nil (text bytes) = refl
-with_text-nil (element before name attributes children after) = refl
-with_text-nil (void before name attributes after) = refl
-with_text-nil (style before css after) = refl
+with_text-nil html = refl
 
 with_text-append : (one two : List ℕ) (html : Html)
     → with_text (one ++ two) html ≡ with_text one (with_text two html)
-with_text-append one two (text bytes) = ap text (append_assoc one two bytes)
-with_text-append one two (element before name attributes children after) =
-    ap (λ (b : List ℕ). element b name attributes children after) (append_assoc one two before)
-with_text-append one two (void before name attributes after) =
-    ap (λ (b : List ℕ). void b name attributes after) (append_assoc one two before)
-with_text-append one two (style before css after) =
-    ap (λ (b : List ℕ). style b css after) (append_assoc one two before)
+with_text-append one two (text bytes) = rw append_assoc refl
+with_text-append one two html = rw append_assoc refl
 
 with_text-followed : (bytes : List ℕ) (one two : Html)
     → with_text bytes one ⊕ two ≡ with_text bytes (one ⊕ two)
 with_text-followed bytes (text more) two = with_text-append bytes more two
-with_text-followed bytes (element before name attributes children after) two = refl
-with_text-followed bytes (void before name attributes after) two = refl
-with_text-followed bytes (style before css after) two = refl
+with_text-followed bytes html two = refl
 
 pub followed_assoc : (one two three : Html) → (one ⊕ two) ⊕ three ≡ one ⊕ (two ⊕ three)
 followed_assoc (text bytes) two three = with_text-followed bytes two three

@@ -1,6 +1,5 @@
 -- What is written for trees one after the other, and when they can be read back.
-use Rattle.std.proofs.Common.{ℕ, Bool, List, [], ◌∷◌, ◌++◌, ap, append_assoc, codes, flat_map, not, refl, ◌≡◌}
-use Rattle.std.proofs.Common.{◌∙◌}
+use Rattle.std.proofs.Common.{ℕ, Bool, List, [], ◌∷◌, ◌++◌, append_assoc, not, ◌≡◌}
 use Rattle.std.proofs.lemmas.List.{append-nil}
 use Rattle.robots_html.specs.Html.{AreAttributes, Attribute, Html, IsContent, element, escaped}
 use Rattle.robots_html.specs.Html.{is_title, style}
@@ -13,11 +12,7 @@ use Rattle.robots_html.proofs.TextLemmas.{escaped-append}
 pub written-with_text : (bytes : List ℕ) (tree : Html)
     → written (with_text bytes tree) ≡ escaped bytes ++ written tree
 written-with_text bytes (text more) = escaped-append bytes more
-written-with_text bytes (element before name attributes children after) =
-    rw (escaped-append bytes before) (simp append_assoc)
-written-with_text bytes (void before name attributes after) = rw (escaped-append bytes before)
-    (simp append_assoc)
-written-with_text bytes (style before css after) = rw (escaped-append bytes before) (simp append_assoc)
+written-with_text bytes tree = rw escaped-append (simp append_assoc)
 
 pub written-followed : (one two : Html) → written (one ⊕ two) ≡ written one ++ written two
 written-followed (text bytes) two = written-with_text bytes two
@@ -69,22 +64,11 @@ module _ (P Q : List ℕ → Type 0) (weaker : (bytes : List ℕ) → P bytes �
   content_weaker elements (text bytes) is = weaker bytes is
   content_weaker elements (element before name attributes children after)
       (allowed, is, named, ordinary, are, child, later) =
-      let inside = content_weaker (not (is_title name)) children child in (
-        allowed,
-        weaker before is,
-        named,
-        ordinary,
-        attributes_weaker [] attributes are,
-        inside,
-        content_weaker elements after later,
-      )
-  content_weaker elements (void before name attributes after) (allowed, is, named, among, are, later) = (
-    allowed,
-    weaker before is,
-    named,
-    among,
-    attributes_weaker [] attributes are,
-    content_weaker elements after later,
-  )
+      let inside = content_weaker (not (is_title name)) children child in
+      let list = attributes_weaker [] attributes are in
+      (allowed, weaker before is, named, ordinary, list, inside, content_weaker elements after later)
+  content_weaker elements (void before name attributes after) (allowed, is, named, among, are, later) =
+      let list = attributes_weaker [] attributes are in
+      (allowed, weaker before is, named, among, list, content_weaker elements after later)
   content_weaker elements (style before css after) (allowed, is, are, plain, later) =
       (allowed, weaker before is, are, weaker css plain, content_weaker elements after later)
