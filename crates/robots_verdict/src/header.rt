@@ -26,14 +26,13 @@ struct RawInput<'a> {
 }
 
 /// The line without a CR at its end.
-#[tactic(auto, using(crate::proofs::InputLemmas::text_taken, crate::proofs::InputLemmas::text_kept))]
 fn without_cr<'a>(line: &'a [u8]) -> &'a [u8]
     ensures { result.now ≡ strip_last cr line.now }
 {
-    let Some((last, text)) = line.split_last() else {
-        return line;
-    };
-    if *last == b'\r' { text } else { line }
+    if !line.is_empty() && line[line.len() - 1] == b'\r' {
+        return &line[..line.len() - 1];
+    }
+    line
 }
 
 /// The index of the first LF.
