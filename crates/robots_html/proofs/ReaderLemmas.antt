@@ -21,7 +21,7 @@ use Rattle.robots_html.specs.Reader.{end_tag_name, finished, has_elements, has_r
 use Rattle.robots_html.specs.Reader.{new_tag, only_text, outside, raw_text, read, read_document, reader, run}
 use Rattle.robots_html.specs.Reader.{tag_name, tag_open, text_of, to, with_step}
 use Rattle.robots_html.proofs.TextLemmas.{escaped-is}
-use Rattle.robots_html.proofs.TreeLemmas.{followed-nil, followed_assoc, placed, with_text-nil}
+use Rattle.robots_html.proofs.WritingLemmas.{followed-nil, followed_assoc, with_text-nil}
 
 -- the bytes lead from one reader to the other, whatever follows them
 record Reads (from : Reader) (bytes : List ℕ) (last : Reader) : Type 0 where
@@ -207,10 +207,7 @@ module _ (opened : List Opened) where
       let at_name = λ (done : List ℕ). reader (end_tag_name done) (innermost ∷ opened) content in
       let last : Reads (at_name name) (62 ∷ [])
       (reading (before ⊕ element [] name attributes content (text []))) = record {
-        leads = λ more. ap (λ (b : Bool). run (if b then reading (before ⊕ element_of innermost.tag content)
-            else reader outside (innermost ∷ opened) content) more) ((bytes_eq-Decides name name).1 refl)
-            ∙ ap (λ (b : Bool). run (reading (before ⊕ (if b then style [] (text_of content) (text [])
-            else element [] name attributes content (text [])))) more) isnt;
+        leads = λ more. rw ((bytes_eq-Decides name name).1 refl, isnt, run);
       } in
       joined (name_read (reader data_state (innermost ∷ opened) content) (60 ∷ 47 ∷ []) at_name name named
       (λ byte is. record { leads = λ more. rw is })
@@ -229,13 +226,7 @@ module _ (opened : List Opened) where
       joined first (joined (unchanged (λ byte. is_character byte && not (byte == 60)) in_style
       (λ done byte is.
       let both = and_parts (is_character byte) (not (byte == 60)) is in
-      record {
-        leads = λ more. ap (λ (b : Bool). run (with_step (if b then to tag_open
-            else if is_character byte then emit (character byte) else to outside) (innermost ∷ opened)
-            (text done)) more) (not-true (byte == 60) both.1)
-            ∙ ap (λ (b : Bool). run (with_step (if b then emit (character byte) else to outside)
-            (innermost ∷ opened) (text done)) more) both.0;
-      }) css are) last)
+      record { leads = λ more. rw (not-true (byte == 60) both.1, both.0, run) }) css are) last)
 
 -- ---- trees
 
@@ -265,9 +256,7 @@ content_read opened content (element before name attributes children rest) has
     let inner : List Opened = record { before = outer; tag = new_tag name attributes } ∷ opened in
     let inside = content_read inner (text []) children kind.0
     (subst (λ elements. IsContent IsText elements children) (sym kind.1) child) in
-    let whole : text before ⊕ (item ⊕ rest) ≡ element before name attributes children rest =
-    rw (append-nil before, with_text-nil rest) refl in
-    rw (placed content before item rest _ whole) at
+    simp (followed_assoc, append-nil, with_text-nil) at
     (joined (text_read opened content before has is_before)
     (joined (start_read opened outer name attributes allowed named ordinary are)
     (joined (rw (with_text-nil children) at inside)
@@ -277,18 +266,14 @@ content_read opened content (void before name attributes rest) has
     (allowed, is_before, named, is, are, later) =
     let item = void [] name attributes (text []) in
     let outer = content ⊕ text before in
-    let whole : text before ⊕ (item ⊕ rest) ≡ void before name attributes rest =
-    rw (append-nil before, with_text-nil rest) refl in
-    rw (placed content before item rest _ whole) at
+    simp (followed_assoc, append-nil, with_text-nil) at
     (joined (text_read opened content before has is_before)
     (joined (void_read opened outer name attributes allowed named is are)
     (content_read opened (outer ⊕ item) rest has later)))
 content_read opened content (style before css rest) has (allowed, is_before, are, plain, later) =
     let item = style [] css (text []) in
     let outer = content ⊕ text before in
-    let whole : text before ⊕ (item ⊕ rest) ≡ style before css rest =
-    rw (append-nil before, with_text-nil rest) refl in
-    rw (placed content before item rest _ whole) at
+    simp (followed_assoc, append-nil, with_text-nil) at
     (joined (text_read opened content before has is_before)
     (joined (style_read opened outer css allowed are) (content_read opened (outer ⊕ item) rest has later)))
 
