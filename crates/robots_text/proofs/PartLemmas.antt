@@ -1,21 +1,27 @@
 -- Every line that is made of parts is printable, and no workflow takes it for a command.
-use Rattle.std.proofs.Common.{◌≡◌, ◌∙◌, ◌==◌, ◌-◌, ℕ, zero, suc, Bool, true, false, List, [], ◌∷◌, ◌++◌}
-use Rattle.std.proofs.Common.{ap, append-nil, append_assoc, codes, decimal, length, map, refl}
+use Rattle.std.proofs.Common.{◌≡◌, ◌∙◌, ◌==◌, ◌<◌, ◌-◌, ◌*◌, ◌/◌, ◌%◌, ℕ, zero, suc, Bool, true, false, List}
+use Rattle.std.proofs.Common.{[], ◌∷◌, ◌++◌, ap, append-nil, append_assoc, arith, codes, decimal, length, map}
+use Rattle.std.proofs.Common.{inl, inr, refl, replicate, sym}
 use Rattle.std.specs.List.{AllByRecursion as Each, list_all}
 use Rattle.std.proofs.lemmas.List.{map-append}
 use Rattle.std.proofs.lemmas.List.Concat.{flat_map-append}
-use Rattle.std.specs.Prelude.{not, ◌&&◌}
-use Rattle.std.proofs.lemmas.Bool.{and_parts, not-true, or_right}
+use Rattle.std.specs.Prelude.{if◌then◌else◌, not, ◌&&◌, ◌||◌}
+use Rattle.std.specs.Fmt.{digit_glyph}
+use Rattle.std.proofs.lemmas.Bool.{and_parts, cases_Bool, ne_eqb, not-true, or_right}
+use Rattle.std.proofs.lemmas.Bool.Decides.{nat_tests}
 use Rattle.robots_io.specs.Lines.{ended, lf}
 use Rattle.robots_io.specs.Sanitize.{IsPrintable, IsPrintableIn, begins_apart, ends_apart, has_command}
 use Rattle.robots_io.specs.Sanitize.{is_front, is_printable_byte, sanitized}
+use Rattle.robots_io.proofs.CommandLemmas.{IsFront, front_append, front_nil, front_text}
 use Rattle.robots_io.proofs.CommandLemmas.{IsMiddle, after_front, blanks_front, byte_middle, decimal_middle}
 use Rattle.robots_io.proofs.CommandLemmas.{middle_text, sanitized_quiet, seam}
 use Rattle.robots_io.proofs.SanitizeLemmas.{append_printable, ascii_printable, blanks_printable}
-use Rattle.robots_io.proofs.SanitizeLemmas.{decimal_printable, ended_printable, nil_printable}
+use Rattle.robots_io.proofs.SanitizeLemmas.{decimal_by, decimal_printable, ended_printable, line_printable}
+use Rattle.robots_io.proofs.SanitizeLemmas.{nil_printable}
 use Rattle.robots_io.proofs.SanitizeLemmas.{sanitized_in_printable}
+use Rattle.robots_text.specs.Delay.{delay_text, fraction, million, seconds}
 use Rattle.robots_text.specs.Level.{level_word}
-use Rattle.robots_text.specs.PlainLine.{IsPlainLine, starts}
+use Rattle.robots_text.specs.PlainLine.{IsPlainLine, begins_plainly, starts}
 use Rattle.robots_text.specs.Color.{shown_word}
 use Rattle.robots_text.specs.Text.{Absent, Aligned, Column, Count, Delay, Fixed, Label, LevelLine, Named}
 use Rattle.robots_text.specs.Text.{NamedLine, Nothing, Number, Only, Part, PartValue, ReportLine, Untrusted}
@@ -24,9 +30,59 @@ use Rattle.robots_text.specs.Text.{blanks, level_text, line_text, named_text, pa
 use Rattle.robots_text.specs.Text.{starts_line, value_text, written}
 use Rattle.robots_text.specs.declared.level.Level.{Level}
 use Rattle.robots_text.specs.declared.level.Level.TheVariants.{Error, Note, Warning}
-use Rattle.robots_text.proofs.DelayLemmas.{delay_front, delay_printable, either}
-use Rattle.robots_text.proofs.PlainLemmas.{each_printable, starts_append, starts_blanks, starts_decimal}
-use Rattle.robots_text.proofs.PlainLemmas.{starts_plainly}
+
+-- ---- delays
+
+either : (P : List ℕ → Type 0) (b : Bool) (one two : List ℕ) → P one → P two → P (if b then one else two)
+either P true one two is too = is
+either P false one two is too = too
+
+next_digit : (digits rest : ℕ) → 0 < rest → 0 < digits
+    → fraction digits rest ≡ decimal (rest * 10 / million) ++ fraction (digits - 1) (rest * 10 % million)
+next_digit zero rest some more = absurd (omega arith)
+next_digit (suc digits) rest some more =
+    let same : suc digits - 1 ≡ digits = omega arith in
+    rw (ne_eqb rest 0 (λ none. omega arith), same) refl
+
+-- loop step: a digit was appended, and the remaining digits follow
+pub digit_added : (old new all : List ℕ) (digits rest : ℕ) → 0 < rest → 0 < digits
+    → new ≡ old ++ decimal (rest * 10 / million) → old ++ fraction digits rest ≡ all
+    → new ++ fraction (digits - 1) (rest * 10 % million) ≡ all
+digit_added old new all digits rest some more added whole =
+    let digit = decimal (rest * 10 / million) in
+    let later = fraction (digits - 1) (rest * 10 % million) in
+    ap (λ (t : List ℕ). t ++ later) added ∙ append_assoc old digit later
+    ∙ ap (λ (t : List ℕ). old ++ t) (sym (next_digit digits rest some more)) ∙ whole
+
+-- ---- what a delay contains
+
+-- a property of the parts of a delay, and of two texts, one after the other, if it holds of each
+module _ (P : List ℕ → Type 0) (none : P []) (joined : (one two : List ℕ) → P one → P two → P (one ++ two))
+    (number : (n : ℕ) → P (decimal n)) (point : P (codes ".")) (unit : P (codes " s")) where
+  fraction_made : (digits millionths : ℕ) → P (fraction digits millionths)
+  fraction_made zero millionths = none
+  fraction_made (suc digits) millionths =
+      let rest = millionths * 10 % million in
+      let digit = millionths * 10 / million in
+      either P (millionths == 0) [] _ none
+      (joined (decimal digit) (fraction digits rest) (number digit) (fraction_made digits rest))
+
+  delay_made : (micros : ℕ) → P (delay_text micros)
+  delay_made micros =
+      let millionths = micros % million in
+      joined (seconds micros) (codes " s") (joined (decimal (micros / million)) _ (number (micros / million))
+      (either P (millionths == 0) [] _ none
+      (joined (codes ".") (fraction 6 millionths) point (fraction_made 6 millionths)))) unit
+
+delay_printable : (micros : ℕ) → IsPrintableIn false (delay_text micros)
+delay_printable =
+    delay_made (IsPrintableIn false) (nil_printable false) (append_printable false) (decimal_printable false)
+    (ascii_printable false (codes ".") refl) (ascii_printable false (codes " s") refl)
+
+delay_front : (micros : ℕ) → IsFront (delay_text micros)
+delay_front =
+    delay_made IsFront front_nil front_append (λ n. (decimal_middle n).front) (front_text (codes ".") refl)
+    (front_text (codes " s") refl)
 
 -- ---- fixed texts and values
 
@@ -150,6 +206,37 @@ parts_quiet parts = (parts_apart parts).after [] refl
 
 -- ---- lines
 
+starts_plainly : (text : List ℕ) → starts text ≡ true → begins_plainly text ≡ true
+starts_plainly [] is = refl
+starts_plainly (b ∷ text) is = elim (cases_Bool (b == 32)) [
+  | inl space ↦ rw space (starts_plainly text (rw space at is))
+  | inr other ↦ rw other (rw other at is)
+]
+
+starts_append : (one two : List ℕ) → starts one ≡ true → starts (one ++ two) ≡ true
+starts_append [] two is = absurd (cc)
+starts_append (b ∷ one) two is = elim (cases_Bool (b == 32)) [
+  | inl space ↦ rw space (starts_append one two (rw space at is))
+  | inr other ↦ rw other (rw other at is)
+]
+
+starts_blanks : (n : ℕ) (text : List ℕ) → starts text ≡ true → starts (replicate n 32 ++ text) ≡ true
+starts_blanks zero text is = is
+starts_blanks (suc n) text is = starts_blanks n text is
+
+-- a decimal digit
+starts_digit : (digit : ℕ) (text : List ℕ) → digit < 10 → starts (digit_glyph false digit ∷ text) ≡ true
+starts_digit digit text below =
+    let visible : (digit_glyph false digit == 32) ≡ false = grind (arith, nat_tests) in
+    let plain : not (digit_glyph false digit == 58 || digit_glyph false digit == 35) ≡ true =
+    grind (arith, nat_tests) in
+    rw visible plain
+
+starts_decimal : (n : ℕ) → starts (decimal n) ≡ true
+starts_decimal =
+    decimal_by (λ text. true ≡ true) (λ text. starts text ≡ true) refl (λ text is. refl)
+    (λ digit text below is. starts_digit digit text below)
+
 part_starts : (part : PartValue) → starts_line part ≡ true → starts (part_text part) ≡ true
 part_starts Absent is = absurd (cc)
 part_starts (Part front value) is = starts_append front.text (value_text value) is
@@ -177,9 +264,13 @@ pub lines_plain : (lines : List ReportLine) → Each IsPlainLine (map line_text 
 lines_plain [] = tt
 lines_plain (line ∷ lines) = (line_plain line, lines_plain lines)
 
+each_printable : (lines : List ReportLine) → Each IsPrintable (map line_text lines)
+each_printable [] = tt
+each_printable (line ∷ lines) =
+    (line_printable (line_text line) (line_plain line).printable, each_printable lines)
+
 pub written_printable : (lines : List ReportLine) → IsPrintable (written lines)
-written_printable lines =
-    ended_printable (map line_text lines) (each_printable (map line_text lines) (lines_plain lines))
+written_printable lines = ended_printable (map line_text lines) (each_printable lines)
 
 pub written_append : (one other : List ReportLine) → written (one ++ other) ≡ written one ++ written other
 written_append one other =
