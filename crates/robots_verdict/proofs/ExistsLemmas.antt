@@ -81,14 +81,12 @@ decided b is = elim (cases_Bool b) [
 utf8_or_not : (text : List ℕ) → Either (IsUtf8 text)
 utf8_or_not text = decided (is_utf8 text) (IsUtf8-from_is_utf8 text, is_utf8-from_IsUtf8 text)
 
--- each of the strings has the property, or some string lacks it
-each_or_any : (P : List ℕ → Type 0) → ((text : List ℕ) → Either (P text))
-    → (texts : List (List ℕ))
-    → Each P texts ⊎ Any (λ text. ¬ P text) texts
-each_or_any P decide [] = inl tt
-each_or_any P decide (text ∷ texts) = elim (decide text) [
+-- each of the strings is UTF-8, or some string isn't
+each_or_any : (texts : List (List ℕ)) → Each IsUtf8 texts ⊎ Any (λ text. ¬ IsUtf8 text) texts
+each_or_any [] = inl tt
+each_or_any (text ∷ texts) = elim (utf8_or_not text) [
   | inr isnt ↦ inr (0, text, omega arith, refl, isnt)
-  | inl is ↦ elim (each_or_any P decide texts) [
+  | inl is ↦ elim (each_or_any texts) [
     | inl each ↦ inl (is, each)
     | inr (k, other, below, here, isnt) ↦ inr (suc k, other, omega arith, here, isnt)
   ]
@@ -119,7 +117,7 @@ some_report input = elim (split_of input) [
   | inr none ↦ (Err NoEmptyLine, none)
   | inl (agent, urls, file, is) ↦ elim (utf8_or_not agent) [
     | inr isnt ↦ (Err HeaderNotUtf8, (agent, urls, file, is, inl isnt))
-    | inl named ↦ elim (each_or_any IsUtf8 utf8_or_not urls) [
+    | inl named ↦ elim (each_or_any urls) [
       | inr some ↦ (Err HeaderNotUtf8, (agent, urls, file, is, inr some))
       | inl each ↦ elim (rejected_or_not agent file) [
         | inl rejected ↦ (Err InvalidRule, (agent, urls, file, is, (named, each), rejected))

@@ -13,8 +13,7 @@ use Rattle.robots_verdict.specs.declared.fault.Fault.{Fault}
 use Rattle.robots_verdict.specs.declared.fault.Fault.TheVariants.{HeaderNotUtf8, Memory}
 use Rattle.robots_io.specs.Lines.{lf}
 use Rattle.robots_verdict.specs.Input.{AreUtf8, HasNoUrl, HoldNotUtf8}
-use Rattle.robots_verdict.specs.Input.{AreUrlLines, BeginsWithLine, IsInput, IsOneLine, cr}
-use Rattle.robots_verdict.specs.Internal.{IsFirstLf}
+use Rattle.robots_verdict.specs.Input.{AreUrlLines, BeginsWithLine, IsFirstLf, IsInput, IsOneLine, cr}
 
 -- the lines up to `rest` are those of `urls`: the splits of `input` are the splits of `rest` with `urls` at
 -- the start
@@ -88,13 +87,13 @@ after_line input url rest [] file line filled is =
     absurd (filled (line_once input url [] rest file line is).0)
 after_line input url rest (other ∷ later) file line filled is =
     let same = line_once input url other rest is.0 line is.1 in
-    (later, ap (λ u. u ∷ later) (sym same.0), subst (λ t. AreUrlLines t later file) (sym same.1) is.3)
+    (later, ap (λ u. u ∷ later) (sym same.0), rw same.1 is.3)
 
 pub goes_more : (input rest next url : List ℕ) (urls : List (List ℕ)) → GoesOn input urls rest
     → BeginsWithLine rest url next → url ≢ [] → GoesOn input (urls ++ url ∷ []) next
 goes_more input rest next url urls goes line filled = record {
-  from_rest = λ later file is. subst (λ all. AreUrlLines input all file)
-      (sym (append_assoc urls (url ∷ []) later))
+  from_rest =
+      λ later file is. rw (append_assoc urls (url ∷ []) later)
       (goes.from_rest (url ∷ later) file (next, line, filled, is));
   to_rest =
       λ all file is.
@@ -147,7 +146,7 @@ pub no_split : (input agent start rest : List ℕ) (urls : List (List ℕ))
     → (other : List ℕ) (all : List (List ℕ)) (file : List ℕ) → ¬ IsInput input other all file
 no_split input agent start rest urls line goes one other all file is =
     let same = line_once input agent other start is.rest line is.agent_line in
-    let back = goes.to_rest all file (subst (λ t. AreUrlLines t all file) (sym same.1) is.url_lines) in
+    let back = goes.to_rest all file (rw same.1 is.url_lines) in
     no_lines rest back.0 file one back.2
 
 pub one_split : (input agent other : List ℕ) (urls others : List (List ℕ)) (file rest : List ℕ)
@@ -178,8 +177,8 @@ pub some_url : (input agent start rest url next : List ℕ) (urls : List (List �
     → url ≢ [] → ¬ HasNoUrl input
 some_url input agent start rest url next urls line goes here filled (other, file, is) =
     let same = line_once input agent other start is.rest line is.agent_line in
-    let back = (goes_more start rest next url urls goes here filled).to_rest [] file
-    (subst (λ t. AreUrlLines t [] file) (sym same.1) is.url_lines) in
+    let back =
+    (goes_more start rest next url urls goes here filled).to_rest [] file (rw same.1 is.url_lines) in
     omega (
       arith,
       ap length back.1,

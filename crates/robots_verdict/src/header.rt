@@ -2,9 +2,8 @@
 ghost use Rattle.std.specs.Prelude.{◌≡◌, ◌≢◌, [], Any, IfErr, IfOk, IsUtf8, MatchOption, map};
 ghost use Rattle.std.specs.Io.BufRead.{strip_last};
 ghost use Rattle.std.specs.List.{AllByRecursion as Each};
-ghost use Rattle.robots_verdict.specs.Input.{AreUtf8, BeginsWithLine, HasNoUrl, IsInput, IsOneLine, cr};
+ghost use Rattle.robots_verdict.specs.Input.{AreUtf8, BeginsWithLine, HasNoUrl, IsFirstLf, IsInput, IsOneLine, cr};
 ghost use Rattle.robots_verdict.specs.Report.{HasFault};
-ghost use Rattle.robots_verdict.specs.Internal.{IsFirstLf};
 
 use crate::fault::Fault;
 use std::alloc::Global;
