@@ -1,4 +1,3 @@
-pub mod TreeLemmas
 pub mod TextLemmas
 pub mod ReaderLemmas
 pub mod WritingLemmas

@@ -1,401 +1,286 @@
--- What is written is read back.
-use Rattle.std.proofs.Common.{ℕ, ◌==◌, Bool, true, false, not, ◌&&◌, ◌||◌, List, [], ◌∷◌, ◌++◌, Some}
-use Rattle.std.proofs.Common.{ap, append_assoc, codes, flat_map, inl, inr, length, refl, subst, sym, ◌≡◌, ◌∙◌}
+-- What is written is read back, piece by piece.
+use Rattle.std.proofs.Common.{ℕ, ◌==◌, Bool, true, false, not, ◌&&◌, List, [], ◌∷◌, ◌++◌, Some, ap}
+use Rattle.std.proofs.Common.{append_assoc, codes, flat_map, inl, inr, map-id, refl, subst, sym}
+use Rattle.std.proofs.Common.{◌≡◌, ◌∙◌}
 use Rattle.std.specs.Prelude.{if◌then◌else◌}
 use Rattle.std.specs.Bool.{IsTrue}
 use Rattle.std.specs.List.{list_all}
-use Rattle.std.specs.Str.{bytes_eq}
 use Rattle.std.proofs.lemmas.Bool.{and_parts, cases_Bool, eqb-true, not-true}
 use Rattle.std.proofs.lemmas.List.{append-nil}
+use Rattle.std.proofs.lemmas.List.Concat.{flat_map_single}
 use Rattle.std.proofs.lemmas.Slice.Eq.{bytes_eq-Decides}
 use Rattle.robots_html.specs.Html.{AreAttributes, Attribute, Html, IsContent, IsHtml, IsText, attribute}
 use Rattle.robots_html.specs.Html.{attribute_bytes, document, element, escaped, escaped_byte, has_attribute}
 use Rattle.robots_html.specs.Html.{is_among, is_character, is_css, is_letter, is_name, is_name_byte}
-use Rattle.robots_html.specs.Html.{is_ordinary, is_style, is_text, is_title, special_names, style}
-use Rattle.robots_html.specs.Html.{text, void, void_names, with_text, written, ◌⊕◌}
+use Rattle.robots_html.specs.Html.{is_ordinary, is_style, is_text, is_title, style, text, void, void_names}
+use Rattle.robots_html.specs.Html.{written, ◌⊕◌}
 use Rattle.robots_html.specs.Html as html
-use Rattle.robots_html.specs.Reader.{Kind, Opened, Reader, Step, Tag, after, after_attribute_value}
-use Rattle.robots_html.specs.Reader.{any_content, attribute_name, attribute_value, before_attribute_value}
-use Rattle.robots_html.specs.Reader.{character, data_state, element_of, emit, end_tag_name, finished}
-use Rattle.robots_html.specs.Reader.{has_elements, has_references, kind_in, kind_of, new_tag, only_text}
-use Rattle.robots_html.specs.Reader.{outside, raw_text, read, read_document, reader, run, step}
-use Rattle.robots_html.specs.Reader.{tag_name, tag_open, text_of, text_reference, to, with_step}
+use Rattle.robots_html.specs.Reader.{Kind, Opened, Reader, Tag, after_attribute_value, any_content}
+use Rattle.robots_html.specs.Reader.{attribute_name, attribute_value, character, data_state, element_of, emit}
+use Rattle.robots_html.specs.Reader.{end_tag_name, finished, has_elements, has_references, kind_in, kind_of}
+use Rattle.robots_html.specs.Reader.{new_tag, only_text, outside, raw_text, read, read_document, reader, run}
+use Rattle.robots_html.specs.Reader.{tag_name, tag_open, text_of, to, with_step}
 use Rattle.robots_html.proofs.TextLemmas.{escaped-is}
-use Rattle.robots_html.proofs.TreeLemmas.{followed-nil, followed_assoc, placed, with_text-nil}
+use Rattle.robots_html.proofs.WritingLemmas.{followed-nil, followed_assoc, with_text-nil}
 
--- ---- runs
+-- the bytes lead from one reader to the other, whatever follows them
+record Reads (from : Reader) (bytes : List ℕ) (last : Reader) : Type 0 where
+  leads : (more : List ℕ) → run from (bytes ++ more) ≡ run last more
 
-run-append : (from : Reader) (one two : List ℕ) → run from (one ++ two) ≡ run (run from one) two
-run-append from [] two = refl
-run-append from (byte ∷ one) two =
-    run-append (with_step (step (kind_of from.opened) from.state byte) from.opened from.content) one two
+joined : {from mid last : Reader} {one two : List ℕ} → Reads from one mid → Reads mid two last
+    → Reads from (one ++ two) last
+joined {from = from} {one = one} {two = two} first second =
+    record {
+      leads = λ more. ap (run from) (append_assoc one two more)
+          ∙ first.leads (two ++ more) ∙ second.leads more;
+    }
 
--- one run after another
-chained : (from mid : Reader) {last : Reader} (one two : List ℕ) → run from one ≡ mid → run mid two ≡ last
-    → run from (one ++ two) ≡ last
-chained from mid one two first second =
-    run-append from one two ∙ ap (λ (r : Reader). run r two) first ∙ second
+-- ---- bytes that stay in one state
 
 -- bytes are read one by one, if each is as `form` writes it
 collected : (form : ℕ → List ℕ) (test : ℕ → Bool) (after : List ℕ → Reader)
     → ((done : List ℕ) (byte : ℕ) → test byte ≡ true
-    → run (after done) (form byte) ≡ after (done ++ byte ∷ []))
+    → Reads (after done) (form byte) (after (done ++ byte ∷ [])))
     → (done bytes : List ℕ) → list_all test bytes ≡ true
-    → run (after done) (flat_map form bytes) ≡ after (done ++ bytes)
-collected form test after one done [] are = ap after (sym (append-nil done))
+    → Reads (after done) (flat_map form bytes) (after (done ++ bytes))
+collected form test after one done [] are = rw append-nil (record { leads = λ more. refl })
 collected form test after one done (byte ∷ bytes) are =
     let both = and_parts (test byte) (list_all test bytes) are in
-    chained (after done) (after (done ++ byte ∷ [])) (form byte) (flat_map form bytes) (one done byte both.0)
-    (collected form test after one (done ++ byte ∷ []) bytes both.1)
-    ∙ ap after (append_assoc done (byte ∷ []) bytes)
+    rw (append_assoc done (byte ∷ []) bytes) at
+    (joined (one done byte both.0) (collected form test after one (done ++ byte ∷ []) bytes both.1))
 
 -- the same for bytes that are written unchanged
-collected_unchanged : (test : ℕ → Bool) (after : List ℕ → Reader)
+unchanged : (test : ℕ → Bool) (after : List ℕ → Reader)
     → ((done : List ℕ) (byte : ℕ) → test byte ≡ true
-    → run (after done) (byte ∷ []) ≡ after (done ++ byte ∷ []))
-    → (done bytes : List ℕ) → list_all test bytes ≡ true → run (after done) bytes ≡ after (done ++ bytes)
-collected_unchanged test after one done bytes are =
-    ap (run (after done)) (sym (unchanged bytes))
-    ∙ collected (λ byte. byte ∷ []) test after one done bytes are
+    → Reads (after done) (byte ∷ []) (after (done ++ byte ∷ [])))
+    → (bytes : List ℕ) → list_all test bytes ≡ true → Reads (after []) bytes (after bytes)
+unchanged test after one bytes are =
+    rw (flat_map_single (λ (b : ℕ). b) bytes, map-id) at
+    (collected (λ byte. byte ∷ []) test after one [] bytes are)
+
+-- a name, after the bytes of `front`
+name_read : (start : Reader) (front : List ℕ) (after : List ℕ → Reader) (name : List ℕ)
+    → IsTrue (is_name name)
+    → ((byte : ℕ) → is_letter byte ≡ true → Reads start (front ++ byte ∷ []) (after (byte ∷ [])))
+    → ((done : List ℕ) (byte : ℕ) → is_name_byte byte ≡ true
+    → Reads (after done) (byte ∷ []) (after (done ++ byte ∷ [])))
+    → Reads start (front ++ name) (after name)
+name_read start front after [] named first next = absurd (cc)
+name_read start front after (byte ∷ name) named first next =
+    let both = and_parts (is_letter byte) (list_all is_name_byte name) named in
+    rw (append_assoc front (byte ∷ []) name) at (joined (first byte both.0)
+    (unchanged is_name_byte (λ done. after (byte ∷ done)) (λ done. next (byte ∷ done)) name both.1))
+
+-- a property of every byte, whether it is written as one of the four references or unchanged
+each_form : (P : ℕ → Type 0) (byte : ℕ) → P 38 → P 60 → P 62 → P 34
+    → ((byte == 38) ≡ false → (byte == 60) ≡ false → (byte == 62) ≡ false → (byte == 34) ≡ false → P byte)
+    → P byte
+each_form P byte amp lt gt quot other =
+    or 38 amp (λ not_38. or 60 lt (λ not_60. or 62 gt (λ not_62. or 34 quot (other not_38 not_60 not_62))))
   where
-    unchanged : (bytes : List ℕ) → flat_map (λ byte. byte ∷ []) bytes ≡ bytes
-    unchanged [] = refl
-    unchanged (byte ∷ bytes) = ap (λ (more : List ℕ). byte ∷ more) (unchanged bytes)
-
--- ---- one byte
-
--- an ampersand begins a character reference, except in a `style`
-ampersand : (kind : Kind) → has_references kind ≡ true → step kind data_state 38 ≡ to (text_reference [])
-ampersand any_content has = refl
-ampersand only_text has = refl
-ampersand raw_text has = absurd (cc)
-
-plain_byte : (kind : Kind) (byte : ℕ) → has_references kind ≡ true
-    → (byte == 38) ≡ false → (byte == 60) ≡ false
-    → is_character byte ≡ true → step kind data_state byte ≡ emit (character byte)
-plain_byte any_content byte has not_38 not_60 is = rw (not_38, not_60, is) refl
-plain_byte only_text byte has not_38 not_60 is = rw (not_38, not_60, is) refl
-plain_byte raw_text byte has not_38 not_60 is = absurd (cc)
-
-css_byte : (byte : ℕ) → (byte == 60) ≡ false → is_character byte ≡ true
-    → step raw_text data_state byte ≡ emit (character byte)
-css_byte byte not_60 is = rw (not_60, is) refl
-
--- a letter after `<` begins a start tag, except in a `style` or a `title`
-letter_opens : (kind : Kind) (byte : ℕ) → has_elements kind ≡ true → is_letter byte ≡ true
-    → step kind tag_open byte ≡ to (tag_name (byte ∷ []))
-letter_opens any_content byte has is = rw is refl
-letter_opens only_text byte has is = absurd (cc)
-letter_opens raw_text byte has is = absurd (cc)
-
--- ---- texts and values of attributes
-
--- what is read from the form of each byte: the four references, and other bytes
-each_form : (P : ℕ → List ℕ → Type 0) (byte : ℕ) → P 38 (escaped_byte 38) → P 60 (escaped_byte 60)
-    → P 62 (escaped_byte 62) → P 34 (escaped_byte 34)
-    → ((byte == 38) ≡ false → (byte == 60) ≡ false → (byte == 34) ≡ false → P byte (byte ∷ []))
-    → P byte (escaped_byte byte)
-each_form P byte amp lt gt quot other = elim (cases_Bool (byte == 38)) [
-  | inl is ↦ subst (λ b. P b (escaped_byte b)) (sym (eqb-true byte 38 is)) amp
-  | inr not_38 ↦ elim (cases_Bool (byte == 60)) [
-    | inl is ↦ subst (λ b. P b (escaped_byte b)) (sym (eqb-true byte 60 is)) lt
-    | inr not_60 ↦ elim (cases_Bool (byte == 62)) [
-      | inl is ↦ subst (λ b. P b (escaped_byte b)) (sym (eqb-true byte 62 is)) gt
-      | inr not_62 ↦ elim (cases_Bool (byte == 34)) [
-        | inl is ↦ subst (λ b. P b (escaped_byte b)) (sym (eqb-true byte 34 is)) quot
-        | inr not_34 ↦ rw (not_38, not_60, not_62, not_34) (other not_38 not_60 not_34)
-      ]
+    or : (n : ℕ) → P n → ((byte == n) ≡ false → P byte) → P byte
+    or n is isnt = elim (cases_Bool (byte == n)) [
+      | inl same ↦ subst P (sym (eqb-true byte n same)) is
+      | inr other ↦ isnt other
     ]
-  ]
-]
 
 module _ (opened : List Opened) where
-  text_byte : (content : Html) (byte : ℕ) → has_references (kind_of opened) ≡ true → is_character byte ≡ true
-      → run (reader data_state opened content) (escaped_byte byte)
-      ≡ reader data_state opened (content ⊕ text (byte ∷ []))
-  text_byte content byte has is =
-      each_form
-      (λ b form. run (reader data_state opened content) form
-      ≡ reader data_state opened (content ⊕ text (b ∷ [])))
-      byte (reference (codes "amp;")) (reference (codes "lt;")) (reference (codes "gt;"))
-      (reference (codes "quot;"))
-      (λ not_38 not_60 not_34.
-      ap (λ (s : Step). with_step s opened content) (plain_byte (kind_of opened) byte has not_38 not_60 is))
-    where
-      reference : (name : List ℕ) → run (reader data_state opened content) (38 ∷ name)
-          ≡ run (reader (text_reference []) opened content) name
-      reference name =
-          ap (λ (s : Step). run (with_step s opened content) name) (ampersand (kind_of opened) has)
+  abbrev reading : Html → Reader
+  reading = reader data_state opened
 
-  pub text_read : (content : Html) (bytes : List ℕ) → has_references (kind_of opened) ≡ true
-      → IsTrue (is_text bytes)
-      → run (reader data_state opened content) (escaped bytes)
-      ≡ reader data_state opened (content ⊕ text bytes)
+  -- a tag, so far with these attributes
+  abbrev after_tag : Html → List ℕ → List Attribute → Reader
+  after_tag content name attributes = reader (after_attribute_value (new_tag name attributes)) opened content
+
+  text_read : (content : Html) (bytes : List ℕ) → has_references (kind_of opened) ≡ true
+      → IsTrue (is_text bytes) → Reads (reading content) (escaped bytes) (reading (content ⊕ text bytes))
   text_read content bytes has are =
-      ap (run (reader data_state opened content)) (escaped-is bytes)
-      ∙ ap (λ (c : Html). run (reader data_state opened c) (flat_map escaped_byte bytes))
-      (sym (followed-nil content))
-      ∙ collected escaped_byte is_character (λ done. reader data_state opened (content ⊕ text done))
-      (λ done byte is. text_byte (content ⊕ text done) byte has is
-      ∙ ap (reader data_state opened) (followed_assoc content (text done) (text (byte ∷ []))))
-      [] bytes are
+      rw (escaped-is bytes) (rw (followed-nil content) at
+      (collected escaped_byte is_character (λ done. reading (content ⊕ text done))
+      (λ done byte is. rw (followed_assoc content (text done) (text (byte ∷ []))) at
+      (one (content ⊕ text done) byte is)) [] bytes are))
+    where
+      one : (content : Html) (byte : ℕ) → is_character byte ≡ true
+          → Reads (reading content) (escaped_byte byte) (reading (content ⊕ text (byte ∷ [])))
+      one content byte is =
+          each_form (λ b. Reads (reading content) (escaped_byte b) (reading (content ⊕ text (b ∷ [])))) byte
+          (record { leads = λ more. rw has }) (record { leads = λ more. rw has })
+          (record { leads = λ more. rw has }) (record { leads = λ more. rw has })
+          (λ not_38 not_60 not_62 not_34. rw (not_38, not_60, not_62, not_34)
+          (record { leads = λ more. rw (not_60, has, not_38, is) }))
 
   value_read : (content : Html) (tag : Tag) (name value : List ℕ) → IsTrue (is_text value)
-      → run (reader (attribute_value tag name []) opened content) (escaped value)
-      ≡ reader (attribute_value tag name value) opened content
+      → Reads (reader (attribute_value tag name []) opened content) (escaped value)
+      (reader (attribute_value tag name value) opened content)
   value_read content tag name value are =
-      ap (run (reader (attribute_value tag name []) opened content)) (escaped-is value)
-      ∙ collected escaped_byte is_character (λ done. reader (attribute_value tag name done) opened content)
-      (λ done byte is. each_form
-      (λ b form. run (reader (attribute_value tag name done) opened content) form
-      ≡ reader (attribute_value tag name (done ++ b ∷ [])) opened content)
-      byte refl refl refl refl
-      (λ not_38 not_60 not_34. rw (not_38, not_34, is) refl))
-      [] value are
+      let after = λ (done : List ℕ). reader (attribute_value tag name done) opened content in
+      rw (escaped-is value) (collected escaped_byte is_character after
+      (λ done byte is. each_form (λ b. Reads (after done) (escaped_byte b) (after (done ++ b ∷ []))) byte
+      (record { leads = λ more. refl }) (record { leads = λ more. refl }) (record { leads = λ more. refl })
+      (record { leads = λ more. refl })
+      (λ not_38 not_60 not_62 not_34. rw (not_38, not_60, not_62, not_34)
+      (record { leads = λ more. rw (not_34, not_38, is) }))) [] value are)
 
-  -- ---- start tags
+  -- ---- tags
 
   attribute_read : (content : Html) (label name value : List ℕ) (before : List Attribute)
       → IsTrue (is_name name) → IsTrue (not (has_attribute before name)) → IsTrue (is_text value)
-      → run (reader (after_attribute_value (new_tag label before)) opened content)
-      (attribute_bytes (attribute name value))
-      ≡ reader (after_attribute_value (new_tag label (before ++ attribute name value ∷ []))) opened content
+      → Reads (after_tag content label before) (attribute_bytes (attribute name value))
+      (after_tag content label (before ++ attribute name value ∷ []))
   unfolding attribute_bytes
-  attribute_read content label [] value before named new are = absurd (cc)
-  attribute_read content label (byte ∷ bytes) value before named new are =
+  attribute_read content label name value before named new are =
       let tag = new_tag label before in
-      let name = byte ∷ bytes in
-      let both = and_parts (is_letter byte) (list_all is_name_byte bytes) named in
-      let at_name = λ (done : List ℕ). reader (attribute_name tag (byte ∷ done)) opened content in
+      let at_name = λ (done : List ℕ). reader (attribute_name tag done) opened content in
       let at_value = λ (done : List ℕ). reader (attribute_value tag name done) opened content in
-      chained (reader (after_attribute_value tag) opened content) (at_name []) (32 ∷ byte ∷ [])
-      (bytes ++ (61 ∷ 34 ∷ escaped value ++ 34 ∷ []))
-      (ap (λ (b : Bool).
-      with_step (if b then to (attribute_name tag (byte ∷ [])) else to outside) opened content)
-      both.0)
-      (chained (at_name []) (at_name bytes) bytes (61 ∷ 34 ∷ escaped value ++ 34 ∷ [])
-      (collected_unchanged is_name_byte at_name (λ done next is. rw is refl) [] bytes both.1)
-      (chained (at_name bytes) (at_value []) (61 ∷ 34 ∷ []) (escaped value ++ 34 ∷ [])
-      (ap (λ (b : Bool). run
-      (with_step (if b then to (before_attribute_value tag name) else to outside) opened content) (34 ∷ []))
-      new)
-      (chained (at_value []) (at_value value) (escaped value) (34 ∷ [])
-      (value_read content tag name value are)
-      refl)))
+      let equals : Reads (at_name name) (61 ∷ 34 ∷ []) (at_value []) =
+      record { leads = λ more. rw (new, run) } in
+      let last : Reads (at_value value) (34 ∷ [])
+      (after_tag content label (before ++ attribute name value ∷ [])) = record { leads = λ more. refl } in
+      joined (name_read (after_tag content label before) (32 ∷ []) at_name name named
+      (λ byte is. record { leads = λ more. rw is }) (λ done next is. record { leads = λ more. rw (is, run) }))
+      (joined equals (joined (value_read content tag name value are) last))
 
   attributes_read : (content : Html) (label : List ℕ) (before attributes : List Attribute)
       → AreAttributes IsText before attributes
-      → run (reader (after_attribute_value (new_tag label before)) opened content)
-      (flat_map attribute_bytes attributes)
-      ≡ reader (after_attribute_value (new_tag label (before ++ attributes))) opened content
-  attributes_read content label before [] are =
-      ap (λ (list : List Attribute). reader (after_attribute_value (new_tag label list)) opened content)
-      (sym (append-nil before))
+      → Reads (after_tag content label before) (flat_map attribute_bytes attributes)
+      (after_tag content label (before ++ attributes))
+  attributes_read content label before [] are = rw (append-nil before) (record { leads = λ more. refl })
   attributes_read content label before (a ∷ attributes) (named, new, valued, are) =
-      let after_all =
-      λ (list : List Attribute). reader (after_attribute_value (new_tag label list)) opened content in
-      chained (after_all before) (after_all (before ++ a ∷ [])) (attribute_bytes a)
-      (flat_map attribute_bytes attributes)
-      (attribute_read content label a.name a.value before named new valued)
-      (attributes_read content label (before ++ a ∷ []) attributes are)
-      ∙ ap after_all (append_assoc before (a ∷ []) attributes)
+      rw (append_assoc before (a ∷ []) attributes) at
+      (joined (attribute_read content label a.name a.value before named new valued)
+      (attributes_read content label (before ++ a ∷ []) attributes are))
 
-  -- after its name a tag goes on as after an attribute
-  name_complete : (content : Html) (name : List ℕ) (attributes : List Attribute) (byte : ℕ) (bytes : List ℕ)
-      → is_name_byte byte ≡ false
-      → run (reader (tag_name name) opened content) (flat_map attribute_bytes attributes ++ byte ∷ bytes)
-      ≡ run (reader (after_attribute_value (new_tag name [])) opened content)
-      (flat_map attribute_bytes attributes ++ byte ∷ bytes)
-  unfolding attribute_bytes
-  name_complete content name [] byte bytes isnt =
-      ap (λ (b : Bool). run
-      (with_step (if b then to (tag_name (name ++ byte ∷ [])) else after (new_tag name []) byte)
-      opened content) bytes) isnt
-  name_complete content name (a ∷ attributes) byte bytes isnt = refl
-
-  -- a tag up to its end, which is `>` or `/>`
+  -- a tag up to its end, which is `>` or `/>`: after its name it goes on as after an attribute
   tag_read : (content : Html) (name : List ℕ) (attributes : List Attribute) (byte : ℕ) (bytes : List ℕ)
-      → has_elements (kind_of opened) ≡ true → IsTrue (is_name name) → AreAttributes IsText [] attributes
-      → is_name_byte byte ≡ false
-      → run (reader data_state opened content)
-      (60 ∷ (name ++ (flat_map attribute_bytes attributes ++ byte ∷ bytes)))
-      ≡ run (reader (after_attribute_value (new_tag name attributes)) opened content) (byte ∷ bytes)
-  tag_read content [] attributes byte bytes has named are isnt = absurd (cc)
-  tag_read content (first ∷ name) attributes byte bytes has named are isnt =
-      let both = and_parts (is_letter first) (list_all is_name_byte name) named in
-      let rest = flat_map attribute_bytes attributes ++ byte ∷ bytes in
-      let at_name = λ (done : List ℕ). reader (tag_name (first ∷ done)) opened content in
-      let after_all = λ (list : List Attribute).
-      reader (after_attribute_value (new_tag (first ∷ name) list)) opened content in
-      chained (reader data_state opened content) (at_name []) (60 ∷ first ∷ []) (name ++ rest)
-      (ap (λ (s : Step). with_step s opened content) (letter_opens (kind_of opened) first has both.0))
-      (chained (at_name []) (at_name name) name rest
-      (collected_unchanged is_name_byte at_name (λ done next is. rw is refl) [] name both.1)
-      (name_complete content (first ∷ name) attributes byte bytes isnt
-      ∙ chained (after_all []) (after_all attributes) (flat_map attribute_bytes attributes) (byte ∷ bytes)
-      (attributes_read content (first ∷ name) [] attributes are) refl))
+      (last : Reader) → has_elements (kind_of opened) ≡ true → IsTrue (is_name name)
+      → AreAttributes IsText [] attributes → is_name_byte byte ≡ false
+      → Reads (after_tag content name attributes) (byte ∷ bytes) last
+      → Reads (reading content) (html.tag_open name ++ (flat_map attribute_bytes attributes ++ byte ∷ bytes))
+      last
+  unfolding html.tag_open attribute_bytes
+  tag_read content name attributes byte bytes last has named are isnt end =
+      joined (name_read (reading content) (60 ∷ []) (λ done. reader (tag_name done) opened content) name named
+      (λ byte is. record { leads = λ more. rw (is, has) })
+      (λ done next is. record { leads = λ more. rw (is, run) }))
+      (completed attributes (joined (attributes_read content name [] attributes are) end))
+    where
+      completed : (attributes : List Attribute)
+          → Reads (after_tag content name [])
+          (flat_map attribute_bytes attributes ++ byte ∷ bytes) last
+          → Reads (reader (tag_name name) opened content)
+          (flat_map attribute_bytes attributes ++ byte ∷ bytes) last
+      completed [] goes = record { leads = λ more. rw isnt (goes.leads more) }
+      completed (a ∷ attributes) goes = record { leads = λ more. goes.leads more }
 
   start_read : (content : Html) (name : List ℕ) (attributes : List Attribute)
       → has_elements (kind_of opened) ≡ true → IsTrue (is_name name) → IsTrue (is_ordinary name)
       → AreAttributes IsText [] attributes
-      → run (reader data_state opened content) (html.start_tag name attributes)
-      ≡ reader data_state (record { before = content; tag = new_tag name attributes } ∷ opened) (text [])
-  unfolding html.tag_open html.tag_close
+      → Reads (reading content) (html.start_tag name attributes)
+      (reader data_state (record { before = content; tag = new_tag name attributes } ∷ opened) (text []))
+  unfolding html.tag_close
   start_read content name attributes has named ordinary are =
-      let tag = new_tag name attributes in
-      tag_read content name attributes 62 [] has named are refl
-      ∙ ap (λ (b : Bool). if b || (is_style name && length attributes == 0)
-      then reader data_state (record { before = content; tag = tag } ∷ opened) (text [])
-      else reader outside opened content) ordinary
+      let innermost : Opened = record { before = content; tag = new_tag name attributes } in
+      let inner = reader data_state (innermost ∷ opened) (text []) in
+      let end : Reads (after_tag content name attributes) (62 ∷ []) inner =
+      record { leads = λ more. rw (ordinary, run) } in
+      tag_read content name attributes 62 [] inner has named are refl end
 
   void_read : (content : Html) (name : List ℕ) (attributes : List Attribute)
       → has_elements (kind_of opened) ≡ true → IsTrue (is_name name) → IsTrue (is_among void_names name)
       → AreAttributes IsText [] attributes
-      → run (reader data_state opened content) (html.void_tag name attributes)
-      ≡ reader data_state opened (content ⊕ void [] name attributes (text []))
-  unfolding html.tag_open html.void_close
+      → Reads (reading content) (html.void_tag name attributes)
+      (reading (content ⊕ void [] name attributes (text [])))
+  unfolding html.void_close
   void_read content name attributes has named is are =
-      tag_read content name attributes 47 (62 ∷ []) has named are refl
-      ∙ ap (λ (b : Bool). if b then reader data_state opened (content ⊕ void [] name attributes (text []))
-      else reader outside opened content) is
-
-  -- ---- end tags
+      let last = reading (content ⊕ void [] name attributes (text [])) in
+      let end : Reads (after_tag content name attributes) (47 ∷ 62 ∷ []) last =
+      record { leads = λ more. rw (is, run) } in
+      tag_read content name attributes 47 (62 ∷ []) last has named are refl end
 
   end_read : (before content : Html) (name : List ℕ) (attributes : List Attribute) → IsTrue (is_name name)
-      → let tag = new_tag name attributes in
-      run (reader data_state (record { before = before; tag = tag } ∷ opened) content) (html.end_tag name)
-      ≡ reader data_state opened (before ⊕ element_of tag content)
+      → is_style name ≡ false
+      → Reads (reader data_state (record { before = before; tag = new_tag name attributes } ∷ opened) content)
+      (html.end_tag name) (reading (before ⊕ element [] name attributes content (text [])))
   unfolding html.end_tag
-  end_read before content [] attributes named = absurd (cc)
-  end_read before content (byte ∷ name) attributes named =
-      let tag = new_tag (byte ∷ name) attributes in
-      let innermost : Opened = record { before = before; tag = tag } in
-      let both = and_parts (is_letter byte) (list_all is_name_byte name) named in
-      let at_name = λ (done : List ℕ). reader (end_tag_name (byte ∷ done)) (innermost ∷ opened) content in
-      chained (reader data_state (innermost ∷ opened) content) (at_name []) (60 ∷ 47 ∷ byte ∷ [])
-      (name ++ 62 ∷ [])
-      (ap (λ (b : Bool). with_step (if b then to (end_tag_name (byte ∷ [])) else to outside)
-      (innermost ∷ opened) content) both.0)
-      (chained (at_name []) (at_name name) name (62 ∷ [])
-      (collected_unchanged is_name_byte at_name (λ done next is. rw is refl) [] name both.1)
-      (ap (λ (b : Bool). if b then reader data_state opened (before ⊕ element_of tag content)
-      else reader outside (innermost ∷ opened) content) (same_bytes (byte ∷ name))))
-    where
-      same_bytes : (bytes : List ℕ) → bytes_eq bytes bytes ≡ true
-      same_bytes bytes = (bytes_eq-Decides bytes bytes).1 refl
-
-  -- ---- style elements
+  end_read before content name attributes named isnt =
+      let innermost : Opened = record { before = before; tag = new_tag name attributes } in
+      let at_name = λ (done : List ℕ). reader (end_tag_name done) (innermost ∷ opened) content in
+      let last : Reads (at_name name) (62 ∷ [])
+      (reading (before ⊕ element [] name attributes content (text []))) = record {
+        leads = λ more. rw ((bytes_eq-Decides name name).1 refl, isnt, run);
+      } in
+      joined (name_read (reader data_state (innermost ∷ opened) content) (60 ∷ 47 ∷ []) at_name name named
+      (λ byte is. record { leads = λ more. rw is })
+      (λ done next is. record { leads = λ more. rw (is, run) })) last
 
   style_read : (content : Html) (css : List ℕ) → has_elements (kind_of opened) ≡ true → IsTrue (is_css css)
-      → run (reader data_state opened content) (html.style_bytes css)
-      ≡ reader data_state opened (content ⊕ style [] css (text []))
+      → Reads (reading content) (html.style_bytes css) (reading (content ⊕ style [] css (text [])))
   unfolding html.style_bytes
   style_read content css has are =
       let innermost : Opened = record { before = content; tag = new_tag (codes "style") [] } in
       let in_style = λ (done : List ℕ). reader data_state (innermost ∷ opened) (text done) in
-      chained (reader data_state opened content) (in_style []) (codes "<style>") (css ++ codes "</style>")
-      (ap (λ (s : Step). run (with_step s opened content) (codes "tyle>"))
-      (letter_opens (kind_of opened) 115 has refl))
-      (chained (in_style []) (in_style css) css (codes "</style>")
-      (collected_unchanged (λ byte. is_character byte && not (byte == 60)) in_style
+      let first : Reads (reading content) (codes "<style>") (in_style []) =
+      record { leads = λ more. rw has } in
+      let last : Reads (in_style css) (codes "</style>") (reading (content ⊕ style [] css (text []))) =
+      record { leads = λ more. refl } in
+      joined first (joined (unchanged (λ byte. is_character byte && not (byte == 60)) in_style
       (λ done byte is.
       let both = and_parts (is_character byte) (not (byte == 60)) is in
-      ap (λ (s : Step). with_step s (innermost ∷ opened) (text done))
-      (css_byte byte (not-true (byte == 60) both.1) both.0))
-      [] css are)
-      refl)
+      record { leads = λ more. rw (not-true (byte == 60) both.1, both.0, run) }) css are) last)
 
 -- ---- trees
 
--- what an open element contains where elements are allowed, and where they aren't
-abbrev kind_for : Bool → Kind
-kind_for true = any_content
-kind_for false = only_text
-
-references_in : (elements : Bool) (kind : Kind) → kind ≡ kind_for elements → has_references kind ≡ true
-references_in true kind is = ap has_references is
-references_in false kind is = ap has_references is
-
-elements_in : (elements : Bool) (kind : Kind) → kind ≡ kind_for elements → IsTrue elements
-    → has_elements kind ≡ true
-elements_in true kind is allowed = ap has_elements is
-elements_in false kind is allowed = absurd (cc)
-
-child_kind : (name : List ℕ) → is_style name ≡ false → kind_in name ≡ kind_for (not (is_title name))
-child_kind name isnt =
-    ap (λ (b : Bool). if b then raw_text else if is_title name then only_text else any_content) isnt
-    ∙ either (is_title name)
+-- what an element contains, other than `style`
+kind_inside : (name : List ℕ) → is_style name ≡ false
+    → (has_references (kind_in name) ≡ true) × (has_elements (kind_in name) ≡ not (is_title name))
+kind_inside name isnt =
+    subst (λ (kind : Kind). (has_references kind ≡ true) × (has_elements kind ≡ not (is_title name)))
+    (sym (ap (λ (b : Bool). if b then raw_text else if is_title name then only_text else any_content) isnt))
+    (either (is_title name))
   where
-    either : (b : Bool) → (if b then only_text else any_content) ≡ kind_for (not b)
-    either true = refl
-    either false = refl
+    either : (b : Bool) → (has_references (if b then only_text else any_content) ≡ true)
+        × (has_elements (if b then only_text else any_content) ≡ not b)
+    either true = (refl, refl)
+    either false = (refl, refl)
 
-content_read : (elements : Bool) (opened : List Opened) (content tree : Html)
-    → kind_of opened ≡ kind_for elements → IsContent IsText elements tree
-    → run (reader data_state opened content) (written tree) ≡ reader data_state opened (content ⊕ tree)
-content_read elements opened content (text bytes) kind is =
-    text_read opened content bytes (references_in elements (kind_of opened) kind) is
-content_read elements opened content (element before name attributes children rest) kind
+content_read : (opened : List Opened) (content tree : Html) → has_references (kind_of opened) ≡ true
+    → IsContent IsText (has_elements (kind_of opened)) tree
+    → Reads (reader data_state opened content) (written tree) (reader data_state opened (content ⊕ tree))
+content_read opened content (text bytes) has is = text_read opened content bytes has is
+content_read opened content (element before name attributes children rest) has
     (allowed, is_before, named, ordinary, are, child, later) =
-    let has = elements_in elements (kind_of opened) kind allowed in
     let isnt = not-true (is_style name) (and_parts (not (is_style name)) _ ordinary).0 in
-    let tag = new_tag name attributes in
+    let kind = kind_inside name isnt in
     let outer = content ⊕ text before in
-    let innermost : Opened = record { before = outer; tag = tag } in
     let item = element [] name attributes children (text []) in
-    let closed : element_of tag (text [] ⊕ children) ≡ item =
-    ap (λ (b : Bool). if b then style [] (text_of (text [] ⊕ children)) (text [])
-    else element [] name attributes (text [] ⊕ children) (text [])) isnt
-    ∙ ap (λ (c : Html). element [] name attributes c (text [])) (with_text-nil children) in
-    let end = html.end_tag name in
-    chained (reader data_state opened content) (reader data_state opened outer) (escaped before)
-    (html.start_tag name attributes ++ (written children ++ (end ++ written rest)))
-    (text_read opened content before (references_in elements (kind_of opened) kind) is_before)
-    (chained (reader data_state opened outer) (reader data_state (innermost ∷ opened) (text []))
-    (html.start_tag name attributes) (written children ++ (end ++ written rest))
-    (start_read opened outer name attributes has named ordinary are)
-    (chained (reader data_state (innermost ∷ opened) (text []))
-    (reader data_state (innermost ∷ opened) (text [] ⊕ children)) (written children) (end ++ written rest)
-    (content_read (not (is_title name)) (innermost ∷ opened) (text []) children (child_kind name isnt) child)
-    (chained (reader data_state (innermost ∷ opened) (text [] ⊕ children))
-    (reader data_state opened (outer ⊕ item))
-    end (written rest)
-    (end_read opened outer (text [] ⊕ children) name attributes named
-    ∙ ap (λ (e : Html). reader data_state opened (outer ⊕ e)) closed)
-    (content_read elements opened (outer ⊕ item) rest kind later))))
-    ∙ ap (reader data_state opened)
-    (placed content before item rest (element before name attributes children rest)
-    (rw (append-nil before, with_text-nil rest) refl))
-content_read elements opened content (void before name attributes rest) kind
+    let inner : List Opened = record { before = outer; tag = new_tag name attributes } ∷ opened in
+    let inside = content_read inner (text []) children kind.0
+    (subst (λ elements. IsContent IsText elements children) (sym kind.1) child) in
+    simp (followed_assoc, append-nil, with_text-nil) at
+    (joined (text_read opened content before has is_before)
+    (joined (start_read opened outer name attributes allowed named ordinary are)
+    (joined (rw (with_text-nil children) at inside)
+    (joined (end_read opened outer children name attributes named isnt)
+    (content_read opened (outer ⊕ item) rest has later)))))
+content_read opened content (void before name attributes rest) has
     (allowed, is_before, named, is, are, later) =
     let item = void [] name attributes (text []) in
     let outer = content ⊕ text before in
-    chained (reader data_state opened content) (reader data_state opened outer) (escaped before)
-    (html.void_tag name attributes ++ written rest)
-    (text_read opened content before (references_in elements (kind_of opened) kind) is_before)
-    (chained (reader data_state opened outer) (reader data_state opened (outer ⊕ item))
-    (html.void_tag name attributes) (written rest)
-    (void_read opened outer name attributes (elements_in elements (kind_of opened) kind allowed) named is are)
-    (content_read elements opened (outer ⊕ item) rest kind later))
-    ∙ ap (reader data_state opened) (placed content before item rest (void before name attributes rest)
-    (rw (append-nil before, with_text-nil rest) refl))
-content_read elements opened content (style before css rest) kind
-    (allowed, is_before, are, plain, later) =
+    simp (followed_assoc, append-nil, with_text-nil) at
+    (joined (text_read opened content before has is_before)
+    (joined (void_read opened outer name attributes allowed named is are)
+    (content_read opened (outer ⊕ item) rest has later)))
+content_read opened content (style before css rest) has (allowed, is_before, are, plain, later) =
     let item = style [] css (text []) in
     let outer = content ⊕ text before in
-    chained (reader data_state opened content) (reader data_state opened outer) (escaped before)
-    (html.style_bytes css ++ written rest)
-    (text_read opened content before (references_in elements (kind_of opened) kind) is_before)
-    (chained (reader data_state opened outer) (reader data_state opened (outer ⊕ item)) (html.style_bytes css)
-    (written rest)
-    (style_read opened outer css (elements_in elements (kind_of opened) kind allowed) are)
-    (content_read elements opened (outer ⊕ item) rest kind later))
-    ∙ ap (reader data_state opened) (placed content before item rest (style before css rest)
-    (rw (append-nil before, with_text-nil rest) refl))
+    simp (followed_assoc, append-nil, with_text-nil) at
+    (joined (text_read opened content before has is_before)
+    (joined (style_read opened outer css allowed are) (content_read opened (outer ⊕ item) rest has later)))
 
 pub tree_read : (tree : Html) → IsHtml tree → read (written tree) ≡ Some tree
 tree_read tree is =
-    ap (λ (r : Reader). finished r.state r.opened r.content) (content_read true [] (text []) tree refl is)
+    let whole = (content_read [] (text []) tree refl is).leads [] in
+    ap (λ (r : Reader). finished r.state r.opened r.content) (rw (append-nil (written tree)) at whole)
     ∙ ap Some (with_text-nil tree)
 
 pub page_read : (tree : Html) → IsHtml tree → read_document (document tree) ≡ Some tree

@@ -1,23 +1,47 @@
--- What is written for trees one after the other, and when they can be read back.
-use Rattle.std.proofs.Common.{ℕ, Bool, List, [], ◌∷◌, ◌++◌, ap, append_assoc, codes, flat_map, not, refl, ◌≡◌}
-use Rattle.std.proofs.Common.{◌∙◌}
+-- Trees one after the other, what is written for them, and when they can be read back.
+use Rattle.std.proofs.Common.{ℕ, Bool, List, [], ◌∷◌, ◌++◌, ap, append_assoc, not, refl, ◌≡◌}
 use Rattle.std.proofs.lemmas.List.{append-nil}
-use Rattle.robots_html.specs.Html.{AreAttributes, Attribute, Html, IsContent, element, escaped}
-use Rattle.robots_html.specs.Html.{is_title, style}
-use Rattle.robots_html.specs.Html.{text}
-use Rattle.robots_html.specs.Html.{void, with_text, written, ◌⊕◌}
+use Rattle.robots_html.specs.Html.{AreAttributes, Attribute, Html, IsContent, element, escaped, is_title, style}
+use Rattle.robots_html.specs.Html.{text, void, with_text, written, ◌⊕◌}
 use Rattle.robots_html.proofs.TextLemmas.{escaped-append}
+
+-- ---- trees
+
+pub with_text-nil : (html : Html) → with_text [] html ≡ html
+with_text-nil (text bytes) = refl
+with_text-nil html = refl
+
+with_text-append : (one two : List ℕ) (html : Html)
+    → with_text (one ++ two) html ≡ with_text one (with_text two html)
+with_text-append one two (text bytes) = rw append_assoc refl
+with_text-append one two html = rw append_assoc refl
+
+with_text-followed : (bytes : List ℕ) (one two : Html)
+    → with_text bytes one ⊕ two ≡ with_text bytes (one ⊕ two)
+with_text-followed bytes (text more) two = with_text-append bytes more two
+with_text-followed bytes html two = refl
+
+pub followed_assoc : (one two three : Html) → (one ⊕ two) ⊕ three ≡ one ⊕ (two ⊕ three)
+followed_assoc (text bytes) two three = with_text-followed bytes two three
+followed_assoc (element before name attributes children after) two three =
+    ap (element before name attributes children) (followed_assoc after two three)
+followed_assoc (void before name attributes after) two three =
+    ap (void before name attributes) (followed_assoc after two three)
+followed_assoc (style before css after) two three = ap (style before css) (followed_assoc after two three)
+
+pub followed-nil : (html : Html) → html ⊕ text [] ≡ html
+followed-nil (text bytes) = ap text (append-nil bytes)
+followed-nil (element before name attributes children after) =
+    ap (element before name attributes children) (followed-nil after)
+followed-nil (void before name attributes after) = ap (void before name attributes) (followed-nil after)
+followed-nil (style before css after) = ap (style before css) (followed-nil after)
 
 -- ---- writing
 
 pub written-with_text : (bytes : List ℕ) (tree : Html)
     → written (with_text bytes tree) ≡ escaped bytes ++ written tree
 written-with_text bytes (text more) = escaped-append bytes more
-written-with_text bytes (element before name attributes children after) =
-    rw (escaped-append bytes before) (simp append_assoc)
-written-with_text bytes (void before name attributes after) = rw (escaped-append bytes before)
-    (simp append_assoc)
-written-with_text bytes (style before css after) = rw (escaped-append bytes before) (simp append_assoc)
+written-with_text bytes tree = rw escaped-append (simp append_assoc)
 
 pub written-followed : (one two : Html) → written (one ⊕ two) ≡ written one ++ written two
 written-followed (text bytes) two = written-with_text bytes two
@@ -69,22 +93,11 @@ module _ (P Q : List ℕ → Type 0) (weaker : (bytes : List ℕ) → P bytes �
   content_weaker elements (text bytes) is = weaker bytes is
   content_weaker elements (element before name attributes children after)
       (allowed, is, named, ordinary, are, child, later) =
-      let inside = content_weaker (not (is_title name)) children child in (
-        allowed,
-        weaker before is,
-        named,
-        ordinary,
-        attributes_weaker [] attributes are,
-        inside,
-        content_weaker elements after later,
-      )
-  content_weaker elements (void before name attributes after) (allowed, is, named, among, are, later) = (
-    allowed,
-    weaker before is,
-    named,
-    among,
-    attributes_weaker [] attributes are,
-    content_weaker elements after later,
-  )
+      let inside = content_weaker (not (is_title name)) children child in
+      let list = attributes_weaker [] attributes are in
+      (allowed, weaker before is, named, ordinary, list, inside, content_weaker elements after later)
+  content_weaker elements (void before name attributes after) (allowed, is, named, among, are, later) =
+      let list = attributes_weaker [] attributes are in
+      (allowed, weaker before is, named, among, list, content_weaker elements after later)
   content_weaker elements (style before css after) (allowed, is, are, plain, later) =
       (allowed, weaker before is, are, weaker css plain, content_weaker elements after later)

@@ -59,10 +59,6 @@ escaped_byte byte =
     else if byte == 34 then codes "&quot;"
     else byte ∷ []
 
--- whether a byte is written unchanged
-abbrev pub is_plain : ℕ → Bool
-is_plain byte = not (byte == 38) && not (byte == 60) && not (byte == 62) && not (byte == 34)
-
 -- The pieces of what is written are `unfoldable`: a proof about a function that writes a page names the
 -- pieces, and doesn't compute their bytes unless it asks for them.
 unfoldable pub escaped_bytes : List ℕ → List ℕ

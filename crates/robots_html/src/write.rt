@@ -1,60 +1,32 @@
 //! Writes HTML piece by piece, so that a page of any length needs no tree in memory.
-ghost use Rattle.std.specs.Prelude.{◌≡◌, ◌++◌, ◌<◌, ◌≤◌, [], false, true, OnOk, get_or, length, take};
-ghost use Rattle.std.specs.List.{list_all};
+ghost use Rattle.std.specs.Prelude.{◌≡◌, ◌++◌, [], OnOk};
 ghost use Rattle.robots_html.specs.Html.{attribute, attribute_bytes, doctype, end_tag, escaped};
-ghost use Rattle.robots_html.specs.Html.{escaped_byte, is_plain, start_tag, style_bytes, tag, tag_close};
+ghost use Rattle.robots_html.specs.Html.{escaped_byte, start_tag, style_bytes, tag, tag_close};
 ghost use Rattle.robots_html.specs.Html.{tag_open, text, void_close, written};
 
 use std::alloc::AllocError;
 
-/// Whether a byte needs no character reference.
-fn is_plain(byte: u8) -> bool
-    ensures { result ≡ is_plain byte }
-{
-    (byte != b'&') & (byte != b'<') & (byte != b'>') & (byte != b'"')
-}
-
-/// The character reference for a byte that needs one.
-fn reference(byte: u8) -> &'static [u8]
-    requires { is_plain byte ≡ false }
-    ensures { result.now ≡ escaped_byte byte }
+/// Appends a byte, or the character reference for it.
+fn push_byte(out: &mut Vec<u8>, byte: u8) -> Result<(), AllocError>
+    ensures { OnOk result (out.new.items ≡ out.old.items ++ escaped_byte byte) }
 {
     match byte {
-        b'&' => b"&amp;",
-        b'<' => b"&lt;",
-        b'>' => b"&gt;",
-        _ => b"&quot;",
+        b'&' => out.extend_from_slice(b"&amp;"),
+        b'<' => out.extend_from_slice(b"&lt;"),
+        b'>' => out.extend_from_slice(b"&gt;"),
+        b'"' => out.extend_from_slice(b"&quot;"),
+        _ => Ok(out.push(byte)?),
     }
-}
-
-/// How many bytes there are before the first that needs a reference.
-fn plain_count(text: &[u8]) -> usize
-    ensures within { result ≤ length text.now }
-    ensures plain { list_all is_plain (take result text.now) ≡ true }
-    ensures next { result < length text.now → is_plain (get_or text.now result 0) ≡ false }
-{
-    let mut count = 0;
-    while count < text.len() && is_plain(text[count]) {
-        count += 1;
-    }
-    count
 }
 
 /// Appends a text, which may come from anyone: it is escaped.
 pub fn push_text(out: &mut Vec<u8>, text: &[u8]) -> Result<(), AllocError>
     ensures { OnOk result (out.new.items ≡ out.old.items ++ escaped text.now) }
 {
-    let mut rest = text;
-    loop {
-        let count = plain_count(rest);
-        out.extend_from_slice(&rest[..count])?;
-        if count == rest.len() {
-            return Ok(());
-        }
-        out.extend_from_slice(reference(rest[count]))?;
-        let (_, later) = rest.split_at(count + 1);
-        rest = later;
+    for byte in text {
+        push_byte(out, *byte)?;
     }
+    Ok(())
 }
 
 /// Appends the document type, with which a page begins.

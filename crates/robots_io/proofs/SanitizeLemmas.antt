@@ -1,32 +1,74 @@
 -- Sanitized bytes are printable, and printable bytes are unchanged by sanitizing.
-use Rattle.std.proofs.Common.{◌≡◌, ℕ, zero, suc, ◌<◌, ◌/◌, ◌%◌, ◌==◌, nat_lt, Bool}
+use Rattle.std.proofs.Common.{◌≡◌, ◌≤◌, ℕ, zero, suc, ◌<◌, ◌/◌, ◌%◌, ◌==◌, nat_lt, Bool}
 use Rattle.std.proofs.Common.{true, false, List, [], ◌∷◌, ◌++◌, Option, Some, None, ap}
-use Rattle.std.proofs.Common.{append_assoc, arith, decimal, drop, flat_map, inl, inr, length, length-append}
-use Rattle.std.proofs.Common.{refl, replicate, subst, take, ◌∙◌}
+use Rattle.std.proofs.Common.{append_assoc, arith, codes, decimal, drop, flat_map, get_or, inl, inr, length}
+use Rattle.std.proofs.Common.{length-append}
+use Rattle.std.proofs.Common.{refl, replicate, subst, sym, take, ◌∙◌}
 use Rattle.std.specs.Bool.{IsTrue}
 use Rattle.std.specs.Char.{IsScalar, encode_utf8}
 use Rattle.std.specs.Fmt.{digit_glyph, digits, digits_onto}
 use Rattle.std.specs.List.{AllByRecursion as Each, list_all}
 use Rattle.std.specs.Str.{IsAscii, all_scalars, chars, encode_utf8_all}
-use Rattle.std.proofs.lemmas.Bool.{and_parts, cases_Bool}
+use Rattle.std.proofs.Math.Seq.{drop-append_seam}
+use Rattle.std.proofs.lemmas.Bool.{and_parts, cases_Bool, cases_lt, cond_both}
 use Rattle.std.proofs.lemmas.Bool.Decides.{nat_tests}
-use Rattle.std.proofs.lemmas.List.{append-nil}
+use Rattle.std.proofs.lemmas.List.{append-nil, get_or_default}
 use Rattle.std.proofs.lemmas.List.Folds.{list_all-append}
 use Rattle.std.proofs.lemmas.Str.{IsUtf8-append, IsUtf8-from_ascii, IsUtf8-nil, chars-IsAscii}
 use Rattle.std.proofs.lemmas.Str.{chars-append, chars-encodes, chars-nil, encodes-chars, len_utf8_bounds}
-use Rattle.std.proofs.lemmas.Str.{length-encode, scalars-chars}
+use Rattle.std.proofs.lemmas.List.Sums.{list_all-from_AllPass}
+use Rattle.std.proofs.lemmas.Str.{inside_one, length-encode, scalars-chars}
 use Rattle.std.proofs.lemmas.Str.Ascii.{IsAscii-cons, IsAscii-nil}
 use Rattle.bstr.specs.Utf8.{Decoded, decoded, good, pieces_from}
 use Rattle.bstr.proofs.lemmas.EncodeLemmas.{decoded-encode}
 use Rattle.bstr.proofs.lemmas.PieceLemmas.{pieces-nil, pieces-step}
 use Rattle.bstr.proofs.lemmas.SoundLemmas.{SpellsChar-decoded}
-use Rattle.texting_robots.specs.Escape.{escape_byte, is_escaped}
+use Rattle.texting_robots.specs.Escape.{escape_byte, escaped, is_escaped}
 use Rattle.robots_io.specs.Lines.{ended, lf}
 use Rattle.robots_io.specs.Sanitize.{IsPrintable, IsPrintableIn, has_command, is_printable, is_printable_byte}
 use Rattle.robots_io.specs.Sanitize.{safe_chunk, safe_chunks, safe_in, sanitized, sanitized_in}
 use Rattle.robots_io.specs.Sanitize.{sanitized_lines}
 use Rattle.robots_io.specs.Sanitize.{without_commands, without_hash}
 use lib.Utf8.{scalar}
+
+-- ---- characters and numbers
+
+-- the bytes of a character that passes a test pass it too, if those of at least 128 do
+char_passes : (test : ℕ → Bool) → ((byte : ℕ) → 128 ≤ byte → test byte ≡ true) → (char : ℕ)
+    → test char ≡ true → list_all test (encode_utf8 char) ≡ true
+char_passes test high char is =
+    let bytes = encode_utf8 char in
+    list_all-from_AllPass test bytes (λ k d below. rw (get_or_default bytes k d 0 below)
+    (elim (cases_lt (get_or bytes k 0) 128) [
+      | inl low ↦ rw (← inside_one char [] bytes k (sym (append-nil bytes)) below low) is
+      | inr beyond ↦ high (get_or bytes k 0) beyond
+    ]))
+
+pub chars_pass : (test : ℕ → Bool) → ((byte : ℕ) → 128 ≤ byte → test byte ≡ true) → (cs : List ℕ)
+    → list_all test cs ≡ true → list_all test (encode_utf8_all cs) ≡ true
+chars_pass test high [] are = refl
+chars_pass test high (char ∷ cs) are =
+    let both = and_parts (test char) (list_all test cs) are in
+    rw (list_all-append, char_passes test high char both.0) (chars_pass test high cs both.1)
+
+-- a number is a digit, after which there may be others
+pub decimal_by : (P Q : List ℕ → Type 0) → P [] → ((text : List ℕ) → Q text → P text)
+    → ((digit : ℕ) (text : List ℕ) → digit < 10 → P text → Q (digit_glyph false digit ∷ text))
+    → (n : ℕ) → Q (decimal n)
+unfolding digits
+decimal_by P Q none weaker more n = onto 64 n [] (omega arith) none
+  where
+    onto : (k n : ℕ) (text : List ℕ) → 0 < k → P text → Q (digits_onto k 10 false n text)
+    onto zero n text some is = absurd (omega (arith, some))
+    onto (suc zero) n text some is =
+        let first = more (n % 10) text (omega arith) is in
+        elim (cases_Bool (n / 10 == 0)) [ inl last ↦ rw last first | inr other ↦ rw other first ]
+    onto (suc (suc k)) n text some is =
+        let first = more (n % 10) text (omega arith) is in
+        elim (cases_Bool (n / 10 == 0)) [
+          | inl last ↦ rw last first
+          | inr other ↦ rw other (onto (suc k) (n / 10) _ (omega arith) (weaker _ first))
+        ]
 
 module _ (has_lines : Bool) where
   -- ---- printable strings
@@ -71,11 +113,9 @@ module _ (has_lines : Bool) where
   flat_printable f are (x ∷ xs) = append_printable (f x) (flat_map f xs) (are x) (flat_printable f are xs)
 
   pub blanks_printable : (n : ℕ) → IsPrintableIn has_lines (replicate n 32)
-  blanks_printable n = ascii_printable (replicate n 32) (blanks n)
-    where
-      blanks : (n : ℕ) → IsTrue (list_all (is_printable_byte has_lines) (replicate n 32))
-      blanks zero = refl
-      blanks (suc n) = blanks n
+  blanks_printable zero = nil_printable
+  blanks_printable (suc n) =
+      append_printable (32 ∷ []) (replicate n 32) (ascii_printable (32 ∷ []) refl) (blanks_printable n)
 
   -- a hexadecimal digit is printable
   glyph : (upper : Bool) (digit : ℕ) → digit < 16
@@ -83,19 +123,10 @@ module _ (has_lines : Bool) where
   glyph upper digit below = grind (arith, nat_tests)
 
   pub decimal_printable : (n : ℕ) → IsPrintableIn has_lines (decimal n)
-  unfolding digits
-  decimal_printable n = ascii_printable (decimal n) (onto 64 n [] refl)
-    where
-      onto : (k n : ℕ) (text : List ℕ) → IsTrue (list_all (is_printable_byte has_lines) text)
-          → IsTrue (list_all (is_printable_byte has_lines) (digits_onto k 10 false n text))
-      onto zero n text are = are
-      onto (suc k) n text are =
-          let more : IsTrue (list_all (is_printable_byte has_lines) (digit_glyph false (n % 10) ∷ text)) =
-          rw (glyph false (n % 10) (omega arith)) are in
-          elim (cases_Bool (n / 10 == 0)) [
-            | inl last ↦ rw last more
-            | inr other ↦ rw other (onto k (n / 10) (digit_glyph false (n % 10) ∷ text) more)
-          ]
+  decimal_printable n =
+      let are = λ (text : List ℕ). IsTrue (list_all (is_printable_byte has_lines) text) in
+      ascii_printable (decimal n) (decimal_by are are refl (λ text is. is)
+      (λ digit text below is. rw (glyph false digit (omega arith)) is) n)
 
   -- ---- sanitizing, one UTF-8 unit at a time
 
@@ -123,10 +154,6 @@ module _ (has_lines : Bool) where
 
   -- ---- printable strings are unchanged
 
-  after : (front rest : List ℕ) → drop (length front) (front ++ rest) ≡ rest
-  after [] rest = refl
-  after (byte ∷ front) rest = after front rest
-
   all_kept : (cs : List ℕ) → all_scalars cs ≡ true → IsTrue (list_all (is_printable has_lines) cs)
       → safe_in has_lines (encode_utf8_all cs) ≡ encode_utf8_all cs
   all_kept [] scalars are = safe_nil
@@ -142,7 +169,7 @@ module _ (has_lines : Bool) where
       let with_chunk = λ (chunk : Decoded). safe_chunk has_lines chunk.char (take chunk.size bytes)
       ++ safe_in has_lines (drop chunk.size bytes) in
       safe_step bytes some ∙ ap with_chunk read
-      ∙ rw (plain.0, after front rest, all_kept cs scalars_too.1 plain.1) refl
+      ∙ rw (plain.0, drop-append_seam front rest, all_kept cs scalars_too.1 plain.1) refl
 
   pub printable_kept : (text : List ℕ) → IsPrintableIn has_lines text → safe_in has_lines text ≡ text
   printable_kept text is =
@@ -153,10 +180,7 @@ module _ (has_lines : Bool) where
 
   escaped_printable : (byte : ℕ) → IsPrintableIn has_lines (escape_byte byte)
   escaped_printable byte = ascii_printable (escape_byte byte) (elim (cases_Bool (is_escaped byte)) [
-    | inl is ↦
-        let high = glyph true (byte / 16 % 16) (omega arith) in
-        let low = glyph true (byte % 16) (omega arith) in
-        rw (is, high, low) refl
+    | inl is ↦ rw (is, glyph true (byte / 16 % 16) (omega arith), glyph true (byte % 16) (omega arith)) refl
     | inr isnt ↦
         let plain : is_printable_byte has_lines byte ≡ true = grind (arith, nat_tests) in
         rw (isnt, plain) refl
@@ -171,10 +195,9 @@ module _ (has_lines : Bool) where
   chunk_printable : (char : Option ℕ) (bytes : List ℕ) → ((c : ℕ) → char ≡ Some c → IsScalar c)
       → IsPrintableIn has_lines (safe_chunk has_lines char bytes)
   chunk_printable None bytes are = flat_printable escape_byte escaped_printable bytes
-  chunk_printable (Some char) bytes are = elim (cases_Bool (is_printable has_lines char)) [
-    | inl is ↦ rw is (char_printable char (are char refl) is)
-    | inr isnt ↦ rw isnt (flat_printable escape_byte escaped_printable bytes)
-  ]
+  chunk_printable (Some char) bytes are =
+      cond_both (is_printable has_lines char) (encode_utf8 char) (escaped bytes) (IsPrintableIn has_lines)
+      (char_printable char (are char refl)) (λ isnt. flat_printable escape_byte escaped_printable bytes)
 
   safe_in_printable : (bytes : List ℕ) → IsPrintableIn has_lines (safe_in has_lines bytes)
   unfolding pieces_from
@@ -194,34 +217,27 @@ module _ (has_lines : Bool) where
 
   -- ---- escaping the start of commands
 
-  hash_scalars : (cs : List ℕ) → all_scalars cs ≡ true → all_scalars (flat_map without_hash cs) ≡ true
-  hash_scalars [] are = refl
-  hash_scalars (char ∷ cs) are =
-      let both = and_parts (scalar char) (all_scalars cs) are in
+  hashes_printable : (cs : List ℕ) → all_scalars cs ≡ true → IsTrue (list_all (is_printable has_lines) cs)
+      → IsPrintableIn has_lines (encode_utf8_all (flat_map without_hash cs))
+  unfolding lib.Utf8.encode
+  hashes_printable [] scalars are = nil_printable
+  hashes_printable (char ∷ cs) scalars are =
+      let is = and_parts (scalar char) (all_scalars cs) scalars in
+      let plain = and_parts (is_printable has_lines char) (list_all (is_printable has_lines) cs) are in
+      let rest = encode_utf8_all (flat_map without_hash cs) in
+      let later = hashes_printable cs is.1 plain.1 in
       elim (cases_Bool (char == 35)) [
-        | inl hash ↦ rw hash (hash_scalars cs both.1)
-        | inr other ↦ rw (other, both.0) (hash_scalars cs both.1)
-      ]
-
-  hash_printable : (cs : List ℕ) → IsTrue (list_all (is_printable has_lines) cs)
-      → IsTrue (list_all (is_printable has_lines) (flat_map without_hash cs))
-  hash_printable [] are = refl
-  hash_printable (char ∷ cs) are =
-      let both = and_parts (is_printable has_lines char) (list_all (is_printable has_lines) cs) are in
-      elim (cases_Bool (char == 35)) [
-        | inl hash ↦ rw hash (hash_printable cs both.1)
-        | inr other ↦ rw (other, both.0) (hash_printable cs both.1)
+        | inl hash ↦ rw hash (append_printable (codes "%23") rest (ascii_printable (codes "%23") refl) later)
+        | inr other ↦ rw other
+            (append_printable (encode_utf8 char) rest (char_printable char is.0 plain.0) later)
       ]
 
   without_printable : (text : List ℕ) → IsPrintableIn has_lines text
       → IsPrintableIn has_lines (without_commands text)
   unfolding without_commands
-  without_printable text is = elim (cases_Bool (has_command text)) [
-    | inl has ↦ rw has
-        (chars_printable (flat_map without_hash (chars text)) (hash_scalars (chars text)
-        (scalars-chars text is.utf8)) (hash_printable (chars text) is.all))
-    | inr lacks ↦ rw lacks is
-  ]
+  without_printable text is =
+      cond_both (has_command text) _ text (IsPrintableIn has_lines)
+      (λ has. hashes_printable (chars text) (scalars-chars text is.utf8) is.all) (λ lacks. is)
 
   pub sanitized_in_printable : (bytes : List ℕ) → IsPrintableIn has_lines (sanitized_in has_lines bytes)
   sanitized_in_printable bytes = without_printable (safe_in has_lines bytes) (safe_in_printable bytes)

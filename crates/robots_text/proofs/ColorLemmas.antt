@@ -51,11 +51,6 @@ plain_printable plain text is = subst IsPrintable (sym is.plain_is) (all_shown i
         (subst IsPrintable (sym same) (line_printable (level_word level) (level_printable level)))
         (all_shown parts later)
 
--- the same text before a colored one
-colored_after : (front plain text : List ℕ) → IsPrintable front → IsColored plain text
-    → IsColored (front ++ plain) (front ++ text)
-colored_after front plain text is too = colored_append front front plain text (colored_same front is) too
-
 -- ---- lines
 
 colored_word : (level : Level) → IsColored (level_word level) (shown_word true level)
@@ -68,20 +63,18 @@ colored_word level = record {
 
 colored_line : (line : LevelLine) → IsColored (level_text false line) (level_text true line)
 colored_line line =
-    let rest = parts_text line.rest in
-    let one = λ (level : List ℕ). codes ": " ++ level in
-    colored_after (sanitized line.name) (part_text line.place ++ (one (level_word line.level) ++ rest))
-    (part_text line.place ++ (one (shown_word true line.level) ++ rest)) (sanitized_printable line.name)
-    (colored_after (part_text line.place) (one (level_word line.level) ++ rest)
-    (one (shown_word true line.level) ++ rest) (line_printable (part_text line.place)
-    (part_printable line.place))
-    (colored_append (one (level_word line.level)) (one (shown_word true line.level)) rest rest
-    (colored_after (codes ": ") (level_word line.level) (shown_word true line.level)
-    (ascii_printable true (codes ": ") refl) (colored_word line.level))
-    (colored_same rest (line_printable rest (parts_printable line.rest)))))
+    colored_append _ _ _ _ (colored_same (sanitized line.name) (sanitized_printable line.name))
+    (colored_append _ _ _ _
+    (colored_same (part_text line.place) (line_printable _ (part_printable line.place)))
+    (colored_append _ _ _ _
+    (colored_append _ _ _ _ (colored_same (codes ": ") (ascii_printable true (codes ": ") refl))
+    (colored_word line.level))
+    (colored_same (parts_text line.rest) (line_printable _ (parts_printable line.rest)))))
 
-level_printable_line : (line : LevelLine) → IsPrintable (level_text false line)
-level_printable_line line = plain_printable (level_text false line) (level_text true line) (colored_line line)
+line_colored : (has_colors : Bool) (line : LevelLine)
+    → IsColored (level_text false line) (level_text has_colors line)
+line_colored true line = colored_line line
+line_colored false line = colored_same (level_text false line) (plain_printable _ _ (colored_line line))
 
 -- these lines, and others that have no colors
 pub lines_colored : (has_colors : Bool) (lines : List LevelLine) (others : List NamedLine)
@@ -89,23 +82,17 @@ pub lines_colored : (has_colors : Bool) (lines : List LevelLine) (others : List 
     (ended (map (level_text has_colors) lines ++ map named_text others))
 lines_colored has_colors [] [] = colored_same [] (nil_printable true)
 lines_colored has_colors [] (other ∷ others) =
-    let text = named_text other ++ lf ∷ [] in
-    colored_append text text (ended (map named_text others)) (ended (map named_text others))
-    (colored_same text (append_printable true (named_text other) (lf ∷ [])
-    (line_printable (named_text other) (named_printable other)) (ascii_printable true (lf ∷ []) refl)))
+    colored_append _ _ _ _
+    (colored_append _ _ _ _ (colored_same (named_text other) (line_printable _ (named_printable other))) end)
     (lines_colored has_colors [] others)
-lines_colored has_colors (line ∷ lines) others =
-    colored_append (level_text false line ++ lf ∷ []) (level_text has_colors line ++ lf ∷ [])
-    (ended (map (level_text false) lines ++ map named_text others))
-    (ended (map (level_text has_colors) lines ++ map named_text others))
-    (colored_append (level_text false line) (level_text has_colors line) (lf ∷ []) (lf ∷ [])
-    (one has_colors line) (colored_same (lf ∷ []) (ascii_printable true (lf ∷ []) refl)))
-    (lines_colored has_colors lines others)
   where
-    one : (has_colors : Bool) (line : LevelLine)
-        → IsColored (level_text false line) (level_text has_colors line)
-    one false line = colored_same (level_text false line) (level_printable_line line)
-    one true line = colored_line line
+    end : IsColored (lf ∷ []) (lf ∷ [])
+    end = colored_same (lf ∷ []) (ascii_printable true (lf ∷ []) refl)
+lines_colored has_colors (line ∷ lines) others =
+    colored_append _ _ _ _
+    (colored_append _ _ _ _ (line_colored has_colors line)
+    (colored_same (lf ∷ []) (ascii_printable true (lf ∷ []) refl)))
+    (lines_colored has_colors lines others)
 
 -- ---- what is sent to a terminal
 

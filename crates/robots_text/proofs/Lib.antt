@@ -1,4 +1,2 @@
 pub mod ColorLemmas
-pub mod DelayLemmas
 pub mod PartLemmas
-pub mod PlainLemmas

@@ -38,24 +38,16 @@ impl Level {
     }
 }
 
-/// The word for a level in its color: bold red, yellow or cyan.
-fn colored_word(level: Level) -> &'static str
-    ensures { result.now ≡ shown_word true level }
+/// The word for a level, in its color if there are colors: bold red, yellow or cyan.
+pub fn shown_word(has_colors: bool, level: Level) -> &'static str
+    ensures { result.now ≡ shown_word has_colors level }
 {
+    if !has_colors {
+        return level.word();
+    }
     match level {
         Level::Error => "\x1B[1;31merror\x1B[0m",
         Level::Warning => "\x1B[1;33mwarning\x1B[0m",
         Level::Note => "\x1B[1;36mnote\x1B[0m",
-    }
-}
-
-/// The word for a level, in its color if there are colors.
-pub fn shown_word(has_colors: bool, level: Level) -> &'static str
-    ensures { result.now ≡ shown_word has_colors level }
-{
-    if has_colors {
-        colored_word(level)
-    } else {
-        level.word()
     }
 }

@@ -2,7 +2,6 @@
 ghost use Rattle.std.specs.Prelude.{◌≡◌, ◌++◌, ◌∷◌, [], OnOk, string_bytes};
 ghost use Rattle.robots_io.specs.Lines.{ended};
 ghost use Rattle.robots_text.specs.Raw.{raw_line, raw_text, raw_value};
-ghost use Rattle.robots_text.specs.Text.{shown_name};
 
 use crate::delay::push_delay_text;
 use robots_io::lines::push_number;
@@ -30,17 +29,6 @@ pub enum Value<'a> {
 #[derive(Clone, Copy)]
 pub struct Part<'a>(pub &'static str, pub Value<'a>);
 
-/// Appends the sanitized bytes, or quotes if there are none.
-fn push_named(text: &mut String, name: &[u8]) -> Result<(), AllocError>
-    ensures { OnOk result (string_bytes text.new ≡ string_bytes text.old ++ shown_name name.now) }
-{
-    if name.is_empty() {
-        text.push_str("\"\"")
-    } else {
-        push_sanitized(text, name)
-    }
-}
-
 /// Appends a value.
 fn push_value(text: &mut String, value: Value<'_>) -> Result<(), AllocError>
     ensures { OnOk result (string_bytes text.new ≡ string_bytes text.old ++ raw_value value.entry) }
@@ -49,7 +37,8 @@ fn push_value(text: &mut String, value: Value<'_>) -> Result<(), AllocError>
         Value::Nothing => Ok(()),
         Value::Word(word) => text.push_str(word),
         Value::Untrusted(bytes) => push_sanitized(text, bytes),
-        Value::Named(name) => push_named(text, name),
+        Value::Named(name) if name.is_empty() => text.push_str("\"\""),
+        Value::Named(name) => push_sanitized(text, name),
         Value::Number(number) => push_number(text, number),
         Value::Delay(micros) => push_delay_text(text, micros),
     }

@@ -1,22 +1,19 @@
 -- How an input is split line by line, and that it has at most one split.
 use Rattle.std.proofs.Common.{◌≡◌, ◌≢◌, inl, inr, ℕ, zero, suc, ◌+◌, ◌-◌, ◌<◌}
-use Rattle.std.proofs.Common.{◌==◌, nat_lt, true, false, slice_index_or, Any, Bor, IfErr, IsUtf8, Result}
+use Rattle.std.proofs.Common.{◌==◌, true, false, slice_index_or, Any, Bor, IfErr, IsUtf8, Result}
 use Rattle.std.proofs.Common.{Ok, Err, List, [], ◌∷◌, ◌++◌, length, map, slice_index, sym}
 use Rattle.std.proofs.Common.{refl, ap, subst, ◌∙◌, arith, append_assoc, take, drop}
 use Rattle.std.specs.List.{AllByRecursion as Each}
 use Rattle.std.specs.Result.{IsErrAnd}
-use Rattle.std.specs.Io.BufRead.{ends_with_byte, strip_last}
-use Rattle.std.proofs.lemmas.Bool.{cond-true, cond-false, eq-eqb, lt-ltb, ne_eqb}
+use Rattle.std.specs.Io.BufRead.{strip_last}
 use Rattle.std.proofs.lemmas.Bool.Decides.{nat_tests}
-use Rattle.std.proofs.Math.Seq.{take-append_seam}
 use Rattle.std.proofs.lemmas.List.{append-nil, drop_more, get_or-map}
 use Rattle.std.proofs.lemmas.List.{length-append, length-map, take-append-drop}
 use Rattle.robots_verdict.specs.declared.fault.Fault.{Fault}
 use Rattle.robots_verdict.specs.declared.fault.Fault.TheVariants.{HeaderNotUtf8, Memory}
 use Rattle.robots_io.specs.Lines.{lf}
 use Rattle.robots_verdict.specs.Input.{AreUtf8, HasNoUrl, HoldNotUtf8}
-use Rattle.robots_verdict.specs.Input.{AreUrlLines, BeginsWithLine, IsInput, IsOneLine, cr}
-use Rattle.robots_verdict.specs.Internal.{IsFirstLf}
+use Rattle.robots_verdict.specs.Input.{AreUrlLines, BeginsWithLine, IsFirstLf, IsInput, IsOneLine, cr}
 
 -- the lines up to `rest` are those of `urls`: the splits of `input` are the splits of `rest` with `urls` at
 -- the start
@@ -25,34 +22,6 @@ pub record GoesOn (input : List ℕ) (urls : List (List ℕ)) (rest : List ℕ) 
       → AreUrlLines input (urls ++ later) file
   pub to_rest : (all : List (List ℕ)) (file : List ℕ) → AreUrlLines input all file
       → (later : List (List ℕ)) × (all ≡ urls ++ later) × AreUrlLines rest later file
-
--- ---- the text of a line
-
-at_end : (text : List ℕ) (last : ℕ) → slice_index (text ++ last ∷ []) (length text) ≡ last
-at_end [] last = refl
-at_end (b ∷ text) last = at_end text last
-
-all_but_last : (text : List ℕ) (last : ℕ) → length (text ++ last ∷ []) - 1 ≡ length text
-all_but_last text last = omega (arith, length-append text (last ∷ []))
-
-ends_with_last : (text : List ℕ) (last : ℕ) → ends_with_byte cr (text ++ last ∷ []) ≡ (last == cr)
-ends_with_last text last =
-    let some : nat_lt 0 (length (text ++ last ∷ [])) ≡ true =
-    lt-ltb 0 (length (text ++ last ∷ [])) (omega (arith, length-append text (last ∷ []))) in
-    rw (some, all_but_last text last, at_end text last) refl
-
-pub text_taken : (line text : List ℕ) (last : ℕ) → line ≡ text ++ last ∷ [] → last ≡ cr
-    → text ≡ strip_last cr line
-text_taken line text last whole is =
-    sym (ap (strip_last cr) whole ∙ cond-true _ _ _ (ends_with_last text last ∙ eq-eqb last cr is)
-    ∙ ap (λ n. take n (text ++ last ∷ [])) (all_but_last text last)
-    ∙ take-append_seam text (last ∷ []))
-
-pub text_kept : (line text : List ℕ) (last : ℕ) → line ≡ text ++ last ∷ [] → last ≢ cr
-    → line ≡ strip_last cr line
-text_kept line text last whole apart =
-    whole ∙ sym (ap (strip_last cr) whole
-    ∙ cond-false _ _ _ (ends_with_last text last ∙ ne_eqb last cr apart))
 
 -- ---- the first line
 
@@ -118,13 +87,13 @@ after_line input url rest [] file line filled is =
     absurd (filled (line_once input url [] rest file line is).0)
 after_line input url rest (other ∷ later) file line filled is =
     let same = line_once input url other rest is.0 line is.1 in
-    (later, ap (λ u. u ∷ later) (sym same.0), subst (λ t. AreUrlLines t later file) (sym same.1) is.3)
+    (later, ap (λ u. u ∷ later) (sym same.0), rw same.1 is.3)
 
 pub goes_more : (input rest next url : List ℕ) (urls : List (List ℕ)) → GoesOn input urls rest
     → BeginsWithLine rest url next → url ≢ [] → GoesOn input (urls ++ url ∷ []) next
 goes_more input rest next url urls goes line filled = record {
-  from_rest = λ later file is. subst (λ all. AreUrlLines input all file)
-      (sym (append_assoc urls (url ∷ []) later))
+  from_rest =
+      λ later file is. rw (append_assoc urls (url ∷ []) later)
       (goes.from_rest (url ∷ later) file (next, line, filled, is));
   to_rest =
       λ all file is.
@@ -147,13 +116,10 @@ same_lines : (urls others : List (List ℕ)) (input file rest : List ℕ) → Ar
 same_lines [] [] input file rest one two = (refl, (line_once input [] [] file rest one two).1)
 same_lines [] (url ∷ others) input file rest one two =
     absurd (two.2 (sym (line_once input [] url file two.0 one two.1).0))
-same_lines (url ∷ urls) [] input file rest one two =
-    absurd (one.2 (line_once input url [] one.0 rest one.1 two).0)
-same_lines (url ∷ urls) (other ∷ others) input file rest one two =
-    let first = line_once input url other one.0 two.0 one.1 two.1 in
-    let later =
-    same_lines urls others two.0 file rest (subst (λ t. AreUrlLines t urls file) first.1 one.3) two.3 in
-    (cc, later.1)
+same_lines (url ∷ urls) others input file rest one two =
+    let on = after_line input url one.0 others rest one.1 one.2 two in
+    let later = same_lines urls on.0 one.0 file rest one.3 on.2 in
+    (ap (λ u. url ∷ u) later.0 ∙ sym on.1, later.1)
 
 -- ---- complete inputs
 
@@ -180,7 +146,7 @@ pub no_split : (input agent start rest : List ℕ) (urls : List (List ℕ))
     → (other : List ℕ) (all : List (List ℕ)) (file : List ℕ) → ¬ IsInput input other all file
 no_split input agent start rest urls line goes one other all file is =
     let same = line_once input agent other start is.rest line is.agent_line in
-    let back = goes.to_rest all file (subst (λ t. AreUrlLines t all file) (sym same.1) is.url_lines) in
+    let back = goes.to_rest all file (rw same.1 is.url_lines) in
     no_lines rest back.0 file one back.2
 
 pub one_split : (input agent other : List ℕ) (urls others : List (List ℕ)) (file rest : List ℕ)
@@ -195,11 +161,15 @@ one_split input agent other urls others file rest one two =
 pub not_empty : (input text rest : List ℕ) → BeginsWithLine input text rest → input ≢ []
 not_empty input text rest is = λ empty. omega (arith, rest_shorter input text rest is, ap length empty)
 
+-- an allocation may have failed, where the specification says what that needs
+pub if_memory : {X P : Type 0} (r : Result X Fault) → P → IfErr r (λ fault. fault ≡ Memory → P)
+if_memory (Ok x) is = tt
+if_memory (Err fault) is = λ _. is
+
 -- an input that has its parts isn't empty
 pub some_input : {X : Type 0} (r : Result X Fault) (input agent : List ℕ) (urls : List (List ℕ))
     (file : List ℕ) → IsInput input agent urls file → IfErr r (λ fault. fault ≡ Memory → input ≢ [])
-some_input (Ok x) input agent urls file is = tt
-some_input (Err fault) input agent urls file is = λ _. not_empty input agent is.rest is.agent_line
+some_input r input agent urls file is = if_memory r (not_empty input agent is.rest is.agent_line)
 
 -- a URL was found
 pub some_url : (input agent start rest url next : List ℕ) (urls : List (List ℕ))
@@ -207,8 +177,8 @@ pub some_url : (input agent start rest url next : List ℕ) (urls : List (List �
     → url ≢ [] → ¬ HasNoUrl input
 some_url input agent start rest url next urls line goes here filled (other, file, is) =
     let same = line_once input agent other start is.rest line is.agent_line in
-    let back = (goes_more start rest next url urls goes here filled).to_rest [] file
-    (subst (λ t. AreUrlLines t [] file) (sym same.1) is.url_lines) in
+    let back =
+    (goes_more start rest next url urls goes here filled).to_rest [] file (rw same.1 is.url_lines) in
     omega (
       arith,
       ap length back.1,
@@ -216,18 +186,11 @@ some_url input agent start rest url next urls line goes here filled (other, file
       length-append urls (url ∷ []),
     )
 
--- so an allocation may have failed
-pub url_allocated : {X : Type 0} (r : Result X Fault) (input agent start : List ℕ)
-    → BeginsWithLine input agent start → (¬ HasNoUrl input)
-    → IfErr r (λ fault. fault ≡ Memory → (input ≢ []) × ¬ HasNoUrl input)
-url_allocated (Ok x) input agent start line some = tt
-url_allocated (Err fault) input agent start line some = λ _. (not_empty input agent start line, some)
-
 no_items : (urls : List (Bor (List ℕ))) → map (λ url. url.now) urls ≡ [] → urls ≡ []
 no_items [] none = refl
 no_items (url ∷ urls) none = absurd (cc)
 
--- the same, if there are URLs
+-- so an allocation may have failed, if there are URLs
 pub urls_allocated : {X : Type 0} (r : Result X Fault) (fault : Fault) (urls : List (Bor (List ℕ)))
     (input agent file : List ℕ) → IsErrAnd r (λ other. other ≡ fault) → (fault ≡ Memory → urls ≢ [])
     → IsInput input agent (map (λ url. url.now) urls) file
@@ -250,11 +213,6 @@ some_bytes [] e = grind (arith, nat_tests)
 some_bytes (b ∷ text) e = λ is. cc
 
 -- ---- UTF-8 strings
-
-pub each_pushed : (P : List ℕ → Type 0) (texts : List (List ℕ)) (text : List ℕ) → Each P texts
-    → P text → Each P (texts ++ text ∷ [])
-each_pushed P [] text each one = (one, tt)
-each_pushed P (t ∷ texts) text each one = (each.0, each_pushed P texts text each.1 one)
 
 each_at : (P : List ℕ → Type 0) (texts : List (List ℕ)) (k : ℕ) (text : List ℕ) → k < length texts
     → slice_index_or texts k text ≡ text → Each P texts → P text

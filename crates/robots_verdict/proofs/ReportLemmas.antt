@@ -1,7 +1,6 @@
 -- How a report is built, and that an input has at most one.
 use Rattle.std.proofs.Common.{◌≡◌, ◌≢◌, ℕ, List, [], ◌∷◌, ◌++◌, Option, Some, None}
 use Rattle.std.proofs.Common.{Result, Ok, Err, IfSome, map, sym, refl, ap, subst, take, ◌∙◌}
-use Rattle.std.specs.Io.KnownBytes.{Appends}
 use Rattle.std.specs.Result.{IsErrAnd}
 use Rattle.texting_robots.specs.Callers.{IsFileRejected, IsRobotOf, RobotValue, delay_for, file_limit}
 use Rattle.texting_robots.specs.Callers.{lines_read, placed_rules, sitemaps_in}
@@ -13,13 +12,11 @@ use Rattle.robots_verdict.specs.declared.fault.Fault.{Fault}
 use Rattle.robots_verdict.specs.declared.fault.Fault.TheVariants.{HeaderNotUtf8, InvalidRule}
 use Rattle.robots_verdict.specs.declared.fault.Fault.TheVariants.{Memory, NoEmptyLine, Read, Write}
 use Rattle.robots_verdict.specs.Fault.{fault_of_read}
-use Rattle.robots_io.specs.Streams.{AppendsBeginning}
 use Rattle.robots_io.specs.Lines.{ended}
 use Rattle.robots_io.specs.Verdicts.{AddsVerdicts}
 use Rattle.robots_io.proofs.LinesLemmas.{ended-append, lines_added}
 use Rattle.robots_io.proofs.VerdictsLemmas.{lines_like, lines_once}
 use Rattle.robots_verdict.specs.Input.{AreUtf8, HoldNotUtf8, IsInput}
-use Rattle.robots_verdict.specs.Report.{AppendsReport, AppendsReportBeginning}
 use Rattle.robots_verdict.specs.Report.{HasFault, IsReport, IsReportText, as_is, delay_line, sitemap_line}
 use Rattle.robots_verdict.proofs.InputLemmas.{not_both, one_split}
 
@@ -61,125 +58,89 @@ text_once agent urls file text other one two =
     ∙ sym two.whole
 
 -- a property of one split also holds for any other split of the input, since they are equal
-same_split : (P : List ℕ → List (List ℕ) → List ℕ → Type 0) (input agent other : List ℕ)
-    (urls others : List (List ℕ)) (file rest : List ℕ)
-    → IsInput input agent urls file → IsInput input other others rest → P other others rest
-    → P agent urls file
-same_split P input agent other urls others file rest one two is =
-    let same = one_split input agent other urls others file rest one two in
-    subst (λ a. P a urls file) (sym same.0)
-    (subst (λ u. P other u file) (sym same.1) (subst (λ f. P other others f) (sym same.2) is))
+same_split : {input agent other : List ℕ} {urls others : List (List ℕ)} {file rest : List ℕ}
+    (P : List ℕ → List (List ℕ) → List ℕ → Type 0) → IsInput input agent urls file
+    → IsInput input other others rest → P other others rest → P agent urls file
+same_split P one two is =
+    let same = one_split _ _ _ _ _ _ _ one two in
+    rw (same.0, same.1, same.2) is
 
 no_fault : (input : List ℕ) (text : List ℕ) (fault : Fault) → IsReport input (Ok text)
     → HasFault input fault → ⊥
-no_fault input text Read report has = has
-no_fault input text Write report has = has
 no_fault input text NoEmptyLine report has = has report.0 report.1 report.2 report.3
 no_fault input text HeaderNotUtf8 report has =
     not_both report.0 report.1 report.4
-    (same_split (λ agent urls file. HoldNotUtf8 agent urls) input report.0 has.0 report.1 has.1 report.2
-    has.2 report.3 has.3 has.4)
+    (same_split (λ agent urls file. HoldNotUtf8 agent urls) report.3 has.3 has.4)
 no_fault input text InvalidRule report has =
     report.5
-    (same_split (λ agent urls file. IsFileRejected agent (take file_limit file)) input report.0 has.0 report.1
-    has.1 report.2 has.2 report.3 has.3 has.5)
-no_fault input text Memory report has = has
+    (same_split (λ agent urls file. IsFileRejected agent (take file_limit file)) report.3 has.3 has.5)
+no_fault input text fault report has = has
 
 not_rejected : (input : List ℕ) → HasFault input HeaderNotUtf8 → HasFault input InvalidRule → ⊥
 not_rejected input one two =
-    not_both one.0 one.1
-    (same_split (λ agent urls file. AreUtf8 agent urls) input one.0 two.0 one.1 two.1 one.2 two.2
-    one.3 two.3 two.4) one.4
+    not_both one.0 one.1 (same_split (λ agent urls file. AreUtf8 agent urls) one.3 two.3 two.4) one.4
 
 same_fault : (input : List ℕ) (fault other : Fault) → HasFault input fault → HasFault input other
     → fault ≡ other
 same_fault input Read other one two = absurd one
 same_fault input Write other one two = absurd one
 same_fault input Memory other one two = absurd one
-same_fault input NoEmptyLine Read one two = absurd two
-same_fault input NoEmptyLine Write one two = absurd two
+same_fault input fault Read one two = absurd two
+same_fault input fault Write one two = absurd two
+same_fault input fault Memory one two = absurd two
 same_fault input NoEmptyLine NoEmptyLine one two = refl
-same_fault input NoEmptyLine HeaderNotUtf8 one two = absurd (one two.0 two.1 two.2 two.3)
-same_fault input NoEmptyLine InvalidRule one two = absurd (one two.0 two.1 two.2 two.3)
-same_fault input NoEmptyLine Memory one two = absurd two
-same_fault input HeaderNotUtf8 Read one two = absurd two
-same_fault input HeaderNotUtf8 Write one two = absurd two
-same_fault input HeaderNotUtf8 NoEmptyLine one two = absurd (two one.0 one.1 one.2 one.3)
+same_fault input NoEmptyLine other one two = absurd (one two.0 two.1 two.2 two.3)
+same_fault input fault NoEmptyLine one two = absurd (two one.0 one.1 one.2 one.3)
 same_fault input HeaderNotUtf8 HeaderNotUtf8 one two = refl
 same_fault input HeaderNotUtf8 InvalidRule one two = absurd (not_rejected input one two)
-same_fault input HeaderNotUtf8 Memory one two = absurd two
-same_fault input InvalidRule Read one two = absurd two
-same_fault input InvalidRule Write one two = absurd two
-same_fault input InvalidRule NoEmptyLine one two = absurd (two one.0 one.1 one.2 one.3)
 same_fault input InvalidRule HeaderNotUtf8 one two = absurd (not_rejected input two one)
 same_fault input InvalidRule InvalidRule one two = refl
-same_fault input InvalidRule Memory one two = absurd two
 
 pub one_report : (input : List ℕ) (report other : Result (List ℕ) Fault) → IsReport input report
     → IsReport input other → report ≡ other
 one_report input (Ok text) (Ok other) one two =
-    ap (λ t. Ok t)
-    (text_once one.0 one.1 one.2 text other one.6
-    (same_split (λ agent urls file. IsReportText agent urls file other) input one.0 two.0 one.1 two.1
-    one.2 two.2 one.3 two.3 two.6))
+    ap (λ t. Ok t) (text_once one.0 one.1 one.2 text other one.6
+    (same_split (λ agent urls file. IsReportText agent urls file other) one.3 two.3 two.6))
 one_report input (Ok text) (Err fault) one two = absurd (no_fault input text fault one two)
 one_report input (Err fault) (Ok text) one two = absurd (no_fault input text fault two one)
 one_report input (Err fault) (Err other) one two = ap (λ f. Err f) (same_fault input fault other one two)
 
 -- ---- the run
 
-pub run_ok : (left old new : Option (List ℕ)) (items bytes text written : List ℕ)
-    → IfSome left (λ input. items ≡ input) → bytes ≡ items → IsReport bytes (Ok text)
-    → written ≡ text → Appends old new written
-    → IfSome left (AppendsReport old new)
-run_ok None old new items bytes text written read same report whole wrote = tt
-run_ok (Some input) old new items bytes text written read same report whole wrote = (
-  text,
-  subst (λ t. IsReport t (Ok text)) (same ∙ read) report,
-  subst (λ t. Appends old new t) whole wrote,
-)
+-- what holds of the bytes that were read holds of the input
+of_input : (left : Option (List ℕ)) (P : List ℕ → Type 0) (items bytes : List ℕ)
+    → IfSome left (λ input. items ≡ input) → bytes ≡ items → P bytes → IfSome left P
+of_input None P items bytes read same is = tt
+of_input (Some input) P items bytes read same is = subst P (same ∙ read) is
 
-pub run_beginning : (left old new : Option (List ℕ)) (items bytes text written : List ℕ)
-    → IfSome left (λ input. items ≡ input) → bytes ≡ items → IsReport bytes (Ok text)
-    → written ≡ text → AppendsBeginning old new written
-    → IfSome left (AppendsReportBeginning old new)
-run_beginning None old new items bytes text written read same report whole wrote = tt
-run_beginning (Some input) old new items bytes text written read same report whole wrote = (
-  text,
-  subst (λ t. IsReport t (Ok text)) (same ∙ read) report,
-  subst (λ t. AppendsBeginning old new t) whole wrote,
-)
+-- the report was written in the way W
+pub run_wrote : (left : Option (List ℕ)) (W : List ℕ → Type 0) (items bytes text written : List ℕ)
+    → IfSome left (λ input. items ≡ input) → bytes ≡ items → IsReport bytes (Ok text) → written ≡ text
+    → W written
+    → IfSome left (λ input. (text : List ℕ) × IsReport input (Ok text) × W text)
+run_wrote left W items bytes text written read same report whole wrote =
+    of_input left (λ input. (text : List ℕ) × IsReport input (Ok text) × W text) items bytes read same
+    (text, report, subst W whole wrote)
 
-pub run_fault : {X : Type 0} (left : Option (List ℕ)) (items bytes : List ℕ)
-    (r : Result X Fault) (fault wanted : Fault)
-    → IfSome left (λ input. items ≡ input) → bytes ≡ items
+pub run_fault : {X : Type 0} (left : Option (List ℕ)) (items bytes : List ℕ) (r : Result X Fault)
+    (fault wanted : Fault) → IfSome left (λ input. items ≡ input) → bytes ≡ items
     → (fault ≢ Memory → HasFault bytes fault) → IsErrAnd r (λ other. other ≡ fault)
-    → wanted ≢ Memory
-    → r ≡ Err wanted → IfSome left (λ input. IsReport input (Err wanted))
-run_fault left items bytes (Ok x) fault wanted read same has is known answer = absurd is
-run_fault None items bytes (Err e) fault wanted read same has is known answer = tt
-run_fault {X = X} (Some input) items bytes (Err e) fault wanted read same has is known answer =
-    let errors : ◌≡◌ {A = Result X Fault} (Err e) (Err wanted) = answer in
-    let found : fault ≡ wanted = cc in
-    subst (λ t. HasFault t wanted) (same ∙ read)
-    (subst (λ f. HasFault bytes f) found (has (λ memory. known (sym found ∙ memory))))
+    → wanted ≢ Memory → r ≡ Err wanted → IfSome left (λ input. IsReport input (Err wanted))
+run_fault left items bytes r fault wanted read same has is known answer =
+    let found : wanted ≡ fault = rw answer at is in
+    of_input left (λ input. HasFault input wanted) items bytes read same
+    (subst (HasFault bytes) (sym found) (has (λ memory. known (found ∙ memory))))
 
-pub run_memory : {X : Type 0} (left : Option (List ℕ)) (items bytes : List ℕ)
-    (r : Result X Fault) (fault : Fault)
-    → IfSome left (λ input. items ≡ input) → bytes ≡ items → (fault ≡ Memory → bytes ≢ [])
+pub run_memory : {X : Type 0} (left : Option (List ℕ)) (items bytes : List ℕ) (r : Result X Fault)
+    (fault : Fault) → IfSome left (λ input. items ≡ input) → bytes ≡ items → (fault ≡ Memory → bytes ≢ [])
     → IsErrAnd r (λ other. other ≡ fault) → r ≡ Err Memory → IfSome left (λ input. input ≢ [])
-run_memory left items bytes (Ok x) fault read same some is answer = absurd is
-run_memory None items bytes (Err e) fault read same some is answer = tt
-run_memory {X = X} (Some input) items bytes (Err e) fault read same some is answer =
-    let errors : ◌≡◌ {A = Result X Fault} (Err e) (Err Memory) = answer in
-    let found : fault ≡ Memory = cc in
-    λ empty. some found (same ∙ read ∙ empty)
+run_memory left items bytes r fault read same some is answer =
+    let found : Memory ≡ fault = rw answer at is in
+    of_input left (λ input. input ≢ []) items bytes read same (some (sym found))
 
 pub run_unread : {X P : Type 0} (r : Result X Fault) (fault : ReadFault)
-    → IsErrAnd r (λ own. own ≡ fault_of_read fault) → (fault ≡ reading.Memory → P)
-    → r ≡ Err Memory → P
-run_unread (Ok x) fault is some answer = absurd is
-run_unread {X = X} (Err e) reading.Read is some answer =
-    let errors : ◌≡◌ {A = Result X Fault} (Err e) (Err Memory) = answer in
+    → IsErrAnd r (λ own. own ≡ fault_of_read fault) → (fault ≡ reading.Memory → P) → r ≡ Err Memory → P
+run_unread r reading.Read is some answer =
+    let found : Memory ≡ Read = rw answer at is in
     absurd (cc)
-run_unread (Err e) reading.Memory is some answer = some refl
+run_unread r reading.Memory is some answer = some refl

@@ -1,5 +1,5 @@
 -- The parts of an input.
-use Rattle.std.specs.Prelude.{◌≡◌, ◌≢◌, ◌⊎◌, ℕ, List, [], ◌∷◌, ◌++◌, Any}
+use Rattle.std.specs.Prelude.{◌≡◌, ◌≢◌, ◌⊎◌, ℕ, ◌<◌, List, [], ◌∷◌, ◌++◌, Any, length, slice_index}
 use Rattle.std.specs.{Prelude.IsUtf8, List.AllByRecursion as Each, Io.BufRead.strip_last}
 use Rattle.robots_io.specs.Lines.{lf}
 
@@ -9,6 +9,12 @@ cr = 13
 -- the line contains no LF
 abbrev pub IsOneLine : List ℕ → Type 0
 IsOneLine line = Each (λ byte. byte ≢ lf) line
+
+-- this is the index of the input's first LF
+pub record IsFirstLf (input : List ℕ) (place : ℕ) : Type 0 where
+  pub within : place < length input
+  pub feed : slice_index input place ≡ lf
+  pub before : (k : ℕ) → k < place → slice_index input k ≢ lf
 
 -- the input is a line, its LF and the rest; `text` is the content of the line, without a CR at its end
 pub record BeginsWithLine (input text rest : List ℕ) : Type 0 where

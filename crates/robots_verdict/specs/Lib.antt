@@ -1,4 +1,3 @@
 pub mod Fault
 pub mod Input
 pub mod Report
-pub mod Internal

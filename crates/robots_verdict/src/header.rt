@@ -2,9 +2,8 @@
 ghost use Rattle.std.specs.Prelude.{◌≡◌, ◌≢◌, [], Any, IfErr, IfOk, IsUtf8, MatchOption, map};
 ghost use Rattle.std.specs.Io.BufRead.{strip_last};
 ghost use Rattle.std.specs.List.{AllByRecursion as Each};
-ghost use Rattle.robots_verdict.specs.Input.{AreUtf8, BeginsWithLine, HasNoUrl, IsInput, IsOneLine, cr};
+ghost use Rattle.robots_verdict.specs.Input.{AreUtf8, BeginsWithLine, HasNoUrl, IsFirstLf, IsInput, IsOneLine, cr};
 ghost use Rattle.robots_verdict.specs.Report.{HasFault};
-ghost use Rattle.robots_verdict.specs.Internal.{IsFirstLf};
 
 use crate::fault::Fault;
 use std::alloc::Global;
@@ -26,14 +25,13 @@ struct RawInput<'a> {
 }
 
 /// The line without a CR at its end.
-#[tactic(auto, using(crate::proofs::InputLemmas::text_taken, crate::proofs::InputLemmas::text_kept))]
 fn without_cr<'a>(line: &'a [u8]) -> &'a [u8]
     ensures { result.now ≡ strip_last cr line.now }
 {
-    let Some((last, text)) = line.split_last() else {
-        return line;
-    };
-    if *last == b'\r' { text } else { line }
+    if !line.is_empty() && line[line.len() - 1] == b'\r' {
+        return &line[..line.len() - 1];
+    }
+    line
 }
 
 /// The index of the first LF.

@@ -1,9 +1,6 @@
-use Rattle.std.proofs.Common.{◌≡◌, ◌++◌, length}
-use Rattle.robots_html.specs.Html.{escaped}
+use Rattle.std.proofs.Common.{◌≡◌, ◌++◌, flat_map, take}
+use Rattle.robots_html.specs.Html.{escaped_byte}
 use Rattle.robots_html.proofs.write.push_text.Given as goal
 
-abbrev pub invariant-loop-out : goal.invariant-loop-out
-invariant-loop-out l = l.out.items ++ escaped l.rest ≡ l.fn.out.items ++ escaped l.text
-
-abbrev pub decreases-loop-out : goal.decreases-loop-out
-decreases-loop-out l = length l.rest
+abbrev pub invariant-loop-byte : goal.invariant-loop-byte
+invariant-loop-byte l = l.out.items ≡ l.fn.out.items ++ flat_map escaped_byte (take l.byte-index l.text)

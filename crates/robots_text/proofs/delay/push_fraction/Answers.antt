@@ -1,5 +1,5 @@
 use Rattle.std.proofs.Common.{arith}
-use Rattle.robots_text.proofs.DelayLemmas.{digit_added}
+use Rattle.robots_text.proofs.PartLemmas.{digit_added}
 use Rattle.robots_text.proofs.delay.push_fraction.Goals as goal
 
 pub loop-rest-preserved : goal.loop-rest-preserved

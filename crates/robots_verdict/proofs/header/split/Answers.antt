@@ -1,7 +1,7 @@
 use Rattle.std.proofs.Common.{rules}
 use Rattle.std.proofs.lemmas.List.{map-append}
-use Rattle.robots_verdict.proofs.InputLemmas.{goes_first, goes_more, no_bytes, no_split}
-use Rattle.robots_verdict.proofs.InputLemmas.{rest_shorter, some_bytes, some_url, split_found, url_allocated}
+use Rattle.robots_verdict.proofs.InputLemmas.{goes_first, goes_more, if_memory, no_bytes, no_split, not_empty}
+use Rattle.robots_verdict.proofs.InputLemmas.{rest_shorter, some_bytes, some_url, split_found}
 use Rattle.robots_verdict.proofs.header.split.Goals as goal
 
 pub loop-url-init : goal.loop-url-init
@@ -24,5 +24,8 @@ returns-clause-fault c =
     λ _. no_split _ _ _ _ _ c.in-Some.ensures c.loop-url.invariant c.in_default-first_line.ensures
 
 pub returns-in_err-push-clause-memory : goal.returns-in_err-push-clause-memory
-returns-in_err-push-clause-memory c = url_allocated _ _ _ _ c.in-Some.ensures (some_url _ _ _ _ _ _ _
-    c.in-Some.ensures c.loop-url.invariant c.in-Some-first_line.ensures (some_bytes _ (search rules)))
+returns-in_err-push-clause-memory c = if_memory _ (
+  not_empty _ _ _ c.in-Some.ensures,
+  some_url _ _ _ _ _ _ _
+      c.in-Some.ensures c.loop-url.invariant c.in-Some-first_line.ensures (some_bytes _ (search rules)),
+)

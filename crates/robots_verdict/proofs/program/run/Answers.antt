@@ -1,5 +1,7 @@
 use Rattle.std.proofs.Common.{Err, ap}
-use Rattle.robots_verdict.proofs.ReportLemmas.{run_beginning, run_fault, run_memory, run_ok, run_unread}
+use Rattle.std.specs.Io.KnownBytes.{Appends}
+use Rattle.robots_io.specs.Streams.{AppendsBeginning}
+use Rattle.robots_verdict.proofs.ReportLemmas.{run_fault, run_memory, run_unread, run_wrote}
 use Rattle.robots_verdict.proofs.program.run.Goals as goal
 
 pub returns-in_err-text-clause-no_empty_line : goal.returns-in_err-text-clause-no_empty_line
@@ -22,9 +24,10 @@ returns-in_err-text-clause-memory g c = run_memory _ _ _ c.from_residual-in_err-
     c.from_residual-in_err-text.ensures.1
 
 pub returns-clause-ok : goal.returns-clause-ok
-returns-clause-ok g c = run_ok _ _ _ _ _ _ _ c.in_ok-input.ensures.all c.deref.ensures.value
+returns-clause-ok g c = run_wrote _ (Appends _ _) _ _ _ _ c.in_ok-input.ensures.all c.deref.ensures.value
     c.in_ok-text.ensures.ok c.as_bytes.ensures.value c.in_ok-write_out.ensures.ok
 
 pub returns-in_err-write_out-clause-beginning : goal.returns-in_err-write_out-clause-beginning
-returns-in_err-write_out-clause-beginning g c = λ is. run_beginning _ _ _ _ _ _ _ c.in_ok-input.ensures.all
-    c.deref.ensures.value c.in_ok-text.ensures.ok c.as_bytes.ensures.value c.write_out.ensures.beginning
+returns-in_err-write_out-clause-beginning g c =
+    λ is. run_wrote _ (AppendsBeginning _ _) _ _ _ _ c.in_ok-input.ensures.all c.deref.ensures.value
+    c.in_ok-text.ensures.ok c.as_bytes.ensures.value c.write_out.ensures.beginning
