@@ -56,11 +56,14 @@ decimal_written n = plain_text (decimal n) (onto 64 n [] refl)
 -- the rest
 pub escaped_at : (text : List ℕ) (count : ℕ) → list_all is_plain (take count text) ≡ true
     → count < length text
-    → escaped text ≡ take count text ++ (escaped_byte (get_or text count 0) ++ escaped (drop (count + 1) text))
+    → escaped text
+    ≡ take count text ++ (escaped_byte (get_or text count 0) ++ escaped (drop (count + 1) text))
 escaped_at text count plain below =
     let byte = get_or text count 0 in
     let later = drop (count + 1) text in
-    ap escaped (sym (take-append-drop count text) ∙ ap (λ (b : List ℕ). take count text ++ b) (drop_more text count 0 below))
+    ap escaped
+    (sym (take-append-drop count text)
+    ∙ ap (λ (b : List ℕ). take count text ++ b) (drop_more text count 0 below))
     ∙ escaped-append (take count text) (byte ∷ later)
     ∙ rw (plain_text (take count text) plain, escaped-is (byte ∷ later), escaped-is later) refl
 
