@@ -1,21 +1,20 @@
 -- Sanitized texts don't contain the start of a command; nor do texts that are appended to each other, unless
 -- one ends and the next one begins with a part of it.
-use Rattle.std.proofs.Common.{◌≡◌, ◌≢◌, ℕ, zero, suc, ◌<◌, ◌/◌, ◌%◌, ◌==◌, Bool, true, false, List, [], ◌∷◌}
+use Rattle.std.proofs.Common.{◌≡◌, ◌≢◌, ℕ, zero, suc, ◌<◌, ◌==◌, Bool, true, false, List, [], ◌∷◌}
 use Rattle.std.proofs.Common.{◌++◌}
-use Rattle.std.proofs.Common.{append-nil, arith, decimal, flat_map, get_or, inl, inr, length, refl, replicate}
-use Rattle.std.proofs.Common.{sym, ◌∙◌}
-use Rattle.std.specs.Prelude.{encode_utf8, nat_eq, not, ◌&&◌, ◌||◌}
-use Rattle.std.specs.Fmt.{digit_glyph, digits, digits_onto}
+use Rattle.std.proofs.Common.{append-nil, arith, decimal, flat_map, inl, inr, refl, replicate}
+use Rattle.std.proofs.Common.{◌∙◌}
+use Rattle.std.specs.Prelude.{nat_eq, not, ◌&&◌, ◌||◌}
+use Rattle.std.specs.Fmt.{digit_glyph}
 use Rattle.std.specs.List.{list_all, starts_with}
 use Rattle.std.specs.Str.{chars, encode_utf8_all}
 use Rattle.std.proofs.lemmas.Bool.{and_cases, and_left, and_parts, and_right, cases_Bool, false≢true}
 use Rattle.std.proofs.lemmas.Bool.{not-true}
 use Rattle.std.proofs.lemmas.Bool.{or_from, or_parts, or_right}
 use Rattle.std.proofs.lemmas.Bool.Decides.{nat_tests}
-use Rattle.std.proofs.lemmas.List.Folds.{list_all-append}
-use Rattle.std.proofs.lemmas.Str.{inside_one}
 use Rattle.robots_io.specs.Sanitize.{begins_apart, command_start, ends_apart, has_command, is_front, is_other}
 use Rattle.robots_io.specs.Sanitize.{safe_in, sanitized_in, without_commands, without_hash}
+use Rattle.robots_io.proofs.SanitizeLemmas.{chars_pass, decimal_by}
 
 -- ---- sanitized texts
 
@@ -25,35 +24,22 @@ other_quiet (b ∷ text) are =
     let both = and_parts (is_other b) (list_all is_other text) are in
     rw (not-true (nat_eq 35 b) both.0) (other_quiet text both.1)
 
-each_other : (bytes : List ℕ) → ((k : ℕ) → k < length bytes → get_or bytes k 0 ≢ 35)
-    → list_all is_other bytes ≡ true
-each_other [] are = refl
-each_other (b ∷ bytes) are =
-    let first : is_other b ≡ true = grind (arith, nat_tests, are 0 (omega arith)) in
-    rw first (each_other bytes (λ k below. are (suc k) (omega arith)))
-
-char_other : (char : ℕ) → (char == 35) ≡ false → list_all is_other (encode_utf8 char) ≡ true
-char_other char isnt =
-    let bytes = encode_utf8 char in
-    each_other bytes (λ k below is.
-    let same : char ≡ get_or bytes k 0 =
-    inside_one char [] bytes k (sym (append-nil bytes)) below (omega (arith, is)) in
-    absurd (grind (arith, nat_tests)))
-
-chars_other : (cs : List ℕ) → list_all is_other (encode_utf8_all (flat_map without_hash cs)) ≡ true
-unfolding lib.Utf8.encode
-chars_other [] = refl
-chars_other (char ∷ cs) = elim (cases_Bool (char == 35)) [
-  | inl hash ↦ rw hash (chars_other cs)
-  | inr other ↦ rw (other, list_all-append, char_other char other) (chars_other cs)
+others_kept : (cs : List ℕ) → list_all is_other (flat_map without_hash cs) ≡ true
+others_kept [] = refl
+others_kept (char ∷ cs) = elim (cases_Bool (char == 35)) [
+  | inl hash ↦ rw hash (others_kept cs)
+  | inr other ↦
+      let is : is_other char ≡ true = grind (arith, nat_tests) in
+      rw (other, is) (others_kept cs)
 ]
 
 pub without_quiet : (text : List ℕ) → has_command (without_commands text) ≡ false
 unfolding without_commands
 without_quiet text = elim (cases_Bool (has_command text)) [
   | inl has ↦
-      let free = encode_utf8_all (flat_map without_hash (chars text)) in
-      rw has (other_quiet free (chars_other (chars text)))
+      let free = flat_map without_hash (chars text) in
+      let are = chars_pass is_other (λ byte high. grind (arith, nat_tests)) free (others_kept (chars text)) in
+      rw has (other_quiet (encode_utf8_all free) are)
   | inr lacks ↦ rw lacks lacks
 ]
 
@@ -189,28 +175,7 @@ digit_middle digit text below is =
     middle_append (digit_glyph false digit ∷ []) text (byte_middle (digit_glyph false digit) calm) is
 
 pub decimal_middle : (n : ℕ) → IsMiddle (decimal n)
-unfolding digits
-decimal_middle n = some 64 n (omega arith)
-  where
-    onto : (k n : ℕ) (text : List ℕ) → IsMiddle text → IsMiddle (digits_onto k 10 false n text)
-    onto zero n text is = is
-    onto (suc k) n text is =
-        let more : IsMiddle (digit_glyph false (n % 10) ∷ text) =
-        digit_middle (n % 10) text (omega arith) is.front in
-        elim (cases_Bool (n / 10 == 0)) [
-          | inl last ↦ rw last more
-          | inr other ↦ rw other (onto k (n / 10) (digit_glyph false (n % 10) ∷ text) more)
-        ]
-
-    some : (k n : ℕ) → 0 < k → IsMiddle (digits_onto k 10 false n [])
-    some zero n above = absurd (omega (arith, above))
-    some (suc k) n above =
-        let more : IsMiddle (digit_glyph false (n % 10) ∷ []) =
-        digit_middle (n % 10) [] (omega arith) front_nil in
-        elim (cases_Bool (n / 10 == 0)) [
-          | inl last ↦ rw last more
-          | inr other ↦ rw other (onto k (n / 10) (digit_glyph false (n % 10) ∷ []) more)
-        ]
+decimal_middle = decimal_by IsFront IsMiddle front_nil (λ text is. is.front) digit_middle
 
 -- ---- texts of which some bytes are escaped
 

@@ -1,20 +1,21 @@
 -- Sanitized bytes are printable, and printable bytes are unchanged by sanitizing.
-use Rattle.std.proofs.Common.{◌≡◌, ℕ, zero, suc, ◌<◌, ◌/◌, ◌%◌, ◌==◌, nat_lt, Bool}
+use Rattle.std.proofs.Common.{◌≡◌, ◌≤◌, ℕ, zero, suc, ◌<◌, ◌/◌, ◌%◌, ◌==◌, nat_lt, Bool}
 use Rattle.std.proofs.Common.{true, false, List, [], ◌∷◌, ◌++◌, Option, Some, None, ap}
-use Rattle.std.proofs.Common.{append_assoc, arith, decimal, drop, flat_map, inl, inr, length, length-append}
-use Rattle.std.proofs.Common.{refl, replicate, subst, take, ◌∙◌}
+use Rattle.std.proofs.Common.{append_assoc, arith, decimal, drop, flat_map, get_or, inl, inr, length, length-append}
+use Rattle.std.proofs.Common.{refl, replicate, subst, sym, take, ◌∙◌}
 use Rattle.std.specs.Bool.{IsTrue}
 use Rattle.std.specs.Char.{IsScalar, encode_utf8}
 use Rattle.std.specs.Fmt.{digit_glyph, digits, digits_onto}
 use Rattle.std.specs.List.{AllByRecursion as Each, list_all}
 use Rattle.std.specs.Str.{IsAscii, all_scalars, chars, encode_utf8_all}
-use Rattle.std.proofs.lemmas.Bool.{and_parts, cases_Bool}
+use Rattle.std.proofs.lemmas.Bool.{and_parts, cases_Bool, cases_lt}
 use Rattle.std.proofs.lemmas.Bool.Decides.{nat_tests}
-use Rattle.std.proofs.lemmas.List.{append-nil}
+use Rattle.std.proofs.lemmas.List.{append-nil, get_or_default}
 use Rattle.std.proofs.lemmas.List.Folds.{list_all-append}
 use Rattle.std.proofs.lemmas.Str.{IsUtf8-append, IsUtf8-from_ascii, IsUtf8-nil, chars-IsAscii}
 use Rattle.std.proofs.lemmas.Str.{chars-append, chars-encodes, chars-nil, encodes-chars, len_utf8_bounds}
-use Rattle.std.proofs.lemmas.Str.{length-encode, scalars-chars}
+use Rattle.std.proofs.lemmas.List.Sums.{list_all-from_AllPass}
+use Rattle.std.proofs.lemmas.Str.{inside_one, length-encode, scalars-chars}
 use Rattle.std.proofs.lemmas.Str.Ascii.{IsAscii-cons, IsAscii-nil}
 use Rattle.bstr.specs.Utf8.{Decoded, decoded, good, pieces_from}
 use Rattle.bstr.proofs.lemmas.EncodeLemmas.{decoded-encode}
@@ -27,6 +28,45 @@ use Rattle.robots_io.specs.Sanitize.{safe_chunk, safe_chunks, safe_in, sanitized
 use Rattle.robots_io.specs.Sanitize.{sanitized_lines}
 use Rattle.robots_io.specs.Sanitize.{without_commands, without_hash}
 use lib.Utf8.{scalar}
+
+-- ---- characters and numbers
+
+-- the bytes of a character that passes a test pass it too, if those of at least 128 do
+char_passes : (test : ℕ → Bool) → ((byte : ℕ) → 128 ≤ byte → test byte ≡ true) → (char : ℕ)
+    → test char ≡ true → list_all test (encode_utf8 char) ≡ true
+char_passes test high char is =
+    let bytes = encode_utf8 char in
+    list_all-from_AllPass test bytes (λ k d below. rw (get_or_default bytes k d 0 below)
+    (elim (cases_lt (get_or bytes k 0) 128) [
+      | inl low ↦ rw (← inside_one char [] bytes k (sym (append-nil bytes)) below low) is
+      | inr beyond ↦ high (get_or bytes k 0) beyond
+    ]))
+
+pub chars_pass : (test : ℕ → Bool) → ((byte : ℕ) → 128 ≤ byte → test byte ≡ true) → (cs : List ℕ)
+    → list_all test cs ≡ true → list_all test (encode_utf8_all cs) ≡ true
+chars_pass test high [] are = refl
+chars_pass test high (char ∷ cs) are =
+    let both = and_parts (test char) (list_all test cs) are in
+    rw (list_all-append, char_passes test high char both.0) (chars_pass test high cs both.1)
+
+-- a number is a digit, after which there may be others
+pub decimal_by : (P Q : List ℕ → Type 0) → P [] → ((text : List ℕ) → Q text → P text)
+    → ((digit : ℕ) (text : List ℕ) → digit < 10 → P text → Q (digit_glyph false digit ∷ text))
+    → (n : ℕ) → Q (decimal n)
+unfolding digits
+decimal_by P Q none weaker more n = onto 64 n [] (omega arith) none
+  where
+    onto : (k n : ℕ) (text : List ℕ) → 0 < k → P text → Q (digits_onto k 10 false n text)
+    onto zero n text some is = absurd (omega (arith, some))
+    onto (suc zero) n text some is =
+        let first = more (n % 10) text (omega arith) is in
+        elim (cases_Bool (n / 10 == 0)) [ inl last ↦ rw last first | inr other ↦ rw other first ]
+    onto (suc (suc k)) n text some is =
+        let first = more (n % 10) text (omega arith) is in
+        elim (cases_Bool (n / 10 == 0)) [
+          | inl last ↦ rw last first
+          | inr other ↦ rw other (onto (suc k) (n / 10) _ (omega arith) (weaker _ first))
+        ]
 
 module _ (has_lines : Bool) where
   -- ---- printable strings
@@ -83,19 +123,10 @@ module _ (has_lines : Bool) where
   glyph upper digit below = grind (arith, nat_tests)
 
   pub decimal_printable : (n : ℕ) → IsPrintableIn has_lines (decimal n)
-  unfolding digits
-  decimal_printable n = ascii_printable (decimal n) (onto 64 n [] refl)
-    where
-      onto : (k n : ℕ) (text : List ℕ) → IsTrue (list_all (is_printable_byte has_lines) text)
-          → IsTrue (list_all (is_printable_byte has_lines) (digits_onto k 10 false n text))
-      onto zero n text are = are
-      onto (suc k) n text are =
-          let more : IsTrue (list_all (is_printable_byte has_lines) (digit_glyph false (n % 10) ∷ text)) =
-          rw (glyph false (n % 10) (omega arith)) are in
-          elim (cases_Bool (n / 10 == 0)) [
-            | inl last ↦ rw last more
-            | inr other ↦ rw other (onto k (n / 10) (digit_glyph false (n % 10) ∷ text) more)
-          ]
+  decimal_printable n =
+      let are = λ (text : List ℕ). IsTrue (list_all (is_printable_byte has_lines) text) in
+      ascii_printable (decimal n) (decimal_by are are refl (λ text is. is)
+      (λ digit text below is. rw (glyph false digit (omega arith)) is) n)
 
   -- ---- sanitizing, one UTF-8 unit at a time
 

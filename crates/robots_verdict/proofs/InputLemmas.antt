@@ -251,11 +251,6 @@ some_bytes (b ∷ text) e = λ is. cc
 
 -- ---- UTF-8 strings
 
-pub each_pushed : (P : List ℕ → Type 0) (texts : List (List ℕ)) (text : List ℕ) → Each P texts
-    → P text → Each P (texts ++ text ∷ [])
-each_pushed P [] text each one = (one, tt)
-each_pushed P (t ∷ texts) text each one = (each.0, each_pushed P texts text each.1 one)
-
 each_at : (P : List ℕ → Type 0) (texts : List (List ℕ)) (k : ℕ) (text : List ℕ) → k < length texts
     → slice_index_or texts k text ≡ text → Each P texts → P text
 each_at P [] k text below is each = absurd (omega arith)

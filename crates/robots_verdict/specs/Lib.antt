@@ -2,3 +2,4 @@ pub mod Fault
 pub mod Input
 pub mod Report
 pub mod Internal
+pub mod Verdicts
