@@ -1,14 +1,14 @@
 -- Texts whose first byte after spaces isn't one with which a command begins, and to which others are
 -- appended.
-use Rattle.std.proofs.Common.{◌≡◌, ℕ, zero, suc, ◌/◌, ◌%◌, ◌<◌, ◌==◌, true, false, List, [], ◌∷◌, ◌++◌}
+use Rattle.std.proofs.Common.{◌≡◌, ℕ, zero, suc, ◌<◌, ◌==◌, true, false, List, [], ◌∷◌, ◌++◌}
 use Rattle.std.proofs.Common.{arith, decimal, inl, inr, refl, replicate}
 use Rattle.std.specs.Prelude.{not, ◌||◌}
-use Rattle.std.specs.Fmt.{digit_glyph, digits, digits_onto}
+use Rattle.std.specs.Fmt.{digit_glyph}
 use Rattle.std.specs.List.{AllByRecursion as Each}
 use Rattle.std.proofs.lemmas.Bool.{cases_Bool}
 use Rattle.std.proofs.lemmas.Bool.Decides.{nat_tests}
 use Rattle.robots_io.specs.Sanitize.{IsPrintable}
-use Rattle.robots_io.proofs.SanitizeLemmas.{line_printable}
+use Rattle.robots_io.proofs.SanitizeLemmas.{decimal_by, line_printable}
 use Rattle.robots_text.specs.PlainLine.{IsPlainLine, begins_plainly, starts}
 
 pub starts_plainly : (text : List ℕ) → starts text ≡ true → begins_plainly text ≡ true
@@ -38,27 +38,9 @@ starts_digit digit text below =
     rw visible plain
 
 pub starts_decimal : (n : ℕ) → starts (decimal n) ≡ true
-unfolding digits
-starts_decimal n = some 64 n (omega arith)
-  where
-    onto : (k n : ℕ) (text : List ℕ) → starts text ≡ true → starts (digits_onto k 10 false n text) ≡ true
-    onto zero n text is = is
-    onto (suc k) n text is =
-        let more : starts (digit_glyph false (n % 10) ∷ text) ≡ true =
-        starts_digit (n % 10) text (omega arith) in
-        elim (cases_Bool (n / 10 == 0)) [
-          | inl last ↦ rw last more
-          | inr other ↦ rw other (onto k (n / 10) (digit_glyph false (n % 10) ∷ text) more)
-        ]
-
-    some : (k n : ℕ) → 0 < k → starts (digits_onto k 10 false n []) ≡ true
-    some zero n above = absurd (omega (arith, above))
-    some (suc k) n above =
-        let more : starts (digit_glyph false (n % 10) ∷ []) ≡ true = starts_digit (n % 10) [] (omega arith) in
-        elim (cases_Bool (n / 10 == 0)) [
-          | inl last ↦ rw last more
-          | inr other ↦ rw other (onto k (n / 10) (digit_glyph false (n % 10) ∷ []) more)
-        ]
+starts_decimal =
+    decimal_by (λ text. true ≡ true) (λ text. starts text ≡ true) refl (λ text is. refl)
+    (λ digit text below is. starts_digit digit text below)
 
 -- ---- lines
 
