@@ -1,52 +1,9 @@
--- Verdicts on URLs, and how the programs print them.
-use Rattle.std.specs.Prelude.{◌≡◌, ℕ, Bool, true, false, List, [], ◌∷◌, ◌++◌}
-use Rattle.std.specs.Prelude.{Option, Some, None, codes, decimal}
-use Rattle.std.specs.List.{AllZip}
-use Rattle.texting_robots.specs.Callers.{IsDecidingLine, IsVerdict, PlacedRule, prepared, unplaced}
+-- The decision of rules on a match target.
+use Rattle.std.specs.Prelude.{List, ℕ}
+use Rattle.texting_robots.specs.Callers.{IsDecidingLine, IsVerdict, PlacedRule, unplaced}
 use Rattle.texting_robots.specs.declared.decision.Decision.{Decision}
-use Rattle.robots_io.specs.Lines.{ended}
-
--- ---- decisions
 
 -- the rules' verdict on the match target, and the number of the line that decides
 pub record IsDecisionOn (rules : List PlacedRule) (target : List ℕ) (decision : Decision) : Type 0 where
   pub verdict : IsVerdict (unplaced rules) target decision.allowed
   pub deciding : IsDecidingLine rules target decision.line
-
--- ---- a line
-
-abbrev pub verdict_word : Bool → List ℕ
-verdict_word true = codes "allow "
-verdict_word false = codes "deny "
-
--- the number of the deciding line, or `-` if there is none
-abbrev pub line_text : Option ℕ → List ℕ
-line_text None = codes "-"
-line_text (Some number) = decimal number
-
--- the part of the line that precedes the URL
-abbrev pub verdict_front : Bool → Option ℕ → List ℕ
-verdict_front allowed number = verdict_word allowed ++ line_text number ++ codes " "
-
--- the line with the decision of the rules on the URL; `sanitized` is how the program prints a URL
-pub record IsVerdictLine (sanitized : List ℕ → List ℕ) (rules : List PlacedRule) (url line : List ℕ)
-    : Type 0 where
-  pub decision : Decision
-  pub decided : IsDecisionOn rules (prepared url) decision
-  pub whole : line ≡ verdict_front decision.allowed decision.line ++ sanitized url
-
--- ---- lines appended to a text
-
--- a line with the decision of the rules on the URL is appended
-pub record AddsVerdict (sanitized : List ℕ → List ℕ) (rules : List PlacedRule) (url old new : List ℕ)
-    : Type 0 where
-  pub line : List ℕ
-  pub verdict : IsVerdictLine sanitized rules url line
-  pub whole : new ≡ old ++ ended (line ∷ [])
-
--- such a line is appended for each URL, in order
-pub record AddsVerdicts (sanitized : List ℕ → List ℕ) (rules : List PlacedRule) (urls : List (List ℕ))
-    (old new : List ℕ) : Type 0 where
-  pub lines : List (List ℕ)
-  pub verdicts : AllZip (IsVerdictLine sanitized rules) urls lines
-  pub whole : new ≡ old ++ ended lines

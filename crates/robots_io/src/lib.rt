@@ -6,4 +6,3 @@ pub mod fakes;
 pub mod lines;
 pub mod sanitize;
 pub mod streams;
-pub mod verdicts;

@@ -4,6 +4,7 @@
 use Rattle.std.specs.Prelude.{◌≡◌, ℕ, ◌-◌, ◌==◌, Bool, true, false, ◌&&◌, List, [], ◌++◌, codes, decimal}
 use Rattle.std.specs.Prelude.{flat_map, if◌then◌else◌, length, map, not, replicate}
 use Rattle.std.specs.List.{list_all}
+use Rattle.std.proofs.Common.{refl}
 use Rattle.std.specs.Str.{byte}
 use Rattle.robots_io.specs.Lines.{ended}
 use Rattle.robots_io.specs.Sanitize.{begins_apart, ends_apart, has_command}
@@ -11,7 +12,9 @@ use Rattle.robots_io.specs.Sanitize.{is_printable_byte, sanitized}
 use Rattle.robots_text.specs.Color.{shown_word}
 use Rattle.robots_text.specs.Delay.{delay_text}
 use Rattle.robots_text.specs.PlainLine.{starts}
+use Rattle.robots_text.specs.Level.{level_word}
 use Rattle.robots_text.specs.declared.level.Level.{Level}
+use Rattle.robots_text.specs.declared.level.Level.TheVariants.{Error, Note, Warning}
 
 -- ---- fixed texts
 
@@ -24,7 +27,15 @@ pub record Fixed : Type 0 where
   pub text : List ℕ
   pub safe : is_fixed text ≡ true
 
--- the same, and the text doesn't end with a byte of the start of a command, so that any text can follow
+pub level_safe : (level : Level) → is_fixed (level_word level) ≡ true
+level_safe Error = refl
+level_safe Warning = refl
+level_safe Note = refl
+
+abbrev pub fixed_level : Level → Fixed
+fixed_level level = record { text = level_word level; safe = level_safe level }
+
+-- a fixed text that doesn't end with a byte of the start of a command, so that any text can follow
 abbrev pub is_label : List ℕ → Bool
 is_label text = is_fixed text && ends_apart text
 

@@ -16,9 +16,9 @@ use Rattle.texting_robots.proofs.BestLemmas.{Either}
 use Rattle.robots_verdict.specs.declared.fault.Fault.{Fault}
 use Rattle.robots_verdict.specs.declared.fault.Fault.TheVariants.{HeaderNotUtf8, InvalidRule, NoEmptyLine}
 use Rattle.robots_io.specs.Lines.{ended, lf}
-use Rattle.robots_io.proofs.VerdictsLemmas.{some_lines}
+use Rattle.robots_verdict.proofs.VerdictsLemmas.{some_lines}
 use Rattle.robots_verdict.specs.Input.{BeginsWithLine, IsInput, IsOneLine, cr}
-use Rattle.robots_verdict.specs.Report.{IsReport, IsReportText, as_is, delay_line, sitemap_line}
+use Rattle.robots_verdict.specs.Report.{IsReport, IsReportText, delay_line, sitemap_line}
 use Rattle.robots_verdict.proofs.InputLemmas.{GoesOn, goes_first, goes_more, no_split, no_split_first}
 use Rattle.robots_verdict.proofs.InputLemmas.{rest_shorter, split_found}
 
@@ -107,7 +107,7 @@ text_of_report : (agent : List ℕ) (urls : List (List ℕ)) (file : List ℕ)
     → (text : List ℕ) × IsReportText agent urls file text
 text_of_report agent urls file =
     let lines = lines_read file in
-    let (verdict_lines, are) = some_lines as_is (placed_rules agent lines) urls in (
+    let (verdict_lines, are) = some_lines (placed_rules agent lines) urls in (
       ended (delay_line (delay_for agent lines) ∷ (map sitemap_line (sitemaps_in lines) ++ verdict_lines)),
       record { verdict_lines = verdict_lines; verdicts = are; whole = refl },
     )

@@ -1,3 +1,4 @@
 pub mod InputLemmas
 pub mod ReportLemmas
 pub mod ExistsLemmas
+pub mod VerdictsLemmas

@@ -13,11 +13,11 @@ use Rattle.robots_verdict.specs.declared.fault.Fault.TheVariants.{HeaderNotUtf8,
 use Rattle.robots_verdict.specs.declared.fault.Fault.TheVariants.{Memory, NoEmptyLine, Read, Write}
 use Rattle.robots_verdict.specs.Fault.{fault_of_read}
 use Rattle.robots_io.specs.Lines.{ended}
-use Rattle.robots_io.specs.Verdicts.{AddsVerdicts}
+use Rattle.robots_verdict.specs.Verdicts.{AddsVerdicts}
 use Rattle.robots_io.proofs.LinesLemmas.{ended-append, lines_added}
-use Rattle.robots_io.proofs.VerdictsLemmas.{lines_like, lines_once}
+use Rattle.robots_verdict.proofs.VerdictsLemmas.{lines_like, lines_once}
 use Rattle.robots_verdict.specs.Input.{AreUtf8, HoldNotUtf8, IsInput}
-use Rattle.robots_verdict.specs.Report.{HasFault, IsReport, IsReportText, as_is, delay_line, sitemap_line}
+use Rattle.robots_verdict.specs.Report.{HasFault, IsReport, IsReportText, delay_line, sitemap_line}
 use Rattle.robots_verdict.proofs.InputLemmas.{not_both, one_split}
 
 -- ---- the report
@@ -27,7 +27,7 @@ pub text_made : (agent : List ℕ) (urls : List (List ℕ)) (file one two text :
     (robot : RobotValue)
     → IsRobotOf agent (lines_read file) robot → one ≡ ended (delay_line robot.delay ∷ [])
     → two ≡ one ++ ended (map sitemap_line robot.sitemaps)
-    → AddsVerdicts as_is robot.rules urls two text → IsReportText agent urls file text
+    → AddsVerdicts robot.rules urls two text → IsReportText agent urls file text
 text_made agent urls file one two text robot is first second last =
     let lines = lines_read file in
     let delay : List (List ℕ) = delay_line (delay_for agent lines) ∷ [] in
@@ -36,7 +36,7 @@ text_made agent urls file one two text robot is first second last =
     let listed = (sitemaps_are_computed lines robot.sitemaps).0 is.sitemaps in
     record {
       verdict_lines = last.lines;
-      verdicts = lines_like as_is robot.rules (placed_rules agent lines)
+      verdicts = lines_like robot.rules (placed_rules agent lines)
           (answers_computed agent lines robot.rules is.rules) urls last.lines last.verdicts;
       whole = lines_added one two text sitemaps last.lines (rw listed at second) last.whole
           ∙ ap (λ t. t ++ ended (sitemaps ++ last.lines)) (rw delayed at first)
@@ -53,7 +53,7 @@ text_once agent urls file text other one two =
     one.whole
     ∙ ap (λ verdicts.
     ended (delay_line (delay_for agent lines) ∷ (map sitemap_line (sitemaps_in lines) ++ verdicts)))
-    (lines_once as_is (placed_rules agent lines) urls one.verdict_lines two.verdict_lines one.verdicts
+    (lines_once (placed_rules agent lines) urls one.verdict_lines two.verdict_lines one.verdicts
     two.verdicts)
     ∙ sym two.whole
 

@@ -7,7 +7,7 @@ use Rattle.texting_robots.specs.Callers.{IsFileRejected, delay_for, file_limit, 
 use Rattle.texting_robots.specs.Callers.{sitemaps_in}
 use Rattle.robots_io.specs.Streams.{AppendsBeginning}
 use Rattle.robots_io.specs.Lines.{ended}
-use Rattle.robots_io.specs.Verdicts.{IsVerdictLine}
+use Rattle.robots_verdict.specs.Verdicts.{IsVerdictLine}
 use Rattle.robots_verdict.specs.declared.fault.Fault.{Fault}
 use Rattle.robots_verdict.specs.declared.fault.Fault.TheVariants.{HeaderNotUtf8, InvalidRule}
 use Rattle.robots_verdict.specs.declared.fault.Fault.TheVariants.{Memory, NoEmptyLine, Read, Write}
@@ -22,15 +22,11 @@ delay_line (Some micros) = codes "delay " ++ decimal micros
 abbrev pub sitemap_line : List ℕ → List ℕ
 sitemap_line sitemap = codes "sitemap " ++ sitemap
 
--- the URL is printed unchanged
-abbrev pub as_is : List ℕ → List ℕ
-as_is url = url
-
 -- the text has a line with the crawler's delay, one for each sitemap of the file, and one with the verdict
 -- on each URL
 pub record IsReportText (agent : List ℕ) (urls : List (List ℕ)) (file text : List ℕ) : Type 0 where
   pub verdict_lines : List (List ℕ)
-  pub verdicts : AllZip (IsVerdictLine as_is (placed_rules agent (lines_read file))) urls verdict_lines
+  pub verdicts : AllZip (IsVerdictLine (placed_rules agent (lines_read file))) urls verdict_lines
   pub whole : text ≡ ended (delay_line (delay_for agent (lines_read file))
       ∷ (map sitemap_line (sitemaps_in (lines_read file)) ++ verdict_lines))
 

@@ -14,6 +14,7 @@ mod program;
 mod report;
 #[cfg(test)]
 mod tests;
+mod verdicts;
 
 use ending::exit_of;
 use program::run;

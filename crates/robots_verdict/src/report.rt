@@ -1,14 +1,14 @@
 //! The report on an input.
 ghost use Rattle.std.specs.Prelude.{◌≡◌, ◌≢◌, ◌++◌, ◌∷◌, [], IfErr, IfOk, OnOk, Ok, map, string_bytes};
 ghost use Rattle.robots_io.specs.Lines.{ended};
-ghost use Rattle.robots_io.specs.Verdicts.{AddsVerdict, AddsVerdicts};
-ghost use Rattle.robots_verdict.specs.Report.{HasFault, IsReport, as_is, delay_line, sitemap_line};
+ghost use Rattle.robots_verdict.specs.Verdicts.{AddsVerdict, AddsVerdicts};
+ghost use Rattle.robots_verdict.specs.Report.{HasFault, IsReport, delay_line, sitemap_line};
 
 use crate::fault::Fault;
 use crate::header::read_header;
+use crate::verdicts::{counted_decision_on, push_decision};
 use itoa::Buffer;
 use robots_io::lines::push_line;
-use robots_io::verdicts::{counted_decision_on, push_decision};
 use std::alloc::{AllocError, Global};
 use texting_robots::{Error, Robot};
 
@@ -36,7 +36,7 @@ fn push_sitemaps(text: &mut String, sitemaps: &[String]) -> Result<(), AllocErro
 
 /// Appends the line with the robot's verdict on a URL.
 fn push_verdict(alloc: Global, text: &mut String, robot: &Robot, url: &str) -> Result<(), Error>
-    ensures ok { OnOk result (AddsVerdict as_is robot.now.rules url.now (string_bytes text.old) (string_bytes text.new)) }
+    ensures ok { OnOk result (AddsVerdict robot.now.rules url.now (string_bytes text.old) (string_bytes text.new)) }
     ensures memory { IfErr result (λ error. error ≡ Error.Memory) }
 {
     let decision = counted_decision_on(alloc, robot, url)?;
@@ -51,7 +51,7 @@ fn push_verdicts(
     robot: &Robot,
     urls: &[&str],
 ) -> Result<(), Error>
-    ensures ok { OnOk result (AddsVerdicts as_is robot.now.rules
+    ensures ok { OnOk result (AddsVerdicts robot.now.rules
         (map (λ url. url.now) urls.now) (string_bytes text.old) (string_bytes text.new)) }
     ensures memory { IfErr result (λ error. error ≡ Error.Memory) }
 {

@@ -11,25 +11,26 @@ use Rattle.texting_robots.specs.declared.decision.Decision.{Decision}
 use Rattle.texting_robots.proofs.BestLemmas.{each_text_answered}
 use Rattle.texting_robots.proofs.VerdictLemmas.{one_line_decides, one_verdict}
 use Rattle.robots_io.specs.Lines.{ended}
-use Rattle.robots_io.specs.Verdicts.{AddsVerdict, AddsVerdicts, IsDecisionOn, IsVerdictLine, verdict_front}
+use Rattle.robots_io.specs.Verdicts.{IsDecisionOn}
+use Rattle.robots_verdict.specs.Verdicts.{AddsVerdict, AddsVerdicts, IsVerdictLine, verdict_front}
 use Rattle.robots_io.proofs.LinesLemmas.{lines_added}
 
-module _ (sanitized : List ℕ → List ℕ) (rules : List PlacedRule) where
+module _ (rules : List PlacedRule) where
   -- ---- appending verdict lines
 
-  pub adds_nothing : (text : List ℕ) → AddsVerdicts sanitized rules [] text text
+  pub adds_nothing : (text : List ℕ) → AddsVerdicts rules [] text text
   adds_nothing text = record { lines = []; verdicts = tt; whole = sym (append-nil text) }
 
   -- appending the front of the line (the verdict and the line number), then the URL and LF, appends a verdict
   -- line
   pub adds_one : (decision : Decision) (url old mid new : List ℕ) → IsDecisionOn rules (prepared url) decision
       → mid ≡ old ++ verdict_front decision.allowed decision.line
-      → new ≡ mid ++ ended (sanitized url ∷ [])
-      → AddsVerdict sanitized rules url old new
+      → new ≡ mid ++ ended (url ∷ [])
+      → AddsVerdict rules url old new
   adds_one decision url old mid new decided front back =
       let before = verdict_front decision.allowed decision.line in
       record {
-        line = before ++ sanitized url;
+        line = before ++ url;
         verdict = record { decision = decision; decided = decided; whole = refl };
         whole = rw (back, front) (simp (append_assoc, append-nil));
       }
@@ -37,21 +38,21 @@ module _ (sanitized : List ℕ → List ℕ) (rules : List PlacedRule) where
   -- loop step for the next URL of a list
   pub adds_next : {A : Type 0} (f : A → List ℕ) (items : List A) (place : ℕ) (item : A)
       (old mid new : List ℕ)
-      → place < length items → AddsVerdicts sanitized rules (map f (take place items)) old mid
-      → AddsVerdict sanitized rules (f (slice_index_or items place item)) mid new
-      → AddsVerdicts sanitized rules (map f (take (place + 1) items)) old new
+      → place < length items → AddsVerdicts rules (map f (take place items)) old mid
+      → AddsVerdict rules (f (slice_index_or items place item)) mid new
+      → AddsVerdicts rules (map f (take (place + 1) items)) old new
   adds_next f items place item old mid new below first then = record {
     lines = first.lines ++ then.line ∷ [];
     verdicts = rw (take_more items place item below, map-append)
-        (AllZip-push (IsVerdictLine sanitized rules) (map f (take place items)) first.lines
+        (AllZip-push (IsVerdictLine rules) (map f (take place items)) first.lines
         (f (slice_index_or items place item)) then.line first.verdicts then.verdict);
     whole = lines_added old mid new first.lines (then.line ∷ []) first.whole then.whole;
   }
 
   -- ---- uniqueness
 
-  line_once : (url line other : List ℕ) → IsVerdictLine sanitized rules url line
-      → IsVerdictLine sanitized rules url other → line ≡ other
+  line_once : (url line other : List ℕ) → IsVerdictLine rules url line
+      → IsVerdictLine rules url other → line ≡ other
   line_once url line other one two =
       let a = one.decided in
       let b = two.decided in
@@ -60,11 +61,11 @@ module _ (sanitized : List ℕ → List ℕ) (rules : List PlacedRule) where
       one_verdict (unplaced rules) text one.decision.allowed two.decision.allowed a.verdict b.verdict in
       let numbers =
       one_line_decides rules text one.decision.line two.decision.line a.deciding b.deciding in
-      one.whole ∙ ap (λ allowed. verdict_front allowed one.decision.line ++ sanitized url) answers
-      ∙ ap (λ number. verdict_front two.decision.allowed number ++ sanitized url) numbers ∙ sym two.whole
+      one.whole ∙ ap (λ allowed. verdict_front allowed one.decision.line ++ url) answers
+      ∙ ap (λ number. verdict_front two.decision.allowed number ++ url) numbers ∙ sym two.whole
 
-  pub lines_once : (urls lines others : List (List ℕ)) → AllZip (IsVerdictLine sanitized rules) urls lines
-      → AllZip (IsVerdictLine sanitized rules) urls others → lines ≡ others
+  pub lines_once : (urls lines others : List (List ℕ)) → AllZip (IsVerdictLine rules) urls lines
+      → AllZip (IsVerdictLine rules) urls others → lines ≡ others
   lines_once [] [] [] one two = refl
   lines_once [] [] (other ∷ others) one two = absurd two
   lines_once [] (line ∷ lines) others one two = absurd one
@@ -77,13 +78,13 @@ module _ (sanitized : List ℕ → List ℕ) (rules : List PlacedRule) where
 
   -- every URL has a verdict line
   pub some_lines : (urls : List (List ℕ))
-      → (lines : List (List ℕ)) × AllZip (IsVerdictLine sanitized rules) urls lines
+      → (lines : List (List ℕ)) × AllZip (IsVerdictLine rules) urls lines
   some_lines [] = ([], tt)
   some_lines (url ∷ urls) =
       let answered = each_text_answered rules (prepared url) in
       let decision : Decision = record { allowed = answered.allowed; line = answered.number } in
       let (lines, are) = some_lines urls in (
-        (verdict_front answered.allowed answered.number ++ sanitized url) ∷ lines,
+        (verdict_front answered.allowed answered.number ++ url) ∷ lines,
         (
           record {
             decision = decision;
@@ -96,13 +97,13 @@ module _ (sanitized : List ℕ → List ℕ) (rules : List PlacedRule) where
 
 -- ---- rules that decide alike
 
-pub lines_like : (sanitized : List ℕ → List ℕ) (rules others : List PlacedRule) → AnswerAlike rules others
-    → (urls lines : List (List ℕ)) → AllZip (IsVerdictLine sanitized rules) urls lines
-    → AllZip (IsVerdictLine sanitized others) urls lines
-lines_like sanitized rules others alike [] [] are = tt
-lines_like sanitized rules others alike [] (line ∷ lines) are = absurd are
-lines_like sanitized rules others alike (url ∷ urls) [] are = absurd are
-lines_like sanitized rules others alike (url ∷ urls) (line ∷ lines) (first, later) = (
+pub lines_like : (rules others : List PlacedRule) → AnswerAlike rules others
+    → (urls lines : List (List ℕ)) → AllZip (IsVerdictLine rules) urls lines
+    → AllZip (IsVerdictLine others) urls lines
+lines_like rules others alike [] [] are = tt
+lines_like rules others alike [] (line ∷ lines) are = absurd are
+lines_like rules others alike (url ∷ urls) [] are = absurd are
+lines_like rules others alike (url ∷ urls) (line ∷ lines) (first, later) = (
   record {
     decision = first.decision;
     decided = record {
@@ -111,5 +112,5 @@ lines_like sanitized rules others alike (url ∷ urls) (line ∷ lines) (first, 
     };
     whole = first.whole;
   },
-  lines_like sanitized rules others alike urls lines later,
+  lines_like rules others alike urls lines later,
 )

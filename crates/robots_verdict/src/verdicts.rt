@@ -1,10 +1,10 @@
-//! Verdicts on URLs, and how the programs print them.
+//! Verdicts on URLs, and how they are printed.
 ghost use Rattle.std.specs.Prelude.{◌≡◌, ◌++◌, IfErr, IfOk, OnOk, string_bytes};
-ghost use Rattle.std.specs.Io.{StartsWith};
 ghost use Rattle.texting_robots.specs.Callers.{prepared};
-ghost use Rattle.robots_io.specs.Verdicts.{IsDecisionOn, line_text, verdict_front, verdict_word};
+ghost use Rattle.robots_io.specs.Verdicts.{IsDecisionOn};
+ghost use Rattle.robots_verdict.specs.Verdicts.{line_text, verdict_front, verdict_word};
 
-use crate::lines::push_number;
+use robots_io::lines::push_number;
 use std::alloc::{AllocError, Global};
 use texting_robots::robot::Decision;
 use texting_robots::view::View;
@@ -16,7 +16,11 @@ use texting_robots::{Error, Robot};
 /// # Errors
 ///
 /// `Error::Memory` if an allocation fails or the URL is too long for `url`.
-pub fn counted_decision_on(alloc: Global, robot: &Robot, url: &str) -> Result<Decision, Error>
+pub(crate) fn counted_decision_on(
+    alloc: Global,
+    robot: &Robot,
+    url: &str,
+) -> Result<Decision, Error>
     ensures ok { IfOk result (IsDecisionOn robot.now.rules (prepared url.now)) }
     ensures memory { IfErr result (λ error. error ≡ Error.Memory) }
 {
@@ -34,7 +38,6 @@ fn verdict_word(allowed: bool) -> &'static str
 /// Appends the number of the deciding line, or `-` if there is none.
 fn push_line_number(text: &mut String, line: Option<usize>) -> Result<(), AllocError>
     ensures added { OnOk result (string_bytes text.new ≡ string_bytes text.old ++ line_text line) }
-    ensures kept { StartsWith (string_bytes text.new) (string_bytes text.old) }
 {
     match line {
         Some(number) => push_number(text, number),
@@ -42,12 +45,10 @@ fn push_line_number(text: &mut String, line: Option<usize>) -> Result<(), AllocE
     }
 }
 
-/// Appends the part of a verdict's line that precedes the URL. If an allocation fails, the text may
-/// end with the start of that part.
-pub fn push_decision(text: &mut String, decision: &Decision) -> Result<(), AllocError>
+/// Appends the part of a verdict's line that precedes the URL.
+pub(crate) fn push_decision(text: &mut String, decision: &Decision) -> Result<(), AllocError>
     ensures added { OnOk result (string_bytes text.new ≡ string_bytes text.old
         ++ verdict_front decision.now.allowed decision.now.line) }
-    ensures kept { StartsWith (string_bytes text.new) (string_bytes text.old) }
 {
     text.push_str(verdict_word(decision.allowed))?;
     push_line_number(text, decision.line)?;
