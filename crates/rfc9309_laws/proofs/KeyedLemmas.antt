@@ -432,14 +432,16 @@ module _ (kind : Kind) (value read text : List ℕ) (line : rfc.IsKeyed (word_of
         nl = eol.nl;
         whole =
             line.whole
-            ∙ ap (λ e. line.margin ++ (line.key ++ (line.blanks ++ (codes ":" ++ (line.gap ++ (value ++ e))))))
+            ∙ ap
+            (λ e. line.margin ++ (line.key ++ (line.blanks ++ (codes ":" ++ (line.gap ++ (value ++ e))))))
             eol.whole
             ∙ simp append_assoc;
         is_nl = eol.is_nl;
         again = λ end is_nl. has (body ++ end) (again end is_nl);
         tested = passes body keyed_passes value_is;
         bare =
-            named_key.bare (each_append IsBare region eol.comment (values_bare region are_values) comment.bare);
+            named_key.bare
+            (each_append IsBare region eol.comment (values_bare region are_values) comment.bare);
         low = named_key.low;
         sourced =
             ap (λ (source : Source). filter is_not_raw (source ∷ [])) source;

@@ -243,12 +243,14 @@ disallow_line (b ∷ pattern) text rule =
 pub rule_line : (member : rfc.Member) (text : List ℕ) → rfc.IsRule member text ⊎ rfc.IsStarRule member text
     → MemberRead Rule member text
 rule_line (rfc.Allow pattern) text (inl is) =
-    allow_line pattern text (plain_rule (codes "allow") pattern text (rfc.Allow pattern) (λ other line. line) is)
+    allow_line pattern text
+    (plain_rule (codes "allow") pattern text (rfc.Allow pattern) (λ other line. line) is)
 rule_line (rfc.Allow pattern) text (inr (is, line)) =
     allow_line pattern text
     (star_rule (codes "allow") pattern text (rfc.Allow pattern) (λ other line. (is, line)) is line)
 rule_line (rfc.Disallow pattern) text (inl is) =
-    disallow_line pattern text (plain_rule (codes "disallow") pattern text (rfc.Disallow pattern) (λ other line. line) is)
+    disallow_line pattern text
+    (plain_rule (codes "disallow") pattern text (rfc.Disallow pattern) (λ other line. line) is)
 rule_line (rfc.Disallow pattern) text (inr (is, line)) =
     disallow_line pattern text
     (star_rule (codes "disallow") pattern text (rfc.Disallow pattern) (λ other line. (is, line)) is line)
