@@ -1,5 +1,5 @@
 -- URLs in one text, each with the place where it ends: what a loop over these places keeps.
-use Rattle.std.proofs.Common.{◌≡◌, ◌<◌, ◌≤◌, ◌+◌, ◌-◌, ◌∙◌, ℕ, ℤ, List, [], ◌∷◌, ◌++◌, IsUtf8, ap, append-nil}
+use Rattle.std.proofs.Common.{◌≡◌, ◌<◌, ◌+◌, ◌-◌, ◌∙◌, ℕ, ℤ, List, [], ◌∷◌, ◌++◌, IsUtf8, ap, append-nil}
 use Rattle.std.proofs.Common.{arith, drop, length, refl, slice_index_or, subst, sym, take}
 use Rattle.std.specs.List.{All, AllZip}
 use Rattle.std.proofs.lemmas.List.{append_assoc, drop_more}

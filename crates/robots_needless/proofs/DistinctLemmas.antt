@@ -1,5 +1,5 @@
 -- Which rules are left without those in some lines.
-use Rattle.std.proofs.Common.{◌≡◌, ◌≢◌, ◌↔◌, inl, inr, ℕ, zero, suc, ◌==◌, Bool, true, List, [], ◌∷◌, ◌++◌}
+use Rattle.std.proofs.Common.{◌≡◌, ◌↔◌, inl, inr, ℕ, zero, suc, ◌==◌, Bool, true, List, [], ◌∷◌, ◌++◌}
 use Rattle.std.proofs.Common.{IsPermutation, ap, sym, refl, ◌∙◌, arith, get_or, map, subst, length}
 use Rattle.std.proofs.Common.{length-append, false, ◌+◌}
 use Rattle.std.specs.List.{Contains, filter, list_any}
