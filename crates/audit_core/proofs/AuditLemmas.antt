@@ -1,9 +1,9 @@
 -- How an audit is built.
-use Rattle.std.proofs.Common.{◌≡◌, ℕ, List, [], ◌∷◌, ◌++◌, ◌+◌, ◌<◌, ◌||◌}
-use Rattle.std.proofs.Common.{ap, ◌&&◌, drop, length, ◌∙◌, None, Option, is_some, map, refl, slice_index_or}
+use Rattle.std.proofs.Common.{◌≡◌, ℕ, List, [], ◌∷◌, ◌++◌, ◌+◌, ◌<◌}
+use Rattle.std.proofs.Common.{ap, length, ◌∙◌, None, Option, map, refl, slice_index_or}
 use Rattle.std.proofs.Common.{take}
 use Rattle.std.specs.List.{AllZip, enumerate_from}
-use Rattle.std.proofs.lemmas.List.{drop_more, map-append, take_more}
+use Rattle.std.proofs.lemmas.List.{map-append, take_more}
 use Rattle.texting_robots.specs.declared.labels.LabeledLine.{LabeledLine}
 use Rattle.texting_robots.specs.Callers.{AnswerAlike, HasLines, IsDelayFor, IsRobotOfFile, LineValue}
 use Rattle.texting_robots.specs.Callers.{PlacedRule}
@@ -16,9 +16,7 @@ use Rattle.texting_robots.proofs.MainTheoremLemmas.{answers_computed, lines_are_
 use Rattle.robots_warnings.specs.File.{lines_of, labels_for}
 use Rattle.audit_core.specs.Asked.{asked_target}
 use Rattle.audit_core.specs.Audit.{AgentValue, IsAgentAudit, IsRuling, IsVerdictOn, VerdictValue}
-use Rattle.audit_core.specs.Audit.{agents_requested, all_allowed, allows_all, group_of, rejects_some}
-use Rattle.audit_core.specs.Syntax.{has_syntax_warning, is_about_syntax}
-use Rattle.robots_warnings.specs.WarningValue.{WarningValue}
+use Rattle.audit_core.specs.Audit.{agents_requested, group_of}
 
 -- one more item, and the result for it
 pub zip_push : {B V : Type 0} (R : B → V → Type 0) (items : List B) (found : List V) (item : B) (next : V)
@@ -37,32 +35,6 @@ pub zip_next : {A B V : Type 0} (R : B → V → Type 0) (f : A → B) (items : 
 zip_next R f items place item found next below are is =
     rw (take_more items place item below, map-append)
     (zip_push R (map f (take place items)) found (f (slice_index_or items place item)) next are is)
-
--- whether all verdicts allow from index `at` on, in terms of the verdict there
-pub allows_next : (verdicts : List VerdictValue) (at : ℕ) (verdict : VerdictValue) → at < length verdicts
-    → allows_all (drop at verdicts)
-    ≡ ((slice_index_or verdicts at verdict).decision.allowed
-    && allows_all (drop (at + 1) verdicts))
-allows_next verdicts at verdict below = rw (drop_more verdicts at verdict below) refl
-
--- whether a warning is about syntax from index `at` on, in terms of the warning there
-pub syntax_next : (warnings : List WarningValue) (at : ℕ) (warning : WarningValue) → at < length warnings
-    → has_syntax_warning (drop at warnings)
-    ≡ (is_about_syntax (slice_index_or warnings at warning).cause
-    || has_syntax_warning (drop (at + 1) warnings))
-syntax_next warnings at warning below = rw (drop_more warnings at warning below) refl
-
-pub rejects_next : (agents : List AgentValue) (at : ℕ) (agent : AgentValue) → at < length agents
-    → rejects_some (drop at agents)
-    ≡ (is_some (slice_index_or agents at agent).rejected || rejects_some
-    (drop (at + 1) agents))
-rejects_next agents at agent below = rw (drop_more agents at agent below) refl
-
-pub allowed_next : (agents : List AgentValue) (at : ℕ) (agent : AgentValue) → at < length agents
-    → all_allowed (drop at agents)
-    ≡ (allows_all (slice_index_or agents at agent).verdicts
-    && all_allowed (drop (at + 1) agents))
-allowed_next agents at agent below = rw (drop_more agents at agent below) refl
 
 lines_from : (name : List ℕ) (all lines : List LineValue) (n : ℕ)
     → lines_of (map (label_at name all) (enumerate_from n lines)) ≡ lines

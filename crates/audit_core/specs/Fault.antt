@@ -21,6 +21,10 @@ use Rattle.audit_core.specs.declared.fault.Flaw.TheVariants as flaw
 
 -- ---- messages
 
+abbrev other_path : List ℕ
+other_path =
+    codes "URL has a . or .. segment or a #, which crawlers resolve or drop; write the path that they ask for"
+
 -- what is wrong with a line of the file of `--expect` or `--urls`, or with a crawler's name or a URL in
 -- arguments
 abbrev pub flaw_value : Flaw → Value
@@ -29,9 +33,7 @@ flaw_value flaw.NotUtf8 = word (codes "the line isn't valid UTF-8") refl
 flaw_value flaw.Agent = word (codes "AGENT isn't a product token without a version, such as Googlebot") refl
 flaw_value flaw.Url =
     word (codes "URL is neither a path that starts with / nor a valid http:// or https:// URL") refl
-flaw_value flaw.Path = word
-    (codes "URL has a . or .. segment or a #, which crawlers resolve or drop; write the path that they ask for")
-    refl
+flaw_value flaw.Path = word other_path refl
 
 abbrev pub flaw_text : Flaw → List ℕ
 flaw_text which = value_text (flaw_value which)

@@ -1,5 +1,5 @@
 -- The warnings about rules that can be deleted.
-use Rattle.std.specs.Prelude.{Option, Some, None}
+use Rattle.std.specs.Prelude.{ℕ, Option, Some, None}
 use Rattle.robots_needless.specs.declared.needless.NeedlessRule.{NeedlessRule}
 use Rattle.robots_needless.specs.declared.needless.Reason.{Reason}
 use Rattle.robots_needless.specs.declared.needless.Reason.TheVariants as reasons
@@ -9,25 +9,16 @@ use Rattle.robots_warnings.specs.declared.warning.Detail.{Detail}
 use Rattle.robots_warnings.specs.declared.warning.Detail.TheVariants.{Line}
 use Rattle.robots_warnings.specs.WarningValue.{WarningValue}
 
--- which warning a rule has that is needless for this reason
-abbrev pub cause_of : Reason → Cause
-cause_of reasons.MatchesNothing = causes.MatchesNothing
-cause_of reasons.AllowedAnyway = causes.AllowedAnyway
-cause_of (reasons.NeverDecides line) = causes.NeverDecides
-cause_of (reasons.NotNeeded line) = causes.NotNeeded
+-- the warning about a rule in this line; `other` is the line of the rule that matches everything that it does
+abbrev about_line : ℕ → Cause → Option Detail → WarningValue
+about_line line cause other = record { line = Some line; cause = cause; about = None; detail = other }
 
--- the line of the other rule that matches everything that the rule matches
-abbrev pub detail_of : Reason → Option Detail
-detail_of reasons.MatchesNothing = None
-detail_of reasons.AllowedAnyway = None
-detail_of (reasons.NeverDecides line) = Some (Line line)
-detail_of (reasons.NotNeeded line) = Some (Line line)
+-- the warning about a rule that can be deleted for this reason
+abbrev for_reason : ℕ → Reason → WarningValue
+for_reason line reasons.MatchesNothing = about_line line causes.MatchesNothing None
+for_reason line reasons.AllowedAnyway = about_line line causes.AllowedAnyway None
+for_reason line (reasons.NeverDecides other) = about_line line causes.NeverDecides (Some (Line other))
+for_reason line (reasons.NotNeeded other) = about_line line causes.NotNeeded (Some (Line other))
 
--- the warning about a rule that can be deleted
 abbrev pub needless_warning : NeedlessRule → WarningValue
-needless_warning rule = record {
-  line = Some rule.line;
-  cause = cause_of rule.reason;
-  about = None;
-  detail = detail_of rule.reason;
-}
+needless_warning rule = for_reason rule.line rule.reason

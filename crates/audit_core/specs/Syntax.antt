@@ -18,21 +18,14 @@ is_about_syntax cause = not (is_not_about_syntax cause)
 abbrev pub has_syntax_warning : List WarningValue → Bool
 has_syntax_warning warnings = list_any (λ (warning : WarningValue). is_about_syntax warning.cause) warnings
 
-abbrev pub are_none : List WarningValue → Bool
-are_none warnings = length warnings == 0
-
--- nothing is stated about the syntax: not for a single crawler, since the rules of other groups aren't
--- checked; not if the file is larger than the size limit, since the rest isn't read; not if the file is
--- rejected for a crawler, as that would look like a file without faults; and not if a warning is about syntax
-abbrev pub is_unstated : Option (List ℕ) → (is_too_large is_rejected : Bool) → List WarningValue → Bool
-is_unstated agent is_too_large is_rejected warnings =
-    ((is_some agent || is_too_large) || is_rejected) || has_syntax_warning warnings
-
--- what all warnings about a file, reported or not, tell about its syntax
+-- what all warnings about a file, reported or not, tell about its syntax; nothing is stated for a single
+-- crawler, since the rules of other groups aren't checked; nor if the file is larger than the size limit,
+-- since the rest isn't read; nor if it is rejected for a crawler, as that would look like a file without
+-- faults; nor if a warning is about syntax
 abbrev pub syntax_of : Option (List ℕ) → (is_too_large is_rejected : Bool) → List WarningValue → Syntax
 syntax_of agent is_too_large is_rejected warnings =
-    if is_unstated agent is_too_large is_rejected warnings then Unstated
-    else if are_none warnings then StandardWithoutWarnings else Standard
+    if ((is_some agent || is_too_large) || is_rejected) || has_syntax_warning warnings then Unstated
+    else if length warnings == 0 then StandardWithoutWarnings else Standard
 
 -- the file is stated to have the syntax of RFC 9309
 abbrev pub is_standard : Syntax → Bool

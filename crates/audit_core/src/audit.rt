@@ -6,7 +6,6 @@ ghost use Rattle.texting_robots.specs.Group.{is_agent};
 ghost use Rattle.audit_core.specs.Request.{requested_by};
 ghost use Rattle.audit_core.specs.Audit.{IsAgentAudit, IsAuditOf, IsVerdictOn, agents_requested, all_allowed, allows_all, labeling_agent};
 ghost use Rattle.audit_core.specs.Audit.{rejects_some};
-ghost use Rattle.audit_core.specs.Chosen.{chosen};
 ghost use Rattle.audit_core.specs.Needless.{needless_warning};
 ghost use Rattle.robots_warnings.specs.File.{lines_of, labels_for};
 ghost use Rattle.robots_warnings.specs.Warnings.{warnings};
@@ -14,7 +13,7 @@ ghost use Rattle.audit_core.specs.Internal.{IsReading};
 
 use crate::agents::agents_requested;
 use crate::asked::decision_on;
-use crate::chosen::chosen;
+use crate::chosen::choose;
 use crate::fault::Fault;
 use crate::group::{Group, group_of};
 use crate::needless::{add_needless, needless_rules};
@@ -201,16 +200,6 @@ pub fn labeling_agent<'a>(agent: Option<&'a str>) -> &'a str
     }
 }
 
-/// Whether the report isn't about a single crawler, so that the rules of all groups are checked.
-fn covers_all_groups(agent: Option<&str>) -> bool
-    ensures { result ≡ is_none (option_map (λ agent. agent.now) agent.entry) }
-{
-    match agent {
-        Some(_) => false,
-        None => true,
-    }
-}
-
 /// All warnings about the file and the request, and then those about these needless rules. `facts` and `labels` are
 /// those of this file.
 fn warnings_of<'a>(
@@ -228,7 +217,7 @@ fn warnings_of<'a>(
         (map string_bytes agents.now) (requested_by request.now).urls file.now facts (map label_by_value labels.now)
         (file_lines site.now) ++ map needless_warning needless.now) }
 {
-    let everywhere = covers_all_groups(request.agent);
+    let everywhere = request.agent.is_none();
     let (named, urls) = (&request.agents, &request.urls);
     let read = FileRead {
         bytes: file,
@@ -239,18 +228,6 @@ fn warnings_of<'a>(
     let mut found = warnings(alloc, everywhere, named, agents, urls, &read)?;
     add_needless(&mut found, needless)?;
     Ok(found)
-}
-
-/// The warnings that the request doesn't exclude.
-fn warnings_chosen<'a>(
-    alloc: Global,
-    request: &Request<'a>,
-    all: &[Warning<'a>],
-) -> Result<Vec<Warning<'a>>, AllocError>
-    ensures { IfOk result (λ found. found.items
-        ≡ chosen (requested_by request.now).only (requested_by request.now).ignored all.now) }
-{
-    chosen(alloc, &request.only, &request.ignored, all)
 }
 
 /// Audits a file for the crawlers and URLs of the request.
@@ -269,12 +246,12 @@ pub fn audit_of<'a, 'b>(
     let has_agents = facts.kinds.user_agent;
     let agents = agent_audits(alloc, &names, file, &site, has_agents, &request.urls)?;
     let needless = needless_rules(alloc, request.has_needless, facts.is_too_large, &site)?;
-    let all = warnings_of(
+    let mut warnings = warnings_of(
         alloc, request, &names, file, facts, &labels, &site, &needless,
     )?;
-    let warnings = warnings_chosen(alloc, request, &all)?;
     let is_rejected = rejects_some(&agents);
-    let syntax = syntax_of(request.agent, facts.is_too_large, is_rejected, &all);
+    let syntax = syntax_of(request.agent, facts.is_too_large, is_rejected, &warnings);
+    choose(&request.only, &request.ignored, &mut warnings);
     Ok(Audit {
         labels,
         agents,
@@ -284,40 +261,22 @@ pub fn audit_of<'a, 'b>(
 }
 
 /// Whether all of these verdicts are "allowed".
-#[tactic(auto, using(crate::proofs::AuditLemmas::allows_next))]
 fn allows_all(verdicts: &[Verdict<'_>]) -> bool
     ensures { result ≡ allows_all verdicts.now }
 {
-    for verdict in verdicts {
-        if !verdict.decision.allowed {
-            return false;
-        }
-    }
-    true
+    verdicts.iter().all(|verdict| verdict.decision.allowed)
 }
 
 /// Whether each of these crawlers may fetch all of its URLs.
-#[tactic(auto, using(crate::proofs::AuditLemmas::allowed_next))]
 pub fn all_allowed(agents: &[AgentAudit<'_>]) -> bool
     ensures { result ≡ all_allowed agents.now }
 {
-    for agent in agents {
-        if !allows_all(&agent.verdicts) {
-            return false;
-        }
-    }
-    true
+    agents.iter().all(|agent| allows_all(&agent.verdicts))
 }
 
 /// Whether the file is rejected for at least one of these crawlers.
-#[tactic(auto, using(crate::proofs::AuditLemmas::rejects_next))]
 pub fn rejects_some(agents: &[AgentAudit<'_>]) -> bool
     ensures { result ≡ rejects_some agents.now }
 {
-    for agent in agents {
-        if agent.rejected.is_some() {
-            return true;
-        }
-    }
-    false
+    agents.iter().any(|agent| agent.rejected.is_some())
 }

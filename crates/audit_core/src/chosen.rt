@@ -1,9 +1,8 @@
 //! Which warnings are reported, chosen by name.
-ghost use Rattle.std.specs.Prelude.{◌≡◌, IfOk, map};
+ghost use Rattle.std.specs.Prelude.{◌≡◌, map};
 ghost use Rattle.audit_core.specs.Chosen.{chosen, is_among_names, is_chosen};
 
 use robots_warnings::warning::Warning;
-use std::alloc::{AllocError, Global};
 
 /// Whether the name is in the list.
 fn is_among_names(names: &[&str], name: &str) -> bool
@@ -25,23 +24,10 @@ fn is_chosen(only: &[&str], ignored: &[&str], name: &str) -> bool
     (only.is_empty() || is_among_names(only, name)) && !is_among_names(ignored, name)
 }
 
-/// The warnings that are reported, in order: those named in `only`, or all if it is empty, without those named in
-/// `ignored`.
-pub(crate) fn chosen<'a>(
-    alloc: Global,
-    only: &[&str],
-    ignored: &[&str],
-    warnings: &[Warning<'a>],
-) -> Result<Vec<Warning<'a>>, AllocError>
-    ensures { IfOk result (λ found. found.items
-        ≡ chosen (map (λ name. name.now) only.now) (map (λ name. name.now) ignored.now)
-        warnings.now) }
+/// Keeps the warnings that are reported.
+pub(crate) fn choose(only: &[&str], ignored: &[&str], warnings: &mut Vec<Warning<'_>>)
+    ensures { warnings.new.items
+        ≡ chosen (map (λ name. name.now) only.now) (map (λ name. name.now) ignored.now) warnings.old.items }
 {
-    let mut found = Vec::new(alloc);
-    for warning in warnings {
-        if is_chosen(only, ignored, warning.cause.name()) {
-            found.push(warning.copy())?;
-        }
-    }
-    Ok(found)
+    warnings.retain(|warning| is_chosen(only, ignored, warning.cause.name()));
 }

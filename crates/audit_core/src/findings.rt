@@ -1,9 +1,9 @@
 //! What an audit found, as one list, for formats that don't distinguish verdicts and warnings.
-ghost use Rattle.std.specs.Prelude.{◌≡◌, ◌++◌, ◌∷◌, [], IfOk, OnOk, flat_map, map, string_bytes};
+ghost use Rattle.std.specs.Prelude.{◌≡◌, ◌++◌, IfOk, OnOk, flat_map, map, string_bytes};
 ghost use Rattle.robots_io.specs.Sanitize.{sanitized};
 ghost use Rattle.robots_text.specs.Raw.{raw_line};
 ghost use Rattle.robots_text.specs.Text.{parts_text};
-ghost use Rattle.audit_core.specs.Findings.{agent_findings, denials, denied, denied_parts, finding_in_part, findings, found_value, is_in_part, rejections, warning_finding, warning_findings};
+ghost use Rattle.audit_core.specs.Findings.{agent_findings, denials, denied, denied_parts, finding_in_part, findings, found_value, rejections, warning_findings};
 ghost use Rattle.audit_core.specs.Findings.{finding_value};
 
 use crate::audit::{AgentAudit, Audit, Verdict};
@@ -141,30 +141,7 @@ fn add_agents(
     Ok(())
 }
 
-/// Adds a warning.
-fn add_warning(alloc: Global, found: &mut Findings, warning: &Warning<'_>) -> Result<(), AllocError>
-    ensures { OnOk result (map finding_value found.new.items
-        ≡ map finding_value found.old.items ++ map found_value (warning_finding warning.now ∷ [])) }
-{
-    let mut message = String::new(alloc);
-    push_warning_text(&mut message, warning)?;
-    Ok(found.push(Finding {
-        level: warning.cause.level(),
-        line: warning.line,
-        name: warning.cause.name(),
-        message,
-    })?)
-}
-
-/// Whether a warning is in the part with the errors, or in the one with the others.
-fn is_in_part(errors: bool, warning: &Warning<'_>) -> bool
-    ensures { result ≡ is_in_part errors warning.now }
-{
-    let is_error = warning.cause.level().reaches(Level::Error);
-    if errors { is_error } else { !is_error }
-}
-
-/// Adds a warning if it is in this part.
+/// Adds a warning if it is in the part with the errors, or else if it is in the one with the others.
 fn add_in_part(
     alloc: Global,
     found: &mut Findings,
@@ -174,10 +151,18 @@ fn add_in_part(
     ensures { OnOk result (map finding_value found.new.items
         ≡ map finding_value found.old.items ++ map found_value (finding_in_part errors warning.now)) }
 {
-    if is_in_part(errors, warning) {
-        add_warning(alloc, found, warning)?;
+    let level = warning.cause.level();
+    if level.reaches(Level::Error) != errors {
+        return Ok(());
     }
-    Ok(())
+    let mut message = String::new(alloc);
+    push_warning_text(&mut message, warning)?;
+    Ok(found.push(Finding {
+        level,
+        line: warning.line,
+        name: warning.cause.name(),
+        message,
+    })?)
 }
 
 /// Adds the warnings that are errors, or the others.

@@ -2,7 +2,7 @@
 ghost use Rattle.std.specs.Prelude.{◌≡◌, ◌∷◌, [], IfOk, OnOk, false, map, true};
 ghost use Rattle.robots_needless.specs.Deleted.{AreFoundIn};
 ghost use Rattle.robots_warnings.specs.Internal.{Adds};
-ghost use Rattle.audit_core.specs.Needless.{cause_of, detail_of, needless_warning};
+ghost use Rattle.audit_core.specs.Needless.{needless_warning};
 
 use robots_needless::lines::needless_lines;
 use robots_needless::needless::{NeedlessRule, Reason};
@@ -11,37 +11,21 @@ use robots_warnings::warning::{Detail, Warning};
 use std::alloc::{AllocError, Global};
 use texting_robots::Site;
 
-/// Which warning a rule has that is needless for this reason.
-fn cause_of(reason: Reason) -> Cause
-    ensures { result ≡ cause_of reason }
-{
-    match reason {
-        Reason::MatchesNothing => Cause::MatchesNothing,
-        Reason::AllowedAnyway => Cause::AllowedAnyway,
-        Reason::NeverDecides(_) => Cause::NeverDecides,
-        Reason::NotNeeded(_) => Cause::NotNeeded,
-    }
-}
-
-/// The line of the other rule that matches everything that the rule matches.
-fn detail_of(reason: Reason) -> Option<Detail>
-    ensures { result ≡ detail_of reason }
-{
-    match reason {
-        Reason::MatchesNothing | Reason::AllowedAnyway => None,
-        Reason::NeverDecides(line) | Reason::NotNeeded(line) => Some(Detail::Line(line)),
-    }
-}
-
 /// Appends the warning about a rule that can be deleted.
 fn add_rule(found: &mut Vec<Warning<'_>>, rule: NeedlessRule) -> Result<(), AllocError>
     ensures { OnOk result (Adds found.old.items found.new.items (needless_warning rule ∷ [])) }
 {
+    let (cause, other) = match rule.reason {
+        Reason::MatchesNothing => (Cause::MatchesNothing, None),
+        Reason::AllowedAnyway => (Cause::AllowedAnyway, None),
+        Reason::NeverDecides(line) => (Cause::NeverDecides, Some(Detail::Line(line))),
+        Reason::NotNeeded(line) => (Cause::NotNeeded, Some(Detail::Line(line))),
+    };
     Ok(found.push(Warning {
         line: Some(rule.line),
-        cause: cause_of(rule.reason),
+        cause,
         about: None,
-        detail: detail_of(rule.reason),
+        detail: other,
     })?)
 }
 

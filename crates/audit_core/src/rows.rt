@@ -2,8 +2,9 @@
 ghost use Rattle.std.specs.Prelude.{◌≡◌, ◌++◌, ◌∷◌, [], OnOk, decimal, length, map};
 ghost use Rattle.std.specs.Prelude.{string_bytes};
 ghost use Rattle.texting_robots.specs.Callers.{by_value, label_by_value};
+ghost use Rattle.robots_text.specs.Raw.{raw_value};
 ghost use Rattle.robots_text.specs.Text.{Aligned, blanks, part_text, value_text, written};
-ghost use Rattle.audit_core.specs.Rows.{has_value, kind_part, kind_text, line_value_text, mark_of, membership_word};
+ghost use Rattle.audit_core.specs.Rows.{has_value, kind_part, kind_text, line_value, line_value_text, mark_of, membership_word};
 ghost use Rattle.audit_core.specs.Rows.{row, rows};
 
 use itoa::Buffer;
@@ -79,6 +80,21 @@ pub fn has_value(line: Line<'_>) -> bool
     }
 }
 
+/// The value of a line: a delay in seconds, any other value sanitized.
+pub fn line_value<'a>(line: Line<'a>) -> Value<'a>
+    ensures { raw_value result ≡ value_text (line_value (by_value line.entry)) }
+{
+    match line {
+        Line::UserAgent(value)
+        | Line::Allow(value)
+        | Line::Disallow(value)
+        | Line::Sitemap(value)
+        | Line::Raw(value) => Value::Untrusted(value),
+        Line::CrawlDelay(Some(micros)) => Value::Delay(micros),
+        Line::CrawlDelay(None) => Value::Nothing,
+    }
+}
+
 /// Appends the value of a line: a delay in seconds, any other value sanitized.
 pub fn push_value(text: &mut String, line: Line<'_>) -> Result<(), AllocError>
     ensures { OnOk result (string_bytes text.new ≡ string_bytes text.old ++ line_value_text (by_value line.entry)) }
@@ -103,7 +119,7 @@ fn push_kind(text: &mut String, line: Line<'_>) -> Result<(), AllocError>
     text.push_str(word)?;
     if has_value(line) {
         push_blanks(text, WORD_WIDTH.saturating_sub(word.len()))?;
-        push_value(text, line)?;
+        push_parts(text, &[Part("", line_value(line))])?;
     }
     Ok(())
 }

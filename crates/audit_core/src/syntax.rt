@@ -1,8 +1,7 @@
 //! What the warnings tell about the syntax of a file.
-ghost use Rattle.std.specs.Prelude.{◌≡◌, map, option_map};
-ghost use Rattle.audit_core.specs.Syntax.{are_none, has_syntax_warning, is_about_syntax, is_standard, is_unstated, sentence, syntax_of};
+ghost use Rattle.std.specs.Prelude.{◌≡◌, option_map};
+ghost use Rattle.audit_core.specs.Syntax.{has_syntax_warning, is_standard, sentence, syntax_of};
 
-use robots_warnings::table::Cause;
 use robots_warnings::warning::Warning;
 
 /// What all warnings about a file, reported or not, tell about its syntax. That it is the standard's is the
@@ -40,45 +39,14 @@ impl Syntax {
     }
 }
 
-/// Whether a warning is about syntax.
-#[tactic(auto, unfolding(crate::specs::Syntax::is_about_syntax))]
-fn is_about_syntax(cause: Cause) -> bool
-    ensures { result ≡ is_about_syntax cause }
-{
-    !cause.is_not_about_syntax()
-}
-
 /// Whether one of the warnings is about syntax.
-#[tactic(auto, using(crate::proofs::AuditLemmas::syntax_next))]
+#[tactic(auto, unfolding(crate::specs::Syntax::is_about_syntax))]
 fn has_syntax_warning(warnings: &[Warning<'_>]) -> bool
     ensures { result ≡ has_syntax_warning warnings.now }
 {
-    for warning in warnings {
-        if is_about_syntax(warning.cause) {
-            return true;
-        }
-    }
-    false
-}
-
-/// Whether nothing is stated about the syntax.
-fn is_unstated(
-    agent: Option<&str>,
-    is_too_large: bool,
-    is_rejected: bool,
-    warnings: &[Warning<'_>],
-) -> bool
-    ensures { result ≡ is_unstated (option_map (λ agent. agent.now) agent.entry) is_too_large is_rejected
-        warnings.now }
-{
-    agent.is_some() || is_too_large || is_rejected || has_syntax_warning(warnings)
-}
-
-/// Whether there are no warnings.
-fn are_none(warnings: &[Warning<'_>]) -> bool
-    ensures { result ≡ are_none warnings.now }
-{
-    warnings.is_empty()
+    warnings
+        .iter()
+        .any(|warning| !warning.cause.is_not_about_syntax())
 }
 
 /// What these warnings tell, which are all about a file and a request, reported or not; `is_rejected` is whether the file
@@ -92,9 +60,9 @@ pub(crate) fn syntax_of(
     ensures { result ≡ syntax_of (option_map (λ agent. agent.now) agent.entry) is_too_large is_rejected
         warnings.now }
 {
-    if is_unstated(agent, is_too_large, is_rejected, warnings) {
+    if agent.is_some() || is_too_large || is_rejected || has_syntax_warning(warnings) {
         Syntax::Unstated
-    } else if are_none(warnings) {
+    } else if warnings.is_empty() {
         Syntax::StandardWithoutWarnings
     } else {
         Syntax::Standard

@@ -87,25 +87,6 @@ fn judgment_on(
     }
 }
 
-/// What a file says about a URL for a crawler.
-fn judgment_for(
-    alloc: Global,
-    agent: &str,
-    url: &str,
-    file: &[u8],
-    site: &Site,
-    marks: &[bool],
-) -> Result<Judgment, Fault>
-    requires site { site.now ≡ take file_limit file.now }
-    requires marks { marks.now ≡ marks_of (bodies_read file.now) }
-    ensures ok { IfOk result (IsJudgmentOn file.now agent.now url.now) }
-    ensures fault { IfErr result (λ fault. fault ≡ Fault.Memory) }
-{
-    let reading = read_for(alloc, agent, file, site)?;
-    let judgment = judgment_on(alloc, agent, url, &reading, file, site, marks)?;
-    Ok(judgment)
-}
-
 /// What Google's documentation changes for a crawler and a URL.
 fn at_google(
     alloc: Global,
@@ -121,7 +102,8 @@ fn at_google(
     ensures fault { IfErr result (λ fault. fault ≡ Fault.Memory) }
 {
     if gets_googlebots(site, agent) {
-        let judgment = judgment_for(alloc, "Googlebot", url, file, site, marks)?;
+        let reading = read_for(alloc, "Googlebot", file, site)?;
+        let judgment = judgment_on(alloc, "Googlebot", url, &reading, file, site, marks)?;
         return Ok(AtGoogle::Googlebot(judgment));
     }
     if gets_nobodys(site, agent) {

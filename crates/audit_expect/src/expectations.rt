@@ -10,7 +10,7 @@ ghost use Rattle.audit_core.specs.Asked.{asked_target};
 ghost use Rattle.audit_core.specs.Internal.{IsReading};
 ghost use Rattle.audit_expect.specs.declared.checks.Judgment.TheVariants.{Decided};
 ghost use Rattle.audit_expect.specs.Expect.{IsEntryFault, expectations_in as specified_in};
-ghost use Rattle.audit_expect.specs.Expectations.{IsAnswer, IsPlain, decides, decision_parts, demand, judgment_parts, front_parts, google_parts, googlebot_parts, holding, nobody_parts, reason_parts, rejected_parts, unmatched};
+ghost use Rattle.audit_expect.specs.Expectations.{IsAnswer, IsPlain, decision_parts, demand, judgment_parts, front_parts, google_parts, googlebot_parts, holding, nobody_parts, reason_parts, rejected_parts, unmatched};
 ghost use Rattle.audit_expect.specs.Internal.Expect.{expectation_value};
 ghost use Rattle.audit_expect.specs.Internal.Expectations.{AreFailuresOn, IsReadFor, checked_value, failures_at};
 
@@ -83,13 +83,6 @@ fn failure_front<'a>(name: &'a str, expectation: &Expectation<'a>) -> [Part<'a>;
     ]
 }
 
-/// How a line decides.
-fn decides(allowed: bool) -> &'static str
-    ensures { result.now ≡ part_text (decides allowed) }
-{
-    if allowed { " allows it" } else { " denies it" }
-}
-
 /// Why a URL is allowed that no line decides.
 fn unmatched(alloc: Global, url: &str) -> Result<&'static str, Fault>
     ensures ok { IfOk result (λ text. text.now ≡ part_text (unmatched (bytes_eq (asked_target url.now) robots_file))) }
@@ -118,8 +111,13 @@ fn push_decision(
     text.push_str(front)?;
     match decision.line {
         Some(line) => {
-            let how = Part(decides(decision.allowed), Value::Nothing);
-            push_parts(text, &[Part("line ", Value::Number(line)), how])?;
+            let how = if decision.allowed {
+                " allows it"
+            } else {
+                " denies it"
+            };
+            let decides = Part(how, Value::Nothing);
+            push_parts(text, &[Part("line ", Value::Number(line)), decides])?;
         }
         None => text.push_str(unmatched(alloc, url)?)?,
     }

@@ -1,5 +1,5 @@
 //! The URLs in the file of `--urls`, one per line, and those in arguments.
-ghost use Rattle.std.specs.Prelude.{◌≡◌, ◌==◌, IfErr, IfOk, None, Ok, OnOk, Some, false, length, map, option_map};
+ghost use Rattle.std.specs.Prelude.{◌≡◌, ◌==◌, IfErr, IfOk, None, Ok, OnOk, false, length, map, option_map};
 ghost use Rattle.std.specs.Result.{result_err};
 ghost use Rattle.audit_core.specs.Request.{requested_by};
 ghost use Rattle.audit_core.specs.declared.fault.Entry.TheVariants as entry;
@@ -97,17 +97,6 @@ pub fn with_urls<'a>(
     Ok(extended)
 }
 
-/// The error for a URL that is neither a path nor an http(s) URL that can be parsed; `Fault::Memory` if an allocation
-/// fails.
-fn malformed_url(alloc: Global, url: &str) -> Fault
-    ensures { IsUrlFault (Some url.now) result }
-{
-    match String::from_str(alloc, url) {
-        Ok(text) => Fault::Argument(text, Flaw::Url),
-        Err(AllocError) => Fault::Memory,
-    }
-}
-
 /// Fails with the first of these URLs that is neither a path nor an http(s) URL that can be parsed.
 ///
 /// # Errors
@@ -119,7 +108,7 @@ pub fn are_paths_or_urls(alloc: Global, urls: &[&str]) -> Result<(), Fault>
 {
     for url in urls {
         if !is_path_or_url(alloc, url.as_bytes())? {
-            return Err(malformed_url(alloc, url));
+            return Err(Fault::Argument(String::from_str(alloc, url)?, Flaw::Url));
         }
     }
     Ok(())

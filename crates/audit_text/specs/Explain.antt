@@ -5,7 +5,7 @@ use Rattle.std.proofs.Common.{refl}
 use Rattle.robots_io.specs.Lines.{lf}
 use Rattle.robots_text.specs.Level.{level_word}
 use Rattle.robots_text.specs.PlainLine.{starts}
-use Rattle.robots_text.specs.Text.{Only, Part, ReportLine, Word, label, line_from, written}
+use Rattle.robots_text.specs.Text.{Only, Part, ReportLine, Word, fixed_level, label, line_from, written}
 use Rattle.robots_text.specs.declared.level.Level.{Level}
 use Rattle.robots_text.specs.declared.level.Level.TheVariants.{Error, Note, Warning}
 use Rattle.robots_warnings.specs.declared.table.Cause.{Cause}
@@ -16,7 +16,6 @@ use Rattle.audit_core.specs.Fault.{IsUnknown}
 use Rattle.audit_core.specs.declared.answer.Answer.{Answer}
 use Rattle.audit_core.specs.declared.fault.Fault.{Fault}
 use Rattle.audit_core.specs.declared.fault.Fault.TheVariants.{Memory}
-use Rattle.audit_text.specs.Report.{fixed_level}
 
 -- ---- texts
 

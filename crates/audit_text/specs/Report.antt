@@ -2,13 +2,10 @@
 use Rattle.std.specs.Prelude.{◌≡◌, ℕ, Bool, true, false, List, [], ◌∷◌, ◌++◌, Option, Some, None, codes}
 use Rattle.std.specs.Prelude.{flat_map, if◌then◌else◌, map}
 use Rattle.std.proofs.Common.{refl}
-use Rattle.robots_text.specs.Level.{level_word}
 use Rattle.robots_text.specs.PlainLine.{starts}
-use Rattle.robots_text.specs.Text.{Absent, Count, Fixed, Label, LevelLine, NamedLine, Number, Part}
-use Rattle.robots_text.specs.Text.{PartValue, ReportLine, Untrusted, Value, Word, is_fixed, label, level_text}
-use Rattle.robots_text.specs.Text.{line_from, named_text, only, word}
-use Rattle.robots_text.specs.declared.level.Level.{Level}
-use Rattle.robots_text.specs.declared.level.Level.TheVariants.{Error, Note, Warning}
+use Rattle.robots_text.specs.Text.{Absent, Count, Label, LevelLine, NamedLine, Number, Part}
+use Rattle.robots_text.specs.Text.{PartValue, ReportLine, Untrusted, Value, Word, label, level_text}
+use Rattle.robots_text.specs.Text.{fixed_level, line_from, named_text, only, word}
 use Rattle.robots_warnings.specs.Message.{fixed_name, reported_parts}
 use Rattle.robots_warnings.specs.Table.{level_of}
 use Rattle.robots_warnings.specs.WarningValue.{WarningValue}
@@ -80,14 +77,6 @@ line_about file warning parts = record {
 -- a warning about the file with this name
 abbrev pub shown_warning : List ℕ → WarningValue → LevelLine
 shown_warning file warning = line_about file warning (reported_parts warning)
-
-pub level_safe : (level : Level) → is_fixed (level_word level) ≡ true
-level_safe Error = refl
-level_safe Warning = refl
-level_safe Note = refl
-
-abbrev pub fixed_level : Level → Fixed
-fixed_level level = record { text = level_word level; safe = level_safe level }
 
 -- how many more warnings have this level and name, as in `robots.txt: warning: and 42 more
 -- [unrecognized-line]`

@@ -1,14 +1,14 @@
 //! The list of all warnings, and the explanation of one.
-ghost use Rattle.std.specs.Prelude.{◌≡◌, ◌++◌, ◌∷◌, [], IfErr, IfOk, OnOk, flat_map, string_bytes, true};
+ghost use Rattle.std.specs.Prelude.{◌≡◌, ◌++◌, IfErr, IfOk, OnOk, true};
 ghost use Rattle.audit_core.specs.Answer.{IsText};
 ghost use Rattle.robots_text.specs.Raw.{raw_line};
-ghost use Rattle.robots_text.specs.Text.{line_text, written};
-ghost use Rattle.robots_warnings.specs.Table.{example_of, is_name};
+ghost use Rattle.robots_text.specs.Text.{line_text};
+ghost use Rattle.robots_warnings.specs.Table.{is_name};
 ghost use Rattle.audit_text.specs.Explain.{IsUnexplained, MayAnswer, example_lines, explained_if_named, explanation};
 ghost use Rattle.audit_text.specs.Explain.{indented, indented_byte, list_line, list_text};
 
 use audit_core::answer::{Answer, text_answer};
-use audit_core::fault::{Fault, unknown};
+use audit_core::fault::Fault;
 use robots_text::parts::{Part, Value, push_line_of};
 use robots_warnings::table::{Cause, causes, is_name};
 use std::alloc::{AllocError, Global};
@@ -68,15 +68,6 @@ fn push_example(text: &mut Vec<u8>, cause: Cause) -> Result<(), AllocError>
     text.extend_from_slice(b"\n")
 }
 
-/// Appends the line about a warning.
-fn push_listed(alloc: Global, text: &mut Vec<u8>, cause: Cause) -> Result<(), AllocError>
-    ensures { OnOk result (text.new.items ≡ text.old.items ++ written (list_line cause ∷ [])) }
-{
-    let mut line = String::new(alloc);
-    push_line_of(&mut line, &list_line(cause))?;
-    text.extend_from_slice(line.as_bytes())
-}
-
 /// Appends the line about a warning and an example, if the warning has this name.
 fn push_if_named(
     alloc: Global,
@@ -89,7 +80,9 @@ fn push_if_named(
     if cause.name() != name {
         return Ok(());
     }
-    push_listed(alloc, text, cause)?;
+    let mut line = String::new(alloc);
+    push_line_of(&mut line, &list_line(cause))?;
+    text.extend_from_slice(line.as_bytes())?;
     push_example(text, cause)
 }
 
@@ -122,7 +115,7 @@ pub fn explain(alloc: Global, name: &str) -> Result<Answer, Fault>
     ensures fault { IfErr result (IsUnexplained name.now) }
 {
     if !is_name(name) {
-        return Err(unknown(alloc, name));
+        return Err(Fault::UnknownWarning(String::from_str(alloc, name)?));
     }
     Ok(text_answer(alloc, explanation(alloc, name)?))
 }

@@ -4,8 +4,8 @@ ghost use Rattle.robots_io.specs.Lines.{ended};
 ghost use Rattle.robots_text.specs.Raw.{raw_line, raw_text, raw_value};
 ghost use Rattle.robots_text.specs.Text.{level_text, line_text, named_text, part_text, value_text, written};
 ghost use Rattle.audit_core.specs.Syntax.{syntax_lines};
-ghost use Rattle.audit_text.specs.Report.{agent_lines, deciding, delay_line, line_about, listed_lines, more_line};
-ghost use Rattle.audit_text.specs.Report.{numbers_line, place_part, report_lines, shown_warning, verdict_label};
+ghost use Rattle.audit_text.specs.Report.{agent_lines, deciding, line_about, listed_lines, more_line};
+ghost use Rattle.audit_text.specs.Report.{numbers_line, place_part, report_lines, shown_warning};
 ghost use Rattle.audit_text.specs.Report.{verdict_line};
 
 use crate::denied::Totals;
@@ -19,20 +19,6 @@ use robots_text::level::shown_word;
 use robots_text::parts::{Part, Value, push_line_of, push_parts};
 use robots_warnings::warning::{Warning, push_reported};
 use std::alloc::{AllocError, Global};
-
-/// Appends the line with a crawler's delay.
-fn push_delay(text: &mut String, delay: Option<u64>) -> Result<(), AllocError>
-    ensures { OnOk result (string_bytes text.new ≡ string_bytes text.old ++ written (delay_line delay ∷ [])) }
-{
-    push_line_of(text, &[Part("delay: ", delay_value(delay))])
-}
-
-/// Whether a URL is allowed.
-fn verdict_label(is_allowed: bool) -> &'static str
-    ensures { result.now ≡ (verdict_label is_allowed).text }
-{
-    if is_allowed { "allow " } else { "deny " }
-}
 
 /// The line that decides.
 fn deciding(line: Option<usize>) -> Value<'static>
@@ -50,7 +36,11 @@ fn verdict_line<'a>(verdict: &Verdict<'a>) -> [Part<'a>; 2]
 {
     [
         Part(
-            verdict_label(verdict.decision.allowed),
+            if verdict.decision.allowed {
+                "allow "
+            } else {
+                "deny "
+            },
             deciding(verdict.decision.line),
         ),
         Part(" ", Value::Untrusted(verdict.url.as_bytes())),
@@ -74,7 +64,7 @@ fn push_agent(text: &mut String, agent: &AgentAudit<'_>) -> Result<(), AllocErro
         ++ written (agent_lines agent.now)) }
 {
     push_group(text, &agent.agent, agent.group)?;
-    push_delay(text, agent.delay)?;
+    push_line_of(text, &[Part("delay: ", delay_value(agent.delay))])?;
     push_rejected(text, &agent.agent, agent.rejected)?;
     push_verdicts(text, &agent.verdicts)
 }

@@ -31,7 +31,7 @@ returns-clause-ok c =
       c.in_ok-labels.ensures,
       c.labeling_agent.ensures,
       c.in_ok-site.ensures,
-    ) at c.in_ok-all.ensures in
+    ) at c.in_ok-warnings.ensures in
     record {
       needless = c.in_ok-needless.needless.items;
       needless_are = rw c.in_ok-site.ensures at c.in_ok-needless.ensures.found;
@@ -40,11 +40,11 @@ returns-clause-ok c =
           (ap (λ facts. facts.is_too_large) c.facts_of-facts.ensures ∙ large);
       labels_are = rw c.labeling_agent.ensures at c.in_ok-labels.ensures;
       agents_are = rw (c.deref-4.ensures.value, names, c.deref-5.ensures.value) at c.in_ok-agents.ensures.ok;
-      warnings_are = rw (c.deref-9.ensures.value, all) at c.in_ok-warnings.ensures;
+      warnings_are = rw (c.deref-11.ensures.value, c.deref-12.ensures.value, all) at c.choose.ensures;
       syntax_is = rw (
         c.rejects_some-is_rejected.ensures,
+        c.deref-9.ensures.value,
         c.deref-10.ensures.value,
-        c.deref-11.ensures.value,
         all,
         c.facts_of-facts.ensures,
       ) at c.syntax_of-syntax.ensures;

@@ -7,4 +7,5 @@ use Rattle.audit_core.proofs.rows.push_rows.Given as goal
 abbrev pub invariant-loop-labeled : goal.invariant-loop-labeled
 invariant-loop-labeled l =
     string_bytes l.text
-    ≡ string_bytes l.fn.text ++ written (map (row l.width) (map label_by_value (take l.labeled-index l.labels)))
+    ≡ string_bytes l.fn.text
+    ++ written (map (row l.width) (map label_by_value (take l.labeled-index l.labels)))
