@@ -2,6 +2,7 @@
 ghost use Rattle.std.specs.Prelude.{◌≡◌, ◌++◌, OnOk, encode_utf8_all, flat_map, string_bytes};
 ghost use Rattle.std.specs.List.{list_all};
 ghost use Rattle.std.specs.Str.{chars};
+ghost use Rattle.std.specs.Io.{StartsWith};
 ghost use Rattle.robots_io.specs.Sanitize.{has_command, is_printable, is_printable_byte, safe_chunk, safe_in, sanitized, sanitized_in};
 ghost use Rattle.robots_io.specs.Sanitize.{sanitized_lines, turns_text, without_commands, without_hash};
 
@@ -56,6 +57,7 @@ fn push_chunk(
     has_lines: bool,
 ) -> Result<(), AllocError>
     ensures added { OnOk result (string_bytes text.new ≡ string_bytes text.old ++ safe_chunk has_lines char bytes.now) }
+    ensures kept { StartsWith (string_bytes text.new) (string_bytes text.old) }
 {
     match char {
         Some(char) if is_printable(char, has_lines) => text.push(char),
@@ -66,6 +68,7 @@ fn push_chunk(
 /// Appends the bytes, with all that is unsafe to display escaped, one UTF-8 unit after another.
 fn push_chunks(text: &mut String, bytes: &[u8], has_lines: bool) -> Result<(), AllocError>
     ensures added { OnOk result (string_bytes text.new ≡ string_bytes text.old ++ safe_in has_lines bytes.now) }
+    ensures kept { StartsWith (string_bytes text.new) (string_bytes text.old) }
 {
     let mut rest = bytes;
     while !rest.is_empty() {
@@ -95,6 +98,7 @@ fn has_command(text: &[u8]) -> bool
 fn push_without_hash(text: &mut String, char: char) -> Result<(), AllocError>
     ensures added { OnOk result (string_bytes text.new
         ≡ string_bytes text.old ++ encode_utf8_all (without_hash char)) }
+    ensures kept { StartsWith (string_bytes text.new) (string_bytes text.old) }
 {
     if char == '#' {
         text.push_str("%23")
@@ -107,6 +111,7 @@ fn push_without_hash(text: &mut String, char: char) -> Result<(), AllocError>
 fn push_without_hashes(text: &mut String, plain: &str) -> Result<(), AllocError>
     ensures added { OnOk result (string_bytes text.new
         ≡ string_bytes text.old ++ encode_utf8_all (flat_map without_hash (chars plain.now))) }
+    ensures kept { StartsWith (string_bytes text.new) (string_bytes text.old) }
 {
     for char in plain.chars() {
         push_without_hash(text, char)?;
@@ -118,6 +123,7 @@ fn push_without_hashes(text: &mut String, plain: &str) -> Result<(), AllocError>
 #[tactic(auto, unfolding(crate::specs::Sanitize::without_commands))]
 fn push_without_commands(text: &mut String, plain: &str) -> Result<(), AllocError>
     ensures added { OnOk result (string_bytes text.new ≡ string_bytes text.old ++ without_commands plain.now) }
+    ensures kept { StartsWith (string_bytes text.new) (string_bytes text.old) }
 {
     if has_command(plain.as_bytes()) {
         push_without_hashes(text, plain)
@@ -129,6 +135,7 @@ fn push_without_commands(text: &mut String, plain: &str) -> Result<(), AllocErro
 /// Appends the sanitized bytes. Bytes that are all printable ASCII are copied at once.
 fn push_sanitized_in(text: &mut String, bytes: &[u8], has_lines: bool) -> Result<(), AllocError>
     ensures added { OnOk result (string_bytes text.new ≡ string_bytes text.old ++ sanitized_in has_lines bytes.now) }
+    ensures kept { StartsWith (string_bytes text.new) (string_bytes text.old) }
 {
     if are_printable_bytes(bytes, has_lines)
         && let Ok(plain) = from_utf8(bytes)
@@ -143,6 +150,7 @@ fn push_sanitized_in(text: &mut String, bytes: &[u8], has_lines: bool) -> Result
 /// Appends a sanitized value, name or URL. The result contains no line end.
 pub fn push_sanitized(text: &mut String, bytes: &[u8]) -> Result<(), AllocError>
     ensures added { OnOk result (string_bytes text.new ≡ string_bytes text.old ++ sanitized bytes.now) }
+    ensures kept { StartsWith (string_bytes text.new) (string_bytes text.old) }
 {
     push_sanitized_in(text, bytes, false)
 }
@@ -150,6 +158,7 @@ pub fn push_sanitized(text: &mut String, bytes: &[u8]) -> Result<(), AllocError>
 /// Appends a sanitized text that may have several lines.
 pub fn push_sanitized_lines(text: &mut String, bytes: &[u8]) -> Result<(), AllocError>
     ensures added { OnOk result (string_bytes text.new ≡ string_bytes text.old ++ sanitized_lines bytes.now) }
+    ensures kept { StartsWith (string_bytes text.new) (string_bytes text.old) }
 {
     push_sanitized_in(text, bytes, true)
 }

@@ -1,6 +1,7 @@
 use Rattle.std.proofs.Common.{◌≡◌, ◌<◌, arith, length}
 use Rattle.std.proofs.lemmas.Bool.Decides.{nat_tests}
 use Rattle.bstr.proofs.lemmas.PieceLemmas.{piece-bounds, size-within}
+use Rattle.robots_io.proofs.LinesLemmas.{starts_on}
 use Rattle.robots_io.proofs.SanitizeLemmas.{all_added, chunk_added}
 use Rattle.robots_io.proofs.sanitize.push_chunks.Goals as goal
 
@@ -18,10 +19,13 @@ loop-rest-preserved c =
     let some : 0 < length rest = grind (arith, nat_tests) in
     let added = rw (c.split_at.ensures.front, c.decode-char.ensures.size, c.decode-char.ensures.char) at
     c.in_ok-push_chunk.ensures.added in
-    rw (c.split_at.ensures.back, c.decode-char.ensures.size)
-    (chunk_added c.args.has_lines rest _ _ _ some added c.loop-rest.invariant)
+    record {
+      whole = rw (c.split_at.ensures.back, c.decode-char.ensures.size)
+          (chunk_added c.args.has_lines rest _ _ _ some added c.loop-rest.invariant.whole);
+      kept = starts_on _ _ _ c.loop-rest.invariant.kept c.push_chunk.ensures.kept;
+    }
 
-pub returns : goal.returns
-returns c =
+pub returns-clause-added : goal.returns-clause-added
+returns-clause-added c =
     let none : length c.loop-rest.rest.now ≡ 0 = grind (arith, nat_tests) in
-    record { added = all_added c.args.has_lines c.loop-rest.rest.now _ _ none c.loop-rest.invariant }
+    all_added c.args.has_lines c.loop-rest.rest.now _ _ none c.loop-rest.invariant.whole

@@ -7,6 +7,7 @@ use Rattle.std.proofs.lemmas.Iterator.{YieldsList-from_chars}
 use Rattle.std.proofs.lemmas.Iterator.Consumers.{YieldsList-end}
 use Rattle.std.proofs.lemmas.Str.{encodes-append}
 use Rattle.robots_io.specs.Sanitize.{without_hash}
+use Rattle.robots_io.proofs.LinesLemmas.{starts_on}
 use Rattle.robots_io.proofs.sanitize.push_without_hashes.Goals as goal
 
 -- one more character is appended
@@ -24,14 +25,16 @@ char_added yielded char old mid new so_far added =
     ∙ ap (λ (text : List ℕ). old ++ text) (sym (ap encode_utf8_all whole ∙ encodes-append front last))
 
 pub loop-char-preserved : goal.loop-char-preserved
-loop-char-preserved c =
-    char_added c.loop-char.yielded c.in-Some.char _ _ _ c.loop-char.invariant
-    c.in_ok-push_without_hash.ensures.added
+loop-char-preserved c = record {
+  whole = char_added c.loop-char.yielded c.in-Some.char _ _ _ c.loop-char.invariant.whole
+      c.in_ok-push_without_hash.ensures.added;
+  kept = starts_on _ _ _ c.loop-char.invariant.kept c.push_without_hash.ensures.kept;
+}
 
-pub returns : goal.returns
-returns c =
+pub returns-clause-added : goal.returns-clause-added
+returns-clause-added c =
     let end = YieldsList-end (YieldsList-from_chars c.args.plain.now c.utf8.plain cc) c.loop-char.yielded _
     c.loop-char.yielded_by _ _ c.in-None.is c.next.ensures.steps in
-    let with = λ (chars : List ℕ). string_bytes c.args.text.now
-    ++ encode_utf8_all (flat_map without_hash chars) in
-    record { added = c.loop-char.invariant ∙ ap with (sym (map-id c.loop-char.yielded) ∙ end.0) }
+    c.loop-char.invariant.whole
+    ∙ ap (λ (chars : List ℕ). string_bytes c.args.text.now ++ encode_utf8_all (flat_map without_hash chars))
+    (sym (map-id c.loop-char.yielded) ∙ end.0)
