@@ -14,7 +14,7 @@ use Rattle.texting_robots.specs.Callers.{IsDenied, IsVerdict, LineValue, PlacedR
 use Rattle.texting_robots.specs.Callers.{rules_for, unplaced}
 use Rattle.texting_robots.specs.declared.decision.Decision.{Decision}
 use Rattle.texting_robots.proofs.VerdictLemmas.{one_verdict}
-use Rattle.robots_io.specs.Verdicts.{IsDecisionOn}
+use Rattle.texting_robots.specs.Decision.{IsDecisionOn}
 use Rattle.audit_core.specs.Asked.{asked_target}
 use Rattle.audit_core.specs.Audit.{IsRuling, IsVerdictOn, VerdictValue}
 use Rattle.audit_core.proofs.ListLemmas.{none_of}

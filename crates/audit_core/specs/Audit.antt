@@ -7,7 +7,7 @@ use Rattle.texting_robots.specs.Callers.{IsFirstOverlong, IsRejected, LineValue,
 use Rattle.texting_robots.specs.Callers.{delay_for, file_limit, is_named, lines_read, placed_rules}
 use Rattle.texting_robots.specs.{Agents.is_among, Group.is_agent}
 use Rattle.texting_robots.specs.declared.decision.Decision.{Decision}
-use Rattle.robots_io.specs.Verdicts.{IsDecisionOn}
+use Rattle.texting_robots.specs.Decision.{IsDecisionOn}
 use Rattle.audit_core.specs.declared.group.Group.{Group}
 use Rattle.audit_core.specs.declared.group.Group.TheVariants.{Everyone, Named, Nobody, Star}
 use Rattle.robots_needless.specs.Deleted.{AreFoundIn}

@@ -2,7 +2,7 @@
 ghost use Rattle.std.specs.Prelude.{◌≡◌, IfErr, IfOk, string_bytes};
 ghost use Rattle.texting_robots.specs.Address.{is_web};
 ghost use Rattle.texting_robots.specs.Callers.{prepared};
-ghost use Rattle.robots_io.specs.Verdicts.{IsDecisionOn};
+ghost use Rattle.texting_robots.specs.Decision.{IsDecisionOn};
 ghost use Rattle.audit_core.specs.Asked.{asked_target, requested_target};
 
 use crate::fault::Fault;

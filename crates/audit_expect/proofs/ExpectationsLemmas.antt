@@ -15,7 +15,7 @@ use Rattle.texting_robots.proofs.MainTheoremLemmas.{answers_computed, read_robot
 use Rattle.texting_robots.proofs.TrimLemmas.{each_append}
 use Rattle.robots_io.specs.Lines.{ended, lf}
 use Rattle.robots_io.specs.Sanitize.{IsPrintable, has_command}
-use Rattle.robots_io.specs.Verdicts.{IsDecisionOn}
+use Rattle.texting_robots.specs.Decision.{IsDecisionOn}
 use Rattle.robots_io.proofs.SanitizeLemmas.{ended_printable, line_printable}
 use Rattle.robots_text.specs.Text.{NamedLine, ReportLine, line_text, named_text}
 use Rattle.robots_text.proofs.PartLemmas.{line_plain, named_printable, named_quiet}

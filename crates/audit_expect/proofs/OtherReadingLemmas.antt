@@ -28,7 +28,7 @@ use Rattle.texting_robots.proofs.RulesLemmas.{any_unplaced}
 use Rattle.texting_robots.proofs.StatementLemmas.{found_statement, statement_found}
 use Rattle.texting_robots.proofs.VerdictLemmas.{one_verdict}
 use Rattle.robots_needless.proofs.DistinctLemmas.{in_filter, to_filter}
-use Rattle.robots_io.specs.Verdicts.{IsDecisionOn}
+use Rattle.texting_robots.specs.Decision.{IsDecisionOn}
 use Rattle.robots_warnings.specs.EmptyDisallows.{IsEmptyDisallow, begins_with_d, is_empty_disallow}
 use Rattle.robots_warnings.specs.FieldNames.{is_space_or_tab, without_front}
 use Rattle.audit_expect.specs.OtherReading.{AreOthers, IsOtherDecision}

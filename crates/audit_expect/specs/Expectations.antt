@@ -8,7 +8,7 @@ use Rattle.texting_robots.specs.Callers.{IsFirstOverlong, IsRejected, bodies_rea
 use Rattle.texting_robots.specs.Callers.{robots_file}
 use Rattle.texting_robots.specs.declared.decision.Decision.{Decision}
 use Rattle.robots_io.specs.Lines.{ended}
-use Rattle.robots_io.specs.Verdicts.{IsDecisionOn}
+use Rattle.texting_robots.specs.Decision.{IsDecisionOn}
 use Rattle.robots_text.specs.Text.{Count, Label, NamedLine, Number, Part, PartValue, ReportLine, Untrusted}
 use Rattle.robots_text.specs.Text.{label, line_from, line_text, named_text, only}
 use Rattle.robots_warnings.specs.Google.{gets_googlebots, gets_nobodys}

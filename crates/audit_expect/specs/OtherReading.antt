@@ -3,7 +3,7 @@
 use Rattle.std.specs.Prelude.{◌↔◌, ℕ, List, Contains}
 use Rattle.texting_robots.specs.Callers.{PlacedRule}
 use Rattle.texting_robots.specs.declared.decision.Decision.{Decision}
-use Rattle.robots_io.specs.Verdicts.{IsDecisionOn}
+use Rattle.texting_robots.specs.Decision.{IsDecisionOn}
 use Rattle.robots_warnings.specs.EmptyDisallows.{IsEmptyDisallow}
 
 -- `others` are those of the rules whose line isn't an empty Disallow

@@ -2,7 +2,7 @@
 ghost use Rattle.std.specs.Prelude.{◌≡◌, ◌↔◌, All, Decides, IfErr, IfOk, IsTrue, false, option_map};
 ghost use Rattle.std.specs.Option.{option_map_or};
 ghost use Rattle.texting_robots.specs.Callers.{IsBetter, IsOverlong, IsRejected, Matches, PlacedRule, file_bodies, file_lines, placed_rules};
-ghost use Rattle.robots_io.specs.Verdicts.{IsDecisionOn};
+ghost use Rattle.texting_robots.specs.Decision.{IsDecisionOn};
 ghost use Rattle.audit_core.specs.Asked.{asked_target};
 ghost use Rattle.audit_expect.specs.OtherReading.{IsOtherDecision};
 ghost use Rattle.audit_expect.specs.Internal.OtherReading.{IsDecidedBy, IsPreferred, decision_with, is_marked, marks_of, others_of};

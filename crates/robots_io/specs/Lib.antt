@@ -1,4 +1,3 @@
 pub mod Streams
 pub mod Lines
 pub mod Sanitize
-pub mod Verdicts

@@ -5,7 +5,7 @@ use Rattle.std.specs.List.{AllZip}
 use Rattle.texting_robots.specs.Callers.{PlacedRule, prepared}
 use Rattle.texting_robots.specs.declared.decision.Decision.{Decision}
 use Rattle.robots_io.specs.Lines.{ended}
-use Rattle.robots_io.specs.Verdicts.{IsDecisionOn}
+use Rattle.texting_robots.specs.Decision.{IsDecisionOn}
 
 -- ---- a line
 
