@@ -90,7 +90,7 @@ def test_escaped_characters_are_those_of_the_library():
 
 
 def test_characters_that_change_the_writing_direction():
-    turning = re.search(r"fn turns_text.*?^\}", source("robots_io/src/sanitize.rt"), re.M | re.S)[0]
+    turning = re.search(r"fn turns_text.*?^\}", source("printable_text/src/sanitize.rt"), re.M | re.S)[0]
     code = {int(it, 16) for first, last in re.findall(r"'\\u\{(\w+)\}'(?:\.\.='\\u\{(\w+)\}')?", turning) for it in (first, last) if it}
     sentence = re.search(r"writing direction \((.*?)\)", joined(PROGRAMS))[1]
     assert {int(it, 16) for it in re.findall(r"U\+(\w+)", sentence)} == code

@@ -4,7 +4,7 @@ use Rattle.std.proofs.Common.{◌∷◌, ◌++◌, arith, drop, length, length-a
 use Rattle.std.specs.List.{AllZip}
 use Rattle.std.proofs.Math.Seq.{drop-nil}
 use Rattle.texting_robots.specs.Callers.{LineValue}
-use Rattle.robots_text.specs.Text.{ReportLine, written}
+use Rattle.printable_text.specs.Text.{ReportLine, written}
 use Rattle.audit_core.specs.Audit.{VerdictValue}
 use Rattle.audit_compare.specs.Compare.{ComparedValue, IsCompared}
 use Rattle.audit_compare.specs.Compare.{verdict_changes}

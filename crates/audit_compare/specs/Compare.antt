@@ -8,8 +8,8 @@ use Rattle.std.specs.Option.{option_eq}
 use Rattle.std.proofs.Math.Bool.{beq}
 use Rattle.texting_robots.specs.Callers.{LineValue, PlacedRule, Rule, lines_read, placed_rules}
 use Rattle.texting_robots.specs.declared.decision.Decision.{Decision}
-use Rattle.robots_text.specs.Text.{Absent, Label, Number, Part, PartValue, ReportLine, Untrusted}
-use Rattle.robots_text.specs.Text.{Value, label, line_from, only, starts_line, word, written}
+use Rattle.printable_text.specs.Text.{Absent, Label, Number, Part, PartValue, ReportLine, Untrusted}
+use Rattle.printable_text.specs.Text.{Value, label, line_from, only, starts_line, word, written}
 use Rattle.audit_core.specs.declared.answer.Answer.{Answer}
 use Rattle.audit_core.specs.declared.group.Group.{Group}
 use Rattle.audit_core.specs.declared.group.Group.TheVariants.{Everyone, Named, Nobody, Star}

@@ -1,8 +1,8 @@
 //! Two versions of a robots.txt file compared, and the report on what differs.
 ghost use Rattle.std.specs.Prelude.{◌≡◌, ◌++◌, ◌∷◌, [], IfErr, IfOk, List, OnOk, map, string_bytes};
 ghost use Rattle.texting_robots.specs.Callers.{lines_read};
-ghost use Rattle.robots_text.specs.Raw.{raw_text};
-ghost use Rattle.robots_text.specs.Text.{line_text, part_text, written};
+ghost use Rattle.printable_text.specs.Raw.{raw_text};
+ghost use Rattle.printable_text.specs.Text.{line_text, part_text, written};
 ghost use Rattle.audit_core.specs.Audit.{agents_requested as specified_agents};
 ghost use Rattle.audit_compare.specs.Compare.{ComparedValue, IsComparison, agent_lines, is_rejected, is_unchanged, several_line};
 ghost use Rattle.audit_compare.specs.Compare.{unchanged_line, unchanged_lines, unchanged_part};
@@ -13,7 +13,7 @@ use crate::differences::{crawler, push_differences, push_rejections, push_same_r
 use audit_core::agents::agents_requested;
 use audit_core::answer::{Answer, Outcome};
 use audit_core::fault::Fault;
-use robots_text::parts::{Part, Value, push_line_of};
+use printable_text::parts::{Part, Value, push_line_of};
 use std::alloc::{AllocError, Global};
 
 /// What is reported on several crawlers.

@@ -1,7 +1,7 @@
 //! The lines about what differs between two files for a crawler.
 ghost use Rattle.std.specs.Prelude.{◌≡◌, ◌++◌, OnOk, map, string_bytes};
-ghost use Rattle.robots_text.specs.Raw.{raw_line, raw_text, raw_value};
-ghost use Rattle.robots_text.specs.Text.{line_text, part_text, value_text, written};
+ghost use Rattle.printable_text.specs.Raw.{raw_line, raw_text, raw_value};
+ghost use Rattle.printable_text.specs.Text.{line_text, part_text, value_text, written};
 ghost use Rattle.audit_compare.specs.Compare.{crawler, deciding, delay_changes, delay_line, differences, file_part, group_changes, group_line};
 ghost use Rattle.audit_compare.specs.Compare.{has_same_rules, is_in_line_of, is_same_decision, is_same_group, rejection, rejection_lines};
 ghost use Rattle.audit_compare.specs.Compare.{rule_changes, rule_line, same_rules, url_changes, url_line, verdict_changes, verdict_word};
@@ -12,7 +12,7 @@ use audit_core::audit::{AgentAudit, Verdict};
 use audit_core::group::Group;
 use audit_core::rules::Rule;
 use audit_core::texts::{delay_value, group_value, rejected_parts};
-use robots_text::parts::{Part, Value, push_line_of};
+use printable_text::parts::{Part, Value, push_line_of};
 use std::alloc::AllocError;
 use texting_robots::robot::Decision;
 

@@ -1,4 +1,4 @@
-//! Two versions of a robots.txt file compared.
+//! Two versions of a robots.txt file compared, and the report on what differs.
 #![tactic(auto)]
 
 pub mod compare;

@@ -8,8 +8,8 @@ use Rattle.std.specs.Str.{all_scalars, chars, encode_utf8_all}
 use Rattle.std.proofs.lemmas.Bool.{agree_below, agree_below_at, and_parts, cases_lt}
 use Rattle.std.proofs.lemmas.Grind.{flat_map-append}
 use Rattle.std.proofs.lemmas.Str.{encode_ascii, encodes-chars, inside_one, scalars-chars}
-use Rattle.robots_io.specs.Sanitize.{IsPrintable, is_printable, is_printable_byte}
-use Rattle.robots_io.proofs.SanitizeLemmas.{append_printable, ascii_printable, char_printable, nil_printable}
+use Rattle.printable_text.specs.Sanitize.{IsPrintable, is_printable, is_printable_byte}
+use Rattle.printable_text.proofs.SanitizeLemmas.{append_printable, ascii_printable, char_printable, nil_printable}
 
 -- if the byte is printable, then so is its escaped form
 abbrev stays_printable : (ℕ → List ℕ) → ℕ → Bool

@@ -1,9 +1,9 @@
 -- Whatever the error is, its message is printable.
 use Rattle.std.proofs.Common.{◌∷◌, []}
 use Rattle.std.specs.Prelude.{string_bytes}
-use Rattle.robots_io.specs.Sanitize.{IsPrintable}
-use Rattle.robots_io.proofs.SanitizeLemmas.{sanitized_lines_printable}
-use Rattle.robots_text.proofs.PartLemmas.{written_printable}
+use Rattle.printable_text.specs.Sanitize.{IsPrintable}
+use Rattle.printable_text.proofs.SanitizeLemmas.{sanitized_lines_printable}
+use Rattle.printable_text.proofs.PartLemmas.{written_printable}
 use Rattle.audit_core.specs.declared.fault.Fault.{Fault}
 use Rattle.audit_core.specs.declared.fault.Fault.TheVariants.{Argument, Empty, File, Malformed, Memory}
 use Rattle.audit_core.specs.declared.fault.Fault.TheVariants.{NotUtf8}

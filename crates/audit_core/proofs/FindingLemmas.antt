@@ -1,10 +1,10 @@
 -- The texts of a finding are printable, and contain no start of a command.
 use Rattle.std.proofs.Common.{◌≡◌, false, [], ◌∷◌, ◌++◌, append-nil}
-use Rattle.robots_io.specs.Sanitize.{IsPrintable, has_command, sanitized}
-use Rattle.robots_io.proofs.SanitizeLemmas.{line_printable}
-use Rattle.robots_text.specs.Text.{Fixed, Only, parts_text}
-use Rattle.robots_text.proofs.PartLemmas.{fixed_printable, named_printable, named_quiet, parts_printable}
-use Rattle.robots_text.proofs.PartLemmas.{parts_quiet}
+use Rattle.printable_text.specs.Sanitize.{IsPrintable, has_command, sanitized}
+use Rattle.printable_text.proofs.SanitizeLemmas.{line_printable}
+use Rattle.printable_text.specs.Text.{Fixed, Only, parts_text}
+use Rattle.printable_text.proofs.PartLemmas.{fixed_printable, named_printable, named_quiet, parts_printable}
+use Rattle.printable_text.proofs.PartLemmas.{parts_quiet}
 use Rattle.audit_core.specs.Findings.{After, Message, Parts, message_of}
 
 pub name_printable : (name : Fixed) → IsPrintable name.text

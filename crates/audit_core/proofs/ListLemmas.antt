@@ -3,7 +3,7 @@ use Rattle.std.proofs.Common.{◌≡◌, ◌∙◌, ℕ, ◌+◌, ◌<◌, ◌==
 use Rattle.std.proofs.Common.{length, map, refl, slice_index_or, drop}
 use Rattle.std.specs.List.{AllByRecursion as Each}
 use Rattle.std.proofs.lemmas.Bool.Decides.{nat_tests, Decides-eqb}
-use Rattle.robots_io.specs.Lines.{ended}
+use Rattle.printable_text.specs.Lines.{ended}
 use Rattle.std.proofs.lemmas.List.{drop_more, Elements.filter_map-append}
 use Rattle.texting_robots.specs.declared.labels.LabeledLine.{LabeledLine}
 use Rattle.texting_robots.specs.Callers.{by_value, label_by_value, sitemaps_in}

@@ -2,12 +2,12 @@
 use Rattle.std.specs.Prelude.{ℕ, not, List, [], ◌∷◌, Result, Ok, Err, codes, if◌then◌else◌}
 use Rattle.std.specs.Prelude.{string_bytes, ◌≡◌}
 use Rattle.std.proofs.Common.{refl}
-use Rattle.robots_io.specs.Sanitize.{sanitized_lines}
+use Rattle.printable_text.specs.Sanitize.{sanitized_lines}
 use Rattle.robots_io.specs.declared.streams.ReadFault.{ReadFault}
 use Rattle.robots_io.specs.declared.streams.ReadFault.TheVariants as read
-use Rattle.robots_text.specs.Text.{Named, Number, Part, PartValue, ReportLine, Untrusted, Value, label}
-use Rattle.robots_text.specs.Text.{line_from}
-use Rattle.robots_text.specs.Text.{only, value_text, word, written}
+use Rattle.printable_text.specs.Text.{Named, Number, Part, PartValue, ReportLine, Untrusted, Value, label}
+use Rattle.printable_text.specs.Text.{line_from}
+use Rattle.printable_text.specs.Text.{only, value_text, word, written}
 use Rattle.audit_core.specs.declared.answer.Outcome.{Outcome}
 use Rattle.audit_core.specs.declared.fault.Entry.{Entry}
 use Rattle.audit_core.specs.declared.fault.Entry.TheVariants.{Expectation, Url}

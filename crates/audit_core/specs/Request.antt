@@ -4,7 +4,7 @@ use Rattle.std.specs.Prelude.{not, option_map, ◌&&◌}
 use Rattle.audit_core.specs.declared.request.Format.{Format}
 use Rattle.audit_core.specs.declared.request.Format.TheVariants.{Github, Html, Json, Sarif, Text}
 use Rattle.audit_core.specs.declared.request.Request.{Request}
-use Rattle.robots_text.specs.declared.level.Level.{Level}
+use Rattle.printable_text.specs.declared.level.Level.{Level}
 
 -- a request: the name of the file, or `None` for standard input; the crawler, if the report is about a single
 -- one; the crawlers, where an empty list means `*` and each that the file names; the URLs; whether the rows

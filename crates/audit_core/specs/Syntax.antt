@@ -6,7 +6,7 @@ use Rattle.robots_warnings.specs.declared.table.Cause.{Cause}
 use Rattle.robots_warnings.specs.Table.{is_not_about_syntax}
 use Rattle.robots_warnings.specs.WarningValue.{WarningValue}
 use Rattle.std.proofs.Common.{refl}
-use Rattle.robots_text.specs.Text.{PartValue, ReportLine, line_from, only, part_text}
+use Rattle.printable_text.specs.Text.{PartValue, ReportLine, line_from, only, part_text}
 use Rattle.audit_core.specs.declared.syntax.Syntax.{Syntax}
 use Rattle.audit_core.specs.declared.syntax.Syntax.TheVariants.{Standard, StandardWithoutWarnings}
 use Rattle.audit_core.specs.declared.syntax.Syntax.TheVariants.{Unstated}

@@ -4,8 +4,8 @@ use Rattle.std.specs.Prelude.{ℕ, Bool, true, false, List, [], ◌∷◌, ◌++
 use Rattle.std.proofs.Common.{refl}
 use Rattle.audit_core.specs.declared.group.Group.{Group}
 use Rattle.audit_core.specs.declared.group.Group.TheVariants.{Everyone, Named, Nobody, Star}
-use Rattle.robots_text.specs.Text.{Absent, Delay, Number, Part, PartValue, ReportLine, Untrusted, Value}
-use Rattle.robots_text.specs.Text.{label, line_from, only, parts_text, value_text, word}
+use Rattle.printable_text.specs.Text.{Absent, Delay, Number, Part, PartValue, ReportLine, Untrusted, Value}
+use Rattle.printable_text.specs.Text.{label, line_from, only, parts_text, value_text, word}
 
 abbrev pub delay_value : Option ℕ → Value
 delay_value None = word (codes "none") refl

@@ -1,6 +1,6 @@
-//! What a robots.txt file means for the crawlers that a request names: the request, the audit of a file, and
-//! how a run ends. It also has what several reports share: rows, sitemaps, colors, and the texts
-//! about groups, rejected files and syntax.
+//! What the parts of an audit share: the request, the audit of a file for the crawlers that the request names, and what
+//! it found; the answer, the errors and the exit status of a run; texts about groups, rejected files and syntax, which
+//! several reports contain.
 #![tactic(auto)]
 
 pub mod agents;

@@ -1,6 +1,6 @@
 //! What a run is requested to do.
 
-use robots_text::level::Level;
+use printable_text::level::Level;
 
 /// How a report is written.
 #[derive(Clone, Copy)]

@@ -2,15 +2,15 @@
 ghost use Rattle.std.specs.Prelude.{◌≡◌, ◌++◌, ◌∷◌, [], OnOk, decimal, length, map};
 ghost use Rattle.std.specs.Prelude.{string_bytes};
 ghost use Rattle.texting_robots.specs.Callers.{by_value, label_by_value};
-ghost use Rattle.robots_text.specs.Raw.{raw_value};
-ghost use Rattle.robots_text.specs.Text.{Aligned, blanks, part_text, value_text, written};
+ghost use Rattle.printable_text.specs.Raw.{raw_value};
+ghost use Rattle.printable_text.specs.Text.{Aligned, blanks, part_text, value_text, written};
 ghost use Rattle.audit_core.specs.Rows.{has_value, kind_part, kind_text, line_value, line_value_text, mark_of, membership_word};
 ghost use Rattle.audit_core.specs.Rows.{row, rows};
 
 use itoa::Buffer;
-use robots_io::sanitize::push_sanitized;
-use robots_text::delay::push_delay_text;
-use robots_text::parts::{Part, Value, push_parts};
+use printable_text::sanitize::push_sanitized;
+use printable_text::delay::push_delay_text;
+use printable_text::parts::{Part, Value, push_parts};
 use robots_warnings::file::is_blank;
 use std::alloc::AllocError;
 use texting_robots::labels::{LabeledLine, Membership};

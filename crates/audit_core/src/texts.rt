@@ -1,12 +1,12 @@
 //! Texts that several reports share: a delay, which group applies to a crawler, and that the file is rejected for it.
 ghost use Rattle.std.specs.Prelude.{◌≡◌, ◌++◌, ◌∷◌, [], OnOk, string_bytes};
-ghost use Rattle.robots_text.specs.Raw.{raw_line, raw_text, raw_value};
-ghost use Rattle.robots_text.specs.Text.{line_text, part_text, parts_text, value_text, written};
+ghost use Rattle.printable_text.specs.Raw.{raw_line, raw_text, raw_value};
+ghost use Rattle.printable_text.specs.Text.{line_text, part_text, parts_text, value_text, written};
 ghost use Rattle.audit_core.specs.Texts.{delay_value, group_end, group_line, group_reason, group_text, group_value};
 ghost use Rattle.audit_core.specs.Texts.{rejected_lines, rejected_parts};
 
 use crate::group::Group;
-use robots_text::parts::{Part, Value, push_line_of, push_parts};
+use printable_text::parts::{Part, Value, push_line_of, push_parts};
 use std::alloc::AllocError;
 
 /// A delay as the value of a part.

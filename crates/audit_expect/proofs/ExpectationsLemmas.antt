@@ -13,12 +13,12 @@ use Rattle.texting_robots.specs.Callers.{placed_rules}
 use Rattle.texting_robots.specs.declared.decision.Decision.{Decision}
 use Rattle.texting_robots.proofs.MainTheoremLemmas.{answers_computed, read_robot}
 use Rattle.texting_robots.proofs.TrimLemmas.{each_append}
-use Rattle.robots_io.specs.Lines.{ended, lf}
-use Rattle.robots_io.specs.Sanitize.{IsPrintable, has_command}
+use Rattle.printable_text.specs.Lines.{ended, lf}
+use Rattle.printable_text.specs.Sanitize.{IsPrintable, has_command}
 use Rattle.texting_robots.specs.Decision.{IsDecisionOn}
-use Rattle.robots_io.proofs.SanitizeLemmas.{ended_printable, line_printable}
-use Rattle.robots_text.specs.Text.{NamedLine, ReportLine, line_text, named_text}
-use Rattle.robots_text.proofs.PartLemmas.{line_plain, named_printable, named_quiet}
+use Rattle.printable_text.proofs.SanitizeLemmas.{ended_printable, line_printable}
+use Rattle.printable_text.specs.Text.{NamedLine, ReportLine, line_text, named_text}
+use Rattle.printable_text.proofs.PartLemmas.{line_plain, named_printable, named_quiet}
 use Rattle.audit_expect.specs.declared.expect.Expectation.{Expectation}
 use Rattle.audit_expect.specs.Expect.{ExpectationValue, expectations_in}
 use Rattle.audit_expect.specs.Expectations.{CheckedValue, IsChecked, IsReport, failure, failure_line, fails}

@@ -7,10 +7,10 @@ use Rattle.std.proofs.Common.{refl}
 use Rattle.texting_robots.specs.Callers.{IsFirstOverlong, IsRejected, bodies_read, lines_read, placed_rules}
 use Rattle.texting_robots.specs.Callers.{robots_file}
 use Rattle.texting_robots.specs.declared.decision.Decision.{Decision}
-use Rattle.robots_io.specs.Lines.{ended}
+use Rattle.printable_text.specs.Lines.{ended}
 use Rattle.texting_robots.specs.Decision.{IsDecisionOn}
-use Rattle.robots_text.specs.Text.{Count, Label, NamedLine, Number, Part, PartValue, ReportLine, Untrusted}
-use Rattle.robots_text.specs.Text.{label, line_from, line_text, named_text, only}
+use Rattle.printable_text.specs.Text.{Count, Label, NamedLine, Number, Part, PartValue, ReportLine, Untrusted}
+use Rattle.printable_text.specs.Text.{label, line_from, line_text, named_text, only}
 use Rattle.robots_warnings.specs.Google.{gets_googlebots, gets_nobodys}
 use Rattle.audit_core.specs.declared.answer.Answer.{Answer}
 use Rattle.audit_core.specs.declared.answer.Outcome.{Outcome}

@@ -1,10 +1,10 @@
 //! Expectations checked against a robots.txt file, and the report on those that fail.
 ghost use Rattle.std.specs.Prelude.{◌≡◌, ◌==◌, ◌++◌, ◌∷◌, [], IfErr, IfOk, Ok, OnOk, bytes_eq, false, if◌then◌else◌, length, map, string_bytes, take};
 ghost use Rattle.texting_robots.specs.Callers.{file_limit, robots_file};
-ghost use Rattle.robots_io.specs.Lines.{ended};
-ghost use Rattle.robots_io.specs.Sanitize.{sanitized};
-ghost use Rattle.robots_text.specs.Raw.{raw_line};
-ghost use Rattle.robots_text.specs.Text.{line_text, part_text, parts_text};
+ghost use Rattle.printable_text.specs.Lines.{ended};
+ghost use Rattle.printable_text.specs.Sanitize.{sanitized};
+ghost use Rattle.printable_text.specs.Raw.{raw_line};
+ghost use Rattle.printable_text.specs.Text.{line_text, part_text, parts_text};
 ghost use Rattle.audit_core.specs.declared.fault.Entry.TheVariants as entry;
 ghost use Rattle.audit_core.specs.Asked.{asked_target};
 ghost use Rattle.audit_core.specs.Internal.{IsReading};
@@ -22,7 +22,7 @@ use audit_core::answer::{Answer, Outcome};
 use audit_core::asked::asked_target;
 use audit_core::audit::{Reading, read_for};
 use audit_core::fault::{Entry, Fault};
-use robots_text::parts::{Part, Value, push_line_of, push_parts};
+use printable_text::parts::{Part, Value, push_line_of, push_parts};
 use std::alloc::{AllocError, Global};
 use texting_robots::Site;
 use texting_robots::robot::Decision;

@@ -1,5 +1,4 @@
-//! Files with a line for each URL: expectations, with the report on what a robots.txt file says about them,
-//! and lists of URLs.
+//! Files with a line for each URL: the expectations of `--expect`, with the report on them, and the URLs of `--urls`.
 #![tactic(auto)]
 
 mod checks;

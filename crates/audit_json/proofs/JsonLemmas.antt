@@ -13,14 +13,14 @@ use Rattle.serde_json.specs.Written.{comma_if, compact_text, has_float, items_ha
 use Rattle.serde_json.specs.Written.{members_have_float, members_text}
 use Rattle.serde_json.proofs.OnLiterals.{serde_json_on_literals}
 use Rattle.texting_robots.specs.Callers.{CrawlDelay, LineValue, Label}
-use Rattle.robots_io.specs.Lines.{lf}
-use Rattle.robots_io.specs.Sanitize.{IsPrintable, is_printable_byte}
-use Rattle.robots_io.proofs.SanitizeLemmas.{append_printable, ascii_printable, decimal_printable}
-use Rattle.robots_io.proofs.SanitizeLemmas.{line_printable, sanitized_printable}
-use Rattle.robots_text.specs.Level.{level_word}
-use Rattle.robots_text.specs.Text.{Value, value_text}
-use Rattle.robots_text.specs.declared.level.Level.{Level}
-use Rattle.robots_text.proofs.PartLemmas.{label_printable, level_printable, value_printable}
+use Rattle.printable_text.specs.Lines.{lf}
+use Rattle.printable_text.specs.Sanitize.{IsPrintable, is_printable_byte}
+use Rattle.printable_text.proofs.SanitizeLemmas.{append_printable, ascii_printable, decimal_printable}
+use Rattle.printable_text.proofs.SanitizeLemmas.{line_printable, sanitized_printable}
+use Rattle.printable_text.specs.Level.{level_word}
+use Rattle.printable_text.specs.Text.{Value, value_text}
+use Rattle.printable_text.specs.declared.level.Level.{Level}
+use Rattle.printable_text.proofs.PartLemmas.{label_printable, level_printable, value_printable}
 use Rattle.robots_warnings.specs.Message.{fixed_name, message_parts}
 use Rattle.robots_warnings.specs.Table.{level_of}
 use Rattle.robots_warnings.specs.WarningValue.{WarningValue}

@@ -13,9 +13,9 @@ use Rattle.std.proofs.lemmas.List.Folds.{list_all-append}
 use Rattle.std.proofs.lemmas.Grind.{flat_map-append}
 use Rattle.std.proofs.lemmas.Str.{chars-encodes, encodes-append, scalars-chars}
 use Rattle.percent_encoding.specs.Percent.{percent_encode_byte}
-use Rattle.robots_io.specs.Sanitize.{IsPrintable, is_printable, is_printable_byte}
-use Rattle.robots_io.proofs.SanitizeLemmas.{ascii_printable, chars_printable, flat_printable}
-use Rattle.robots_text.specs.Level.{level_word}
+use Rattle.printable_text.specs.Sanitize.{IsPrintable, is_printable, is_printable_byte}
+use Rattle.printable_text.proofs.SanitizeLemmas.{ascii_printable, chars_printable, flat_printable}
+use Rattle.printable_text.specs.Level.{level_word}
 use Rattle.robots_warnings.specs.Table.{all_causes, example_of, level_of, name_of, text_of}
 use Rattle.audit_core.specs.Audit.{AuditValue}
 use Rattle.audit_core.specs.Findings.{FindingValue, Found, all_found, findings, found_value, message_of}

@@ -10,10 +10,10 @@ use Rattle.std.specs.Str.{byte, chars}
 use Rattle.percent_encoding.specs.Percent.{percent_encode_byte}
 use Rattle.serde_json.specs.Data.{Data, array, item, member, no_items, no_members, number, object, string}
 use Rattle.serde_json.specs.Data.{unsigned}
-use Rattle.robots_text.specs.declared.level.Level.{Level}
-use Rattle.robots_text.specs.declared.level.Level.TheVariants.{Error, Note, Warning}
+use Rattle.printable_text.specs.declared.level.Level.{Level}
+use Rattle.printable_text.specs.declared.level.Level.TheVariants.{Error, Note, Warning}
 use Rattle.robots_warnings.specs.declared.table.Cause.{Cause}
-use Rattle.robots_text.specs.Level.{level_word, reaches}
+use Rattle.printable_text.specs.Level.{level_word, reaches}
 use Rattle.robots_warnings.specs.Table.{all_causes, example_of, level_of, name_of, text_of}
 use Rattle.audit_core.specs.Findings.{FindingValue}
 use Rattle.audit_json.specs.Json.{json_line, list_json}

@@ -14,7 +14,7 @@ use audit_core::group::Group;
 use audit_core::rows::{has_value, kind_text, membership_word, push_value};
 use audit_core::sitemaps::sitemaps_of;
 use audit_core::syntax::Syntax;
-use robots_io::sanitize::push_sanitized;
+use printable_text::sanitize::push_sanitized;
 use robots_warnings::warning::{Warning, push_warning_text};
 use serde_json::{Value, json};
 use std::alloc::{AllocError, Global};

@@ -13,7 +13,7 @@ use audit_core::audit::Audit;
 use audit_core::findings::{Finding, findings_of};
 use audit_core::version::VERSION;
 use percent_encoding::percent_encode_byte;
-use robots_text::level::Level;
+use printable_text::level::Level;
 use robots_warnings::table::{Cause, causes};
 use serde_json::{Value, json};
 use std::alloc::{AllocError, Global};

@@ -11,14 +11,14 @@ use Rattle.std.proofs.lemmas.Bool.Decides.{nat_tests}
 use Rattle.std.proofs.lemmas.List.Folds.{list_all-append}
 use Rattle.std.proofs.lemmas.Str.{encode_ascii, encodes-chars, scalars-chars}
 use lib.Utf8.{encode, next, scalar}
-use Rattle.robots_html.specs.Html.{AreAttributes, Attribute, Html, IsContent, IsHtml, IsText, attribute_bytes}
-use Rattle.robots_html.specs.Html.{doctype, document, element, end_tag, escaped, escaped_byte, is_character}
-use Rattle.robots_html.specs.Html.{is_letter, is_name, is_name_byte, is_title, style, style_bytes, tag_close}
-use Rattle.robots_html.specs.Html.{tag_open, text, void, void_close, written}
-use Rattle.robots_html.proofs.TextLemmas.{escaped-append, escaped-is}
-use Rattle.robots_html.proofs.WritingLemmas.{content_weaker}
-use Rattle.robots_io.specs.Sanitize.{IsPrintable, is_printable, is_printable_byte}
-use Rattle.robots_io.proofs.SanitizeLemmas.{append_printable, ascii_printable, char_printable, nil_printable}
+use Rattle.html_writer.specs.Html.{AreAttributes, Attribute, Html, IsContent, IsHtml, IsText, attribute_bytes}
+use Rattle.html_writer.specs.Html.{doctype, document, element, end_tag, escaped, escaped_byte, is_character}
+use Rattle.html_writer.specs.Html.{is_letter, is_name, is_name_byte, is_title, style, style_bytes, tag_close}
+use Rattle.html_writer.specs.Html.{tag_open, text, void, void_close, written}
+use Rattle.html_writer.proofs.TextLemmas.{escaped-append, escaped-is}
+use Rattle.html_writer.proofs.WritingLemmas.{content_weaker}
+use Rattle.printable_text.specs.Sanitize.{IsPrintable, is_printable, is_printable_byte}
+use Rattle.printable_text.proofs.SanitizeLemmas.{append_printable, ascii_printable, char_printable, nil_printable}
 
 -- content where elements may occur, whose texts are printable
 abbrev pub IsPart : Html → Type 0

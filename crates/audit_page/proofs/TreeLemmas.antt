@@ -1,23 +1,23 @@
--- Every page is written as its tree in `robots_html`, which is printable, and can be read back.
+-- Every page is written as its tree in `html_writer`, which is printable, and can be read back.
 use Rattle.std.proofs.Common.{◌≡◌, ◌∙◌, ℕ, true, false, List, [], ◌∷◌, ◌++◌, Some, ap, append_assoc, codes}
 use Rattle.std.proofs.Common.{flat_map, map, refl, sym}
 use Rattle.std.specs.Prelude.{not}
 use Rattle.std.proofs.lemmas.Bool.{and_parts, not-true}
 use Rattle.std.proofs.lemmas.List.{append-nil}
-use Rattle.robots_html.specs.Html.{AreAttributes, Attribute, Html, IsContent}
-use Rattle.robots_html.specs.Html.{attribute_bytes, doctype, document}
-use Rattle.robots_html.specs.Html.{end_tag, escaped, has_attribute, is_among, is_css}
-use Rattle.robots_html.specs.Html.{is_name, is_ordinary, is_title}
-use Rattle.robots_html.specs.Html.{start_tag, style_bytes, tag_close, tag_open, void_close, void_names}
-use Rattle.robots_html.specs.Html as html
-use Rattle.robots_html.specs.Reader.{read_document}
-use Rattle.robots_html.proofs.ReaderLemmas.{page_read}
-use Rattle.robots_html.proofs.TextLemmas.{escaped-append}
-use Rattle.robots_html.proofs.WritingLemmas.{followed_content, written-followed}
-use Rattle.robots_io.specs.Sanitize.{IsPrintable}
-use Rattle.robots_io.proofs.SanitizeLemmas.{append_printable, ascii_printable, line_printable, nil_printable}
-use Rattle.robots_text.specs.Text.{parts_text, value_text}
-use Rattle.robots_text.proofs.PartLemmas.{parts_printable, value_printable}
+use Rattle.html_writer.specs.Html.{AreAttributes, Attribute, Html, IsContent}
+use Rattle.html_writer.specs.Html.{attribute_bytes, doctype, document}
+use Rattle.html_writer.specs.Html.{end_tag, escaped, has_attribute, is_among, is_css}
+use Rattle.html_writer.specs.Html.{is_name, is_ordinary, is_title}
+use Rattle.html_writer.specs.Html.{start_tag, style_bytes, tag_close, tag_open, void_close, void_names}
+use Rattle.html_writer.specs.Html as html
+use Rattle.html_writer.specs.Reader.{read_document}
+use Rattle.html_writer.proofs.ReaderLemmas.{page_read}
+use Rattle.html_writer.proofs.TextLemmas.{escaped-append}
+use Rattle.html_writer.proofs.WritingLemmas.{followed_content, written-followed}
+use Rattle.printable_text.specs.Sanitize.{IsPrintable}
+use Rattle.printable_text.proofs.SanitizeLemmas.{append_printable, ascii_printable, line_printable, nil_printable}
+use Rattle.printable_text.specs.Text.{parts_text, value_text}
+use Rattle.printable_text.proofs.PartLemmas.{parts_printable, value_printable}
 use Rattle.audit_page.specs.Html.{html_of}
 use Rattle.audit_page.specs.Tree.{Field, Tree, Words, all, are_fields, both, each, field_attribute}
 use Rattle.audit_page.specs.Tree.{field_bytes, fixed, is_ascii, labelled, message, nothing, opened, shown}

@@ -1,7 +1,7 @@
 -- The same trees without the evidence that they are safe.
 use Rattle.std.specs.Prelude.{[], codes, map}
-use Rattle.robots_html.specs.Html.{Html, ◌⊕◌}
-use Rattle.robots_html.specs.Html as html
+use Rattle.html_writer.specs.Html.{Html, ◌⊕◌}
+use Rattle.html_writer.specs.Html as html
 use Rattle.audit_page.specs.Tree.{Tree, both, field_attribute, nothing, style, tag, text, title, void}
 use Rattle.audit_page.specs.Tree.{words_text}
 

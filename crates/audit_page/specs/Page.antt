@@ -8,12 +8,12 @@ use Rattle.std.specs.Prelude.{codes, drop, filter, if◌then◌else◌, length, 
 use Rattle.std.proofs.Common.{refl}
 use Rattle.std.proofs.lemmas.Bool.{and_parts}
 use Rattle.texting_robots.specs.Callers.{Label, LineValue, sitemaps_in}
-use Rattle.robots_html.specs.Html.{Html, tag_close}
-use Rattle.robots_io.specs.Sanitize.{ends_apart}
-use Rattle.robots_text.specs.declared.level.Level.{Level}
-use Rattle.robots_text.specs.declared.level.Level.TheVariants.{Error, Note, Warning}
-use Rattle.robots_text.specs.Level.{level_word}
-use Rattle.robots_text.specs.Text.{Number, Untrusted, Value, Word, is_fixed, word}
+use Rattle.html_writer.specs.Html.{Html, tag_close}
+use Rattle.printable_text.specs.Sanitize.{ends_apart}
+use Rattle.printable_text.specs.declared.level.Level.{Level}
+use Rattle.printable_text.specs.declared.level.Level.TheVariants.{Error, Note, Warning}
+use Rattle.printable_text.specs.Level.{level_word}
+use Rattle.printable_text.specs.Text.{Number, Untrusted, Value, Word, is_fixed, word}
 use Rattle.robots_warnings.specs.File.{lines_of}
 use Rattle.robots_warnings.specs.Message.{reported_parts}
 use Rattle.robots_warnings.specs.Table.{level_of}

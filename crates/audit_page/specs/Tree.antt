@@ -1,14 +1,14 @@
 -- A page as data: its texts, names and attributes are safe by their type. So whatever it says, it is
 -- printable, and reading it yields the same tree.
 --
--- What is written is made of the pieces of `robots_html`, which are `unfoldable`.
+-- What is written is made of the pieces of `html_writer`, which are `unfoldable`.
 use Rattle.std.specs.Prelude.{◌≡◌, ℕ, Bool, true, List, [], ◌∷◌, ◌++◌, ◌&&◌, codes, flat_map, not}
 use Rattle.std.specs.List.{list_all}
-use Rattle.robots_html.specs.Html.{Attribute, attribute, end_tag, escaped, has_attribute, is_among, is_css}
-use Rattle.robots_html.specs.Html.{is_name, is_ordinary, is_title, style_bytes, tag_close, tag_open}
-use Rattle.robots_html.specs.Html.{void_close, void_names}
-use Rattle.robots_io.specs.Sanitize.{is_printable_byte}
-use Rattle.robots_text.specs.Text.{PartValue, Value, parts_text, value_text}
+use Rattle.html_writer.specs.Html.{Attribute, attribute, end_tag, escaped, has_attribute, is_among, is_css}
+use Rattle.html_writer.specs.Html.{is_name, is_ordinary, is_title, style_bytes, tag_close, tag_open}
+use Rattle.html_writer.specs.Html.{void_close, void_names}
+use Rattle.printable_text.specs.Sanitize.{is_printable_byte}
+use Rattle.printable_text.specs.Text.{PartValue, Value, parts_text, value_text}
 
 -- ---- texts
 

@@ -1,7 +1,7 @@
 //! A theorem about pages, written as the contract of an empty function.
 ghost use Rattle.std.specs.Prelude.{Some, ◌≡◌};
-ghost use Rattle.robots_html.specs.Html.{document};
-ghost use Rattle.robots_html.specs.Reader.{read_document};
+ghost use Rattle.html_writer.specs.Html.{document};
+ghost use Rattle.html_writer.specs.Reader.{read_document};
 ghost use Rattle.audit_core.specs.Audit.{AuditValue};
 ghost use Rattle.audit_core.specs.Request.{RequestValue};
 ghost use Rattle.audit_page.specs.Page.{page};

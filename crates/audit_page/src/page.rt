@@ -3,7 +3,7 @@
 
 ghost use Rattle.std.specs.Prelude.{◌≡◌, ◌++◌, IfOk, OnOk, length, map, option_map};
 ghost use Rattle.texting_robots.specs.Callers.{label_by_value};
-ghost use Rattle.robots_html.specs.Html.{doctype, document};
+ghost use Rattle.html_writer.specs.Html.{doctype, document};
 ghost use Rattle.audit_core.specs.Request.{requested_by};
 ghost use Rattle.audit_page.specs.Page.{page, page_content, page_head, page_tree, summary, syntax_entry};
 ghost use Rattle.audit_page.specs.Tree.{written};
@@ -23,7 +23,7 @@ use audit_core::syntax::Syntax;
 use file::{push_file_table, push_sitemap_entry};
 use parts::{Page, push, push_start_with};
 use pieces::{head_start, page_heading, title};
-use robots_html::write::{push_doctype, push_element, push_end, push_start};
+use html_writer::write::{push_doctype, push_element, push_end, push_start};
 use std::alloc::{AllocError, Global};
 use texting_robots::labels::LabeledLine;
 use verdicts::{push_crawler_entries, push_verdict_part};

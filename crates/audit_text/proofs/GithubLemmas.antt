@@ -6,15 +6,15 @@ use Rattle.std.specs.Prelude.{if◌then◌else◌, not, ◌||◌, ◌&&◌}
 use Rattle.std.specs.List.{AllByRecursion as Each, list_all}
 use Rattle.std.proofs.lemmas.Bool.Decides.{nat_tests}
 use Rattle.std.proofs.lemmas.List.Folds.{list_all-append}
-use Rattle.robots_io.specs.Sanitize.{IsPrintable, has_command, sanitized}
-use Rattle.robots_io.proofs.CommandLemmas.{IsMiddle, after_front, before_middle, byte_middle, decimal_middle}
-use Rattle.robots_io.proofs.CommandLemmas.{escaped_quiet, is_calm, middle_text, sanitized_quiet}
-use Rattle.robots_io.proofs.SanitizeLemmas.{append_printable, decimal_printable, ended_printable}
-use Rattle.robots_io.proofs.SanitizeLemmas.{line_printable, sanitized_printable}
-use Rattle.robots_text.specs.declared.level.Level.{Level}
-use Rattle.robots_text.specs.declared.level.Level.TheVariants.{Error, Note, Warning}
-use Rattle.robots_text.specs.Text.{Label, label}
-use Rattle.robots_text.proofs.PartLemmas.{label_middle, label_printable}
+use Rattle.printable_text.specs.Sanitize.{IsPrintable, has_command, sanitized}
+use Rattle.printable_text.proofs.CommandLemmas.{IsMiddle, after_front, before_middle, byte_middle, decimal_middle}
+use Rattle.printable_text.proofs.CommandLemmas.{escaped_quiet, is_calm, middle_text, sanitized_quiet}
+use Rattle.printable_text.proofs.SanitizeLemmas.{append_printable, decimal_printable, ended_printable}
+use Rattle.printable_text.proofs.SanitizeLemmas.{line_printable, sanitized_printable}
+use Rattle.printable_text.specs.declared.level.Level.{Level}
+use Rattle.printable_text.specs.declared.level.Level.TheVariants.{Error, Note, Warning}
+use Rattle.printable_text.specs.Text.{Label, label}
+use Rattle.printable_text.proofs.PartLemmas.{label_middle, label_printable}
 use Rattle.audit_core.specs.Audit.{AuditValue}
 use Rattle.audit_core.proofs.EscapeLemmas.{escaped_printable}
 use Rattle.audit_core.specs.Findings.{FindingValue, Found, all_found, findings, found_value, message_of}

@@ -7,7 +7,7 @@ use Rattle.std.proofs.lemmas.List.Sums.{count_by-le-length, sum_by_push}
 use Rattle.audit_text.specs.Internal.Listed.{AreCounts, Counts, counted}
 use Rattle.audit_text.specs.Listed.{count_like, count_of, is_like, more_of, most, placed}
 use Rattle.audit_text.specs.declared.listed.More.{More}
-use Rattle.robots_text.specs.declared.level.Level.{Level}
+use Rattle.printable_text.specs.declared.level.Level.{Level}
 use Rattle.robots_warnings.specs.Table.{level_of, name_of}
 use Rattle.robots_warnings.specs.WarningValue.{WarningValue}
 use Rattle.robots_warnings.specs.declared.table.Cause.{Cause}

@@ -1,12 +1,12 @@
 -- The lines about warnings contain no command, and colors add only their codes.
 use Rattle.std.proofs.Common.{◌≡◌, ℕ, Bool, false, List, [], ◌∷◌, ◌++◌, map}
 use Rattle.std.specs.List.{AllByRecursion as Each}
-use Rattle.robots_io.specs.Lines.{ended}
-use Rattle.robots_io.specs.Sanitize.{has_command}
-use Rattle.robots_text.specs.Color.{IsColored, IsForTerminal}
-use Rattle.robots_text.specs.Text.{LevelLine, NamedLine, level_text, named_text}
-use Rattle.robots_text.proofs.ColorLemmas.{lines_colored, lines_for_terminal}
-use Rattle.robots_text.proofs.PartLemmas.{level_quiet, named_quiet}
+use Rattle.printable_text.specs.Lines.{ended}
+use Rattle.printable_text.specs.Sanitize.{has_command}
+use Rattle.printable_text.specs.Color.{IsColored, IsForTerminal}
+use Rattle.printable_text.specs.Text.{LevelLine, NamedLine, level_text, named_text}
+use Rattle.printable_text.proofs.ColorLemmas.{lines_colored, lines_for_terminal}
+use Rattle.printable_text.proofs.PartLemmas.{level_quiet, named_quiet}
 use Rattle.robots_warnings.specs.WarningValue.{WarningValue}
 use Rattle.audit_text.specs.Listed.{listed, more}
 use Rattle.audit_text.specs.Report.{listed_lines, more_line, shown_warning}

@@ -10,11 +10,11 @@ use Rattle.std.specs.Prelude.{flat_map, if◌then◌else◌, map}
 use Rattle.std.specs.List.{list_all}
 use Rattle.std.specs.Str.{byte}
 use Rattle.std.proofs.Common.{refl}
-use Rattle.robots_io.specs.Lines.{ended}
-use Rattle.robots_io.specs.Sanitize.{sanitized}
-use Rattle.robots_text.specs.declared.level.Level.{Level}
-use Rattle.robots_text.specs.declared.level.Level.TheVariants.{Error, Note, Warning}
-use Rattle.robots_text.specs.Text.{Label, label}
+use Rattle.printable_text.specs.Lines.{ended}
+use Rattle.printable_text.specs.Sanitize.{sanitized}
+use Rattle.printable_text.specs.declared.level.Level.{Level}
+use Rattle.printable_text.specs.declared.level.Level.TheVariants.{Error, Note, Warning}
+use Rattle.printable_text.specs.Text.{Label, label}
 use Rattle.audit_core.specs.Findings.{FindingValue}
 
 -- ---- escaping

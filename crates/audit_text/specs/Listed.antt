@@ -4,8 +4,8 @@ use Rattle.std.specs.Prelude.{if◌then◌else◌, map}
 use Rattle.std.specs.Bool.{nat_lt}
 use denote.Enum.Declared.{tag_of}
 use Rattle.audit_text.specs.declared.listed.More.{More}
-use Rattle.robots_text.specs.declared.level.Level.{Level}
-use Rattle.robots_text.specs.contracts.level.Level.{the_type}
+use Rattle.printable_text.specs.declared.level.Level.{Level}
+use Rattle.printable_text.specs.contracts.level.Level.{the_type}
 use Rattle.robots_warnings.specs.declared.table.Cause.{Cause}
 use Rattle.robots_warnings.specs.Table.{level_of, name_of}
 use Rattle.robots_warnings.specs.WarningValue.{WarningValue}

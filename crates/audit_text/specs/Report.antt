@@ -2,10 +2,10 @@
 use Rattle.std.specs.Prelude.{◌≡◌, ℕ, Bool, true, false, List, [], ◌∷◌, ◌++◌, Option, Some, None, codes}
 use Rattle.std.specs.Prelude.{flat_map, if◌then◌else◌, map}
 use Rattle.std.proofs.Common.{refl}
-use Rattle.robots_text.specs.PlainLine.{starts}
-use Rattle.robots_text.specs.Text.{Absent, Count, Label, LevelLine, NamedLine, Number, Part}
-use Rattle.robots_text.specs.Text.{PartValue, ReportLine, Untrusted, Value, Word, label, level_text}
-use Rattle.robots_text.specs.Text.{fixed_level, line_from, named_text, only, word}
+use Rattle.printable_text.specs.PlainLine.{starts}
+use Rattle.printable_text.specs.Text.{Absent, Count, Label, LevelLine, NamedLine, Number, Part}
+use Rattle.printable_text.specs.Text.{PartValue, ReportLine, Untrusted, Value, Word, label, level_text}
+use Rattle.printable_text.specs.Text.{fixed_level, line_from, named_text, only, word}
 use Rattle.robots_warnings.specs.Message.{fixed_name, reported_parts}
 use Rattle.robots_warnings.specs.Table.{level_of}
 use Rattle.robots_warnings.specs.WarningValue.{WarningValue}

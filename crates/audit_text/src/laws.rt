@@ -4,7 +4,7 @@ ghost use Rattle.std.specs.List.{AllByRecursion as Each};
 ghost use Rattle.audit_core.specs.Audit.{AuditValue};
 ghost use Rattle.audit_core.specs.Findings.{FindingValue, findings};
 ghost use Rattle.audit_text.specs.Github.{command, is_in_line, is_in_property, property_text};
-ghost use Rattle.robots_io.specs.Sanitize.{has_command, sanitized};
+ghost use Rattle.printable_text.specs.Sanitize.{has_command, sanitized};
 
 /// In a workflow command for GitHub, whatever the name of the file and the texts are: no text ends the line, no text in a
 /// property ends the property, and no other command begins within the line of an audit's finding.

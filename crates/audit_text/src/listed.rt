@@ -2,7 +2,7 @@
 ghost use Rattle.std.specs.Prelude.{◌≡◌, ℕ, ◌+◌, ◌<◌, ◌++◌, ◌∷◌, [], IfOk, List, OnOk, if◌then◌else◌, map};
 ghost use Rattle.audit_text.specs.Internal.Listed.{AreCounts, counted};
 ghost use Rattle.audit_text.specs.Listed.{is_like, listed, more, more_of, unlisted};
-ghost use Rattle.robots_text.specs.declared.level.Level.{Level};
+ghost use Rattle.printable_text.specs.declared.level.Level.{Level};
 ghost use Rattle.robots_warnings.specs.Table.{level_of, name_of};
 ghost use Rattle.robots_warnings.specs.WarningValue.{WarningValue};
 

@@ -1,4 +1,4 @@
-//! What this library does with a file that follows the grammar of RFC 9309, section 2.2: theorems about the
+//! The grammar of RFC 9309, section 2.2, and what this library does with a file that follows it: theorems about the
 //! specification, each written as the contract of an empty function.
 #![tactic(auto)]
 

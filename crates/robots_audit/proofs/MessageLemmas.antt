@@ -3,10 +3,10 @@
 use Rattle.std.proofs.Common.{◌≡◌, ℕ, Bool, true, false, List, [], inl, inr, Option, Some, None, string_bytes}
 use Rattle.std.proofs.Common.{◌∙◌, ap, codes, subst, sym}
 use Rattle.clap.specs.declared.parser.matches.ArgMatches.{ArgMatches}
-use Rattle.robots_io.specs.Sanitize.{IsPrintable}
-use Rattle.robots_io.proofs.SanitizeLemmas.{nil_printable}
-use Rattle.robots_text.specs.Color.{IsColored, IsForTerminal}
-use Rattle.robots_text.proofs.ColorLemmas.{colored_same, for_terminal, with_colors}
+use Rattle.printable_text.specs.Sanitize.{IsPrintable}
+use Rattle.printable_text.proofs.SanitizeLemmas.{nil_printable}
+use Rattle.printable_text.specs.Color.{IsColored, IsForTerminal}
+use Rattle.printable_text.proofs.ColorLemmas.{colored_same, for_terminal, with_colors}
 use Rattle.audit_core.specs.Answer.{IsText}
 use Rattle.audit_core.specs.Audit.{AuditValue}
 use Rattle.audit_core.specs.Color.{requested_colors}

@@ -1,7 +1,7 @@
 -- A report is printable in each format.
 use Rattle.std.proofs.Common.{◌++◌}
-use Rattle.robots_io.specs.Sanitize.{IsPrintable}
-use Rattle.robots_text.proofs.PartLemmas.{written_printable}
+use Rattle.printable_text.specs.Sanitize.{IsPrintable}
+use Rattle.printable_text.proofs.PartLemmas.{written_printable}
 use Rattle.audit_core.specs.declared.request.Format.{Format}
 use Rattle.audit_core.specs.declared.request.Format.TheVariants.{Github, Html, Json, Sarif, Text}
 use Rattle.audit_core.specs.Audit.{AuditValue}

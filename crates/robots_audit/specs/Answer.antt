@@ -3,11 +3,11 @@ use Rattle.std.specs.Prelude.{◌≡◌, ◌⊎◌, ℕ, Bool, true, false, List
 use Rattle.std.specs.Prelude.{if◌then◌else◌, IsTrue, not, ◌&&◌, string_bytes, ⊤}
 use Rattle.std.specs.List.{list_all, list_any}
 use Rattle.clap.specs.declared.parser.matches.ArgMatches.{ArgMatches}
-use Rattle.robots_html.specs.Html.{document}
-use Rattle.robots_io.specs.Lines.{ended}
-use Rattle.robots_text.specs.Level.{reaches}
-use Rattle.robots_text.specs.Text.{ReportLine, written}
-use Rattle.robots_text.specs.declared.level.Level.{Level}
+use Rattle.html_writer.specs.Html.{document}
+use Rattle.printable_text.specs.Lines.{ended}
+use Rattle.printable_text.specs.Level.{reaches}
+use Rattle.printable_text.specs.Text.{ReportLine, written}
+use Rattle.printable_text.specs.declared.level.Level.{Level}
 use Rattle.robots_warnings.specs.Table.{is_name, level_of}
 use Rattle.robots_warnings.specs.WarningValue.{WarningValue}
 use Rattle.audit_core.specs.Answer.{IsText}

@@ -12,8 +12,8 @@ use Rattle.audit_core.specs.declared.request.Format.TheVariants.{Html, Json, Tex
 use Rattle.audit_core.specs.declared.request.Request.{Request}
 use Rattle.audit_core.specs.declared.fault.Fault.{Fault}
 use Rattle.audit_core.specs.declared.fault.Fault.TheVariants.{Memory, StdinTwice, Usage}
-use Rattle.robots_text.specs.declared.level.Level.{Level}
-use Rattle.robots_text.specs.declared.level.Level.TheVariants as level
+use Rattle.printable_text.specs.declared.level.Level.{Level}
+use Rattle.printable_text.specs.declared.level.Level.TheVariants as level
 use Rattle.robots_warnings.specs.Table.{is_name}
 use Rattle.audit_core.specs.Crawler.{single}
 use Rattle.audit_core.specs.Fault.{IsUnknown}

@@ -14,7 +14,7 @@ use audit_core::fault::{Fault, unknown};
 use audit_core::request::{Format, Request};
 use audit_core::version::VERSION_AND_TOOLCHAIN;
 use clap::{ArgMatches, Command};
-use robots_text::level::Level;
+use printable_text::level::Level;
 use robots_warnings::table::is_name;
 use std::alloc::{AllocError, Global};
 

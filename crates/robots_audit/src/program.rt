@@ -14,7 +14,7 @@ use audit_page::page::page_text;
 use audit_text::denied::{shown, totals_of};
 use audit_text::github::github_text;
 use audit_text::report::{listed_lines, push_totals, report_text};
-use robots_text::level::Level;
+use printable_text::level::Level;
 use robots_warnings::warning::Warning;
 use std::alloc::{AllocError, Global};
 

@@ -1,6 +1,6 @@
 -- What the bytes of a file mean for one crawler, or for all crawlers.
 use Rattle.std.specs.Prelude.{◌≡◌, ℕ, IsUtf8, List, Option, take}
-use Rattle.robots_io.specs.Lines.{ended}
+use Rattle.printable_text.specs.Lines.{ended}
 use Rattle.texting_robots.specs.Callers.{AreSitemapsOf, HasLines, IsDelayFor, IsRobotOfFile, RobotValue}
 use Rattle.texting_robots.specs.Callers.{agents_in, file_limit, file_lines}
 

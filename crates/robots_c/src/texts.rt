@@ -1,13 +1,13 @@
 //! Strings for C: the sitemaps and the crawlers of a site, and the address of robots.txt.
 ghost use Rattle.std.specs.Prelude.{◌≡◌, ◌≢◌, ◌<◌, ◌⊎◌, IfErr, IfOk, length, map, pos, string_bytes};
-ghost use Rattle.robots_io.specs.Lines.{ended};
+ghost use Rattle.printable_text.specs.Lines.{ended};
 ghost use Rattle.robots_c.specs.File.{AreAgents, AreSitemaps, bytes_read};
 ghost use Rattle.robots_c.specs.Status.{IsAddress, IsWhyNoAddress, status_of};
 ghost use Rattle.robots_c.specs.Text.{IsPutIn};
 
 use crate::fault::Fault;
 use crate::file::text_of;
-use robots_io::lines::push_line;
+use printable_text::lines::push_line;
 use std::alloc::{AllocError, Global};
 use texting_robots::{Site, get_robots_url};
 use url::ParseError;

@@ -1,4 +1,1 @@
 pub mod StreamsLemmas
-pub mod LinesLemmas
-pub mod SanitizeLemmas
-pub mod CommandLemmas

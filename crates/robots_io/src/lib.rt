@@ -1,8 +1,5 @@
-//! What the programs that use `texting_robots` share: reading a complete input, writing a complete report,
-//! the lines that several reports contain, and sanitizing untrusted text.
+//! Reading a complete input, and writing a complete report; streams for tests.
 #![tactic(auto)]
 
 pub mod fakes;
-pub mod lines;
-pub mod sanitize;
 pub mod streams;

@@ -15,7 +15,7 @@ use Rattle.texting_robots.proofs.HeldLemmas.{rejection_is_computed}
 use Rattle.texting_robots.proofs.BestLemmas.{Either}
 use Rattle.robots_verdict.specs.declared.fault.Fault.{Fault}
 use Rattle.robots_verdict.specs.declared.fault.Fault.TheVariants.{HeaderNotUtf8, InvalidRule, NoEmptyLine}
-use Rattle.robots_io.specs.Lines.{ended, lf}
+use Rattle.printable_text.specs.Lines.{ended, lf}
 use Rattle.robots_verdict.proofs.VerdictsLemmas.{some_lines}
 use Rattle.robots_verdict.specs.Input.{BeginsWithLine, IsInput, IsOneLine, cr}
 use Rattle.robots_verdict.specs.Report.{IsReport, IsReportText, delay_line, sitemap_line}

@@ -11,7 +11,7 @@ use Rattle.std.proofs.lemmas.List.{append-nil, drop_more, get_or-map}
 use Rattle.std.proofs.lemmas.List.{length-append, length-map, take-append-drop}
 use Rattle.robots_verdict.specs.declared.fault.Fault.{Fault}
 use Rattle.robots_verdict.specs.declared.fault.Fault.TheVariants.{HeaderNotUtf8, Memory}
-use Rattle.robots_io.specs.Lines.{lf}
+use Rattle.printable_text.specs.Lines.{lf}
 use Rattle.robots_verdict.specs.Input.{AreUtf8, HasNoUrl, HoldNotUtf8}
 use Rattle.robots_verdict.specs.Input.{AreUrlLines, BeginsWithLine, IsFirstLf, IsInput, IsOneLine, cr}
 

@@ -1,4 +1,4 @@
+pub mod VerdictsLemmas
 pub mod InputLemmas
 pub mod ReportLemmas
 pub mod ExistsLemmas
-pub mod VerdictsLemmas

@@ -10,10 +10,10 @@ use Rattle.texting_robots.specs.Callers.{AnswerAlike, PlacedRule, prepared, unpl
 use Rattle.texting_robots.specs.declared.decision.Decision.{Decision}
 use Rattle.texting_robots.proofs.BestLemmas.{each_text_answered}
 use Rattle.texting_robots.proofs.VerdictLemmas.{one_line_decides, one_verdict}
-use Rattle.robots_io.specs.Lines.{ended}
+use Rattle.printable_text.specs.Lines.{ended}
 use Rattle.texting_robots.specs.Decision.{IsDecisionOn}
 use Rattle.robots_verdict.specs.Verdicts.{AddsVerdict, AddsVerdicts, IsVerdictLine, verdict_front}
-use Rattle.robots_io.proofs.LinesLemmas.{lines_added}
+use Rattle.printable_text.proofs.LinesLemmas.{lines_added}
 
 module _ (rules : List PlacedRule) where
   -- ---- appending verdict lines

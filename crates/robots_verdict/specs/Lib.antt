@@ -1,4 +1,4 @@
+pub mod Verdicts
 pub mod Fault
 pub mod Input
 pub mod Report
-pub mod Verdicts

@@ -6,7 +6,7 @@ use Rattle.std.specs.Io.KnownBytes.{Appends}
 use Rattle.texting_robots.specs.Callers.{IsFileRejected, delay_for, file_limit, lines_read, placed_rules}
 use Rattle.texting_robots.specs.Callers.{sitemaps_in}
 use Rattle.robots_io.specs.Streams.{AppendsBeginning}
-use Rattle.robots_io.specs.Lines.{ended}
+use Rattle.printable_text.specs.Lines.{ended}
 use Rattle.robots_verdict.specs.Verdicts.{IsVerdictLine}
 use Rattle.robots_verdict.specs.declared.fault.Fault.{Fault}
 use Rattle.robots_verdict.specs.declared.fault.Fault.TheVariants.{HeaderNotUtf8, InvalidRule}

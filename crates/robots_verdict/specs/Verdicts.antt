@@ -4,7 +4,7 @@ use Rattle.std.specs.Prelude.{Option, Some, None, codes, decimal}
 use Rattle.std.specs.List.{AllZip}
 use Rattle.texting_robots.specs.Callers.{PlacedRule, prepared}
 use Rattle.texting_robots.specs.declared.decision.Decision.{Decision}
-use Rattle.robots_io.specs.Lines.{ended}
+use Rattle.printable_text.specs.Lines.{ended}
 use Rattle.texting_robots.specs.Decision.{IsDecisionOn}
 
 -- ---- a line

@@ -1,5 +1,5 @@
-//! Reads a crawler's name, some URLs and a robots.txt file from standard input, and prints which of
-//! the URLs the crawler may fetch.
+//! The program for scripts: it reads a crawler's name, some URLs and a robots.txt file from standard input, and prints
+//! which of the URLs the crawler may fetch.
 //!
 //! The input is a line with the crawler's name, a line for each URL, an empty line, and then the bytes of the
 //! file. The output has a line with the delay in microseconds, a line for each sitemap, and a line for each

@@ -1,6 +1,6 @@
 //! The report on an input.
 ghost use Rattle.std.specs.Prelude.{◌≡◌, ◌≢◌, ◌++◌, ◌∷◌, [], IfErr, IfOk, OnOk, Ok, map, string_bytes};
-ghost use Rattle.robots_io.specs.Lines.{ended};
+ghost use Rattle.printable_text.specs.Lines.{ended};
 ghost use Rattle.robots_verdict.specs.Verdicts.{AddsVerdict, AddsVerdicts};
 ghost use Rattle.robots_verdict.specs.Report.{HasFault, IsReport, delay_line, sitemap_line};
 
@@ -8,7 +8,7 @@ use crate::fault::Fault;
 use crate::header::read_header;
 use crate::verdicts::{counted_decision_on, push_decision};
 use itoa::Buffer;
-use robots_io::lines::push_line;
+use printable_text::lines::push_line;
 use std::alloc::{AllocError, Global};
 use texting_robots::{Error, Robot};
 

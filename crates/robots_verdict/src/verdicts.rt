@@ -4,7 +4,7 @@ ghost use Rattle.texting_robots.specs.Callers.{prepared};
 ghost use Rattle.texting_robots.specs.Decision.{IsDecisionOn};
 ghost use Rattle.robots_verdict.specs.Verdicts.{line_text, verdict_front, verdict_word};
 
-use robots_io::lines::push_number;
+use printable_text::lines::push_number;
 use std::alloc::{AllocError, Global};
 use texting_robots::robot::Decision;
 use texting_robots::view::View;

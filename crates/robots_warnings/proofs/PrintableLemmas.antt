@@ -6,8 +6,8 @@ use Rattle.robots_warnings.specs.contracts.table.Cause.{the_type}
 use Rattle.robots_warnings.specs.declared.table.Cause.{Cause}
 use Rattle.robots_warnings.specs.Message.{passes_at}
 use Rattle.robots_warnings.specs.Table.{all_examples, example_of, number_of}
-use Rattle.robots_io.specs.Sanitize.{IsPrintable, is_printable_byte}
-use Rattle.robots_io.proofs.SanitizeLemmas.{ascii_printable}
+use Rattle.printable_text.specs.Sanitize.{IsPrintable, is_printable_byte}
+use Rattle.printable_text.proofs.SanitizeLemmas.{ascii_printable}
 
 -- all bytes are printable ASCII (or LF)
 abbrev is_ascii : List ℕ → Bool

@@ -8,7 +8,7 @@ use Rattle.std.specs.Borrow.{Bor}
 use Rattle.texting_robots.specs.Callers.{LineValue}
 use Rattle.texting_robots.specs.Group.{is_agent}
 use Rattle.robots_warnings.specs.declared.facts.LineKinds.{LineKinds}
-use Rattle.robots_text.specs.declared.level.Level.{Level}
+use Rattle.printable_text.specs.declared.level.Level.{Level}
 use Rattle.robots_warnings.specs.declared.table.Cause.{Cause}
 use Rattle.robots_warnings.specs.declared.table.Topic.{Topic}
 use Rattle.robots_warnings.specs.Facts.{has_text, is_extra, is_rule}

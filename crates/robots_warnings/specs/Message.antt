@@ -6,8 +6,8 @@ use Rattle.std.specs.List.{list_all}
 use Rattle.std.proofs.Common.{arith, refl}
 use Rattle.std.proofs.lemmas.Bool.{and_parts}
 use borrow.Enum.Match.{tag_small}
-use Rattle.robots_text.specs.Text.{Absent, Fixed, Label, Number, Only, Part, PartValue, Untrusted, Word}
-use Rattle.robots_text.specs.Text.{is_fixed, label, only, parts_text}
+use Rattle.printable_text.specs.Text.{Absent, Fixed, Label, Number, Only, Part, PartValue, Untrusted, Word}
+use Rattle.printable_text.specs.Text.{is_fixed, label, only, parts_text}
 use Rattle.robots_warnings.specs.contracts.table.Cause.{the_type}
 use Rattle.robots_warnings.specs.declared.table.Cause.{Cause}
 use Rattle.robots_warnings.specs.declared.table.Cause.TheVariants.{EmptyAgent, GoogleIgnoresStar}

@@ -3,8 +3,8 @@ use Rattle.std.specs.Prelude.{ℕ, Bool, true, false, List, [], bytes_eq, map, s
 use Rattle.std.specs.List.{list_any}
 use denote.Enum.Declared.{tag_of}
 use Rattle.robots_warnings.specs.contracts.table.Cause.{the_type}
-use Rattle.robots_text.specs.declared.level.Level.{Level}
-use Rattle.robots_text.specs.declared.level.Level.TheVariants as level
+use Rattle.printable_text.specs.declared.level.Level.{Level}
+use Rattle.printable_text.specs.declared.level.Level.TheVariants as level
 use Rattle.robots_warnings.specs.declared.table.Cause.{Cause}
 use Rattle.robots_warnings.specs.declared.table.TheConstants.{EXAMPLES, WARNINGS}
 use Rattle.robots_warnings.specs.declared.table.Topic.{Topic}

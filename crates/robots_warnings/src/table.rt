@@ -9,7 +9,7 @@ ghost use Rattle.robots_warnings.specs.Table.{all_causes, all_levels, all_names,
 ghost use Rattle.robots_warnings.specs.Table.{example_of, is_not_about_syntax, is_name, level_of, name_of, text_of, topic_of};
 ghost use Rattle.robots_warnings.specs.declared.table.TheConstants.{WARNINGS};
 
-use robots_text::level::Level;
+use printable_text::level::Level;
 use std::alloc::{AllocError, Global};
 
 /// The reason for a warning. Each has a row in [`WARNINGS`].

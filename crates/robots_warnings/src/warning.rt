@@ -1,12 +1,12 @@
 //! A warning, and its message as the parts of a line.
 ghost use Rattle.std.specs.Prelude.{◌≡◌, ◌++◌, OnOk, option_map, string_bytes};
-ghost use Rattle.robots_text.specs.Raw.{raw_line, raw_text};
-ghost use Rattle.robots_text.specs.Text.{part_text, parts_text};
+ghost use Rattle.printable_text.specs.Raw.{raw_line, raw_text};
+ghost use Rattle.printable_text.specs.Text.{part_text, parts_text};
 ghost use Rattle.robots_warnings.specs.Message.{about_part, detail_end, detail_part};
 ghost use Rattle.robots_warnings.specs.Message.{message_parts, reason_part, reported_parts, warning_text};
 
 use crate::table::Cause;
-use robots_text::parts::{Part, Value, push_parts};
+use printable_text::parts::{Part, Value, push_parts};
 use std::alloc::AllocError;
 use std::marker::Model;
 

@@ -23,7 +23,7 @@ use Rattle.std.specs.{Bool.Decides}
 use Rattle.texting_robots.specs.{declared.decision.Decision.Decision}
 use Rattle.texting_robots.proofs.{BestLemmas.each_text_answered, ExampleLemmas.overlong_decides}
 use Rattle.texting_robots.proofs.{HeldLemmas.rejection_is_computed}
-use Rattle.robots_io.specs.{Verdicts.IsDecisionOn}
+use Rattle.texting_robots.specs.Decision.{IsDecisionOn}
 use Rattle.robots_needless.proofs.{SettledLemmas.nothing_found}
 
 -- a crawler with this name decides each text as it does without the found lines

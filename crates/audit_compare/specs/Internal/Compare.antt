@@ -7,7 +7,7 @@ use Rattle.texting_robots.specs.Callers.{PlacedRule, Rule, file_limit, label_by_
 use Rattle.texting_robots.specs.Callers.{lines_read}
 use Rattle.texting_robots.specs.Group.{is_agent}
 use Rattle.robots_warnings.specs.File.{lines_of}
-use Rattle.robots_text.specs.Text.{written}
+use Rattle.printable_text.specs.Text.{written}
 use Rattle.audit_compare.specs.declared.compare.Comparison.{Comparison}
 use Rattle.audit_compare.specs.declared.compared.Compared.{Compared}
 use Rattle.audit_compare.specs.declared.compared.Version.{Version}

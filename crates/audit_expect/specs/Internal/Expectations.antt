@@ -1,7 +1,7 @@
 -- Expectations and judgments as the code handles them.
 use Rattle.std.specs.Prelude.{◌≡◌, ℕ, List, [], ◌∷◌, filter, map}
 use Rattle.std.specs.List.{AllByRecursion as Each}
-use Rattle.robots_io.specs.Lines.{ended}
+use Rattle.printable_text.specs.Lines.{ended}
 use Rattle.audit_expect.specs.declared.expectations.AgentReading.{AgentReading}
 use Rattle.audit_expect.specs.declared.checks.Checked.{Checked}
 use Rattle.audit_expect.specs.Expect.{ExpectationValue}

@@ -15,7 +15,7 @@ use crate::page::style::SITEMAPS;
 use crate::page::warnings::push_warning_rows;
 use audit_core::audit::{Audit, labeling_agent};
 use audit_core::sitemaps::sitemaps_of;
-use robots_html::write::{push_element, push_end, push_start};
+use html_writer::write::{push_element, push_end, push_start};
 use robots_warnings::warning::Warning;
 use std::alloc::{AllocError, Global};
 use texting_robots::labels::LabeledLine;

@@ -1,17 +1,17 @@
 //! What a page is written with.
-#![tactic(auto, using(robots_html::proofs::WritingLemmas::joined))]
+#![tactic(auto, using(html_writer::proofs::WritingLemmas::joined))]
 
 ghost use Rattle.std.specs.Prelude.{◌≡◌, ◌++◌, [], OnOk};
-ghost use Rattle.robots_html.specs.Html.{escaped, tag_close, tag_open};
-ghost use Rattle.robots_text.specs.Raw.{raw_value};
+ghost use Rattle.html_writer.specs.Html.{escaped, tag_close, tag_open};
+ghost use Rattle.printable_text.specs.Raw.{raw_value};
 ghost use Rattle.audit_page.specs.Internal.{raw_part, raw_parts};
 ghost use Rattle.audit_page.specs.Page.{of_cause, warning_row};
 ghost use Rattle.audit_page.specs.Tree.{field_bytes, written};
 
 use itoa::Buffer;
-use robots_html::write::{push_attribute, push_close, push_open, push_text};
-use robots_io::sanitize::push_sanitized;
-use robots_text::parts::{Part, Value, push_parts};
+use html_writer::write::{push_attribute, push_close, push_open, push_text};
+use printable_text::sanitize::push_sanitized;
+use printable_text::parts::{Part, Value, push_parts};
 use robots_warnings::table::Cause;
 use std::alloc::{AllocError, Global};
 
@@ -46,7 +46,7 @@ impl Page {
 }
 
 /// Appends a value, sanitized and escaped.
-#[tactic(auto, using(robots_html::proofs::TextLemmas::decimal_written))]
+#[tactic(auto, using(html_writer::proofs::TextLemmas::decimal_written))]
 fn push_value(page: &mut Page, value: Value<'_>) -> Result<(), AllocError>
     ensures { OnOk result (page.new.out.items ≡ page.old.out.items ++ escaped (raw_value value.entry)) }
 {
@@ -83,7 +83,7 @@ pub(crate) fn push(page: &mut Page, parts: &[Part<'_>]) -> Result<(), AllocError
 }
 
 /// Appends a start tag with an attribute.
-#[tactic(auto, using(robots_html::proofs::WritingLemmas::joined), unfolding(crate::specs::Tree::field_bytes, robots_html::specs::Html::attribute_bytes))]
+#[tactic(auto, using(html_writer::proofs::WritingLemmas::joined), unfolding(crate::specs::Tree::field_bytes, html_writer::specs::Html::attribute_bytes))]
 pub(crate) fn push_start_with(
     page: &mut Page,
     name: &str,

@@ -1,11 +1,11 @@
 //! Pieces of a page that are written at once: markup with values.
-#![tactic(auto, using(crate::proofs::TreeLemmas::joined), unfolding(robots_html::specs::Html::tag_open, robots_html::specs::Html::tag_close, robots_html::specs::Html::void_close, robots_html::specs::Html::end_tag, robots_html::specs::Html::style_bytes, robots_html::specs::Html::escaped_bytes, crate::specs::Tree::field_bytes, crate::specs::Page::agent_caption, crate::specs::Page::first_columns, crate::specs::Page::code, crate::specs::Page::delay_entry, crate::specs::Page::file_caption, crate::specs::Page::line_columns, crate::specs::Page::line_link, crate::specs::Page::line_cells, crate::specs::Page::head_start, crate::specs::Page::page_heading, crate::specs::Page::sitemap_item, crate::specs::Page::some_rest, crate::specs::Page::url_column, crate::specs::Page::url_head))]
+#![tactic(auto, using(crate::proofs::TreeLemmas::joined), unfolding(html_writer::specs::Html::tag_open, html_writer::specs::Html::tag_close, html_writer::specs::Html::void_close, html_writer::specs::Html::end_tag, html_writer::specs::Html::style_bytes, html_writer::specs::Html::escaped_bytes, crate::specs::Tree::field_bytes, crate::specs::Page::agent_caption, crate::specs::Page::first_columns, crate::specs::Page::code, crate::specs::Page::delay_entry, crate::specs::Page::file_caption, crate::specs::Page::line_columns, crate::specs::Page::line_link, crate::specs::Page::line_cells, crate::specs::Page::head_start, crate::specs::Page::page_heading, crate::specs::Page::sitemap_item, crate::specs::Page::some_rest, crate::specs::Page::url_column, crate::specs::Page::url_head))]
 
 ghost use Rattle.std.specs.Prelude.{◌≡◌, ◌++◌, codes, option_map};
 ghost use Rattle.texting_robots.specs.Callers.{by_value, label_by_value};
-ghost use Rattle.robots_html.specs.Html.{end_tag, escaped};
-ghost use Rattle.robots_text.specs.Raw.{raw_value};
-ghost use Rattle.robots_text.specs.Text.{value_text};
+ghost use Rattle.html_writer.specs.Html.{end_tag, escaped};
+ghost use Rattle.printable_text.specs.Raw.{raw_value};
+ghost use Rattle.printable_text.specs.Text.{value_text};
 ghost use Rattle.audit_core.specs.Rows.{line_value};
 ghost use Rattle.audit_core.specs.Texts.{delay_value};
 ghost use Rattle.audit_page.specs.Internal.{raw_part, raw_parts};
@@ -16,7 +16,7 @@ ghost use Rattle.audit_page.specs.Tree.{shown, words_written, written};
 use crate::page::style::{CSS, POLICY};
 use audit_core::rows::{kind_text, membership_word};
 use audit_core::texts::delay_value;
-use robots_text::parts::{Part, Value};
+use printable_text::parts::{Part, Value};
 use texting_robots::labels::LabeledLine;
 use texting_robots::parser::Line;
 

@@ -2,8 +2,8 @@
 #![tactic(auto, using(crate::proofs::TreeLemmas::joined))]
 
 ghost use Rattle.std.specs.Prelude.{◌≡◌, ◌++◌, OnOk, map, option_map};
-ghost use Rattle.robots_html.specs.Html.{escaped};
-ghost use Rattle.robots_text.specs.Text.{value_text};
+ghost use Rattle.html_writer.specs.Html.{escaped};
+ghost use Rattle.printable_text.specs.Text.{value_text};
 ghost use Rattle.audit_page.specs.Page.{agent_columns, agent_content, agent_entries, agent_row, agent_table, crawler_entries};
 ghost use Rattle.audit_page.specs.Page.{deciding_line, group_note, rejection, url_body, url_column, url_part, url_row, url_table};
 ghost use Rattle.audit_page.specs.Page.{verdict_cell, verdict_part, verdict_word};
@@ -17,7 +17,7 @@ use crate::page::pieces::{
 use crate::page::style::{CRAWLERS, REJECTED};
 use audit_core::audit::{AgentAudit, Verdict};
 use audit_core::texts::push_group_text;
-use robots_html::write::{push_element, push_end, push_start, push_text};
+use html_writer::write::{push_element, push_end, push_start, push_text};
 use std::alloc::AllocError;
 
 fn verdict_word(allowed: bool) -> &'static str

@@ -2,7 +2,7 @@
 #![tactic(auto, using(crate::proofs::TreeLemmas::joined))]
 
 ghost use Rattle.std.specs.Prelude.{◌≡◌, ◌++◌, IfOk, IsTrue, OnOk, drop, map, take};
-ghost use Rattle.robots_text.specs.Text.{value_text};
+ghost use Rattle.printable_text.specs.Text.{value_text};
 ghost use Rattle.audit_page.specs.Page.{has_row, later_warnings, level_front, line_name, of_cause, rest_count};
 ghost use Rattle.audit_page.specs.Page.{rest_note, warning_entry, warning_item, warning_list, warning_place, warning_row};
 ghost use Rattle.audit_page.specs.Page.{warning_words, without_row};
@@ -11,9 +11,9 @@ ghost use Rattle.audit_page.specs.Tree.{all, words_written, written};
 use crate::page::parts::{KnownRow, Page, push, push_start_with};
 use crate::page::pieces::{line_link, some_rest};
 use crate::page::slices::{after, first};
-use robots_html::write::{push_element, push_end, push_start, push_text};
-use robots_text::level::Level;
-use robots_text::parts::{Part, Value};
+use html_writer::write::{push_element, push_end, push_start, push_text};
+use printable_text::level::Level;
+use printable_text::parts::{Part, Value};
 use robots_warnings::table::Cause;
 use robots_warnings::warning::{Warning, push_reported};
 use std::alloc::{AllocError, Global};

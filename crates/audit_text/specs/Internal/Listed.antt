@@ -5,7 +5,7 @@ use Rattle.std.specs.Borrow.{Bor}
 use Rattle.std.specs.Cmp.Lexicographic.{slice_cmp}
 use Rattle.std.specs.Ordering.{nat_cmp}
 use Rattle.audit_text.specs.Listed.{count_of, rank}
-use Rattle.robots_text.specs.declared.level.Level.{Level}
+use Rattle.printable_text.specs.declared.level.Level.{Level}
 use Rattle.robots_warnings.specs.WarningValue.{WarningValue}
 
 -- the numbers of warnings with a name, one for each level

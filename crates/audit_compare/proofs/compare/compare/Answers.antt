@@ -1,7 +1,7 @@
 use Rattle.std.proofs.Common.{ap, flat_map, map, refl, string_bytes, sym, ◌++◌, ◌∙◌, ℕ}
 use Rattle.std.specs.Global.{Vec}
-use Rattle.robots_text.specs.Text.{written}
-use Rattle.robots_text.proofs.PartLemmas.{written_append}
+use Rattle.printable_text.specs.Text.{written}
+use Rattle.printable_text.proofs.PartLemmas.{written_append}
 use Rattle.audit_compare.specs.Compare.{agent_lines, unchanged_lines}
 use Rattle.audit_compare.proofs.CompareLemmas.{names_compared}
 use Rattle.audit_compare.proofs.compare.compare.Goals as goal

@@ -1,5 +1,5 @@
 use Rattle.std.proofs.Common.{◌≡◌, ◌∙◌, ◌++◌, false, ap, arith, length, refl, string_bytes, sym}
-use Rattle.robots_text.specs.Text.{written}
+use Rattle.printable_text.specs.Text.{written}
 use Rattle.audit_compare.specs.Compare.{differences, is_rejected}
 use Rattle.audit_compare.specs.Internal.Compare.{compared_value}
 use Rattle.audit_compare.proofs.CompareLemmas.{none_appended}

@@ -1,5 +1,5 @@
 use Rattle.std.proofs.Common.{◌≡◌, ◌++◌, map, string_bytes, take}
-use Rattle.robots_text.specs.Text.{written}
+use Rattle.printable_text.specs.Text.{written}
 use Rattle.audit_compare.specs.Compare.{rule_line}
 use Rattle.audit_compare.proofs.differences.push_rule_lines.Given as goal
 

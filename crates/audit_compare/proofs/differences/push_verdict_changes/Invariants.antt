@@ -1,5 +1,5 @@
 use Rattle.std.proofs.Common.{◌≡◌, ◌++◌, drop, string_bytes}
-use Rattle.robots_text.specs.Text.{written}
+use Rattle.printable_text.specs.Text.{written}
 use Rattle.audit_compare.specs.Compare.{verdict_changes}
 use Rattle.audit_compare.specs.Internal.Compare.{compared_value}
 use Rattle.audit_compare.proofs.differences.push_verdict_changes.Given as goal

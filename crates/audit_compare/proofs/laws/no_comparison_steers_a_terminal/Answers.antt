@@ -1,5 +1,5 @@
 use Rattle.audit_compare.specs.Compare.{report_lines}
-use Rattle.robots_text.proofs.PartLemmas.{written_printable}
+use Rattle.printable_text.proofs.PartLemmas.{written_printable}
 use Rattle.audit_compare.proofs.laws.no_comparison_steers_a_terminal.Goals as goal
 
 pub returns : goal.returns

@@ -1,5 +1,5 @@
 use Rattle.std.proofs.Common.{◌≡◌, ◌++◌, string_bytes}
-use Rattle.robots_text.specs.Text.{blanks}
+use Rattle.printable_text.specs.Text.{blanks}
 use Rattle.audit_core.proofs.rows.push_blanks.Given as goal
 
 abbrev pub invariant-loop : goal.invariant-loop

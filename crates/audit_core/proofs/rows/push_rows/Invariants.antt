@@ -1,6 +1,6 @@
 use Rattle.std.proofs.Common.{◌≡◌, ◌++◌, map, string_bytes, take}
 use Rattle.texting_robots.specs.Callers.{label_by_value}
-use Rattle.robots_text.specs.Text.{written}
+use Rattle.printable_text.specs.Text.{written}
 use Rattle.audit_core.specs.Rows.{row}
 use Rattle.audit_core.proofs.rows.push_rows.Given as goal
 

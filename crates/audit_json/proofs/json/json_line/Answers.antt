@@ -1,6 +1,6 @@
 use Rattle.std.proofs.Common.{◌∷◌, ◌++◌, List, [], ap, ℕ, ◌∙◌}
 use Rattle.std.specs.Char.{encode_utf8}
-use Rattle.robots_io.specs.Lines.{lf}
+use Rattle.printable_text.specs.Lines.{lf}
 use Rattle.audit_json.proofs.json.json_line.Goals as goal
 
 pub returns : goal.returns

@@ -1,5 +1,5 @@
 use Rattle.std.proofs.Common.{◌≡◌, map, string_bytes, take}
-use Rattle.robots_text.specs.Text.{written}
+use Rattle.printable_text.specs.Text.{written}
 use Rattle.audit_text.specs.Explain.{list_line}
 use Rattle.audit_text.proofs.explain.list_text.Given as goal
 

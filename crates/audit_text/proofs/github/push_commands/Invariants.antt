@@ -1,5 +1,5 @@
 use Rattle.std.proofs.Common.{◌≡◌, ◌++◌, map, take}
-use Rattle.robots_io.specs.Lines.{ended}
+use Rattle.printable_text.specs.Lines.{ended}
 use Rattle.audit_text.specs.Github.{command}
 use Rattle.audit_core.specs.Findings.{finding_value}
 use Rattle.audit_text.proofs.github.push_commands.Given as goal

@@ -1,6 +1,6 @@
 use Rattle.std.proofs.Common.{◌≡◌, ◌++◌, map, string_bytes, take}
-use Rattle.robots_io.specs.Lines.{ended}
-use Rattle.robots_text.specs.Text.{level_text, named_text}
+use Rattle.printable_text.specs.Lines.{ended}
+use Rattle.printable_text.specs.Text.{level_text, named_text}
 use Rattle.audit_text.specs.Listed.{listed}
 use Rattle.audit_text.specs.Report.{more_line, shown_warning}
 use Rattle.audit_text.proofs.report.listed_lines.Given as goal

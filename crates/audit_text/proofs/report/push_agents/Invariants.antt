@@ -1,5 +1,5 @@
 use Rattle.std.proofs.Common.{◌≡◌, ◌++◌, flat_map, string_bytes, take}
-use Rattle.robots_text.specs.Text.{written}
+use Rattle.printable_text.specs.Text.{written}
 use Rattle.audit_text.specs.Report.{agent_lines}
 use Rattle.audit_text.proofs.report.push_agents.Given as goal
 

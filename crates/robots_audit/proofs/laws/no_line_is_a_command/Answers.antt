@@ -1,4 +1,4 @@
-use Rattle.robots_text.proofs.PartLemmas.{line_plain, lines_plain}
+use Rattle.printable_text.proofs.PartLemmas.{line_plain, lines_plain}
 use Rattle.audit_compare.specs.Compare.{report_lines}
 use Rattle.audit_text.specs.Report.{report_lines as audit_lines, total_line}
 use Rattle.robots_audit.proofs.laws.no_line_is_a_command.Goals as goal

@@ -1,5 +1,5 @@
 use Rattle.std.proofs.Common.{map}
-use Rattle.robots_text.proofs.PartLemmas.{written_printable}
+use Rattle.printable_text.proofs.PartLemmas.{written_printable}
 use Rattle.robots_warnings.specs.Table.{all_causes}
 use Rattle.audit_expect.proofs.ExpectationsLemmas.{expect_printable}
 use Rattle.audit_text.specs.Explain.{list_line}

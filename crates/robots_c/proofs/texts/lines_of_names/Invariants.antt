@@ -1,5 +1,5 @@
 use Rattle.std.proofs.Common.{◌≡◌, map, string_bytes, take}
-use Rattle.robots_io.specs.Lines.{ended}
+use Rattle.printable_text.specs.Lines.{ended}
 use Rattle.robots_c.proofs.texts.lines_of_names.Given as goal
 
 abbrev pub invariant-loop-name : goal.invariant-loop-name

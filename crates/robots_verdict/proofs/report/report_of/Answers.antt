@@ -2,7 +2,7 @@ use Rattle.std.proofs.Common.{◌≡◌, ◌++◌, ◌∷◌, [], ℕ, List, ap,
 use Rattle.std.proofs.Common.{◌∙◌}
 use Rattle.texting_robots.specs.Robot.{RobotValue, file_limit}
 use Rattle.texting_robots.proofs.MainTheoremLemmas.{not_rejected, read_robot}
-use Rattle.robots_io.specs.Lines.{ended}
+use Rattle.printable_text.specs.Lines.{ended}
 use Rattle.robots_verdict.specs.Report.{delay_line, sitemap_line}
 use Rattle.robots_verdict.proofs.{InputLemmas.some_input, ReportLemmas.text_made}
 use Rattle.robots_verdict.proofs.report.report_of.Goals as goal

@@ -1,6 +1,6 @@
 use Rattle.std.proofs.Common.{[]}
 use Rattle.robots_warnings.specs.Internal.{Row}
-use Rattle.robots_text.specs.declared.level.Level.TheVariants as level
+use Rattle.printable_text.specs.declared.level.Level.TheVariants as level
 use Rattle.robots_warnings.specs.Table.{level_of, name_of, text_of, topic_of}
 use Rattle.robots_warnings.specs.declared.table.Topic.TheVariants.{Syntax}
 use Rattle.robots_warnings.proofs.TableLemmas.{own_row, part_in}

@@ -1,0 +1,113 @@
+//! Writes HTML piece by piece, so that a page of any length needs no tree in memory.
+ghost use Rattle.std.specs.Prelude.{◌≡◌, ◌++◌, [], OnOk};
+ghost use Rattle.html_writer.specs.Html.{attribute, attribute_bytes, doctype, end_tag, escaped};
+ghost use Rattle.html_writer.specs.Html.{escaped_byte, start_tag, style_bytes, tag, tag_close};
+ghost use Rattle.html_writer.specs.Html.{tag_open, text, void_close, written};
+
+use std::alloc::AllocError;
+
+/// Appends a byte, or the character reference for it.
+fn push_byte(out: &mut Vec<u8>, byte: u8) -> Result<(), AllocError>
+    ensures { OnOk result (out.new.items ≡ out.old.items ++ escaped_byte byte) }
+{
+    match byte {
+        b'&' => out.extend_from_slice(b"&amp;"),
+        b'<' => out.extend_from_slice(b"&lt;"),
+        b'>' => out.extend_from_slice(b"&gt;"),
+        b'"' => out.extend_from_slice(b"&quot;"),
+        _ => Ok(out.push(byte)?),
+    }
+}
+
+/// Appends a text, which may come from anyone: it is escaped.
+pub fn push_text(out: &mut Vec<u8>, text: &[u8]) -> Result<(), AllocError>
+    ensures { OnOk result (out.new.items ≡ out.old.items ++ escaped text.now) }
+{
+    for byte in text {
+        push_byte(out, *byte)?;
+    }
+    Ok(())
+}
+
+/// Appends the document type, with which a page begins.
+#[tactic(auto, unfolding(crate::specs::Html::doctype))]
+pub fn push_doctype(out: &mut Vec<u8>) -> Result<(), AllocError>
+    ensures { OnOk result (out.new.items ≡ out.old.items ++ doctype) }
+{
+    out.extend_from_slice(b"<!DOCTYPE html>")
+}
+
+/// Appends the beginning of a start tag. Attributes and an end may follow.
+#[tactic(auto, unfolding(crate::specs::Html::tag_open))]
+pub fn push_open(out: &mut Vec<u8>, name: &str) -> Result<(), AllocError>
+    ensures { OnOk result (out.new.items ≡ out.old.items ++ tag_open name.now) }
+{
+    out.extend_from_slice(b"<")?;
+    out.extend_from_slice(name.as_bytes())
+}
+
+/// Appends an attribute, with a space before it.
+#[tactic(auto, unfolding(crate::specs::Html::attribute_bytes))]
+pub fn push_attribute(out: &mut Vec<u8>, name: &str, value: &str) -> Result<(), AllocError>
+    ensures { OnOk result (out.new.items ≡ out.old.items ++ attribute_bytes (attribute name.now value.now)) }
+{
+    out.extend_from_slice(b" ")?;
+    out.extend_from_slice(name.as_bytes())?;
+    out.extend_from_slice(b"=\"")?;
+    push_text(out, value.as_bytes())?;
+    out.extend_from_slice(b"\"")
+}
+
+/// Appends the end of a start tag.
+#[tactic(auto, unfolding(crate::specs::Html::tag_close))]
+pub fn push_close(out: &mut Vec<u8>) -> Result<(), AllocError>
+    ensures { OnOk result (out.new.items ≡ out.old.items ++ tag_close) }
+{
+    out.extend_from_slice(b">")
+}
+
+/// Appends the end of the tag of an element without content, as `meta` and `br`.
+#[tactic(auto, unfolding(crate::specs::Html::void_close))]
+pub fn push_void_close(out: &mut Vec<u8>) -> Result<(), AllocError>
+    ensures { OnOk result (out.new.items ≡ out.old.items ++ void_close) }
+{
+    out.extend_from_slice(b"/>")
+}
+
+/// Appends a start tag without attributes.
+pub fn push_start(out: &mut Vec<u8>, name: &str) -> Result<(), AllocError>
+    ensures { OnOk result (out.new.items ≡ out.old.items ++ start_tag name.now []) }
+{
+    push_open(out, name)?;
+    push_close(out)
+}
+
+/// Appends an end tag.
+#[inline(always)]
+#[tactic(auto, unfolding(crate::specs::Html::end_tag))]
+pub fn push_end(out: &mut Vec<u8>, name: &str) -> Result<(), AllocError>
+    ensures { OnOk result (out.new.items ≡ out.old.items ++ end_tag name.now) }
+{
+    out.extend_from_slice(b"</")?;
+    out.extend_from_slice(name.as_bytes())?;
+    out.extend_from_slice(b">")
+}
+
+/// Appends an element without attributes that contains a text, which may come from anyone.
+pub fn push_element(out: &mut Vec<u8>, name: &str, value: &[u8]) -> Result<(), AllocError>
+    ensures { OnOk result (out.new.items ≡ out.old.items ++ written (tag name.now [] (text value.now))) }
+{
+    push_start(out, name)?;
+    push_text(out, value)?;
+    push_end(out, name)
+}
+
+/// Appends a `style` element with this CSS, which is copied unchanged.
+#[tactic(auto, unfolding(crate::specs::Html::style_bytes))]
+pub fn push_style(out: &mut Vec<u8>, css: &str) -> Result<(), AllocError>
+    ensures { OnOk result (out.new.items ≡ out.old.items ++ style_bytes css.now) }
+{
+    out.extend_from_slice(b"<style>")?;
+    out.extend_from_slice(css.as_bytes())?;
+    out.extend_from_slice(b"</style>")
+}

@@ -1,0 +1,5 @@
+pub mod LinesLemmas
+pub mod SanitizeLemmas
+pub mod CommandLemmas
+pub mod ColorLemmas
+pub mod PartLemmas

@@ -1,0 +1,270 @@
+-- Sanitized bytes are printable, and printable bytes are unchanged by sanitizing.
+use Rattle.std.proofs.Common.{◌≡◌, ◌≤◌, ℕ, zero, suc, ◌<◌, ◌/◌, ◌%◌, ◌==◌, nat_lt, Bool}
+use Rattle.std.proofs.Common.{true, false, List, [], ◌∷◌, ◌++◌, Option, Some, None, ap}
+use Rattle.std.proofs.Common.{append_assoc, arith, codes, decimal, drop, flat_map, get_or, inl, inr, length}
+use Rattle.std.proofs.Common.{length-append}
+use Rattle.std.proofs.Common.{refl, replicate, subst, sym, take, ◌∙◌}
+use Rattle.std.specs.Bool.{IsTrue}
+use Rattle.std.specs.Char.{IsScalar, encode_utf8}
+use Rattle.std.specs.Fmt.{digit_glyph, digits, digits_onto}
+use Rattle.std.specs.List.{AllByRecursion as Each, list_all}
+use Rattle.std.specs.Str.{IsAscii, all_scalars, chars, encode_utf8_all}
+use Rattle.std.proofs.Math.Seq.{drop-append_seam}
+use Rattle.std.proofs.lemmas.Bool.{and_parts, cases_Bool, cases_lt, cond_both}
+use Rattle.std.proofs.lemmas.Bool.Decides.{nat_tests}
+use Rattle.std.proofs.lemmas.List.{append-nil, get_or_default}
+use Rattle.std.proofs.lemmas.List.Folds.{list_all-append}
+use Rattle.std.proofs.lemmas.Str.{IsUtf8-append, IsUtf8-from_ascii, IsUtf8-nil, chars-IsAscii}
+use Rattle.std.proofs.lemmas.Str.{chars-append, chars-encodes, chars-nil, encodes-chars, len_utf8_bounds}
+use Rattle.std.proofs.lemmas.List.Sums.{list_all-from_AllPass}
+use Rattle.std.proofs.lemmas.Str.{inside_one, length-encode, scalars-chars}
+use Rattle.std.proofs.lemmas.Str.Ascii.{IsAscii-cons, IsAscii-nil}
+use Rattle.bstr.specs.Utf8.{Decoded, decoded, good, pieces_from}
+use Rattle.bstr.proofs.lemmas.EncodeLemmas.{decoded-encode}
+use Rattle.bstr.proofs.lemmas.PieceLemmas.{pieces-nil, pieces-step}
+use Rattle.bstr.proofs.lemmas.SoundLemmas.{SpellsChar-decoded}
+use Rattle.texting_robots.specs.Escape.{escape_byte, escaped, is_escaped}
+use Rattle.printable_text.specs.Lines.{ended, lf}
+use Rattle.printable_text.specs.Sanitize.{IsPrintable, IsPrintableIn, has_command, is_printable, is_printable_byte}
+use Rattle.printable_text.specs.Sanitize.{safe_chunk, safe_chunks, safe_in, sanitized, sanitized_in}
+use Rattle.printable_text.specs.Sanitize.{sanitized_lines}
+use Rattle.printable_text.specs.Sanitize.{without_commands, without_hash}
+use lib.Utf8.{scalar}
+
+-- ---- characters and numbers
+
+-- the bytes of a character that passes a test pass it too, if those of at least 128 do
+char_passes : (test : ℕ → Bool) → ((byte : ℕ) → 128 ≤ byte → test byte ≡ true) → (char : ℕ)
+    → test char ≡ true → list_all test (encode_utf8 char) ≡ true
+char_passes test high char is =
+    let bytes = encode_utf8 char in
+    list_all-from_AllPass test bytes (λ k d below. rw (get_or_default bytes k d 0 below)
+    (elim (cases_lt (get_or bytes k 0) 128) [
+      | inl low ↦ rw (← inside_one char [] bytes k (sym (append-nil bytes)) below low) is
+      | inr beyond ↦ high (get_or bytes k 0) beyond
+    ]))
+
+pub chars_pass : (test : ℕ → Bool) → ((byte : ℕ) → 128 ≤ byte → test byte ≡ true) → (cs : List ℕ)
+    → list_all test cs ≡ true → list_all test (encode_utf8_all cs) ≡ true
+chars_pass test high [] are = refl
+chars_pass test high (char ∷ cs) are =
+    let both = and_parts (test char) (list_all test cs) are in
+    rw (list_all-append, char_passes test high char both.0) (chars_pass test high cs both.1)
+
+-- a number is a digit, after which there may be others
+pub decimal_by : (P Q : List ℕ → Type 0) → P [] → ((text : List ℕ) → Q text → P text)
+    → ((digit : ℕ) (text : List ℕ) → digit < 10 → P text → Q (digit_glyph false digit ∷ text))
+    → (n : ℕ) → Q (decimal n)
+unfolding digits
+decimal_by P Q none weaker more n = onto 64 n [] (omega arith) none
+  where
+    onto : (k n : ℕ) (text : List ℕ) → 0 < k → P text → Q (digits_onto k 10 false n text)
+    onto zero n text some is = absurd (omega (arith, some))
+    onto (suc zero) n text some is =
+        let first = more (n % 10) text (omega arith) is in
+        elim (cases_Bool (n / 10 == 0)) [ inl last ↦ rw last first | inr other ↦ rw other first ]
+    onto (suc (suc k)) n text some is =
+        let first = more (n % 10) text (omega arith) is in
+        elim (cases_Bool (n / 10 == 0)) [
+          | inl last ↦ rw last first
+          | inr other ↦ rw other (onto (suc k) (n / 10) _ (omega arith) (weaker _ first))
+        ]
+
+module _ (has_lines : Bool) where
+  -- ---- printable strings
+
+  pub nil_printable : IsPrintableIn has_lines []
+  nil_printable = record { utf8 = IsUtf8-nil; all = rw chars-nil refl }
+
+  pub append_printable : (one two : List ℕ) → IsPrintableIn has_lines one → IsPrintableIn has_lines two
+      → IsPrintableIn has_lines (one ++ two)
+  append_printable one two is too = record {
+    utf8 = IsUtf8-append one two is.utf8 too.utf8;
+    all = rw (chars-append one two is.utf8, list_all-append, is.all) too.all;
+  }
+
+  -- a string is printable if all its characters are
+  pub chars_printable : (cs : List ℕ) → all_scalars cs ≡ true → IsTrue (list_all (is_printable has_lines) cs)
+      → IsPrintableIn has_lines (encode_utf8_all cs)
+  chars_printable cs scalars are =
+      record { utf8 = (cs, (scalars, refl)); all = rw (chars-encodes cs scalars) are }
+
+  as_ascii : (text : List ℕ) → IsTrue (list_all (is_printable_byte has_lines) text)
+      → IsAscii text × IsTrue (list_all (is_printable has_lines) text)
+  as_ascii [] are = (IsAscii-nil, refl)
+  as_ascii (byte ∷ text) are =
+      let both = and_parts (is_printable_byte has_lines byte)
+      (list_all (is_printable_byte has_lines) text) are in
+      let first = and_parts (nat_lt byte 128) (is_printable has_lines byte) both.0 in
+      let later = as_ascii text both.1 in
+      let low : byte < 128 = grind (arith, nat_tests) in
+      (IsAscii-cons byte text low later.0, rw first.1 later.1)
+
+  -- a string is printable if all its bytes are printable ASCII; for a literal, `refl` proves the premise
+  pub ascii_printable : (text : List ℕ) → IsTrue (list_all (is_printable_byte has_lines) text)
+      → IsPrintableIn has_lines text
+  ascii_printable text are =
+      let is = as_ascii text are in
+      record { utf8 = IsUtf8-from_ascii text is.0; all = rw (chars-IsAscii text is.0) is.1 }
+
+  pub flat_printable : {X : Type 0} (f : X → List ℕ) → ((x : X) → IsPrintableIn has_lines (f x))
+      → (xs : List X) → IsPrintableIn has_lines (flat_map f xs)
+  flat_printable f are [] = nil_printable
+  flat_printable f are (x ∷ xs) = append_printable (f x) (flat_map f xs) (are x) (flat_printable f are xs)
+
+  pub blanks_printable : (n : ℕ) → IsPrintableIn has_lines (replicate n 32)
+  blanks_printable zero = nil_printable
+  blanks_printable (suc n) =
+      append_printable (32 ∷ []) (replicate n 32) (ascii_printable (32 ∷ []) refl) (blanks_printable n)
+
+  -- a hexadecimal digit is printable
+  glyph : (upper : Bool) (digit : ℕ) → digit < 16
+      → is_printable_byte has_lines (digit_glyph upper digit) ≡ true
+  glyph upper digit below = grind (arith, nat_tests)
+
+  pub decimal_printable : (n : ℕ) → IsPrintableIn has_lines (decimal n)
+  decimal_printable n =
+      let are = λ (text : List ℕ). IsTrue (list_all (is_printable_byte has_lines) text) in
+      ascii_printable (decimal n) (decimal_by are are refl (λ text is. is)
+      (λ digit text below is. rw (glyph false digit (omega arith)) is) n)
+
+  -- ---- sanitizing, one UTF-8 unit at a time
+
+  safe_nil : safe_in has_lines [] ≡ []
+  safe_nil = rw pieces-nil refl
+
+  safe_step : (bytes : List ℕ) → 0 < length bytes → safe_in has_lines bytes
+      ≡ safe_chunk has_lines (decoded bytes).char (take (decoded bytes).size bytes)
+      ++ safe_in has_lines (drop (decoded bytes).size bytes)
+  safe_step bytes some = ap (λ ps. safe_chunks has_lines ps bytes) (pieces-step bytes some)
+
+  -- loop step: after one more UTF-8 unit is appended, the appended bytes followed by the sanitized rest are
+  -- the same as before
+  pub chunk_added : (rest old mid new : List ℕ) → 0 < length rest
+      → new ≡ mid ++ safe_chunk has_lines (decoded rest).char (take (decoded rest).size rest)
+      → mid ++ safe_in has_lines rest ≡ old
+      → new ++ safe_in has_lines (drop (decoded rest).size rest) ≡ old
+  chunk_added rest old mid new some added before =
+      rw (added, append_assoc, ← safe_step rest some) before
+
+  pub all_added : (rest old mid : List ℕ) → length rest ≡ 0 → mid ++ safe_in has_lines rest ≡ old
+      → mid ≡ old
+  all_added [] old mid none before = rw (safe_nil, append-nil) at before
+  all_added (byte ∷ rest) old mid none before = absurd (omega arith)
+
+  -- ---- printable strings are unchanged
+
+  all_kept : (cs : List ℕ) → all_scalars cs ≡ true → IsTrue (list_all (is_printable has_lines) cs)
+      → safe_in has_lines (encode_utf8_all cs) ≡ encode_utf8_all cs
+  all_kept [] scalars are = safe_nil
+  all_kept (char ∷ cs) scalars are =
+      let scalars_too = and_parts (scalar char) (all_scalars cs) scalars in
+      let plain = and_parts (is_printable has_lines char) (list_all (is_printable has_lines) cs) are in
+      let front = encode_utf8 char in
+      let rest = encode_utf8_all cs in
+      let bytes = front ++ rest in
+      let some : 0 < length bytes =
+      omega (arith, length-append front rest, length-encode char, len_utf8_bounds char) in
+      let read : decoded bytes ≡ good char (length front) = decoded-encode char rest scalars_too.0 in
+      let with_chunk = λ (chunk : Decoded). safe_chunk has_lines chunk.char (take chunk.size bytes)
+      ++ safe_in has_lines (drop chunk.size bytes) in
+      safe_step bytes some ∙ ap with_chunk read
+      ∙ rw (plain.0, drop-append_seam front rest, all_kept cs scalars_too.1 plain.1) refl
+
+  pub printable_kept : (text : List ℕ) → IsPrintableIn has_lines text → safe_in has_lines text ≡ text
+  printable_kept text is =
+      subst (λ t. safe_in has_lines t ≡ t) (encodes-chars text is.utf8)
+      (all_kept (chars text) (scalars-chars text is.utf8) is.all)
+
+  -- ---- sanitized bytes are printable
+
+  escaped_printable : (byte : ℕ) → IsPrintableIn has_lines (escape_byte byte)
+  escaped_printable byte = ascii_printable (escape_byte byte) (elim (cases_Bool (is_escaped byte)) [
+    | inl is ↦ rw (is, glyph true (byte / 16 % 16) (omega arith), glyph true (byte % 16) (omega arith)) refl
+    | inr isnt ↦
+        let plain : is_printable_byte has_lines byte ≡ true = grind (arith, nat_tests) in
+        rw (isnt, plain) refl
+  ])
+
+  pub char_printable : (char : ℕ) → IsScalar char → is_printable has_lines char ≡ true
+      → IsPrintableIn has_lines (encode_utf8 char)
+  char_printable char is plain =
+      subst (IsPrintableIn has_lines) (append-nil (encode_utf8 char))
+      (chars_printable (char ∷ []) (rw is refl) (rw plain refl))
+
+  chunk_printable : (char : Option ℕ) (bytes : List ℕ) → ((c : ℕ) → char ≡ Some c → IsScalar c)
+      → IsPrintableIn has_lines (safe_chunk has_lines char bytes)
+  chunk_printable None bytes are = flat_printable escape_byte escaped_printable bytes
+  chunk_printable (Some char) bytes are =
+      cond_both (is_printable has_lines char) (encode_utf8 char) (escaped bytes) (IsPrintableIn has_lines)
+      (char_printable char (are char refl)) (λ isnt. flat_printable escape_byte escaped_printable bytes)
+
+  safe_in_printable : (bytes : List ℕ) → IsPrintableIn has_lines (safe_in has_lines bytes)
+  unfolding pieces_from
+  safe_in_printable bytes = from (length bytes) bytes
+    where
+      from : (n : ℕ) (bytes : List ℕ)
+          → IsPrintableIn has_lines (safe_chunks has_lines (pieces_from n bytes) bytes)
+      from zero bytes = nil_printable
+      from (suc n) [] = nil_printable
+      from (suc n) (byte ∷ later) =
+          let bytes = byte ∷ later in
+          let char = (decoded bytes).char in
+          let size = (decoded bytes).size in
+          append_printable (safe_chunk has_lines char (take size bytes)) _
+          (chunk_printable char (take size bytes) (λ c is. (SpellsChar-decoded bytes c is).scalar))
+          (from n (drop size bytes))
+
+  -- ---- escaping the start of commands
+
+  hashes_printable : (cs : List ℕ) → all_scalars cs ≡ true → IsTrue (list_all (is_printable has_lines) cs)
+      → IsPrintableIn has_lines (encode_utf8_all (flat_map without_hash cs))
+  unfolding lib.Utf8.encode
+  hashes_printable [] scalars are = nil_printable
+  hashes_printable (char ∷ cs) scalars are =
+      let is = and_parts (scalar char) (all_scalars cs) scalars in
+      let plain = and_parts (is_printable has_lines char) (list_all (is_printable has_lines) cs) are in
+      let rest = encode_utf8_all (flat_map without_hash cs) in
+      let later = hashes_printable cs is.1 plain.1 in
+      elim (cases_Bool (char == 35)) [
+        | inl hash ↦ rw hash (append_printable (codes "%23") rest (ascii_printable (codes "%23") refl) later)
+        | inr other ↦ rw other
+            (append_printable (encode_utf8 char) rest (char_printable char is.0 plain.0) later)
+      ]
+
+  without_printable : (text : List ℕ) → IsPrintableIn has_lines text
+      → IsPrintableIn has_lines (without_commands text)
+  unfolding without_commands
+  without_printable text is =
+      cond_both (has_command text) _ text (IsPrintableIn has_lines)
+      (λ has. hashes_printable (chars text) (scalars-chars text is.utf8) is.all) (λ lacks. is)
+
+  pub sanitized_in_printable : (bytes : List ℕ) → IsPrintableIn has_lines (sanitized_in has_lines bytes)
+  sanitized_in_printable bytes = without_printable (safe_in has_lines bytes) (safe_in_printable bytes)
+
+-- ---- printable text of several lines
+
+pub ended_printable : (lines : List (List ℕ)) → Each IsPrintable lines → IsPrintable (ended lines)
+ended_printable [] are = nil_printable true
+ended_printable (line ∷ lines) (first, later) =
+    append_printable true (line ++ lf ∷ []) (ended lines)
+    (append_printable true line (lf ∷ []) first (ascii_printable true (lf ∷ []) refl))
+    (ended_printable lines later)
+
+-- a printable string without LF is also printable as text of several lines
+pub line_printable : (text : List ℕ) → IsPrintableIn false text → IsPrintable text
+line_printable text is = record { utf8 = is.utf8; all = with_lines (chars text) is.all }
+  where
+    with_lines : (cs : List ℕ) → IsTrue (list_all (is_printable false) cs)
+        → IsTrue (list_all (is_printable true) cs)
+    with_lines [] are = refl
+    with_lines (char ∷ cs) are =
+        let both = and_parts (is_printable false char) (list_all (is_printable false) cs) are in
+        let plain : is_printable true char ≡ true = grind (arith, nat_tests) in
+        rw plain (with_lines cs both.1)
+
+pub sanitized_printable : (bytes : List ℕ) → IsPrintable (sanitized bytes)
+sanitized_printable bytes = line_printable (sanitized bytes) (sanitized_in_printable false bytes)
+
+pub sanitized_lines_printable : (bytes : List ℕ) → IsPrintable (sanitized_lines bytes)
+sanitized_lines_printable = sanitized_in_printable true

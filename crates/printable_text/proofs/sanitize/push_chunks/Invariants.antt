@@ -1,0 +1,15 @@
+use Rattle.std.proofs.Common.{◌≡◌, ◌++◌, length, string_bytes}
+use Rattle.std.specs.Io.{StartsWith}
+use Rattle.printable_text.specs.Sanitize.{safe_in}
+use Rattle.printable_text.proofs.sanitize.push_chunks.Given as goal
+
+-- the bytes appended so far and the safe rest together are the complete result
+abbrev pub invariant-loop-rest : goal.invariant-loop-rest
+invariant-loop-rest l = record {
+  whole : string_bytes l.text ++ safe_in l.has_lines l.rest
+      ≡ string_bytes l.fn.text ++ safe_in l.has_lines l.fn.bytes;
+  kept : StartsWith (string_bytes l.text) (string_bytes l.fn.text);
+}
+
+abbrev pub decreases-loop-rest : goal.decreases-loop-rest
+decreases-loop-rest l = length l.rest

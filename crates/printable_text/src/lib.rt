@@ -1,0 +1,10 @@
+//! Text that is safe to print, whatever untrusted bytes it is about: sanitizing them, and lines of reports as lists of
+//! parts, which one function writes. A line that a specification makes of parts is printable, and no workflow on GitHub
+//! takes it for a command. Lines contain numbers, levels, in color or not, and delays.
+#![tactic(auto)]
+
+pub mod delay;
+pub mod level;
+pub mod lines;
+pub mod parts;
+pub mod sanitize;

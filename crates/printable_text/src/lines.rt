@@ -1,0 +1,27 @@
+//! Lines that several reports contain.
+ghost use Rattle.std.specs.Prelude.{◌≡◌, ◌++◌, ◌∷◌, [], OnOk, string_bytes};
+ghost use Rattle.std.specs.Io.{StartsWith};
+ghost use Rattle.printable_text.specs.Lines.{ended};
+
+use itoa::{Buffer, Integer};
+use std::alloc::AllocError;
+
+/// Appends a line that consists of two parts. If an allocation fails, the text may
+/// end with the start of the line.
+pub fn push_line(text: &mut String, front: &str, back: &str) -> Result<(), AllocError>
+    ensures added { OnOk result (string_bytes text.new ≡ string_bytes text.old
+        ++ ended ((front.now ++ back.now) ∷ [])) }
+    ensures kept { StartsWith (string_bytes text.new) (string_bytes text.old) }
+{
+    text.push_str(front)?;
+    text.push_str(back)?;
+    text.push('\n')
+}
+
+/// Appends a number in decimal digits.
+pub fn push_number<I: Integer>(text: &mut String, number: I) -> Result<(), AllocError>
+    ensures added { OnOk result (string_bytes text.new ≡ string_bytes text.old ++ I.text number) }
+    ensures kept { StartsWith (string_bytes text.new) (string_bytes text.old) }
+{
+    text.push_str(Buffer::new().format(number))
+}

@@ -1,5 +1,0 @@
-use Rattle.robots_html.proofs.ReaderLemmas.{page_read, tree_read}
-use Rattle.robots_html.proofs.laws.written_trees_are_read_back.Goals as goal
-
-pub returns : goal.returns
-returns c = record { tree = tree_read; page = page_read }

@@ -1,2 +1,0 @@
-pub mod ColorLemmas
-pub mod PartLemmas

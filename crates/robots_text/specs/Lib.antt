@@ -1,6 +1,0 @@
-pub mod Color
-pub mod Delay
-pub mod Level
-pub mod PlainLine
-pub mod Raw
-pub mod Text
