@@ -1,13 +1,12 @@
 -- The report on two files: how it is written.
-use Rattle.std.proofs.Common.{◌≡◌, ℕ, zero, suc, ◌<◌, List, []}
-use Rattle.std.proofs.Common.{◌∷◌, ◌++◌, arith, drop, length, length-append, map, refl}
+use Rattle.std.proofs.Common.{◌≡◌, ℕ, zero, suc, ◌<◌, List, [], ◌∷◌, ◌++◌, arith, drop, length, length-append}
+use Rattle.std.proofs.Common.{map, refl}
 use Rattle.std.specs.List.{AllZip}
 use Rattle.std.proofs.Math.Seq.{drop-nil}
 use Rattle.texting_robots.specs.Callers.{LineValue}
 use Rattle.printable_text.specs.Text.{ReportLine, written}
 use Rattle.audit_core.specs.Audit.{VerdictValue}
-use Rattle.audit_compare.specs.Compare.{ComparedValue, IsCompared}
-use Rattle.audit_compare.specs.Compare.{verdict_changes}
+use Rattle.audit_compare.specs.Compare.{ComparedValue, IsCompared, verdict_changes}
 use Rattle.audit_compare.proofs.RuleSetLemmas.{no_verdicts}
 
 -- ---- lines

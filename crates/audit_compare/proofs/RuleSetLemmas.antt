@@ -4,19 +4,16 @@ use Rattle.std.proofs.Common.{Contains, None, Option, Some, ap, arith, not, refl
 use Rattle.std.proofs.Common.{subst, ◌==◌, if◌then◌else◌, length, map, sym}
 use Rattle.std.proofs.Math.Bool.{beq}
 use Rattle.std.specs.List.{AllZip}
-use Rattle.std.proofs.lemmas.Bool.{and_parts, or_cases}
+use Rattle.std.proofs.lemmas.{Bool.and_parts, Bool.or_cases, Grind.common_steps, List.length-map}
 use Rattle.std.proofs.lemmas.Bool.Decides.{nat_tests}
-use Rattle.std.proofs.lemmas.Grind.{common_steps}
-use Rattle.std.proofs.lemmas.List.{length-map}
 use Rattle.std.proofs.lemmas.List.Folds.{Any-from_list_any}
 use Rattle.std.proofs.lemmas.Slice.Eq.{bytes_eq-Decides}
 use Rattle.texting_robots.specs.Callers.{IsDenied, IsVerdict, LineValue, PlacedRule, Rule, placed_rules}
 use Rattle.texting_robots.specs.Callers.{rules_for, unplaced}
+use Rattle.texting_robots.specs.Decision.{IsDecisionOn}
 use Rattle.texting_robots.specs.declared.decision.Decision.{Decision}
 use Rattle.texting_robots.proofs.VerdictLemmas.{one_verdict}
-use Rattle.texting_robots.specs.Decision.{IsDecisionOn}
-use Rattle.audit_core.specs.Asked.{asked_target}
-use Rattle.audit_core.specs.Audit.{IsRuling, IsVerdictOn, VerdictValue}
+use Rattle.audit_core.specs.{Asked.asked_target, Audit.IsRuling, Audit.IsVerdictOn, Audit.VerdictValue}
 use Rattle.audit_core.proofs.ListLemmas.{none_of}
 use Rattle.audit_compare.specs.Compare.{ComparedValue, IsCompared, delay_changes, differences, group_changes}
 use Rattle.audit_compare.specs.Compare.{has_rule, has_same_rules, is_rejected, is_same_decision, is_same_rule}

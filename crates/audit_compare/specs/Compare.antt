@@ -1,15 +1,14 @@
 -- Two versions of a robots.txt file compared: for each crawler the group, the delay and the rules that
 -- differ, and the URLs with another verdict or another deciding rule.
-use Rattle.std.specs.Prelude.{◌≡◌, ℕ, ◌==◌, Bool, true, false, not, ◌&&◌, ◌||◌, List, [], ◌∷◌, ◌++◌}
-use Rattle.std.specs.Prelude.{Option, Some, None, bytes_eq, codes, filter, flat_map, if◌then◌else◌, is_some}
-use Rattle.std.specs.Prelude.{length, map, nat_eq, refl, string_bytes}
-use Rattle.std.specs.List.{AllZip, list_all, list_any}
-use Rattle.std.specs.Option.{option_eq}
+use Rattle.std.specs.Prelude.{◌≡◌, ℕ, ◌==◌, Bool, true, false, not, ◌&&◌, ◌||◌, List, [], ◌∷◌, ◌++◌, Option}
+use Rattle.std.specs.Prelude.{Some, None, bytes_eq, codes, filter, flat_map, if◌then◌else◌, is_some, length}
+use Rattle.std.specs.Prelude.{map, nat_eq, refl, string_bytes}
+use Rattle.std.specs.{List.AllZip, List.list_all, List.list_any, Option.option_eq}
 use Rattle.std.proofs.Math.Bool.{beq}
 use Rattle.texting_robots.specs.Callers.{LineValue, PlacedRule, Rule, lines_read, placed_rules}
 use Rattle.texting_robots.specs.declared.decision.Decision.{Decision}
-use Rattle.printable_text.specs.Text.{Absent, Label, Number, Part, PartValue, ReportLine, Untrusted}
-use Rattle.printable_text.specs.Text.{Value, label, line_from, only, starts_line, word, written}
+use Rattle.printable_text.specs.Text.{Absent, Label, Number, Part, PartValue, ReportLine, Untrusted, Value}
+use Rattle.printable_text.specs.Text.{label, line_from, only, starts_line, word, written}
 use Rattle.audit_core.specs.declared.answer.Answer.{Answer}
 use Rattle.audit_core.specs.declared.group.Group.{Group}
 use Rattle.audit_core.specs.declared.group.Group.TheVariants.{Everyone, Named, Nobody, Star}

@@ -3,8 +3,7 @@ ghost use Rattle.std.specs.Prelude.{[], Bool, List, true, ℕ, ◌||◌, ◌↔�
 ghost use Rattle.texting_robots.specs.Callers.{IsVerdict, LineValue, rules_for};
 ghost use Rattle.audit_compare.specs.Compare.{ComparedValue, has_same_rules, is_unchanged, IsCompared};
 ghost use Rattle.audit_compare.specs.Compare.{report_lines, rules_only_in, verdict_changes};
-ghost use Rattle.printable_text.specs.Text.{written};
-ghost use Rattle.printable_text.specs.Sanitize.{IsPrintable};
+ghost use Rattle.printable_text.specs.{Text.written, Sanitize.IsPrintable};
 
 /// The report of `--compare` contains neither invalid UTF-8 nor a control character other than LF, a
 /// bidirectional control character or a line separator, whatever the bytes of the files, the crawlers' names

@@ -1,14 +1,11 @@
 -- Which crawlers a file names.
-use Rattle.std.proofs.Common.{◌≡◌, ℕ, ◌||◌, Bool, true, false, List, [], ◌∷◌, ◌++◌, ap}
-use Rattle.std.proofs.Common.{bytes_eq, if◌then◌else◌, not, refl, subst, sym, ⊎_elim, ◌∙◌}
-use Rattle.std.specs.BTreeSet.{BTreeSet}
-use Rattle.std.specs.Str.{is_utf8, str_to_ascii_lowercase}
+use Rattle.std.proofs.Common.{◌≡◌, ℕ, ◌||◌, Bool, true, false, List, [], ◌∷◌, ◌++◌, ap, bytes_eq}
+use Rattle.std.proofs.Common.{if◌then◌else◌, not, refl, subst, sym, ⊎_elim, ◌∙◌}
+use Rattle.std.specs.{BTreeSet.BTreeSet, Str.is_utf8, Str.str_to_ascii_lowercase}
 use Rattle.std.proofs.Math.Bool.{or-false}
-use Rattle.std.proofs.lemmas.Bool.{cases_Bool}
-use Rattle.std.proofs.lemmas.List.{append-nil}
+use Rattle.std.proofs.lemmas.{Bool.cases_Bool, List.append-nil}
 use Rattle.std.proofs.lemmas.Slice.Eq.{bytes_eq-Decides}
-use Rattle.texting_robots.specs.Callers.{UserAgent}
-use Rattle.texting_robots.specs.Agents.{is_among}
+use Rattle.texting_robots.specs.{Callers.UserAgent, Agents.is_among}
 use Rattle.robots_warnings.specs.Internal.Names.{AddsName, Key}
 use Rattle.audit_core.specs.Internal.Agents.{AddsAgent, HasAgents, has_lowered}
 use Rattle.robots_warnings.proofs.NameLemmas.{any_last}

@@ -1,8 +1,7 @@
 -- The match target of what isn't a URL.
 use Rattle.std.proofs.Common.{◌≡◌, ℕ, List, None, Ok, Err, if◌then◌else◌, is_err, refl, true}
 use Rattle.url.specs.{Parts.Parts, Parser.Parsed, Parser.parse_url}
-use Rattle.texting_robots.specs.Address.{is_web}
-use Rattle.texting_robots.specs.Callers.{prepared}
+use Rattle.texting_robots.specs.{Address.is_web, Callers.prepared}
 use Rattle.audit_core.specs.Asked.{asked_target, requested_target}
 
 -- what can't be parsed as a URL has the match target that the library gives it

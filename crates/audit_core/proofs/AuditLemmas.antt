@@ -1,15 +1,12 @@
 -- How an audit is built.
-use Rattle.std.proofs.Common.{◌≡◌, ℕ, List, [], ◌∷◌, ◌++◌, ◌+◌, ◌<◌}
-use Rattle.std.proofs.Common.{ap, length, ◌∙◌, None, Option, map, refl, slice_index_or}
-use Rattle.std.proofs.Common.{take}
+use Rattle.std.proofs.Common.{◌≡◌, ℕ, List, [], ◌∷◌, ◌++◌, ◌+◌, ◌<◌, ap, length, ◌∙◌, None, Option, map, refl}
+use Rattle.std.proofs.Common.{slice_index_or, take}
 use Rattle.std.specs.List.{AllZip, enumerate_from}
 use Rattle.std.proofs.lemmas.List.{map-append, take_more}
 use Rattle.texting_robots.specs.declared.labels.LabeledLine.{LabeledLine}
 use Rattle.texting_robots.specs.Callers.{AnswerAlike, HasLines, IsDelayFor, IsRobotOfFile, LineValue}
-use Rattle.texting_robots.specs.Callers.{PlacedRule}
-use Rattle.texting_robots.specs.Callers.{RobotValue, delay_for, file_limit, group_name, lines_read}
-use Rattle.texting_robots.specs.Callers.{label_by_value}
-use Rattle.texting_robots.specs.Callers.{placed_rules}
+use Rattle.texting_robots.specs.Callers.{PlacedRule, RobotValue, delay_for, file_limit, group_name}
+use Rattle.texting_robots.specs.Callers.{lines_read, label_by_value, placed_rules}
 use Rattle.texting_robots.specs.Labels.{label_at}
 use Rattle.texting_robots.proofs.GivenLemmas.{delay_is_computed}
 use Rattle.texting_robots.proofs.MainTheoremLemmas.{answers_computed, lines_are_read, of_lines, read_robot}

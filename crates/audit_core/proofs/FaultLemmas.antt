@@ -2,13 +2,11 @@
 use Rattle.std.proofs.Common.{◌∷◌, []}
 use Rattle.std.specs.Prelude.{string_bytes}
 use Rattle.printable_text.specs.Sanitize.{IsPrintable}
-use Rattle.printable_text.proofs.SanitizeLemmas.{sanitized_lines_printable}
-use Rattle.printable_text.proofs.PartLemmas.{written_printable}
+use Rattle.printable_text.proofs.{SanitizeLemmas.sanitized_lines_printable, PartLemmas.written_printable}
 use Rattle.audit_core.specs.declared.fault.Fault.{Fault}
 use Rattle.audit_core.specs.declared.fault.Fault.TheVariants.{Argument, Empty, File, Malformed, Memory}
-use Rattle.audit_core.specs.declared.fault.Fault.TheVariants.{NotUtf8}
-use Rattle.audit_core.specs.declared.fault.Fault.TheVariants.{Read, StdinTwice, UnknownWarning, Usage}
-use Rattle.audit_core.specs.declared.fault.Fault.TheVariants.{Words, Write}
+use Rattle.audit_core.specs.declared.fault.Fault.TheVariants.{NotUtf8, Read, StdinTwice, UnknownWarning}
+use Rattle.audit_core.specs.declared.fault.Fault.TheVariants.{Usage, Words, Write}
 use Rattle.audit_core.specs.Fault.{fault_line, fault_text}
 
 pub fault_printable : (fault : Fault) → IsPrintable (fault_text fault)

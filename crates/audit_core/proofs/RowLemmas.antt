@@ -1,6 +1,5 @@
 -- How a row is built.
-use Rattle.std.proofs.Common.{◌≡◌, ℕ, ◌+◌, List, [], ◌∷◌, ◌++◌, ◌∙◌}
-use Rattle.std.proofs.Common.{ap, append_assoc, replicate}
+use Rattle.std.proofs.Common.{◌≡◌, ℕ, ◌+◌, List, [], ◌∷◌, ◌++◌, ◌∙◌, ap, append_assoc, replicate}
 use Rattle.std.proofs.lemmas.List.{replicate-append-replicate}
 use Rattle.robots_warnings.specs.File.{space}
 

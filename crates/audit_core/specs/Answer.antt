@@ -4,8 +4,7 @@ use Rattle.std.specs.Prelude.{◌≡◌, ℕ, true, false, List, [], Option, Res
 use Rattle.std.specs.Prelude.{string_bytes}
 use Rattle.std.specs.Io.KnownBytes.{Appends, Keeps}
 use Rattle.robots_io.specs.Streams.{AppendsBeginning}
-use Rattle.audit_core.specs.declared.answer.Answer.{Answer}
-use Rattle.audit_core.specs.declared.answer.Outcome.{Outcome}
+use Rattle.audit_core.specs.declared.answer.{Answer.Answer, Outcome.Outcome}
 use Rattle.audit_core.specs.declared.fault.Fault.{Fault}
 use Rattle.audit_core.specs.declared.fault.Fault.TheVariants.{Write}
 

@@ -1,8 +1,7 @@
 -- The match target of a URL or a path of a request, a list or an expectation, as crawlers ask for it.
 use Rattle.std.specs.Prelude.{ℕ, List, ◌++◌, None, Ok, Err, codes, if◌then◌else◌}
 use Rattle.url.specs.{Parts.Parts, Parser.parse_url}
-use Rattle.texting_robots.specs.Address.{is_web}
-use Rattle.texting_robots.specs.Prepared.{prepared, with_delimiter}
+use Rattle.texting_robots.specs.{Address.is_web, Prepared.prepared, Prepared.with_delimiter}
 
 -- what a crawler sends to a site for a URL: the path, `?` and the query, but not the fragment
 abbrev pub requested_target : Parts → List ℕ

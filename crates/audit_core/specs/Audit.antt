@@ -1,27 +1,20 @@
 -- The audit of a file: its lines, what applies to each requested crawler, and the warnings.
 use Rattle.std.specs.Prelude.{◌≡◌, ℕ, Bool, false, true, List, [], ◌∷◌, ◌++◌, Option, Some, None, codes}
 use Rattle.std.specs.Prelude.{count_by, filter, is_none, is_some, map, not, sum_by, take, if◌then◌else◌}
-use Rattle.std.specs.List.{AllZip, list_all, list_any}
-use Rattle.std.specs.Str.{is_utf8}
+use Rattle.std.specs.{List.AllZip, List.list_all, List.list_any, Str.is_utf8}
 use Rattle.texting_robots.specs.Callers.{IsFirstOverlong, IsRejected, LineValue, Label, PlacedRule, UserAgent}
 use Rattle.texting_robots.specs.Callers.{delay_for, file_limit, is_named, lines_read, placed_rules}
-use Rattle.texting_robots.specs.{Agents.is_among, Group.is_agent}
+use Rattle.texting_robots.specs.{Agents.is_among, Group.is_agent, Decision.IsDecisionOn}
 use Rattle.texting_robots.specs.declared.decision.Decision.{Decision}
-use Rattle.texting_robots.specs.Decision.{IsDecisionOn}
 use Rattle.audit_core.specs.declared.group.Group.{Group}
 use Rattle.audit_core.specs.declared.group.Group.TheVariants.{Everyone, Named, Nobody, Star}
 use Rattle.robots_needless.specs.Deleted.{AreFoundIn}
 use Rattle.robots_needless.specs.declared.needless.NeedlessRule.{NeedlessRule}
 use Rattle.robots_warnings.specs.Facts.{facts_of, is_too_large}
-use Rattle.robots_warnings.specs.File.{labels_for}
-use Rattle.robots_warnings.specs.Warnings.{warnings}
-use Rattle.robots_warnings.specs.WarningValue.{WarningValue}
-use Rattle.audit_core.specs.Asked.{asked_target}
-use Rattle.audit_core.specs.Chosen.{chosen}
+use Rattle.robots_warnings.specs.{File.labels_for, Warnings.warnings, WarningValue.WarningValue}
 use Rattle.audit_core.specs.Needless.{needless_warning}
-use Rattle.audit_core.specs.Syntax.{syntax_of}
+use Rattle.audit_core.specs.{Asked.asked_target, Chosen.chosen, Syntax.syntax_of, Request.RequestValue}
 use Rattle.audit_core.specs.declared.syntax.Syntax.{Syntax}
-use Rattle.audit_core.specs.Request.{RequestValue}
 
 -- ---- the crawlers of a report
 

@@ -1,8 +1,7 @@
 -- Which warnings are reported, chosen by name.
 use Rattle.std.specs.Prelude.{ℕ, ◌==◌, Bool, not, ◌||◌, ◌&&◌, List, bytes_eq, filter, length}
 use Rattle.std.specs.List.{list_any}
-use Rattle.robots_warnings.specs.Table.{name_of}
-use Rattle.robots_warnings.specs.WarningValue.{WarningValue}
+use Rattle.robots_warnings.specs.{Table.name_of, WarningValue.WarningValue}
 
 -- the name is in the list
 abbrev pub is_among_names : List (List ℕ) → List ℕ → Bool

@@ -1,7 +1,6 @@
 -- Whether warnings have colors.
-use Rattle.std.specs.Prelude.{ℕ, Bool, true, false, List, Option, Some, None}
-use Rattle.std.specs.Prelude.{◌==◌, ◌&&◌, Result, Ok, Err, String, bytes_eq, codes, if◌then◌else◌}
-use Rattle.std.specs.Prelude.{length, not, string_bytes}
+use Rattle.std.specs.Prelude.{ℕ, Bool, true, false, List, Option, Some, None, ◌==◌, ◌&&◌, Result, Ok, Err}
+use Rattle.std.specs.Prelude.{String, bytes_eq, codes, if◌then◌else◌, length, not, string_bytes}
 use Rattle.std.specs.Global.{Global}
 use Rattle.std.specs.declared.env.VarError.{VarError}
 use Rattle.std.specs.declared.env.VarError.TheVariants.{NotPresent}

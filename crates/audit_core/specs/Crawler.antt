@@ -1,12 +1,8 @@
 -- What crawlers call themselves: names in arguments and in the file of `--expect`.
 use Rattle.std.specs.Prelude.{◌≡◌, ◌⊎◌, ℕ, Bool, false, not, ◌&&◌, ◌||◌, ◌==◌, List, Contains, bytes_eq}
 use Rattle.std.specs.Prelude.{codes, String, length, string_bytes, [], ◌∷◌, Option, Some, None}
-use Rattle.std.specs.Global.{Global}
-use Rattle.std.specs.List.{list_all, list_any}
-use Rattle.std.specs.Char.{is_ascii_digit}
-use Rattle.std.specs.Str.{byte}
-use Rattle.robots_warnings.specs.Rules.{has}
-use Rattle.robots_warnings.specs.Tokens.{has_space_around, is_name_byte}
+use Rattle.std.specs.{Global.Global, List.list_all, List.list_any, Char.is_ascii_digit, Str.byte}
+use Rattle.robots_warnings.specs.{Rules.has, Tokens.has_space_around, Tokens.is_name_byte}
 use Rattle.audit_core.specs.declared.fault.Fault.{Fault}
 use Rattle.audit_core.specs.declared.fault.Fault.TheVariants.{Argument, Memory}
 use Rattle.audit_core.specs.declared.fault.Flaw.TheVariants as flaw

@@ -1,22 +1,17 @@
 -- The message for each error, and the exit status.
-use Rattle.std.specs.Prelude.{ℕ, not, List, [], ◌∷◌, Result, Ok, Err, codes, if◌then◌else◌}
-use Rattle.std.specs.Prelude.{string_bytes, ◌≡◌}
+use Rattle.std.specs.Prelude.{ℕ, not, List, [], ◌∷◌, Result, Ok, Err, codes, if◌then◌else◌, string_bytes, ◌≡◌}
 use Rattle.std.proofs.Common.{refl}
 use Rattle.printable_text.specs.Sanitize.{sanitized_lines}
 use Rattle.robots_io.specs.declared.streams.ReadFault.{ReadFault}
 use Rattle.robots_io.specs.declared.streams.ReadFault.TheVariants as read
 use Rattle.printable_text.specs.Text.{Named, Number, Part, PartValue, ReportLine, Untrusted, Value, label}
-use Rattle.printable_text.specs.Text.{line_from}
-use Rattle.printable_text.specs.Text.{only, value_text, word, written}
+use Rattle.printable_text.specs.Text.{line_from, only, value_text, word, written}
 use Rattle.audit_core.specs.declared.answer.Outcome.{Outcome}
-use Rattle.audit_core.specs.declared.fault.Entry.{Entry}
+use Rattle.audit_core.specs.declared.fault.{Entry.Entry, Fault.Fault, Flaw.Flaw}
 use Rattle.audit_core.specs.declared.fault.Entry.TheVariants.{Expectation, Url}
-use Rattle.audit_core.specs.declared.fault.Fault.{Fault}
 use Rattle.audit_core.specs.declared.fault.Fault.TheVariants.{Argument, Empty, File, Malformed, Memory}
-use Rattle.audit_core.specs.declared.fault.Fault.TheVariants.{NotUtf8}
-use Rattle.audit_core.specs.declared.fault.Fault.TheVariants.{Read, StdinTwice, UnknownWarning, Usage}
-use Rattle.audit_core.specs.declared.fault.Fault.TheVariants.{Words, Write}
-use Rattle.audit_core.specs.declared.fault.Flaw.{Flaw}
+use Rattle.audit_core.specs.declared.fault.Fault.TheVariants.{NotUtf8, Read, StdinTwice, UnknownWarning}
+use Rattle.audit_core.specs.declared.fault.Fault.TheVariants.{Usage, Words, Write}
 use Rattle.audit_core.specs.declared.fault.Flaw.TheVariants as flaw
 
 -- ---- messages

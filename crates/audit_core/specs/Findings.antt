@@ -2,16 +2,13 @@
 use Rattle.std.specs.Prelude.{ℕ, Bool, true, false, not, List, [], ◌∷◌, ◌++◌, Option, Some, None, codes}
 use Rattle.std.specs.Prelude.{flat_map, if◌then◌else◌, map, string_bytes}
 use Rattle.std.proofs.Common.{refl}
-use Rattle.printable_text.specs.Sanitize.{sanitized}
+use Rattle.printable_text.specs.Text.{Fixed, Part, PartValue, Untrusted, label, parts_text}
+use Rattle.printable_text.specs.{Sanitize.sanitized, Level.reaches}
 use Rattle.printable_text.specs.declared.level.Level.{Level}
 use Rattle.printable_text.specs.declared.level.Level.TheVariants.{Error}
-use Rattle.printable_text.specs.Level.{reaches}
-use Rattle.printable_text.specs.Text.{Fixed, Part, PartValue, Untrusted, label, parts_text}
 use Rattle.robots_warnings.specs.Message.{fixed_name, message_parts}
-use Rattle.robots_warnings.specs.Table.{level_of}
-use Rattle.robots_warnings.specs.WarningValue.{WarningValue}
-use Rattle.audit_core.specs.Audit.{AgentValue, AuditValue, VerdictValue}
-use Rattle.audit_core.specs.Texts.{rejected_parts}
+use Rattle.robots_warnings.specs.{Table.level_of, WarningValue.WarningValue}
+use Rattle.audit_core.specs.{Audit.AgentValue, Audit.AuditValue, Audit.VerdictValue, Texts.rejected_parts}
 use Rattle.audit_core.specs.declared.findings.Finding.{Finding}
 
 -- a message: parts, or parts that follow bytes that nobody has checked

@@ -2,8 +2,7 @@
 pub mod Agents
 pub mod Views
 use Rattle.std.specs.Prelude.{ℕ, List, take}
-use Rattle.texting_robots.specs.Callers.{IsFirstOverlong, IsRobotOfFile, file_limit, lines_read}
-use Rattle.texting_robots.specs.Callers.{placed_rules}
+use Rattle.texting_robots.specs.Callers.{IsFirstOverlong, IsRobotOfFile, file_limit, lines_read, placed_rules}
 use Rattle.audit_core.specs.declared.audit.Reading.{Reading}
 use Rattle.audit_core.specs.declared.audit.Reading.TheVariants.{Accepted, Rejected}
 

@@ -1,7 +1,6 @@
 -- The warnings about rules that can be deleted.
 use Rattle.std.specs.Prelude.{ℕ, Option, Some, None}
-use Rattle.robots_needless.specs.declared.needless.NeedlessRule.{NeedlessRule}
-use Rattle.robots_needless.specs.declared.needless.Reason.{Reason}
+use Rattle.robots_needless.specs.declared.needless.{NeedlessRule.NeedlessRule, Reason.Reason}
 use Rattle.robots_needless.specs.declared.needless.Reason.TheVariants as reasons
 use Rattle.robots_warnings.specs.declared.table.Cause.{Cause}
 use Rattle.robots_warnings.specs.declared.table.Cause.TheVariants as causes

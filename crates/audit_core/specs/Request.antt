@@ -1,9 +1,8 @@
 -- What a run is requested to do.
-use Rattle.std.specs.Prelude.{ℕ, Bool, List, Option, bytes_eq, codes, if◌then◌else◌, is_some, map}
-use Rattle.std.specs.Prelude.{not, option_map, ◌&&◌}
-use Rattle.audit_core.specs.declared.request.Format.{Format}
+use Rattle.std.specs.Prelude.{ℕ, Bool, List, Option, bytes_eq, codes, if◌then◌else◌, is_some, map, not}
+use Rattle.std.specs.Prelude.{option_map, ◌&&◌}
+use Rattle.audit_core.specs.declared.request.{Format.Format, Request.Request}
 use Rattle.audit_core.specs.declared.request.Format.TheVariants.{Github, Html, Json, Sarif, Text}
-use Rattle.audit_core.specs.declared.request.Request.{Request}
 use Rattle.printable_text.specs.declared.level.Level.{Level}
 
 -- a request: the name of the file, or `None` for standard input; the crawler, if the report is about a single

@@ -3,13 +3,11 @@ use Rattle.std.specs.Prelude.{ℕ, ◌==◌, Bool, true, false, not, ◌||◌, L
 use Rattle.std.specs.Prelude.{if◌then◌else◌, is_some, length}
 use Rattle.std.specs.List.{list_any}
 use Rattle.robots_warnings.specs.declared.table.Cause.{Cause}
-use Rattle.robots_warnings.specs.Table.{is_not_about_syntax}
-use Rattle.robots_warnings.specs.WarningValue.{WarningValue}
+use Rattle.robots_warnings.specs.{Table.is_not_about_syntax, WarningValue.WarningValue}
 use Rattle.std.proofs.Common.{refl}
 use Rattle.printable_text.specs.Text.{PartValue, ReportLine, line_from, only, part_text}
 use Rattle.audit_core.specs.declared.syntax.Syntax.{Syntax}
-use Rattle.audit_core.specs.declared.syntax.Syntax.TheVariants.{Standard, StandardWithoutWarnings}
-use Rattle.audit_core.specs.declared.syntax.Syntax.TheVariants.{Unstated}
+use Rattle.audit_core.specs.declared.syntax.Syntax.TheVariants.{Standard, StandardWithoutWarnings, Unstated}
 
 -- a warning with this reason is about syntax
 unfoldable pub is_about_syntax : Cause → Bool

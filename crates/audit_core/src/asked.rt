@@ -1,8 +1,6 @@
 //! URLs and paths of a request, a list or an expectation, as crawlers ask for them.
 ghost use Rattle.std.specs.Prelude.{◌≡◌, IfErr, IfOk, string_bytes};
-ghost use Rattle.texting_robots.specs.Address.{is_web};
-ghost use Rattle.texting_robots.specs.Callers.{prepared};
-ghost use Rattle.texting_robots.specs.Decision.{IsDecisionOn};
+ghost use Rattle.texting_robots.specs.{Address.is_web, Callers.prepared, Decision.IsDecisionOn};
 ghost use Rattle.audit_core.specs.Asked.{asked_target, requested_target};
 
 use crate::fault::Fault;

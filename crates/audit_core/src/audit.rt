@@ -3,13 +3,10 @@ ghost use Rattle.std.specs.Prelude.{◌≡◌, ◌++◌, IfErr, IfOk, is_none, m
 ghost use Rattle.std.specs.List.{AllZip, list_any};
 ghost use Rattle.texting_robots.specs.Callers.{file_limit, file_lines, lines_read, label_by_value};
 ghost use Rattle.texting_robots.specs.Group.{is_agent};
-ghost use Rattle.audit_core.specs.Request.{requested_by};
-ghost use Rattle.audit_core.specs.Audit.{IsAgentAudit, IsAuditOf, IsVerdictOn, agents_requested, all_allowed, allows_all, labeling_agent};
-ghost use Rattle.audit_core.specs.Audit.{rejects_some};
-ghost use Rattle.audit_core.specs.Needless.{needless_warning};
-ghost use Rattle.robots_warnings.specs.File.{lines_of, labels_for};
-ghost use Rattle.robots_warnings.specs.Warnings.{warnings};
-ghost use Rattle.audit_core.specs.Internal.{IsReading};
+ghost use Rattle.audit_core.specs.Audit.{IsAgentAudit, IsAuditOf, IsVerdictOn, agents_requested, all_allowed};
+ghost use Rattle.audit_core.specs.Audit.{allows_all, labeling_agent, rejects_some};
+ghost use Rattle.audit_core.specs.{Request.requested_by, Needless.needless_warning, Internal.IsReading};
+ghost use Rattle.robots_warnings.specs.{File.lines_of, File.labels_for, Warnings.warnings};
 
 use crate::agents::agents_requested;
 use crate::asked::decision_on;

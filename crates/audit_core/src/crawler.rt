@@ -1,11 +1,9 @@
 //! The names of crawlers in arguments and in the file of `--expect`.
 ghost use Rattle.std.specs.Prelude.{◌≡◌, IfErr, IsTrue, OnOk, map, not, option_map};
-ghost use Rattle.std.specs.Char.{is_ascii_digit};
-ghost use Rattle.std.specs.List.{list_all, list_any};
-ghost use Rattle.std.specs.Str.{byte};
+ghost use Rattle.std.specs.{Char.is_ascii_digit, List.list_all, List.list_any, Str.byte};
 ghost use Rattle.robots_warnings.specs.Rules.{has};
-ghost use Rattle.audit_core.specs.Crawler.{single};
-ghost use Rattle.audit_core.specs.Crawler.{IsNoCrawler, IsNoCrawlerIn, has_version, is_crawler_name, is_own_name};
+ghost use Rattle.audit_core.specs.Crawler.{single, IsNoCrawler, IsNoCrawlerIn, has_version, is_crawler_name};
+ghost use Rattle.audit_core.specs.Crawler.{is_own_name};
 
 use crate::fault::{Fault, Flaw};
 use robots_warnings::tokens::{are_name_bytes, has_space_around};

@@ -5,9 +5,9 @@ ghost use Rattle.printable_text.specs.Text.{parts_text};
 ghost use Rattle.audit_core.specs.Fault.{IsUnknown, entry_text, fault_parts, fault_text, flaw_text, status_after};
 
 use crate::answer::Outcome;
+use printable_text::parts::{Part, Value, push_line_of};
 use printable_text::sanitize::push_sanitized_lines;
 use robots_io::streams::{ReadFault, WriteFault};
-use printable_text::parts::{Part, Value, push_line_of};
 use std::alloc::{AllocError, AllocFailed, Global};
 
 /// What is wrong with a line of the file of `--expect` or `--urls`, or with a crawler's name or a URL in arguments.

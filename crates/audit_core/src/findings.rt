@@ -1,16 +1,15 @@
 //! What an audit found, as one list, for formats that don't distinguish verdicts and warnings.
 ghost use Rattle.std.specs.Prelude.{◌≡◌, ◌++◌, IfOk, OnOk, flat_map, map, string_bytes};
-ghost use Rattle.printable_text.specs.Sanitize.{sanitized};
-ghost use Rattle.printable_text.specs.Raw.{raw_line};
-ghost use Rattle.printable_text.specs.Text.{parts_text};
-ghost use Rattle.audit_core.specs.Findings.{agent_findings, denials, denied, denied_parts, finding_in_part, findings, found_value, rejections, warning_findings};
+ghost use Rattle.printable_text.specs.{Sanitize.sanitized, Raw.raw_line, Text.parts_text};
+ghost use Rattle.audit_core.specs.Findings.{agent_findings, denials, denied, denied_parts, finding_in_part};
+ghost use Rattle.audit_core.specs.Findings.{findings, found_value, rejections, warning_findings};
 ghost use Rattle.audit_core.specs.Findings.{finding_value};
 
 use crate::audit::{AgentAudit, Audit, Verdict};
 use crate::texts::rejected_parts;
-use printable_text::sanitize::push_sanitized;
 use printable_text::level::Level;
 use printable_text::parts::{Part, Value, push_parts};
+use printable_text::sanitize::push_sanitized;
 use robots_warnings::warning::{Warning, push_warning_text};
 use std::alloc::{AllocError, Global};
 

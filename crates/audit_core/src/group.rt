@@ -1,8 +1,7 @@
 //! The group that applies to a crawler.
 ghost use Rattle.std.specs.Prelude.{◌≡◌};
 ghost use Rattle.std.specs.List.{list_any};
-ghost use Rattle.texting_robots.specs.Callers.{file_lines};
-ghost use Rattle.texting_robots.specs.Group.{is_agent};
+ghost use Rattle.texting_robots.specs.{Callers.file_lines, Group.is_agent};
 ghost use Rattle.audit_core.specs.Audit.{group_of};
 
 use texting_robots::Site;

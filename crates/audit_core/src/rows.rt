@@ -1,16 +1,15 @@
 //! The rows of a report: one for each line of the file.
-ghost use Rattle.std.specs.Prelude.{◌≡◌, ◌++◌, ◌∷◌, [], OnOk, decimal, length, map};
-ghost use Rattle.std.specs.Prelude.{string_bytes};
+ghost use Rattle.std.specs.Prelude.{◌≡◌, ◌++◌, ◌∷◌, [], OnOk, decimal, length, map, string_bytes};
 ghost use Rattle.texting_robots.specs.Callers.{by_value, label_by_value};
 ghost use Rattle.printable_text.specs.Raw.{raw_value};
 ghost use Rattle.printable_text.specs.Text.{Aligned, blanks, part_text, value_text, written};
-ghost use Rattle.audit_core.specs.Rows.{has_value, kind_part, kind_text, line_value, line_value_text, mark_of, membership_word};
-ghost use Rattle.audit_core.specs.Rows.{row, rows};
+ghost use Rattle.audit_core.specs.Rows.{has_value, kind_part, kind_text, line_value, line_value_text, mark_of};
+ghost use Rattle.audit_core.specs.Rows.{membership_word, row, rows};
 
 use itoa::Buffer;
-use printable_text::sanitize::push_sanitized;
 use printable_text::delay::push_delay_text;
 use printable_text::parts::{Part, Value, push_parts};
+use printable_text::sanitize::push_sanitized;
 use robots_warnings::file::is_blank;
 use std::alloc::AllocError;
 use texting_robots::labels::{LabeledLine, Membership};

@@ -1,23 +1,19 @@
 -- How expectations are checked, and the report on them.
-use Rattle.std.proofs.Common.{◌≡◌, ◌∙◌, ℕ, ◌+◌, ◌<◌, ◌==◌, Bool, true, false, List, [], ◌∷◌, ◌++◌}
-use Rattle.std.proofs.Common.{Ok, ap, append-nil, filter, inl, inr, length, map}
-use Rattle.std.proofs.Common.{slice_index_or, subst, sym, take}
+use Rattle.std.proofs.Common.{◌≡◌, ◌∙◌, ℕ, ◌+◌, ◌<◌, ◌==◌, Bool, true, false, List, [], ◌∷◌, ◌++◌, Ok, ap}
+use Rattle.std.proofs.Common.{append-nil, filter, inl, inr, length, map, slice_index_or, subst, sym, take}
 use Rattle.std.specs.Prelude.{if◌then◌else◌}
-use Rattle.std.proofs.lemmas.Bool.{cases_Bool}
 use Rattle.std.specs.List.{AllByRecursion as Each}
-use Rattle.std.proofs.lemmas.List.{length-map, map-append, take_more}
-use Rattle.std.proofs.lemmas.List.Concat.{flat_map-append}
-use Rattle.std.proofs.lemmas.List.Elements.{filter-append}
+use Rattle.std.proofs.lemmas.{Bool.cases_Bool, List.length-map, List.map-append, List.take_more}
+use Rattle.std.proofs.lemmas.List.{Concat.flat_map-append, Elements.filter-append}
 use Rattle.texting_robots.specs.Callers.{IsRejected, IsRobotOfFile, RobotValue, file_limit, lines_read}
 use Rattle.texting_robots.specs.Callers.{placed_rules}
+use Rattle.texting_robots.specs.Decision.{IsDecisionOn}
 use Rattle.texting_robots.specs.declared.decision.Decision.{Decision}
 use Rattle.texting_robots.proofs.MainTheoremLemmas.{answers_computed, read_robot}
 use Rattle.texting_robots.proofs.TrimLemmas.{each_append}
-use Rattle.printable_text.specs.Lines.{ended, lf}
-use Rattle.printable_text.specs.Sanitize.{IsPrintable, has_command}
-use Rattle.texting_robots.specs.Decision.{IsDecisionOn}
-use Rattle.printable_text.proofs.SanitizeLemmas.{ended_printable, line_printable}
 use Rattle.printable_text.specs.Text.{NamedLine, ReportLine, line_text, named_text}
+use Rattle.printable_text.specs.{Lines.ended, Lines.lf, Sanitize.IsPrintable, Sanitize.has_command}
+use Rattle.printable_text.proofs.SanitizeLemmas.{ended_printable, line_printable}
 use Rattle.printable_text.proofs.PartLemmas.{line_plain, named_printable, named_quiet}
 use Rattle.audit_expect.specs.declared.expect.Expectation.{Expectation}
 use Rattle.audit_expect.specs.Expect.{ExpectationValue, expectations_in}

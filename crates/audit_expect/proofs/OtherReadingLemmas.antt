@@ -3,32 +3,27 @@ use Rattle.std.proofs.Common.{◌≡◌, ◌≢◌, ◌∙◌, ℕ, zero, suc, �
 use Rattle.std.proofs.Common.{Contains, Option, Some, None, ap, arith, if◌then◌else◌, inl, inr, map, refl}
 use Rattle.std.proofs.Common.{slice_get, slice_index_or, subst, sym}
 use Rattle.std.specs.Prelude.{◌||◌}
-use Rattle.std.specs.Char.{to_ascii_lowercase}
-use Rattle.std.specs.List.{All}
-use Rattle.std.specs.Option.{option_map_or}
+use Rattle.std.specs.{Char.to_ascii_lowercase, List.All, Option.option_map_or}
 use Rattle.std.proofs.lemmas.Bool.{cases_Bool, false≢true, not-true}
+use Rattle.std.proofs.lemmas.Option.{option_and_then_some, same_Some}
 use Rattle.std.proofs.lemmas.Bool.Decides.{nat_tests}
 use Rattle.std.proofs.lemmas.List.Elements.{Contains-append_left, Contains-get_or, Contains-push}
 use Rattle.std.proofs.lemmas.List.Elements.{Contains-push_cases}
-use Rattle.std.proofs.lemmas.Option.{option_and_then_some, same_Some}
 use Rattle.texting_robots.specs.Callers.{Allow, IsBetter, IsDecidingLine, IsDecidingRule, IsOverlong}
 use Rattle.texting_robots.specs.Callers.{IsRejected, IsVerdict, LineValue, Matches, PlacedRule, Rule}
 use Rattle.texting_robots.specs.Callers.{placed_rules, robots_file, unplaced}
-use Rattle.texting_robots.specs.Statement.{IsStatement}
+use Rattle.texting_robots.specs.{Statement.IsStatement, Decision.IsDecisionOn}
 use Rattle.texting_robots.specs.Internal.Line.{line_of}
 use Rattle.texting_robots.specs.Internal.Statement.{kind_by, kind_with, skip_blanks, statement_of, tail_as}
 use Rattle.texting_robots.specs.declared.decision.Decision.{Decision}
 use Rattle.texting_robots.specs.declared.parser.statement.Kind.{Kind}
 use Rattle.texting_robots.specs.declared.parser.statement.Kind.TheVariants.{Disallow}
 use Rattle.texting_robots.proofs.BestLemmas.{none_denies, verdict_by}
-use Rattle.texting_robots.proofs.HeldLemmas.{rejection_is_computed}
 use Rattle.texting_robots.proofs.LineLemmas.{line_raw, line_stated}
-use Rattle.texting_robots.proofs.MainTheoremLemmas.{no_line_allows}
-use Rattle.texting_robots.proofs.RulesLemmas.{any_unplaced}
 use Rattle.texting_robots.proofs.StatementLemmas.{found_statement, statement_found}
-use Rattle.texting_robots.proofs.VerdictLemmas.{one_verdict}
+use Rattle.texting_robots.proofs.{HeldLemmas.rejection_is_computed, MainTheoremLemmas.no_line_allows}
+use Rattle.texting_robots.proofs.{RulesLemmas.any_unplaced, VerdictLemmas.one_verdict}
 use Rattle.robots_needless.proofs.DistinctLemmas.{in_filter, to_filter}
-use Rattle.texting_robots.specs.Decision.{IsDecisionOn}
 use Rattle.robots_warnings.specs.EmptyDisallows.{IsEmptyDisallow, begins_with_d, is_empty_disallow}
 use Rattle.robots_warnings.specs.FieldNames.{is_space_or_tab, without_front}
 use Rattle.audit_expect.specs.OtherReading.{AreOthers, IsOtherDecision}

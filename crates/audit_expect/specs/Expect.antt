@@ -2,16 +2,11 @@
 use Rattle.std.specs.Prelude.{◌≡◌, ℕ, nat_eq, suc, ◌==◌, Bool, false, not, ◌&&◌, ◌||◌, List, [], ◌∷◌, Option}
 use Rattle.std.specs.Prelude.{Some, None, Result, Ok, Err, bytes_eq, codes, filter, if◌then◌else◌}
 use Rattle.std.specs.Prelude.{string_bytes}
-use Rattle.std.specs.Result.{result_err}
-use Rattle.std.specs.List.{list_any, starts_with}
-use Rattle.std.specs.Str.{byte, is_utf8}
-use Rattle.robots_warnings.specs.Facts.{mark, without_start}
+use Rattle.std.specs.{Result.result_err, List.list_any, List.starts_with, Str.byte, Str.is_utf8}
 use Rattle.robots_warnings.specs.Rules.{before_byte, has, somewhere}
-use Rattle.robots_warnings.specs.Urls.{is_absolute_url}
-use Rattle.audit_core.specs.declared.fault.Entry.{Entry}
-use Rattle.audit_core.specs.declared.fault.Fault.{Fault}
+use Rattle.robots_warnings.specs.{Facts.mark, Facts.without_start, Urls.is_absolute_url}
+use Rattle.audit_core.specs.declared.fault.{Entry.Entry, Fault.Fault, Flaw.Flaw}
 use Rattle.audit_core.specs.declared.fault.Fault.TheVariants.{Empty, Malformed, Memory}
-use Rattle.audit_core.specs.declared.fault.Flaw.{Flaw}
 use Rattle.audit_core.specs.declared.fault.Flaw.TheVariants.{Agent, Form, NotUtf8, Path, Url}
 use Rattle.audit_core.specs.Crawler.{is_crawler_name, is_word}
 

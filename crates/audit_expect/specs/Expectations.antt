@@ -1,27 +1,22 @@
 -- Expectations checked against a robots.txt file, and the report on those that fail.
-use Rattle.std.specs.Prelude.{◌≡◌, ℕ, ◌==◌, Bool, true, false, not, ◌||◌, List, ◌++◌}
-use Rattle.std.specs.Prelude.{Option, Some, None, Ok}
+use Rattle.std.specs.Prelude.{◌≡◌, ℕ, ◌==◌, Bool, true, false, not, ◌||◌, List, ◌++◌, Option, Some, None, Ok}
 use Rattle.std.specs.Prelude.{[], ◌∷◌, bytes_eq, codes, filter, if◌then◌else◌, length, map, string_bytes}
 use Rattle.std.specs.List.{AllByRecursion as Each}
 use Rattle.std.proofs.Common.{refl}
 use Rattle.texting_robots.specs.Callers.{IsFirstOverlong, IsRejected, bodies_read, lines_read, placed_rules}
 use Rattle.texting_robots.specs.Callers.{robots_file}
+use Rattle.texting_robots.specs.Decision.{IsDecisionOn}
 use Rattle.texting_robots.specs.declared.decision.Decision.{Decision}
 use Rattle.printable_text.specs.Lines.{ended}
-use Rattle.texting_robots.specs.Decision.{IsDecisionOn}
 use Rattle.printable_text.specs.Text.{Count, Label, NamedLine, Number, Part, PartValue, ReportLine, Untrusted}
 use Rattle.printable_text.specs.Text.{label, line_from, line_text, named_text, only}
 use Rattle.robots_warnings.specs.Google.{gets_googlebots, gets_nobodys}
-use Rattle.audit_core.specs.declared.answer.Answer.{Answer}
-use Rattle.audit_core.specs.declared.answer.Outcome.{Outcome}
-use Rattle.audit_expect.specs.declared.checks.AtGoogle.{AtGoogle}
+use Rattle.audit_core.specs.declared.answer.{Answer.Answer, Outcome.Outcome}
+use Rattle.audit_expect.specs.declared.checks.{AtGoogle.AtGoogle, Judgment.Judgment}
 use Rattle.audit_expect.specs.declared.checks.AtGoogle.TheVariants.{Googlebot, Nobody, Same}
-use Rattle.audit_expect.specs.declared.checks.Judgment.{Judgment}
 use Rattle.audit_expect.specs.declared.checks.Judgment.TheVariants.{Decided, Rejected}
-use Rattle.audit_core.specs.Asked.{asked_target}
-use Rattle.audit_expect.specs.Expect.{ExpectationValue, expectations_in}
-use Rattle.audit_expect.specs.OtherReading.{IsOtherDecision}
-use Rattle.audit_core.specs.Texts.{rejected_front, rejected_line_part}
+use Rattle.audit_core.specs.{Asked.asked_target, Texts.rejected_front, Texts.rejected_line_part}
+use Rattle.audit_expect.specs.{Expect.ExpectationValue, Expect.expectations_in, OtherReading.IsOtherDecision}
 
 -- ---- what the robots.txt file says
 

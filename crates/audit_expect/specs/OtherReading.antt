@@ -1,9 +1,8 @@
 -- The other reading of an empty Disallow. Here it is an Allow of `/`. For RFC 9309 and Google it is no rule,
 -- and only ends the list of user-agent lines above it, as here.
 use Rattle.std.specs.Prelude.{◌↔◌, ℕ, List, Contains}
-use Rattle.texting_robots.specs.Callers.{PlacedRule}
+use Rattle.texting_robots.specs.{Callers.PlacedRule, Decision.IsDecisionOn}
 use Rattle.texting_robots.specs.declared.decision.Decision.{Decision}
-use Rattle.texting_robots.specs.Decision.{IsDecisionOn}
 use Rattle.robots_warnings.specs.EmptyDisallows.{IsEmptyDisallow}
 
 -- `others` are those of the rules whose line isn't an empty Disallow

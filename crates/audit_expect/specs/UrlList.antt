@@ -1,12 +1,9 @@
 -- The URLs in the file of `--urls`, one per line, and those in arguments.
-use Rattle.std.specs.Prelude.{◌≡◌, ℕ, ◌-◌, ◌==◌, false, not, List, ◌++◌, Option, Some, None, Result, Ok}
-use Rattle.std.specs.Prelude.{Err, drop, if◌then◌else◌, length, string_bytes, take}
-use Rattle.std.specs.Char.{is_ascii_whitespace}
-use Rattle.std.specs.List.{find, prefix_len, suffix_len}
-use Rattle.std.specs.Str.{is_utf8}
-use Rattle.audit_core.specs.Request.{RequestValue}
+use Rattle.std.specs.Prelude.{◌≡◌, ℕ, ◌-◌, ◌==◌, false, not, List, ◌++◌, Option, Some, None, Result, Ok, Err}
+use Rattle.std.specs.Prelude.{drop, if◌then◌else◌, length, string_bytes, take}
+use Rattle.std.specs.{Char.is_ascii_whitespace, List.find, List.prefix_len, List.suffix_len, Str.is_utf8}
+use Rattle.audit_core.specs.{Request.RequestValue, Crawler.is_word}
 use Rattle.audit_expect.specs.Expect.{MalformedLine, entries_from, is_comment, is_path_or_url, lines}
-use Rattle.audit_core.specs.Crawler.{is_word}
 use Rattle.audit_core.specs.declared.fault.Fault.{Fault}
 use Rattle.audit_core.specs.declared.fault.Fault.TheVariants.{Argument, Memory}
 use Rattle.audit_core.specs.declared.fault.Flaw.TheVariants.{NotUtf8, Url}

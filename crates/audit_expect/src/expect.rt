@@ -1,8 +1,7 @@
 //! The expectations in the file of `--expect`, one per line, and how a text is cut into parts.
-ghost use Rattle.std.specs.Prelude.{◌≡◌, ◌≢◌, ◌<◌, ◌∷◌, ◌++◌, [], IfErr, IfOk, MatchOption, Ok, OnOk, if◌then◌else◌, length, map, option_map};
-ghost use Rattle.std.specs.Option.{option_to_list};
-ghost use Rattle.std.specs.Result.{result_err};
-ghost use Rattle.std.specs.Str.{byte};
+ghost use Rattle.std.specs.Prelude.{◌≡◌, ◌≢◌, ◌<◌, ◌∷◌, ◌++◌, [], IfErr, IfOk, MatchOption, Ok, OnOk};
+ghost use Rattle.std.specs.Prelude.{if◌then◌else◌, length, map, option_map};
+ghost use Rattle.std.specs.{Option.option_to_list, Result.result_err, Str.byte};
 ghost use Rattle.robots_warnings.specs.Rules.{has};
 ghost use Rattle.audit_expect.specs.Expect.{IsLineFault, begins_dot_segment, entries_from, expectation_in};
 ghost use Rattle.audit_expect.specs.Expect.{expectations_in, expects, is_asked_otherwise, is_comment, is_in};

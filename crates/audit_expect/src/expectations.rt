@@ -1,10 +1,9 @@
 //! Expectations checked against a robots.txt file, and the report on those that fail.
-ghost use Rattle.std.specs.Prelude.{◌≡◌, ◌==◌, ◌++◌, ◌∷◌, [], IfErr, IfOk, Ok, OnOk, bytes_eq, false, if◌then◌else◌, length, map, string_bytes, take};
+ghost use Rattle.std.specs.Prelude.{◌≡◌, ◌==◌, ◌++◌, ◌∷◌, [], IfErr, IfOk, Ok, OnOk, bytes_eq, false};
+ghost use Rattle.std.specs.Prelude.{if◌then◌else◌, length, map, string_bytes, take};
 ghost use Rattle.texting_robots.specs.Callers.{file_limit, robots_file};
-ghost use Rattle.printable_text.specs.Lines.{ended};
-ghost use Rattle.printable_text.specs.Sanitize.{sanitized};
-ghost use Rattle.printable_text.specs.Raw.{raw_line};
 ghost use Rattle.printable_text.specs.Text.{line_text, part_text, parts_text};
+ghost use Rattle.printable_text.specs.{Lines.ended, Sanitize.sanitized, Raw.raw_line};
 ghost use Rattle.audit_core.specs.declared.fault.Entry.TheVariants as entry;
 ghost use Rattle.audit_core.specs.Asked.{asked_target};
 ghost use Rattle.audit_core.specs.Internal.{IsReading};

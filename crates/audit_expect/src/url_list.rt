@@ -4,8 +4,7 @@ ghost use Rattle.std.specs.Result.{result_err};
 ghost use Rattle.audit_core.specs.Request.{requested_by};
 ghost use Rattle.audit_core.specs.declared.fault.Entry.TheVariants as entry;
 ghost use Rattle.audit_expect.specs.Expect.{IsEntryFault, IsLineFault, entries_from, lines};
-ghost use Rattle.audit_expect.specs.UrlList.{HasUrlsIn, IsUrlFault};
-ghost use Rattle.audit_expect.specs.UrlList.{first_malformed, trimmed, url_in, urls_in};
+ghost use Rattle.audit_expect.specs.UrlList.{HasUrlsIn, IsUrlFault, first_malformed, trimmed, url_in, urls_in};
 
 use crate::entries::{malformed, without_entries};
 use crate::expect::{cut, is_comment, is_path_or_url};

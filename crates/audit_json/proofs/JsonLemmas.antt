@@ -13,30 +13,25 @@ use Rattle.serde_json.specs.Written.{comma_if, compact_text, has_float, items_ha
 use Rattle.serde_json.specs.Written.{members_have_float, members_text}
 use Rattle.serde_json.proofs.OnLiterals.{serde_json_on_literals}
 use Rattle.texting_robots.specs.Callers.{CrawlDelay, LineValue, Label}
-use Rattle.printable_text.specs.Lines.{lf}
 use Rattle.printable_text.specs.Sanitize.{IsPrintable, is_printable_byte}
+use Rattle.printable_text.specs.{Lines.lf, Level.level_word, Text.Value, Text.value_text}
 use Rattle.printable_text.proofs.SanitizeLemmas.{append_printable, ascii_printable, decimal_printable}
 use Rattle.printable_text.proofs.SanitizeLemmas.{line_printable, sanitized_printable}
-use Rattle.printable_text.specs.Level.{level_word}
-use Rattle.printable_text.specs.Text.{Value, value_text}
-use Rattle.printable_text.specs.declared.level.Level.{Level}
 use Rattle.printable_text.proofs.PartLemmas.{label_printable, level_printable, value_printable}
+use Rattle.printable_text.specs.declared.level.Level.{Level}
 use Rattle.robots_warnings.specs.Message.{fixed_name, message_parts}
-use Rattle.robots_warnings.specs.Table.{level_of}
-use Rattle.robots_warnings.specs.WarningValue.{WarningValue}
+use Rattle.robots_warnings.specs.{Table.level_of, WarningValue.WarningValue}
 use Rattle.audit_core.specs.declared.group.Group.{Group}
 use Rattle.audit_core.specs.declared.group.Group.TheVariants.{Everyone, Named, Nobody, Star}
-use Rattle.audit_core.specs.Audit.{AgentValue, AuditValue, VerdictValue}
 use Rattle.audit_core.specs.Rows.{has_value, kind_of, line_value, membership_value}
+use Rattle.audit_core.specs.{Audit.AgentValue, Audit.AuditValue, Audit.VerdictValue, Findings.Parts}
 use Rattle.audit_core.specs.declared.syntax.Syntax.{Syntax}
-use Rattle.audit_core.specs.declared.syntax.Syntax.TheVariants.{Standard, StandardWithoutWarnings}
-use Rattle.audit_core.specs.declared.syntax.Syntax.TheVariants.{Unstated}
+use Rattle.audit_core.specs.declared.syntax.Syntax.TheVariants.{Standard, StandardWithoutWarnings, Unstated}
 use Rattle.audit_core.proofs.EscapeLemmas.{in_quotes}
-use Rattle.audit_core.specs.Findings.{Parts}
+use Rattle.audit_core.proofs.FindingLemmas.{message_printable, name_printable}
 use Rattle.audit_json.specs.Json.{agent_json, audit_json, group_word, json_text, line_json, list_json}
 use Rattle.audit_json.specs.Json.{number_json, sanitized_json, syntax_json, value_json, verdict_json}
 use Rattle.audit_json.specs.Json.{warning_json}
-use Rattle.audit_core.proofs.FindingLemmas.{message_printable, name_printable}
 
 -- ---- lists
 

@@ -1,29 +1,25 @@
 -- The SARIF log contains no floating-point number, and no control or bidirectional-formatting characters
 -- other than LF. Its messages show the texts that they are made of.
-use Rattle.std.proofs.Common.{◌≡◌, ℕ, ◌/◌, ◌%◌, ◌<◌, ◌==◌, Bool, true, false, List, [], ◌∷◌, ◌++◌}
-use Rattle.std.proofs.Common.{Some, None}
+use Rattle.std.proofs.Common.{◌≡◌, ℕ, ◌/◌, ◌%◌, ◌<◌, ◌==◌, Bool, true, false, List, [], ◌∷◌, ◌++◌, Some, None}
 use Rattle.std.proofs.Common.{ap, ap₂, append-nil, arith, flat_map, inl, inr, map, refl, sym, ◌∙◌}
 use Rattle.std.specs.Prelude.{if◌then◌else◌, option_map, ◌&&◌}
-use Rattle.std.specs.List.{list_all}
-use Rattle.std.specs.Fmt.{digit_glyph}
 use Rattle.std.specs.Str.{IsUtf8, all_scalars, chars, encode_utf8_all}
-use Rattle.std.proofs.lemmas.Bool.{and_parts, cases_Bool}
+use Rattle.std.specs.{List.list_all, Fmt.digit_glyph}
+use Rattle.std.proofs.lemmas.Str.{chars-encodes, encodes-append, scalars-chars}
+use Rattle.std.proofs.lemmas.{Bool.and_parts, Bool.cases_Bool, Grind.flat_map-append}
 use Rattle.std.proofs.lemmas.Bool.Decides.{nat_tests}
 use Rattle.std.proofs.lemmas.List.Folds.{list_all-append}
-use Rattle.std.proofs.lemmas.Grind.{flat_map-append}
-use Rattle.std.proofs.lemmas.Str.{chars-encodes, encodes-append, scalars-chars}
 use Rattle.percent_encoding.specs.Percent.{percent_encode_byte}
 use Rattle.printable_text.specs.Sanitize.{IsPrintable, is_printable, is_printable_byte}
-use Rattle.printable_text.proofs.SanitizeLemmas.{ascii_printable, chars_printable, flat_printable}
 use Rattle.printable_text.specs.Level.{level_word}
+use Rattle.printable_text.proofs.SanitizeLemmas.{ascii_printable, chars_printable, flat_printable}
 use Rattle.robots_warnings.specs.Table.{all_causes, example_of, level_of, name_of, text_of}
 use Rattle.audit_core.specs.Audit.{AuditValue}
 use Rattle.audit_core.specs.Findings.{FindingValue, Found, all_found, findings, found_value, message_of}
 use Rattle.audit_json.specs.Json.{list_json}
-use Rattle.audit_json.specs.Sarif.{SarifRuleValue, all_rules, help_text, is_brace, is_uri_byte}
-use Rattle.audit_json.specs.Sarif.{literal_char, literal_text, log_json, message_json, one_slash}
-use Rattle.audit_json.specs.Sarif.{result_json, rule_json, sarif_text, shown, shown_after}
-use Rattle.audit_json.specs.Sarif.{takes_backslash, uri_byte, uri_of}
+use Rattle.audit_json.specs.Sarif.{SarifRuleValue, all_rules, help_text, is_brace, is_uri_byte, literal_char}
+use Rattle.audit_json.specs.Sarif.{literal_text, log_json, message_json, one_slash, result_json, rule_json}
+use Rattle.audit_json.specs.Sarif.{sarif_text, shown, shown_after, takes_backslash, uri_byte, uri_of}
 use Rattle.audit_core.proofs.FindingLemmas.{message_printable, name_printable}
 use Rattle.serde_json.specs.Written.{has_float}
 use Rattle.audit_json.proofs.JsonLemmas.{IsPlain, level_plain, plain_printable, plain_whole}

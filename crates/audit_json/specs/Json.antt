@@ -3,22 +3,16 @@ use Rattle.std.specs.Prelude.{ℕ, Bool, true, List, [], ◌∷◌, ◌++◌, Op
 use Rattle.std.specs.Prelude.{map}
 use Rattle.serde_json.specs.Data.{Data, array, boolean, member, no_members, null, number, object, string}
 use Rattle.serde_json.specs.Data.{unsigned}
-use Rattle.serde_json.specs.View.{items_of}
-use Rattle.serde_json.specs.Written.{compact_text}
+use Rattle.serde_json.specs.{View.items_of, Written.compact_text}
 use Rattle.texting_robots.specs.Callers.{CrawlDelay, LineValue, Label, sitemaps_in}
-use Rattle.printable_text.specs.Lines.{lf}
+use Rattle.printable_text.specs.{Lines.lf, Level.level_word, Sanitize.sanitized}
 use Rattle.audit_core.specs.declared.group.Group.{Group}
 use Rattle.audit_core.specs.declared.group.Group.TheVariants.{Everyone, Named, Nobody, Star}
-use Rattle.audit_core.specs.Audit.{AgentValue, AuditValue, VerdictValue}
-use Rattle.robots_warnings.specs.File.{lines_of}
-use Rattle.printable_text.specs.Level.{level_word}
-use Rattle.audit_core.specs.Syntax.{is_standard}
-use Rattle.audit_core.specs.declared.syntax.Syntax.{Syntax}
 use Rattle.audit_core.specs.Rows.{has_value, kind_text, line_value_text, membership_word}
-use Rattle.printable_text.specs.Sanitize.{sanitized}
+use Rattle.audit_core.specs.{Audit.AgentValue, Audit.AuditValue, Audit.VerdictValue, Syntax.is_standard}
 use Rattle.robots_warnings.specs.Table.{level_of, name_of}
-use Rattle.robots_warnings.specs.Message.{warning_text}
-use Rattle.robots_warnings.specs.WarningValue.{WarningValue}
+use Rattle.robots_warnings.specs.{File.lines_of, Message.warning_text, WarningValue.WarningValue}
+use Rattle.audit_core.specs.declared.syntax.Syntax.{Syntax}
 
 -- ---- values
 

@@ -2,11 +2,8 @@
 -- line.
 use Rattle.std.specs.Prelude.{ℕ, Bool, false, List, [], ◌∷◌, ◌++◌, ◌==◌, ◌&&◌, ◌||◌, Option, Some, None}
 use Rattle.std.specs.Prelude.{bytes_eq, codes, count_by, encode_utf8_all, flat_map, if◌then◌else◌, not}
-use Rattle.std.specs.Prelude.{option_map}
-use Rattle.std.specs.Prelude.{unwrap_or}
-use Rattle.std.specs.Int.{is_in_range}
-use Rattle.std.specs.List.{list_any}
-use Rattle.std.specs.Str.{byte, chars}
+use Rattle.std.specs.Prelude.{option_map, unwrap_or}
+use Rattle.std.specs.{Int.is_in_range, List.list_any, Str.byte, Str.chars}
 use Rattle.percent_encoding.specs.Percent.{percent_encode_byte}
 use Rattle.serde_json.specs.Data.{Data, array, item, member, no_items, no_members, number, object, string}
 use Rattle.serde_json.specs.Data.{unsigned}

@@ -1,7 +1,6 @@
 //! The audit as one line of JSON.
 ghost use Rattle.std.specs.Prelude.{◌≡◌, [], false, IfOk, if◌then◌else◌, map, string_bytes};
-ghost use Rattle.serde_json.specs.View.{view};
-ghost use Rattle.serde_json.specs.Written.{has_float};
+ghost use Rattle.serde_json.specs.{View.view, Written.has_float};
 ghost use Rattle.texting_robots.specs.Callers.{by_value, label_by_value, sitemaps_in};
 ghost use Rattle.audit_json.specs.Json.{agent_json, audit_json, group_word, json_line, json_text, line_json};
 ghost use Rattle.audit_json.specs.Json.{list_json, sanitized_json, syntax_json, value_json, verdict_json};

@@ -1,7 +1,6 @@
 //! Theorems about logs, each written as the contract of an empty function.
 ghost use Rattle.std.specs.Prelude.{IsTrue, List, Some, ℕ, ◌==◌, ◌≡◌};
-ghost use Rattle.std.specs.List.{list_all};
-ghost use Rattle.std.specs.Str.{chars, IsUtf8};
+ghost use Rattle.std.specs.{List.list_all, Str.chars, Str.IsUtf8};
 ghost use Rattle.robots_warnings.specs.Table.{all_causes, name_of};
 ghost use Rattle.audit_json.specs.Sarif.{all_rules, has_level_for, literal_text, rules_named, shown};
 

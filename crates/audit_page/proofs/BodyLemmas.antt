@@ -2,12 +2,10 @@
 use Rattle.std.proofs.Common.{◌≡◌, ◌∙◌, ℕ, suc, ◌+◌, ◌-◌, ◌/◌, ◌<◌, ◌==◌, List, [], ◌∷◌, ◌++◌, ap}
 use Rattle.std.proofs.Common.{append_assoc, arith, drop, false, length, map, sym, take, true}
 use Rattle.std.proofs.lemmas.Bool.Decides.{nat_tests}
-use Rattle.std.proofs.lemmas.List.{append-nil, drop-map, length-drop, length-map}
-use Rattle.std.proofs.lemmas.List.{take-map}
+use Rattle.std.proofs.lemmas.List.{append-nil, drop-map, length-drop, length-map, take-map}
 use Rattle.texting_robots.specs.Callers.{Label, label_by_value}
 use Rattle.texting_robots.specs.declared.labels.LabeledLine.{LabeledLine}
-use Rattle.audit_page.specs.Page.{bodies, bodies_of, body_lines}
-use Rattle.audit_page.specs.Tree.{Tree, all, written}
+use Rattle.audit_page.specs.{Page.bodies, Page.bodies_of, Page.body_lines, Tree.Tree, Tree.all, Tree.written}
 
 some_bodies : (labels : List Label) → 0 < length labels
     → bodies labels ≡ take body_lines labels ∷ bodies (drop body_lines labels)

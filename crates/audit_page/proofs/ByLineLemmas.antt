@@ -1,11 +1,9 @@
 -- Lists of warnings by line.
 use Rattle.std.proofs.Common.{◌≡◌, ℕ, zero, suc, ◌==◌, false, List, [], ◌∷◌, ◌++◌, Some, arith, ap}
 use Rattle.std.proofs.Common.{if◌then◌else◌, inl, inr, refl, slice_set, sym}
-use Rattle.std.specs.Prelude.{slice_get}
-use Rattle.std.specs.Global.{Vec}
-use Rattle.std.proofs.lemmas.Bool.{cases_Bool}
+use Rattle.std.specs.{Prelude.slice_get, Global.Vec}
+use Rattle.std.proofs.lemmas.{Bool.cases_Bool, List.append-nil}
 use Rattle.std.proofs.lemmas.Bool.Decides.{nat_tests}
-use Rattle.std.proofs.lemmas.List.{append-nil}
 use Rattle.texting_robots.specs.Callers.{Label}
 use Rattle.robots_warnings.specs.declared.warning.Warning.{Warning}
 use Rattle.robots_warnings.specs.WarningValue.{WarningValue}

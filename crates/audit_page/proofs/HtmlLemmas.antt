@@ -1,15 +1,13 @@
 -- What is written for a tree whose texts are printable is printable, and the tree can be read back.
-use Rattle.std.proofs.Common.{ℕ, ◌/◌, ◌+◌, ◌<◌, ◌≤◌, ◌++◌, Bool, true, false, List, [], ◌∷◌, ◌≡◌, ◌∙◌}
-use Rattle.std.proofs.Common.{ap, arith, codes, flat_map, inl, inr, refl, subst, sym}
+use Rattle.std.proofs.Common.{ℕ, ◌/◌, ◌+◌, ◌<◌, ◌≤◌, ◌++◌, Bool, true, false, List, [], ◌∷◌, ◌≡◌, ◌∙◌, ap}
+use Rattle.std.proofs.Common.{arith, codes, flat_map, inl, inr, refl, subst, sym}
 use Rattle.std.specs.Prelude.{nat_lt, not, ◌==◌}
-use Rattle.std.specs.Bool.{IsTrue}
-use Rattle.std.specs.Char.{IsScalar}
-use Rattle.std.specs.List.{list_all}
 use Rattle.std.specs.Str.{all_scalars, chars, encode_utf8_all}
+use Rattle.std.specs.{Bool.IsTrue, Char.IsScalar, List.list_all}
 use Rattle.std.proofs.lemmas.Bool.{and_parts, cases_Bool}
+use Rattle.std.proofs.lemmas.Str.{encode_ascii, encodes-chars, scalars-chars}
 use Rattle.std.proofs.lemmas.Bool.Decides.{nat_tests}
 use Rattle.std.proofs.lemmas.List.Folds.{list_all-append}
-use Rattle.std.proofs.lemmas.Str.{encode_ascii, encodes-chars, scalars-chars}
 use lib.Utf8.{encode, next, scalar}
 use Rattle.html_writer.specs.Html.{AreAttributes, Attribute, Html, IsContent, IsHtml, IsText, attribute_bytes}
 use Rattle.html_writer.specs.Html.{doctype, document, element, end_tag, escaped, escaped_byte, is_character}

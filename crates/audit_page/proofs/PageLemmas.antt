@@ -1,10 +1,8 @@
 -- A page is printable, and reading it yields the same tree, as for every tree.
 use Rattle.std.proofs.Common.{◌≡◌, Some}
-use Rattle.html_writer.specs.Html.{document}
-use Rattle.html_writer.specs.Reader.{read_document}
+use Rattle.html_writer.specs.{Html.document, Reader.read_document}
 use Rattle.printable_text.specs.Sanitize.{IsPrintable}
-use Rattle.audit_core.specs.Audit.{AuditValue}
-use Rattle.audit_core.specs.Request.{RequestValue}
+use Rattle.audit_core.specs.{Audit.AuditValue, Request.RequestValue}
 use Rattle.audit_page.specs.Page.{page, page_tree}
 use Rattle.audit_page.proofs.TreeLemmas.{tree_printable, tree_read}
 

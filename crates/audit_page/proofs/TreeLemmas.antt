@@ -2,21 +2,18 @@
 use Rattle.std.proofs.Common.{◌≡◌, ◌∙◌, ℕ, true, false, List, [], ◌∷◌, ◌++◌, Some, ap, append_assoc, codes}
 use Rattle.std.proofs.Common.{flat_map, map, refl, sym}
 use Rattle.std.specs.Prelude.{not}
-use Rattle.std.proofs.lemmas.Bool.{and_parts, not-true}
-use Rattle.std.proofs.lemmas.List.{append-nil}
-use Rattle.html_writer.specs.Html.{AreAttributes, Attribute, Html, IsContent}
-use Rattle.html_writer.specs.Html.{attribute_bytes, doctype, document}
-use Rattle.html_writer.specs.Html.{end_tag, escaped, has_attribute, is_among, is_css}
-use Rattle.html_writer.specs.Html.{is_name, is_ordinary, is_title}
-use Rattle.html_writer.specs.Html.{start_tag, style_bytes, tag_close, tag_open, void_close, void_names}
+use Rattle.std.proofs.lemmas.{Bool.and_parts, Bool.not-true, List.append-nil}
+use Rattle.html_writer.specs.Html.{AreAttributes, Attribute, Html, IsContent, attribute_bytes, doctype}
+use Rattle.html_writer.specs.Html.{document, end_tag, escaped, has_attribute, is_among, is_css, is_name}
+use Rattle.html_writer.specs.Html.{is_ordinary, is_title, start_tag, style_bytes, tag_close, tag_open}
+use Rattle.html_writer.specs.Html.{void_close, void_names}
 use Rattle.html_writer.specs.Html as html
 use Rattle.html_writer.specs.Reader.{read_document}
-use Rattle.html_writer.proofs.ReaderLemmas.{page_read}
-use Rattle.html_writer.proofs.TextLemmas.{escaped-append}
 use Rattle.html_writer.proofs.WritingLemmas.{followed_content, written-followed}
-use Rattle.printable_text.specs.Sanitize.{IsPrintable}
-use Rattle.printable_text.proofs.SanitizeLemmas.{append_printable, ascii_printable, line_printable, nil_printable}
-use Rattle.printable_text.specs.Text.{parts_text, value_text}
+use Rattle.html_writer.proofs.{ReaderLemmas.page_read, TextLemmas.escaped-append}
+use Rattle.printable_text.specs.{Sanitize.IsPrintable, Text.parts_text, Text.value_text}
+use Rattle.printable_text.proofs.SanitizeLemmas.{append_printable, ascii_printable, line_printable}
+use Rattle.printable_text.proofs.SanitizeLemmas.{nil_printable}
 use Rattle.printable_text.proofs.PartLemmas.{parts_printable, value_printable}
 use Rattle.audit_page.specs.Html.{html_of}
 use Rattle.audit_page.specs.Tree.{Field, Tree, Words, all, are_fields, both, each, field_attribute}

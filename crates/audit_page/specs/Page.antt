@@ -2,35 +2,30 @@
 -- an element, never part of an attribute.
 --
 -- The parts are `unfoldable`, so that a proof about a function that writes a part names the parts in it.
-use Rattle.std.specs.Prelude.{◌≡◌, ℕ, zero, suc, ◌+◌, ◌-◌, ◌/◌, ◌==◌, nat_lt, Bool, true, false, not}
-use Rattle.std.specs.Prelude.{List, [], ◌∷◌, ◌++◌, Option, Some, None}
-use Rattle.std.specs.Prelude.{codes, drop, filter, if◌then◌else◌, length, take}
+use Rattle.std.specs.Prelude.{◌≡◌, ℕ, zero, suc, ◌+◌, ◌-◌, ◌/◌, ◌==◌, nat_lt, Bool, true, false, not, List}
+use Rattle.std.specs.Prelude.{[], ◌∷◌, ◌++◌, Option, Some, None, codes, drop, filter, if◌then◌else◌, length}
+use Rattle.std.specs.Prelude.{take}
 use Rattle.std.proofs.Common.{refl}
 use Rattle.std.proofs.lemmas.Bool.{and_parts}
 use Rattle.texting_robots.specs.Callers.{Label, LineValue, sitemaps_in}
 use Rattle.html_writer.specs.Html.{Html, tag_close}
-use Rattle.printable_text.specs.Sanitize.{ends_apart}
+use Rattle.printable_text.specs.Text.{Number, Untrusted, Value, Word, is_fixed, word}
+use Rattle.printable_text.specs.{Sanitize.ends_apart, Level.level_word}
 use Rattle.printable_text.specs.declared.level.Level.{Level}
 use Rattle.printable_text.specs.declared.level.Level.TheVariants.{Error, Note, Warning}
-use Rattle.printable_text.specs.Level.{level_word}
-use Rattle.printable_text.specs.Text.{Number, Untrusted, Value, Word, is_fixed, word}
-use Rattle.robots_warnings.specs.File.{lines_of}
 use Rattle.robots_warnings.specs.Message.{reported_parts}
-use Rattle.robots_warnings.specs.Table.{level_of}
-use Rattle.robots_warnings.specs.WarningValue.{WarningValue}
+use Rattle.robots_warnings.specs.{File.lines_of, Table.level_of, WarningValue.WarningValue}
 use Rattle.robots_warnings.specs.declared.table.Cause.{Cause}
 use Rattle.audit_core.specs.Audit.{AgentValue, AuditValue, VerdictValue, labeling_agent}
-use Rattle.audit_core.specs.Request.{RequestValue}
 use Rattle.audit_core.specs.Rows.{kind_of, line_value, membership_value}
-use Rattle.audit_core.specs.Syntax.{is_standard, sentence}
 use Rattle.audit_core.specs.Texts.{delay_value, group_end, group_reason, group_value}
+use Rattle.audit_core.specs.{Request.RequestValue, Syntax.is_standard, Syntax.sentence}
 use Rattle.audit_core.specs.declared.syntax.Syntax.{Syntax}
 use Rattle.audit_core.specs.declared.syntax.Syntax.TheVariants.{Standard, StandardWithoutWarnings, Unstated}
 use Rattle.audit_page.specs.declared.page.style.TheConstants.{CRAWLERS, CSS, POLICY, REJECTED, SITEMAPS}
 use Rattle.audit_page.specs.Html.{html_of}
 use Rattle.audit_page.specs.Tree.{Field, Tree, Words, each, field, fixed, is_ascii, labelled, message}
-use Rattle.audit_page.specs.Tree.{nothing, opened, shown, style, tag, text, title, void, with}
-use Rattle.audit_page.specs.Tree.{written, ◌⊕◌}
+use Rattle.audit_page.specs.Tree.{nothing, opened, shown, style, tag, text, title, void, with, written, ◌⊕◌}
 
 -- ---- parts of several elements
 

@@ -1,9 +1,7 @@
 //! A theorem about pages, written as the contract of an empty function.
 ghost use Rattle.std.specs.Prelude.{Some, ◌≡◌};
-ghost use Rattle.html_writer.specs.Html.{document};
-ghost use Rattle.html_writer.specs.Reader.{read_document};
-ghost use Rattle.audit_core.specs.Audit.{AuditValue};
-ghost use Rattle.audit_core.specs.Request.{RequestValue};
+ghost use Rattle.html_writer.specs.{Html.document, Reader.read_document};
+ghost use Rattle.audit_core.specs.{Audit.AuditValue, Request.RequestValue};
 ghost use Rattle.audit_page.specs.Page.{page};
 
 /// Reading a page yields the same tree again. So each text from a file, a crawler's name or a URL is within one text of

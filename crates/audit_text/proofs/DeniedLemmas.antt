@@ -1,9 +1,7 @@
 -- Which URLs a report lists, and how many are allowed and denied.
-use Rattle.std.proofs.Common.{◌≡◌, ◌∙◌, ℕ, ◌+◌, ◌<◌, List, [], ◌∷◌, ◌++◌, ap, ap₂}
-use Rattle.std.proofs.Common.{arith, drop, length, map}
+use Rattle.std.proofs.Common.{◌≡◌, ◌∙◌, ℕ, ◌+◌, ◌<◌, List, [], ◌∷◌, ◌++◌, ap, ap₂, arith, drop, length, map}
 use Rattle.std.proofs.Common.{slice_index_or, slice_set, take}
-use Rattle.std.proofs.lemmas.List.{drop-set-lt, drop_more, length-drop, map-append, take_more}
-use Rattle.std.proofs.lemmas.List.{take_more_set}
+use Rattle.std.proofs.lemmas.List.{drop-set-lt, drop_more, length-drop, map-append, take_more, take_more_set}
 use Rattle.audit_core.specs.Audit.{AgentValue, with_denied}
 
 -- the crawlers from index `at` on, and those after the one there, where two lists are the same from it on

@@ -2,10 +2,9 @@
 use Rattle.std.proofs.Common.{ℕ, Bool, true, false, List, [], ◌∷◌, ◌++◌, arith, bytes_eq, codes, refl}
 use Rattle.std.specs.Prelude.{if◌then◌else◌}
 use Rattle.std.proofs.lemmas.Bool.Decides.{nat_tests}
-use Rattle.printable_text.specs.Lines.{lf}
-use Rattle.printable_text.specs.Sanitize.{IsPrintable}
-use Rattle.printable_text.proofs.SanitizeLemmas.{append_printable, ascii_printable, flat_printable, nil_printable}
-use Rattle.printable_text.specs.Text.{written}
+use Rattle.printable_text.specs.{Lines.lf, Sanitize.IsPrintable, Text.written}
+use Rattle.printable_text.proofs.SanitizeLemmas.{append_printable, ascii_printable, flat_printable}
+use Rattle.printable_text.proofs.SanitizeLemmas.{nil_printable}
 use Rattle.printable_text.proofs.PartLemmas.{written_printable}
 use Rattle.robots_warnings.specs.declared.table.Cause.{Cause}
 use Rattle.robots_warnings.specs.Table.{all_causes, example_of, name_of}

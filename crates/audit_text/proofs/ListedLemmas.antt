@@ -8,8 +8,7 @@ use Rattle.audit_text.specs.Internal.Listed.{AreCounts, Counts, counted}
 use Rattle.audit_text.specs.Listed.{count_like, count_of, is_like, more_of, most, placed}
 use Rattle.audit_text.specs.declared.listed.More.{More}
 use Rattle.printable_text.specs.declared.level.Level.{Level}
-use Rattle.robots_warnings.specs.Table.{level_of, name_of}
-use Rattle.robots_warnings.specs.WarningValue.{WarningValue}
+use Rattle.robots_warnings.specs.{Table.level_of, Table.name_of, WarningValue.WarningValue}
 use Rattle.robots_warnings.specs.declared.table.Cause.{Cause}
 
 -- there are at most as many warnings with a name and a level as there are warnings

@@ -1,10 +1,8 @@
 -- The lines about warnings contain no command, and colors add only their codes.
 use Rattle.std.proofs.Common.{◌≡◌, ℕ, Bool, false, List, [], ◌∷◌, ◌++◌, map}
 use Rattle.std.specs.List.{AllByRecursion as Each}
-use Rattle.printable_text.specs.Lines.{ended}
-use Rattle.printable_text.specs.Sanitize.{has_command}
-use Rattle.printable_text.specs.Color.{IsColored, IsForTerminal}
 use Rattle.printable_text.specs.Text.{LevelLine, NamedLine, level_text, named_text}
+use Rattle.printable_text.specs.{Lines.ended, Sanitize.has_command, Color.IsColored, Color.IsForTerminal}
 use Rattle.printable_text.proofs.ColorLemmas.{lines_colored, lines_for_terminal}
 use Rattle.printable_text.proofs.PartLemmas.{level_quiet, named_quiet}
 use Rattle.robots_warnings.specs.WarningValue.{WarningValue}

@@ -2,17 +2,14 @@
 use Rattle.std.specs.Prelude.{◌≡◌, ◌==◌, ℕ, true, false, List, [], ◌∷◌, ◌++◌, Result, IfErr, IfOk, ◌⊎◌}
 use Rattle.std.specs.Prelude.{bytes_eq, codes, flat_map, if◌then◌else◌, map}
 use Rattle.std.proofs.Common.{refl}
-use Rattle.printable_text.specs.Lines.{lf}
-use Rattle.printable_text.specs.Level.{level_word}
-use Rattle.printable_text.specs.PlainLine.{starts}
 use Rattle.printable_text.specs.Text.{Only, Part, ReportLine, Word, fixed_level, label, line_from, written}
+use Rattle.printable_text.specs.{Lines.lf, Level.level_word, PlainLine.starts}
 use Rattle.printable_text.specs.declared.level.Level.{Level}
 use Rattle.printable_text.specs.declared.level.Level.TheVariants.{Error, Note, Warning}
 use Rattle.robots_warnings.specs.declared.table.Cause.{Cause}
 use Rattle.robots_warnings.specs.Message.{fixed_name, fixed_text}
 use Rattle.robots_warnings.specs.Table.{all_causes, example_of, is_name, level_of, name_of}
-use Rattle.audit_core.specs.Answer.{IsText}
-use Rattle.audit_core.specs.Fault.{IsUnknown}
+use Rattle.audit_core.specs.{Answer.IsText, Fault.IsUnknown}
 use Rattle.audit_core.specs.declared.answer.Answer.{Answer}
 use Rattle.audit_core.specs.declared.fault.Fault.{Fault}
 use Rattle.audit_core.specs.declared.fault.Fault.TheVariants.{Memory}

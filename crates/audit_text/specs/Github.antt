@@ -5,16 +5,12 @@
 -- In messages `%`, CR and LF are escaped, in properties also `:` and `,`: a text ends neither its property
 -- nor its line.
 use Rattle.std.specs.Prelude.{ℕ, Bool, true, false, List, [], ◌∷◌, ◌++◌, ◌==◌, ◌&&◌, ◌||◌, not, Option, Some}
-use Rattle.std.specs.Prelude.{None, codes, decimal}
-use Rattle.std.specs.Prelude.{flat_map, if◌then◌else◌, map}
-use Rattle.std.specs.List.{list_all}
-use Rattle.std.specs.Str.{byte}
+use Rattle.std.specs.Prelude.{None, codes, decimal, flat_map, if◌then◌else◌, map}
+use Rattle.std.specs.{List.list_all, Str.byte}
 use Rattle.std.proofs.Common.{refl}
-use Rattle.printable_text.specs.Lines.{ended}
-use Rattle.printable_text.specs.Sanitize.{sanitized}
+use Rattle.printable_text.specs.{Lines.ended, Sanitize.sanitized, Text.Label, Text.label}
 use Rattle.printable_text.specs.declared.level.Level.{Level}
 use Rattle.printable_text.specs.declared.level.Level.TheVariants.{Error, Note, Warning}
-use Rattle.printable_text.specs.Text.{Label, label}
 use Rattle.audit_core.specs.Findings.{FindingValue}
 
 -- ---- escaping

@@ -7,8 +7,7 @@ use Rattle.audit_text.specs.declared.listed.More.{More}
 use Rattle.printable_text.specs.declared.level.Level.{Level}
 use Rattle.printable_text.specs.contracts.level.Level.{the_type}
 use Rattle.robots_warnings.specs.declared.table.Cause.{Cause}
-use Rattle.robots_warnings.specs.Table.{level_of, name_of}
-use Rattle.robots_warnings.specs.WarningValue.{WarningValue}
+use Rattle.robots_warnings.specs.{Table.level_of, Table.name_of, WarningValue.WarningValue}
 
 -- how many warnings of one name and level are listed
 abbrev pub most : ℕ

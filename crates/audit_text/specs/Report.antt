@@ -3,16 +3,14 @@ use Rattle.std.specs.Prelude.{◌≡◌, ℕ, Bool, true, false, List, [], ◌�
 use Rattle.std.specs.Prelude.{flat_map, if◌then◌else◌, map}
 use Rattle.std.proofs.Common.{refl}
 use Rattle.printable_text.specs.PlainLine.{starts}
-use Rattle.printable_text.specs.Text.{Absent, Count, Label, LevelLine, NamedLine, Number, Part}
-use Rattle.printable_text.specs.Text.{PartValue, ReportLine, Untrusted, Value, Word, label, level_text}
-use Rattle.printable_text.specs.Text.{fixed_level, line_from, named_text, only, word}
+use Rattle.printable_text.specs.Text.{Absent, Count, Label, LevelLine, NamedLine, Number, Part, PartValue}
+use Rattle.printable_text.specs.Text.{ReportLine, Untrusted, Value, Word, label, level_text, fixed_level}
+use Rattle.printable_text.specs.Text.{line_from, named_text, only, word}
 use Rattle.robots_warnings.specs.Message.{fixed_name, reported_parts}
-use Rattle.robots_warnings.specs.Table.{level_of}
-use Rattle.robots_warnings.specs.WarningValue.{WarningValue}
+use Rattle.robots_warnings.specs.{Table.level_of, WarningValue.WarningValue}
 use Rattle.audit_core.specs.Audit.{AgentValue, AuditValue, VerdictValue, is_allowed, is_denied, total}
-use Rattle.audit_core.specs.Rows.{rows}
-use Rattle.audit_core.specs.Syntax.{syntax_lines}
 use Rattle.audit_core.specs.Texts.{delay_value, group_line, rejected_lines}
+use Rattle.audit_core.specs.{Rows.rows, Syntax.syntax_lines}
 use Rattle.audit_text.specs.Listed.{listed, more}
 use Rattle.audit_text.specs.declared.listed.More.{More}
 

@@ -1,11 +1,10 @@
 //! The list of all warnings, and the explanation of one.
 ghost use Rattle.std.specs.Prelude.{◌≡◌, ◌++◌, IfErr, IfOk, OnOk, true};
 ghost use Rattle.audit_core.specs.Answer.{IsText};
-ghost use Rattle.printable_text.specs.Raw.{raw_line};
-ghost use Rattle.printable_text.specs.Text.{line_text};
+ghost use Rattle.printable_text.specs.{Raw.raw_line, Text.line_text};
 ghost use Rattle.robots_warnings.specs.Table.{is_name};
-ghost use Rattle.audit_text.specs.Explain.{IsUnexplained, MayAnswer, example_lines, explained_if_named, explanation};
-ghost use Rattle.audit_text.specs.Explain.{indented, indented_byte, list_line, list_text};
+ghost use Rattle.audit_text.specs.Explain.{IsUnexplained, MayAnswer, example_lines, explained_if_named};
+ghost use Rattle.audit_text.specs.Explain.{explanation, indented, indented_byte, list_line, list_text};
 
 use audit_core::answer::{Answer, text_answer};
 use audit_core::fault::Fault;

@@ -1,15 +1,15 @@
 //! Findings as annotations of a workflow on GitHub: one workflow command per line.
 ghost use Rattle.std.specs.Prelude.{◌≡◌, ◌++◌, ◌∷◌, [], IfOk, OnOk, map, string_bytes};
 ghost use Rattle.printable_text.specs.Lines.{ended};
-ghost use Rattle.audit_text.specs.Github.{command, command_label, escaped, escaped_byte, github_text, line_property, property_text};
-ghost use Rattle.audit_core.specs.Findings.{findings};
-ghost use Rattle.audit_core.specs.Findings.{finding_value};
+ghost use Rattle.audit_text.specs.Github.{command, command_label, escaped, escaped_byte, github_text};
+ghost use Rattle.audit_text.specs.Github.{line_property, property_text};
+ghost use Rattle.audit_core.specs.Findings.{findings, finding_value};
 
 use audit_core::audit::Audit;
 use audit_core::findings::{Finding, findings_of};
 use itoa::Buffer;
-use printable_text::sanitize::push_sanitized;
 use printable_text::level::Level;
+use printable_text::sanitize::push_sanitized;
 use std::alloc::{AllocError, Global};
 
 /// Appends a byte of a property or of a message, escaped.

@@ -1,8 +1,7 @@
 //! Theorems about annotations, each written as the contract of an empty function.
 ghost use Rattle.std.specs.Prelude.{false, IsTrue, List, ℕ, ◌≡◌, map};
 ghost use Rattle.std.specs.List.{AllByRecursion as Each};
-ghost use Rattle.audit_core.specs.Audit.{AuditValue};
-ghost use Rattle.audit_core.specs.Findings.{FindingValue, findings};
+ghost use Rattle.audit_core.specs.{Audit.AuditValue, Findings.FindingValue, Findings.findings};
 ghost use Rattle.audit_text.specs.Github.{command, is_in_line, is_in_property, property_text};
 ghost use Rattle.printable_text.specs.Sanitize.{has_command, sanitized};
 

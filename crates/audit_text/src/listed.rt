@@ -3,8 +3,7 @@ ghost use Rattle.std.specs.Prelude.{◌≡◌, ℕ, ◌+◌, ◌<◌, ◌++◌, 
 ghost use Rattle.audit_text.specs.Internal.Listed.{AreCounts, counted};
 ghost use Rattle.audit_text.specs.Listed.{is_like, listed, more, more_of, unlisted};
 ghost use Rattle.printable_text.specs.declared.level.Level.{Level};
-ghost use Rattle.robots_warnings.specs.Table.{level_of, name_of};
-ghost use Rattle.robots_warnings.specs.WarningValue.{WarningValue};
+ghost use Rattle.robots_warnings.specs.{Table.level_of, Table.name_of, WarningValue.WarningValue};
 
 use robots_warnings::table::Cause;
 use robots_warnings::warning::Warning;

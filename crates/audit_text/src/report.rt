@@ -1,12 +1,10 @@
 //! The audit as lines of text.
 ghost use Rattle.std.specs.Prelude.{◌≡◌, ◌++◌, ◌∷◌, [], IfOk, OnOk, flat_map, map, string_bytes};
-ghost use Rattle.printable_text.specs.Lines.{ended};
-ghost use Rattle.printable_text.specs.Raw.{raw_line, raw_text, raw_value};
 ghost use Rattle.printable_text.specs.Text.{level_text, line_text, named_text, part_text, value_text, written};
+ghost use Rattle.printable_text.specs.{Lines.ended, Raw.raw_line, Raw.raw_text, Raw.raw_value};
 ghost use Rattle.audit_core.specs.Syntax.{syntax_lines};
 ghost use Rattle.audit_text.specs.Report.{agent_lines, deciding, line_about, listed_lines, more_line};
-ghost use Rattle.audit_text.specs.Report.{numbers_line, place_part, report_lines, shown_warning};
-ghost use Rattle.audit_text.specs.Report.{verdict_line};
+ghost use Rattle.audit_text.specs.Report.{numbers_line, place_part, report_lines, shown_warning, verdict_line};
 
 use crate::denied::Totals;
 use crate::listed::{More, listing_of};
@@ -14,8 +12,8 @@ use audit_core::audit::{AgentAudit, Audit, Verdict};
 use audit_core::rows::push_rows;
 use audit_core::syntax::Syntax;
 use audit_core::texts::{delay_value, push_group, push_rejected};
-use printable_text::lines::{push_line, push_number};
 use printable_text::level::shown_word;
+use printable_text::lines::{push_line, push_number};
 use printable_text::parts::{Part, Value, push_line_of, push_parts};
 use robots_warnings::warning::{Warning, push_reported};
 use std::alloc::{AllocError, Global};

@@ -1,12 +1,9 @@
 -- What is written is read back, piece by piece.
 use Rattle.std.proofs.Common.{ℕ, ◌==◌, Bool, true, false, not, ◌&&◌, List, [], ◌∷◌, ◌++◌, Some, ap}
-use Rattle.std.proofs.Common.{append_assoc, codes, flat_map, inl, inr, map-id, refl, subst, sym}
-use Rattle.std.proofs.Common.{◌≡◌, ◌∙◌}
+use Rattle.std.proofs.Common.{append_assoc, codes, flat_map, inl, inr, map-id, refl, subst, sym, ◌≡◌, ◌∙◌}
 use Rattle.std.specs.Prelude.{if◌then◌else◌}
-use Rattle.std.specs.Bool.{IsTrue}
-use Rattle.std.specs.List.{list_all}
-use Rattle.std.proofs.lemmas.Bool.{and_parts, cases_Bool, eqb-true, not-true}
-use Rattle.std.proofs.lemmas.List.{append-nil}
+use Rattle.std.specs.{Bool.IsTrue, List.list_all}
+use Rattle.std.proofs.lemmas.{Bool.and_parts, Bool.cases_Bool, Bool.eqb-true, Bool.not-true, List.append-nil}
 use Rattle.std.proofs.lemmas.List.Concat.{flat_map_single}
 use Rattle.std.proofs.lemmas.Slice.Eq.{bytes_eq-Decides}
 use Rattle.html_writer.specs.Html.{AreAttributes, Attribute, Html, IsContent, IsHtml, IsText, attribute}

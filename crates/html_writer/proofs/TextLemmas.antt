@@ -2,9 +2,8 @@
 use Rattle.std.proofs.Common.{ℕ, zero, suc, ◌/◌, ◌%◌, ◌<◌, ◌==◌, false, List, [], ◌∷◌, ◌++◌, ap, arith}
 use Rattle.std.proofs.Common.{decimal, flat_map, refl, ◌≡◌, ◌∙◌}
 use Rattle.std.specs.Fmt.{digit_glyph, digits, digits_onto}
-use Rattle.std.proofs.lemmas.Bool.{cond_both}
+use Rattle.std.proofs.lemmas.{Bool.cond_both, Grind.flat_map-append}
 use Rattle.std.proofs.lemmas.Bool.Decides.{nat_tests}
-use Rattle.std.proofs.lemmas.Grind.{flat_map-append}
 use Rattle.html_writer.specs.Html.{escaped, escaped_byte, escaped_bytes}
 
 pub escaped-is : (bytes : List ℕ) → escaped bytes ≡ flat_map escaped_byte bytes

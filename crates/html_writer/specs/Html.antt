@@ -1,9 +1,7 @@
 -- Trees of HTML, how they are written, and which of them can be read back (`specs/Reader.antt`).
-use Rattle.std.specs.Prelude.{ℕ, ◌==◌, Bool, true, false, not, ◌&&◌, ◌||◌, IsTrue, List, [], ◌∷◌, ◌++◌}
-use Rattle.std.specs.Prelude.{codes, flat_map, if◌then◌else◌}
-use Rattle.std.specs.Int.{is_in_range}
-use Rattle.std.specs.List.{list_all, list_any}
-use Rattle.std.specs.Str.{bytes_eq}
+use Rattle.std.specs.Prelude.{ℕ, ◌==◌, Bool, true, false, not, ◌&&◌, ◌||◌, IsTrue, List, [], ◌∷◌, ◌++◌, codes}
+use Rattle.std.specs.Prelude.{flat_map, if◌then◌else◌}
+use Rattle.std.specs.{Int.is_in_range, List.list_all, List.list_any, Str.bytes_eq}
 
 -- ---- trees
 

@@ -11,13 +11,12 @@
 -- allowed, such as a text in a `table` outside of its cells, and drops white space in front of `head`. The
 -- builder below doesn't, so it only agrees with the standard on pages that leave out no tags and have each
 -- element and text where it is allowed.
-use Rattle.std.specs.Prelude.{ℕ, ◌==◌, Bool, true, false, not, ◌&&◌, ◌||◌, List, [], ◌∷◌, ◌++◌, codes}
-use Rattle.std.specs.Prelude.{Option, Some, None, if◌then◌else◌, drop, length, nat_eq}
-use Rattle.std.specs.List.{starts_with}
-use Rattle.std.specs.Str.{bytes_eq}
-use Rattle.html_writer.specs.Html.{Attribute, Html, attribute, element, style, text, void, ◌⊕◌}
-use Rattle.html_writer.specs.Html.{has_attribute, is_among, is_character, is_letter, is_name_byte}
-use Rattle.html_writer.specs.Html.{is_ordinary, is_style, is_title, void_names}
+use Rattle.std.specs.Prelude.{ℕ, ◌==◌, Bool, true, false, not, ◌&&◌, ◌||◌, List, [], ◌∷◌, ◌++◌, codes, Option}
+use Rattle.std.specs.Prelude.{Some, None, if◌then◌else◌, drop, length, nat_eq}
+use Rattle.std.specs.{List.starts_with, Str.bytes_eq}
+use Rattle.html_writer.specs.Html.{Attribute, Html, attribute, element, style, text, void, ◌⊕◌, has_attribute}
+use Rattle.html_writer.specs.Html.{is_among, is_character, is_letter, is_name_byte, is_ordinary, is_style}
+use Rattle.html_writer.specs.Html.{is_title, void_names}
 
 -- ---- the tokenizer
 

@@ -3,31 +3,27 @@ use Rattle.std.proofs.Common.{◌≡◌, ◌∙◌, ◌==◌, ◌<◌, ◌-◌, 
 use Rattle.std.proofs.Common.{[], ◌∷◌, ◌++◌, ap, append-nil, append_assoc, arith, codes, decimal, length, map}
 use Rattle.std.proofs.Common.{inl, inr, refl, replicate, sym}
 use Rattle.std.specs.List.{AllByRecursion as Each, list_all}
-use Rattle.std.proofs.lemmas.List.{map-append}
-use Rattle.std.proofs.lemmas.List.Concat.{flat_map-append}
 use Rattle.std.specs.Prelude.{if◌then◌else◌, not, ◌&&◌, ◌||◌}
 use Rattle.std.specs.Fmt.{digit_glyph}
+use Rattle.std.proofs.lemmas.List.{map-append}
 use Rattle.std.proofs.lemmas.Bool.{and_parts, cases_Bool, ne_eqb, not-true, or_right}
+use Rattle.std.proofs.lemmas.List.Concat.{flat_map-append}
 use Rattle.std.proofs.lemmas.Bool.Decides.{nat_tests}
-use Rattle.printable_text.specs.Lines.{ended, lf}
 use Rattle.printable_text.specs.Sanitize.{IsPrintable, IsPrintableIn, begins_apart, ends_apart, has_command}
 use Rattle.printable_text.specs.Sanitize.{is_front, is_printable_byte, sanitized}
-use Rattle.printable_text.proofs.CommandLemmas.{IsFront, front_append, front_nil, front_text}
-use Rattle.printable_text.proofs.CommandLemmas.{IsMiddle, after_front, blanks_front, byte_middle, decimal_middle}
+use Rattle.printable_text.specs.Delay.{delay_text, fraction, million, seconds}
+use Rattle.printable_text.specs.PlainLine.{IsPlainLine, begins_plainly, starts}
+use Rattle.printable_text.specs.Text.{Absent, Aligned, Column, Count, Delay, Fixed, Label, LevelLine, Named}
+use Rattle.printable_text.specs.Text.{NamedLine, Nothing, Number, Only, Part, PartValue, ReportLine}
+use Rattle.printable_text.specs.Text.{Untrusted, Value, Word, is_fixed, blanks, level_text, line_text}
+use Rattle.printable_text.specs.Text.{named_text, part_text, parts_text, starts_line, value_text, written}
+use Rattle.printable_text.specs.{Lines.ended, Lines.lf, Level.level_word, Color.shown_word}
+use Rattle.printable_text.proofs.CommandLemmas.{IsFront, front_append, front_nil, front_text, IsMiddle}
+use Rattle.printable_text.proofs.CommandLemmas.{after_front, blanks_front, byte_middle, decimal_middle}
 use Rattle.printable_text.proofs.CommandLemmas.{middle_text, sanitized_quiet, seam}
 use Rattle.printable_text.proofs.SanitizeLemmas.{append_printable, ascii_printable, blanks_printable}
-use Rattle.printable_text.proofs.SanitizeLemmas.{decimal_by, decimal_printable, ended_printable, line_printable}
-use Rattle.printable_text.proofs.SanitizeLemmas.{nil_printable}
-use Rattle.printable_text.proofs.SanitizeLemmas.{sanitized_in_printable}
-use Rattle.printable_text.specs.Delay.{delay_text, fraction, million, seconds}
-use Rattle.printable_text.specs.Level.{level_word}
-use Rattle.printable_text.specs.PlainLine.{IsPlainLine, begins_plainly, starts}
-use Rattle.printable_text.specs.Color.{shown_word}
-use Rattle.printable_text.specs.Text.{Absent, Aligned, Column, Count, Delay, Fixed, Label, LevelLine, Named}
-use Rattle.printable_text.specs.Text.{NamedLine, Nothing, Number, Only, Part, PartValue, ReportLine, Untrusted}
-use Rattle.printable_text.specs.Text.{Value, Word, is_fixed}
-use Rattle.printable_text.specs.Text.{blanks, level_text, line_text, named_text, part_text, parts_text}
-use Rattle.printable_text.specs.Text.{starts_line, value_text, written}
+use Rattle.printable_text.proofs.SanitizeLemmas.{decimal_by, decimal_printable, ended_printable}
+use Rattle.printable_text.proofs.SanitizeLemmas.{line_printable, nil_printable, sanitized_in_printable}
 use Rattle.printable_text.specs.declared.level.Level.{Level}
 use Rattle.printable_text.specs.declared.level.Level.TheVariants.{Error, Note, Warning}
 

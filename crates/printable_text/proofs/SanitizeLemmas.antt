@@ -1,34 +1,28 @@
 -- Sanitized bytes are printable, and printable bytes are unchanged by sanitizing.
-use Rattle.std.proofs.Common.{◌≡◌, ◌≤◌, ℕ, zero, suc, ◌<◌, ◌/◌, ◌%◌, ◌==◌, nat_lt, Bool}
-use Rattle.std.proofs.Common.{true, false, List, [], ◌∷◌, ◌++◌, Option, Some, None, ap}
-use Rattle.std.proofs.Common.{append_assoc, arith, codes, decimal, drop, flat_map, get_or, inl, inr, length}
-use Rattle.std.proofs.Common.{length-append}
-use Rattle.std.proofs.Common.{refl, replicate, subst, sym, take, ◌∙◌}
-use Rattle.std.specs.Bool.{IsTrue}
-use Rattle.std.specs.Char.{IsScalar, encode_utf8}
-use Rattle.std.specs.Fmt.{digit_glyph, digits, digits_onto}
+use Rattle.std.proofs.Common.{◌≡◌, ◌≤◌, ℕ, zero, suc, ◌<◌, ◌/◌, ◌%◌, ◌==◌, nat_lt, Bool, true, false, List}
+use Rattle.std.proofs.Common.{[], ◌∷◌, ◌++◌, Option, Some, None, ap, append_assoc, arith, codes, decimal}
+use Rattle.std.proofs.Common.{drop, flat_map, get_or, inl, inr, length, length-append, refl, replicate, subst}
+use Rattle.std.proofs.Common.{sym, take, ◌∙◌}
 use Rattle.std.specs.List.{AllByRecursion as Each, list_all}
-use Rattle.std.specs.Str.{IsAscii, all_scalars, chars, encode_utf8_all}
+use Rattle.std.specs.{Bool.IsTrue, Char.IsScalar, Char.encode_utf8, Fmt.digit_glyph, Fmt.digits}
+use Rattle.std.specs.{Fmt.digits_onto, Str.IsAscii, Str.all_scalars, Str.chars, Str.encode_utf8_all}
 use Rattle.std.proofs.Math.Seq.{drop-append_seam}
 use Rattle.std.proofs.lemmas.Bool.{and_parts, cases_Bool, cases_lt, cond_both}
-use Rattle.std.proofs.lemmas.Bool.Decides.{nat_tests}
 use Rattle.std.proofs.lemmas.List.{append-nil, get_or_default}
-use Rattle.std.proofs.lemmas.List.Folds.{list_all-append}
-use Rattle.std.proofs.lemmas.Str.{IsUtf8-append, IsUtf8-from_ascii, IsUtf8-nil, chars-IsAscii}
-use Rattle.std.proofs.lemmas.Str.{chars-append, chars-encodes, chars-nil, encodes-chars, len_utf8_bounds}
-use Rattle.std.proofs.lemmas.List.Sums.{list_all-from_AllPass}
-use Rattle.std.proofs.lemmas.Str.{inside_one, length-encode, scalars-chars}
+use Rattle.std.proofs.lemmas.Str.{IsUtf8-append, IsUtf8-from_ascii, IsUtf8-nil, chars-IsAscii, chars-append}
+use Rattle.std.proofs.lemmas.Str.{chars-encodes, chars-nil, encodes-chars, len_utf8_bounds, inside_one}
+use Rattle.std.proofs.lemmas.Str.{length-encode, scalars-chars}
+use Rattle.std.proofs.lemmas.Bool.Decides.{nat_tests}
+use Rattle.std.proofs.lemmas.List.{Folds.list_all-append, Sums.list_all-from_AllPass}
 use Rattle.std.proofs.lemmas.Str.Ascii.{IsAscii-cons, IsAscii-nil}
 use Rattle.bstr.specs.Utf8.{Decoded, decoded, good, pieces_from}
-use Rattle.bstr.proofs.lemmas.EncodeLemmas.{decoded-encode}
 use Rattle.bstr.proofs.lemmas.PieceLemmas.{pieces-nil, pieces-step}
-use Rattle.bstr.proofs.lemmas.SoundLemmas.{SpellsChar-decoded}
+use Rattle.bstr.proofs.lemmas.{EncodeLemmas.decoded-encode, SoundLemmas.SpellsChar-decoded}
 use Rattle.texting_robots.specs.Escape.{escape_byte, escaped, is_escaped}
 use Rattle.printable_text.specs.Lines.{ended, lf}
-use Rattle.printable_text.specs.Sanitize.{IsPrintable, IsPrintableIn, has_command, is_printable, is_printable_byte}
-use Rattle.printable_text.specs.Sanitize.{safe_chunk, safe_chunks, safe_in, sanitized, sanitized_in}
-use Rattle.printable_text.specs.Sanitize.{sanitized_lines}
-use Rattle.printable_text.specs.Sanitize.{without_commands, without_hash}
+use Rattle.printable_text.specs.Sanitize.{IsPrintable, IsPrintableIn, has_command, is_printable}
+use Rattle.printable_text.specs.Sanitize.{is_printable_byte, safe_chunk, safe_chunks, safe_in, sanitized}
+use Rattle.printable_text.specs.Sanitize.{sanitized_in, sanitized_lines, without_commands, without_hash}
 use lib.Utf8.{scalar}
 
 -- ---- characters and numbers

@@ -1,10 +1,9 @@
 -- Levels in color, and texts with color codes.
 use Rattle.std.specs.Prelude.{◌≡◌, ◌⊎◌, ℕ, Bool, true, false, List, ◌∷◌, ◌++◌, codes, flat_map}
 use Rattle.std.specs.List.{AllByRecursion as Each}
-use Rattle.printable_text.specs.Sanitize.{IsPrintable}
+use Rattle.printable_text.specs.{Sanitize.IsPrintable, Level.level_word}
 use Rattle.printable_text.specs.declared.level.Level.{Level}
 use Rattle.printable_text.specs.declared.level.Level.TheVariants.{Error, Note, Warning}
-use Rattle.printable_text.specs.Level.{level_word}
 
 -- the code that begins the color of a level: bold red, yellow or cyan
 abbrev pub color_of : Level → List ℕ

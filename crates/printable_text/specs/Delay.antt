@@ -1,7 +1,6 @@
 -- A delay in seconds, exact to the microsecond.
-use Rattle.std.specs.Prelude.{ℕ, zero, suc, ◌*◌, ◌/◌, ◌%◌, ◌==◌, List, []}
-use Rattle.std.specs.Prelude.{◌++◌}
-use Rattle.std.specs.Prelude.{codes, decimal, if◌then◌else◌}
+use Rattle.std.specs.Prelude.{ℕ, zero, suc, ◌*◌, ◌/◌, ◌%◌, ◌==◌, List, [], ◌++◌, codes, decimal}
+use Rattle.std.specs.Prelude.{if◌then◌else◌}
 
 abbrev pub million : ℕ
 million = 1000000

@@ -1,12 +1,10 @@
 -- Sanitized text: invalid UTF-8, characters that are unsafe to display, and the start of commands are
 -- escaped, the rest is unchanged.
-use Rattle.std.specs.Prelude.{ℕ, ◌==◌, nat_eq, nat_lt, Bool, true, false, not, ◌&&◌, ◌||◌, IsTrue, List}
-use Rattle.std.specs.Prelude.{[], ◌∷◌, ◌++◌, Option, Some, None, codes, drop, encode_utf8, encode_utf8_all}
+use Rattle.std.specs.Prelude.{ℕ, ◌==◌, nat_eq, nat_lt, Bool, true, false, not, ◌&&◌, ◌||◌, IsTrue, List, []}
+use Rattle.std.specs.Prelude.{◌∷◌, ◌++◌, Option, Some, None, codes, drop, encode_utf8, encode_utf8_all}
 use Rattle.std.specs.Prelude.{flat_map, if◌then◌else◌, take}
-use Rattle.std.specs.Char.{is_control}
-use Rattle.std.specs.Int.{is_in_range}
-use Rattle.std.specs.List.{list_all, starts_with}
 use Rattle.std.specs.Str.{IsUtf8, byte, chars}
+use Rattle.std.specs.{Char.is_control, Int.is_in_range, List.list_all, List.starts_with}
 use Rattle.bstr.specs.Utf8.{Decoded, pieces}
 use Rattle.texting_robots.specs.Callers.{escaped}
 use Rattle.printable_text.specs.Lines.{lf}

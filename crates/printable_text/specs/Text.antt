@@ -3,16 +3,11 @@
 -- workflow on GitHub takes it for a command; a line that begins with the name of a file may.
 use Rattle.std.specs.Prelude.{◌≡◌, ℕ, ◌-◌, ◌==◌, Bool, true, false, ◌&&◌, List, [], ◌++◌, codes, decimal}
 use Rattle.std.specs.Prelude.{flat_map, if◌then◌else◌, length, map, not, replicate}
-use Rattle.std.specs.List.{list_all}
+use Rattle.std.specs.{List.list_all, Str.byte}
 use Rattle.std.proofs.Common.{refl}
-use Rattle.std.specs.Str.{byte}
-use Rattle.printable_text.specs.Lines.{ended}
-use Rattle.printable_text.specs.Sanitize.{begins_apart, ends_apart, has_command}
-use Rattle.printable_text.specs.Sanitize.{is_printable_byte, sanitized}
-use Rattle.printable_text.specs.Color.{shown_word}
-use Rattle.printable_text.specs.Delay.{delay_text}
-use Rattle.printable_text.specs.PlainLine.{starts}
+use Rattle.printable_text.specs.Sanitize.{begins_apart, ends_apart, has_command, is_printable_byte, sanitized}
 use Rattle.printable_text.specs.Level.{level_word}
+use Rattle.printable_text.specs.{Lines.ended, Color.shown_word, Delay.delay_text, PlainLine.starts}
 use Rattle.printable_text.specs.declared.level.Level.{Level}
 use Rattle.printable_text.specs.declared.level.Level.TheVariants.{Error, Note, Warning}
 

@@ -1,7 +1,6 @@
 //! The parts of a line, and the function that writes them.
 ghost use Rattle.std.specs.Prelude.{◌≡◌, ◌++◌, ◌∷◌, [], OnOk, string_bytes};
-ghost use Rattle.printable_text.specs.Lines.{ended};
-ghost use Rattle.printable_text.specs.Raw.{raw_line, raw_text, raw_value};
+ghost use Rattle.printable_text.specs.{Lines.ended, Raw.raw_line, Raw.raw_text, Raw.raw_value};
 
 use crate::delay::push_delay_text;
 use crate::lines::push_number;

@@ -1,10 +1,9 @@
 //! Sanitizes untrusted text: escapes invalid UTF-8, characters that are unsafe to display, and the start of commands.
 ghost use Rattle.std.specs.Prelude.{◌≡◌, ◌++◌, OnOk, encode_utf8_all, flat_map, string_bytes};
-ghost use Rattle.std.specs.List.{list_all};
-ghost use Rattle.std.specs.Str.{chars};
-ghost use Rattle.std.specs.Io.{StartsWith};
-ghost use Rattle.printable_text.specs.Sanitize.{has_command, is_printable, is_printable_byte, safe_chunk, safe_in, sanitized, sanitized_in};
-ghost use Rattle.printable_text.specs.Sanitize.{sanitized_lines, turns_text, without_commands, without_hash};
+ghost use Rattle.std.specs.{List.list_all, Str.chars, Io.StartsWith};
+ghost use Rattle.printable_text.specs.Sanitize.{has_command, is_printable, is_printable_byte, safe_chunk};
+ghost use Rattle.printable_text.specs.Sanitize.{safe_in, sanitized, sanitized_in, sanitized_lines, turns_text};
+ghost use Rattle.printable_text.specs.Sanitize.{without_commands, without_hash};
 
 use bstr::decode_utf8;
 use std::alloc::AllocError;

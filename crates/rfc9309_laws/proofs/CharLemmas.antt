@@ -4,8 +4,7 @@ use Rattle.std.proofs.Common.{◌≡◌, ◌≢◌, inl, inr, ℕ, ◌≤◌, tr
 use Rattle.std.proofs.Common.{◌∙◌, subst, append-nil, arith, ◌⊎◌, ◌+◌, ◌/◌, ◌%◌, ◌<◌, refl, nat_le, ◌==◌}
 use Rattle.std.specs.List.{AllByRecursion as Each, list_all}
 use Rattle.std.specs.Str.{IsUtf8, encode_utf8_all}
-use Rattle.std.proofs.lemmas.Str.{IsUtf8-append, IsUtf8-encode, IsUtf8-nil, IsUtf8-from_is_utf8}
-use Rattle.std.proofs.lemmas.Str.{encode_ascii}
+use Rattle.std.proofs.lemmas.Str.{IsUtf8-append, IsUtf8-encode, IsUtf8-nil, IsUtf8-from_is_utf8, encode_ascii}
 use Rattle.bstr.specs.Utf8.{code_of_2, code_of_3, code_of_4, continues, decoded, good, second}
 use Rattle.bstr.proofs.lemmas.PieceLemmas.{value-1, value-6, value-9, value-12}
 use Rattle.rfc9309_laws.proofs.SyntaxLemmas.{many, each_front, passing}

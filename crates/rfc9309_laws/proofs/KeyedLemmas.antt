@@ -6,28 +6,27 @@ use Rattle.std.proofs.Common.{◌++◌, append-nil, ap, arith, bytes_eq, drop, m
 use Rattle.std.proofs.Common.{append_assoc, codes, filter, get_or}
 use Rattle.std.specs.List.{AllByRecursion as Each, list_all, Contains}
 use Rattle.std.proofs.lemmas.Bool.{and_from, eq-eqb, false_from_ne_true, ne_eqb}
-use Rattle.std.proofs.lemmas.Str.{IsUtf8-append, IsUtf8-encode, IsUtf8-nil, encode_ascii}
-use Rattle.std.proofs.lemmas.Str.{is_utf8-from_IsUtf8}
+use Rattle.std.proofs.lemmas.Str.{IsUtf8-append, IsUtf8-encode, IsUtf8-nil, encode_ascii, is_utf8-from_IsUtf8}
 use lib.Utf8.{low_scalar}
 use Rattle.texting_robots.specs.Statement.{IsBlank, IsStatement, field_names}
+use Rattle.texting_robots.specs.{Line.LineValue, Trim.IsTrimOf}
 use Rattle.texting_robots.proofs.TrimLemmas.{each_append, blanks_skipped, same_trim}
+use Rattle.texting_robots.proofs.{LineLemmas.line_stated, StatementLemmas.statement_found}
 use Rattle.rfc9309_laws.proofs.CharLemmas.{IsCharByte, IsCharText, char_text}
-use Rattle.rfc9309_laws.proofs.ReadLemmas.{BeginsLow, IsBare}
 use Rattle.rfc9309_laws.proofs.ValueLemmas.{blank_no_letter, identifier_bounds, blanks_after, identifier}
+use Rattle.rfc9309_laws.proofs.Sources.{IsRead, Source, is_not_raw, parts_in, source_of, written}
+use Rattle.rfc9309_laws.proofs.SyntaxLemmas.{each_weaker, many}
+use Rattle.rfc9309_laws.proofs.{ReadLemmas.BeginsLow, ReadLemmas.IsBare, HasFormLemmas.blank}
 use Rattle.rfc9309_laws.specs.HasForm.{colon, has_byte, hash, is_blank, is_comment_byte, is_comment_text}
 use Rattle.rfc9309_laws.specs.HasForm.{is_value_byte, is_value_text, kept_before, name_in, stripped}
-use Rattle.rfc9309_laws.specs.HasForm.{text_after, text_before, text_from, without_leading}
-use Rattle.rfc9309_laws.specs.HasForm.{without_trailing, has_form, is_identifier_byte, is_keyed, lower}
-use Rattle.rfc9309_laws.specs.HasForm.{value_in}
-use Rattle.rfc9309_laws.proofs.Sources.{IsRead, Source, is_not_raw, parts_in, source_of, written}
+use Rattle.rfc9309_laws.specs.HasForm.{text_after, text_before, text_from, without_leading, without_trailing}
+use Rattle.rfc9309_laws.specs.HasForm.{has_form, is_identifier_byte, is_keyed, lower, value_in}
 use Rattle.rfc9309_laws.specs.LineForms.{Form, IsLine, Agent, Rule}
-use Rattle.rfc9309_laws.proofs.SyntaxLemmas.{each_weaker, many}
 use Rattle.std.specs.{Char.to_ascii_lowercase, Str.IsUtf8}
-use Rattle.std.proofs.{lemmas.Bool.Decides.nat_tests, lemmas.Slice.Eq.bytes_eq-Decides}
-use Rattle.texting_robots.specs.{Internal.Statement.IsOptionalComment, declared.parser.statement.Kind.Kind}
-use Rattle.texting_robots.specs.{Line.LineValue, Trim.IsTrimOf, Internal.Line.line_with}
-use Rattle.rfc9309_laws.proofs.{HasFormLemmas.blank}
-use Rattle.texting_robots.proofs.{LineLemmas.line_stated, StatementLemmas.statement_found}
+use Rattle.std.proofs.lemmas.Bool.Decides.{nat_tests}
+use Rattle.std.proofs.lemmas.Slice.Eq.{bytes_eq-Decides}
+use Rattle.texting_robots.specs.Internal.{Statement.IsOptionalComment, Line.line_with}
+use Rattle.texting_robots.specs.declared.parser.statement.Kind.{Kind}
 use Rattle.rfc9309_laws.specs.Rfc9309 as rfc
 use Rattle.texting_robots.specs.declared.parser.statement.Kind.TheVariants as kind
 

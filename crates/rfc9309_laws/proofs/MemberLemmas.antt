@@ -1,13 +1,12 @@
 -- The lines of product tokens, rules, delays and sitemaps.
 use Rattle.std.proofs.Common.{◌≡◌, ◌≢◌, ◌⊎◌, inl, inr, ℕ, ◌==◌, ◌||◌, true, List, [], ◌∷◌, ◌++◌, All, Some}
-use Rattle.std.proofs.Common.{append-nil, append_assoc, ap, arith, codes, drop, get_or, refl, subst, sym}
-use Rattle.std.proofs.Common.{◌∙◌}
-use Rattle.std.proofs.lemmas.Bool.{and_from, ne_eqb}
+use Rattle.std.proofs.Common.{append-nil, append_assoc, ap, arith, codes, drop, get_or, refl, subst, sym, ◌∙◌}
+use Rattle.std.proofs.lemmas.{Bool.and_from, Bool.ne_eqb, Str.is_utf8-from_IsUtf8}
 use Rattle.std.proofs.lemmas.List.Elements.{All-from_recursion, All-nil}
-use Rattle.texting_robots.specs.Delay.{Decimal, NamesDelay, Writes}
 use Rattle.texting_robots.specs.Line.{UserAgent, Allow, CrawlDelay, Disallow}
+use Rattle.texting_robots.specs.{Delay.Decimal, Delay.NamesDelay, Delay.Writes, Trim.IsTrimOf}
 use Rattle.texting_robots.specs.Internal.Line.{line_with, delay_or_raw}
-use Rattle.texting_robots.specs.Internal.Delay.{delay_of, rounded}
+use Rattle.texting_robots.specs.Internal.{Delay.delay_of, Delay.rounded, Statement.trimmed}
 use Rattle.texting_robots.proofs.DelayLemmas.{is_delay_of, one_delay, rounded_rounds}
 use Rattle.texting_robots.proofs.TrimLemmas.{each_append, trimmed_is_trim}
 use Rattle.rfc9309_laws.proofs.CharLemmas.{IsCharByte, IsCharText, chars_text, text_append}
@@ -15,14 +14,14 @@ use Rattle.rfc9309_laws.proofs.KeyedLemmas.{IsLineOf, keyed_line, has_at, or_fir
 use Rattle.rfc9309_laws.proofs.KeyedLemmas.{passes, same_bytes, value_passes}
 use Rattle.rfc9309_laws.proofs.ValueLemmas.{IsVisible, trim_some, trim_utf8, visible_trim, visible_utf8}
 use Rattle.rfc9309_laws.proofs.Sources.{Parts, Source, allowed_in, with_address, with_member, with_source}
+use Rattle.rfc9309_laws.proofs.SyntaxLemmas.{each_weaker}
 use Rattle.rfc9309_laws.specs.HasForm.{are_some, has_byte, has_form, is_digit, is_identifier_byte, is_keyed}
 use Rattle.rfc9309_laws.specs.HasForm.{is_number, is_pattern, is_product_token, is_value_text, value_in}
 use Rattle.rfc9309_laws.specs.LineForms.{Form, Agent, Rule, Delay, Sitemap}
-use Rattle.std.specs.{List.AllByRecursion as Each, Char.IsAsciiDigit, Str.is_utf8}
-use Rattle.std.proofs.{lemmas.Bool.Decides.nat_tests, lemmas.Str.Parse.without_leading_plus_none}
-use Rattle.std.proofs.{lemmas.Str.is_utf8-from_IsUtf8}
-use Rattle.texting_robots.specs.{Trim.IsTrimOf, Internal.Statement.trimmed}
-use Rattle.rfc9309_laws.proofs.{SyntaxLemmas.each_weaker}
+use Rattle.std.specs.List.{AllByRecursion as Each}
+use Rattle.std.specs.{Char.IsAsciiDigit, Str.is_utf8}
+use Rattle.std.proofs.lemmas.Bool.Decides.{nat_tests}
+use Rattle.std.proofs.lemmas.Str.Parse.{without_leading_plus_none}
 use Rattle.texting_robots.specs.Line as library
 use Rattle.texting_robots.specs.declared.parser.statement.Kind.TheVariants as kind
 use Rattle.rfc9309_laws.specs.Rfc9309 as rfc

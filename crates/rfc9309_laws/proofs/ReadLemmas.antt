@@ -3,18 +3,17 @@
 use Rattle.std.proofs.Common.{◌≡◌, ◌≢◌, ◌⊎◌, inl, inr, ℕ, ◌<◌, ◌≤◌, List, [], ◌∷◌, ◌++◌, map, filter, cond}
 use Rattle.std.proofs.Common.{not, sym, refl, ap, ◌∙◌, append-nil, arith, Bool}
 use Rattle.std.proofs.lemmas.Bool.{ne_eqb, cases_Bool, cond-false}
-use Rattle.texting_robots.specs.Cut.{cr, lf}
 use Rattle.texting_robots.specs.Line.{is_raw, LineValue, nul_as_lf, without_front}
+use Rattle.texting_robots.specs.{Cut.cr, Cut.lf, Executable.file_bodies, Executable.file_lines, Laws.Same}
 use Rattle.rfc9309_laws.specs.Rfc9309.{IsLastNl, IsNl, IsBom}
 use Rattle.texting_robots.proofs.CrLfLemmas.{body_byte, body_return, body_step, step}
+use Rattle.texting_robots.proofs.LawLemmas.{raw_changes_nothing}
+use Rattle.texting_robots.proofs.{CutFromFront.bodies_nil, CutLemmas.byte_cases, LineLemmas.line_without_kind}
 use Rattle.rfc9309_laws.proofs.Sources.{Source, is_not_raw, source_of, written}
-use Rattle.texting_robots.specs.Executable.{file_bodies, file_lines}
-use Rattle.std.specs.{List.AllByRecursion as Each}
-use Rattle.std.proofs.{lemmas.List.Elements.filter-append}
-use Rattle.texting_robots.specs.{Internal.Cut.bodies_of, Laws.Same, Internal.Line.line_of}
-use Rattle.texting_robots.proofs.{CutFromFront.bodies_nil, CutLemmas.byte_cases}
-use Rattle.texting_robots.proofs.{LineLemmas.line_without_kind, LawLemmas.raw_changes_nothing}
-use Rattle.rfc9309_laws.proofs.{SyntaxLemmas.each_weaker}
+use Rattle.rfc9309_laws.proofs.SyntaxLemmas.{each_weaker}
+use Rattle.std.specs.List.{AllByRecursion as Each}
+use Rattle.std.proofs.lemmas.List.Elements.{filter-append}
+use Rattle.texting_robots.specs.Internal.{Cut.bodies_of, Line.line_of}
 
 -- ---- the source lines of a text
 

@@ -7,11 +7,10 @@ use Rattle.rfc9309_laws.proofs.SyntaxLemmas.{repeats_both, repeats_none, repeats
 use Rattle.rfc9309_laws.proofs.RobotLemmas.{group_is_wide, repeats_weaker}
 use Rattle.std.specs.Str.{chars, is_utf8}
 use lib.Utf8.{encode}
-use Rattle.rfc9309_laws.proofs.CharLemmas.{comment_text, value_text}
-use Rattle.std.proofs.{lemmas.Bool.false≢true, lemmas.List.Elements.All-contains}
-use Rattle.std.proofs.{lemmas.List.Sums.AllPass-from_list_all}
-use Rattle.rfc9309_laws.proofs.{ValueLemmas.identifier}
-use Rattle.rfc9309_laws.specs.{HasForm.is_comment_text}
+use Rattle.rfc9309_laws.proofs.{CharLemmas.comment_text, CharLemmas.value_text, ValueLemmas.identifier}
+use Rattle.std.proofs.lemmas.Bool.{false≢true}
+use Rattle.std.proofs.lemmas.List.{Elements.All-contains, Sums.AllPass-from_list_all}
+use Rattle.rfc9309_laws.specs.HasForm.{is_comment_text}
 use Rattle.rfc9309_laws.specs.Rfc9309 as rfc
 use Rattle.rfc9309_laws.specs.Sample as sample
 

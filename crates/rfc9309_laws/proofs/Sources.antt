@@ -2,10 +2,10 @@
 -- back the groups, merged.
 use Rattle.std.proofs.Common.{◌≡◌, ℕ, Bool, false, not, List, [], ◌∷◌, Option, Some, None, ◌++◌, refl, ap}
 use Rattle.std.proofs.Common.{◌∙◌, append-nil, map}
-use Rattle.texting_robots.specs.Line.{LineValue, UserAgent, Allow, CrawlDelay, Disallow, Sitemap, Raw}
-use Rattle.texting_robots.specs.Line.{is_raw}
+use Rattle.texting_robots.specs.Line.{LineValue, UserAgent, Allow, CrawlDelay, Disallow, Sitemap, Raw, is_raw}
 use Rattle.texting_robots.specs.Executable.{rule_in, sitemap_in}
-use Rattle.texting_robots.specs.{Delay.IsDelay, Internal.Line.line_of, Trim.IsTrimOf, Rules.Rule}
+use Rattle.texting_robots.specs.{Delay.IsDelay, Trim.IsTrimOf, Rules.Rule}
+use Rattle.texting_robots.specs.Internal.Line.{line_of}
 use Rattle.rfc9309_laws.specs.{HasForm.value_in, ReadAs.IsReadAs}
 use Rattle.rfc9309_laws.specs.Rfc9309 as rfc
 

@@ -2,8 +2,8 @@
 use Rattle.std.proofs.Common.{◌≡◌, Bool, true, List, [], ◌∷◌, ◌++◌, ℕ, flat_map, sym, refl, append-nil}
 use Rattle.std.specs.List.{AllByRecursion as Each, list_all}
 use Rattle.rfc9309_laws.specs.Rfc9309.{IsMany, RepeatUnit, Repeats}
-use Rattle.std.proofs.{lemmas.Bool.and_parts, lemmas.Grind.flat_map-append}
-use Rattle.texting_robots.proofs.{TrimLemmas.each_append}
+use Rattle.std.proofs.lemmas.{Bool.and_parts, Grind.flat_map-append}
+use Rattle.texting_robots.proofs.TrimLemmas.{each_append}
 
 pub each_weaker : {X : Type 0} (P Q : X → Type 0) → ((x : X) → P x → Q x) → (xs : List X)
     → Each P xs → Each Q xs

@@ -1,9 +1,7 @@
 -- What this library makes of a rule in a file that follows the standard's grammar.
 use Rattle.std.specs.Prelude.{◌≡◌, ℕ, true, false, List, [], ◌∷◌, codes}
 use Rattle.rfc9309_laws.specs.Rfc9309 as rfc
-use Rattle.texting_robots.specs.Escape.{escaped}
-use Rattle.texting_robots.specs.Rules.{Rule}
-use Rattle.texting_robots.specs.Trim.{IsTrimOf}
+use Rattle.texting_robots.specs.{Escape.escaped, Rules.Rule, Trim.IsTrimOf}
 
 -- The library's rule for a rule of the grammar: its pattern is trimmed of Unicode white space and escaped.
 -- An empty Disallow becomes an Allow of `/`.

@@ -5,8 +5,7 @@ use Rattle.std.specs.Prelude.{IfOk}
 use Rattle.std.proofs.lemmas.List.{drop_more}
 use Rattle.printable_text.specs.declared.level.Level.{Level}
 use Rattle.printable_text.specs.Level.{reaches}
-use Rattle.robots_warnings.specs.Table.{level_of}
-use Rattle.robots_warnings.specs.WarningValue.{WarningValue}
+use Rattle.robots_warnings.specs.{Table.level_of, WarningValue.WarningValue}
 use Rattle.robots_audit.specs.Answer.{is_warned}
 
 -- whether a warning from index `at` on is at the level, in terms of the warning there

@@ -4,34 +4,24 @@ use Rattle.std.specs.Prelude.{if◌then◌else◌, IsTrue, not, ◌&&◌, string
 use Rattle.std.specs.List.{list_all, list_any}
 use Rattle.clap.specs.declared.parser.matches.ArgMatches.{ArgMatches}
 use Rattle.html_writer.specs.Html.{document}
-use Rattle.printable_text.specs.Lines.{ended}
-use Rattle.printable_text.specs.Level.{reaches}
-use Rattle.printable_text.specs.Text.{ReportLine, written}
+use Rattle.printable_text.specs.{Lines.ended, Level.reaches, Text.ReportLine, Text.written}
 use Rattle.printable_text.specs.declared.level.Level.{Level}
-use Rattle.robots_warnings.specs.Table.{is_name, level_of}
-use Rattle.robots_warnings.specs.WarningValue.{WarningValue}
-use Rattle.audit_core.specs.Answer.{IsText}
+use Rattle.robots_warnings.specs.{Table.is_name, Table.level_of, WarningValue.WarningValue}
 use Rattle.audit_core.specs.Audit.{AuditValue, IsAuditOf, all_allowed, rejects_some, shown}
-use Rattle.audit_core.specs.Crawler.{is_crawler_name}
 use Rattle.audit_core.specs.Request.{RequestValue, has_rows, requested_by}
-use Rattle.audit_core.specs.declared.answer.Answer.{Answer}
-use Rattle.audit_core.specs.declared.answer.Outcome.{Outcome}
+use Rattle.audit_core.specs.{Answer.IsText, Crawler.is_crawler_name, Findings.findings}
+use Rattle.audit_core.specs.declared.answer.{Answer.Answer, Outcome.Outcome}
 use Rattle.audit_core.specs.declared.fault.Fault.{Fault}
 use Rattle.audit_core.specs.declared.fault.Fault.TheVariants.{File, Memory, Words}
-use Rattle.audit_core.specs.declared.request.Format.{Format}
+use Rattle.audit_core.specs.declared.request.{Format.Format, Request.Request}
 use Rattle.audit_core.specs.declared.request.Format.TheVariants.{Github, Html, Json, Sarif, Text}
-use Rattle.audit_core.specs.declared.request.Request.{Request}
 use Rattle.robots_audit.specs.Command.{IsOn, IsRequestOf, reads_stdin_twice, value_of}
 use Rattle.audit_compare.specs.Compare.{IsComparison}
-use Rattle.audit_expect.specs.Expectations.{IsAnswer}
-use Rattle.audit_expect.specs.UrlList.{HasUrlsIn, first_malformed}
-use Rattle.audit_core.specs.Findings.{findings}
-use Rattle.audit_text.specs.Github.{github_text}
-use Rattle.audit_json.specs.Json.{json_text}
-use Rattle.audit_json.specs.Sarif.{sarif_text}
-use Rattle.audit_page.specs.Page.{page}
-use Rattle.audit_text.specs.Explain.{explanation, list_text}
+use Rattle.audit_expect.specs.{Expectations.IsAnswer, UrlList.HasUrlsIn, UrlList.first_malformed}
 use Rattle.audit_text.specs.Report.{listed_lines, report_lines, total_line}
+use Rattle.audit_text.specs.{Github.github_text, Explain.explanation, Explain.list_text}
+use Rattle.audit_json.specs.{Json.json_text, Sarif.sarif_text}
+use Rattle.audit_page.specs.Page.{page}
 
 -- ---- the report and the warnings
 

@@ -2,22 +2,18 @@
 use Rattle.std.specs.Prelude.{◌≡◌, ◌⊎◌, ℕ, Bool, true, false, List, [], ◌∷◌, ◌++◌, Option, Some, None}
 use Rattle.std.specs.Prelude.{Contains, IsTrue, Result, Ok, Err, bytes_eq, codes, if◌then◌else◌, is_none}
 use Rattle.std.specs.Prelude.{is_some, map, ◌&&◌, ◌||◌, option_map}
-use Rattle.std.specs.List.{list_all}
-use Rattle.std.specs.Option.{option_map_or}
+use Rattle.std.specs.{List.list_all, Option.option_map_or}
 use Rattle.clap.specs.Words.{first_value, found_of, matched_of, one_text, raw_values}
 use Rattle.clap.specs.declared.parser.matches.ArgMatches.{ArgMatches}
 use Rattle.audit_core.specs.Color.{requested_colors}
-use Rattle.audit_core.specs.declared.request.Format.{Format}
+use Rattle.audit_core.specs.declared.request.{Format.Format, Request.Request}
 use Rattle.audit_core.specs.declared.request.Format.TheVariants.{Html, Json, Text}
-use Rattle.audit_core.specs.declared.request.Request.{Request}
 use Rattle.audit_core.specs.declared.fault.Fault.{Fault}
 use Rattle.audit_core.specs.declared.fault.Fault.TheVariants.{Memory, StdinTwice, Usage}
 use Rattle.printable_text.specs.declared.level.Level.{Level}
 use Rattle.printable_text.specs.declared.level.Level.TheVariants as level
 use Rattle.robots_warnings.specs.Table.{is_name}
-use Rattle.audit_core.specs.Crawler.{single}
-use Rattle.audit_core.specs.Fault.{IsUnknown}
-use Rattle.audit_core.specs.Request.{format_named}
+use Rattle.audit_core.specs.{Crawler.single, Fault.IsUnknown, Request.format_named}
 
 -- the first value of an option or argument
 abbrev pub value_of : ArgMatches → List ℕ → Option (List ℕ)

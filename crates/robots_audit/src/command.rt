@@ -1,11 +1,10 @@
 //! The command line, and the request that it results in.
-ghost use Rattle.std.specs.Prelude.{◌≡◌, ◌≢◌, ◌++◌, IfErr, IfOk, IsTrue, OnOk, is_some, map, option_map};
-ghost use Rattle.std.specs.Prelude.{◌||◌};
+ghost use Rattle.std.specs.Prelude.{◌≡◌, ◌≢◌, ◌++◌, IfErr, IfOk, IsTrue, OnOk, is_some, map, option_map, ◌||◌};
 ghost use Rattle.std.specs.List.{list_all};
 ghost use Rattle.robots_warnings.specs.Table.{is_name};
-ghost use Rattle.robots_audit.specs.Command.{AreNamesOf, Asks, file_read, HasCrawlers};
-ghost use Rattle.robots_audit.specs.Command.{is_stdin, IsUnknownIn, LacksAgent, level_named};
-ghost use Rattle.robots_audit.specs.Command.{reads_stdin_twice, requested_format, values_of, words_of};
+ghost use Rattle.robots_audit.specs.Command.{AreNamesOf, Asks, file_read, HasCrawlers, is_stdin, IsUnknownIn};
+ghost use Rattle.robots_audit.specs.Command.{LacksAgent, level_named, reads_stdin_twice, requested_format};
+ghost use Rattle.robots_audit.specs.Command.{values_of, words_of};
 
 use crate::options::with_options;
 use audit_core::color::requested_colors;

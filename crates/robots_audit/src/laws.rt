@@ -5,20 +5,16 @@ ghost use Rattle.std.specs.List.{AllByRecursion as Each};
 ghost use Rattle.clap.specs.declared.parser.matches.ArgMatches.{ArgMatches};
 ghost use Rattle.robots_audit.specs.Answer.{Answers, output, message, without_colors};
 ghost use Rattle.robots_audit.specs.Command.{value_of};
-ghost use Rattle.audit_core.specs.Color.{requested_colors};
-ghost use Rattle.audit_core.specs.declared.answer.Answer.{Answer};
 ghost use Rattle.audit_core.specs.Audit.{AgentValue, AuditValue};
-ghost use Rattle.audit_core.specs.Request.{RequestValue};
-ghost use Rattle.printable_text.specs.Color.{IsColored, IsForTerminal};
-ghost use Rattle.audit_core.specs.Fault.{fault_text};
+ghost use Rattle.audit_core.specs.{Color.requested_colors, Request.RequestValue, Fault.fault_text};
+ghost use Rattle.audit_core.specs.declared.answer.Answer.{Answer};
+ghost use Rattle.printable_text.specs.{Color.IsColored, Color.IsForTerminal, PlainLine.IsPlainLine};
+ghost use Rattle.printable_text.specs.{Text.line_text, Sanitize.has_command, Sanitize.IsPrintable};
 ghost use Rattle.audit_core.specs.declared.fault.Fault.{Fault};
 ghost use Rattle.audit_compare.specs.Compare.{ComparedValue, report_lines};
 ghost use Rattle.audit_expect.specs.Expectations.{CheckedValue, IsReport, result_lines};
 ghost use Rattle.audit_text.specs.Explain.{explanation, list_text};
-ghost use Rattle.printable_text.specs.PlainLine.{IsPlainLine};
-ghost use Rattle.printable_text.specs.Text.{line_text};
 ghost use Rattle.audit_text.specs.Report.{listed_lines, report_lines as audit_lines, total_line};
-ghost use Rattle.printable_text.specs.Sanitize.{has_command, IsPrintable};
 ghost use Rattle.robots_warnings.specs.WarningValue.{WarningValue};
 
 /// Neither the output nor the message on standard error of an audit contains invalid UTF-8, a control character other

@@ -5,9 +5,7 @@ use Rattle.std.specs.List.{All, AllZip}
 use Rattle.std.proofs.lemmas.List.{append_assoc, drop_more}
 use Rattle.std.proofs.lemmas.List.Elements.{All-cons, All-head, All-tail}
 use Rattle.texting_robots.specs.Callers.{PlacedRule}
-use Rattle.robots_c.specs.Batch.{Ascend, pieces}
-use Rattle.robots_c.specs.Results.{HasResult}
-use Rattle.robots_c.specs.Status.{IsWhyNoResult}
+use Rattle.robots_c.specs.{Batch.Ascend, Batch.pieces, Results.HasResult, Status.IsWhyNoResult}
 use Rattle.robots_c.specs.declared.fault.Fault.{Fault}
 use Rattle.robots_c.specs.declared.fault.Fault.TheVariants.{BufferTooSmall, InvalidEnds, Memory, NoAddress}
 use Rattle.robots_c.specs.declared.fault.Fault.TheVariants.{NoDelay, NotUtf8, Overlong}

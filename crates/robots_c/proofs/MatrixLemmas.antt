@@ -1,16 +1,13 @@
 -- The rows of the results of many crawlers.
 use Rattle.std.proofs.Common.{◌≡◌, ◌<◌, ◌+◌, ◌*◌, ℕ, ℤ, Bool, true, false, List, [], ◌∷◌, ◌++◌, ◌∙◌, ap}
-use Rattle.std.proofs.Common.{arith}
-use Rattle.std.proofs.Common.{append-nil, codes, cond, inl, inr, length, map, refl, slice_index_or, subst}
-use Rattle.std.proofs.Common.{sym, take}
-use Rattle.std.specs.List.{AllZip, list_any}
-use Rattle.std.specs.Str.{str_to_ascii_lowercase}
+use Rattle.std.proofs.Common.{arith, append-nil, codes, cond, inl, inr, length, map, refl, slice_index_or}
+use Rattle.std.proofs.Common.{subst, sym, take}
+use Rattle.std.specs.{List.AllZip, List.list_any, Str.str_to_ascii_lowercase}
 use Rattle.std.proofs.lemmas.List.{append_assoc, length-append, length-map, length-replicate, map_push}
 use Rattle.std.proofs.lemmas.List.{take_more}
-use Rattle.texting_robots.specs.Callers.{IsCaptured, IsRejected, IsRobotOf, LineValue, file_lines}
-use Rattle.texting_robots.specs.Callers.{group_name, is_agent_named, is_named, prepared}
-use Rattle.texting_robots.proofs.MainTheoremLemmas.{has_lines}
-use Rattle.texting_robots.proofs.SiteOwnLemmas.{same_robot}
+use Rattle.texting_robots.specs.Callers.{IsCaptured, IsRejected, IsRobotOf, LineValue, file_lines, group_name}
+use Rattle.texting_robots.specs.Callers.{is_agent_named, is_named, prepared}
+use Rattle.texting_robots.proofs.{MainTheoremLemmas.has_lines, SiteOwnLemmas.same_robot}
 use Rattle.robots_c.specs.Results.{AreRows, IsResultOn, IsRow, items_in, no_result}
 use Rattle.robots_c.proofs.NumberLemmas.{as_many, by_lines, zip_append}
 

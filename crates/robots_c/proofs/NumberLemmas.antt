@@ -1,18 +1,15 @@
 -- A number encodes a verdict and its deciding line, and it fits in an `i64`.
-use Rattle.std.proofs.Common.{◌≡◌, ℕ, zero, suc, ◌+◌, ◌<◌, ◌≤◌, ◌^◌, Bool}
-use Rattle.std.proofs.Common.{true, false}
-use Rattle.std.proofs.Common.{List, [], ◌∷◌, ◌++◌, Option, Some, None, IfSome}
-use Rattle.std.proofs.Common.{arith, length, map, refl, slice_index_or, subst, take}
+use Rattle.std.proofs.Common.{◌≡◌, ℕ, zero, suc, ◌+◌, ◌<◌, ◌≤◌, ◌^◌, Bool, true, false, List, [], ◌∷◌, ◌++◌}
+use Rattle.std.proofs.Common.{Option, Some, None, IfSome, arith, length, map, refl, slice_index_or, subst}
+use Rattle.std.proofs.Common.{take}
 use Rattle.std.specs.List.{AllZip}
-use Rattle.std.proofs.lemmas.List.{length-map, length-take, take_more}
-use Rattle.std.proofs.lemmas.Option.{slice_get_within}
+use Rattle.std.proofs.lemmas.{List.length-map, List.length-take, List.take_more, Option.slice_get_within}
 use Rattle.texting_robots.specs.Callers.{HasLines, IsDecidingLine, IsRobotOfFile, IsVerdict, LineValue}
 use Rattle.texting_robots.specs.Callers.{PlacedRule, RobotValue, file_limit, file_lines, lines_read}
 use Rattle.texting_robots.specs.Callers.{nul_as_lf, unplaced}
-use Rattle.texting_robots.proofs.CountLemmas.{lines_within}
 use Rattle.texting_robots.proofs.MainTheoremLemmas.{deciding_line_holds_its_rule, no_line_allows, of_lines}
 use Rattle.texting_robots.proofs.MainTheoremLemmas.{read_robot}
-use Rattle.texting_robots.proofs.LineLemmas.{each_text_has_its_lines}
+use Rattle.texting_robots.proofs.{CountLemmas.lines_within, LineLemmas.each_text_has_its_lines}
 use Rattle.robots_c.specs.File.{IsSiteOfSomeFile, bytes_read}
 use Rattle.robots_c.specs.Results.{IsResultOn, LinesFit, number_of}
 

@@ -2,8 +2,7 @@
 use Rattle.std.specs.Prelude.{ℕ, ◌-◌, ◌<◌, ◌≤◌, ℤ, IsUtf8, List, [], ◌∷◌, drop, length, take}
 use Rattle.std.specs.List.{All, AllZip}
 use Rattle.texting_robots.specs.Callers.{PlacedRule}
-use Rattle.robots_c.specs.Results.{HasResult}
-use Rattle.robots_c.specs.Text.{IsPutIn}
+use Rattle.robots_c.specs.{Results.HasResult, Text.IsPutIn}
 use Rattle.robots_c.specs.declared.fault.Fault.{Fault}
 use Rattle.robots_c.specs.declared.fault.Fault.TheVariants.{BufferTooSmall, InvalidEnds, Memory, NotUtf8}
 

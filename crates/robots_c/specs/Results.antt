@@ -1,7 +1,6 @@
 -- The numbers that C gets for URLs.
-use Rattle.std.specs.Prelude.{◌≡◌, ◌⊎◌, ℕ, suc, zero, ◌-◌, ◌<◌, ◌==◌, ◌^◌, Bool, true, false}
-use Rattle.std.specs.Prelude.{ℤ, pos, negsuc, neg_ℤ, IsUtf8, List, [], ◌∷◌, ◌++◌, length, map, replicate}
-use Rattle.std.specs.Prelude.{Option, Some, None}
+use Rattle.std.specs.Prelude.{◌≡◌, ◌⊎◌, ℕ, suc, zero, ◌-◌, ◌<◌, ◌==◌, ◌^◌, Bool, true, false, ℤ, pos, negsuc}
+use Rattle.std.specs.Prelude.{neg_ℤ, IsUtf8, List, [], ◌∷◌, ◌++◌, length, map, replicate, Option, Some, None}
 use Rattle.std.specs.List.{AllZip, slice_split}
 use Rattle.texting_robots.specs.Callers.{IsDecidingLine, IsFileRejected, IsRobotOfFile, IsVerdict, PlacedRule}
 use Rattle.texting_robots.specs.Callers.{RobotValue, prepared, unplaced}

@@ -2,9 +2,7 @@
 ghost use Rattle.std.specs.Prelude.{◌≡◌, ◌≢◌, ◌≤◌, IfErr, IfOk, IsUtf8, MatchBool, length, pos};
 ghost use Rattle.std.specs.List.{All, AllZip};
 ghost use Rattle.robots_c.specs.Batch.{Ascend, IsBatchPutIn, IsWhyNoBatch, pieces};
-ghost use Rattle.robots_c.specs.File.{IsRobotOfSomeFile};
-ghost use Rattle.robots_c.specs.Results.{HasResult};
-ghost use Rattle.robots_c.specs.Status.{HasFault};
+ghost use Rattle.robots_c.specs.{File.IsRobotOfSomeFile, Results.HasResult, Status.HasFault};
 
 use crate::fault::Fault;
 use crate::file::text_of;

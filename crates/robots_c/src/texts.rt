@@ -1,9 +1,8 @@
 //! Strings for C: the sitemaps and the crawlers of a site, and the address of robots.txt.
 ghost use Rattle.std.specs.Prelude.{◌≡◌, ◌≢◌, ◌<◌, ◌⊎◌, IfErr, IfOk, length, map, pos, string_bytes};
 ghost use Rattle.printable_text.specs.Lines.{ended};
-ghost use Rattle.robots_c.specs.File.{AreAgents, AreSitemaps, bytes_read};
 ghost use Rattle.robots_c.specs.Status.{IsAddress, IsWhyNoAddress, status_of};
-ghost use Rattle.robots_c.specs.Text.{IsPutIn};
+ghost use Rattle.robots_c.specs.{File.AreAgents, File.AreSitemaps, File.bytes_read, Text.IsPutIn};
 
 use crate::fault::Fault;
 use crate::file::text_of;

@@ -2,9 +2,8 @@
 use Rattle.std.specs.Prelude.{ℕ, ◌+◌, List, [], ◌∷◌}
 use Rattle.texting_robots.specs.Callers.{LineValue, UserAgent, Allow, Disallow, CrawlDelay, Raw, by_value}
 use Rattle.texting_robots.specs.Callers.{Sitemap as SitemapLine}
-use Rattle.robots_examples.specs.declared.audit.Kind.{Kind}
+use Rattle.robots_examples.specs.declared.audit.{Kind.Kind, Row.Row}
 use Rattle.robots_examples.specs.declared.audit.Kind.TheVariants.{Agent, Rule, Sitemap, Delay, Other}
-use Rattle.robots_examples.specs.declared.audit.Row.{Row}
 
 -- the kind of a line
 abbrev pub kind_of : LineValue → Kind

@@ -1,26 +1,23 @@
 -- Rules that can be removed from a file: each block that has rules keeps one, so the other lines apply to the
 -- same crawlers.
 use Rattle.std.proofs.Common.{◌≡◌, ◌⊎◌, ◌<◌, ◌≤◌, inl, inr, ℕ, ◌+◌, ◌==◌, Bool, true, false, not, ◌&&◌, ◌||◌}
-use Rattle.std.proofs.Common.{List, [], ◌∷◌, Option, Some, None, ap, ap₂, sym, refl, ◌∙◌}
-use Rattle.std.proofs.Common.{arith, cond, drop, filter, filter_map, length, length-drop, map, slice_get}
-use Rattle.std.proofs.Common.{if◌then◌else◌}
-use Rattle.std.specs.List.{cons_option, enumerate_from, list_any}
-use Rattle.std.specs.{Option.option_or}
+use Rattle.std.proofs.Common.{List, [], ◌∷◌, Option, Some, None, ap, ap₂, sym, refl, ◌∙◌, arith, cond, drop}
+use Rattle.std.proofs.Common.{filter, filter_map, length, length-drop, map, slice_get, if◌then◌else◌}
+use Rattle.std.specs.{List.cons_option, List.enumerate_from, List.list_any, Option.option_or}
 use Rattle.std.proofs.Math.Bool.{and-false}
 use Rattle.std.proofs.lemmas.Bool.{cases_Bool, cases_eq, false≢true}
 use Rattle.texting_robots.specs.Line.{LineValue, UserAgent, Allow, Disallow, Sitemap, CrawlDelay, Raw}
 use Rattle.texting_robots.specs.Line.{delay_in, is_raw}
 use Rattle.texting_robots.specs.Group.{group_name, is_agent, is_agent_named, is_group, passes_at}
-use Rattle.texting_robots.specs.Rules.{PlacedRule, Rule, placed, unplaced}
 use Rattle.texting_robots.specs.Executable.{captured_delays, captured_lines, delay_before_agents, delay_for}
 use Rattle.texting_robots.specs.Executable.{placed_in, placed_rules, rule_in, rules_for, sitemap_in}
 use Rattle.texting_robots.specs.Executable.{sitemaps_in}
+use Rattle.texting_robots.specs.{Rules.PlacedRule, Rules.Rule, Rules.placed, Rules.unplaced, Laws.Same}
 use Rattle.texting_robots.specs.Internal.Group.{from_captured, if_captured, start_of, step}
-use Rattle.texting_robots.specs.Laws.{Same}
 use Rattle.texting_robots.specs.declared.groups.GroupTracker.{GroupTracker}
 use Rattle.texting_robots.proofs.CapturedLemmas.{at_front, captured_walked, cond_same, only_agents}
-use Rattle.texting_robots.proofs.{LawLemmas.raw_changes_nothing, RulesLemmas.before_agent}
-use Rattle.texting_robots.proofs.{RulesLemmas.before_agents}
+use Rattle.texting_robots.proofs.LawLemmas.{raw_changes_nothing}
+use Rattle.texting_robots.proofs.RulesLemmas.{before_agent, before_agents}
 use Rattle.robots_needless.specs.declared.blocks.Block.{Block}
 use Rattle.robots_needless.specs.Blocks.{is_rule, keep_blocks_from, left_from, no_rule, with_rule}
 use Rattle.robots_needless.specs.Needless.{KeepsRule, lines_without, without}

@@ -2,11 +2,9 @@
 use Rattle.std.proofs.Common.{◌≡◌, ◌≢◌, ◌<◌, ◌↔◌, ◌⊎◌, inl, inr, ℕ, zero, suc, Bool, true, false, List, []}
 use Rattle.std.proofs.Common.{◌∷◌, Contains, codes, get_or, refl, sym, arith}
 use Rattle.std.proofs.lemmas.Bool.{false≢true}
-use Rattle.texting_robots.specs.Rules.{PlacedRule, Rule, unplaced}
-use Rattle.texting_robots.specs.Verdict.{IsVerdict}
-use Rattle.texting_robots.proofs.BestLemmas.{answered}
+use Rattle.texting_robots.specs.{Rules.PlacedRule, Rules.Rule, Rules.unplaced, Verdict.IsVerdict}
 use Rattle.texting_robots.proofs.ExampleLemmas.{matching, not_matching}
-use Rattle.texting_robots.proofs.VerdictLemmas.{one_verdict}
+use Rattle.texting_robots.proofs.{BestLemmas.answered, VerdictLemmas.one_verdict}
 use Rattle.robots_needless.specs.Examples.{allow_at, deny_at, twice}
 use Rattle.robots_needless.specs.Internal.{fresh, generic}
 use Rattle.robots_needless.proofs.GenericLemmas.{covers_by, escaped_below, heads_apart}

@@ -3,16 +3,15 @@
 use Rattle.std.proofs.Common.{◌≡◌, ◌≢◌, ℕ, ◌==◌, inl, inr, List, [], ◌∷◌, ◌++◌, All, refl, sym, append-nil}
 use Rattle.std.proofs.Common.{◌<◌, zero, suc, ◌/◌, ◌%◌, Bool, true, false, length, get_or, subst, ◌∙◌, arith}
 use Rattle.std.proofs.Common.{nat_lt, not}
-use Rattle.std.specs.Bool.{MatchBool, IsTrue}
+use Rattle.std.specs.{Bool.MatchBool, Bool.IsTrue, Fmt.digit_glyph}
 use Rattle.std.proofs.lemmas.Bool.{cases_Bool, ne_eqb, cases_lt, false≢true, lt-ltb, or_parts}
 use Rattle.std.proofs.lemmas.List.Elements.{All-head, All-tail, All-append, All-cons, All-nil}
 use Rattle.texting_robots.specs.Pattern.{IsSuffix, Matches, MatchesWith, dollar, star}
+use Rattle.texting_robots.specs.Escape.{escape_byte, escaped, is_escaped}
 use Rattle.texting_robots.proofs.PatternLemmas.{suffix_trans}
 use Rattle.robots_needless.specs.Internal.{fresh, generic, HeadsDiffer}
 use Rattle.robots_needless.specs.Needless.{Covers, AreApart, MatchesNothing}
-use Rattle.std.specs.Fmt.{digit_glyph}
 use Rattle.std.proofs.lemmas.Bool.Decides.{nat_tests}
-use Rattle.texting_robots.specs.Escape.{escape_byte, escaped, is_escaped}
 
 -- the text is the generic text with any bytes in place of each fresh byte
 unfoldable pub Fills : List ℕ → List ℕ → Type 0

@@ -1,36 +1,31 @@
 -- If the found lines are deleted from a file, each crawler's robot stays the same.
 use Rattle.std.proofs.Common.{◌≡◌, ◌≢◌, ◌≤◌, ◌↔◌, inl, inr, ℕ, zero, suc, ◌+◌, ◌==◌, ◌||◌, Bool, true, false}
-use Rattle.std.proofs.Common.{not}
-use Rattle.std.proofs.Common.{List, [], ◌∷◌, ◌++◌, Any, IsUtf8, ap, ap₂, sym, refl, subst, ◌∙◌, arith}
+use Rattle.std.proofs.Common.{not, List, [], ◌∷◌, ◌++◌, Any, IsUtf8, ap, ap₂, sym, refl, subst, ◌∙◌, arith}
 use Rattle.std.proofs.Common.{filter, length, length-append, map}
 use Rattle.std.specs.List.{concat}
 use Rattle.std.proofs.lemmas.Bool.{cases_Bool, false≢true}
 use Rattle.std.proofs.lemmas.List.{map-append}
 use Rattle.texting_robots.specs.Callers.{HasLines, IsOverlong, IsRejected, IsRobotOf, IsVerdict, LineValue}
-use Rattle.texting_robots.specs.Callers.{PlacedRule, RobotValue, Rule, file_bodies}
-use Rattle.texting_robots.specs.Callers.{file_lines, nul_as_lf, placed_rules, rules_for}
-use Rattle.texting_robots.specs.Callers.{unplaced}
+use Rattle.texting_robots.specs.Callers.{PlacedRule, RobotValue, Rule, file_bodies, file_lines, nul_as_lf}
+use Rattle.texting_robots.specs.Callers.{placed_rules, rules_for, unplaced}
 use Rattle.texting_robots.specs.Cut.{IsLineEnd, Pair, joined}
-use Rattle.texting_robots.specs.Internal.{Cut.bodies_of, Cut.cut, Line.line_of}
 use Rattle.texting_robots.specs.{Laws.Same, Line.is_raw, Line.without_front}
-use Rattle.texting_robots.proofs.{BestLemmas.placed_of, CutLemmas.is_cut, CutLemmas.only_cut}
-use Rattle.texting_robots.proofs.{GivenLemmas.delay_is_computed}
-use Rattle.texting_robots.proofs.{GivenLemmas.sitemaps_are_computed, HeldLemmas.rejection_is_computed}
-use Rattle.texting_robots.proofs.{LawLemmas.raw_changes_nothing, MainTheoremLemmas.answers_computed}
-use Rattle.texting_robots.proofs.{MainTheoremLemmas.of_lines}
+use Rattle.texting_robots.specs.Internal.{Cut.bodies_of, Cut.cut, Line.line_of}
+use Rattle.texting_robots.proofs.GivenLemmas.{delay_is_computed, sitemaps_are_computed}
+use Rattle.texting_robots.proofs.MainTheoremLemmas.{answers_computed, of_lines}
 use Rattle.texting_robots.proofs.LineLemmas.{each_text_has_its_lines, front_is_end, front_read}
+use Rattle.texting_robots.proofs.{BestLemmas.placed_of, CutLemmas.is_cut, CutLemmas.only_cut}
+use Rattle.texting_robots.proofs.{HeldLemmas.rejection_is_computed, LawLemmas.raw_changes_nothing}
 use Rattle.robots_needless.specs.declared.needless.NeedlessRule.{NeedlessRule}
 use Rattle.robots_needless.specs.Blocks.{left_from}
 use Rattle.robots_needless.specs.Deleted.{AreAlike, AreFoundIn, AreWholeLines, HaveSameRobot, IsLeftOf}
 use Rattle.robots_needless.specs.Deleted.{begin_with_mark}
 use Rattle.robots_needless.specs.Needless.{AreNeedless, lines_without, numbers_of, without}
-use Rattle.robots_needless.proofs.BlockLemmas.{among, left_are}
 use Rattle.robots_needless.proofs.DeletedLemmas.{ArePairs, cut_pairs, meant, meant_joined, pair_body}
-use Rattle.robots_needless.proofs.DeletedLemmas.{pairs_left}
-use Rattle.robots_needless.proofs.DeletedLemmas.{IsUnmarked, mark_of, mark_off, mark_read}
-use Rattle.robots_needless.proofs.{DistinctLemmas.in_filter, CrawlerLemmas.split_read}
-use Rattle.robots_needless.proofs.{CrawlerLemmas.star_or_named}
+use Rattle.robots_needless.proofs.DeletedLemmas.{pairs_left, IsUnmarked, mark_of, mark_off, mark_read}
+use Rattle.robots_needless.proofs.CrawlerLemmas.{split_read, star_or_named}
 use Rattle.robots_needless.proofs.TogetherLemmas.{both_ways, unplaced_of}
+use Rattle.robots_needless.proofs.{BlockLemmas.among, BlockLemmas.left_are, DistinctLemmas.in_filter}
 
 -- ---- what is left behind it
 

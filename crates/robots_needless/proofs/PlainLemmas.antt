@@ -4,10 +4,9 @@ use Rattle.std.proofs.Common.{◌≡◌, ◌≢◌, ◌<◌, ◌≤◌, ◌⊎�
 use Rattle.std.proofs.Common.{◌∷◌, ◌++◌, All, if◌then◌else◌, IsTrue, ◌↔◌, ap, sym, subst, refl, ◌∙◌}
 use Rattle.std.proofs.Common.{append-nil, arith, drop, length, Less, Equal, Greater, get_or, nat_eq, take}
 use Rattle.std.specs.Cmp.Lexicographic.{slice_cmp, bytes_decides, on_texts, pointwise}
-use Rattle.std.specs.List.{Contains, starts_with}
-use Rattle.std.specs.List.Sorted.{IsSortedBy}
-use Rattle.std.specs.Cmp.{IsStrictWeakOrder}
 use Rattle.std.specs.Ordering.{is_lt, nat_cmp, ordering_then}
+use Rattle.std.specs.{List.Contains, List.starts_with, Cmp.IsStrictWeakOrder, BTreeSet.BTreeSet}
+use Rattle.std.specs.List.Sorted.{IsSortedBy}
 use Rattle.std.specs.declared.cmp.Ordering.{Ordering}
 use Rattle.std.proofs.Math.Dec.{eqb}
 use Rattle.std.proofs.lemmas.Bool.{cases_lt, eq-eqb}
@@ -19,15 +18,12 @@ use Rattle.std.proofs.lemmas.List.Elements.{Contains-append_right, Contains-push
 use Rattle.std.proofs.lemmas.List.MinMax.{ranks_by}
 use Rattle.std.proofs.lemmas.List.Sorted.{IsPermutation-append_left, IsPermutation-refl, IsPermutation-trans}
 use Rattle.std.proofs.lemmas.List.Sorted.{sorted_far, Contains-permutation, IsPermutation-sym}
-use Rattle.texting_robots.specs.Pattern.{Matches, MatchesWith}
-use Rattle.texting_robots.specs.Rules.{PlacedRule}
-use Rattle.texting_robots.proofs.OrderLemmas.{cmp_less, cmp_same}
-use Rattle.texting_robots.proofs.PatternLemmas.{in_front}
+use Rattle.texting_robots.specs.{Pattern.Matches, Pattern.MatchesWith, Rules.PlacedRule}
+use Rattle.texting_robots.proofs.{OrderLemmas.cmp_less, OrderLemmas.cmp_same, PatternLemmas.in_front}
 use Rattle.robots_needless.specs.Internal.{AreDescending, AreLeft, AreNear, IsAfter, IsNoRival, IsPlain}
 use Rattle.robots_needless.specs.Internal.{IsPlainByte, rule_cmp, IsReducing, Reasons}
 use Rattle.robots_needless.specs.Needless.{AreApart, rank_of}
 use Rattle.robots_needless.proofs.TogetherLemmas.{rest_to_front, reordered}
-use Rattle.std.specs.BTreeSet.{BTreeSet}
 
 -- ---- a plain pattern matches the texts that begin with it
 

@@ -1,12 +1,10 @@
 -- A rule that can go changes no verdict.
-use Rattle.std.proofs.Common.{◌≡◌, ◌≢◌, ◌<◌, ◌≤◌, ◌↔◌, ◌⊎◌, inl, inr, ℕ, Bool, true, false, List, length}
-use Rattle.std.proofs.Common.{ap, sym, subst, arith}
+use Rattle.std.proofs.Common.{◌≡◌, ◌≢◌, ◌<◌, ◌≤◌, ◌↔◌, ◌⊎◌, inl, inr, ℕ, Bool, true, false, List, length, ap}
+use Rattle.std.proofs.Common.{sym, subst, arith}
 use Rattle.std.specs.List.{Contains}
 use Rattle.std.proofs.lemmas.Bool.{cases_Bool, cases_lt, false≢true}
-use Rattle.texting_robots.specs.Pattern.{Matches}
-use Rattle.texting_robots.specs.{Rules.Rule, Verdict.IsDenied, Verdict.robots_file}
-use Rattle.texting_robots.proofs.BestLemmas.{matches}
-use Rattle.texting_robots.proofs.ExampleLemmas.{matching, not_matching}
+use Rattle.texting_robots.specs.{Pattern.Matches, Rules.Rule, Verdict.IsDenied, Verdict.robots_file}
+use Rattle.texting_robots.proofs.{BestLemmas.matches, ExampleLemmas.matching, ExampleLemmas.not_matching}
 use Rattle.robots_needless.specs.Internal.{CanGo, HasNoRival, IsReplacedBy}
 use Rattle.robots_needless.specs.Needless.{rank_of}
 

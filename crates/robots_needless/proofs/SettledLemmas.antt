@@ -2,24 +2,19 @@
 use Rattle.std.proofs.Common.{◌≡◌, ◌↔◌, inl, inr, ℕ, zero, suc, ◌==◌, Bool, true, false, List, [], ◌∷◌, ◌++◌}
 use Rattle.std.proofs.Common.{All, ◌+◌, ◌<◌, length, ap, sym, refl, subst, ◌∙◌, arith, codes, filter, map}
 use Rattle.std.proofs.Common.{append-nil}
-use Rattle.std.specs.BTreeMap.{IsOrdered, keys}
-use Rattle.std.specs.BTreeSet.{BTreeSet, contains}
-use Rattle.std.specs.List.{Contains, enumerate_from, list_any}
-use Rattle.std.specs.Ordering.{nat_cmp}
-use Rattle.std.specs.Cmp.{nat_cmp_total}
+use Rattle.std.specs.{BTreeMap.IsOrdered, BTreeMap.keys, BTreeSet.BTreeSet, BTreeSet.contains, List.Contains}
+use Rattle.std.specs.{List.enumerate_from, List.list_any, Ordering.nat_cmp, Cmp.nat_cmp_total}
 use Rattle.std.proofs.lemmas.Bool.{cases_Bool, false≢true}
+use Rattle.std.proofs.lemmas.Option.{slice_get_within}
 use Rattle.std.proofs.lemmas.List.Elements.{All-contains, Contains-append_left, All-map, All-nil}
 use Rattle.std.proofs.lemmas.List.Elements.{Contains-push, Contains-push_cases}
-use Rattle.std.proofs.lemmas.Map.Lookups.{exact_unsigned}
-use Rattle.std.proofs.lemmas.Map.Views.{All-found, btree_map_contains_key_iff}
+use Rattle.std.proofs.lemmas.Map.{Lookups.exact_unsigned, Views.All-found, Views.btree_map_contains_key_iff}
 use Rattle.texting_robots.specs.Callers.{IsOverlong, IsRejected, LineValue, PlacedRule, Rule, agents_in}
 use Rattle.texting_robots.specs.Callers.{delay_for, file_bodies, file_lines, placed_rules, rules_for}
 use Rattle.texting_robots.specs.Callers.{sitemaps_in}
-use Rattle.robots_needless.specs.declared.needless.NeedlessRule.{NeedlessRule}
-use Rattle.robots_needless.specs.declared.needless.Reason.{Reason}
+use Rattle.robots_needless.specs.declared.needless.{NeedlessRule.NeedlessRule, Reason.Reason}
 use Rattle.texting_robots.proofs.BestLemmas.{placed_of}
 use Rattle.texting_robots.proofs.HeldLemmas.{computed_are, rejection_is_computed}
-use Rattle.std.proofs.lemmas.Option.{slice_get_within}
 use Rattle.robots_needless.specs.Blocks.{KeepBlocks, is_found, keep_blocks_from, left_from, no_rule}
 use Rattle.robots_needless.specs.Deleted.{AreFoundIn, begin_with_mark}
 use Rattle.robots_needless.specs.Internal.{AreFree, AreReasons, AreSettled, Grow, IsSettled, Reasons, rule_at}

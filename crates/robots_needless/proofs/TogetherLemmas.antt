@@ -2,7 +2,8 @@
 use Rattle.std.proofs.Common.{◌≡◌, ◌↔◌, inl, inr, ℕ, zero, suc, Bool, true, false, List, [], ◌∷◌, ◌++◌}
 use Rattle.std.proofs.Common.{IsPermutation, ap, refl, sym, subst, ◌∙◌, append_assoc, append-nil, arith, ◌≢◌}
 use Rattle.std.proofs.Common.{◌≤◌, ◌⊎◌, Some}
-use Rattle.std.specs.List.{Contains}
+use Rattle.std.specs.Ordering.{eq_by_cmp, nat_cmp}
+use Rattle.std.specs.{List.Contains, BTreeMap.Updates, BTreeMap.get, BTreeSet.BTreeSet}
 use Rattle.std.proofs.lemmas.List.Elements.{Contains-append_cases, Contains-append_left, Contains-push}
 use Rattle.std.proofs.lemmas.List.Elements.{Contains-append_right, Contains-push_cases}
 use Rattle.std.proofs.lemmas.List.Sorted.{Contains-permutation, IsPermutation-append_comm}
@@ -10,8 +11,7 @@ use Rattle.std.proofs.lemmas.List.Sorted.{IsPermutation-append_left, IsPermutati
 use Rattle.std.proofs.lemmas.List.Sorted.{IsPermutation-middle, IsPermutation-sym, IsPermutation-trans}
 use Rattle.texting_robots.specs.Rules.{PlacedRule, Rule, unplaced}
 use Rattle.texting_robots.specs.Verdict.{IsDenied, IsVerdict}
-use Rattle.texting_robots.proofs.BestLemmas.{placed_of}
-use Rattle.texting_robots.proofs.VerdictLemmas.{same_verdicts}
+use Rattle.texting_robots.proofs.{BestLemmas.placed_of, VerdictLemmas.same_verdicts}
 use Rattle.robots_needless.specs.declared.needless.Reason.{Reason}
 use Rattle.robots_needless.specs.Internal.{AreAmong, CanGoInTurn, Goes, AreNear, CanReplace, HasNoRival}
 use Rattle.robots_needless.specs.Internal.{IsNoRival, AddsNumber, Has, HasLine, IsReducing, Reasons}
@@ -19,12 +19,8 @@ use Rattle.robots_needless.specs.Needless.{AreDistinct, AreNeedless, IsReason, l
 use Rattle.robots_needless.proofs.DistinctLemmas.{left_are_kept, to_map}
 use Rattle.robots_needless.proofs.RemovalLemmas.{AreWith, can_go}
 use Rattle.robots_needless.specs.declared.needless.Reason.TheVariants.{AllowedAnyway, NeverDecides, NotNeeded}
-use Rattle.std.specs.BTreeMap.{Updates, get}
-use Rattle.std.specs.BTreeSet.{BTreeSet}
-use Rattle.std.specs.Ordering.{eq_by_cmp, nat_cmp}
 use Rattle.std.proofs.lemmas.Bool.{cases_Bool}
-use Rattle.std.proofs.lemmas.Map.Lookups.{exact_unsigned}
-use Rattle.std.proofs.lemmas.Map.Views.{tells_apart}
+use Rattle.std.proofs.lemmas.Map.{Lookups.exact_unsigned, Views.tells_apart}
 use Rattle.robots_needless.specs.declared.needless.Reason.TheVariants as reasons
 
 -- the rule of a member

@@ -1,8 +1,7 @@
 -- Blocks of a file from which rules are removed: the group lines below a run of user-agent lines. At crawlers
 -- that ignore delays, user-agent lines above a delay alone would join the next run.
 use Rattle.std.specs.Prelude.{◌≡◌, ℕ, ◌+◌, Bool, true, false, not, ◌&&◌, ◌||◌, List, [], ◌∷◌, Option, Some}
-use Rattle.std.specs.Prelude.{None}
-use Rattle.std.specs.Prelude.{if◌then◌else◌}
+use Rattle.std.specs.Prelude.{None, if◌then◌else◌}
 use Rattle.std.specs.{BTreeMap.get, Option.is_some, Option.option_map_or, Ordering.nat_cmp}
 use Rattle.texting_robots.specs.{Group.is_agent, Line.LineValue}
 pub use Rattle.robots_needless.specs.Needless.{is_rule}

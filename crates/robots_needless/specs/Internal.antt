@@ -2,18 +2,15 @@
 use Rattle.std.specs.Prelude.{◌≡◌, ◌≢◌, ◌⊎◌, ◌↔◌, ℕ, ◌<◌, ◌≤◌, ◌==◌, true, false, List, [], ◌∷◌, ◌++◌, All}
 use Rattle.std.specs.Prelude.{Contains, IsPermutation, None, Option, Some, length, slice_index, if◌then◌else◌}
 use Rattle.std.specs.Prelude.{◌&&◌, Bool, bytes_eq, codes, nat_eq, slice_index_or}
-use Rattle.std.specs.BTreeMap.{BTreeMap, get}
 use Rattle.std.specs.BTreeSet.{BTreeSet, contains}
-use Rattle.std.specs.Cmp.Lexicographic.{slice_cmp}
-use Rattle.std.specs.List.{starts_with}
-use Rattle.std.specs.Option.{IsSome}
 use Rattle.std.specs.Ordering.{is_lt, nat_cmp, ordering_then}
+use Rattle.std.specs.{BTreeMap.BTreeMap, BTreeMap.get, List.starts_with, Option.IsSome}
+use Rattle.std.specs.Cmp.Lexicographic.{slice_cmp}
 use Rattle.std.specs.declared.cmp.Ordering.{Ordering}
 use Rattle.texting_robots.specs.Callers.{IsDenied, IsOverlong, LineValue, PlacedRule, Rule, placed_rules}
 use Rattle.texting_robots.specs.Callers.{unplaced}
 use Rattle.texting_robots.specs.Pattern.{dollar, star}
-use Rattle.robots_needless.specs.declared.needless.NeedlessRule.{NeedlessRule}
-use Rattle.robots_needless.specs.declared.needless.Reason.{Reason}
+use Rattle.robots_needless.specs.declared.needless.{NeedlessRule.NeedlessRule, Reason.Reason}
 use Rattle.robots_needless.specs.Needless.{AreApart, Covers, IsFound, IsFoundFor, IsReason, MatchesNothing}
 use Rattle.robots_needless.specs.Needless.{rank_of}
 

@@ -1,26 +1,24 @@
 -- Every input has a report.
 use Rattle.std.proofs.Common.{◌≡◌, ◌⊎◌, inl, inr, ℕ, zero, suc, ◌<◌, ◌==◌, Any, Bool, IsUtf8, Result, Ok, Err}
 use Rattle.std.proofs.Common.{List, [], ◌∷◌, ◌++◌, length, map, sym, refl, ap, take, ◌∙◌, arith}
-use Rattle.std.specs.Bool.{Decides}
 use Rattle.std.specs.List.{AllByRecursion as Each}
+use Rattle.std.specs.{Bool.Decides, Str.is_utf8}
 use Rattle.std.specs.Io.BufRead.{strip_last}
-use Rattle.std.specs.Str.{is_utf8}
 use Rattle.std.proofs.lemmas.Bool.{cases_Bool, eqb-false, eqb-true, false≢true}
 use Rattle.std.proofs.lemmas.Str.{IsUtf8-from_is_utf8, is_utf8-from_IsUtf8}
 use Rattle.texting_robots.specs.Executable.{delay_for, lines_read, placed_rules, rules_for, sitemaps_in}
 use Rattle.texting_robots.specs.Robot.{IsFileRejected, file_limit}
-use Rattle.texting_robots.proofs.ExampleLemmas.{any_overlong_decides}
 use Rattle.texting_robots.proofs.MainTheoremLemmas.{lines_are_read, read_rejected}
 use Rattle.texting_robots.proofs.HeldLemmas.{rejection_is_computed}
-use Rattle.texting_robots.proofs.BestLemmas.{Either}
+use Rattle.texting_robots.proofs.{ExampleLemmas.any_overlong_decides, BestLemmas.Either}
 use Rattle.robots_verdict.specs.declared.fault.Fault.{Fault}
 use Rattle.robots_verdict.specs.declared.fault.Fault.TheVariants.{HeaderNotUtf8, InvalidRule, NoEmptyLine}
 use Rattle.printable_text.specs.Lines.{ended, lf}
 use Rattle.robots_verdict.proofs.VerdictsLemmas.{some_lines}
-use Rattle.robots_verdict.specs.Input.{BeginsWithLine, IsInput, IsOneLine, cr}
-use Rattle.robots_verdict.specs.Report.{IsReport, IsReportText, delay_line, sitemap_line}
 use Rattle.robots_verdict.proofs.InputLemmas.{GoesOn, goes_first, goes_more, no_split, no_split_first}
 use Rattle.robots_verdict.proofs.InputLemmas.{rest_shorter, split_found}
+use Rattle.robots_verdict.specs.Input.{BeginsWithLine, IsInput, IsOneLine, cr}
+use Rattle.robots_verdict.specs.Report.{IsReport, IsReportText, delay_line, sitemap_line}
 
 -- ---- the split
 

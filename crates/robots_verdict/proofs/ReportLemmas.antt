@@ -9,15 +9,14 @@ use Rattle.texting_robots.proofs.MainTheoremLemmas.{answers_computed}
 use Rattle.robots_io.specs.declared.streams.ReadFault.{ReadFault}
 use Rattle.robots_io.specs.declared.streams.ReadFault.TheVariants as reading
 use Rattle.robots_verdict.specs.declared.fault.Fault.{Fault}
-use Rattle.robots_verdict.specs.declared.fault.Fault.TheVariants.{HeaderNotUtf8, InvalidRule}
-use Rattle.robots_verdict.specs.declared.fault.Fault.TheVariants.{Memory, NoEmptyLine, Read, Write}
-use Rattle.robots_verdict.specs.Fault.{fault_of_read}
-use Rattle.printable_text.specs.Lines.{ended}
-use Rattle.robots_verdict.specs.Verdicts.{AddsVerdicts}
-use Rattle.printable_text.proofs.LinesLemmas.{ended-append, lines_added}
-use Rattle.robots_verdict.proofs.VerdictsLemmas.{lines_like, lines_once}
+use Rattle.robots_verdict.specs.declared.fault.Fault.TheVariants.{HeaderNotUtf8, InvalidRule, Memory}
+use Rattle.robots_verdict.specs.declared.fault.Fault.TheVariants.{NoEmptyLine, Read, Write}
 use Rattle.robots_verdict.specs.Input.{AreUtf8, HoldNotUtf8, IsInput}
 use Rattle.robots_verdict.specs.Report.{HasFault, IsReport, IsReportText, delay_line, sitemap_line}
+use Rattle.robots_verdict.specs.{Fault.fault_of_read, Verdicts.AddsVerdicts}
+use Rattle.printable_text.specs.Lines.{ended}
+use Rattle.printable_text.proofs.LinesLemmas.{ended-append, lines_added}
+use Rattle.robots_verdict.proofs.VerdictsLemmas.{lines_like, lines_once}
 use Rattle.robots_verdict.proofs.InputLemmas.{not_both, one_split}
 
 -- ---- the report

@@ -1,17 +1,16 @@
 -- The report on an input.
-use Rattle.std.specs.Prelude.{◌≡◌, ℕ, List, ◌∷◌}
-use Rattle.std.specs.Prelude.{◌++◌, Option, Some, None, Result, Ok, Err, codes, decimal, map, take}
+use Rattle.std.specs.Prelude.{◌≡◌, ℕ, List, ◌∷◌, ◌++◌, Option, Some, None, Result, Ok, Err, codes, decimal}
+use Rattle.std.specs.Prelude.{map, take}
 use Rattle.std.specs.List.{AllZip}
 use Rattle.std.specs.Io.KnownBytes.{Appends}
 use Rattle.texting_robots.specs.Callers.{IsFileRejected, delay_for, file_limit, lines_read, placed_rules}
 use Rattle.texting_robots.specs.Callers.{sitemaps_in}
 use Rattle.robots_io.specs.Streams.{AppendsBeginning}
 use Rattle.printable_text.specs.Lines.{ended}
-use Rattle.robots_verdict.specs.Verdicts.{IsVerdictLine}
+use Rattle.robots_verdict.specs.{Verdicts.IsVerdictLine, Input.AreUtf8, Input.HoldNotUtf8, Input.IsInput}
 use Rattle.robots_verdict.specs.declared.fault.Fault.{Fault}
-use Rattle.robots_verdict.specs.declared.fault.Fault.TheVariants.{HeaderNotUtf8, InvalidRule}
-use Rattle.robots_verdict.specs.declared.fault.Fault.TheVariants.{Memory, NoEmptyLine, Read, Write}
-use Rattle.robots_verdict.specs.Input.{AreUtf8, HoldNotUtf8, IsInput}
+use Rattle.robots_verdict.specs.declared.fault.Fault.TheVariants.{HeaderNotUtf8, InvalidRule, Memory}
+use Rattle.robots_verdict.specs.declared.fault.Fault.TheVariants.{NoEmptyLine, Read, Write}
 
 -- ---- the lines of a report
 

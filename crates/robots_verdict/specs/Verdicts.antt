@@ -1,11 +1,10 @@
 -- Verdicts on URLs, and the lines that say them.
-use Rattle.std.specs.Prelude.{◌≡◌, ℕ, Bool, true, false, List, [], ◌∷◌, ◌++◌}
-use Rattle.std.specs.Prelude.{Option, Some, None, codes, decimal}
+use Rattle.std.specs.Prelude.{◌≡◌, ℕ, Bool, true, false, List, [], ◌∷◌, ◌++◌, Option, Some, None, codes}
+use Rattle.std.specs.Prelude.{decimal}
 use Rattle.std.specs.List.{AllZip}
-use Rattle.texting_robots.specs.Callers.{PlacedRule, prepared}
+use Rattle.texting_robots.specs.{Callers.PlacedRule, Callers.prepared, Decision.IsDecisionOn}
 use Rattle.texting_robots.specs.declared.decision.Decision.{Decision}
 use Rattle.printable_text.specs.Lines.{ended}
-use Rattle.texting_robots.specs.Decision.{IsDecisionOn}
 
 -- ---- a line
 

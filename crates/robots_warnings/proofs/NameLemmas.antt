@@ -1,11 +1,9 @@
 -- Sets of product tokens.
-use Rattle.std.proofs.Common.{◌≡◌, ◌||◌, Bool, cond, false, true, ℕ, List, [], ◌∷◌, ◌++◌, ap, refl}
-use Rattle.std.proofs.Common.{◌+◌, ◌<◌, String, bytes_eq, length, map, not, slice_index_or, string_bytes, sym}
-use Rattle.std.proofs.Common.{take, ◌∙◌}
-use Rattle.std.specs.Global.{Global}
+use Rattle.std.proofs.Common.{◌≡◌, ◌||◌, Bool, cond, false, true, ℕ, List, [], ◌∷◌, ◌++◌, ap, refl, ◌+◌, ◌<◌}
+use Rattle.std.proofs.Common.{String, bytes_eq, length, map, not, slice_index_or, string_bytes, sym, take}
+use Rattle.std.proofs.Common.{◌∙◌}
 use Rattle.std.specs.BTreeSet.{BTreeSet, Updates, contains}
-use Rattle.std.specs.List.{list_any}
-use Rattle.std.specs.Str.{str_to_ascii_lowercase}
+use Rattle.std.specs.{Global.Global, List.list_any, Str.str_to_ascii_lowercase}
 use Rattle.std.proofs.Math.Bool.{or-false}
 use Rattle.std.proofs.lemmas.List.{map-append, take_more}
 use Rattle.std.proofs.lemmas.List.Folds.{list_any-append}

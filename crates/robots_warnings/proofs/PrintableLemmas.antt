@@ -4,8 +4,7 @@ use Rattle.std.specs.List.{list_all}
 use borrow.Enum.Match.{tag_small}
 use Rattle.robots_warnings.specs.contracts.table.Cause.{the_type}
 use Rattle.robots_warnings.specs.declared.table.Cause.{Cause}
-use Rattle.robots_warnings.specs.Message.{passes_at}
-use Rattle.robots_warnings.specs.Table.{all_examples, example_of, number_of}
+use Rattle.robots_warnings.specs.{Message.passes_at, Table.all_examples, Table.example_of, Table.number_of}
 use Rattle.printable_text.specs.Sanitize.{IsPrintable, is_printable_byte}
 use Rattle.printable_text.proofs.SanitizeLemmas.{ascii_printable}
 

@@ -4,23 +4,18 @@ use Rattle.std.proofs.Common.{subst, suc, sym, ◌∙◌, ◌&&◌, ◌+◌, ◌
 use Rattle.std.proofs.Common.{if◌then◌else◌, string_bytes, ap, ap₂, codes, drop, ◌||◌, ◌⊎◌, cond, map}
 use Rattle.std.proofs.Common.{slice_index_or}
 use Rattle.std.proofs.lemmas.Bool.{cases_Bool, eqb-true, false≢true, ne_eqb}
+use Rattle.std.proofs.lemmas.List.{drop_more}
 use Rattle.std.proofs.lemmas.Bool.Decides.{nat_tests}
-use Rattle.std.specs.List.{list_all, list_any}
-use Rattle.std.specs.Str.{byte}
+use Rattle.std.specs.HashMap.{Updates, get_by_text, hash_map_len}
+use Rattle.std.specs.{List.list_all, List.list_any, Str.byte, Global.Global, Map.lookup, Option.option_or}
+use Rattle.std.specs.{Prelude.is_some, String.string_eq}
 use Rattle.texting_robots.specs.Callers.{escaped, PlacedRule, by_value, label_by_value}
 use Rattle.texting_robots.specs.Escape.{is_escaped}
 use Rattle.robots_warnings.specs.Closed.{is_whole_site}
+use Rattle.robots_warnings.specs.Conflicts.{allow_beside, compared, first_of}
 use Rattle.std.proofs.Math.Bool.{or-false, or-true}
-use Rattle.std.specs.Global.{Global}
-use Rattle.std.specs.HashMap.{Updates, get_by_text, hash_map_len}
-use Rattle.std.specs.Map.{lookup}
-use Rattle.std.specs.Option.{option_or}
-use Rattle.std.specs.Prelude.{is_some}
-use Rattle.std.specs.String.{string_eq}
 use Rattle.std.proofs.lemmas.Map.Text.{hash_map_updates_text, hash_set_updates_text}
 use Rattle.std.proofs.lemmas.Slice.Eq.{bytes_eq-Decides}
-use Rattle.std.proofs.lemmas.List.{drop_more}
-use Rattle.robots_warnings.specs.Conflicts.{allow_beside, compared, first_of}
 use Rattle.robots_warnings.specs.Internal.Rules.{HasFirst, Lines}
 use Rattle.std.specs.HashSet as set
 use Rattle.std.specs.HashSet.{contains_text}

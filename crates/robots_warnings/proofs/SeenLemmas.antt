@@ -1,29 +1,25 @@
 -- How names and the values of rules are remembered, and how lines are found by them.
 use Rattle.std.proofs.Common.{◌≡◌, ℕ, ◌+◌, ◌<◌, Bool, true, false, List, [], ◌∷◌, ◌++◌, ◌∙◌, ◌||◌, ◌&&◌, ap}
-use Rattle.std.proofs.Common.{arith, drop, filter, if◌then◌else◌, inl, inr, length, map, refl}
-use Rattle.std.proofs.Common.{slice_index_or, sym, take, append_assoc, not, bytes_eq}
+use Rattle.std.proofs.Common.{arith, drop, filter, if◌then◌else◌, inl, inr, length, map, refl, slice_index_or}
+use Rattle.std.proofs.Common.{sym, take, append_assoc, not, bytes_eq}
 use Rattle.std.proofs.Math.Bool.{or-false}
-use Rattle.std.proofs.lemmas.Bool.{cases_Bool, or_parts}
 use Rattle.std.proofs.lemmas.List.{drop_more, map-append, take_more, length_push}
+use Rattle.std.proofs.lemmas.{Bool.cases_Bool, Bool.or_parts, Simd.map-map}
 use Rattle.std.proofs.lemmas.List.Folds.{list_any-append}
 use Rattle.std.proofs.lemmas.Map.Text.{is_eq-slice_cmp}
-use Rattle.std.proofs.lemmas.Simd.{map-map}
-use Rattle.std.specs.BTreeSet.{BTreeSet, Updates, contains}
-use Rattle.std.specs.Borrow.{Bor}
-use Rattle.std.specs.Global.{Vec}
 use Rattle.std.specs.List.{list_any, onto_first, slice_split, enumerate_from}
 use Rattle.std.specs.Prelude.{Err, IfOk, Ok, Result, cond, slice_index}
+use Rattle.std.specs.{BTreeSet.BTreeSet, BTreeSet.Updates, BTreeSet.contains, Borrow.Bor, Global.Vec}
 use Rattle.texting_robots.specs.declared.labels.LabeledLine.{LabeledLine}
 use Rattle.texting_robots.specs.Callers.{Allow, CrawlDelay, Disallow, Label, LineValue, Raw, Sitemap}
 use Rattle.texting_robots.specs.Callers.{UserAgent, by_value, label_by_value, file_lines}
 use Rattle.robots_warnings.specs.File.{lines_of}
+use Rattle.robots_warnings.specs.Spellings.{is_agent_line, is_escape, is_unpaired_at, is_unpaired_line}
+use Rattle.robots_warnings.specs.Spellings.{standard_escape, standard_spelling}
 use Rattle.robots_warnings.specs.Internal.Names.{Key, key_cmp, AddsLine, HasNames, IsFoundUpto}
 use Rattle.robots_warnings.specs.Internal.Names.{past_limit_from}
 use Rattle.robots_warnings.specs.Internal.Values.{AddsRuleValue, HasRuleValues, has_odd_line, has_odd_value}
-use Rattle.robots_warnings.specs.Spellings.{is_agent_line, is_escape, is_unpaired_at, is_unpaired_line}
-use Rattle.robots_warnings.specs.Spellings.{standard_escape, standard_spelling}
-use Rattle.robots_warnings.proofs.NameLemmas.{either}
-use Rattle.robots_warnings.proofs.StepLemmas.{picked}
+use Rattle.robots_warnings.proofs.{NameLemmas.either, StepLemmas.picked}
 use Rattle.std.specs.HashSet as hash
 use Rattle.robots_warnings.specs.declared.repeated.Seen.{Seen}
 use Rattle.robots_warnings.specs.declared.values.Value.{Value}

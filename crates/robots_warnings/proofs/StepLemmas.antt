@@ -4,20 +4,16 @@ use Rattle.std.proofs.Common.{Bool, map, not, take, ◌∷◌, [], arith, codes,
 use Rattle.std.proofs.Common.{append-nil, append_assoc, flat_map, sym, ◌∙◌, cond, true, if◌then◌else◌}
 use Rattle.std.proofs.lemmas.List.{drop_more, map-append, take_more}
 use Rattle.robots_warnings.specs.File.{hash, is_blank, space, tab, lines_of}
-use Rattle.std.proofs.Math.Bool.{or-false}
-use Rattle.std.proofs.lemmas.List.Folds.{list_any-append}
-use Rattle.texting_robots.specs.declared.labels.LabeledLine.{LabeledLine}
-use Rattle.texting_robots.specs.Callers.{by_value, label_by_value, Label}
-use Rattle.robots_warnings.specs.Facts.{kinds_of, nul_at_every_other}
-use Rattle.robots_warnings.specs.Internal.{kinds_with}
-use Rattle.std.specs.Option.{option_or}
 use Rattle.robots_warnings.specs.Positions.{begin_with_one, begin_with_rules, group_number, last_group}
 use Rattle.robots_warnings.specs.Positions.{name_star}
-use Rattle.std.specs.List.{starts_with}
+use Rattle.robots_warnings.specs.{Facts.kinds_of, Facts.nul_at_every_other, Internal.kinds_with}
+use Rattle.robots_warnings.specs.{Rules.begins_dot_segment, Rules.somewhere, WarningValue.WarningValue}
+use Rattle.std.proofs.Math.Bool.{or-false}
+use Rattle.std.proofs.lemmas.List.{Folds.list_any-append, Concat.flat_map-append}
+use Rattle.texting_robots.specs.declared.labels.LabeledLine.{LabeledLine}
+use Rattle.texting_robots.specs.Callers.{by_value, label_by_value, Label}
+use Rattle.std.specs.{Option.option_or, List.starts_with}
 use Rattle.std.proofs.lemmas.Bool.Decides.{nat_tests}
-use Rattle.robots_warnings.specs.Rules.{begins_dot_segment, somewhere}
-use Rattle.std.proofs.lemmas.List.Concat.{flat_map-append}
-use Rattle.robots_warnings.specs.WarningValue.{WarningValue}
 
 -- ---- the bytes of a line
 

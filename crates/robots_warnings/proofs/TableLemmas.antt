@@ -1,16 +1,14 @@
 -- The rows of the tables of warnings and of their examples.
-use Rattle.std.proofs.Common.{◌≡◌, ℕ, zero, suc, Bool, List, [], ◌∷◌, Some, ap, get_or, length, map}
-use Rattle.std.proofs.Common.{refl, sym, ◌∙◌}
-use Rattle.std.specs.Prelude.{slice_get, slice_index_or}
-use Rattle.std.specs.List.{list_any, range_with_len}
+use Rattle.std.proofs.Common.{◌≡◌, ℕ, zero, suc, Bool, List, [], ◌∷◌, Some, ap, get_or, length, map, refl}
+use Rattle.std.proofs.Common.{sym, ◌∙◌}
+use Rattle.std.specs.{Prelude.slice_get, Prelude.slice_index_or, List.list_any, List.range_with_len}
 use Rattle.std.proofs.lemmas.List.FromFn.{get_or-range_with_len}
 use Rattle.std.proofs.lemmas.Simd.{map-map}
 use borrow.Enum.Match.{tag_small}
 use denote.Enum.Bare.{tag_one}
 use native.Mathlib.Nat.{zero-add}
 use Rattle.robots_warnings.specs.contracts.table.Cause.{the_type}
-use Rattle.robots_warnings.specs.declared.table.Cause.{Cause}
-use Rattle.robots_warnings.specs.declared.table.TheConstants.{WARNINGS}
+use Rattle.robots_warnings.specs.declared.table.{Cause.Cause, TheConstants.WARNINGS}
 use Rattle.robots_warnings.specs.Table.{all_causes, number_of}
 use Rattle.robots_warnings.specs.Internal.{IsAt, IsRowAt, Row}
 

@@ -1,10 +1,8 @@
 -- The conditions of warnings about a file, a request, a line and its position, grouped by what they inspect,
 -- in the order of output. Warnings.antt names those of the others.
-use Rattle.std.specs.Prelude.{ℕ, ◌==◌, Bool, true, false, List, []}
-use Rattle.std.specs.Prelude.{◌∷◌, ◌++◌, ◌||◌, Option, None, Some, codes}
-use Rattle.std.specs.Prelude.{if◌then◌else◌, length, nat_eq, nat_lt, not, ◌&&◌}
-use Rattle.std.specs.List.{starts_with}
-use Rattle.std.specs.Str.{byte, is_utf8}
+use Rattle.std.specs.Prelude.{ℕ, ◌==◌, Bool, true, false, List, [], ◌∷◌, ◌++◌, ◌||◌, Option, None, Some}
+use Rattle.std.specs.Prelude.{codes, if◌then◌else◌, length, nat_eq, nat_lt, not, ◌&&◌}
+use Rattle.std.specs.{List.starts_with, Str.byte, Str.is_utf8}
 use Rattle.texting_robots.specs.Callers.{Allow, CrawlDelay, Disallow, LineValue, Label, Raw, Sitemap}
 use Rattle.texting_robots.specs.Callers.{UserAgent, is_own}
 use Rattle.texting_robots.specs.declared.labels.Membership.{Membership}
@@ -15,15 +13,13 @@ use Rattle.robots_warnings.specs.declared.table.Cause.TheVariants as cause
 use Rattle.robots_warnings.specs.Contents.{comment_of, has_odd_comment, has_odd_delay, has_odd_space}
 use Rattle.robots_warnings.specs.Contents.{is_cut_short, is_cut_to_root, tail_of}
 use Rattle.robots_warnings.specs.FieldNames.{begins_inner_field, is_misspelled, is_without_colon, meant_by}
-use Rattle.robots_warnings.specs.File.{is_blank}
 use Rattle.robots_warnings.specs.Positions.{is_above_agents, is_empty_group, is_other_delay, is_split}
 use Rattle.robots_warnings.specs.Positions.{name_star}
-use Rattle.robots_warnings.specs.Rules.{before_byte, begins_dot_segment}
-use Rattle.robots_warnings.specs.Rules.{has, has_dollar_inside, has_odd_start}
-use Rattle.robots_warnings.specs.Rules.{holds_otherwise, is_expression, is_quoted, somewhere}
-use Rattle.robots_warnings.specs.SeveralValues.{has_several_values}
+use Rattle.robots_warnings.specs.Rules.{before_byte, begins_dot_segment, has, has_dollar_inside}
+use Rattle.robots_warnings.specs.Rules.{has_odd_start, holds_otherwise, is_expression, is_quoted, somewhere}
 use Rattle.robots_warnings.specs.Tokens.{has_space_around, is_product_token, is_usual_name}
 use Rattle.robots_warnings.specs.Urls.{begins_as_url, is_absolute_url, is_invalid_url}
+use Rattle.robots_warnings.specs.{File.is_blank, SeveralValues.has_several_values}
 
 -- a warning, and whether its condition holds
 abbrev pub Check : Type 0

@@ -1,7 +1,6 @@
 -- Rules that leave nothing but `/robots.txt` to a crawler.
 use Rattle.std.specs.Prelude.{ℕ, ◌==◌, Bool, false, not, ◌||◌, ◌&&◌, List, [], ◌∷◌, length}
-use Rattle.std.specs.List.{list_all, list_any}
-use Rattle.std.specs.Str.{byte}
+use Rattle.std.specs.{List.list_all, List.list_any, Str.byte}
 use Rattle.texting_robots.specs.Callers.{LineValue, PlacedRule, placed_rules}
 
 -- a slash or a star, and then only stars; as a pattern, it matches every text that starts with a slash

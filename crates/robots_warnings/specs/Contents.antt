@@ -2,13 +2,11 @@
 -- of a delay. Those on a raw value are for directives with a colon after the field name.
 use Rattle.std.specs.Prelude.{ℕ, ◌==◌, nat_eq, Bool, not, ◌||◌, ◌&&◌, List, bytes_eq, codes, drop, length}
 use Rattle.std.specs.Prelude.{nat_lt}
-use Rattle.std.specs.Char.{is_ascii_digit}
 use Rattle.std.specs.List.{ends_with, list_all, list_any, position_or_len, starts_with}
-use Rattle.std.specs.Str.{byte, is_utf8}
-use Rattle.robots_warnings.specs.Closed.{is_whole_site}
+use Rattle.std.specs.{Char.is_ascii_digit, Str.byte, Str.is_utf8}
 use Rattle.robots_warnings.specs.FieldNames.{without_end, without_front}
-use Rattle.robots_warnings.specs.File.{hash, tab}
 use Rattle.robots_warnings.specs.Rules.{after_byte, before_byte, begins_oddly, has}
+use Rattle.robots_warnings.specs.{Closed.is_whole_site, File.hash, File.tab}
 
 -- ---- the parts of a line's content
 

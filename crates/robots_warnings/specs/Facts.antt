@@ -1,13 +1,11 @@
 -- What the warnings have to know about a file as a whole.
-use Rattle.std.specs.Prelude.{ℕ, ◌==◌, Bool, true, false, nat_eq, nat_le, nat_lt, not, ◌||◌}
-use Rattle.std.specs.Prelude.{◌&&◌, List, [], ◌∷◌, codes, drop, if◌then◌else◌, length, take}
+use Rattle.std.specs.Prelude.{ℕ, ◌==◌, Bool, true, false, nat_eq, nat_le, nat_lt, not, ◌||◌, ◌&&◌, List, []}
+use Rattle.std.specs.Prelude.{◌∷◌, codes, drop, if◌then◌else◌, length, take}
 use Rattle.std.specs.List.{list_any, starts_with}
 use Rattle.texting_robots.specs.Callers.{Allow, CrawlDelay, Disallow, LineValue, Label, Raw, Sitemap}
 use Rattle.texting_robots.specs.Callers.{file_limit}
-use Rattle.texting_robots.specs.Cut.{cr, lf}
-use Rattle.texting_robots.specs.Group.{is_agent}
-use Rattle.robots_warnings.specs.declared.facts.FileFacts.{FileFacts}
-use Rattle.robots_warnings.specs.declared.facts.LineKinds.{LineKinds}
+use Rattle.texting_robots.specs.{Cut.cr, Cut.lf, Group.is_agent}
+use Rattle.robots_warnings.specs.declared.facts.{FileFacts.FileFacts, LineKinds.LineKinds}
 use Rattle.robots_warnings.specs.File.{is_blank, lines_of, space, tab}
 
 -- ---- the lines

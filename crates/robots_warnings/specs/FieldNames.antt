@@ -1,17 +1,15 @@
 -- Field names: which one was probably intended in an ignored line, and what is unusual about that of a
 -- directive.
-use Rattle.std.specs.Prelude.{ℕ, ◌+◌, ◌==◌, nat_eq, nat_le, Bool, not, ◌||◌, ◌&&◌}
-use Rattle.std.specs.Prelude.{List, [], ◌∷◌, Option, bytes_eq, find, if◌then◌else◌, length, map, option_map}
-use Rattle.std.specs.Prelude.{drop, reverse, slice_index, take, unwrap_or}
-use Rattle.std.specs.List.{before_first, list_any}
-use Rattle.std.specs.Option.{option_or}
+use Rattle.std.specs.Prelude.{ℕ, ◌+◌, ◌==◌, nat_eq, nat_le, Bool, not, ◌||◌, ◌&&◌, List, [], ◌∷◌, Option}
+use Rattle.std.specs.Prelude.{bytes_eq, find, if◌then◌else◌, length, map, option_map, drop, reverse}
+use Rattle.std.specs.Prelude.{slice_index, take, unwrap_or}
 use Rattle.std.specs.Str.{byte, str_to_ascii_lowercase}
+use Rattle.std.specs.{List.before_first, List.list_any, Option.option_or}
 use Rattle.strsim.specs.Edits.{levenshtein_row}
 use Rattle.texting_robots.specs.Statement.{field_names}
 use Rattle.texting_robots.specs.declared.parser.statement.Kind.{Kind}
 use Rattle.texting_robots.specs.declared.parser.statement.Kind.TheVariants as kind
-use Rattle.robots_warnings.specs.File.{space, tab}
-use Rattle.robots_warnings.specs.Rules.{before_byte, has}
+use Rattle.robots_warnings.specs.{File.space, File.tab, Rules.before_byte, Rules.has}
 use Rattle.robots_warnings.specs.declared.field_names.TheConstants.{DIRECTIVES, KINDS, UNSUPPORTED}
 use Rattle.robots_warnings.specs.declared.table.Cause.{Cause}
 use Rattle.robots_warnings.specs.declared.table.Cause.TheVariants.{InvalidDelay, UnrecognizedLine}

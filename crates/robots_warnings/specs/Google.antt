@@ -1,7 +1,6 @@
 -- Crawlers of Google to which Google applies another group than the one that applies here.
 use Rattle.std.specs.Prelude.{ℕ, Bool, false, not, ◌&&◌, List, codes, map}
-use Rattle.std.specs.List.{before_first, list_any}
-use Rattle.std.specs.Str.{str_eq_ignore_ascii_case}
+use Rattle.std.specs.{List.before_first, List.list_any, Str.str_eq_ignore_ascii_case}
 use Rattle.texting_robots.specs.Callers.{LineValue, UserAgent, is_named}
 use Rattle.robots_warnings.specs.declared.google.TheConstants.{LIKE_GOOGLEBOT, IGNORING_STAR}
 use Rattle.robots_warnings.specs.Tokens.{ends_token}

@@ -1,15 +1,12 @@
 -- Conditions on the position of a line.
 use Rattle.std.specs.Prelude.{ℕ, Bool, true, false, nat_lt, not, ◌||◌, ◌&&◌, List, [], ◌∷◌, Option, None}
-use Rattle.std.specs.Prelude.{Some}
-use Rattle.std.specs.Prelude.{◌==◌, bytes_eq, codes, if◌then◌else◌}
-use Rattle.std.specs.Option.{option_or}
-use Rattle.std.specs.Str.{str_eq_ignore_ascii_case}
+use Rattle.std.specs.Prelude.{Some, ◌==◌, bytes_eq, codes, if◌then◌else◌}
+use Rattle.std.specs.{Option.option_or, Str.str_eq_ignore_ascii_case}
 use Rattle.texting_robots.specs.Callers.{Allow, CrawlDelay, Disallow, LineValue, Label, Raw, Sitemap}
 use Rattle.texting_robots.specs.Callers.{UserAgent}
+use Rattle.texting_robots.specs.{Group.is_agent, Group.is_group, Line.delay_in}
 use Rattle.texting_robots.specs.declared.labels.Membership.{Membership}
 use Rattle.texting_robots.specs.declared.labels.Membership.TheVariants.{Ungrouped}
-use Rattle.texting_robots.specs.Group.{is_agent, is_group}
-use Rattle.texting_robots.specs.Line.{delay_in}
 use Rattle.robots_warnings.specs.declared.positions.Preceding.{Preceding}
 use Rattle.robots_warnings.specs.declared.positions.Preceding.TheVariants.{Agent, Delay, Other}
 use Rattle.robots_warnings.specs.Facts.{is_rule}

@@ -2,11 +2,9 @@
 use Rattle.std.specs.Prelude.{ℕ, Bool, true, false, not, ◌&&◌, List, [], ◌∷◌, ◌++◌, if◌then◌else◌}
 use Rattle.std.specs.List.{list_any}
 use Rattle.texting_robots.specs.Callers.{Allow, Disallow, LineValue, Label}
-use Rattle.texting_robots.specs.declared.labels.Membership.{Membership}
 use Rattle.texting_robots.specs.Group.{is_agent}
-use Rattle.robots_warnings.specs.Checks.{is_in_scope_of}
-use Rattle.robots_warnings.specs.Positions.{is_outside}
-use Rattle.robots_warnings.specs.Spellings.{is_rule_with}
+use Rattle.texting_robots.specs.declared.labels.Membership.{Membership}
+use Rattle.robots_warnings.specs.{Checks.is_in_scope_of, Positions.is_outside, Spellings.is_rule_with}
 
 -- the line is a rule, and one of the lines above it in its group is a rule of the same kind with the same
 -- value

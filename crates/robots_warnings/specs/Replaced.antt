@@ -1,15 +1,13 @@
 -- Groups of crawlers that have none of the Disallow rules of `*`.
-use Rattle.std.specs.Prelude.{ℕ, Bool, false, not, ◌||◌, ◌&&◌, List, [], ◌∷◌, ◌++◌, bytes_eq, codes}
-use Rattle.std.specs.Prelude.{filter, if◌then◌else◌, length}
-use Rattle.std.specs.List.{list_any}
-use Rattle.std.specs.Str.{str_to_ascii_lowercase}
+use Rattle.std.specs.Prelude.{ℕ, Bool, false, not, ◌||◌, ◌&&◌, List, [], ◌∷◌, ◌++◌, bytes_eq, codes, filter}
+use Rattle.std.specs.Prelude.{if◌then◌else◌, length}
+use Rattle.std.specs.{List.list_any, Str.str_to_ascii_lowercase}
 use Rattle.texting_robots.specs.Callers.{LineValue, Label, PlacedRule, placed_rules}
 use Rattle.texting_robots.specs.Group.{is_agent, is_group}
 use Rattle.robots_warnings.specs.declared.positions.Preceding.{Preceding}
 use Rattle.robots_warnings.specs.declared.positions.Preceding.TheVariants.{Agent, Delay, Other}
-use Rattle.robots_warnings.specs.Closed.{is_whole_site}
-use Rattle.robots_warnings.specs.File.{lines_of}
 use Rattle.robots_warnings.specs.Positions.{begin_with_one, name_star, preceding_with}
+use Rattle.robots_warnings.specs.{Closed.is_whole_site, File.lines_of}
 
 -- ---- the rules of `*`
 

@@ -1,7 +1,6 @@
 -- Conditions on the value of an Allow or a Disallow line.
-use Rattle.std.specs.Prelude.{ℕ, ◌+◌, ◌-◌, ◌*◌, ◌==◌, nat_eq, nat_lt, Bool, false}
-use Rattle.std.specs.Prelude.{not, ◌||◌, ◌&&◌, List, [], ◌∷◌, bytes_eq, codes}
-use Rattle.std.specs.Prelude.{length, slice_index}
+use Rattle.std.specs.Prelude.{ℕ, ◌+◌, ◌-◌, ◌*◌, ◌==◌, nat_eq, nat_lt, Bool, false, not, ◌||◌, ◌&&◌, List, []}
+use Rattle.std.specs.Prelude.{◌∷◌, bytes_eq, codes, length, slice_index}
 use Rattle.std.specs.Char.{digit_value, is_ascii_alphanumeric, is_ascii_hexdigit, is_ascii_lowercase}
 use Rattle.std.specs.List.{after_first, before_first, ends_with, list_any, starts_with}
 use Rattle.std.specs.Str.{byte}

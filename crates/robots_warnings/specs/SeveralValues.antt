@@ -1,9 +1,7 @@
 -- Values of a rule or a sitemap that seem to be several ones.
-use Rattle.std.specs.Prelude.{ℕ, ◌==◌, nat_eq, nat_le, Bool, false, ◌||◌, ◌&&◌, List, [], ◌∷◌, codes}
-use Rattle.std.specs.Prelude.{drop, slice_index}
-use Rattle.std.specs.Char.{is_ascii_alphabetic}
-use Rattle.std.specs.List.{starts_with}
-use Rattle.std.specs.Str.{byte}
+use Rattle.std.specs.Prelude.{ℕ, ◌==◌, nat_eq, nat_le, Bool, false, ◌||◌, ◌&&◌, List, [], ◌∷◌, codes, drop}
+use Rattle.std.specs.Prelude.{slice_index}
+use Rattle.std.specs.{Char.is_ascii_alphabetic, List.starts_with, Str.byte}
 use Rattle.robots_warnings.specs.Rules.{somewhere}
 
 -- the text starts with a comma, and then with a path or with `http`

@@ -1,14 +1,12 @@
 -- Rules with a nonstandard percent escape, for which the group has no rule in the standard spelling.
-use Rattle.std.specs.Prelude.{ℕ, ◌+◌, ◌*◌, ◌==◌, Bool, true, false, not, ◌&&◌, List, [], ◌∷◌, ◌++◌}
-use Rattle.std.specs.Prelude.{bytes_eq, filter, flat_map, if◌then◌else◌, map}
+use Rattle.std.specs.Prelude.{ℕ, ◌+◌, ◌*◌, ◌==◌, Bool, true, false, not, ◌&&◌, List, [], ◌∷◌, ◌++◌, bytes_eq}
+use Rattle.std.specs.Prelude.{filter, flat_map, if◌then◌else◌, map}
 use Rattle.std.specs.Char.{digit_value, is_ascii_hexdigit, to_ascii_uppercase}
-use Rattle.std.specs.List.{list_any, slice_split}
-use Rattle.std.specs.Str.{byte}
+use Rattle.std.specs.{List.list_any, List.slice_split, Str.byte}
 use Rattle.texting_robots.specs.Callers.{Allow, Disallow, LineValue, Label}
 use Rattle.texting_robots.specs.Group.{is_agent}
-use Rattle.robots_warnings.specs.Checks.{is_in_scope_of}
-use Rattle.robots_warnings.specs.File.{lines_of}
 use Rattle.robots_warnings.specs.Rules.{begins_odd_escape, needs_no_escape, somewhere}
+use Rattle.robots_warnings.specs.{Checks.is_in_scope_of, File.lines_of}
 
 -- ---- the standard spelling
 

@@ -5,9 +5,8 @@ use denote.Enum.Declared.{tag_of}
 use Rattle.robots_warnings.specs.contracts.table.Cause.{the_type}
 use Rattle.printable_text.specs.declared.level.Level.{Level}
 use Rattle.printable_text.specs.declared.level.Level.TheVariants as level
-use Rattle.robots_warnings.specs.declared.table.Cause.{Cause}
 use Rattle.robots_warnings.specs.declared.table.TheConstants.{EXAMPLES, WARNINGS}
-use Rattle.robots_warnings.specs.declared.table.Topic.{Topic}
+use Rattle.robots_warnings.specs.declared.table.{Cause.Cause, Topic.Topic}
 use Rattle.robots_warnings.specs.declared.table.Topic.TheVariants.{Meaning, Syntax}
 
 -- the index of a warning in the table

@@ -1,11 +1,9 @@
 -- The name of a crawler, in a request or in a user-agent line.
 use Rattle.std.specs.Prelude.{ℕ, ◌-◌, ◌==◌, nat_eq, Bool, not, ◌||◌, ◌&&◌, List, bytes_eq, codes, length}
 use Rattle.std.specs.Prelude.{drop, if◌then◌else◌, take}
-use Rattle.std.specs.List.{ends_with, list_all}
-use Rattle.std.specs.Char.{is_ascii_alphabetic, is_ascii_digit}
 use Rattle.std.specs.Str.{byte, str_eq_ignore_ascii_case, trim}
-use Rattle.robots_warnings.specs.Rules.{somewhere}
-use Rattle.robots_warnings.specs.Urls.{begins_in_any_case}
+use Rattle.std.specs.{List.ends_with, List.list_all, Char.is_ascii_alphabetic, Char.is_ascii_digit}
+use Rattle.robots_warnings.specs.{Rules.somewhere, Urls.begins_in_any_case}
 
 -- the text starts or ends with Unicode white space
 abbrev pub has_space_around : List ℕ → Bool

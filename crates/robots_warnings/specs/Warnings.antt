@@ -7,27 +7,21 @@ use Rattle.robots_warnings.specs.declared.positions.Preceding.{Preceding}
 use Rattle.robots_warnings.specs.declared.positions.Preceding.TheVariants.{Other}
 use Rattle.robots_warnings.specs.declared.table.Cause.{Cause}
 use Rattle.robots_warnings.specs.declared.table.Cause.TheVariants.{AllowedAndDisallowed, ClosesEverything}
-use Rattle.robots_warnings.specs.declared.table.Cause.TheVariants.{EmptyDisallow}
-use Rattle.robots_warnings.specs.declared.table.Cause.TheVariants.{GoogleIgnoresStar, GooglebotGroup}
-use Rattle.robots_warnings.specs.declared.table.Cause.TheVariants.{GroupPastSizeLimit}
+use Rattle.robots_warnings.specs.declared.table.Cause.TheVariants.{EmptyDisallow, GoogleIgnoresStar}
+use Rattle.robots_warnings.specs.declared.table.Cause.TheVariants.{GooglebotGroup, GroupPastSizeLimit}
 use Rattle.robots_warnings.specs.declared.table.Cause.TheVariants.{NonstandardEscape, RepeatedRule}
 use Rattle.robots_warnings.specs.declared.table.Cause.TheVariants.{ReplacesStar}
 use Rattle.robots_warnings.specs.declared.warning.Detail.{Detail}
 use Rattle.robots_warnings.specs.declared.warning.Detail.TheVariants.{Line, Rules}
-use Rattle.robots_warnings.specs.Closed.{is_closed}
-use Rattle.robots_warnings.specs.Conflicts.{conflict, overruled}
-use Rattle.robots_warnings.specs.EmptyDisallows.{is_empty_at}
 use Rattle.robots_warnings.specs.Google.{ignoring_star, is_given, is_named_at_google, like_googlebot}
 use Rattle.robots_warnings.specs.Checks.{Check, agent_checks, file_checks, line_checks, position_checks}
 use Rattle.robots_warnings.specs.Checks.{is_in_scope_of, url_checks}
-use Rattle.robots_warnings.specs.Facts.{suppresses_line_warnings}
-use Rattle.robots_warnings.specs.File.{lines_of}
-use Rattle.robots_warnings.specs.NamesPastLimit.{names_past_limit}
 use Rattle.robots_warnings.specs.Positions.{first_delay, last_group, preceding_with, sole_name}
-use Rattle.robots_warnings.specs.Repeated.{repeated}
 use Rattle.robots_warnings.specs.Replaced.{replacing, star_count}
-use Rattle.robots_warnings.specs.Spellings.{nonstandard_escapes}
-use Rattle.robots_warnings.specs.WarningValue.{WarningValue}
+use Rattle.robots_warnings.specs.{Closed.is_closed, Conflicts.conflict, Conflicts.overruled}
+use Rattle.robots_warnings.specs.{EmptyDisallows.is_empty_at, Facts.suppresses_line_warnings, File.lines_of}
+use Rattle.robots_warnings.specs.{NamesPastLimit.names_past_limit, Repeated.repeated}
+use Rattle.robots_warnings.specs.{Spellings.nonstandard_escapes, WarningValue.WarningValue}
 
 -- ---- warnings from checks
 

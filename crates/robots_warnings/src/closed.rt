@@ -1,9 +1,6 @@
 //! Rules that leave nothing but `/robots.txt` to a crawler.
 ghost use Rattle.std.specs.Prelude.{◌≡◌, ◌==◌, ◌||◌, ℕ, OnOk};
-ghost use Rattle.std.specs.BTreeSet.{contains};
-ghost use Rattle.std.specs.List.{list_all, list_any};
-ghost use Rattle.std.specs.Ordering.{nat_cmp};
-ghost use Rattle.std.specs.Str.{byte};
+ghost use Rattle.std.specs.{BTreeSet.contains, List.list_all, List.list_any, Ordering.nat_cmp, Str.byte};
 ghost use Rattle.texting_robots.specs.Callers.{file_lines, placed_rules};
 ghost use Rattle.robots_warnings.specs.Closed.{is_closed_for, is_closing, is_opening, is_whole_site};
 

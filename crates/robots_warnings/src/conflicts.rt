@@ -1,13 +1,11 @@
 //! Rules that contradict each other.
-ghost use Rattle.std.specs.Prelude.{◌≡◌, ◌==◌, ℕ, Bool, IfOk, List, None, OnOk, Some, codes, if◌then◌else◌, map, string_bytes};
-ghost use Rattle.std.specs.BTreeMap.{get};
-ghost use Rattle.std.specs.BTreeSet.{contains};
+ghost use Rattle.std.specs.Prelude.{◌≡◌, ◌==◌, ℕ, Bool, IfOk, List, None, OnOk, Some, codes, if◌then◌else◌};
+ghost use Rattle.std.specs.Prelude.{map, string_bytes};
 ghost use Rattle.std.specs.HashMap.{get_by_text};
-ghost use Rattle.std.specs.Option.{option_or};
-ghost use Rattle.std.specs.Ordering.{nat_cmp};
-ghost use Rattle.std.specs.Str.{bytes_eq};
+ghost use Rattle.std.specs.{BTreeMap.get, BTreeSet.contains, Option.option_or, Ordering.nat_cmp, Str.bytes_eq};
 ghost use Rattle.texting_robots.specs.Callers.{PlacedRule, file_lines, placed_rules};
-ghost use Rattle.robots_warnings.specs.Conflicts.{allow_beside, compared, conflict_for, first_line, is_like, overruled_for, overruling};
+ghost use Rattle.robots_warnings.specs.Conflicts.{allow_beside, compared, conflict_for, first_line, is_like};
+ghost use Rattle.robots_warnings.specs.Conflicts.{overruled_for, overruling};
 ghost use Rattle.robots_warnings.specs.Internal.Rules.{AddsLine, AreOf, HasFirst, Notes};
 
 use crate::closed::add_closed;

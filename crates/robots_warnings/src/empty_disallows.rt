@@ -1,7 +1,6 @@
 //! Empty Disallows, which are read as an Allow of `/`.
 ghost use Rattle.std.specs.Prelude.{◌≡◌, ℕ, IfOk, map};
-ghost use Rattle.std.specs.BTreeSet.{contains};
-ghost use Rattle.std.specs.Ordering.{nat_cmp};
+ghost use Rattle.std.specs.{BTreeSet.contains, Ordering.nat_cmp};
 ghost use Rattle.texting_robots.specs.Callers.{bodies_read, by_value, label_by_value};
 ghost use Rattle.robots_warnings.specs.EmptyDisallows.{is_empty_at, is_empty_disallow};
 

@@ -1,7 +1,6 @@
 //! Line numbers, collected from the lines for which a condition holds.
 ghost use Rattle.std.specs.Prelude.{◌≡◌, ◌==◌, ◌&&◌, ◌||◌, ◌++◌, ◌∷◌, [], ℕ, OnOk, if◌then◌else◌};
-ghost use Rattle.std.specs.BTreeSet.{contains};
-ghost use Rattle.std.specs.Ordering.{nat_cmp};
+ghost use Rattle.std.specs.{BTreeSet.contains, Ordering.nat_cmp};
 
 use std::alloc::AllocError;
 use std::collections::BTreeSet;

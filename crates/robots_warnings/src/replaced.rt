@@ -1,14 +1,13 @@
 //! Groups of crawlers that have none of the Disallow rules of `*`.
 ghost use Rattle.std.specs.Prelude.{◌≡◌, Bool, IfOk, List, OnOk, map, string_bytes, ℕ};
-ghost use Rattle.std.specs.List.{list_any};
-ghost use Rattle.std.specs.Str.{str_to_ascii_lowercase};
+ghost use Rattle.std.specs.{List.list_any, Str.str_to_ascii_lowercase};
 ghost use Rattle.texting_robots.specs.Callers.{LineValue, by_value, file_lines, label_by_value};
 ghost use Rattle.texting_robots.specs.Group.{is_group};
-ghost use Rattle.robots_warnings.specs.File.{lines_of};
-ghost use Rattle.robots_warnings.specs.Internal.Rules.{AddsDenied, AddsLacking, HasDenied, HasThose, is_kept_in};
-ghost use Rattle.robots_warnings.specs.Positions.{begin_with_one};
 ghost use Rattle.robots_warnings.specs.Replaced.{is_lacking, is_partial, is_replacing, lacks_all, replacing};
 ghost use Rattle.robots_warnings.specs.Replaced.{star_count, star_rules};
+ghost use Rattle.robots_warnings.specs.{File.lines_of, Positions.begin_with_one};
+ghost use Rattle.robots_warnings.specs.Internal.Rules.{AddsDenied, AddsLacking, HasDenied, HasThose};
+ghost use Rattle.robots_warnings.specs.Internal.Rules.{is_kept_in};
 
 use crate::closed::is_whole_site;
 use crate::names::{Names, add_name};

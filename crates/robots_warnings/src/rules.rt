@@ -1,12 +1,11 @@
 //! Conditions on the value of an Allow or a Disallow line.
 ghost use Rattle.std.specs.Prelude.{◌≡◌, ◌<◌, ◌≤◌, ◌==◌, ℕ, Bool, List, false, length, true};
 ghost use Rattle.std.specs.Char.{digit_value, is_ascii_hexdigit};
-ghost use Rattle.std.specs.Fn.{FnReturnsAt};
-ghost use Rattle.std.specs.List.{list_any, position_or_len};
-ghost use Rattle.std.specs.Str.{is_utf8};
+ghost use Rattle.std.specs.{Fn.FnReturnsAt, List.list_any, List.position_or_len, Str.is_utf8};
 ghost use Rattle.robots_warnings.specs.Rules.{after_byte, before_byte, begins_dot_segment, begins_odd_escape};
-ghost use Rattle.robots_warnings.specs.Rules.{begins_oddly, begins_sign, has, has_dollar_inside, holds_otherwise};
-ghost use Rattle.robots_warnings.specs.Rules.{is_expression, is_quoted, needs_no_escape, somewhere};
+ghost use Rattle.robots_warnings.specs.Rules.{begins_oddly, begins_sign, has, has_dollar_inside};
+ghost use Rattle.robots_warnings.specs.Rules.{holds_otherwise, is_expression, is_quoted, needs_no_escape};
+ghost use Rattle.robots_warnings.specs.Rules.{somewhere};
 
 use memchr::memchr;
 

@@ -1,9 +1,8 @@
 //! A warning, and its message as the parts of a line.
 ghost use Rattle.std.specs.Prelude.{◌≡◌, ◌++◌, OnOk, option_map, string_bytes};
-ghost use Rattle.printable_text.specs.Raw.{raw_line, raw_text};
-ghost use Rattle.printable_text.specs.Text.{part_text, parts_text};
-ghost use Rattle.robots_warnings.specs.Message.{about_part, detail_end, detail_part};
-ghost use Rattle.robots_warnings.specs.Message.{message_parts, reason_part, reported_parts, warning_text};
+ghost use Rattle.printable_text.specs.{Raw.raw_line, Raw.raw_text, Text.part_text, Text.parts_text};
+ghost use Rattle.robots_warnings.specs.Message.{about_part, detail_end, detail_part, message_parts};
+ghost use Rattle.robots_warnings.specs.Message.{reason_part, reported_parts, warning_text};
 
 use crate::table::Cause;
 use printable_text::parts::{Part, Value, push_parts};

@@ -1,25 +1,23 @@
 -- What `closes-everything`, `hash-cuts-rule` and `allowed-and-disallowed` imply; and about first lines, which
 -- `empty-disallow` has, too.
-use Rattle.std.proofs.Common.{◌≡◌, ◌≢◌, ℕ, ◌<◌, ◌==◌, ◌&&◌, ◌||◌, Bool, true, false, List, [], ◌∷◌}
-use Rattle.std.proofs.Common.{Contains, ap, arith, inl, inr, length, not, refl, subst, suc, sym, ◌⊎◌, Any}
-use Rattle.std.proofs.Common.{None, Option, Some, ap₂, bytes_eq, codes, if◌then◌else◌, ◌∙◌}
-use Rattle.std.specs.List.{list_all, list_any}
-use Rattle.std.proofs.lemmas.Bool.{cases_Bool, eqb-true, or_cases, eq-eqb}
+use Rattle.std.proofs.Common.{◌≡◌, ◌≢◌, ℕ, ◌<◌, ◌==◌, ◌&&◌, ◌||◌, Bool, true, false, List, [], ◌∷◌, Contains}
+use Rattle.std.proofs.Common.{ap, arith, inl, inr, length, not, refl, subst, suc, sym, ◌⊎◌, Any, None, Option}
+use Rattle.std.proofs.Common.{Some, ap₂, bytes_eq, codes, if◌then◌else◌, ◌∙◌}
+use Rattle.std.specs.{List.list_all, List.list_any, Str.byte, Option.option_or, Prelude.is_some}
+use Rattle.std.proofs.lemmas.{Bool.cases_Bool, Bool.eqb-true, Bool.or_cases, Bool.eq-eqb, Option.same_Some}
 use Rattle.std.proofs.lemmas.List.Folds.{Any-from_list_any, list_any-from_Any}
-use Rattle.texting_robots.specs.Callers.{AreRulesFor, IsDenied, LineValue, Matches, PlacedRule, Rule}
-use Rattle.texting_robots.specs.Callers.{escaped, placed_rules, unplaced, HoldsRule, IsDecidingLine}
-use Rattle.texting_robots.specs.Pattern.{MatchesWith, star}
+use Rattle.texting_robots.specs.Callers.{AreRulesFor, IsDenied, LineValue, Matches, PlacedRule, Rule, escaped}
+use Rattle.texting_robots.specs.Callers.{placed_rules, unplaced, HoldsRule, IsDecidingLine}
+use Rattle.texting_robots.specs.{Pattern.MatchesWith, Pattern.star, Verdict.robots_file}
 use Rattle.robots_warnings.specs.Closed.{is_closed_for, is_closing_at, is_opening, is_whole_site}
-use Rattle.warnings_laws.proofs.WarningLemmas.{both, none, one_value}
 use Rattle.robots_warnings.specs.Conflicts.{IsConflict, allow_beside, at_line, compared, conflict_for}
 use Rattle.robots_warnings.specs.Conflicts.{first_line, first_of, is_like, line_if}
+use Rattle.robots_warnings.specs.Contents.{is_cut_to_root}
+use Rattle.warnings_laws.proofs.WarningLemmas.{both, none, one_value}
 use Rattle.texting_robots.proofs.{HeldLemmas.computed_are, BestLemmas.placed_of}
-use Rattle.std.specs.{Str.byte, Option.option_or, Prelude.is_some}
-use Rattle.std.proofs.{lemmas.Option.same_Some, lemmas.Bool.Decides.nat_tests}
-use Rattle.std.proofs.{lemmas.Slice.Eq.bytes_eq-Decides}
-use Rattle.robots_needless.proofs.{TogetherLemmas.unplaced_of}
-use Rattle.texting_robots.specs.{Verdict.robots_file}
-use Rattle.robots_warnings.specs.{Contents.is_cut_to_root}
+use Rattle.std.proofs.lemmas.Bool.Decides.{nat_tests}
+use Rattle.std.proofs.lemmas.Slice.Eq.{bytes_eq-Decides}
+use Rattle.robots_needless.proofs.TogetherLemmas.{unplaced_of}
 
 -- ---- patterns
 

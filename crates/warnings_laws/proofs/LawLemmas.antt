@@ -4,27 +4,26 @@ use Rattle.std.proofs.Common.{codes, length, ltb-false, refl, subst, subst₂, s
 use Rattle.std.proofs.Common.{false, true, ◌++◌, ap, ap₂, None, Option, Some, ◌∙◌}
 use Rattle.std.proofs.lemmas.Bool.{cases_Bool, false≢true}
 use Rattle.texting_robots.specs.Callers.{IsVerdict, LineValue, PlacedRule, agents_in, placed_rules}
-use Rattle.texting_robots.specs.Callers.{file_limit, rules_for, IsFirstOverlong, IsOverlong, IsRejected}
-use Rattle.texting_robots.specs.Callers.{Rule, delay_for, lines_read, unplaced}
+use Rattle.texting_robots.specs.Callers.{file_limit, rules_for, IsFirstOverlong, IsOverlong, IsRejected, Rule}
+use Rattle.texting_robots.specs.Callers.{delay_for, lines_read, unplaced}
+use Rattle.texting_robots.specs.Decision.{IsDecisionOn}
 use Rattle.robots_needless.specs.Deleted.{AreFoundIn, HaveSameRobot, IsLeftOf}
 use Rattle.robots_needless.specs.Needless.{AreFound, AreNeedless, lines_without, numbers_of}
-use Rattle.robots_needless.proofs.LeftLemmas.{left_within, same_robot}
+use Rattle.robots_needless.proofs.{LeftLemmas.left_within, LeftLemmas.same_robot, SettledLemmas.nothing_found}
 use Rattle.audit_core.specs.Audit.{AuditValue, IsAuditOf, AgentValue, IsAgentAudit, IsRuling, IsVerdictOn}
 use Rattle.audit_core.specs.Audit.{VerdictValue, agents_requested, group_of, labels_requested, rejects_some}
 use Rattle.audit_core.specs.Audit.{warnings_found, warnings_requested}
+use Rattle.audit_core.specs.{Request.RequestValue, Asked.asked_target, Syntax.syntax_of}
 use Rattle.std.specs.List.{All, AllByRecursion as Each, AllZip}
+use Rattle.std.specs.Bool.{Decides}
 use Rattle.std.proofs.lemmas.List.Elements.{All-cons, All-nil, recursion_from_All}
 use Rattle.texting_robots.proofs.RulesLemmas.{none_unplaced, some_overlong}
 use Rattle.texting_robots.proofs.VerdictLemmas.{one_line_decides, one_verdict}
-use Rattle.robots_needless.specs.{declared.needless.NeedlessRule.NeedlessRule}
-use Rattle.robots_warnings.specs.{Facts.is_too_large}
-use Rattle.audit_core.specs.{Request.RequestValue, Asked.asked_target, Syntax.syntax_of}
-use Rattle.std.specs.{Bool.Decides}
-use Rattle.texting_robots.specs.{declared.decision.Decision.Decision}
+use Rattle.texting_robots.proofs.HeldLemmas.{rejection_is_computed}
 use Rattle.texting_robots.proofs.{BestLemmas.each_text_answered, ExampleLemmas.overlong_decides}
-use Rattle.texting_robots.proofs.{HeldLemmas.rejection_is_computed}
-use Rattle.texting_robots.specs.Decision.{IsDecisionOn}
-use Rattle.robots_needless.proofs.{SettledLemmas.nothing_found}
+use Rattle.robots_needless.specs.declared.needless.NeedlessRule.{NeedlessRule}
+use Rattle.robots_warnings.specs.Facts.{is_too_large}
+use Rattle.texting_robots.specs.declared.decision.Decision.{Decision}
 
 -- a crawler with this name decides each text as it does without the found lines
 abbrev DecidesAlike : List LineValue → List NeedlessRule → List ℕ → Type 0

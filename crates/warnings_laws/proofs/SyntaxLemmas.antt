@@ -1,47 +1,46 @@
 -- A file without warnings about its syntax follows the grammar: its start is in order, each line has a form,
 -- and each rule is below a user-agent line. What a report tells about the syntax of a file is so.
-use Rattle.std.proofs.Common.{◌≡◌, ◌≢◌, inl, inr, ℕ, suc, ◌==◌, ◌&&◌, Bool, true, false, List, [], ◌∷◌}
-use Rattle.std.proofs.Common.{◌++◌, All, nat_eq, not, refl, sym, take, zero, ◌<◌, Some, ap, arith, length}
-use Rattle.std.proofs.Common.{map, slice_get, subst, ◌∙◌, ◌||◌, None, Option, codes, flat_map}
-use Rattle.std.proofs.Common.{if◌then◌else◌, is_none}
+use Rattle.std.proofs.Common.{◌≡◌, ◌≢◌, inl, inr, ℕ, suc, ◌==◌, ◌&&◌, Bool, true, false, List, [], ◌∷◌, ◌++◌}
+use Rattle.std.proofs.Common.{All, nat_eq, not, refl, sym, take, zero, ◌<◌, Some, ap, arith, length, map}
+use Rattle.std.proofs.Common.{slice_get, subst, ◌∙◌, ◌||◌, None, Option, codes, flat_map, if◌then◌else◌}
+use Rattle.std.proofs.Common.{is_none}
 use Rattle.std.specs.List.{AllByRecursion as Each, list_any, starts_with, Contains, AllZip}
 use Rattle.std.proofs.lemmas.Bool.{and_parts, cases_Bool, eqb-false, eqb-true, false≢true, ne_eqb, or_parts}
 use Rattle.std.proofs.lemmas.Bool.{not-true, ltb-false, not-false, or_from}
+use Rattle.std.proofs.lemmas.{List.map-append, List.take_all, Option.slice_get-map}
 use Rattle.robots_warnings.specs.Facts.{has_damaged_mark, mark, is_rule, suppresses_line_warnings, facts_of}
 use Rattle.robots_warnings.specs.Facts.{is_too_large}
-use Rattle.std.proofs.lemmas.List.{map-append, take_all}
+use Rattle.robots_warnings.specs.Positions.{is_above_agents, is_outside, first_delay, preceding_with}
+use Rattle.robots_warnings.specs.Positions.{sole_name, last_group}
+use Rattle.robots_warnings.specs.Checks.{Check, file_checks, line_checks, position_checks}
+use Rattle.robots_warnings.specs.Table.{is_not_about_syntax, topic_of}
+use Rattle.robots_warnings.specs.Warnings.{line_warnings, lines_warnings, positions_from, warned, warning_of}
+use Rattle.robots_warnings.specs.Warnings.{agent_warnings, file_lines_warnings, general_warnings}
+use Rattle.robots_warnings.specs.Warnings.{group_warnings, past_limit_warnings, position_warnings}
+use Rattle.robots_warnings.specs.Warnings.{url_warnings, warnings}
+use Rattle.robots_warnings.specs.{File.lines_of, File.labels_for, WarningValue.WarningValue}
 use Rattle.texting_robots.specs.Callers.{Allow, Disallow, Label, LineValue, UserAgent, IsLineOf}
 use Rattle.texting_robots.specs.Callers.{IsRobotOfFile, RobotValue, file_bodies, file_limit, group_name}
 use Rattle.texting_robots.specs.Callers.{lines_read}
-use Rattle.texting_robots.specs.Group.{is_agent, passes_at}
+use Rattle.texting_robots.specs.{Group.is_agent, Group.passes_at, Line.without_front, Labels.AreLabelsOf}
 use Rattle.rfc9309_laws.specs.LineForms.{AreRulesBelowAgents, Form, HasForm, AreForms}
-use Rattle.robots_warnings.specs.File.{lines_of, labels_for}
-use Rattle.robots_warnings.specs.Positions.{is_above_agents, is_outside, first_delay, preceding_with}
-use Rattle.robots_warnings.specs.Positions.{sole_name, last_group}
+use Rattle.rfc9309_laws.specs.Rfc9309.{Group, IsFile}
 use Rattle.warnings_laws.specs.Syntax.{form_of, AreQuiet, IsNotAboutSyntax, is_quiet, HasSyntax}
 use Rattle.warnings_laws.specs.Syntax.{IsRobotStated, IsSilentOn, warnings_of}
-use Rattle.robots_warnings.specs.Checks.{Check, file_checks, line_checks, position_checks}
-use Rattle.robots_warnings.specs.Table.{is_not_about_syntax, topic_of}
-use Rattle.robots_warnings.specs.Warnings.{line_warnings, lines_warnings, positions_from, warned}
-use Rattle.robots_warnings.specs.Warnings.{warning_of, agent_warnings, file_lines_warnings}
-use Rattle.robots_warnings.specs.Warnings.{general_warnings, group_warnings, past_limit_warnings}
-use Rattle.robots_warnings.specs.Warnings.{position_warnings, url_warnings, warnings}
-use Rattle.rfc9309_laws.specs.Rfc9309.{Group, IsFile}
-use Rattle.audit_core.specs.Audit.{AuditValue, IsAuditOf, agents_requested, labeling_agent}
-use Rattle.audit_core.specs.Audit.{labels_requested, rejects_some, warnings_found}
+use Rattle.audit_core.specs.Audit.{AuditValue, IsAuditOf, agents_requested, labeling_agent, labels_requested}
+use Rattle.audit_core.specs.Audit.{rejects_some, warnings_found}
 use Rattle.audit_core.specs.Syntax.{has_syntax_warning, is_about_syntax, is_standard, syntax_of}
-use Rattle.warnings_laws.proofs.QuietLemmas.{each_back, second}
-use Rattle.std.proofs.{lemmas.List.Elements.All-from_recursion, lemmas.Option.slice_get-map}
-use Rattle.texting_robots.specs.{Line.without_front, Labels.AreLabelsOf}
-use Rattle.texting_robots.proofs.{CapturedLemmas.some_passes, LabelLemmas.each_line_has_its_label}
-use Rattle.texting_robots.proofs.{LineLemmas.lines_of_file_bodies}
-use Rattle.warnings_laws.proofs.{WarningLemmas.below_agent, FormLemmas.line_form}
-use Rattle.rfc9309_laws.proofs.{SyntaxLemmas.each_front, LineFormLemmas.forms_make_file}
-use Rattle.rfc9309_laws.proofs.{RobotLemmas.forms_robot}
-use Rattle.robots_warnings.specs.{WarningValue.WarningValue, declared.facts.FileFacts.FileFacts}
-use Rattle.robots_warnings.specs.{declared.positions.Preceding.Preceding}
-use Rattle.robots_warnings.specs.{declared.positions.Preceding.TheVariants.Other}
 use Rattle.audit_core.specs.{Request.RequestValue, Needless.needless_warning}
+use Rattle.warnings_laws.proofs.QuietLemmas.{each_back, second}
+use Rattle.warnings_laws.proofs.{WarningLemmas.below_agent, FormLemmas.line_form}
+use Rattle.std.proofs.lemmas.List.Elements.{All-from_recursion}
+use Rattle.texting_robots.proofs.LabelLemmas.{each_line_has_its_label}
+use Rattle.texting_robots.proofs.{CapturedLemmas.some_passes, LineLemmas.lines_of_file_bodies}
+use Rattle.rfc9309_laws.proofs.LineFormLemmas.{forms_make_file}
+use Rattle.rfc9309_laws.proofs.{SyntaxLemmas.each_front, RobotLemmas.forms_robot}
+use Rattle.robots_warnings.specs.declared.facts.FileFacts.{FileFacts}
+use Rattle.robots_warnings.specs.declared.positions.Preceding.{Preceding}
+use Rattle.robots_warnings.specs.declared.positions.Preceding.TheVariants.{Other}
 use Rattle.rfc9309_laws.specs.Rfc9309 as rfc
 use Rattle.rfc9309_laws.specs.LineForms as form
 

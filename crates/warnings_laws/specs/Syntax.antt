@@ -8,12 +8,8 @@ use Rattle.rfc9309_laws.specs.LineForms as form
 use Rattle.rfc9309_laws.specs.LineForms.{Form}
 use Rattle.rfc9309_laws.specs.Rfc9309 as rfc
 use Rattle.rfc9309_laws.specs.StandardRobot.{IsFileWith, IsRobotAs}
-use Rattle.robots_warnings.specs.Checks.{Check, line_checks}
-use Rattle.robots_warnings.specs.Facts.{facts_of}
-use Rattle.robots_warnings.specs.File.{labels_for}
-use Rattle.robots_warnings.specs.Table.{is_not_about_syntax}
-use Rattle.robots_warnings.specs.Warnings.{warnings}
-use Rattle.robots_warnings.specs.WarningValue.{WarningValue}
+use Rattle.robots_warnings.specs.{Checks.Check, Checks.line_checks, Facts.facts_of, File.labels_for}
+use Rattle.robots_warnings.specs.{Table.is_not_about_syntax, Warnings.warnings, WarningValue.WarningValue}
 
 -- ---- warnings about syntax
 

@@ -1,36 +1,27 @@
 //! Theorems about the specification, each written as the contract of an empty function.
-ghost use Rattle.std.specs.Prelude.{[], All, Any, Bool, codes, Contains, false, if◌then◌else◌, IsSome, IsTrue, List};
-ghost use Rattle.std.specs.Prelude.{not, slice_get, Some, take, true, ℕ, ◌+◌, ◌↔◌, ◌∷◌, ◌≡◌, ◌≢◌};
-ghost use Rattle.std.specs.List.{count_by};
-ghost use Rattle.std.specs.Str.{byte, is_utf8, IsUtf8, str_to_ascii_lowercase};
-ghost use Rattle.texting_robots.specs.Callers.{Allow, AreLabelsOf, AreRulesFor, Disallow, escaped};
-ghost use Rattle.texting_robots.specs.Callers.{file_limit, file_lines, HoldsRule, is_named, IsDecidingLine};
-ghost use Rattle.texting_robots.specs.Callers.{IsDenied, IsRobotOfFile, IsVerdict, Label, LineValue, Matches};
+ghost use Rattle.std.specs.Prelude.{[], All, Any, Bool, codes, Contains, false, if◌then◌else◌, IsSome, IsTrue};
+ghost use Rattle.std.specs.Prelude.{List, not, slice_get, Some, take, true, ℕ, ◌+◌, ◌↔◌, ◌∷◌, ◌≡◌, ◌≢◌};
+ghost use Rattle.std.specs.{List.count_by, Str.byte, Str.is_utf8, Str.IsUtf8, Str.str_to_ascii_lowercase};
+ghost use Rattle.texting_robots.specs.Callers.{Allow, AreLabelsOf, AreRulesFor, Disallow, escaped, file_limit};
+ghost use Rattle.texting_robots.specs.Callers.{file_lines, HoldsRule, is_named, IsDecidingLine, IsDenied};
+ghost use Rattle.texting_robots.specs.Callers.{IsRobotOfFile, IsVerdict, Label, LineValue, Matches};
 ghost use Rattle.texting_robots.specs.Callers.{PlacedRule, RobotValue, Rule, agents_in, lines_read};
 ghost use Rattle.texting_robots.specs.Callers.{bodies_read, delay_for, rules_for, unplaced, UserAgent};
-ghost use Rattle.texting_robots.specs.Labels.{IsInOwnGroup};
-ghost use Rattle.texting_robots.specs.Verdict.{robots_file};
+ghost use Rattle.texting_robots.specs.{Labels.IsInOwnGroup, Verdict.robots_file};
 ghost use Rattle.robots_needless.specs.Deleted.{HaveSameRobot, IsLeftOf};
 ghost use Rattle.robots_needless.specs.Needless.{lines_without, numbers_of};
 ghost use Rattle.rfc9309_laws.specs.Rfc9309.{Group, IsFile};
 ghost use Rattle.warnings_laws.specs.Syntax.{IsRobotStated};
-ghost use Rattle.robots_warnings.specs.Closed.{is_closed_for};
 ghost use Rattle.robots_warnings.specs.Conflicts.{IsConflict, IsOverruled, conflict, overruled, overruled_for};
-ghost use Rattle.robots_warnings.specs.Contents.{is_cut_to_root};
 ghost use Rattle.robots_warnings.specs.EmptyDisallows.{IsEmptyDisallow, is_empty_at, stated_rules};
-ghost use Rattle.robots_warnings.specs.NamesPastLimit.{names_past_limit};
-ghost use Rattle.robots_warnings.specs.Positions.{is_above_agents};
-ghost use Rattle.robots_warnings.specs.Repeated.{repeated};
-ghost use Rattle.robots_warnings.specs.Replaced.{replacing, star_count};
-ghost use Rattle.robots_warnings.specs.Rules.{begins_oddly, has_dollar_inside};
-ghost use Rattle.robots_warnings.specs.Tokens.{has_space_around};
-ghost use Rattle.robots_warnings.specs.Urls.{is_invalid_url};
-ghost use Rattle.robots_warnings.specs.Warnings.{position_warnings, warned_at};
+ghost use Rattle.robots_warnings.specs.{Closed.is_closed_for, Contents.is_cut_to_root};
+ghost use Rattle.robots_warnings.specs.{NamesPastLimit.names_past_limit, Positions.is_above_agents};
+ghost use Rattle.robots_warnings.specs.{Repeated.repeated, Replaced.replacing, Replaced.star_count};
+ghost use Rattle.robots_warnings.specs.{Rules.begins_oddly, Rules.has_dollar_inside, Tokens.has_space_around};
+ghost use Rattle.robots_warnings.specs.{Urls.is_invalid_url, Warnings.position_warnings, Warnings.warned_at};
 ghost use Rattle.robots_warnings.specs.declared.table.Cause.TheVariants.{TwoDelays};
-ghost use Rattle.audit_core.specs.Asked.{asked_target};
 ghost use Rattle.audit_core.specs.Audit.{AuditValue, IsAuditOf};
-ghost use Rattle.audit_core.specs.Request.{RequestValue};
-ghost use Rattle.audit_core.specs.Syntax.{is_standard};
+ghost use Rattle.audit_core.specs.{Asked.asked_target, Request.RequestValue, Syntax.is_standard};
 
 /// Without `--needless`, a request and a file have at most one audit, and so at most one report; with it, at most one for
 /// each list of needless rules.

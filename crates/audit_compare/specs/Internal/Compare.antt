@@ -1,16 +1,12 @@
 -- The comparison of two files as the code does it.
-use Rattle.std.specs.Prelude.{◌≡◌, ℕ, Bool, List, flat_map, if◌then◌else◌, map}
-use Rattle.std.specs.Prelude.{string_bytes, take}
-use Rattle.std.specs.BTreeSet.{contains_text}
-use Rattle.std.specs.List.{AllZip, list_all, list_any}
-use Rattle.texting_robots.specs.Callers.{PlacedRule, Rule, file_limit, label_by_value}
-use Rattle.texting_robots.specs.Callers.{lines_read}
+use Rattle.std.specs.Prelude.{◌≡◌, ℕ, Bool, List, flat_map, if◌then◌else◌, map, string_bytes, take}
+use Rattle.std.specs.{BTreeSet.contains_text, List.AllZip, List.list_all, List.list_any}
+use Rattle.texting_robots.specs.Callers.{PlacedRule, Rule, file_limit, label_by_value, lines_read}
 use Rattle.texting_robots.specs.Group.{is_agent}
 use Rattle.robots_warnings.specs.File.{lines_of}
 use Rattle.printable_text.specs.Text.{written}
 use Rattle.audit_compare.specs.declared.compare.Comparison.{Comparison}
-use Rattle.audit_compare.specs.declared.compared.Compared.{Compared}
-use Rattle.audit_compare.specs.declared.compared.Version.{Version}
+use Rattle.audit_compare.specs.declared.compared.{Compared.Compared, Version.Version}
 use Rattle.audit_compare.specs.declared.rule_sets.RuleSet.{RuleSet}
 use Rattle.audit_compare.specs.Compare.{ComparedValue, IsCompared, agent_lines, has_rule, is_rejected}
 use Rattle.audit_compare.specs.Compare.{is_unchanged}

@@ -1,8 +1,6 @@
 -- The list of the names found so far, and the set that contains them in lower case.
 use Rattle.std.specs.Prelude.{◌≡◌, ℕ, Bool, List, bytes_eq}
-use Rattle.std.specs.BTreeSet.{BTreeSet, contains}
-use Rattle.std.specs.List.{list_any}
-use Rattle.std.specs.Str.{str_to_ascii_lowercase}
+use Rattle.std.specs.{BTreeSet.BTreeSet, BTreeSet.contains, List.list_any, Str.str_to_ascii_lowercase}
 use Rattle.texting_robots.specs.Callers.{LineValue}
 use Rattle.robots_warnings.specs.Internal.Names.{Key, key_cmp}
 use Rattle.audit_core.specs.Audit.{with_name}

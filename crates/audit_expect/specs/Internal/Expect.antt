@@ -1,7 +1,6 @@
 -- The expectations as the code finds them.
 use Rattle.std.specs.Prelude.{◌≡◌, ℕ, ◌<◌, true, false, List, length, slice_index, string_bytes}
-use Rattle.audit_core.specs.declared.fault.Entry.{Entry}
-use Rattle.audit_core.specs.declared.fault.Fault.{Fault}
+use Rattle.audit_core.specs.declared.fault.{Entry.Entry, Fault.Fault}
 use Rattle.audit_core.specs.declared.fault.Fault.TheVariants.{Empty, Memory}
 use Rattle.audit_expect.specs.declared.expect.Expectation.{Expectation}
 use Rattle.audit_expect.specs.Expect.{ExpectationValue, is_in}

@@ -4,14 +4,13 @@
 ghost use Rattle.std.specs.Prelude.{◌≡◌, ◌++◌, [], OnOk};
 ghost use Rattle.html_writer.specs.Html.{escaped, tag_close, tag_open};
 ghost use Rattle.printable_text.specs.Raw.{raw_value};
-ghost use Rattle.audit_page.specs.Internal.{raw_part, raw_parts};
 ghost use Rattle.audit_page.specs.Page.{of_cause, warning_row};
-ghost use Rattle.audit_page.specs.Tree.{field_bytes, written};
+ghost use Rattle.audit_page.specs.{Internal.raw_part, Internal.raw_parts, Tree.field_bytes, Tree.written};
 
-use itoa::Buffer;
 use html_writer::write::{push_attribute, push_close, push_open, push_text};
-use printable_text::sanitize::push_sanitized;
+use itoa::Buffer;
 use printable_text::parts::{Part, Value, push_parts};
+use printable_text::sanitize::push_sanitized;
 use robots_warnings::table::Cause;
 use std::alloc::{AllocError, Global};
 

@@ -1,8 +1,6 @@
 use Rattle.std.proofs.Common.{refl, subst, sym}
-use Rattle.std.specs.Prelude.{IsTrue}
-use Rattle.std.specs.List.{list_all}
-use Rattle.audit_core.specs.Crawler.{is_crawler_name}
-use Rattle.audit_core.specs.Request.{RequestValue, requested_by}
+use Rattle.std.specs.{Prelude.IsTrue, List.list_all}
+use Rattle.audit_core.specs.{Crawler.is_crawler_name, Request.RequestValue, Request.requested_by}
 use Rattle.robots_audit.proofs.AnswerLemmas.{if_ok}
 use Rattle.robots_audit.proofs.compared.Goals as goal
 

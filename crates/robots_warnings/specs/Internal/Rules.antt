@@ -3,23 +3,15 @@
 -- patterns.
 use Rattle.std.specs.Prelude.{◌≡◌, ℕ, ◌==◌, Bool, List, None, Option, String, true, if◌then◌else◌, not, ◌||◌}
 use Rattle.std.specs.Prelude.{◌&&◌, bytes_eq}
-use Rattle.std.specs.BTreeMap.{BTreeMap, get}
-use Rattle.std.specs.BTreeSet.{contains, BTreeSet}
-use Rattle.std.specs.Global.{Global}
-use Rattle.std.specs.HashMap.{HashMap, get_by_text}
-use Rattle.std.specs.Option.{option_or}
-use Rattle.std.specs.Ordering.{nat_cmp}
+use Rattle.std.specs.{BTreeMap.BTreeMap, BTreeMap.get, BTreeSet.contains, BTreeSet.BTreeSet, Global.Global}
+use Rattle.std.specs.{HashMap.HashMap, HashMap.get_by_text, Option.option_or, Ordering.nat_cmp}
+use Rattle.std.specs.{HashSet.HashSet, HashSet.contains_text, List.list_any, Str.str_to_ascii_lowercase}
 use Rattle.texting_robots.specs.Callers.{LineValue, PlacedRule}
 use Rattle.robots_warnings.specs.declared.conflicts.RuleLines.{RuleLines}
-use Rattle.robots_warnings.specs.Closed.{is_closed, is_whole_site}
-use Rattle.robots_warnings.specs.WarningValue.{WarningValue}
-use Rattle.robots_warnings.specs.Warnings.{rule_warnings}
 use Rattle.robots_warnings.specs.Conflicts.{conflict, first_line, is_like, line_if, overruled}
-use Rattle.std.specs.HashSet.{HashSet, contains_text}
-use Rattle.std.specs.List.{list_any}
-use Rattle.std.specs.Str.{str_to_ascii_lowercase}
+use Rattle.robots_warnings.specs.{Closed.is_closed, Closed.is_whole_site, WarningValue.WarningValue}
+use Rattle.robots_warnings.specs.{Warnings.rule_warnings, Replaced.denies, Replaced.lacks_all}
 use Rattle.robots_warnings.specs.Internal.Names.{Key, key_cmp}
-use Rattle.robots_warnings.specs.Replaced.{denies, lacks_all}
 
 -- a map from patterns to lines, for any hash function
 abbrev pub Lines : Type 0 → Type 0

@@ -1,16 +1,13 @@
 -- Sets of the values of rules, and the rules of a group that were seen so far.
 use Rattle.std.specs.Prelude.{◌≡◌, ℕ, Bool, List, ◌||◌, bytes_eq, false, true, ◌++◌}
 use Rattle.std.specs.HashSet as hash
-use Rattle.std.specs.HashSet.{HashSet}
-use Rattle.std.specs.List.{list_any}
+use Rattle.std.specs.{HashSet.HashSet, List.list_any, BTreeSet.BTreeSet, BTreeSet.contains}
 use Rattle.texting_robots.specs.Callers.{LineValue, Allow, Disallow, Label}
 use Rattle.robots_warnings.specs.declared.values.Value.{Value}
-use Rattle.robots_warnings.specs.Spellings.{is_rule_with}
-use Rattle.std.specs.BTreeSet.{BTreeSet, contains}
-use Rattle.robots_warnings.specs.Internal.Names.{Key, key_cmp}
-use Rattle.robots_warnings.specs.Rules.{begins_odd_escape, somewhere}
-use Rattle.robots_warnings.specs.declared.repeated.Seen.{Seen}
 use Rattle.robots_warnings.specs.Repeated.{above_next, is_repeated, repeated, repeated_from}
+use Rattle.robots_warnings.specs.{Spellings.is_rule_with, Rules.begins_odd_escape, Rules.somewhere}
+use Rattle.robots_warnings.specs.Internal.Names.{Key, key_cmp}
+use Rattle.robots_warnings.specs.declared.repeated.Seen.{Seen}
 
 abbrev pub value_eq : Value → Value → Bool
 value_eq one two = bytes_eq one.bytes.now two.bytes.now

@@ -1,7 +1,6 @@
 use Rattle.std.proofs.Common.{ap, codes, map, ◌∙◌}
 use Rattle.std.specs.List.{list_any}
-use Rattle.texting_robots.specs.Callers.{label_by_value, lines_read}
-use Rattle.texting_robots.specs.Group.{is_agent}
+use Rattle.texting_robots.specs.{Callers.label_by_value, Callers.lines_read, Group.is_agent}
 use Rattle.robots_warnings.specs.File.{lines_of}
 use Rattle.audit_core.proofs.AuditLemmas.{lines_labeled}
 use Rattle.audit_compare.proofs.compared.read_version.Goals as goal

@@ -1,8 +1,7 @@
 use Rattle.std.proofs.Common.{◌≡◌, ◌∙◌, ℕ, ◌+◌, ◌<◌, ◌||◌, Bool, List, String, ap, bytes_eq, get_or, length}
 use Rattle.std.proofs.Common.{refl, string_bytes, sym, take, true}
 use Rattle.std.specs.BTreeSet.{BTreeSet, Updates, contains_text}
-use Rattle.std.specs.Global.{Global}
-use Rattle.std.specs.String.{string_cmp}
+use Rattle.std.specs.{Global.Global, String.string_cmp}
 use Rattle.std.proofs.Math.Bool.{beq}
 use Rattle.std.proofs.lemmas.Bool.{not-false}
 use Rattle.std.proofs.lemmas.List.Folds.{list_any_more}

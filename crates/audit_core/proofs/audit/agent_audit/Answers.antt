@@ -1,7 +1,6 @@
 use Rattle.std.proofs.Common.{None, ap, refl, string_bytes, sym, ◌∙◌}
 use Rattle.std.specs.List.{list_any}
-use Rattle.texting_robots.specs.Callers.{RobotValue, file_lines}
-use Rattle.texting_robots.specs.Group.{is_agent}
+use Rattle.texting_robots.specs.{Callers.RobotValue, Callers.file_lines, Group.is_agent}
 use Rattle.audit_core.specs.Audit.{group_of}
 use Rattle.audit_core.proofs.AuditLemmas.{agent_made, delay_read}
 use Rattle.audit_core.proofs.audit.agent_audit.Goals as goal

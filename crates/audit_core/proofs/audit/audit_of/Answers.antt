@@ -1,7 +1,6 @@
 use Rattle.std.proofs.Common.{ap, map, string_bytes, ◌∙◌}
 use Rattle.std.specs.List.{list_any}
-use Rattle.texting_robots.specs.Callers.{lines_read, label_by_value}
-use Rattle.texting_robots.specs.Group.{is_agent}
+use Rattle.texting_robots.specs.{Callers.lines_read, Callers.label_by_value, Group.is_agent}
 use Rattle.audit_core.specs.Request.{requested_by}
 use Rattle.audit_core.proofs.AuditLemmas.{lines_labeled, names_requested}
 use Rattle.robots_warnings.specs.File.{lines_of}

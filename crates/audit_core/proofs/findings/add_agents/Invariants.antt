@@ -1,6 +1,5 @@
 use Rattle.std.proofs.Common.{◌≡◌, ◌++◌, flat_map, map, take}
-use Rattle.audit_core.specs.Findings.{agent_findings, found_value}
-use Rattle.audit_core.specs.Findings.{finding_value}
+use Rattle.audit_core.specs.Findings.{agent_findings, found_value, finding_value}
 use Rattle.audit_core.proofs.findings.add_agents.Given as goal
 
 abbrev pub invariant-loop-agent : goal.invariant-loop-agent

@@ -1,6 +1,5 @@
 use Rattle.std.proofs.Common.{◌≡◌, ◌++◌, flat_map, map, take}
-use Rattle.audit_core.specs.Findings.{denials, found_value}
-use Rattle.audit_core.specs.Findings.{finding_value}
+use Rattle.audit_core.specs.Findings.{denials, found_value, finding_value}
 use Rattle.audit_core.proofs.findings.add_denials.Given as goal
 
 abbrev pub invariant-loop-verdict : goal.invariant-loop-verdict

@@ -1,6 +1,5 @@
 use Rattle.std.proofs.Common.{◌≡◌, ◌++◌, map, take}
-use Rattle.audit_core.specs.Findings.{warning_findings, found_value}
-use Rattle.audit_core.specs.Findings.{finding_value}
+use Rattle.audit_core.specs.Findings.{warning_findings, found_value, finding_value}
 use Rattle.audit_core.proofs.findings.add_warnings.Given as goal
 
 abbrev pub invariant-loop-warning : goal.invariant-loop-warning

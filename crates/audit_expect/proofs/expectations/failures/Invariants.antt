@@ -1,7 +1,6 @@
 use Rattle.std.proofs.Common.{map, string_bytes, take}
 use Rattle.audit_core.specs.Internal.{IsReading}
-use Rattle.audit_expect.specs.Internal.Expect.{expectation_value}
-use Rattle.audit_expect.specs.Internal.Expectations.{AreFailuresOn}
+use Rattle.audit_expect.specs.Internal.{Expect.expectation_value, Expectations.AreFailuresOn}
 use Rattle.audit_expect.proofs.expectations.failures.Given as goal
 
 abbrev pub invariant-loop-expectation : goal.invariant-loop-expectation

@@ -1,6 +1,5 @@
 use Rattle.std.proofs.Common.{◌≡◌, ◌+◌, ◌≤◌, length, map}
-use Rattle.audit_expect.specs.Expect.{entries_from, lines}
-use Rattle.audit_expect.specs.UrlList.{url_in}
+use Rattle.audit_expect.specs.{Expect.entries_from, Expect.lines, UrlList.url_in}
 use Rattle.audit_expect.proofs.ExpectLemmas.{after_these}
 use Rattle.audit_expect.proofs.url_list.line_urls.Given as goal
 

@@ -1,6 +1,5 @@
 use Rattle.std.proofs.Common.{◌≡◌, ◌++◌, length, map}
-use Rattle.audit_json.specs.Internal.{rule_value}
-use Rattle.audit_json.specs.Sarif.{rules_of}
+use Rattle.audit_json.specs.{Internal.rule_value, Sarif.rules_of}
 use Rattle.audit_json.proofs.sarif.add_rules.Given as goal
 
 abbrev pub invariant-loop-rest : goal.invariant-loop-rest

@@ -1,7 +1,6 @@
 use Rattle.std.proofs.Common.{◌≡◌, map, take}
 use Rattle.serde_json.specs.View.{view}
-use Rattle.audit_json.specs.Internal.{rule_value}
-use Rattle.audit_json.specs.Sarif.{rule_json}
+use Rattle.audit_json.specs.{Internal.rule_value, Sarif.rule_json}
 use Rattle.audit_json.proofs.sarif.rules_json.Given as goal
 
 abbrev pub invariant-loop-rule : goal.invariant-loop-rule

@@ -1,8 +1,6 @@
 use Rattle.std.proofs.Common.{◌≡◌, ◌++◌, map, string_bytes, take}
-use Rattle.printable_text.specs.Lines.{ended}
-use Rattle.printable_text.specs.Text.{level_text, named_text}
-use Rattle.audit_text.specs.Listed.{listed}
-use Rattle.audit_text.specs.Report.{more_line, shown_warning}
+use Rattle.printable_text.specs.{Lines.ended, Text.level_text, Text.named_text}
+use Rattle.audit_text.specs.{Listed.listed, Report.more_line, Report.shown_warning}
 use Rattle.audit_text.proofs.report.listed_lines.Given as goal
 
 abbrev pub invariant-loop-more : goal.invariant-loop-more

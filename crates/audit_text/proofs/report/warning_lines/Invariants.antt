@@ -1,6 +1,5 @@
 use Rattle.std.proofs.Common.{◌≡◌, map, string_bytes, take}
-use Rattle.printable_text.specs.Lines.{ended}
-use Rattle.printable_text.specs.Text.{level_text}
+use Rattle.printable_text.specs.{Lines.ended, Text.level_text}
 use Rattle.audit_text.specs.Report.{shown_warning}
 use Rattle.audit_text.proofs.report.warning_lines.Given as goal
 

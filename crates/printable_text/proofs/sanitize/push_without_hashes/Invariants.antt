@@ -1,6 +1,5 @@
 use Rattle.std.proofs.Common.{◌≡◌, ◌++◌, flat_map, string_bytes}
-use Rattle.std.specs.Io.{StartsWith}
-use Rattle.std.specs.Str.{encode_utf8_all}
+use Rattle.std.specs.{Io.StartsWith, Str.encode_utf8_all}
 use Rattle.printable_text.specs.Sanitize.{without_hash}
 use Rattle.printable_text.proofs.sanitize.push_without_hashes.Given as goal
 

@@ -1,8 +1,6 @@
 use Rattle.std.proofs.Common.{IsUtf8, SFits, rules, w64, ◌∙◌}
-use Rattle.std.proofs.lemmas.Int.{to_z-of_z}
-use Rattle.std.proofs.lemmas.List.{drop_all, drop_more}
+use Rattle.std.proofs.lemmas.{Int.to_z-of_z, List.drop_all, List.drop_more, Result.err_from_is_err_and}
 use Rattle.std.proofs.lemmas.List.Elements.{All-head}
-use Rattle.std.proofs.lemmas.Result.{err_from_is_err_and}
 use Rattle.robots_c.proofs.BatchLemmas.{all_so_far, count_pieces, one_more_end, only_memory}
 use Rattle.robots_c.proofs.NumberLemmas.{as_many}
 use Rattle.robots_c.proofs.batch.numbers_at.Goals as goal

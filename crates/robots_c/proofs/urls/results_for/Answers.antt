@@ -1,8 +1,7 @@
 use Rattle.std.proofs.Common.{SFits, arith, rules, w64}
-use Rattle.std.proofs.lemmas.Int.{to_z-of_z}
+use Rattle.std.proofs.lemmas.{Int.to_z-of_z, List.length_push}
 use Rattle.std.proofs.lemmas.Iterator.Consumers.{YieldsList-at, YieldsList-end, YieldsList-turn}
 use Rattle.std.proofs.lemmas.Iterator.Splits.{YieldsList-from_str_split}
-use Rattle.std.proofs.lemmas.List.{length_push}
 use Rattle.std.proofs.Math.Seq.{take-length}
 use Rattle.robots_c.proofs.NumberLemmas.{as_many, lines_fit, one_more}
 use Rattle.robots_c.proofs.urls.results_for.Goals as goal

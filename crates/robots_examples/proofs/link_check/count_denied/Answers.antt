@@ -1,6 +1,5 @@
-use Rattle.std.proofs.Common.{◌≡◌, ◌+◌, ◌<◌, ℕ, Bool, List, [], arith, drop}
-use Rattle.std.proofs.Common.{if◌then◌else◌}
-use Rattle.std.proofs.Common.{length, map, refl, slice_index_or, slice_set, subst, sum_by, take}
+use Rattle.std.proofs.Common.{◌≡◌, ◌+◌, ◌<◌, ℕ, Bool, List, [], arith, drop, if◌then◌else◌, length, map, refl}
+use Rattle.std.proofs.Common.{slice_index_or, slice_set, subst, sum_by, take}
 use Rattle.std.proofs.lemmas.List.{drop-set-lt, drop_all, drop_more, take_more, take_more_set}
 use Rattle.std.proofs.lemmas.List.Sums.{sum_by_push}
 use Rattle.std.proofs.lemmas.Slice.Zip.{all_zipped_more}

@@ -1,6 +1,5 @@
 use Rattle.std.proofs.Common.{All, subst}
-use Rattle.std.proofs.lemmas.Bool.{ne_eqb}
-use Rattle.std.proofs.lemmas.List.{take_all}
+use Rattle.std.proofs.lemmas.{Bool.ne_eqb, List.take_all}
 use Rattle.std.proofs.lemmas.List.Elements.{All-more}
 use Rattle.robots_needless.specs.Internal.{IsPlainByte}
 use Rattle.robots_needless.proofs.rule.is_plain.Goals as goal

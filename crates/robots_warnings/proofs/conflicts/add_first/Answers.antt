@@ -1,6 +1,5 @@
 use Rattle.std.proofs.Common.{List, ap, sym, ℕ, ◌∙◌}
-use Rattle.std.specs.HashMap.{get_by_text}
-use Rattle.std.specs.Prelude.{is_some}
+use Rattle.std.specs.{HashMap.get_by_text, Prelude.is_some}
 use Rattle.robots_warnings.proofs.RuleLemmas.{first_added}
 use Rattle.robots_warnings.proofs.conflicts.add_first.Goals as goal
 

@@ -1,8 +1,5 @@
 use Rattle.std.proofs.Common.{◌≡◌, ℕ}
-use Rattle.std.specs.BTreeMap.{get}
-use Rattle.std.specs.BTreeSet.{contains}
-use Rattle.std.specs.Option.{option_or}
-use Rattle.std.specs.Ordering.{nat_cmp}
+use Rattle.std.specs.{BTreeMap.get, BTreeSet.contains, Option.option_or, Ordering.nat_cmp}
 use Rattle.texting_robots.specs.Callers.{file_lines, placed_rules}
 use Rattle.robots_warnings.specs.Conflicts.{allow_beside, at_line, conflict_for, first_of, overruled_by}
 use Rattle.robots_warnings.specs.Conflicts.{overruled_for}

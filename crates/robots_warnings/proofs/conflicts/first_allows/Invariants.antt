@@ -1,5 +1,4 @@
-use Rattle.std.specs.BTreeSet.{contains}
-use Rattle.std.specs.Ordering.{nat_cmp}
+use Rattle.std.specs.{BTreeSet.contains, Ordering.nat_cmp}
 use Rattle.texting_robots.specs.Callers.{file_lines, placed_rules}
 use Rattle.robots_warnings.specs.Internal.Rules.{HasFirstWith}
 use Rattle.robots_warnings.proofs.conflicts.first_allows.Given as goal

@@ -1,6 +1,5 @@
 use Rattle.std.proofs.Common.{◌≡◌, codes}
-use Rattle.std.specs.BTreeSet.{contains}
-use Rattle.std.specs.Ordering.{nat_cmp}
+use Rattle.std.specs.{BTreeSet.contains, Ordering.nat_cmp}
 use Rattle.texting_robots.specs.Callers.{file_lines, placed_rules}
 use Rattle.robots_warnings.specs.Conflicts.{first_line, is_like}
 use Rattle.robots_warnings.proofs.conflicts.first_of_all.Given as goal

@@ -1,10 +1,7 @@
-use Rattle.std.specs.BTreeSet.{contains}
-use Rattle.std.specs.Ordering.{nat_cmp}
+use Rattle.std.specs.{BTreeSet.contains, Ordering.nat_cmp}
 use Rattle.texting_robots.specs.Callers.{file_lines}
-use Rattle.robots_warnings.specs.Closed.{is_closed_for}
-use Rattle.robots_warnings.specs.Conflicts.{conflict_for, overruled_for}
-use Rattle.robots_warnings.proofs.RuleLemmas.{agents_next}
-use Rattle.robots_warnings.proofs.NameLemmas.{any_next}
+use Rattle.robots_warnings.specs.{Closed.is_closed_for, Conflicts.conflict_for, Conflicts.overruled_for}
+use Rattle.robots_warnings.proofs.{RuleLemmas.agents_next, NameLemmas.any_next}
 use Rattle.robots_warnings.proofs.conflicts.rule_lines.Goals as goal
 
 pub loop-agent-preserved : goal.loop-agent-preserved

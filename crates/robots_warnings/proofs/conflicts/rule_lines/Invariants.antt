@@ -1,11 +1,7 @@
 use Rattle.std.proofs.Common.{◌≡◌, ℕ, List, drop, map, string_bytes, take}
-use Rattle.std.specs.BTreeMap.{get}
-use Rattle.std.specs.BTreeSet.{contains}
-use Rattle.std.specs.Option.{option_or}
-use Rattle.std.specs.Ordering.{nat_cmp}
+use Rattle.std.specs.{BTreeMap.get, BTreeSet.contains, Option.option_or, Ordering.nat_cmp}
 use Rattle.texting_robots.specs.Callers.{file_lines}
-use Rattle.robots_warnings.specs.Closed.{is_closed}
-use Rattle.robots_warnings.specs.Conflicts.{conflict, overruled}
+use Rattle.robots_warnings.specs.{Closed.is_closed, Conflicts.conflict, Conflicts.overruled}
 use Rattle.robots_warnings.proofs.conflicts.rule_lines.Given as goal
 
 -- those of the first crawlers, and those of the others, are all

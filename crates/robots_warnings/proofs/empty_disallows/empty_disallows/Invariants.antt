@@ -1,6 +1,5 @@
 use Rattle.std.proofs.Common.{◌≡◌, ◌||◌, ℕ, map}
-use Rattle.std.specs.BTreeSet.{contains}
-use Rattle.std.specs.Ordering.{nat_cmp}
+use Rattle.std.specs.{BTreeSet.contains, Ordering.nat_cmp}
 use Rattle.texting_robots.specs.Callers.{bodies_read, label_by_value}
 use Rattle.robots_warnings.specs.EmptyDisallows.{is_empty_at}
 use Rattle.robots_warnings.proofs.empty_disallows.empty_disallows.Given as goal

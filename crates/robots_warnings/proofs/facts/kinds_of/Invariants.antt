@@ -1,7 +1,6 @@
 use Rattle.std.proofs.Common.{◌≡◌, map, take}
 use Rattle.texting_robots.specs.Callers.{label_by_value}
-use Rattle.robots_warnings.specs.Facts.{kinds_of}
-use Rattle.robots_warnings.specs.File.{lines_of}
+use Rattle.robots_warnings.specs.{Facts.kinds_of, File.lines_of}
 use Rattle.robots_warnings.proofs.facts.kinds_of.Given as goal
 
 -- `kinds` are the kinds of the lines so far

@@ -1,6 +1,5 @@
 use Rattle.std.proofs.Common.{◌≡◌, drop, map}
-use Rattle.robots_warnings.specs.FieldNames.{first_that, is_either}
-use Rattle.robots_warnings.specs.Internal.{name_value}
+use Rattle.robots_warnings.specs.{FieldNames.first_that, FieldNames.is_either, Internal.name_value}
 use Rattle.robots_warnings.proofs.field_names.first_in.Given as goal
 
 abbrev pub invariant-loop-known : goal.invariant-loop-known

@@ -1,7 +1,6 @@
 use Rattle.std.proofs.Common.{◌≡◌, drop, map}
 use Rattle.std.specs.List.{list_any}
-use Rattle.texting_robots.specs.Callers.{label_by_value}
-use Rattle.texting_robots.specs.Group.{is_group}
+use Rattle.texting_robots.specs.{Callers.label_by_value, Group.is_group}
 use Rattle.robots_warnings.specs.File.{lines_of}
 use Rattle.robots_warnings.proofs.replaced.have_group.Given as goal
 

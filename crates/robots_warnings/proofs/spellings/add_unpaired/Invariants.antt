@@ -1,7 +1,6 @@
 use Rattle.std.proofs.Common.{◌≡◌, ◌++◌, drop, filter, map}
 use Rattle.texting_robots.specs.Callers.{Label, label_by_value}
-use Rattle.robots_warnings.specs.File.{lines_of}
-use Rattle.robots_warnings.specs.Spellings.{is_unpaired_at, unpaired_in}
+use Rattle.robots_warnings.specs.{File.lines_of, Spellings.is_unpaired_at, Spellings.unpaired_in}
 use Rattle.robots_warnings.proofs.spellings.add_unpaired.Given as goal
 
 -- the numbers found and those among the remaining lines are all numbers

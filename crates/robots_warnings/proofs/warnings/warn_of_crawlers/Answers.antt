@@ -1,11 +1,8 @@
 use Rattle.std.proofs.Common.{◌≡◌, ℕ, Bool, List, OnOk, Option, ap, flat_map, map, string_bytes, subst, ◌∙◌}
-use Rattle.std.specs.BTreeSet.{contains}
-use Rattle.std.specs.Ordering.{nat_cmp}
+use Rattle.std.specs.{BTreeSet.contains, Ordering.nat_cmp}
 use Rattle.texting_robots.specs.Callers.{Label, bodies_read, file_lines, label_by_value}
 use Rattle.robots_warnings.specs.Conflicts.{conflict, overruled}
-use Rattle.robots_warnings.specs.EmptyDisallows.{is_empty_at}
-use Rattle.robots_warnings.specs.Internal.{Adds}
-use Rattle.robots_warnings.specs.Warnings.{rule_warnings}
+use Rattle.robots_warnings.specs.{EmptyDisallows.is_empty_at, Internal.Adds, Warnings.rule_warnings}
 use Rattle.robots_warnings.proofs.warnings.warn_of_crawlers.Goals as goal
 
 -- functions that agree give the same warnings

@@ -2,8 +2,7 @@ use Rattle.std.proofs.Common.{[]}
 use Rattle.std.proofs.lemmas.Bool.{false≢true}
 use Rattle.std.specs.Str.{chars, is_utf8}
 use lib.Utf8.{encode}
-use Rattle.bstr.specs.Trim.{kept_end, kept_start}
-use Rattle.bstr.specs.Utf8.{pieces_from, spans_from}
+use Rattle.bstr.specs.{Trim.kept_end, Trim.kept_start, Utf8.pieces_from, Utf8.spans_from}
 use Rattle.texting_robots.specs.Internal.{Cut.cut, Line.line_of, Statement.statement_of}
 use Rattle.robots_warnings.specs.{FieldNames.begins_with, Table.topic_of}
 use Rattle.warnings_laws.proofs.SyntaxLemmas.{silence}

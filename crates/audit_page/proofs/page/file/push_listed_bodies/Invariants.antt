@@ -1,8 +1,7 @@
 use Rattle.std.proofs.Common.{◌≡◌, ◌++◌, length, map}
 use Rattle.texting_robots.specs.Callers.{label_by_value}
 use Rattle.audit_page.specs.Internal.ByLine.{listed_body}
-use Rattle.audit_page.specs.Page.{bodies}
-use Rattle.audit_page.specs.Tree.{all}
+use Rattle.audit_page.specs.{Page.bodies, Tree.all}
 use Rattle.audit_page.proofs.page.file.push_listed_bodies.Given as goal
 
 -- what is appended so far and the bodies of the other lines are the complete result

@@ -1,6 +1,5 @@
 use Rattle.std.proofs.Common.{◌≡◌, ◌++◌, map, take}
-use Rattle.audit_page.specs.Page.{sitemap_item}
-use Rattle.audit_page.specs.Tree.{all}
+use Rattle.audit_page.specs.{Page.sitemap_item, Tree.all}
 use Rattle.audit_page.proofs.page.file.push_sitemap_items.Given as goal
 
 abbrev pub invariant-loop-value : goal.invariant-loop-value

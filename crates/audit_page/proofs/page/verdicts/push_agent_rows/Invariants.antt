@@ -1,6 +1,5 @@
 use Rattle.std.proofs.Common.{◌≡◌, ◌++◌, take}
-use Rattle.audit_page.specs.Page.{agent_row}
-use Rattle.audit_page.specs.Tree.{all}
+use Rattle.audit_page.specs.{Page.agent_row, Tree.all}
 use Rattle.audit_page.proofs.page.verdicts.push_agent_rows.Given as goal
 
 abbrev pub invariant-loop-agent : goal.invariant-loop-agent

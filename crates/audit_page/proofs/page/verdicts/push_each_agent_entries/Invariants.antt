@@ -1,6 +1,5 @@
 use Rattle.std.proofs.Common.{◌≡◌, ◌++◌, take}
-use Rattle.audit_page.specs.Page.{agent_entries}
-use Rattle.audit_page.specs.Tree.{all}
+use Rattle.audit_page.specs.{Page.agent_entries, Tree.all}
 use Rattle.audit_page.proofs.page.verdicts.push_each_agent_entries.Given as goal
 
 abbrev pub invariant-loop-agent : goal.invariant-loop-agent

@@ -1,6 +1,5 @@
 use Rattle.std.proofs.Common.{◌≡◌, ◌++◌, map, take}
-use Rattle.audit_page.specs.Page.{url_column}
-use Rattle.audit_page.specs.Tree.{all}
+use Rattle.audit_page.specs.{Page.url_column, Tree.all}
 use Rattle.audit_page.proofs.page.verdicts.push_url_columns.Given as goal
 
 abbrev pub invariant-loop-url : goal.invariant-loop-url

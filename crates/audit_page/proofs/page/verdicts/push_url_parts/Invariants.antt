@@ -1,6 +1,5 @@
 use Rattle.std.proofs.Common.{◌≡◌, ◌++◌, take}
-use Rattle.audit_page.specs.Page.{url_part}
-use Rattle.audit_page.specs.Tree.{all}
+use Rattle.audit_page.specs.{Page.url_part, Tree.all}
 use Rattle.audit_page.proofs.page.verdicts.push_url_parts.Given as goal
 
 abbrev pub invariant-loop-agent : goal.invariant-loop-agent

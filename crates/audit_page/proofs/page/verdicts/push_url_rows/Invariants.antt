@@ -1,6 +1,5 @@
 use Rattle.std.proofs.Common.{◌≡◌, ◌++◌, take}
-use Rattle.audit_page.specs.Page.{url_row}
-use Rattle.audit_page.specs.Tree.{all}
+use Rattle.audit_page.specs.{Page.url_row, Tree.all}
 use Rattle.audit_page.proofs.page.verdicts.push_url_rows.Given as goal
 
 abbrev pub invariant-loop-verdict : goal.invariant-loop-verdict

@@ -1,6 +1,5 @@
 use Rattle.std.proofs.Common.{◌≡◌, ◌++◌, take}
-use Rattle.audit_page.specs.Page.{verdict_cell}
-use Rattle.audit_page.specs.Tree.{all}
+use Rattle.audit_page.specs.{Page.verdict_cell, Tree.all}
 use Rattle.audit_page.proofs.page.verdicts.push_verdict_cells.Given as goal
 
 abbrev pub invariant-loop-verdict : goal.invariant-loop-verdict

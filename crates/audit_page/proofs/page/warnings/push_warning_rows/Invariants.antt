@@ -1,6 +1,5 @@
 use Rattle.std.proofs.Common.{◌≡◌, ◌++◌, take}
-use Rattle.audit_page.specs.Page.{warning_row}
-use Rattle.audit_page.specs.Tree.{all}
+use Rattle.audit_page.specs.{Page.warning_row, Tree.all}
 use Rattle.audit_page.proofs.page.warnings.push_warning_rows.Given as goal
 
 abbrev pub invariant-loop-warning : goal.invariant-loop-warning

@@ -42,8 +42,7 @@ use Rattle.std.proofs.impls.GlobalAllocator.TheImpl.Met as heap
 use Rattle.std_alloc.specs.contracts.boxed.Box.from_raw as callee
 use Rattle.std_alloc.proofs.boxed.Box.from_raw.Met.{met}
 use Rattle.robots_c.specs.contracts.kept.Handle as Handle
-use Rattle.robots_c.proofs.Borrowing.{Good}
-use Rattle.robots_c.proofs.Keeping.{heap_box}
+use Rattle.robots_c.proofs.{Borrowing.Good, Keeping.heap_box}
 use Rattle.robots_c.specs.contracts.kept.Handle.into_box.{ended, clauses}
 use Rattle.robots_c.specs.contracts.kept.Handle.into_box.Key.{name as #self}
 use Rattle.robots_c.proofs.kept.Handle.into_box.Statement.{statement}

@@ -1,6 +1,5 @@
 use Rattle.std.proofs.Common.{[], refl, sym}
-use Rattle.robots_warnings.specs.Internal.{Example}
-use Rattle.robots_warnings.specs.Table.{all_causes, example_of}
+use Rattle.robots_warnings.specs.{Internal.Example, Table.all_causes, Table.example_of}
 use Rattle.robots_warnings.proofs.TableLemmas.{own_row, part_at}
 use Rattle.robots_warnings.proofs.table.Cause.example_row.Goals as goal
 
