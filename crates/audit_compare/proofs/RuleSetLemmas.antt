@@ -85,10 +85,10 @@ same_rules_decide_alike agent older newer text allowed removed added =
 
 -- ---- what a report says
 
-no_rules_in : {X : Type 0} (before removed added after : List X)
-    → (length (before ++ (removed ++ added) ++ after) == 0) ≡ true
+no_rules_in : {X : Type 0} (group delay removed added after : List X)
+    → (length (group ++ delay ++ removed ++ added ++ after) == 0) ≡ true
     → (length removed == 0 && length added == 0) ≡ true
-no_rules_in before removed added after is = grind (arith, nat_tests, length-append)
+no_rules_in group delay removed added after is = grind (arith, nat_tests, length-append)
 
 unchanged_has_same : (compared : ComparedValue) → is_unchanged compared ≡ true
     → has_same_rules compared ≡ true
@@ -104,7 +104,7 @@ unchanged_has_same compared is =
       ← length-map compared.added (rule_line agent true),
     )
     (no_rules_in
-    (group_changes agent older.group newer.group ++ delay_changes agent older.delay newer.delay) removed added
+    (group_changes agent older.group newer.group) (delay_changes agent older.delay newer.delay) removed added
     (verdict_changes compared older.verdicts newer.verdicts) none.1)
 
 -- no rule was removed, and none was added

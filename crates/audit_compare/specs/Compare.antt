@@ -108,10 +108,6 @@ rule_line agent is_added placed =
     ∷ Part (label (codes ": ") refl) (Untrusted placed.rule.0)
     ∷ Part (label (codes " (line ") refl) (Number placed.line) ∷ only (codes ")") refl ∷ [])
 
--- the removed rules and the added ones
-abbrev pub rule_changes : List ℕ → (removed added : List PlacedRule) → List ReportLine
-rule_changes agent removed added = map (rule_line agent false) removed ++ map (rule_line agent true) added
-
 -- ---- verdicts
 
 -- one of the rules is in this line
@@ -159,7 +155,8 @@ abbrev pub differences : ComparedValue → List ReportLine
 differences compared =
     group_changes compared.agent compared.older.group compared.newer.group
     ++ delay_changes compared.agent compared.older.delay compared.newer.delay
-    ++ rule_changes compared.agent compared.removed compared.added
+    ++ map (rule_line compared.agent false) compared.removed
+    ++ map (rule_line compared.agent true) compared.added
     ++ verdict_changes compared compared.older.verdicts compared.newer.verdicts
 
 -- one of the files is rejected for the crawler

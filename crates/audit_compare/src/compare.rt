@@ -1,11 +1,10 @@
 //! Two versions of a robots.txt file compared, and the report on what differs.
 ghost use Rattle.std.specs.Prelude.{◌≡◌, ◌++◌, ◌∷◌, [], IfErr, IfOk, List, OnOk, map, string_bytes};
 ghost use Rattle.texting_robots.specs.Callers.{lines_read};
-ghost use Rattle.printable_text.specs.Raw.{raw_text};
-ghost use Rattle.printable_text.specs.Text.{line_text, part_text, written};
+ghost use Rattle.printable_text.specs.{Raw.raw_text, Text.line_text, Text.part_text, Text.written};
 ghost use Rattle.audit_core.specs.Audit.{agents_requested as specified_agents};
-ghost use Rattle.audit_compare.specs.Compare.{ComparedValue, IsComparison, agent_lines, is_rejected, is_unchanged, several_line};
-ghost use Rattle.audit_compare.specs.Compare.{unchanged_line, unchanged_lines, unchanged_part};
+ghost use Rattle.audit_compare.specs.Compare.{ComparedValue, IsComparison, agent_lines, is_rejected};
+ghost use Rattle.audit_compare.specs.Compare.{is_unchanged, unchanged_line, unchanged_lines, unchanged_part};
 ghost use Rattle.audit_compare.specs.Internal.Compare.{IsFound, IsReportOn, IsVersion, compared_value};
 
 use crate::compared::{Compared, Version, compared_for, read_version};
@@ -120,18 +119,6 @@ const UNCHANGED: Part<'static> = Part(
     Value::Nothing,
 );
 
-/// That several crawlers are unchanged, which are all that were compared, or the others.
-fn several(all: bool) -> Part<'static>
-    ensures { raw_text result ++ part_text unchanged_part ≡ line_text (several_line all) }
-{
-    let which = if all {
-        "all compared crawlers"
-    } else {
-        "other compared crawlers"
-    };
-    Part(which, Value::Nothing)
-}
-
 /// The crawlers on which nothing else is reported; `agents` are all that were compared, and `all` is whether those are
 /// all.
 fn unchanged_subject(agents: &[String], all: bool) -> Part<'_>
@@ -140,7 +127,8 @@ fn unchanged_subject(agents: &[String], all: bool) -> Part<'_>
 {
     match agents {
         [agent] => crawler(agent),
-        _ => several(all),
+        _ if all => Part("all compared crawlers", Value::Nothing),
+        _ => Part("other compared crawlers", Value::Nothing),
     }
 }
 

@@ -4,7 +4,7 @@ ghost use Rattle.printable_text.specs.Raw.{raw_line, raw_text, raw_value};
 ghost use Rattle.printable_text.specs.Text.{line_text, part_text, value_text, written};
 ghost use Rattle.audit_compare.specs.Compare.{crawler, deciding, delay_changes, delay_line, differences, file_part, group_changes, group_line};
 ghost use Rattle.audit_compare.specs.Compare.{has_same_rules, is_in_line_of, is_same_decision, is_same_group, rejection, rejection_lines};
-ghost use Rattle.audit_compare.specs.Compare.{rule_changes, rule_line, same_rules, url_changes, url_line, verdict_changes, verdict_word};
+ghost use Rattle.audit_compare.specs.Compare.{rule_line, same_rules, url_changes, url_line, verdict_changes, verdict_word};
 ghost use Rattle.audit_compare.specs.Internal.Compare.{compared_value};
 
 use crate::compared::Compared;
@@ -121,20 +121,6 @@ fn push_rule_lines(
     Ok(())
 }
 
-/// Appends the removed rules and the added ones.
-fn push_rule_changes(
-    text: &mut String,
-    agent: &str,
-    removed: &[Rule],
-    added: &[Rule],
-) -> Result<(), AllocError>
-    ensures { OnOk result (string_bytes text.new ≡ string_bytes text.old
-        ++ written (rule_changes agent.now removed.now added.now)) }
-{
-    push_rule_lines(text, agent, false, removed)?;
-    push_rule_lines(text, agent, true, added)
-}
-
 /// Whether one of the rules is in this line.
 fn is_in_line_of(rules: &[Rule], line: Option<usize>) -> bool
     ensures { result ≡ is_in_line_of rules.now line }
@@ -228,7 +214,8 @@ pub(crate) fn push_differences(text: &mut String, compared: &Compared<'_>) -> Re
     let (older, newer) = (&compared.older, &compared.newer);
     push_group_changes(text, older, newer)?;
     push_delay_changes(text, &older.agent, older.delay, newer.delay)?;
-    push_rule_changes(text, &older.agent, &compared.removed, &compared.added)?;
+    push_rule_lines(text, &older.agent, false, &compared.removed)?;
+    push_rule_lines(text, &older.agent, true, &compared.added)?;
     push_verdict_changes(text, compared, &older.verdicts, &newer.verdicts)?;
     Ok(())
 }

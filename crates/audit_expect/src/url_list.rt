@@ -4,7 +4,8 @@ ghost use Rattle.std.specs.Result.{result_err};
 ghost use Rattle.audit_core.specs.Request.{requested_by};
 ghost use Rattle.audit_core.specs.declared.fault.Entry.TheVariants as entry;
 ghost use Rattle.audit_expect.specs.Expect.{IsEntryFault, IsLineFault, entries_from, lines};
-ghost use Rattle.audit_expect.specs.UrlList.{HasUrlsIn, IsUrlFault, first_malformed, trimmed, url_in, urls_in};
+ghost use Rattle.audit_expect.specs.UrlList.{HasUrlsIn, IsUrlFault};
+ghost use Rattle.audit_expect.specs.UrlList.{first_malformed, trimmed, url_in, urls_in};
 
 use crate::entries::{malformed, without_entries};
 use crate::expect::{cut, is_comment, is_path_or_url};
@@ -12,7 +13,7 @@ use audit_core::agents::as_text;
 use audit_core::fault::{Entry, Fault, Flaw};
 use audit_core::request::Request;
 use robots_warnings::facts::without_mark;
-use std::alloc::{AllocError, Global};
+use std::alloc::Global;
 
 /// The line without white space at its start and end.
 fn trimmed<'a>(line: &'a [u8]) -> &'a [u8]

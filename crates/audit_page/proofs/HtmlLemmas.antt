@@ -1,131 +1,44 @@
 -- What is written for a tree whose texts are printable is printable, and the tree can be read back.
-use Rattle.std.proofs.Common.{ℕ, ◌/◌, ◌+◌, ◌<◌, ◌≤◌, ◌++◌, Bool, true, false, List, [], ◌∷◌, ◌≡◌, ◌∙◌, ap}
-use Rattle.std.proofs.Common.{arith, codes, flat_map, inl, inr, refl, subst, sym}
-use Rattle.std.specs.Prelude.{nat_lt, not, ◌==◌}
-use Rattle.std.specs.Str.{all_scalars, chars, encode_utf8_all}
-use Rattle.std.specs.{Bool.IsTrue, Char.IsScalar, List.list_all}
-use Rattle.std.proofs.lemmas.Bool.{and_parts, cases_Bool}
-use Rattle.std.proofs.lemmas.Str.{encode_ascii, encodes-chars, scalars-chars}
+use Rattle.std.proofs.Common.{ℕ, ◌/◌, ◌+◌, ◌<◌, ◌++◌, Bool, true, List, [], ◌∷◌, ◌≡◌, arith, codes, flat_map}
+use Rattle.std.proofs.Common.{get_or, refl, subst}
+use Rattle.std.specs.{Prelude.not, Bool.IsTrue, List.list_all, Str.chars}
+use Rattle.std.proofs.lemmas.{Bool.and_parts, Str.encodes-chars}
 use Rattle.std.proofs.lemmas.Bool.Decides.{nat_tests}
-use Rattle.std.proofs.lemmas.List.Folds.{list_all-append}
-use lib.Utf8.{encode, next, scalar}
+use Rattle.std.proofs.lemmas.List.Sums.{AllPass-from_list_all, list_all-from_AllPass}
 use Rattle.html_writer.specs.Html.{AreAttributes, Attribute, Html, IsContent, IsHtml, IsText, attribute_bytes}
 use Rattle.html_writer.specs.Html.{doctype, document, element, end_tag, escaped, escaped_byte, is_character}
 use Rattle.html_writer.specs.Html.{is_letter, is_name, is_name_byte, is_title, style, style_bytes, tag_close}
 use Rattle.html_writer.specs.Html.{tag_open, text, void, void_close, written}
-use Rattle.html_writer.proofs.TextLemmas.{escaped-append, escaped-is}
-use Rattle.html_writer.proofs.WritingLemmas.{content_weaker}
+use Rattle.html_writer.proofs.{TextLemmas.escaped-is, WritingLemmas.content_weaker}
 use Rattle.printable_text.specs.Sanitize.{IsPrintable, is_printable, is_printable_byte}
-use Rattle.printable_text.proofs.SanitizeLemmas.{append_printable, ascii_printable, char_printable, nil_printable}
+use Rattle.printable_text.proofs.SanitizeLemmas.{append_printable, ascii_printable, chars_pass, nil_printable}
+use Rattle.audit_core.proofs.EscapeLemmas.{escaped_printable as printable_if_escaped}
 
 -- content where elements may occur, whose texts are printable
 abbrev pub IsPart : Html → Type 0
 IsPart part = IsContent IsPrintable true part
 
--- ---- characters that aren't ASCII
-
-next_high : (char : ℕ) → 128 ≤ next char
-next_high char = omega arith
-
--- a property that bytes of at least 128 keep holds of such a character
-high_char : (P : List ℕ → Type 0) → P []
-    → ((byte : ℕ) (bytes : List ℕ) → 128 ≤ byte → P bytes → P (byte ∷ bytes)) → (char : ℕ)
-    → nat_lt char 128 ≡ false → P (encode char)
-unfolding encode
-high_char P none more char high =
-    let last = more (next char) [] (next_high char) none in
-    let third = next (char / 64) in
-    let second = next (char / 4096) in
-    let two = more third (next char ∷ []) (next_high (char / 64)) last in
-    let three = more second (third ∷ next char ∷ []) (next_high (char / 4096)) two in
-    rw high (elim (cases_Bool (nat_lt char 2048)) [
-      | inl is ↦ rw is (more (192 + char / 64) (next char ∷ []) (omega arith) last)
-      | inr not_two ↦ rw not_two (elim (cases_Bool (nat_lt char 65536)) [
-        | inl is ↦ rw is (more (224 + char / 4096) (third ∷ next char ∷ []) (omega arith) two)
-        | inr isnt ↦
-            rw isnt (more (240 + char / 262144) (second ∷ third ∷ next char ∷ []) (omega arith) three)
-      ])
-    ])
-
 -- ---- reading back: a printable text contains neither NUL nor CR
 
-high_text : (byte : ℕ) (bytes : List ℕ) → 128 ≤ byte → IsText bytes → IsText (byte ∷ bytes)
-high_text byte bytes high are =
-    let is : is_character byte ≡ true = grind (arith, nat_tests) in
-    rw is are
-
-char_text : (char : ℕ) → is_printable true char ≡ true → IsText (encode char)
-char_text char plain = elim (cases_Bool (nat_lt char 128)) [
-  | inl low ↦
-      let below : char < 128 = grind (arith, nat_tests) in
-      let is : is_character char ≡ true = grind (arith, nat_tests) in
-      rw (encode_ascii char below, is) refl
-  | inr high ↦ high_char IsText refl high_text char high
-]
-
-chars_text : (cs : List ℕ) → IsTrue (list_all (is_printable true) cs) → IsText (encode_utf8_all cs)
-chars_text [] are = refl
-chars_text (char ∷ cs) are =
-    let both = and_parts (is_printable true char) (list_all (is_printable true) cs) are in
-    rw (list_all-append, char_text char both.0) (chars_text cs both.1)
+is_kept : (char : ℕ) → is_printable true char ≡ true → is_character char ≡ true
+is_kept char plain = grind (arith, nat_tests)
 
 printable_text : (bytes : List ℕ) → IsPrintable bytes → IsText bytes
-printable_text bytes is = subst IsText (encodes-chars bytes is.utf8) (chars_text (chars bytes) is.all)
+printable_text bytes is =
+    let plain = AllPass-from_list_all (is_printable true) (chars bytes) is.all in
+    let are = list_all-from_AllPass is_character (chars bytes) (λ k d below. is_kept (get_or (chars bytes) k d) (plain k d below)) in
+    subst IsText (encodes-chars bytes is.utf8)
+    (chars_pass is_character (λ byte high. grind (arith, nat_tests)) (chars bytes) are)
 
 pub printable_html : (tree : Html) → IsPart tree → IsHtml tree
 printable_html tree is = content_weaker IsPrintable IsText printable_text true tree is
 
 -- ---- writing: what is written for a printable text is printable
 
-high_unchanged : (byte : ℕ) (bytes : List ℕ) → 128 ≤ byte → escaped bytes ≡ bytes
-    → escaped (byte ∷ bytes) ≡ byte ∷ bytes
-high_unchanged byte bytes high is =
-    let plain : escaped_byte byte ≡ byte ∷ [] = grind (arith, nat_tests) in
-    escaped-is (byte ∷ bytes)
-    ∙ (rw plain (ap (λ (rest : List ℕ). byte ∷ rest) (sym (escaped-is bytes) ∙ is)))
-
-byte_printable : (byte : ℕ) → nat_lt byte 128 ≡ true → is_printable true byte ≡ true
-    → IsPrintable (escaped_byte byte)
-byte_printable byte low plain = elim (cases_Bool (byte == 38)) [
-  | inl is ↦ rw is (ascii_printable true (codes "&amp;") refl)
-  | inr not_and ↦ rw not_and (elim (cases_Bool (byte == 60)) [
-    | inl is ↦ rw is (ascii_printable true (codes "&lt;") refl)
-    | inr not_less ↦ rw not_less (elim (cases_Bool (byte == 62)) [
-      | inl is ↦ rw is (ascii_printable true (codes "&gt;") refl)
-      | inr not_greater ↦ rw not_greater (elim (cases_Bool (byte == 34)) [
-        | inl is ↦ rw is (ascii_printable true (codes "&quot;") refl)
-        | inr not_quote ↦ rw not_quote (ascii_printable true (byte ∷ []) (rw (low, plain) refl))
-      ])
-    ])
-  ])
-]
-
-escaped_char : (char : ℕ) → IsScalar char → is_printable true char ≡ true
-    → IsPrintable (escaped (encode char))
-escaped_char char scalar plain = elim (cases_Bool (nat_lt char 128)) [
-  | inl low ↦
-      let below : char < 128 = grind (arith, nat_tests) in
-      rw (encode_ascii char below, escaped-is (char ∷ []))
-      (append_printable true (escaped_byte char) [] (byte_printable char low plain) (nil_printable true))
-  | inr high ↦
-      rw (high_char (λ bytes. escaped bytes ≡ bytes) refl high_unchanged char high)
-      (char_printable true char scalar plain)
-]
-
-escaped_chars : (cs : List ℕ) → all_scalars cs ≡ true → IsTrue (list_all (is_printable true) cs)
-    → IsPrintable (escaped (encode_utf8_all cs))
-escaped_chars [] scalars are = nil_printable true
-escaped_chars (char ∷ cs) scalars are =
-    let each_scalar = and_parts (scalar char) (all_scalars cs) scalars in
-    let each_plain = and_parts (is_printable true char) (list_all (is_printable true) cs) are in
-    rw (escaped-append (encode char) (encode_utf8_all cs))
-    (append_printable true (escaped (encode char)) (escaped (encode_utf8_all cs))
-    (escaped_char char each_scalar.0 each_plain.0) (escaped_chars cs each_scalar.1 each_plain.1))
-
 escaped_printable : (bytes : List ℕ) → IsPrintable bytes → IsPrintable (escaped bytes)
 escaped_printable bytes is =
-    subst (λ b. IsPrintable (escaped b)) (encodes-chars bytes is.utf8)
-    (escaped_chars (chars bytes) (scalars-chars bytes is.utf8) is.all)
+    rw (escaped-is bytes)
+    (printable_if_escaped escaped_byte refl (λ byte high. grind (arith, nat_tests)) bytes is)
 
 -- ---- writing trees
 

@@ -2,5 +2,4 @@ pub mod BodyLemmas
 pub mod ByLineLemmas
 pub mod HtmlLemmas
 pub mod PageLemmas
-pub mod PieceLemmas
 pub mod TreeLemmas

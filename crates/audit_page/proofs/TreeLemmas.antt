@@ -1,6 +1,6 @@
 -- Every page is written as its tree in `html_writer`, which is printable, and can be read back.
-use Rattle.std.proofs.Common.{◌≡◌, ◌∙◌, ℕ, true, false, List, [], ◌∷◌, ◌++◌, Some, ap, append_assoc, codes}
-use Rattle.std.proofs.Common.{flat_map, map, refl, sym}
+use Rattle.std.proofs.Common.{◌≡◌, ◌∙◌, ℕ, true, List, [], ◌∷◌, ◌++◌, Some, ap, append_assoc, codes, flat_map}
+use Rattle.std.proofs.Common.{map, refl, sym}
 use Rattle.std.specs.Prelude.{not}
 use Rattle.std.proofs.lemmas.{Bool.and_parts, Bool.not-true, List.append-nil}
 use Rattle.html_writer.specs.Html.{AreAttributes, Attribute, Html, IsContent, attribute_bytes, doctype}

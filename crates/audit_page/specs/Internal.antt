@@ -1,12 +1,23 @@
--- What the parts of a page are written as: markup, which is copied, and values, which are escaped.
-pub mod ByLine
-use Rattle.std.specs.Prelude.{ℕ, List, ◌++◌, flat_map}
+-- What the parts of a page are written as: markup, which is copied, and values, which are escaped; and lists
+-- of warnings by line.
+use Rattle.std.specs.Prelude.{ℕ, List, [], ◌++◌, Option, Some, None, flat_map, slice_get}
+use Rattle.std.specs.Global.{Vec}
 use Rattle.html_writer.specs.Html.{escaped}
 use Rattle.printable_text.specs.Raw.{raw_value}
 use Rattle.printable_text.specs.declared.parts.Part.{Part}
+use Rattle.robots_warnings.specs.declared.warning.Warning.{Warning}
+use Rattle.robots_warnings.specs.WarningValue.{WarningValue}
 
 abbrev pub raw_part : Part → List ℕ
 raw_part part = part.0.now ++ escaped (raw_value part.1)
 
 abbrev pub raw_parts : List Part → List ℕ
 raw_parts parts = flat_map raw_part parts
+
+abbrev pub list_of : Option (Vec Warning) → List WarningValue
+list_of None = []
+list_of (Some list) = list.items
+
+-- the list with this index, or an empty one if there is none
+abbrev pub list_at : List (Vec Warning) → ℕ → List WarningValue
+list_at lists index = list_of (slice_get lists index)

@@ -9,8 +9,8 @@ use Rattle.std.proofs.Common.{refl}
 use Rattle.std.proofs.lemmas.Bool.{and_parts}
 use Rattle.texting_robots.specs.Callers.{Label, LineValue, sitemaps_in}
 use Rattle.html_writer.specs.Html.{Html, tag_close}
-use Rattle.printable_text.specs.Text.{Number, Untrusted, Value, Word, is_fixed, word}
-use Rattle.printable_text.specs.{Sanitize.ends_apart, Level.level_word}
+use Rattle.printable_text.specs.Sanitize.{ends_apart}
+use Rattle.printable_text.specs.Text.{Number, Untrusted, Value, Word, fixed_level, is_fixed, word}
 use Rattle.printable_text.specs.declared.level.Level.{Level}
 use Rattle.printable_text.specs.declared.level.Level.TheVariants.{Error, Note, Warning}
 use Rattle.robots_warnings.specs.Message.{reported_parts}
@@ -179,14 +179,6 @@ level_front Error = word (codes "Error: ") refl
 level_front Warning = word (codes "Warning: ") refl
 level_front Note = word (codes "Note: ") refl
 
-pub level_safe : (level : Level) → is_fixed (level_word level) ≡ true
-level_safe Error = refl
-level_safe Warning = refl
-level_safe Note = refl
-
-abbrev pub level_value : Level → Value
-level_value level = Word (record { text = level_word level; safe = level_safe level })
-
 -- the level of a warning, its message and its name
 abbrev pub warning_words : WarningValue → Words
 warning_words warning = message (level_front (level_of warning.cause)) (reported_parts warning)
@@ -295,7 +287,7 @@ line_start label =
 -- a row for a warning, below that of its line
 unfoldable pub warning_row : WarningValue → Tree
 warning_row warning =
-    tag (codes "tr") (class (shown (level_value (level_of warning.cause)))) refl
+    tag (codes "tr") (class (shown (Word (fixed_level (level_of warning.cause))))) refl
     (tag (codes "td") (with (codes "colspan") (fixed (codes "4") refl)) refl (text (warning_words warning)))
 
 -- a warning whose message has no URL, no name and no number
@@ -306,13 +298,13 @@ abbrev pub is_at : ℕ → Option ℕ → Bool
 is_at number None = false
 is_at number (Some line) = line == number
 
--- the row of a warning if it is about the line with this number
-abbrev pub warning_at : ℕ → WarningValue → Tree
-warning_at number warning = if is_at number warning.line then warning_row warning else nothing
+-- the warnings about the line with this number
+abbrev pub about_line : List WarningValue → ℕ → List WarningValue
+about_line warnings number = filter (λ (warning : WarningValue). is_at number warning.line) warnings
 
--- a line and the warnings about it
-unfoldable pub line_part : List WarningValue → Label → Tree
-line_part warnings label = line_row label ⊕ each (warning_at label.number) warnings
+-- a line and the warnings about it; `about` are those about the line with a number
+unfoldable pub line_part : (about : ℕ → List WarningValue) → Label → Tree
+line_part about label = line_row label ⊕ each warning_row (about label.number)
 
 -- how many lines a body of the table has; a browser lays out later what isn't visible yet
 abbrev pub body_lines : ℕ
@@ -327,8 +319,8 @@ bodies_of (suc more) labels = take body_lines labels ∷ bodies_of more (drop bo
 abbrev pub bodies : List Label → List (List Label)
 bodies labels = bodies_of ((length labels + (body_lines - 1)) / body_lines) labels
 
-unfoldable pub line_body : List WarningValue → List Label → Tree
-line_body warnings labels = tag (codes "tbody") [] refl (each (line_part warnings) labels)
+unfoldable pub line_body : (about : ℕ → List WarningValue) → List Label → Tree
+line_body about labels = tag (codes "tbody") [] refl (each (line_part about) labels)
 
 -- `agent` is the crawler whose group is marked
 unfoldable pub file_caption : List ℕ → Tree
@@ -342,7 +334,8 @@ line_columns =
 
 unfoldable pub file_content : Option (List ℕ) → AuditValue → Tree
 file_content agent audit =
-    file_caption (labeling_agent agent) ⊕ line_columns ⊕ each (line_body audit.warnings) (bodies audit.labels)
+    file_caption (labeling_agent agent) ⊕ line_columns
+    ⊕ each (line_body (about_line audit.warnings)) (bodies audit.labels)
 
 -- the file with its warnings
 unfoldable pub file_table : Option (List ℕ) → AuditValue → Tree

@@ -3,7 +3,7 @@
 
 ghost use Rattle.std.specs.Prelude.{◌≡◌, ◌++◌, IfOk, OnOk, length, map, option_map};
 ghost use Rattle.texting_robots.specs.Callers.{label_by_value};
-ghost use Rattle.html_writer.specs.Html.{doctype, document};
+ghost use Rattle.html_writer.specs.Html.{document};
 ghost use Rattle.audit_core.specs.Request.{requested_by};
 ghost use Rattle.audit_page.specs.Page.{page, page_content, page_head, page_tree, summary, syntax_entry};
 ghost use Rattle.audit_page.specs.Tree.{written};

@@ -1,7 +1,7 @@
 //! Warnings by line, so that finding those about a line takes no search.
-ghost use Rattle.std.specs.Prelude.{◌≡◌, ◌<◌, ◌++◌, ◌∷◌, [], ◌==◌, ℕ, IfOk, OnOk, if◌then◌else◌, map};
+ghost use Rattle.std.specs.Prelude.{◌≡◌, ◌<◌, ◌++◌, ◌∷◌, [], ◌==◌, ℕ, IfOk, OnOk, if◌then◌else◌};
 ghost use Rattle.std.specs.Vec.{vec_len};
-ghost use Rattle.audit_page.specs.Internal.ByLine.{AreByLine, list_at};
+ghost use Rattle.audit_page.specs.{Internal.list_at, Page.about_line};
 
 use robots_warnings::warning::Warning;
 use std::alloc::{AllocError, Global};
@@ -40,7 +40,7 @@ pub(crate) fn by_line<'a>(
     alloc: Global,
     warnings: &[Warning<'a>],
 ) -> Result<Vec<Vec<Warning<'a>>>, AllocError>
-    ensures { IfOk result (λ lists. AreByLine lists.items warnings.now) }
+    ensures { IfOk result (λ lists. (number : ℕ) → list_at lists.items number ≡ about_line warnings.now number) }
 {
     let mut lists = Vec::new(alloc);
     for warning in warnings {

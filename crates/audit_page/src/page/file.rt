@@ -3,9 +3,9 @@
 
 ghost use Rattle.std.specs.Prelude.{◌≡◌, ◌++◌, OnOk, map, option_map};
 ghost use Rattle.texting_robots.specs.Callers.{label_by_value};
-ghost use Rattle.audit_page.specs.Internal.ByLine.{list_at, listed_body, listed_part};
-ghost use Rattle.audit_page.specs.Page.{bodies, file_content, file_table, line_body, line_row, sitemap_entry, sitemap_item, sitemap_list, warning_row};
-ghost use Rattle.audit_page.specs.Tree.{all, written};
+ghost use Rattle.audit_page.specs.Page.{about_line, bodies, file_content, file_table, line_body, line_part};
+ghost use Rattle.audit_page.specs.Page.{line_row, sitemap_entry, sitemap_item, sitemap_list, warning_row};
+ghost use Rattle.audit_page.specs.{Internal.list_at, Tree.all, Tree.written};
 
 use crate::page::by_line::by_line;
 use crate::page::parts::{Page, push, push_start_with};
@@ -94,14 +94,14 @@ fn push_listed_rows(
 }
 
 /// Appends the row of a line and those of the warnings in its list.
-#[tactic(auto, using(crate::proofs::TreeLemmas::joined), unfolding(crate::specs::Internal::ByLine::listed_part))]
+#[tactic(auto, using(crate::proofs::TreeLemmas::joined), unfolding(crate::specs::Page::line_part))]
 fn push_line_part(
     page: &mut Page,
     lists: &[Vec<Warning<'_>>],
     label: &LabeledLine<'_>,
 ) -> Result<(), AllocError>
     ensures { OnOk result (page.new.out.items ≡ page.old.out.items
-        ++ written (listed_part lists.now (label_by_value label.now))) }
+        ++ written (line_part (list_at lists.now) (label_by_value label.now))) }
 {
     push_line_row(page, label)?;
     push_listed_rows(page, lists, label.number)
@@ -114,7 +114,7 @@ fn push_line_parts(
     labels: &[LabeledLine<'_>],
 ) -> Result<(), AllocError>
     ensures { OnOk result (page.new.out.items ≡ page.old.out.items
-        ++ all (listed_part lists.now) (map label_by_value labels.now)) }
+        ++ all (line_part (list_at lists.now)) (map label_by_value labels.now)) }
 {
     for label in labels {
         push_line_part(page, lists, label)?;
@@ -123,14 +123,14 @@ fn push_line_parts(
 }
 
 /// Appends a body of the table.
-#[tactic(auto, using(crate::proofs::TreeLemmas::joined), unfolding(crate::specs::Internal::ByLine::listed_body))]
+#[tactic(auto, using(crate::proofs::TreeLemmas::joined), unfolding(crate::specs::Page::line_body))]
 fn push_line_body(
     page: &mut Page,
     lists: &[Vec<Warning<'_>>],
     labels: &[LabeledLine<'_>],
 ) -> Result<(), AllocError>
     ensures { OnOk result (page.new.out.items ≡ page.old.out.items
-        ++ written (listed_body lists.now (map label_by_value labels.now))) }
+        ++ written (line_body (list_at lists.now) (map label_by_value labels.now))) }
 {
     push_start(&mut page.out, "tbody")?;
     push_line_parts(page, lists, labels)?;
@@ -144,7 +144,7 @@ fn push_listed_bodies(
     labels: &[LabeledLine<'_>],
 ) -> Result<(), AllocError>
     ensures { OnOk result (page.new.out.items ≡ page.old.out.items
-        ++ all (listed_body lists.now) (bodies (map label_by_value labels.now))) }
+        ++ all (line_body (list_at lists.now)) (bodies (map label_by_value labels.now))) }
 {
     let mut rest = labels;
     while !rest.is_empty() {
@@ -162,7 +162,7 @@ fn push_line_bodies(
     labels: &[LabeledLine<'_>],
 ) -> Result<(), AllocError>
     ensures { OnOk result (page.new.out.items ≡ page.old.out.items
-        ++ all (line_body warnings.now) (bodies (map label_by_value labels.now))) }
+        ++ all (line_body (about_line warnings.now)) (bodies (map label_by_value labels.now))) }
 {
     let lists = by_line(alloc, warnings)?;
     push_listed_bodies(page, &lists, labels)

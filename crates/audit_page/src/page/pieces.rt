@@ -2,23 +2,20 @@
 #![tactic(auto, using(crate::proofs::TreeLemmas::joined), unfolding(html_writer::specs::Html::tag_open, html_writer::specs::Html::tag_close, html_writer::specs::Html::void_close, html_writer::specs::Html::end_tag, html_writer::specs::Html::style_bytes, html_writer::specs::Html::escaped_bytes, crate::specs::Tree::field_bytes, crate::specs::Page::agent_caption, crate::specs::Page::first_columns, crate::specs::Page::code, crate::specs::Page::delay_entry, crate::specs::Page::file_caption, crate::specs::Page::line_columns, crate::specs::Page::line_link, crate::specs::Page::line_cells, crate::specs::Page::head_start, crate::specs::Page::page_heading, crate::specs::Page::sitemap_item, crate::specs::Page::some_rest, crate::specs::Page::url_column, crate::specs::Page::url_head))]
 
 ghost use Rattle.std.specs.Prelude.{◌≡◌, ◌++◌, codes, option_map};
-ghost use Rattle.texting_robots.specs.Callers.{by_value, label_by_value};
-ghost use Rattle.html_writer.specs.Html.{end_tag, escaped};
-ghost use Rattle.printable_text.specs.Raw.{raw_value};
-ghost use Rattle.printable_text.specs.Text.{value_text};
+ghost use Rattle.texting_robots.specs.Callers.{label_by_value};
 ghost use Rattle.audit_core.specs.Rows.{line_value};
 ghost use Rattle.audit_core.specs.Texts.{delay_value};
+ghost use Rattle.html_writer.specs.Html.{end_tag};
 ghost use Rattle.audit_page.specs.Internal.{raw_part, raw_parts};
 ghost use Rattle.audit_page.specs.Page.{agent_caption, first_columns, cell, code, delay_entry, file_caption, head_start, line_cells, line_columns, line_link, line_start};
 ghost use Rattle.audit_page.specs.Page.{page_heading, row_name, scroll_start, sitemap_item, some_rest, title_words, url_column, url_head};
 ghost use Rattle.audit_page.specs.Tree.{shown, words_written, written};
 
 use crate::page::style::{CSS, POLICY};
-use audit_core::rows::{kind_text, membership_word};
+use audit_core::rows::{kind_text, line_value, membership_word};
 use audit_core::texts::delay_value;
 use printable_text::parts::{Part, Value};
 use texting_robots::labels::LabeledLine;
-use texting_robots::parser::Line;
 
 /// The title of a page.
 pub(crate) fn title(agent: Option<&str>) -> Part<'_>
@@ -210,21 +207,6 @@ pub(crate) fn line_columns() -> [Part<'static>; 2]
             Value::Nothing,
         ),
     ]
-}
-
-/// The value of a line: a delay in seconds, any other value sanitized.
-fn line_value<'a>(line: Line<'a>) -> Value<'a>
-    ensures { raw_value result ≡ value_text (line_value (by_value line.entry)) }
-{
-    match line {
-        Line::UserAgent(value)
-        | Line::Allow(value)
-        | Line::Disallow(value)
-        | Line::Sitemap(value)
-        | Line::Raw(value) => Value::Untrusted(value),
-        Line::CrawlDelay(Some(micros)) => Value::Delay(micros),
-        Line::CrawlDelay(None) => Value::Nothing,
-    }
 }
 
 /// The start of the row of a line, with its number.

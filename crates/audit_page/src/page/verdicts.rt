@@ -2,11 +2,8 @@
 #![tactic(auto, using(crate::proofs::TreeLemmas::joined))]
 
 ghost use Rattle.std.specs.Prelude.{◌≡◌, ◌++◌, OnOk, map, option_map};
-ghost use Rattle.html_writer.specs.Html.{escaped};
-ghost use Rattle.printable_text.specs.Text.{value_text};
-ghost use Rattle.audit_page.specs.Page.{agent_columns, agent_content, agent_entries, agent_row, agent_table, crawler_entries};
-ghost use Rattle.audit_page.specs.Page.{deciding_line, group_note, rejection, url_body, url_column, url_part, url_row, url_table};
-ghost use Rattle.audit_page.specs.Page.{verdict_cell, verdict_part, verdict_word};
+ghost use Rattle.audit_page.specs.Page.{agent_columns, agent_content, agent_entries, agent_row, agent_table, crawler_entries, deciding_line};
+ghost use Rattle.audit_page.specs.Page.{group_note, rejection, url_body, url_column, url_part, url_row, url_table, verdict_cell, verdict_part};
 ghost use Rattle.audit_page.specs.Tree.{all, written};
 
 use crate::page::parts::{Page, push, push_start_with};
@@ -19,12 +16,6 @@ use audit_core::audit::{AgentAudit, Verdict};
 use audit_core::texts::push_group_text;
 use html_writer::write::{push_element, push_end, push_start, push_text};
 use std::alloc::AllocError;
-
-fn verdict_word(allowed: bool) -> &'static str
-    ensures { result.now ≡ value_text (verdict_word allowed) }
-{
-    if allowed { "allowed" } else { "denied" }
-}
 
 /// Appends the line that decides.
 fn push_deciding_line(page: &mut Page, line: Option<usize>) -> Result<(), AllocError>
@@ -42,7 +33,11 @@ fn push_verdict_cell(page: &mut Page, verdict: &Verdict<'_>) -> Result<(), Alloc
     ensures { OnOk result (page.new.out.items ≡ page.old.out.items
         ++ written (verdict_cell verdict.now)) }
 {
-    let name = verdict_word(verdict.decision.allowed);
+    let name = if verdict.decision.allowed {
+        "allowed"
+    } else {
+        "denied"
+    };
     push_start_with(page, "td", "class", name)?;
     push_text(&mut page.out, name.as_bytes())?;
     push_text(&mut page.out, b", ")?;
@@ -61,25 +56,16 @@ fn push_verdict_cells(page: &mut Page, verdicts: &[Verdict<'_>]) -> Result<(), A
     Ok(())
 }
 
-/// Appends a row with a URL and its verdict.
+/// Appends a row for each verdict, with its URL.
 #[tactic(auto, using(crate::proofs::TreeLemmas::joined), unfolding(crate::specs::Page::url_row))]
-fn push_url_row(page: &mut Page, verdict: &Verdict<'_>) -> Result<(), AllocError>
-    ensures { OnOk result (page.new.out.items ≡ page.old.out.items
-        ++ written (url_row verdict.now)) }
-{
-    push_start(&mut page.out, "tr")?;
-    push(page, &row_name(verdict.url.as_bytes()))?;
-    push_verdict_cell(page, verdict)?;
-    push_end(&mut page.out, "tr")
-}
-
-/// Appends a row for each verdict.
 fn push_url_rows(page: &mut Page, verdicts: &[Verdict<'_>]) -> Result<(), AllocError>
-    ensures { OnOk result (page.new.out.items ≡ page.old.out.items
-        ++ all url_row verdicts.now) }
+    ensures { OnOk result (page.new.out.items ≡ page.old.out.items ++ all url_row verdicts.now) }
 {
     for verdict in verdicts {
-        push_url_row(page, verdict)?;
+        push_start(&mut page.out, "tr")?;
+        push(page, &row_name(verdict.url.as_bytes()))?;
+        push_verdict_cell(page, verdict)?;
+        push_end(&mut page.out, "tr")?;
     }
     Ok(())
 }
@@ -118,10 +104,9 @@ fn push_url_part(page: &mut Page, agent: &AgentAudit<'_>) -> Result<(), AllocErr
     push_url_table(page, &agent.verdicts)
 }
 
-/// Appends the table of URLs for each crawler.
+/// Appends the same for each crawler.
 fn push_url_parts(page: &mut Page, agents: &[AgentAudit<'_>]) -> Result<(), AllocError>
-    ensures { OnOk result (page.new.out.items ≡ page.old.out.items
-        ++ all url_part agents.now) }
+    ensures { OnOk result (page.new.out.items ≡ page.old.out.items ++ all url_part agents.now) }
 {
     for agent in agents {
         push_url_part(page, agent)?;
@@ -151,26 +136,17 @@ fn push_group_note(page: &mut Page, agent: &AgentAudit<'_>) -> Result<(), AllocE
     push_rejection(page, agent.rejected)
 }
 
-/// Appends the group and the delay of a crawler.
+/// Appends the group and the delay of each crawler.
 #[tactic(auto, using(crate::proofs::TreeLemmas::joined), unfolding(crate::specs::Page::agent_entries))]
-fn push_agent_entries(page: &mut Page, agent: &AgentAudit<'_>) -> Result<(), AllocError>
-    ensures { OnOk result (page.new.out.items ≡ page.old.out.items
-        ++ written (agent_entries agent.now)) }
-{
-    push_element(&mut page.out, "dt", b"Group")?;
-    push_start(&mut page.out, "dd")?;
-    push_group_note(page, agent)?;
-    push_end(&mut page.out, "dd")?;
-    push(page, &delay_entry(agent.delay))
-}
-
-/// Appends the entries of each crawler.
-fn push_each_agent_entries(page: &mut Page, agents: &[AgentAudit<'_>]) -> Result<(), AllocError>
-    ensures { OnOk result (page.new.out.items ≡ page.old.out.items
-        ++ all agent_entries agents.now) }
+fn push_agent_entries(page: &mut Page, agents: &[AgentAudit<'_>]) -> Result<(), AllocError>
+    ensures { OnOk result (page.new.out.items ≡ page.old.out.items ++ all agent_entries agents.now) }
 {
     for agent in agents {
-        push_agent_entries(page, agent)?;
+        push_element(&mut page.out, "dt", b"Group")?;
+        push_start(&mut page.out, "dd")?;
+        push_group_note(page, agent)?;
+        push_end(&mut page.out, "dd")?;
+        push(page, &delay_entry(agent.delay))?;
     }
     Ok(())
 }
@@ -278,7 +254,7 @@ pub(crate) fn push_crawler_entries(
         agents.now)) }
 {
     match agent {
-        Some(_) => push_each_agent_entries(page, agents),
+        Some(_) => push_agent_entries(page, agents),
         None => Ok(()),
     }
 }

@@ -1,11 +1,10 @@
 //! The warnings of a page: the list at the top, and the rows below their lines.
 #![tactic(auto, using(crate::proofs::TreeLemmas::joined))]
 
-ghost use Rattle.std.specs.Prelude.{◌≡◌, ◌++◌, IfOk, IsTrue, OnOk, drop, map, take};
+ghost use Rattle.std.specs.Prelude.{◌≡◌, ◌++◌, IfOk, IsTrue, OnOk};
 ghost use Rattle.printable_text.specs.Text.{value_text};
-ghost use Rattle.audit_page.specs.Page.{has_row, later_warnings, level_front, line_name, of_cause, rest_count};
-ghost use Rattle.audit_page.specs.Page.{rest_note, warning_entry, warning_item, warning_list, warning_place, warning_row};
-ghost use Rattle.audit_page.specs.Page.{warning_words, without_row};
+ghost use Rattle.audit_page.specs.Page.{level_front, line_name, later_warnings, of_cause, rest_count, rest_note, warning_entry, warning_item};
+ghost use Rattle.audit_page.specs.Page.{warning_list, warning_place, warning_row, warning_words, without_row};
 ghost use Rattle.audit_page.specs.Tree.{all, words_written, written};
 
 use crate::page::parts::{KnownRow, Page, push, push_start_with};
@@ -51,31 +50,19 @@ fn later<'a, 'b>(warnings: &'b [Warning<'a>]) -> &'b [Warning<'a>]
     after(warnings, LISTED_WARNINGS)
 }
 
-/// Whether a warning about this line has a row in the table of lines, which has this number of lines.
-#[tactic(auto)]
-fn has_row(rows: usize, line: Option<usize>) -> bool
-    ensures { result ≡ has_row rows line }
-{
-    match line {
-        Some(number) => number <= rows,
-        None => false,
-    }
-}
-
-/// The warnings that have no such row.
-#[tactic(auto)]
+/// The warnings that have no row in the table of lines, which has so many lines.
 fn without_row<'a>(
     alloc: Global,
     rows: usize,
     warnings: &[Warning<'a>],
 ) -> Result<Vec<Warning<'a>>, AllocError>
-    ensures { IfOk result (λ found. found.items
-        ≡ without_row rows warnings.now) }
+    ensures { IfOk result (λ found. found.items ≡ without_row rows warnings.now) }
 {
     let mut found = Vec::new(alloc);
     for warning in warnings {
-        if !has_row(rows, warning.line) {
-            found.push(warning.copy())?;
+        match warning.line {
+            Some(number) if number <= rows => {}
+            _ => found.push(warning.copy())?,
         }
     }
     Ok(found)
@@ -103,29 +90,20 @@ fn push_warning_place(page: &mut Page, rows: usize, line: Option<usize>) -> Resu
     push_text(&mut page.out, b": ")
 }
 
-/// Appends a warning to the list at the top.
-#[tactic(auto, using(crate::proofs::TreeLemmas::joined), unfolding(crate::specs::Page::warning_item))]
-fn push_warning_item(page: &mut Page, rows: usize, warning: &Warning<'_>) -> Result<(), AllocError>
-    ensures { OnOk result (page.new.out.items ≡ page.old.out.items
-        ++ written (warning_item rows warning.now)) }
-{
-    push_start(&mut page.out, "li")?;
-    push_warning_place(page, rows, warning.line)?;
-    push_warning_words(page, warning)?;
-    push_end(&mut page.out, "li")
-}
-
 /// Appends these warnings to the list at the top.
+#[tactic(auto, using(crate::proofs::TreeLemmas::joined), unfolding(crate::specs::Page::warning_item))]
 fn push_warning_items(
     page: &mut Page,
     rows: usize,
     warnings: &[Warning<'_>],
 ) -> Result<(), AllocError>
-    ensures { OnOk result (page.new.out.items ≡ page.old.out.items
-        ++ all (warning_item rows) warnings.now) }
+    ensures { OnOk result (page.new.out.items ≡ page.old.out.items ++ all (warning_item rows) warnings.now) }
 {
     for warning in warnings {
-        push_warning_item(page, rows, warning)?;
+        push_start(&mut page.out, "li")?;
+        push_warning_place(page, rows, warning.line)?;
+        push_warning_words(page, warning)?;
+        push_end(&mut page.out, "li")?;
     }
     Ok(())
 }
@@ -141,7 +119,7 @@ fn push_rest_note(page: &mut Page, count: usize) -> Result<(), AllocError>
 }
 
 /// How many of these warnings have a row, if `others` are those that have none.
-#[tactic(auto, using(crate::proofs::PieceLemmas::rest_is))]
+#[tactic(auto, using(crate::proofs::PageLemmas::rest_is))]
 fn rest_count(rows: usize, warnings: &[Warning<'_>], others: &[Warning<'_>]) -> usize
     requires { others.now ≡ without_row rows warnings.now }
     ensures { result ≡ rest_count rows warnings.now }
@@ -235,7 +213,21 @@ fn row_for(alloc: Global, last: Option<KnownRow>, cause: Cause) -> Result<KnownR
     }
 }
 
-/// Appends such a row.
+/// Appends the row of each of these warnings, which may be one that is known.
+#[tactic(auto, unfolding(crate::specs::Page::warning_row))]
+pub(crate) fn push_warning_rows(page: &mut Page, warnings: &[Warning<'_>]) -> Result<(), AllocError>
+    ensures { OnOk result (page.new.out.items ≡ page.old.out.items ++ all warning_row warnings.now) }
+{
+    for warning in warnings {
+        match (warning.about, warning.detail) {
+            (None, None) => push_known_row(page, warning.cause)?,
+            _ => push_new_row(page, warning)?,
+        }
+    }
+    Ok(())
+}
+
+/// Appends the row of a warning that has this cause, and whose message has no URL, no name and no number.
 fn push_known_row(page: &mut Page, cause: Cause) -> Result<(), AllocError>
     ensures { OnOk result (page.new.out.items ≡ page.old.out.items
         ++ written (warning_row (of_cause cause))) }
@@ -243,28 +235,5 @@ fn push_known_row(page: &mut Page, cause: Cause) -> Result<(), AllocError>
     let known = row_for(*page.out.allocator(), page.known.take(), cause)?;
     page.out.extend_from_slice(&known.row)?;
     page.known = Some(known);
-    Ok(())
-}
-
-/// Appends the row of a warning, which may be one that is known.
-#[tactic(auto, unfolding(crate::specs::Page::warning_row))]
-fn push_warning_row(page: &mut Page, warning: &Warning<'_>) -> Result<(), AllocError>
-    ensures { OnOk result (page.new.out.items ≡ page.old.out.items
-        ++ written (warning_row warning.now)) }
-{
-    match (warning.about, warning.detail) {
-        (None, None) => push_known_row(page, warning.cause),
-        _ => push_new_row(page, warning),
-    }
-}
-
-/// Appends the row of each of these warnings.
-pub(crate) fn push_warning_rows(page: &mut Page, warnings: &[Warning<'_>]) -> Result<(), AllocError>
-    ensures { OnOk result (page.new.out.items ≡ page.old.out.items
-        ++ all warning_row warnings.now) }
-{
-    for warning in warnings {
-        push_warning_row(page, warning)?;
-    }
     Ok(())
 }

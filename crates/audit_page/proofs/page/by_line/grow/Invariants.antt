@@ -1,6 +1,6 @@
 use Rattle.std.proofs.Common.{◌≡◌, ◌+◌, ℕ}
 use Rattle.std.specs.Vec.{vec_len}
-use Rattle.audit_page.specs.Internal.ByLine.{list_at}
+use Rattle.audit_page.specs.Internal.{list_at}
 use Rattle.audit_page.proofs.page.by_line.grow.Given as goal
 
 abbrev pub invariant-loop : goal.invariant-loop
