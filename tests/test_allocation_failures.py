@@ -11,7 +11,7 @@ import tempfile
 from itertools import count
 
 import pytest
-from support import CRATES, ROOT, SIZES, Result, run, warning_line
+from support import CRATES, FORMATS, ROOT, SIZES, Result, run, warning_line
 
 CALLS = [line.removesuffix(": right") for line in (CRATES / "texting_robots_tests/stdout").read_text().splitlines()]
 WITHOUT_MEMORY = [name for name in CALLS if name.endswith(" without memory")]
