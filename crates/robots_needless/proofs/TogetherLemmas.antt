@@ -1,7 +1,7 @@
 -- Rules that can go one after the other are needless together.
-use Rattle.std.proofs.Common.{◌≡◌, ◌↔◌, inl, inr, ℕ, zero, suc, Bool, true, false, List, [], ◌∷◌, ◌++◌}
-use Rattle.std.proofs.Common.{IsPermutation, ap, refl, sym, subst, ◌∙◌, append_assoc, append-nil, arith, ◌≢◌}
-use Rattle.std.proofs.Common.{◌≤◌, ◌⊎◌, Some}
+use Rattle.std.proofs.Common.{◌≡◌, ◌↔◌, inl, inr, ℕ, Bool, true, false, List, [], ◌∷◌, ◌++◌}
+use Rattle.std.proofs.Common.{IsPermutation, refl, sym, subst, ◌∙◌, append_assoc, append-nil, arith, ◌≢◌}
+use Rattle.std.proofs.Common.{◌≤◌, Some}
 use Rattle.std.specs.Ordering.{eq_by_cmp, nat_cmp}
 use Rattle.std.specs.{List.Contains, BTreeMap.Updates, BTreeMap.get}
 use Rattle.std.proofs.lemmas.List.Elements.{Contains-append_cases, Contains-append_left, Contains-push}
@@ -19,7 +19,7 @@ use Rattle.robots_needless.specs.Needless.{AreDistinct, AreNeedless, IsReason, l
 use Rattle.robots_needless.proofs.DistinctLemmas.{left_are_kept, to_map}
 use Rattle.robots_needless.proofs.RemovalLemmas.{AreWith, can_go}
 use Rattle.robots_needless.specs.declared.needless.Reason.TheVariants.{AllowedAnyway, NeverDecides, NotNeeded}
-use Rattle.std.proofs.lemmas.Bool.{cases_Bool}
+use Rattle.std.proofs.lemmas.{Bool.cases_Bool, List.map-append}
 use Rattle.std.proofs.lemmas.Map.{Lookups.exact_unsigned, Views.tells_apart}
 use Rattle.robots_needless.specs.declared.needless.Reason.TheVariants as reasons
 
@@ -60,25 +60,12 @@ verdicts rules others text same true =
 
 -- ---- one rule less
 
-pub is_only : (rule placed : PlacedRule) → Contains (rule ∷ []) placed → ◌≡◌ {A = PlacedRule} placed rule
-is_only rule placed (zero, below, at) = sym at
-is_only rule placed (suc k, below, at) = absurd (omega arith)
-
 with_last : (others : List PlacedRule) (rule : PlacedRule)
     → AreWith (unplaced others) rule.rule (unplaced (others ++ rule ∷ []))
-with_last others rule = record {
-  more = λ x has.
-      let (placed, listed, is) = placed_of others x has in
-      subst (λ (r : Rule). Contains (unplaced (others ++ rule ∷ [])) r) is
-      (unplaced_of (others ++ rule ∷ []) placed (Contains-append_left others (rule ∷ []) placed listed));
-  only = λ x has.
-      let (placed, listed, is) = placed_of (others ++ rule ∷ []) x has in
-      elim (Contains-append_cases others (rule ∷ []) placed listed) [
-        | inl other ↦
-            inl (subst (λ (r : Rule). Contains (unplaced others) r) is (unplaced_of others placed other))
-        | inr last ↦ inr (sym is ∙ ap (λ (p : PlacedRule). p.rule) (is_only rule placed last))
-      ];
-}
+with_last others rule = rw (map-append (λ (p : PlacedRule). p.rule) others (rule ∷ [])) (record {
+  more = Contains-append_left (unplaced others) (rule.rule ∷ []);
+  only = Contains-push_cases (unplaced others) rule.rule;
+})
 
 pub denied_permuted : (rules others : List PlacedRule) → IsPermutation rules others → (text : List ℕ)
     → IsDenied (unplaced rules) text ↔ IsDenied (unplaced others) text
@@ -239,18 +226,6 @@ needless_in_turn rules kept removed once same can text answer =
 
 -- ---- why a rule can go
 
--- a rule of two lists is one of the first or of the second
-unplaced_cases : (left right : List PlacedRule) (x : Rule) → Contains (unplaced (left ++ right)) x
-    → Contains (unplaced left) x ⊎ Contains (unplaced right) x
-unplaced_cases left right x has =
-    let (placed, listed, is) = placed_of (left ++ right) x has in
-    elim (Contains-append_cases left right placed listed) [
-      | inl first ↦
-          inl (subst (λ (r : Rule). Contains (unplaced left) r) is (unplaced_of left placed first))
-      | inr second ↦
-          inr (subst (λ (r : Rule). Contains (unplaced right) r) is (unplaced_of right placed second))
-    ]
-
 -- ---- rivals
 
 pub no_rival_near : (one two others : List PlacedRule) (m n : ℕ) (rule : PlacedRule)
@@ -279,21 +254,17 @@ both_near kept rest rule = record {
   ];
 }
 
-of_one : (floor : ℕ) (rule : Rule) (other : PlacedRule) → IsNoRival floor rule other.rule → (x : Rule)
-    → Contains (unplaced (other ∷ [])) x → IsNoRival floor rule x
-of_one floor rule other apart x (zero, below, is) = subst (λ (r : Rule). IsNoRival floor rule r) is apart
-of_one floor rule other apart x (suc k, below, is) = absurd (omega arith)
-
 -- one more of the others
 pub no_rival_more : (others : List PlacedRule) (other : PlacedRule) (m n : ℕ) (rule : Rule)
     → HasNoRival (unplaced others) m rule → m ≤ n → IsNoRival n rule other.rule
     → HasNoRival (unplaced (others ++ other ∷ [])) n rule
-no_rival_more others other m n rule before most apart = record {
-  none = λ x has kinds low high. elim (unplaced_cases others (other ∷ []) x has) [
-    | inl sooner ↦ before.none x sooner kinds (omega arith) high
-    | inr last ↦ of_one n rule other apart x last kinds low high
-  ];
-}
+no_rival_more others other m n rule before most apart =
+    rw (map-append (λ (p : PlacedRule). p.rule) others (other ∷ [])) (record {
+      none = λ x has. elim (Contains-push_cases (unplaced others) other.rule x has) [
+        | inl sooner ↦ λ kinds low high. before.none x sooner kinds (omega arith) high
+        | inr last ↦ subst (λ (r : Rule). IsNoRival n rule r) last apart
+      ];
+    })
 
 -- ---- a rule that covers the rule is among some of the others
 
