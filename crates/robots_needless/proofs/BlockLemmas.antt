@@ -387,41 +387,21 @@ masked_nothing gone name given none tracker position (line ∷ lines) (is, are) 
     ])
     (masked_nothing gone name given none (step name tracker line) (position + 1) lines are)
 
-any_blank : (gone : ℕ → Bool) (test : LineValue → Bool) → test (Raw []) ≡ false
-    → ((line : LineValue) → is_rule line ≡ true → test line ≡ false) → (position : ℕ)
-    (lines : List LineValue) → RulesGo gone position lines
-    → list_any test (blank gone position lines) ≡ list_any test lines
-any_blank gone test none others position [] are = refl
-any_blank gone test none others position (line ∷ lines) (is, are) =
-    let same = any_blank gone test none others (position + 1) lines are in
-    elim (cases_Bool (gone (position + 1))) [
-      | inl goes ↦ rw (goes, none, others line (is goes)) same
-      | inr stays ↦ rw stays (ap (λ b. test line || b) same)
-    ]
-
-sitemaps_blank : (gone : ℕ → Bool) (position : ℕ) (lines : List LineValue) → RulesGo gone position lines
-    → sitemaps_in (blank gone position lines) ≡ sitemaps_in lines
-sitemaps_blank gone position [] are = refl
-sitemaps_blank gone position (line ∷ lines) (is, are) =
-    let same = sitemaps_blank gone (position + 1) lines are in
-    elim (cases_Bool (gone (position + 1))) [
-      | inl goes ↦ rw (goes, no_sitemap line (is goes)) same
-      | inr stays ↦ rw stays (ap (cons_option (sitemap_in line)) same)
-    ]
-
-early_blank : (gone : ℕ → Bool) (position : ℕ) (lines : List LineValue) → RulesGo gone position lines
-    → filter_map delay_in (before_agent (blank gone position lines))
-    ≡ filter_map delay_in (before_agent lines)
-early_blank gone position [] are = refl
-early_blank gone position (line ∷ lines) (is, are) =
-    let same = early_blank gone (position + 1) lines are in
-    elim (cases_Bool (gone (position + 1))) [
-      | inl goes ↦ rw (goes, no_agent line (is goes), no_delay line (is goes)) same
-      | inr stays ↦ elim (cases_Bool (is_agent line)) [
-        | inl agent ↦ rw (stays, agent) refl
-        | inr other ↦ rw (stays, other) (ap (cons_option (delay_in line)) same)
-      ]
-    ]
+-- so what reads line after line, and no rule, gives the same without them
+same_blank : {A : Type 0} (gone : ℕ → Bool) (read : List LineValue → A) (step : LineValue → A → A)
+    → ((line : LineValue) (lines : List LineValue) → read (line ∷ lines) ≡ step line (read lines))
+    → ((line : LineValue) (later : A) → is_rule line ≡ true → step line later ≡ step (Raw []) later)
+    → (position : ℕ) (lines : List LineValue) → RulesGo gone position lines
+    → read (blank gone position lines) ≡ read lines
+same_blank gone read step first none position [] are = refl
+same_blank gone read step first none position (line ∷ lines) (is, are) =
+    first _ (blank gone (position + 1) lines)
+    ∙ ap (step (if gone (position + 1) then Raw [] else line))
+    (same_blank gone read step first none (position + 1) lines are)
+    ∙ elim (cases_Bool (gone (position + 1))) [
+      | inl goes ↦ rw goes (sym (none line (read lines) (is goes)))
+      | inr stays ↦ rw stays refl
+    ] ∙ sym (first line lines)
 
 -- ---- all lines of a file
 
@@ -436,12 +416,17 @@ module _ (numbers : List ℕ) (lines : List LineValue)
   are_rules : RulesGo goes 0 lines
   are_rules = rules_go goes no_rule 0 lines keeps
 
+  same_any : (test : LineValue → Bool) → test (Raw []) ≡ false
+      → ((line : LineValue) → is_rule line ≡ true → test line ≡ false)
+      → list_any test rest ≡ list_any test lines
+  same_any test none others = same_blank goes (list_any test) (λ line later. test line || later)
+      (λ _ _. refl) (λ line later is. rw (none, others line is) refl) 0 lines are_rules
+
   same_name : (agent : List ℕ) → group_name agent rest ≡ group_name agent lines
-  same_name agent = rw (any_blank goes (is_agent_named _) refl
-      (λ line is. only_agents _ line (no_agent line is)) 0 lines are_rules) refl
+  same_name agent = rw (same_any (is_agent_named _) refl (λ line is. only_agents _ line (no_agent line is))) refl
 
   same_agents : list_any is_agent rest ≡ list_any is_agent lines
-  same_agents = any_blank goes is_agent refl no_agent 0 lines are_rules
+  same_agents = same_any is_agent refl no_agent
 
   same_lines : (agent : List ℕ) → Same agent (lines_without numbers lines) agent rest
   same_lines agent = raw_changes_nothing agent _ _
@@ -479,9 +464,14 @@ module _ (numbers : List ℕ) (lines : List LineValue)
       ∙ masked_nothing goes name delay_in no_delay (start_of lines) 0 lines are_rules
       ∙ sym (captured_walked given name lines)
 
+  early : filter_map delay_in (before_agent rest) ≡ filter_map delay_in (before_agent lines)
+  early = same_blank goes (λ ls. filter_map delay_in (before_agent ls))
+      (λ line later. if is_agent line then [] else cons_option (delay_in line) later)
+      (λ line ls. elim (cases_Bool (is_agent line)) [ inl is ↦ rw is refl | inr isnt ↦ rw isnt refl ])
+      (λ line later is. rw (no_agent line is, no_delay line is) refl) 0 lines are_rules
+
   same_before : delay_before_agents rest ≡ delay_before_agents lines
-  same_before =
-      rw (same_agents, before_agents rest, before_agents lines, early_blank goes 0 lines are_rules) refl
+  same_before = rw (same_agents, before_agents rest, before_agents lines, early) refl
 
   pub delays_stay : (agent : List ℕ) → delay_for agent (lines_without numbers lines) ≡ delay_for agent lines
   delays_stay agent =
@@ -489,4 +479,5 @@ module _ (numbers : List ℕ) (lines : List LineValue)
       ∙ ap₂ (λ delays early. option_or (slice_get delays 0) early) (same_delays agent) same_before
 
   pub sitemaps_stay : sitemaps_in (lines_without numbers lines) ≡ sitemaps_in lines
-  sitemaps_stay = (same_lines []).1 ∙ sitemaps_blank goes 0 lines are_rules
+  sitemaps_stay = (same_lines []).1 ∙ same_blank goes sitemaps_in (λ line. cons_option (sitemap_in line))
+      (λ _ _. refl) (λ line later is. rw (no_sitemap line is) refl) 0 lines are_rules

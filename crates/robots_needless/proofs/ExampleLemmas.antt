@@ -1,6 +1,6 @@
 -- The worked examples.
 use Rattle.std.proofs.Common.{◌≡◌, ◌≢◌, ◌<◌, ◌↔◌, ◌⊎◌, inl, inr, ℕ, zero, suc, Bool, true, false, List, []}
-use Rattle.std.proofs.Common.{◌∷◌, Contains, codes, get_or, refl, sym, arith}
+use Rattle.std.proofs.Common.{◌∷◌, Contains, codes, get_or, refl, arith}
 use Rattle.std.proofs.lemmas.Bool.{false≢true}
 use Rattle.texting_robots.specs.{Rules.PlacedRule, Rules.Rule, Rules.unplaced, Verdict.IsVerdict}
 use Rattle.texting_robots.proofs.ExampleLemmas.{matching, not_matching}
@@ -29,8 +29,8 @@ again others text =
     with_one = record { more = λ x (k, below, at). (suc k, omega arith, at); only = of }
       where
         of : (x : Rule) → Contains ((codes "/a", false) ∷ (codes "/a", false) ∷ others) x
-            → Contains ((codes "/a", false) ∷ others) x ⊎ (◌≡◌ {A = Rule} x (codes "/a", false))
-        of x (zero, below, at) = inr (sym at)
+            → Contains ((codes "/a", false) ∷ others) x ⊎ (◌≡◌ {A = Rule} (codes "/a", false) x)
+        of x (zero, below, at) = inr at
         of x (suc k, below, at) = inl (k, omega arith, at)
 
 pub one_of_two : example.one_of_two

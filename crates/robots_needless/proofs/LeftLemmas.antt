@@ -1,9 +1,9 @@
 -- If the found lines are deleted from a file, each crawler's robot stays the same.
-use Rattle.std.proofs.Common.{◌≡◌, ◌≢◌, ◌≤◌, ◌↔◌, inl, inr, ℕ, zero, suc, ◌+◌, ◌==◌, ◌||◌, Bool, true, false}
+use Rattle.std.proofs.Common.{◌≡◌, ◌≢◌, ◌≤◌, ◌↔◌, inl, inr, ℕ, zero, suc, ◌+◌, ◌==◌, ◌||◌, Bool, false}
 use Rattle.std.proofs.Common.{not, List, [], ◌∷◌, ◌++◌, Any, IsUtf8, ap, ap₂, sym, refl, subst, ◌∙◌, arith}
 use Rattle.std.proofs.Common.{filter, length, length-append, map}
 use Rattle.std.specs.List.{concat}
-use Rattle.std.proofs.lemmas.Bool.{cases_Bool, false≢true}
+use Rattle.std.proofs.lemmas.Bool.{cases_Bool, or_parts}
 use Rattle.std.proofs.lemmas.List.{map-append}
 use Rattle.texting_robots.specs.Callers.{HasLines, IsOverlong, IsRejected, IsRobotOf, IsVerdict, LineValue}
 use Rattle.texting_robots.specs.Callers.{PlacedRule, RobotValue, Rule, file_bodies, file_lines, nul_as_lf}
@@ -29,10 +29,6 @@ use Rattle.robots_needless.proofs.{BlockLemmas.among, BlockLemmas.left_are, Dist
 
 -- ---- what is left behind it
 
-neither : (a b : Bool) → (a || b) ≡ false → (a ≡ false) × (b ≡ false)
-neither false b none = (refl, none)
-neither true b none = absurd (false≢true (sym none))
-
 unmarked : (pairs : List Pair) → ArePairs pairs → begin_with_mark (map pair_body pairs) ≡ false
     → IsUnmarked (joined pairs)
 unmarked [] are none = record { first = refl; second = refl; third = refl }
@@ -42,8 +38,8 @@ unmarked (pair ∷ later) (is, are) none = at pair.body pair.ending is.ending is
         → begin_with_mark (bytes ∷ map pair_body later) ≡ false
         → IsUnmarked ((bytes ++ ending) ++ joined later)
     at (b ∷ bytes) ending end last none =
-        let (one, rest) = neither (b == 0xEF) ((b == 0xBB) || (b == 0xBF)) none in
-        let (two, three) = neither (b == 0xBB) (b == 0xBF) rest in
+        let (one, rest) = or_parts (b == 0xEF) ((b == 0xBB) || (b == 0xBF)) none in
+        let (two, three) = or_parts (b == 0xBB) (b == 0xBF) rest in
         record { first = rw one refl; second = rw two refl; third = rw three refl }
     at [] ending (zero, inl e) last none = absurd ((last e).1 refl)
     at [] ending (suc k, inl e) last none = rw e (record { first = refl; second = refl; third = refl })

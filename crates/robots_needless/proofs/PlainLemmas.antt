@@ -2,10 +2,10 @@
 -- begin a rule match a text that it matches.
 use Rattle.std.proofs.Common.{◌≡◌, ◌≢◌, ◌<◌, ◌≤◌, ◌⊎◌, inl, inr, ℕ, ◌+◌, ◌*◌, Bool, true, false, List, []}
 use Rattle.std.proofs.Common.{◌∷◌, ◌++◌, All, if◌then◌else◌, IsTrue, ◌↔◌, ap, sym, subst, refl, ◌∙◌}
-use Rattle.std.proofs.Common.{append-nil, arith, drop, length, Less, Equal, Greater, get_or, nat_eq, take}
+use Rattle.std.proofs.Common.{append-nil, arith, drop, length, Less, Equal, Greater, nat_eq, take}
 use Rattle.std.specs.Cmp.Lexicographic.{slice_cmp, bytes_decides, on_texts, pointwise}
 use Rattle.std.specs.Ordering.{is_lt, nat_cmp, ordering_then}
-use Rattle.std.specs.{List.Contains, List.starts_with, Cmp.IsStrictWeakOrder, BTreeSet.BTreeSet}
+use Rattle.std.specs.{List.Contains, List.starts_with, Cmp.IsStrictWeakOrder}
 use Rattle.std.specs.List.Sorted.{IsSortedBy}
 use Rattle.std.specs.declared.cmp.Ordering.{Ordering}
 use Rattle.std.proofs.Math.Dec.{eqb}
@@ -17,7 +17,7 @@ use Rattle.std.proofs.lemmas.List.Elements.{Contains-append_cases, Contains-appe
 use Rattle.std.proofs.lemmas.List.Elements.{Contains-append_right, Contains-push, Contains-push_cases}
 use Rattle.std.proofs.lemmas.List.MinMax.{ranks_by}
 use Rattle.std.proofs.lemmas.List.Sorted.{IsPermutation-append_left, IsPermutation-refl, IsPermutation-trans}
-use Rattle.std.proofs.lemmas.List.Sorted.{sorted_far, Contains-permutation, IsPermutation-sym}
+use Rattle.std.proofs.lemmas.List.Sorted.{sorted_far}
 use Rattle.texting_robots.specs.{Pattern.Matches, Pattern.MatchesWith, Rules.PlacedRule}
 use Rattle.texting_robots.proofs.{OrderLemmas.cmp_less, OrderLemmas.cmp_same, PatternLemmas.in_front}
 use Rattle.robots_needless.specs.Internal.{AreDescending, AreLeft, AreNear, IsAfter, IsNoRival, IsPlain}
@@ -193,14 +193,9 @@ module _ (rest old : List PlacedRule) (rule : PlacedRule) (last : old ≡ rest +
 
   descending_front : AreDescending rest
   descending_front i j d most below =
-      let one : List PlacedRule = rule ∷ [] in
-      let first = get_or_append_left rest one d i (omega (arith, most, below)) in
-      let second = get_or_append_left rest one d j below in
-      let (plain, after) = descending i j d most (omega (arith, below, length_push rest rule)) in (
-        subst (λ (p : PlacedRule). IsPlain p) second plain,
-        subst (λ (p : PlacedRule). IsAfter p (get_or rest j d)) first
-            (subst (λ (p : PlacedRule). IsAfter (get_or (rest ++ one) i d) p) second after),
-      )
+      let first = get_or_append_left rest (rule ∷ []) d i (omega (arith, most, below)) in
+      let second = get_or_append_left rest (rule ∷ []) d j below in
+      rw (first, second) at (descending i j d most (omega (arith, below, length_push rest rule)))
 
   -- the rule is plain, and those that are left are plain and not before it
   in_front_of : (other : PlacedRule) → Contains old other → IsPlain other × IsPlain rule × IsAfter other rule
@@ -209,12 +204,9 @@ module _ (rest old : List PlacedRule) (rule : PlacedRule) (last : old ≡ rest +
       let n = length_push rest rule in
       let end = get_or_push rest rule other (length rest) refl in
       let (itself, same) = descending k k other (omega arith) below in
-      let (plain, after) = descending k (length rest) other (omega (arith, below, n)) (omega (arith, n)) in (
-        subst (λ (p : PlacedRule). IsPlain p) is itself,
-        subst (λ (p : PlacedRule). IsPlain p) end plain,
-        subst (λ (p : PlacedRule). IsAfter other p) end
-            (subst (λ (p : PlacedRule). IsAfter p (get_or (rest ++ rule ∷ []) (length rest) other)) is after),
-      )
+      let (plain, after) =
+      rw (is, end) at (descending k (length rest) other (omega (arith, below, n)) (omega (arith, n))) in
+      (rw is at itself, plain, after)
 
   in_old : (other : PlacedRule) → Contains rest other → Contains old other
   in_old other has = rw last (Contains-append_left rest (rule ∷ []) other has)
@@ -236,15 +228,12 @@ module _ (near far rest old new_near new_far : List PlacedRule) (rule : PlacedRu
   ]
 
   -- the kept rules, in another order
-  pub near_moved : (starred : List PlacedRule) {all : List PlacedRule} {start found : Reasons}
-      {stayed stays : BTreeSet ℕ} → IsReducing all (far ++ near) (starred ++ old) start found stayed stays
-      → IsReducing all (new_far ++ new_near) (starred ++ old) start found stayed stays
-  near_moved starred is =
-      reordered is (new_far ++ new_near) (starred ++ old) _
-      (IsPermutation-append_left (starred ++ old) (far ++ near) (new_far ++ new_near) left.same)
-      (λ n has. has) (λ placed has.
-      is.reduced.stay placed (Contains-permutation (new_far ++ new_near) (far ++ near) placed
-      (IsPermutation-sym (far ++ near) (new_far ++ new_near) left.same) has))
+  pub near_moved : (later : List PlacedRule) {all : List PlacedRule} {start found : Reasons}
+      → IsReducing all ((far ++ near) ++ later) start found
+      → IsReducing all ((new_far ++ new_near) ++ later) start found
+  near_moved later is =
+      reordered is ((new_far ++ new_near) ++ later)
+      (IsPermutation-append_left later (far ++ near) (new_far ++ new_near) left.same)
 
   pub rule_goes : AreParted new_near new_far rest
   rule_goes = record {

@@ -11,7 +11,7 @@ use Rattle.robots_needless.specs.Needless.{rank_of}
 -- all these rules are the others and this one
 pub record AreWith (others : List Rule) (rule : Rule) (all : List Rule) : Type 0 where
   pub more : (x : Rule) → Contains others x → Contains all x
-  pub only : (x : Rule) → Contains all x → Contains others x ⊎ (◌≡◌ {A = Rule} x rule)
+  pub only : (x : Rule) → Contains all x → Contains others x ⊎ (◌≡◌ {A = Rule} rule x)
 
 -- every matching Allow is shorter than the pattern
 abbrev IsLongest : List Rule → List ℕ → List ℕ → Type 0
@@ -36,7 +36,7 @@ module _ (others all : List Rule) (text : List ℕ) where
       fits,
       λ a listed. elim (are.only (a, true) listed) [
         | inl other ↦ longest a other
-        | inr same ↦ absurd (kinds_differ p a (sym same))
+        | inr same ↦ absurd (kinds_differ p a same)
       ],
     )
 
@@ -71,7 +71,7 @@ module _ (others all : List Rule) (text : List ℕ) where
     denied_without can (differs, q, has, fits, longest) = elim (are.only (q, false) has) [
       | inl other ↦ (differs, q, other, fits, λ a listed. longest a (are.more (a, true) listed))
       | inr same ↦
-          let e = same_pattern q p false false same in
+          let e = same_pattern q p false false (sym same) in
           let here = subst (λ r. Matches r text) e fits in
           let most = subst (λ r. IsLongest all text r) e longest in
           elim can [
@@ -87,7 +87,7 @@ module _ (others all : List Rule) (text : List ℕ) where
     denied_less : IsDenied all text → IsDenied others text
     denied_less (differs, q, has, fits, longest) = elim (are.only (q, false) has) [
       | inl other ↦ (differs, q, other, fits, λ a listed. longest a (are.more (a, true) listed))
-      | inr same ↦ absurd (kinds_differ q p same)
+      | inr same ↦ absurd (kinds_differ q p (sym same))
     ]
 
     -- a Disallow decides if it is longer than each matching Allow, also than this one
@@ -101,8 +101,8 @@ module _ (others all : List Rule) (text : List ℕ) where
       λ a has here. elim (are.only (a, true) has) [
         | inl other ↦ longest a other here
         | inr same ↦
-            let e = same_pattern a p true true same in
-            subst (λ r. length r < length q) (sym e) (longer (subst (λ r. Matches r text) e here))
+            let e = same_pattern p a true true same in
+            subst (λ r. length r < length q) e (longer (subst (λ r. Matches r text) (sym e) here))
       ],
     )
 

@@ -1,7 +1,6 @@
 -- What is found for several crawlers: rules that are needless for each of them.
 use Rattle.std.proofs.Common.{◌≡◌, ◌↔◌, inl, inr, ℕ, zero, suc, ◌==◌, Bool, true, false, List, [], ◌∷◌, ◌++◌}
 use Rattle.std.proofs.Common.{All, ◌+◌, ◌<◌, length, ap, sym, refl, subst, ◌∙◌, arith, codes, filter, map}
-use Rattle.std.proofs.Common.{append-nil}
 use Rattle.std.specs.{BTreeMap.IsOrdered, BTreeMap.keys, BTreeSet.BTreeSet, BTreeSet.contains, List.Contains}
 use Rattle.std.specs.{List.enumerate_from, List.list_any, Ordering.nat_cmp, Cmp.nat_cmp_total}
 use Rattle.std.proofs.lemmas.Bool.{cases_Bool, false≢true}
@@ -17,7 +16,7 @@ use Rattle.texting_robots.proofs.BestLemmas.{placed_of}
 use Rattle.texting_robots.proofs.HeldLemmas.{computed_are, rejection_is_computed}
 use Rattle.robots_needless.specs.Blocks.{KeepBlocks, is_found, keep_blocks_from, left_from, no_rule}
 use Rattle.robots_needless.specs.Deleted.{AreFoundIn, begin_with_mark}
-use Rattle.robots_needless.specs.Internal.{AreFree, AreReasons, AreSettled, Grow, IsSettled, Reasons, rule_at}
+use Rattle.robots_needless.specs.Internal.{AreFree, AreReasons, AreSettled, Grow, HasAll, IsSettled, Reasons, rule_at}
 use Rattle.robots_needless.specs.Internal.{AreAccepted}
 use Rattle.robots_needless.specs.Needless.{AreFound, AreNeedless, IsFound, IsFoundFor, KeepsRule, numbers_of}
 use Rattle.robots_needless.specs.Needless.{without}
@@ -31,9 +30,9 @@ use Rattle.robots_needless.proofs.TogetherLemmas.{verdicts_without}
 pub no_reasons : (lines : List LineValue) (found : Reasons) → found.entries ≡ [] → AreReasons lines found
 no_reasons lines found empty line reason at = let wrong = rw empty at at in cc
 
-pub reasons_more : (lines : List LineValue) (old new : Reasons) (stayed stays : BTreeSet ℕ)
-    → AreReasons lines old → Grow (IsFoundFor lines) old new stayed stays → AreReasons lines new
-reasons_more lines old new stayed stays before grow line reason at = elim (grow.reasons line reason at) [
+pub reasons_more : (lines : List LineValue) (old new : Reasons) → AreReasons lines old
+    → Grow (IsFoundFor lines) old new → AreReasons lines new
+reasons_more lines old new before grow line reason at = elim (grow.reasons line reason at) [
   | inl old ↦ before line reason old
   | inr is ↦ is
 ]
@@ -50,11 +49,9 @@ not_rejected agent lines all rejected =
     (subst (λ (r : Rule). IsOverlong r.0) (sym is) overlong)
 
 pub grow_for : (lines : List LineValue) (agent : List ℕ) (rules : List PlacedRule) (old new : Reasons)
-    (stayed stays : BTreeSet ℕ) → rules ≡ placed_rules agent lines
-    → Grow (IsFound rules) old new stayed stays → Grow (IsFoundFor lines) old new stayed stays
-grow_for lines agent rules old new stayed stays are grow = record {
+    → rules ≡ placed_rules agent lines → Grow (IsFound rules) old new → Grow (IsFoundFor lines) old new
+grow_for lines agent rules old new are grow = record {
   found = grow.found;
-  lines = grow.lines;
   reasons = λ line reason at. elim (grow.reasons line reason at) [
     | inl before ↦ inl before
     | inr is ↦
@@ -67,23 +64,23 @@ grow_for lines agent rules old new stayed stays are grow = record {
 
 pub settled_more : (P : NeedlessRule → Type 0) (lines : List LineValue) (agents : List (List ℕ))
     (last : List ℕ) (old new : Reasons) (stayed stays : BTreeSet ℕ) → AreSettled lines agents old stayed
-    → Grow P old new stayed stays → AreAccepted (placed_rules last lines)
+    → Grow P old new → HasAll stays stayed → AreAccepted (placed_rules last lines)
     → IsSettled (placed_rules last lines) new stays → AreSettled lines (agents ++ last ∷ []) new stays
-settled_more P lines agents last old new stayed stays are grow accepted is agent has =
+settled_more P lines agents last old new stayed stays are grow more accepted is agent has =
     elim (Contains-push_cases agents last agent has) [
       | inl before ↦
-          let (all, (left, reduced)) = are agent before in (
+          let (all, was) = are agent before in (
             all,
-            (
-              left,
-              record {
-                removed = reduced.removed;
-                same = reduced.same;
-                denied = reduced.denied;
-                go = λ placed has. grow.found placed.line (reduced.go placed has);
-                stay = λ placed has. grow.lines placed.line (reduced.stay placed has);
-              },
-            ),
+            record {
+              left = was.left;
+              reduced = record {
+                removed = was.reduced.removed;
+                same = was.reduced.same;
+                denied = was.reduced.denied;
+                go = λ placed has. grow.found placed.line (was.reduced.go placed has);
+              };
+              stay = λ placed has. more placed.line (was.stay placed has);
+            },
           )
       | inr same ↦
           subst (λ a. AreAccepted (placed_rules a lines) × IsSettled (placed_rules a lines) new stays)
@@ -118,13 +115,15 @@ numbers_are (e ∷ entries) = ap (λ ns. e.0 ∷ ns) (numbers_are entries)
 pub settled_needless : (found : Reasons) (stays : BTreeSet ℕ) (list : List NeedlessRule)
     → list ≡ map rule_at found.entries → AreFree list stays → (rules : List PlacedRule)
     → IsSettled rules found stays → AreNeedless rules (numbers_of list)
-settled_needless found stays list are free rules (left, is) text answer =
+settled_needless found stays list are free rules is text answer =
     let numbers = numbers_of list in
+    let left = is.left in
     let members : (placed : PlacedRule) → Contains (without numbers rules) placed ↔ Contains left placed =
-    left_without numbers rules left is.removed (rw append-nil at is.same)
+    left_without numbers rules left is.reduced.removed is.reduced.same
     (λ placed removed.
     let key =
-    (btree_map_contains_key_iff nat_cmp_total exact_unsigned found placed.line).0 (is.go placed removed) in
+    (btree_map_contains_key_iff nat_cmp_total exact_unsigned found placed.line).0
+    (is.reduced.go placed removed) in
     rw are (subst (λ ns. Contains ns placed.line) (sym (numbers_are found.entries)) key))
     (λ placed kept number.
     let (one, listed, at) = of_map (λ (o : NeedlessRule). o.line) list placed.line number in
@@ -132,7 +131,7 @@ settled_needless found stays list are free rules (left, is) text answer =
     let none : contains nat_cmp stays placed.line ≡ false =
     subst (λ n. contains nat_cmp stays n ≡ false) at (All-contains is_free list one free listed) in
     false≢true (sym none ∙ is.stay placed kept)) in
-    verdicts_without rules left numbers text (rw append-nil at (is.denied text)) members answer
+    verdicts_without rules left numbers text (is.reduced.denied text) members answer
 
 pub reasons_listed : (found : Reasons) → IsOrdered nat_cmp found → (list : List NeedlessRule)
     → list ≡ map rule_at found.entries → (lines : List LineValue) → AreReasons lines found

@@ -1,9 +1,9 @@
 -- Rules that can go one after the other are needless together.
-use Rattle.std.proofs.Common.{◌≡◌, ◌↔◌, inl, inr, ℕ, zero, suc, Bool, true, false, List, [], ◌∷◌, ◌++◌}
-use Rattle.std.proofs.Common.{IsPermutation, ap, refl, sym, subst, ◌∙◌, append_assoc, append-nil, arith, ◌≢◌}
-use Rattle.std.proofs.Common.{◌≤◌, ◌⊎◌, Some}
+use Rattle.std.proofs.Common.{◌≡◌, ◌↔◌, inl, inr, ℕ, Bool, true, false, List, [], ◌∷◌, ◌++◌}
+use Rattle.std.proofs.Common.{IsPermutation, refl, sym, subst, ◌∙◌, append_assoc, append-nil, arith, ◌≢◌}
+use Rattle.std.proofs.Common.{◌≤◌, Some}
 use Rattle.std.specs.Ordering.{eq_by_cmp, nat_cmp}
-use Rattle.std.specs.{List.Contains, BTreeMap.Updates, BTreeMap.get, BTreeSet.BTreeSet}
+use Rattle.std.specs.{List.Contains, BTreeMap.Updates, BTreeMap.get}
 use Rattle.std.proofs.lemmas.List.Elements.{Contains-append_cases, Contains-append_left, Contains-push}
 use Rattle.std.proofs.lemmas.List.Elements.{Contains-append_right, Contains-push_cases}
 use Rattle.std.proofs.lemmas.List.Sorted.{Contains-permutation, IsPermutation-append_comm}
@@ -14,12 +14,12 @@ use Rattle.texting_robots.specs.Verdict.{IsDenied, IsVerdict}
 use Rattle.texting_robots.proofs.{BestLemmas.placed_of, VerdictLemmas.same_verdicts}
 use Rattle.robots_needless.specs.declared.needless.Reason.{Reason}
 use Rattle.robots_needless.specs.Internal.{AreAmong, CanGoInTurn, Goes, AreNear, CanReplace, HasNoRival}
-use Rattle.robots_needless.specs.Internal.{IsNoRival, AddsNumber, Has, HasLine, IsReducing, Reasons}
+use Rattle.robots_needless.specs.Internal.{IsNoRival, HasLine, IsReducing, Reasons}
 use Rattle.robots_needless.specs.Needless.{AreDistinct, AreNeedless, IsReason, lines_of, without, Overrules}
 use Rattle.robots_needless.proofs.DistinctLemmas.{left_are_kept, to_map}
 use Rattle.robots_needless.proofs.RemovalLemmas.{AreWith, can_go}
 use Rattle.robots_needless.specs.declared.needless.Reason.TheVariants.{AllowedAnyway, NeverDecides, NotNeeded}
-use Rattle.std.proofs.lemmas.Bool.{cases_Bool}
+use Rattle.std.proofs.lemmas.{Bool.cases_Bool, List.map-append}
 use Rattle.std.proofs.lemmas.Map.{Lookups.exact_unsigned, Views.tells_apart}
 use Rattle.robots_needless.specs.declared.needless.Reason.TheVariants as reasons
 
@@ -60,25 +60,12 @@ verdicts rules others text same true =
 
 -- ---- one rule less
 
-pub is_only : (rule placed : PlacedRule) → Contains (rule ∷ []) placed → ◌≡◌ {A = PlacedRule} placed rule
-is_only rule placed (zero, below, at) = sym at
-is_only rule placed (suc k, below, at) = absurd (omega arith)
-
 with_last : (others : List PlacedRule) (rule : PlacedRule)
     → AreWith (unplaced others) rule.rule (unplaced (others ++ rule ∷ []))
-with_last others rule = record {
-  more = λ x has.
-      let (placed, listed, is) = placed_of others x has in
-      subst (λ (r : Rule). Contains (unplaced (others ++ rule ∷ [])) r) is
-      (unplaced_of (others ++ rule ∷ []) placed (Contains-append_left others (rule ∷ []) placed listed));
-  only = λ x has.
-      let (placed, listed, is) = placed_of (others ++ rule ∷ []) x has in
-      elim (Contains-append_cases others (rule ∷ []) placed listed) [
-        | inl other ↦
-            inl (subst (λ (r : Rule). Contains (unplaced others) r) is (unplaced_of others placed other))
-        | inr last ↦ inr (sym is ∙ ap (λ (p : PlacedRule). p.rule) (is_only rule placed last))
-      ];
-}
+with_last others rule = rw (map-append (λ (p : PlacedRule). p.rule) others (rule ∷ [])) (record {
+  more = Contains-append_left (unplaced others) (rule.rule ∷ []);
+  only = Contains-push_cases (unplaced others) rule.rule;
+})
 
 pub denied_permuted : (rules others : List PlacedRule) → IsPermutation rules others → (text : List ℕ)
     → IsDenied (unplaced rules) text ↔ IsDenied (unplaced others) text
@@ -137,110 +124,81 @@ module _ (one two rest old : List PlacedRule) (rule : PlacedRule) (last : old �
       (rest_to_front one two rule)))
 
 -- nothing is removed yet
-pub nothing_removed : (rules others : List PlacedRule) (found : Reasons) (stays : BTreeSet ℕ)
-    → IsPermutation rules others → IsReducing rules [] others found found stays stays
-nothing_removed rules others found stays same = record {
+pub nothing_removed : (rules others : List PlacedRule) (found : Reasons) → IsPermutation rules others
+    → IsReducing rules others found found
+nothing_removed rules others found same = record {
   reduced = record {
     removed = [];
     same = rw (append-nil others) same;
     denied = denied_permuted rules others same;
     go = λ placed (k, below, at). absurd (omega arith);
-    stay = λ placed (k, below, at). absurd (omega arith);
   };
-  grow = record { found = λ line has. has; lines = λ n has. has; reasons = λ line reason is. inl is };
+  grow = record { found = λ line has. has; reasons = λ line reason is. inl is };
 }
 
-module _ {all kept rest : List PlacedRule} {start found : Reasons} {stayed stays : BTreeSet ℕ}
-    (is : IsReducing all kept rest start found stayed stays) where
-  -- in another order, in which more rules are kept
-  pub reordered : (others later : List PlacedRule) (new : BTreeSet ℕ)
-      → IsPermutation (kept ++ rest) (others ++ later) → ((n : ℕ) → Has stays n → Has new n)
-      → ((placed : PlacedRule) → Contains others placed → Has new placed.line)
-      → IsReducing all others later start found stayed new
-  reordered others later new same more stay = record {
+module _ {all left : List PlacedRule} {start found : Reasons} (is : IsReducing all left start found) where
+  pub reordered : (others : List PlacedRule) → IsPermutation left others → IsReducing all others start found
+  reordered others same = record {
     reduced = record {
       removed = is.reduced.removed;
-      same = IsPermutation-trans all ((kept ++ rest) ++ is.reduced.removed)
-          ((others ++ later) ++ is.reduced.removed) is.reduced.same
-          (IsPermutation-append_left is.reduced.removed (kept ++ rest) (others ++ later) same);
-      denied = λ text. both_ways (is.reduced.denied text)
-          (denied_permuted (kept ++ rest) (others ++ later) same text);
+      same = IsPermutation-trans all (left ++ is.reduced.removed) (others ++ is.reduced.removed)
+          is.reduced.same (IsPermutation-append_left is.reduced.removed left others same);
+      denied = λ text. both_ways (is.reduced.denied text) (denied_permuted left others same text);
       go = is.reduced.go;
-      stay = stay;
     };
-    grow = record {
-      found = is.grow.found;
-      lines = λ n has. more n (is.grow.lines n has);
-      reasons = is.grow.reasons;
-    };
+    grow = is.grow;
   }
 
-  module _ (later : List PlacedRule) (rule : PlacedRule) (last : rest ≡ later ++ rule ∷ []) where
-    pub rule_kept : (new : BTreeSet ℕ) → AddsNumber stays new rule.line
-        → IsReducing all (kept ++ rule ∷ []) later start found stayed new
-    rule_kept new adds =
-        reordered (kept ++ rule ∷ []) later new (rw last (rest_to_front kept later rule)) adds.more
-        (λ placed has. elim (Contains-push_cases kept rule placed has) [
-          | inl before ↦ adds.more placed.line (is.reduced.stay placed before)
-          | inr same ↦ subst (λ (p : PlacedRule). Has new p.line) same adds.added
-        ])
-
-    pub rule_gone : (reason : Reason) (new : Reasons) → Goes (kept ++ later) rule reason
-        → Updates nat_cmp found new rule.line (Some reason) → IsReducing all kept later start new stayed stays
-    rule_gone reason new goes set =
-        let one : List PlacedRule = rule ∷ [] in
-        let others = kept ++ later in
-        let removed = is.reduced.removed in
-        let same : IsPermutation all ((others ++ one) ++ removed) =
-        rw (append_assoc kept later one, ← last) is.reduced.same in
-        let denied : (text : List ℕ)
-        → IsDenied (unplaced all) text ↔ IsDenied (unplaced (others ++ one)) text =
-        rw (append_assoc kept later one, ← last) is.reduced.denied in
-        let listed : AreAmong (others ++ one) all =
-        λ placed has. Contains-permutation ((others ++ one) ++ removed) all placed
-        (IsPermutation-sym all ((others ++ one) ++ removed) same)
-        (Contains-append_left (others ++ one) removed placed has) in
-        let holds = reason_among others all
-        (λ placed has. listed placed (Contains-append_left others one placed has)) rule reason goes.holds in
-        let hit : (line : ℕ) → eq_by_cmp nat_cmp rule.line line ≡ true → get nat_cmp new line ≡ Some reason =
-        λ line here. set.0 line ∙ rw here refl in
-        let more : (line : ℕ) → HasLine found line → HasLine new line =
-        λ line has. elim (cases_Bool (eq_by_cmp nat_cmp rule.line line)) [
-          | inl here ↦ rw (hit line here) refl
-          | inr other ↦ rw (set.2 line other) has
-        ] in
-        record {
-          reduced = record {
-            removed = removed ++ one;
-            same = IsPermutation-trans all (others ++ (one ++ removed)) (others ++ (removed ++ one))
-                (rw (← append_assoc others one removed) same)
-                (IsPermutation-append_right others (one ++ removed) (removed ++ one)
-                (IsPermutation-append_comm one removed));
-            denied = λ text. both_ways (denied text)
-                (can_go (unplaced others) (unplaced (others ++ one)) rule.rule (with_last others rule) goes.go
-                text);
-            go = λ placed has. elim (Contains-push_cases removed rule placed has) [
-              | inl before ↦ more placed.line (is.reduced.go placed before)
-              | inr this ↦ subst (λ (p : PlacedRule). HasLine new p.line) this (rw set.1 refl)
-            ];
-            stay = is.reduced.stay;
-          };
-          grow = record {
-            found = λ line has. more line (is.grow.found line has);
-            lines = is.grow.lines;
-            reasons = λ line why at. elim (cases_Bool (eq_by_cmp nat_cmp rule.line line)) [
-              | inl here ↦
-                  let equal : reason ≡ why = let e = hit line here in cc in
-                  inr (
-                    rule,
-                    listed rule (Contains-push others rule),
-                    tells_apart exact_unsigned rule.line line here,
-                    subst (IsReason all rule) equal holds,
-                  )
-              | inr other ↦ is.grow.reasons line why (sym (set.2 line other) ∙ at)
-            ];
-          };
-        }
+  pub rule_gone : (others : List PlacedRule) (rule : PlacedRule) → left ≡ others ++ rule ∷ []
+      → (reason : Reason) (new : Reasons) → Goes others rule reason
+      → Updates nat_cmp found new rule.line (Some reason) → IsReducing all others start new
+  rule_gone others rule last reason new goes set =
+      let one : List PlacedRule = rule ∷ [] in
+      let removed = is.reduced.removed in
+      let same : IsPermutation all ((others ++ one) ++ removed) = rw last at is.reduced.same in
+      let listed : AreAmong (others ++ one) all =
+      λ placed has. Contains-permutation ((others ++ one) ++ removed) all placed
+      (IsPermutation-sym all ((others ++ one) ++ removed) same)
+      (Contains-append_left (others ++ one) removed placed has) in
+      let holds = reason_among others all
+      (λ placed has. listed placed (Contains-append_left others one placed has)) rule reason goes.holds in
+      let hit : (line : ℕ) → eq_by_cmp nat_cmp rule.line line ≡ true → get nat_cmp new line ≡ Some reason =
+      λ line here. set.0 line ∙ rw here refl in
+      let more : (line : ℕ) → HasLine found line → HasLine new line =
+      λ line has. elim (cases_Bool (eq_by_cmp nat_cmp rule.line line)) [
+        | inl here ↦ rw (hit line here) refl
+        | inr other ↦ rw (set.2 line other) has
+      ] in
+      record {
+        reduced = record {
+          removed = removed ++ one;
+          same = IsPermutation-trans all (others ++ (one ++ removed)) (others ++ (removed ++ one))
+              (rw (← append_assoc others one removed) same)
+              (IsPermutation-append_right others (one ++ removed) (removed ++ one)
+              (IsPermutation-append_comm one removed));
+          denied = λ text. both_ways (rw last at (is.reduced.denied text))
+              (can_go (unplaced others) (unplaced (others ++ one)) rule.rule (with_last others rule) goes.go
+              text);
+          go = λ placed has. elim (Contains-push_cases removed rule placed has) [
+            | inl before ↦ more placed.line (is.reduced.go placed before)
+            | inr this ↦ subst (λ (p : PlacedRule). HasLine new p.line) this (rw set.1 refl)
+          ];
+        };
+        grow = record {
+          found = λ line has. more line (is.grow.found line has);
+          reasons = λ line why at. elim (cases_Bool (eq_by_cmp nat_cmp rule.line line)) [
+            | inl here ↦
+                let equal : reason ≡ why = let e = hit line here in cc in
+                inr (
+                  rule,
+                  listed rule (Contains-push others rule),
+                  tells_apart exact_unsigned rule.line line here,
+                  subst (IsReason all rule) equal holds,
+                )
+            | inr other ↦ is.grow.reasons line why (sym (set.2 line other) ∙ at)
+          ];
+        };
+      }
 
 -- all of them, for a list of removed rules
 in_turn : (kept removed : List PlacedRule) → CanGoInTurn kept removed → (text : List ℕ)
@@ -267,18 +225,6 @@ needless_in_turn rules kept removed once same can text answer =
     (left_are_kept rules kept removed same once) answer
 
 -- ---- why a rule can go
-
--- a rule of two lists is one of the first or of the second
-unplaced_cases : (left right : List PlacedRule) (x : Rule) → Contains (unplaced (left ++ right)) x
-    → Contains (unplaced left) x ⊎ Contains (unplaced right) x
-unplaced_cases left right x has =
-    let (placed, listed, is) = placed_of (left ++ right) x has in
-    elim (Contains-append_cases left right placed listed) [
-      | inl first ↦
-          inl (subst (λ (r : Rule). Contains (unplaced left) r) is (unplaced_of left placed first))
-      | inr second ↦
-          inr (subst (λ (r : Rule). Contains (unplaced right) r) is (unplaced_of right placed second))
-    ]
 
 -- ---- rivals
 
@@ -308,21 +254,17 @@ both_near kept rest rule = record {
   ];
 }
 
-of_one : (floor : ℕ) (rule : Rule) (other : PlacedRule) → IsNoRival floor rule other.rule → (x : Rule)
-    → Contains (unplaced (other ∷ [])) x → IsNoRival floor rule x
-of_one floor rule other apart x (zero, below, is) = subst (λ (r : Rule). IsNoRival floor rule r) is apart
-of_one floor rule other apart x (suc k, below, is) = absurd (omega arith)
-
 -- one more of the others
 pub no_rival_more : (others : List PlacedRule) (other : PlacedRule) (m n : ℕ) (rule : Rule)
     → HasNoRival (unplaced others) m rule → m ≤ n → IsNoRival n rule other.rule
     → HasNoRival (unplaced (others ++ other ∷ [])) n rule
-no_rival_more others other m n rule before most apart = record {
-  none = λ x has kinds low high. elim (unplaced_cases others (other ∷ []) x has) [
-    | inl sooner ↦ before.none x sooner kinds (omega arith) high
-    | inr last ↦ of_one n rule other apart x last kinds low high
-  ];
-}
+no_rival_more others other m n rule before most apart =
+    rw (map-append (λ (p : PlacedRule). p.rule) others (other ∷ [])) (record {
+      none = λ x has. elim (Contains-push_cases (unplaced others) other.rule x has) [
+        | inl sooner ↦ λ kinds low high. before.none x sooner kinds (omega arith) high
+        | inr last ↦ subst (λ (r : Rule). IsNoRival n rule r) last apart
+      ];
+    })
 
 -- ---- a rule that covers the rule is among some of the others
 

@@ -136,13 +136,14 @@ pub record AreLeft (old_near old_far new_near new_far : List PlacedRule) (rule :
 abbrev pub Has : BTreeSet ℕ → ℕ → Type 0
 Has numbers number = contains nat_cmp numbers number ≡ true
 
--- the new set has the numbers of the old one, and this one
-pub record AddsNumber (old new : BTreeSet ℕ) (number : ℕ) : Type 0 where
-  pub more : (n : ℕ) → Has old n → Has new n
-  pub added : Has new number
+-- the new set has the numbers of the old one
+abbrev pub HasAll : BTreeSet ℕ → BTreeSet ℕ → Type 0
+HasAll new old = (n : ℕ) → Has old n → Has new n
 
-abbrev pub LineSet : Type 0
-LineSet = BTreeSet ℕ
+-- and those of the lines of these rules
+pub record AddsLines (old new : BTreeSet ℕ) (rules : List PlacedRule) : Type 0 where
+  pub more : HasAll new old
+  pub added : (placed : PlacedRule) → Contains rules placed → Has new placed.line
 
 -- a reason for each line of a needless rule
 abbrev pub Reasons : Type 0
@@ -151,32 +152,30 @@ Reasons = BTreeMap ℕ Reason
 abbrev pub HasLine : Reasons → ℕ → Type 0
 HasLine found line = IsSome (get nat_cmp found line)
 
--- the rules, without some in lines that are found, are the kept ones, which are in lines that stay, and the
--- rest, in some order; these deny the same texts
-pub record IsReducedTo (rules kept rest : List PlacedRule) (found : Reasons) (stays : BTreeSet ℕ)
-    : Type 0 where
+-- the rules, without some in lines that are found, are those that are left, in some order; these deny the
+-- same texts
+pub record IsReducedTo (rules left : List PlacedRule) (found : Reasons) : Type 0 where
   pub removed : List PlacedRule
-  pub same : IsPermutation rules ((kept ++ rest) ++ removed)
-  pub denied : (text : List ℕ) → IsDenied (unplaced rules) text ↔ IsDenied (unplaced (kept ++ rest)) text
+  pub same : IsPermutation rules (left ++ removed)
+  pub denied : (text : List ℕ) → IsDenied (unplaced rules) text ↔ IsDenied (unplaced left) text
   pub go : (placed : PlacedRule) → Contains removed placed → HasLine found placed.line
-  pub stay : (placed : PlacedRule) → Contains kept placed → Has stays placed.line
 
--- lines that are found stay so, and so do lines that stay; P holds of each new reason
-pub record Grow (P : NeedlessRule → Type 0) (old new : Reasons) (stayed stays : BTreeSet ℕ) : Type 0 where
+-- lines that are found stay so; P holds of each new reason
+pub record Grow (P : NeedlessRule → Type 0) (old new : Reasons) : Type 0 where
   pub found : (line : ℕ) → HasLine old line → HasLine new line
-  pub lines : (n : ℕ) → Has stayed n → Has stays n
   pub reasons : (line : ℕ) (reason : Reason) → get nat_cmp new line ≡ Some reason
       → (get nat_cmp old line ≡ Some reason) ⊎ P (record { line = line; reason = reason })
 
 -- the rules are reduced so, and each new reason holds
-pub record IsReducing (rules kept rest : List PlacedRule) (old new : Reasons) (stayed stays : BTreeSet ℕ)
-    : Type 0 where
-  pub reduced : IsReducedTo rules kept rest new stays
-  pub grow : Grow (IsFound rules) old new stayed stays
+pub record IsReducing (rules left : List PlacedRule) (old new : Reasons) : Type 0 where
+  pub reduced : IsReducedTo rules left new
+  pub grow : Grow (IsFound rules) old new
 
--- all rules are kept or removed
-abbrev pub IsSettled : List PlacedRule → Reasons → BTreeSet ℕ → Type 0
-IsSettled rules found stays = (left : List PlacedRule) × IsReducedTo rules left [] found stays
+-- those that are left are in lines that stay
+pub record IsSettled (rules : List PlacedRule) (found : Reasons) (stays : BTreeSet ℕ) : Type 0 where
+  pub left : List PlacedRule
+  pub reduced : IsReducedTo rules left found
+  pub stay : (placed : PlacedRule) → Contains left placed → Has stays placed.line
 
 -- none of the rules is overlong
 abbrev pub AreAccepted : List PlacedRule → Type 0

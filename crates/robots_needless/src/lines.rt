@@ -2,7 +2,7 @@
 ghost use Rattle.std.specs.Prelude.{◌≡◌, ◌∷◌, All, Contains, IfOk, IsTrue, List, OnOk, codes, false, map, ℕ};
 ghost use Rattle.texting_robots.specs.Callers.{LineValue, agents_in, file_bodies, file_lines, placed_rules};
 ghost use Rattle.robots_needless.specs.Blocks.{KeepBlocks, is_found, left_from};
-ghost use Rattle.robots_needless.specs.Internal.{AreAccepted, AreFree, AreReasons, AreSettled, Grow, IsSettled, rule_at};
+ghost use Rattle.robots_needless.specs.Internal.{AreAccepted, AreFree, AreReasons, AreSettled, Grow, HasAll, IsSettled, rule_at};
 ghost use Rattle.robots_needless.specs.Deleted.{AreFoundIn, begin_with_mark};
 ghost use Rattle.robots_needless.specs.Needless.{IsFoundFor};
 
@@ -26,8 +26,8 @@ fn add_crawler(
     budget: &mut Budget,
     findings: &mut Findings,
 ) -> Result<(), Error>
-    ensures grow { OnOk result (Grow (IsFoundFor (file_lines site.now)) findings.old.found findings.new.found
-        findings.old.stays findings.new.stays) }
+    ensures grow { OnOk result (Grow (IsFoundFor (file_lines site.now)) findings.old.found findings.new.found) }
+    ensures more { OnOk result (HasAll findings.new.stays findings.old.stays) }
     ensures accepted { OnOk result (AreAccepted (placed_rules agent.now (file_lines site.now))) }
     ensures settled { OnOk result (IsSettled (placed_rules agent.now (file_lines site.now))
         findings.new.found findings.new.stays) }

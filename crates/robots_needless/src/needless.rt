@@ -1,8 +1,8 @@
 //! Which rules of a crawler are needless.
-ghost use Rattle.std.specs.Prelude.{◌≡◌, ◌≢◌, ◌≤◌, ◌+◌, [], Contains, IfOk, IfSome, IsPermutation, IsTrue, List, OnOk};
+ghost use Rattle.std.specs.Prelude.{◌≡◌, ◌≢◌, ◌≤◌, ◌+◌, ◌++◌, Contains, IfOk, IfSome, IsPermutation, IsTrue, List};
 ghost use Rattle.std.specs.Prelude.{false, nat_lt};
 ghost use Rattle.texting_robots.specs.Callers.{PlacedRule, unplaced};
-ghost use Rattle.robots_needless.specs.Internal.{AddsNumber, AreAmong, AreNear, CanReplace, Goes, HasNoRival, IsNoRival, IsReducing, LineSet, Reasons};
+ghost use Rattle.robots_needless.specs.Internal.{AreAmong, AreNear, CanReplace, Goes, HasNoRival, IsNoRival, IsReducing, Reasons};
 ghost use Rattle.robots_needless.specs.Needless.{Overrules};
 
 use crate::rule::Rule;
@@ -45,14 +45,6 @@ pub(crate) struct Findings {
     pub(crate) found: BTreeMap<usize, Reason>,
     /// The lines of rules that are needed by at least one of them.
     pub(crate) stays: Numbers,
-}
-
-/// Inserts the number.
-pub(crate) fn add_number(numbers: &mut Numbers, number: usize) -> Result<(), AllocError>
-    ensures { OnOk result (AddsNumber numbers.old numbers.new number) }
-{
-    numbers.insert(number)?;
-    Ok(())
 }
 
 /// How many bytes may still be compared.
@@ -248,26 +240,23 @@ fn by_rank(rules: Vec<Rule>) -> Vec<Rule>
 /// that are kept.
 pub(crate) fn settle_by_rank(
     budget: &mut Budget,
+    stays: &Numbers,
     settled: Vec<Rule>,
     rules: Vec<Rule>,
-    findings: &mut Findings,
+    found: &mut BTreeMap<usize, Reason>,
 ) -> Result<Vec<Rule>, AllocError>
-    ensures { IfOk result (λ left. (all : List PlacedRule) (start : Reasons) (stayed : LineSet)
-        → IsReducing all settled.items rules.items start findings.old.found stayed findings.old.stays
-        → IsReducing all left.items [] start findings.new.found stayed findings.new.stays) }
+    ensures { IfOk result (λ left. (all : List PlacedRule) (start : Reasons)
+        → IsReducing all (settled.items ++ rules.items) start found.old
+        → IsReducing all left.items start found.new) }
 {
     let mut rest = by_rank(rules);
     let mut kept = settled;
     while let Some(rule) = rest.pop() {
-        let line = rule.line();
-        match reason_to_go(budget, &findings.stays, &[], &kept, &rest, &rule) {
+        match reason_to_go(budget, stays, &[], &kept, &rest, &rule) {
             Some(reason) => {
-                findings.found.insert(line, reason)?;
+                found.insert(rule.line(), reason)?;
             }
-            None => {
-                add_number(&mut findings.stays, line)?;
-                kept.push(rule)?;
-            }
+            None => kept.push(rule)?,
         }
     }
     Ok(kept)

@@ -1,13 +1,14 @@
 //! Which of a crawler's plain rules are needless. They are tried in the order of their patterns, so that few rules
 //! are compared: of those above a rule, only the ones that begin it match a text that it matches.
-ghost use Rattle.std.specs.Prelude.{◌++◌, [], All, IfOk, IsPermutation, List, OnOk};
+ghost use Rattle.std.specs.Prelude.{◌++◌, All, IfOk, IsPermutation, List, OnOk};
 ghost use Rattle.texting_robots.specs.Callers.{PlacedRule};
-ghost use Rattle.robots_needless.specs.Internal.{AreAmong, AreDescending, AreLeft, Grow, IsPlain, IsReducing, IsSettled, LineSet, Reasons};
+ghost use Rattle.robots_needless.specs.Internal.{AddsLines, AreAmong, AreDescending, AreLeft, Grow, HasAll, IsPlain, IsReducing, IsSettled, Reasons};
 ghost use Rattle.robots_needless.specs.Needless.{IsFound};
 
-use crate::needless::{Budget, Findings, add_number, reason_to_go, settle_by_rank};
+use crate::needless::{Budget, Findings, Numbers, Reason, reason_to_go, settle_by_rank};
 use crate::rule::Rule;
 use std::alloc::{AllocError, Global};
+use std::collections::BTreeMap;
 
 /// Plain rules, and others.
 #[derive(Drop)]
@@ -75,34 +76,41 @@ fn strongest<'a>(rules: &'a [Rule], rule: &Rule) -> &'a [Rule]
 fn settle_plain(
     alloc: Global,
     budget: &mut Budget,
+    stays: &Numbers,
     starred: &[Rule],
     rules: Vec<Rule>,
-    findings: &mut Findings,
+    found: &mut BTreeMap<usize, Reason>,
 ) -> Result<Vec<Rule>, AllocError>
     requires { AreDescending rules.items }
-    ensures { IfOk result (λ kept. (all : List PlacedRule) (start : Reasons) (stayed : LineSet)
-        → IsReducing all [] (starred.now ++ rules.items) start findings.old.found stayed findings.old.stays
-        → IsReducing all kept.items starred.now start findings.new.found stayed findings.new.stays) }
+    ensures { IfOk result (λ kept. (all : List PlacedRule) (start : Reasons)
+        → IsReducing all (starred.now ++ rules.items) start found.old
+        → IsReducing all (kept.items ++ starred.now) start found.new) }
 {
     let mut rest = rules;
     let mut near = Vec::new(alloc);
     let mut far = Vec::new(alloc);
     while let Some(rule) = rest.pop() {
         leave(&mut near, &mut far, &rule)?;
-        let line = rule.line();
         let equal = strongest(&rest, &rule);
-        match reason_to_go(budget, &findings.stays, equal, &near, starred, &rule) {
+        match reason_to_go(budget, stays, equal, &near, starred, &rule) {
             Some(reason) => {
-                findings.found.insert(line, reason)?;
+                found.insert(rule.line(), reason)?;
             }
-            None => {
-                add_number(&mut findings.stays, line)?;
-                near.push(rule)?;
-            }
+            None => near.push(rule)?,
         }
     }
     far.append(&mut near)?;
     Ok(far)
+}
+
+/// Inserts the lines of these rules.
+fn add_lines(numbers: &mut Numbers, rules: &[Rule]) -> Result<(), AllocError>
+    ensures { OnOk result (AddsLines numbers.old numbers.new rules.now) }
+{
+    for rule in rules {
+        numbers.insert(rule.line())?;
+    }
+    Ok(())
 }
 
 /// Finds rules that can go one after the other, without those in the lines that stay: first plain rules,
@@ -115,12 +123,26 @@ pub(crate) fn settle(
     findings: &mut Findings,
 ) -> Result<(), AllocError>
     ensures settled { OnOk result (IsSettled rules.items findings.new.found findings.new.stays) }
-    ensures grow { OnOk result (Grow (IsFound rules.items) findings.old.found findings.new.found
-        findings.old.stays findings.new.stays) }
+    ensures grow { OnOk result (Grow (IsFound rules.items) findings.old.found findings.new.found) }
+    ensures more { OnOk result (HasAll findings.new.stays findings.old.stays) }
 {
     let kinds = kinds_of(alloc, rules)?;
     let plain = descending(kinds.plain);
-    let kept = settle_plain(alloc, budget, &kinds.starred, plain, findings)?;
-    settle_by_rank(budget, kept, kinds.starred, findings)?;
+    let kept = settle_plain(
+        alloc,
+        budget,
+        &findings.stays,
+        &kinds.starred,
+        plain,
+        &mut findings.found,
+    )?;
+    let left = settle_by_rank(
+        budget,
+        &findings.stays,
+        kept,
+        kinds.starred,
+        &mut findings.found,
+    )?;
+    add_lines(&mut findings.stays, &left)?;
     Ok(())
 }

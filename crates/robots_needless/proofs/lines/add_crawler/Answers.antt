@@ -4,7 +4,7 @@ use Rattle.robots_needless.proofs.lines.add_crawler.Goals as goal
 
 pub returns-clause-grow : goal.returns-clause-grow
 returns-clause-grow c =
-    grow_for (file_lines c.args.site.now) c.args.agent.now _ _ _ _ _ c.in_ok-rules.ensures.rules
+    grow_for (file_lines c.args.site.now) c.args.agent.now _ _ _ c.in_ok-rules.ensures.rules
     c.in_ok-settle.ensures.grow
 
 pub returns-clause-accepted : goal.returns-clause-accepted

@@ -23,9 +23,9 @@ loop-agent-preserved c =
     let added = c.in_ok-add_crawler.ensures in record {
       settled = subst (λ names. AreSettled lines names findings.found findings.stays)
           (sym (map_more name agents at _ c.loop-agent-test.true))
-          (settled_more _ lines (map name (take at agents)) _ _ _ _ _ is.settled added.grow added.accepted
-          added.settled);
-      reasons = reasons_more lines _ _ _ _ is.reasons added.grow;
+          (settled_more _ lines (map name (take at agents)) _ _ _ _ _ is.settled added.grow added.more
+          added.accepted added.settled);
+      reasons = reasons_more lines _ _ is.reasons added.grow;
     }
 
 pub returns-clause-settled : goal.returns-clause-settled

@@ -1,5 +1,4 @@
-use Rattle.std.proofs.Common.{◌++◌, [], List, vec_len, ℕ}
-use Rattle.std.specs.BTreeSet.{BTreeSet}
+use Rattle.std.proofs.Common.{◌++◌, List, vec_len}
 use Rattle.texting_robots.specs.Rules.{PlacedRule}
 use Rattle.robots_needless.specs.Internal.{IsReducing, Reasons}
 use Rattle.robots_needless.proofs.PlainLemmas.{AreParted}
@@ -7,11 +6,9 @@ use Rattle.robots_needless.proofs.plain.settle_plain.Given as goal
 
 abbrev pub invariant-loop-rule : goal.invariant-loop-rule
 invariant-loop-rule l = record {
-  reducing : (all : List PlacedRule) (start : Reasons) (stayed : BTreeSet ℕ)
-      → IsReducing all [] (l.starred ++ l.fn.rules.items) start l.fn.findings.found stayed
-      l.fn.findings.stays
-      → IsReducing all (l.far.items ++ l.near.items) (l.starred ++ l.rest.items) start l.findings.found stayed
-      l.findings.stays;
+  reducing : (all : List PlacedRule) (start : Reasons)
+      → IsReducing all (l.starred ++ l.fn.rules.items) start l.fn.found
+      → IsReducing all ((l.far.items ++ l.near.items) ++ (l.starred ++ l.rest.items)) start l.found;
   parted : AreParted l.near.items l.far.items l.rest.items;
 }
 
