@@ -4,12 +4,12 @@ use Rattle.std.proofs.Common.{arith, append-nil, codes, cond, inl, inr, length, 
 use Rattle.std.proofs.Common.{subst, sym, take}
 use Rattle.std.specs.{List.AllZip, List.list_any, Str.str_to_ascii_lowercase}
 use Rattle.std.proofs.lemmas.List.{append_assoc, length-append, length-map, length-replicate, map_push}
-use Rattle.std.proofs.lemmas.List.{take_more}
+use Rattle.std.proofs.lemmas.{List.take_more, Slice.Zip.AllZip-long}
 use Rattle.texting_robots.specs.Callers.{IsCaptured, IsRejected, IsRobotOf, LineValue, file_lines, group_name}
 use Rattle.texting_robots.specs.Callers.{is_agent_named, is_named, prepared}
 use Rattle.texting_robots.proofs.{MainTheoremLemmas.has_lines, SiteOwnLemmas.same_robot}
 use Rattle.robots_c.specs.Results.{AreRows, IsResultOn, IsRow, items_in, no_result}
-use Rattle.robots_c.proofs.NumberLemmas.{as_many, by_lines, zip_append}
+use Rattle.robots_c.proofs.NumberLemmas.{by_lines, zip_append}
 
 -- ---- adding a target
 
@@ -61,7 +61,7 @@ one_more_row site targets agents at agent rows row (below, here) are is =
 
 row_length : (site : List ℕ) (targets : List (List ℕ)) (agent : List ℕ) (row : List ℤ)
     → IsRow site targets agent row → length row ≡ length targets
-row_length site targets agent row (inl (robot, of, are)) = as_many (IsResultOn robot.rules) targets row are
+row_length site targets agent row (inl (robot, of, are)) = AllZip-long (IsResultOn robot.rules) targets row are
 row_length site targets agent row (inr (rejected, is)) = ap length is
     ∙ length-replicate (length targets) no_result
 

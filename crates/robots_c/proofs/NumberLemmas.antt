@@ -29,13 +29,6 @@ pub one_more : {A B : Type 0} (R : A → B → Type 0) (xs : List A) (at : ℕ) 
 one_more R xs at x ys y (below, here) are is =
     rw (take_more xs at x below) (zip_append R _ _ ys (y ∷ []) are (subst (λ x. R x y) here is, tt))
 
-pub as_many : {A B : Type 0} (R : A → B → Type 0) (xs : List A) (ys : List B) → AllZip R xs ys
-    → length ys ≡ length xs
-as_many R [] [] are = refl
-as_many R [] (y ∷ ys) are = absurd are
-as_many R (x ∷ xs) [] are = absurd are
-as_many R (x ∷ xs) (y ∷ ys) (first, later) = omega (arith, as_many R xs ys later)
-
 -- ---- the lines of a site
 
 pub by_lines : (site : List ℕ) (P : List LineValue → Type 0) → HasLines site P → P (file_lines site)

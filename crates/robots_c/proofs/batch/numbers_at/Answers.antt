@@ -1,8 +1,8 @@
 use Rattle.std.proofs.Common.{IsUtf8, SFits, rules, w64, ◌∙◌}
 use Rattle.std.proofs.lemmas.{Int.to_z-of_z, List.drop_all, List.drop_more, Result.err_from_is_err_and}
+use Rattle.std.proofs.lemmas.Slice.Zip.{AllZip-long}
 use Rattle.std.proofs.lemmas.List.Elements.{All-head}
 use Rattle.robots_c.proofs.BatchLemmas.{all_so_far, count_pieces, one_more_end, only_memory}
-use Rattle.robots_c.proofs.NumberLemmas.{as_many}
 use Rattle.robots_c.proofs.batch.numbers_at.Goals as goal
 
 pub returns-in_err-number-clause-fault : goal.returns-in_err-number-clause-fault
@@ -29,4 +29,4 @@ returns-clause-ok c =
 pub returns-clause-count : goal.returns-clause-count
 returns-clause-count c =
     let so = rw (drop_all c.loop-end.end-index c.args.ends.now (search rules)) at c.loop-end.invariant in
-    as_many _ _ _ (all_so_far _ _ _ _ _ so) ∙ count_pieces _ _ _
+    AllZip-long _ _ _ (all_so_far _ _ _ _ _ so) ∙ count_pieces _ _ _

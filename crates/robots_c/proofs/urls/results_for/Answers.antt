@@ -1,9 +1,9 @@
 use Rattle.std.proofs.Common.{SFits, arith, rules, w64}
-use Rattle.std.proofs.lemmas.{Int.to_z-of_z, List.length_push}
+use Rattle.std.proofs.lemmas.{Int.to_z-of_z, List.length_push, Slice.Zip.AllZip-long}
 use Rattle.std.proofs.lemmas.Iterator.Consumers.{YieldsList-at, YieldsList-end, YieldsList-turn}
 use Rattle.std.proofs.lemmas.Iterator.Splits.{YieldsList-from_str_split}
 use Rattle.std.proofs.Math.Seq.{take-length}
-use Rattle.robots_c.proofs.NumberLemmas.{as_many, lines_fit, one_more}
+use Rattle.robots_c.proofs.NumberLemmas.{lines_fit, one_more}
 use Rattle.robots_c.proofs.urls.results_for.Goals as goal
 
 pub number_for-requires : goal.number_for-requires
@@ -28,4 +28,4 @@ returns c =
     let end = YieldsList-end gives c.loop-url.yielded _ c.loop-url.yielded_by _ _ c.in-None.is
     c.next.ensures.steps in
     let all = rw (end.1, take-length) at c.loop-url.invariant in
-    record { results = all; count = as_many _ _ _ all }
+    record { results = all; count = AllZip-long _ _ _ all }
