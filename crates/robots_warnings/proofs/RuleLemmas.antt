@@ -3,7 +3,7 @@ use Rattle.std.proofs.Common.{◌≡◌, ℕ, ◌==◌, Bool, false, true, List,
 use Rattle.std.proofs.Common.{subst, suc, sym, ◌∙◌, ◌&&◌, ◌+◌, ◌<◌, Option, Some, None, String, bytes_eq}
 use Rattle.std.proofs.Common.{if◌then◌else◌, string_bytes, ap, ap₂, codes, drop, ◌||◌, ◌⊎◌, cond, map}
 use Rattle.std.proofs.Common.{slice_index_or}
-use Rattle.std.proofs.lemmas.Bool.{cases_Bool, eqb-true, false≢true, ne_eqb}
+use Rattle.std.proofs.lemmas.Bool.{cases_Bool, false≢true, ne_eqb}
 use Rattle.std.proofs.lemmas.List.{drop_more}
 use Rattle.std.proofs.lemmas.Bool.Decides.{nat_tests}
 use Rattle.std.specs.HashMap.{Updates, get_by_text, hash_map_len}
@@ -11,6 +11,7 @@ use Rattle.std.specs.{List.list_all, List.list_any, Str.byte, Global.Global, Map
 use Rattle.std.specs.{Prelude.is_some, String.string_eq}
 use Rattle.texting_robots.specs.Callers.{escaped, PlacedRule, by_value, label_by_value}
 use Rattle.texting_robots.specs.Escape.{is_escaped}
+use Rattle.texting_robots.proofs.RulesLemmas.{option_or_none}
 use Rattle.robots_warnings.specs.Closed.{is_whole_site}
 use Rattle.robots_warnings.specs.Conflicts.{allow_beside, compared, first_of}
 use Rattle.std.proofs.Math.Bool.{or-false, or-true}
@@ -22,7 +23,7 @@ use Rattle.std.specs.HashSet.{contains_text}
 use Rattle.texting_robots.specs.declared.labels.LabeledLine.{LabeledLine}
 use Rattle.texting_robots.specs.Group.{is_group}
 use Rattle.robots_warnings.specs.File.{lines_of}
-use Rattle.robots_warnings.specs.Internal.Rules.{AddsDenied, Patterns}
+use Rattle.robots_warnings.specs.{Internal.Rules.Patterns, Replaced.denies}
 use Rattle.robots_warnings.proofs.NameLemmas.{either}
 
 -- ---- rules for a whole site
@@ -30,34 +31,23 @@ use Rattle.robots_warnings.proofs.NameLemmas.{either}
 abbrev only_stars : List ℕ → Bool
 only_stars text = list_all (λ c. c == byte "*") text
 
+-- an escaped byte isn't one that is never escaped
+differs : (b c : ℕ) → is_escaped c ≡ false → is_escaped b ≡ true → (b == c) ≡ false
+differs b c plain bad = ne_eqb b c (λ same. false≢true (sym plain ∙ ap is_escaped (sym same) ∙ bad))
+
 -- stars aren't escaped, and no escape has one
 stars_escaped : (value : List ℕ) → only_stars (escaped value) ≡ only_stars value
 stars_escaped [] = refl
-stars_escaped (b ∷ value) = elim (cases_Bool (b == byte "*")) [
-  | inl is ↦
-      subst (λ b. only_stars (escaped (b ∷ value)) ≡ only_stars (b ∷ value)) (sym (eqb-true b (byte "*") is))
-      (stars_escaped value)
-  | inr other ↦ elim (cases_Bool (is_escaped b)) [
-    | inl bad ↦ rw (bad, other) refl
-    | inr good ↦ rw (good, other) refl
-  ]
+stars_escaped (b ∷ value) = elim (cases_Bool (is_escaped b)) [
+  | inl bad ↦ rw (bad, differs b (byte "*") refl bad) refl
+  | inr good ↦ rw good (ap (λ rest. b == byte "*" && rest) (stars_escaped value))
 ]
 
 pub whole_site_escaped : (value : List ℕ) → is_whole_site (escaped value) ≡ is_whole_site value
 whole_site_escaped [] = refl
-whole_site_escaped (b ∷ value) = elim (cases_Bool (b == byte "/")) [
-  | inl is ↦
-      subst (λ b. is_whole_site (escaped (b ∷ value)) ≡ is_whole_site (b ∷ value))
-      (sym (eqb-true b (byte "/") is)) (stars_escaped value)
-  | inr plain ↦ elim (cases_Bool (b == byte "*")) [
-    | inl is ↦
-        subst (λ b. is_whole_site (escaped (b ∷ value)) ≡ is_whole_site (b ∷ value))
-        (sym (eqb-true b (byte "*") is)) (stars_escaped value)
-    | inr other ↦ elim (cases_Bool (is_escaped b)) [
-      | inl bad ↦ rw (bad, plain, other) refl
-      | inr good ↦ rw (good, plain, other) refl
-    ]
-  ]
+whole_site_escaped (b ∷ value) = elim (cases_Bool (is_escaped b)) [
+  | inl bad ↦ rw (bad, differs b (byte "/") refl bad, differs b (byte "*") refl bad) refl
+  | inr good ↦ rw good (ap (λ rest. (b == byte "/" || b == byte "*") && rest) (stars_escaped value))
 ]
 
 some_bytes : (n : ℕ) → (suc n == 0) ≡ false
@@ -75,10 +65,6 @@ none_escaped (b ∷ value) = elim (cases_Bool (is_escaped b)) [
 or_assoc : {X : Type 0} (a b c : Option X) → option_or (option_or a b) c ≡ option_or a (option_or b c)
 or_assoc None b c = refl
 or_assoc (Some x) b c = refl
-
-pub or_none : {X : Type 0} (a : Option X) → option_or a None ≡ a
-or_none None = refl
-or_none (Some x) = refl
 
 is_none : {X : Type 0} (a : Option X) → is_some a ≡ false → a ≡ None
 is_none None isnt = refl
@@ -101,7 +87,7 @@ first_added old new key number isnt updates other =
         let none = is_none (get_by_text old other)
         (subst (λ text. is_some (get_by_text old text) ≡ false) same isnt) in
         rw (is, none) refl
-    by (inr isnt) = rw isnt (sym (or_none (get_by_text old other)))
+    by (inr isnt) = rw isnt (sym (option_or_none (get_by_text old other)))
 
 -- ---- several crawlers
 
@@ -149,10 +135,7 @@ slash_or_star value =
         → bytes_eq (escaped value) (c ∷ []) ≡ bytes_eq value (c ∷ [])
     one_escaped c plain other [] = refl
     one_escaped c plain other (b ∷ value) = elim (cases_Bool (is_escaped b)) [
-      | inl bad ↦
-          let differs : (b == c) ≡ false =
-          ne_eqb b c (λ same. false≢true (sym plain ∙ ap is_escaped (sym same) ∙ bad)) in
-          rw (bad, other, differs) refl
+      | inl bad ↦ rw (bad, other, differs b c plain bad) refl
       | inr good ↦ rw good (ap (λ rest. b == c && rest) (empty_escaped value))
     ]
 
@@ -177,20 +160,16 @@ none_beside is_empty lines rules placed has none =
 
 -- ---- groups that have none of the Disallow rules of `*`
 
--- inserting the pattern of a Disallow makes the set that `AddsDenied` describes
+-- inserting the pattern of a Disallow
 pub denied_added : {S : Type 0} (old new : Patterns S) (key : String Global) (placed : PlacedRule)
     → string_bytes key ≡ placed.rule.0 → placed.rule.1 ≡ false → set.Updates string_eq old new key true
-    → AddsDenied old new placed
-denied_added old new key placed is disallow updates = record {
-  each = λ pattern.
-      hash_set_updates_text (string_bytes key) old new true updates pattern
-      ∙ either (contains_text old pattern) (bytes_eq (string_bytes key) pattern)
-      ∙ rw (is, disallow) refl;
-}
+    → (pattern : List ℕ) → contains_text new pattern ≡ (contains_text old pattern || denies pattern placed)
+denied_added old new key placed is disallow updates pattern =
+    hash_set_updates_text (string_bytes key) old new true updates pattern
+    ∙ either (contains_text old pattern) (bytes_eq (string_bytes key) pattern) ∙ rw (is, disallow) refl
 
--- whether there is a rule or a delay from index `at` on, in terms of the line there
-pub groups_from : (labels : List LabeledLine) (at : ℕ) (labeled : LabeledLine) → at < length labels
-    → list_any is_group (lines_of (map label_by_value (drop at labels)))
-    ≡ (is_group (by_value (slice_index_or labels at labeled).line)
-    || list_any is_group (lines_of (map label_by_value (drop (at + 1) labels))))
-groups_from labels at labeled below = rw (drop_more labels at labeled below) refl
+pub groups_among : (labels : List LabeledLine)
+    → list_any is_group (lines_of (map label_by_value labels))
+    ≡ list_any (λ labeled. is_group (by_value labeled.line)) labels
+groups_among [] = refl
+groups_among (labeled ∷ labels) = rw (groups_among labels) refl

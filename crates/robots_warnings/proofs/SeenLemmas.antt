@@ -1,24 +1,21 @@
 -- How names and the values of rules are remembered, and how lines are found by them.
-use Rattle.std.proofs.Common.{◌≡◌, ℕ, ◌+◌, ◌<◌, Bool, true, false, List, [], ◌∷◌, ◌++◌, ◌∙◌, ◌||◌, ◌&&◌, ap}
+use Rattle.std.proofs.Common.{◌≡◌, ℕ, ◌+◌, ◌<◌, Bool, true, false, List, [], ◌∷◌, ◌++◌, ◌∙◌, ◌&&◌, ap}
 use Rattle.std.proofs.Common.{arith, drop, filter, if◌then◌else◌, inl, inr, length, map, refl, slice_index_or}
 use Rattle.std.proofs.Common.{sym, take, append_assoc, not, bytes_eq}
-use Rattle.std.proofs.Math.Bool.{or-false}
 use Rattle.std.proofs.lemmas.List.{drop_more, map-append, take_more, length_push}
 use Rattle.std.proofs.lemmas.{Bool.cases_Bool, Bool.or_parts, Simd.map-map}
-use Rattle.std.proofs.lemmas.List.Folds.{list_any-append}
-use Rattle.std.proofs.lemmas.Map.Text.{is_eq-slice_cmp}
 use Rattle.std.specs.List.{list_any, onto_first, slice_split, enumerate_from}
-use Rattle.std.specs.Prelude.{Err, IfOk, Ok, Result, cond, slice_index}
-use Rattle.std.specs.{BTreeSet.BTreeSet, BTreeSet.Updates, BTreeSet.contains, Borrow.Bor, Global.Vec}
+use Rattle.std.specs.Prelude.{Err, IfOk, Ok, Result, slice_index}
+use Rattle.std.specs.{BTreeSet.BTreeSet, Borrow.Bor, Global.Vec}
 use Rattle.texting_robots.specs.declared.labels.LabeledLine.{LabeledLine}
 use Rattle.texting_robots.specs.Callers.{Allow, CrawlDelay, Disallow, Label, LineValue, Raw, Sitemap}
 use Rattle.texting_robots.specs.Callers.{UserAgent, by_value, label_by_value, file_lines}
 use Rattle.robots_warnings.specs.File.{lines_of}
 use Rattle.robots_warnings.specs.Spellings.{is_agent_line, is_escape, is_unpaired_at, is_unpaired_line}
 use Rattle.robots_warnings.specs.Spellings.{standard_escape, standard_spelling}
-use Rattle.robots_warnings.specs.Internal.Names.{Key, key_cmp, AddsLine, HasNames, IsFoundUpto}
+use Rattle.robots_warnings.specs.Internal.Names.{Key, AddsLine, HasNames, IsFoundUpto}
 use Rattle.robots_warnings.specs.Internal.Names.{past_limit_from}
-use Rattle.robots_warnings.specs.Internal.Values.{AddsRuleValue, HasRuleValues, has_odd_line, has_odd_value}
+use Rattle.robots_warnings.specs.Internal.Values.{has_odd_line, has_odd_value}
 use Rattle.robots_warnings.proofs.{NameLemmas.either, StepLemmas.picked}
 use Rattle.std.specs.HashSet as hash
 use Rattle.robots_warnings.specs.declared.repeated.Seen.{Seen}
@@ -56,24 +53,13 @@ no_bytes (b ∷ text) none = absurd (omega arith)
 
 -- ---- sets of values
 
--- inserting a value
-pub value_added : (old new : BTreeSet Key) (value : Key) → Updates key_cmp old new value true → (key : Key)
-    → contains key_cmp new key ≡ (contains key_cmp old key || bytes_eq value.items key.items)
-value_added old new value updates key =
-    updates.0 key
-    ∙ ap (λ (t : Bool). cond t true (contains key_cmp old key)) (is_eq-slice_cmp value.items key.items)
-    ∙ either (contains key_cmp old key) (bytes_eq value.items key.items)
-
--- loop step: the set has the values of one more line
-pub values_more : (group : List LabeledLine) (at : ℕ) (labeled : LabeledLine) {old new : BTreeSet Key}
-    {is_allow : Bool}
-    → at < length group → HasRuleValues old is_allow (lines_of (map label_by_value (take at group)))
-    → AddsRuleValue old new is_allow (by_value (slice_index_or group at labeled).line)
-    → HasRuleValues new is_allow (lines_of (map label_by_value (take (at + 1) group)))
-values_more group at labeled below has adds = record {
-  each = λ key. rw (adds.each key, has.each key, take_more group at labeled below)
-      (simp (map-append, list_any-append, or-false));
-}
+-- loop step: one more line was added
+pub seen_more : (group : List LabeledLine) (at : ℕ) (labeled : LabeledLine) {old new : Seen} {is : Bool}
+    → at < length group → sets.HasSeen old (lines_of (map label_by_value (take at group)))
+    → sets.AddsRule old new (by_value (slice_index_or group at labeled).line) is
+    → sets.HasSeen new (lines_of (map label_by_value (take (at + 1) group)))
+seen_more group at labeled below has adds =
+    rw (take_more group at labeled below) (simp (map-append, map-append) (adds.has _ has))
 
 -- ---- a group
 
@@ -91,19 +77,14 @@ plain_is_paired group (Sitemap value) is = refl
 plain_is_paired group (Raw body) is = refl
 
 -- without nonstandard escapes there is no such rule
-pub none_unpaired : (everywhere : Bool) (group : List LineValue) (labels : List Label)
-    → list_any has_odd_line labels ≡ false → filter (is_unpaired_at everywhere group) labels ≡ []
+pub none_unpaired : (everywhere : Bool) (group : List LineValue) (labels : List LabeledLine)
+    → list_any (λ labeled. has_odd_line (label_by_value labeled)) labels ≡ false
+    → filter (is_unpaired_at everywhere group) (map label_by_value labels) ≡ []
 none_unpaired everywhere group [] none = refl
-none_unpaired everywhere group (label ∷ labels) none =
+none_unpaired everywhere group (labeled ∷ labels) none =
     let (here, later) = or_parts _ _ none in
-    rw (and_false _ _ (plain_is_paired group label.line here)) (none_unpaired everywhere group labels later)
-
--- whether there is a rule with a nonstandard escape from index `at` on, in terms of the line there
-pub odd_from : (group : List LabeledLine) (at : ℕ) (labeled : LabeledLine) → at < length group
-    → list_any has_odd_line (map label_by_value (drop at group))
-    ≡ (has_odd_line (label_by_value (slice_index_or group at labeled))
-    || list_any has_odd_line (map label_by_value (drop (at + 1) group)))
-odd_from group at labeled below = rw (drop_more group at labeled below) refl
+    rw (and_false _ _ (plain_is_paired group (by_value labeled.line) here))
+    (none_unpaired everywhere group labels later)
 
 -- the numbers of such rules from index `at` on, in terms of the line there
 pub unpaired_from : (everywhere : Bool) (lines : List LineValue) (group : List LabeledLine) (at : ℕ)

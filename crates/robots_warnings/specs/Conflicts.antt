@@ -54,15 +54,12 @@ line_if test placed = if test placed then Some placed.line else None
 abbrev pub first_line : (PlacedRule → Bool) → List PlacedRule → Option ℕ
 first_line test rules = first_of (line_if test) rules
 
--- the rule is an Allow, or a Disallow
-abbrev pub is_kind : (is_allow : Bool) → PlacedRule → Bool
-is_kind is_allow placed = if is_allow then placed.rule.1 else not placed.rule.1
-
--- a rule of this kind whose pattern is compared as this one, and which isn't an empty Disallow; `is_empty`
+-- an Allow or a Disallow whose pattern is compared as this one, and which isn't an empty Disallow; `is_empty`
 -- holds for the numbers of these
 abbrev pub is_like : (is_empty : ℕ → Bool) → (is_allow : Bool) → List ℕ → PlacedRule → Bool
 is_like is_empty is_allow pattern placed =
-    not (is_empty placed.line) && (is_kind is_allow placed && bytes_eq (compared placed.rule.0) pattern)
+    not (is_empty placed.line)
+    && ((if is_allow then placed.rule.1 else not placed.rule.1) && bytes_eq (compared placed.rule.0) pattern)
 
 -- for a Disallow: the line of the first such Allow of the same
 abbrev pub allow_beside : (ℕ → Bool) → List PlacedRule → PlacedRule → Option ℕ

@@ -36,18 +36,12 @@ abbrev pub is_cut : (value tail comment : List ℕ) → Bool
 is_cut value tail comment =
     not (length comment == 0) && (not (length value == 0) && ends_with nat_eq tail value)
 
--- the comment is written as a path: `#/a` or `#!/a`
-abbrev pub is_path_in_comment : List ℕ → Bool
-is_path_in_comment comment =
-    starts_with nat_eq comment (codes "#/") || starts_with nat_eq comment (codes "#!/")
-
 -- what is left of the rule is the whole site, which is the value of an empty Disallow, too, for example if
--- nothing
--- precedes such a comment; an empty Allow has no effect
+-- nothing precedes a comment that is written as a path: `#/a` or `#!/a`; an empty Allow has no effect
 abbrev pub is_cut_to_root : (value tail comment : List ℕ) → Bool
 is_cut_to_root value tail comment =
-    (is_cut value tail comment || (is_path_in_comment comment && length (raw_value tail) == 0))
-    && is_whole_site value
+    let is_path = starts_with nat_eq comment (codes "#/") || starts_with nat_eq comment (codes "#!/") in
+    (is_cut value tail comment || (is_path && length (raw_value tail) == 0)) && is_whole_site value
 
 -- a rule that is read and matches some paths, but not the whole site, is left
 abbrev pub is_cut_short : (value tail comment : List ℕ) → Bool

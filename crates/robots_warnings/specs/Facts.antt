@@ -87,30 +87,24 @@ has_nul file = list_any (λ b. b == 0) (take file_limit file)
 abbrev pub is_unknown : LineKinds → Bool
 is_unknown kinds = kinds.text && not (kinds.user_agent || kinds.rule || kinds.extra)
 
--- the file has no bytes, not even a byte order mark
-abbrev pub is_empty : List ℕ → Bool
-is_empty file = length file == 0
-
 -- the file is larger than the size limit
 abbrev pub is_too_large : List ℕ → Bool
 is_too_large file = nat_lt file_limit (length file)
 
--- the facts about a file with these kinds of lines
-abbrev pub facts_by : List ℕ → LineKinds → FileFacts
-facts_by file kinds = record {
-  kinds = kinds;
-  is_html = is_unknown kinds && seems_html file;
-  is_utf_16 = is_unknown kinds && (not (seems_html file) && seems_utf_16 file);
-  is_other_text = is_unknown kinds && not (seems_html file || seems_utf_16 file);
-  is_empty = is_empty file;
-  is_too_large = is_too_large file;
-  has_damaged_mark = has_damaged_mark file;
-  has_nul = has_nul file;
-}
-
 -- the facts about a file with these lines
 abbrev pub facts_of : List ℕ → List Label → FileFacts
-facts_of file labels = facts_by file (kinds_of (lines_of labels))
+facts_of file labels =
+    let kinds = kinds_of (lines_of labels) in
+    record {
+      kinds = kinds;
+      is_html = is_unknown kinds && seems_html file;
+      is_utf_16 = is_unknown kinds && (not (seems_html file) && seems_utf_16 file);
+      is_other_text = is_unknown kinds && not (seems_html file || seems_utf_16 file);
+      is_empty = length file == 0;
+      is_too_large = is_too_large file;
+      has_damaged_mark = has_damaged_mark file;
+      has_nul = has_nul file;
+    }
 
 -- the file seems to be something else than a robots.txt file, so that each of its lines would cause a
 -- warning

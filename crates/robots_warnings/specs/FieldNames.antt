@@ -9,7 +9,7 @@ use Rattle.strsim.specs.Edits.{levenshtein_row}
 use Rattle.texting_robots.specs.Statement.{field_names}
 use Rattle.texting_robots.specs.declared.parser.statement.Kind.{Kind}
 use Rattle.texting_robots.specs.declared.parser.statement.Kind.TheVariants as kind
-use Rattle.robots_warnings.specs.{File.space, File.tab, Rules.before_byte, Rules.has}
+use Rattle.robots_warnings.specs.{File.space, File.tab, Rules.before_byte}
 use Rattle.robots_warnings.specs.declared.field_names.TheConstants.{DIRECTIVES, KINDS, UNSUPPORTED}
 use Rattle.robots_warnings.specs.declared.table.Cause.{Cause}
 use Rattle.robots_warnings.specs.declared.table.Cause.TheVariants.{InvalidDelay, UnrecognizedLine}
@@ -50,15 +50,12 @@ begins_with name word = is_name name (take (length name) word)
 abbrev pub is_accepted : Kind → List ℕ → Bool
 is_accepted kind word = list_any (bytes_eq (str_to_ascii_lowercase word)) (field_names kind)
 
--- the lengths differ by at most 2
-abbrev pub is_as_long : List ℕ → List ℕ → Bool
-is_as_long name word = nat_le (length word) (length name + 2) && nat_le (length name) (length word + 2)
-
--- the token starts with the name, or is similar to it: in lower case, it has an edit distance of at most 2
--- from it
+-- the token starts with the name, or is similar to it: the lengths differ by at most 2, and in lower case, it
+-- has an edit distance of at most 2 from it
 abbrev pub may_mean : List ℕ → List ℕ → Bool
 may_mean name word =
-    begins_with name word || (is_as_long name word
+    begins_with name word
+    || ((nat_le (length word) (length name + 2) && nat_le (length name) (length word + 2))
     && nat_le (levenshtein_row nat_eq (str_to_ascii_lowercase word) name (length name)) 2)
 
 -- ---- what an ignored line probably intends, by its field name and its first token
@@ -117,17 +114,12 @@ is_any_accepted word = list_any (λ kind. is_accepted kind word) KINDS
 abbrev pub begins_field : List ℕ → List ℕ → Bool
 begins_field name text = begins_with name text && slice_index text (length name) == byte ":"
 
--- a byte that may be the last one of a line before another one was joined to it: a space, a tab, or the star
--- of `User-agent: *`
-abbrev pub may_end_line : ℕ → Bool
-may_end_line b = is_space_or_tab b || b == byte "*"
-
--- the text starts with such a byte, one of the usual names and a colon; it may be in what follows the first
--- colon of
--- a line
+-- the text starts with a byte that may be the last one of a line before another one was joined to it,
+-- which is a space, a tab, or the star of `User-agent: *`, and then with one of the usual names and a colon
 abbrev pub begins_inner_field : List ℕ → Bool
 begins_inner_field text =
-    may_end_line (slice_index text 0) && list_any (λ row. begins_field row.0.now (drop 1 text)) DIRECTIVES
+    let b = slice_index text 0 in
+    (is_space_or_tab b || b == byte "*") && list_any (λ row. begins_field row.0.now (drop 1 text)) DIRECTIVES
 
 -- there is no colon after the field name
 abbrev pub is_without_colon : List ℕ → Bool

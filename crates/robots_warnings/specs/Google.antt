@@ -1,30 +1,18 @@
 -- Crawlers of Google to which Google applies another group than the one that applies here.
-use Rattle.std.specs.Prelude.{ℕ, Bool, false, not, ◌&&◌, List, codes, map}
+use Rattle.std.specs.Prelude.{ℕ, Bool, false, not, ◌&&◌, List, codes}
 use Rattle.std.specs.{List.before_first, List.list_any, Str.str_eq_ignore_ascii_case}
 use Rattle.texting_robots.specs.Callers.{LineValue, UserAgent, is_named}
 use Rattle.robots_warnings.specs.declared.google.TheConstants.{LIKE_GOOGLEBOT, IGNORING_STAR}
 use Rattle.robots_warnings.specs.Tokens.{ends_token}
 
--- those of Google's crawlers that get the group of Googlebot if they have none of their own
-abbrev pub like_googlebot : List (List ℕ)
-like_googlebot = map (λ name. name.now) LIKE_GOOGLEBOT
-
--- those of Google's crawlers that never get the group of `*`
-abbrev pub ignoring_star : List (List ℕ)
-ignoring_star = map (λ name. name.now) IGNORING_STAR
-
 -- one of these crawlers has this name, ASCII letters in any case
 abbrev pub is_given : List (List ℕ) → List ℕ → Bool
 is_given agents name = list_any (λ agent. str_eq_ignore_ascii_case name agent) agents
 
--- what Google reads of a name: the letters, `_` and `-` that it starts with, such as `Googlebot` of
--- `Googlebot/2.1` and of `Googlebot*`
-abbrev pub name_at_google : List ℕ → List ℕ
-name_at_google value = before_first ends_token value
-
--- the line is a user-agent line in which Google reads the name of this crawler
+-- the line is a user-agent line in which Google reads the name of this crawler: the letters, `_` and `-` that
+-- the value starts with, such as `Googlebot` of `Googlebot/2.1` and of `Googlebot*`
 abbrev pub is_line_at_google : List ℕ → LineValue → Bool
-is_line_at_google agent (UserAgent value) = str_eq_ignore_ascii_case (name_at_google value) agent
+is_line_at_google agent (UserAgent value) = str_eq_ignore_ascii_case (before_first ends_token value) agent
 is_line_at_google agent _ = false
 
 -- one of these lines is

@@ -2,7 +2,7 @@
 use Rattle.std.specs.Prelude.{ℕ, Bool, true, false, nat_lt, not, ◌||◌, ◌&&◌, List, [], ◌∷◌, Option, None}
 use Rattle.std.specs.Prelude.{Some, ◌==◌, bytes_eq, codes, if◌then◌else◌}
 use Rattle.std.specs.{Option.option_or, Str.str_eq_ignore_ascii_case}
-use Rattle.texting_robots.specs.Callers.{Allow, CrawlDelay, Disallow, LineValue, Label, Raw, Sitemap}
+use Rattle.texting_robots.specs.Callers.{CrawlDelay, LineValue, Label}
 use Rattle.texting_robots.specs.Callers.{UserAgent}
 use Rattle.texting_robots.specs.{Group.is_agent, Group.is_group, Line.delay_in}
 use Rattle.texting_robots.specs.declared.labels.Membership.{Membership}
@@ -17,13 +17,8 @@ use Rattle.robots_warnings.specs.Facts.{is_rule}
 -- it, or neither
 abbrev pub preceding_with : Preceding → LineValue → Preceding
 preceding_with preceding (UserAgent value) = Agent
-preceding_with preceding (Allow value) = Other
-preceding_with preceding (Disallow value) = Other
-preceding_with Other (CrawlDelay delay) = Other
 preceding_with Agent (CrawlDelay delay) = Delay
-preceding_with Delay (CrawlDelay delay) = Delay
-preceding_with preceding (Sitemap value) = preceding
-preceding_with preceding (Raw body) = preceding
+preceding_with preceding line = if is_rule line then Other else preceding
 
 -- a user-agent line with only delays after it
 abbrev pub is_delay : Preceding → Bool
@@ -68,21 +63,14 @@ is_after (Some last) number = nat_lt last number
 abbrev pub begin_with_rules : Bool → List LineValue → Bool
 begin_with_rules begun [] = false
 begin_with_rules begun (UserAgent value ∷ lines) = not begun && begin_with_rules begun lines
-begin_with_rules begun (Allow value ∷ lines) = true
-begin_with_rules begun (Disallow value ∷ lines) = true
 begin_with_rules begun (CrawlDelay delay ∷ lines) = begin_with_rules true lines
-begin_with_rules begun (Sitemap value ∷ lines) = begin_with_rules begun lines
-begin_with_rules begun (Raw body ∷ lines) = begin_with_rules begun lines
+begin_with_rules begun (line ∷ lines) = is_rule line || begin_with_rules begun lines
 
 -- these lines begin with user-agent lines, and the test holds for one of their names
 abbrev pub begin_with_one : (List ℕ → Bool) → List LineValue → Bool
 begin_with_one test [] = false
 begin_with_one test (UserAgent value ∷ lines) = test value || begin_with_one test lines
-begin_with_one test (Allow value ∷ lines) = false
-begin_with_one test (Disallow value ∷ lines) = false
-begin_with_one test (CrawlDelay delay ∷ lines) = false
-begin_with_one test (Sitemap value ∷ lines) = begin_with_one test lines
-begin_with_one test (Raw body ∷ lines) = begin_with_one test lines
+begin_with_one test (line ∷ lines) = not (is_group line) && begin_with_one test lines
 
 -- one of them has this name
 abbrev pub begin_with_name : List ℕ → List LineValue → Bool
@@ -97,11 +85,7 @@ name_again (Some name) lines = begin_with_name name lines
 abbrev pub name_star : List LineValue → Bool
 name_star [] = false
 name_star (UserAgent value ∷ lines) = bytes_eq value (codes "*") || name_star lines
-name_star (Allow value ∷ lines) = false
-name_star (Disallow value ∷ lines) = false
-name_star (CrawlDelay delay ∷ lines) = name_star lines
-name_star (Sitemap value ∷ lines) = name_star lines
-name_star (Raw body ∷ lines) = name_star lines
+name_star (line ∷ lines) = not (is_rule line) && name_star lines
 
 -- ---- conditions on a line
 

@@ -59,25 +59,14 @@ has_odd_start value = begins_oddly value && not (begins_as_url value || is_quote
 
 -- ---- regular expressions
 
--- the text starts with a range, such as `[0-9]`
-abbrev pub begins_range : List ℕ → Bool
-begins_range text =
-    nat_lt 3 (length text) && (slice_index text 0 == byte "[" && slice_index text 2 == byte "-")
-
--- the text starts with a character class, such as `\d`
-abbrev pub begins_class : List ℕ → Bool
-begins_class text = slice_index text 0 == byte "\\" && is_ascii_alphanumeric (slice_index text 1)
-
--- the text starts with `.*` after a slash or `(`, or before `$`; elsewhere it is part of paths such as
--- `/index.*`
-abbrev pub begins_any : List ℕ → Bool
-begins_any text =
-    starts_with nat_eq text (codes "/.*")
-    || (starts_with nat_eq text (codes "(.*") || starts_with nat_eq text (codes ".*$"))
-
--- the text starts with a range, such a `.*` or a character class
+-- the text starts with a range, such as `[0-9]`; with `.*` after a slash or `(`, or before `$`, which
+-- elsewhere is part of paths such as `/index.*`; or with a character class, such as `\d`
 abbrev pub begins_sign : List ℕ → Bool
-begins_sign text = begins_range text || (begins_any text || begins_class text)
+begins_sign text =
+    (nat_lt 3 (length text) && (slice_index text 0 == byte "[" && slice_index text 2 == byte "-"))
+    || ((starts_with nat_eq text (codes "/.*")
+    || (starts_with nat_eq text (codes "(.*") || starts_with nat_eq text (codes ".*$")))
+    || (slice_index text 0 == byte "\\" && is_ascii_alphanumeric (slice_index text 1)))
 
 -- the value has an alternative, such as `(a|b)`: a `)` after a `|` after a `(`; or it contains a range,
 -- such a

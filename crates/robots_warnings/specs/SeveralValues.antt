@@ -4,27 +4,10 @@ use Rattle.std.specs.Prelude.{slice_index}
 use Rattle.std.specs.{Char.is_ascii_alphabetic, List.starts_with, Str.byte}
 use Rattle.robots_warnings.specs.Rules.{somewhere}
 
--- the text starts with a comma, and then with a path or with `http`
-abbrev pub begins_list : List ℕ → Bool
-begins_list text =
-    slice_index text 0 == byte ","
-    && (starts_with nat_eq (drop 1 text) (codes "/") || starts_with nat_eq (drop 1 text) (codes "http"))
-
--- the text starts with a tag of HTML: `<` and a letter, `/` or `!`
-abbrev pub begins_tag : List ℕ → Bool
-begins_tag text =
-    slice_index text 0 == byte "<"
-    && (is_ascii_alphabetic (slice_index text 1)
-    || (slice_index text 1 == byte "/" || slice_index text 1 == byte "!"))
-
 -- the text starts with a space or a control character of ASCII other than DEL
 abbrev pub begins_space : List ℕ → Bool
 begins_space [] = false
 begins_space (b ∷ text) = nat_le b 32
-
--- the last byte of U+2000 to U+200A, U+2028, U+2029 and U+202F, in UTF-8
-abbrev pub is_general_space : ℕ → Bool
-is_general_space b = (nat_le 0x80 b && nat_le b 0x8A) || (b == 0xA8 || (b == 0xA9 || b == 0xAF))
 
 -- the text starts with other white space of Unicode, in UTF-8: U+0085, U+00A0 (a no-break space), U+1680,
 -- U+2000 to U+200A, U+2028, U+2029, U+202F, U+205F or U+3000 (a full-width space)
@@ -35,7 +18,8 @@ begins_wide_space text =
     let third = slice_index text 2 in
     (first == 0xC2 && (second == 0x85 || second == 0xA0))
     || ((first == 0xE1 && (second == 0x9A && third == 0x80))
-    || ((first == 0xE2 && (second == 0x80 && is_general_space third))
+    || ((first == 0xE2 && (second == 0x80 && ((nat_le 0x80 third && nat_le third 0x8A)
+    || (third == 0xA8 || (third == 0xA9 || third == 0xAF)))))
     || ((first == 0xE2 && (second == 0x81 && third == 0x9F))
     || (first == 0xE3 && (second == 0x80 && third == 0x80)))))
 
@@ -50,11 +34,17 @@ begins_unseen text =
     || ((first == 0xE2 && ((second == 0x80 && third == 0x8B) || (second == 0x81 && third == 0xA0)))
     || (first == 0xEF && (second == 0xBB && third == 0xBF)))
 
--- the text starts with one of these
+-- the text starts with one of these; with a comma, and then with a path or with `http`; or with a tag of
+-- HTML: `<` and a letter, `/` or `!`
 abbrev pub begins_next_value : List ℕ → Bool
 begins_next_value text =
+    let first = slice_index text 0 in
+    let second = slice_index text 1 in
     begins_space text
-    || (begins_list text || (begins_tag text || (begins_wide_space text || begins_unseen text)))
+    || ((first == byte ","
+    && (starts_with nat_eq (drop 1 text) (codes "/") || starts_with nat_eq (drop 1 text) (codes "http")))
+    || ((first == byte "<" && (is_ascii_alphabetic second || (second == byte "/" || second == byte "!")))
+    || (begins_wide_space text || begins_unseen text)))
 
 -- the value contains one of these
 abbrev pub has_several_values : List ℕ → Bool

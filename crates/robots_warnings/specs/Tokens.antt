@@ -25,10 +25,6 @@ is_product_token value =
 abbrev pub is_name_byte : ℕ → Bool
 is_name_byte b = is_token_byte b || (is_ascii_digit b || (b == byte "." || b == byte " "))
 
--- the value without a star at its end
-abbrev pub without_star : List ℕ → List ℕ
-without_star value = if ends_with nat_eq value (codes "*") then take (length value - 1) value else value
-
 -- the text starts with a word for a crawler
 abbrev pub begins_crawler_word : List ℕ → Bool
 begins_crawler_word text =
@@ -47,4 +43,5 @@ begins_names text =
 -- `Googlebot Bingbot` does, but not `Brightbot 1.0` or `Echobot Bot`
 abbrev pub is_usual_name : List ℕ → Bool
 is_usual_name value =
-    (not (length value == 0) && list_all is_name_byte (without_star value)) && not (somewhere begins_names value)
+    let name = if ends_with nat_eq value (codes "*") then take (length value - 1) value else value in
+    (not (length value == 0) && list_all is_name_byte name) && not (somewhere begins_names value)

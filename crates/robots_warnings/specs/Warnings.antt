@@ -13,7 +13,8 @@ use Rattle.robots_warnings.specs.declared.table.Cause.TheVariants.{NonstandardEs
 use Rattle.robots_warnings.specs.declared.table.Cause.TheVariants.{ReplacesStar}
 use Rattle.robots_warnings.specs.declared.warning.Detail.{Detail}
 use Rattle.robots_warnings.specs.declared.warning.Detail.TheVariants.{Line, Rules}
-use Rattle.robots_warnings.specs.Google.{ignoring_star, is_given, is_named_at_google, like_googlebot}
+use Rattle.robots_warnings.specs.Google.{is_given, is_named_at_google}
+use Rattle.robots_warnings.specs.declared.google.TheConstants.{IGNORING_STAR, LIKE_GOOGLEBOT}
 use Rattle.robots_warnings.specs.Checks.{Check, agent_checks, file_checks, line_checks, position_checks}
 use Rattle.robots_warnings.specs.Checks.{is_in_scope_of, url_checks}
 use Rattle.robots_warnings.specs.Positions.{first_delay, last_group, preceding_with, sole_name}
@@ -124,9 +125,9 @@ google_warning cause has_group everywhere agents lines name =
 abbrev pub google_warnings : Bool → List (List ℕ) → List LineValue → List WarningValue
 google_warnings everywhere agents lines =
     flat_map (google_warning GooglebotGroup (is_named_at_google (codes "Googlebot") lines) everywhere agents
-    lines) like_googlebot
+    lines) (map (λ name. name.now) LIKE_GOOGLEBOT)
     ++ flat_map (google_warning GoogleIgnoresStar (is_named (codes "*") lines) everywhere agents lines)
-    ignoring_star
+    (map (λ name. name.now) IGNORING_STAR)
 
 -- warnings about the rules of a group or of a crawler as a whole
 abbrev pub group_warnings : Bool → List (List ℕ) → (bodies : List (List ℕ)) → List LineValue → List Label

@@ -20,8 +20,8 @@ pub(crate) fn is_whole_site(value: &[u8]) -> bool
     ensures { result ≡ is_whole_site value.now }
 {
     match value {
-        [first, rest @ ..] => (*first == b'/' || *first == b'*') && are_stars(rest),
-        [] => false,
+        [b'/' | b'*', rest @ ..] => are_stars(rest),
+        _ => false,
     }
 }
 
@@ -33,20 +33,13 @@ pub(crate) fn is_closing(rule: &SiteRule<'_>) -> bool
     !rule.is_allow && is_whole_site(rule.value.as_bytes())
 }
 
-/// Whether the rule is an Allow whose pattern isn't empty.
+/// Whether a rule of the crawler is an Allow whose pattern isn't empty.
 #[tactic(auto, using(crate::proofs::RuleLemmas::none_escaped))]
-fn is_opening(rule: &SiteRule<'_>) -> bool
-    ensures { result ≡ is_opening rule.now }
-{
-    rule.is_allow && !rule.value.is_empty()
-}
-
-/// Whether a rule of the crawler is such an Allow.
 fn is_opened(site: &Site, agent: &str) -> bool
     ensures { result ≡ list_any is_opening (placed_rules agent.now (file_lines site.now)) }
 {
     for rule in site.rules(agent) {
-        if is_opening(&rule) {
+        if rule.is_allow && !rule.value.is_empty() {
             return true;
         }
     }

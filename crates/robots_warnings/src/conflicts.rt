@@ -1,12 +1,12 @@
 //! Rules that contradict each other.
-ghost use Rattle.std.specs.Prelude.{◌≡◌, ◌==◌, ℕ, Bool, IfOk, List, None, OnOk, Some, codes, if◌then◌else◌};
+ghost use Rattle.std.specs.Prelude.{◌≡◌, ◌==◌, ℕ, Bool, IfOk, List, None, OnOk, Some, codes, if◌then◌else◌, true};
 ghost use Rattle.std.specs.Prelude.{map, string_bytes};
 ghost use Rattle.std.specs.HashMap.{get_by_text};
 ghost use Rattle.std.specs.{BTreeMap.get, BTreeSet.contains, Option.option_or, Ordering.nat_cmp, Str.bytes_eq};
 ghost use Rattle.texting_robots.specs.Callers.{PlacedRule, file_lines, placed_rules};
-ghost use Rattle.robots_warnings.specs.Conflicts.{allow_beside, compared, conflict_for, first_line, is_like};
+ghost use Rattle.robots_warnings.specs.Conflicts.{allow_beside, compared, conflict_for, first_line, is_like, line_if};
 ghost use Rattle.robots_warnings.specs.Conflicts.{overruled_for, overruling};
-ghost use Rattle.robots_warnings.specs.Internal.Rules.{AddsLine, AreOf, HasFirst, Notes};
+ghost use Rattle.robots_warnings.specs.Internal.Rules.{AreOf, HasFirst};
 
 use crate::closed::add_closed;
 use crate::numbers::Numbers;
@@ -50,7 +50,9 @@ fn add_allow(
     rule: &SiteRule<'_>,
     empty: &Numbers,
 ) -> Result<(), AllocError>
-    ensures { OnOk result (AddsLine (contains nat_cmp empty.now) lines.old lines.new rule.now) }
+    ensures { OnOk result ((pattern : List ℕ) → get_by_text lines.new pattern
+        ≡ option_or (get_by_text lines.old pattern)
+        (line_if (is_like (contains nat_cmp empty.now) true pattern) rule.now)) }
 {
     if !rule.is_allow || empty.contains(&rule.line) {
         return Ok(());
@@ -77,7 +79,8 @@ fn first_allows(
 
 /// Inserts the other line for the number, if there is one and the number has none.
 fn note(others: &mut Others, number: usize, other: Option<usize>) -> Result<(), AllocError>
-    ensures { OnOk result (Notes others.old others.new number other) }
+    ensures { OnOk result ((n : ℕ) → get nat_cmp others.new n
+        ≡ option_or (get nat_cmp others.old n) (if number == n then other else None)) }
 {
     let Some(line) = other else {
         return Ok(());

@@ -2,7 +2,7 @@
 ghost use Rattle.std.specs.Prelude.{◌≡◌, ◌==◌, ◌||◌, map, not};
 ghost use Rattle.std.specs.List.{list_any};
 ghost use Rattle.texting_robots.specs.Callers.{by_value, label_by_value};
-ghost use Rattle.robots_warnings.specs.Facts.{facts_by, facts_of, has_text, suppresses_line_warnings, is_too_large, is_unknown};
+ghost use Rattle.robots_warnings.specs.Facts.{facts_of, has_text, suppresses_line_warnings, is_too_large, is_unknown};
 ghost use Rattle.robots_warnings.specs.Facts.{has_damaged_mark, has_nul, kinds_of, mark, nul_at_every_other, seems_html, seems_utf_16, without_start, without_white};
 ghost use Rattle.robots_warnings.specs.File.{lines_of};
 ghost use Rattle.robots_warnings.specs.Internal.{kinds_with};
@@ -181,10 +181,11 @@ pub(crate) fn is_too_large(file: &[u8]) -> bool
     file.len() > FILE_LIMIT
 }
 
-/// The facts about a file with these kinds of lines.
-fn facts_by(file: &[u8], kinds: LineKinds) -> FileFacts
-    ensures { result ≡ facts_by file.now kinds }
+/// The facts about a file with these lines.
+pub fn facts_of(file: &[u8], labels: &[LabeledLine<'_>]) -> FileFacts
+    ensures { result ≡ facts_of file.now (map label_by_value labels.now) }
 {
+    let kinds = kinds_of(labels);
     let is_unknown = is_unknown(kinds);
     let is_html = is_unknown && seems_html(file);
     let is_utf_16 = is_unknown && !is_html && seems_utf_16(file);
@@ -198,13 +199,6 @@ fn facts_by(file: &[u8], kinds: LineKinds) -> FileFacts
         has_damaged_mark: has_damaged_mark(file),
         has_nul: has_nul(file),
     }
-}
-
-/// The facts about a file with these lines.
-pub fn facts_of(file: &[u8], labels: &[LabeledLine<'_>]) -> FileFacts
-    ensures { result ≡ facts_of file.now (map label_by_value labels.now) }
-{
-    facts_by(file, kinds_of(labels))
 }
 
 /// Whether the file seems to be something else than a robots.txt file, so that its lines aren't checked.

@@ -92,18 +92,18 @@ pub(crate) fn is_empty_group(last: Option<usize>, labeled: &LabeledLine<'_>) -> 
 }
 
 /// Whether these lines begin with user-agent lines, and a rule follows in their group.
-#[tactic(auto, using(crate::proofs::StepLemmas::rules_from))]
 fn begin_with_rules(labels: &[LabeledLine<'_>]) -> bool
     ensures { result ≡ begin_with_rules false (lines_of (map label_by_value labels.now)) }
 {
-    let mut begun = false;
-    for labeled in labels {
+    let (mut begun, mut rest) = (false, labels);
+    while let [labeled, after @ ..] = rest {
         match labeled.line {
             Line::UserAgent(_) if begun => return false,
             Line::Allow(_) | Line::Disallow(_) => return true,
             Line::CrawlDelay(_) => begun = true,
             Line::UserAgent(_) | Line::Sitemap(_) | Line::Raw(_) => {}
         }
+        rest = after;
     }
     false
 }
@@ -116,30 +116,32 @@ fn is_same_name(one: &[u8], other: &[u8]) -> bool
 }
 
 /// Whether these lines begin with user-agent lines, one of which has this name.
-#[tactic(auto, using(crate::proofs::StepLemmas::name_from))]
 fn begin_with_name(name: &[u8], labels: &[LabeledLine<'_>]) -> bool
     ensures { result ≡ begin_with_name name.now (lines_of (map label_by_value labels.now)) }
 {
-    for labeled in labels {
+    let mut rest = labels;
+    while let [labeled, after @ ..] = rest {
         match labeled.line {
             Line::UserAgent(value) if is_same_name(value, name) => return true,
             Line::Allow(_) | Line::Disallow(_) | Line::CrawlDelay(_) => return false,
-            Line::UserAgent(_) | Line::Sitemap(_) | Line::Raw(_) => {}
+            Line::UserAgent(_) | Line::Sitemap(_) | Line::Raw(_) => rest = after,
         }
     }
     false
 }
 
 /// Whether one of these lines names `*`, and no rule is above it.
-#[tactic(auto, using(crate::proofs::StepLemmas::star_from))]
 pub(crate) fn name_star(labels: &[LabeledLine<'_>]) -> bool
     ensures { result ≡ name_star (lines_of (map label_by_value labels.now)) }
 {
-    for labeled in labels {
+    let mut rest = labels;
+    while let [labeled, after @ ..] = rest {
         match labeled.line {
             Line::UserAgent(value) if value == b"*".as_slice() => return true,
             Line::Allow(_) | Line::Disallow(_) => return false,
-            Line::UserAgent(_) | Line::CrawlDelay(_) | Line::Sitemap(_) | Line::Raw(_) => {}
+            Line::UserAgent(_) | Line::CrawlDelay(_) | Line::Sitemap(_) | Line::Raw(_) => {
+                rest = after;
+            }
         }
     }
     false

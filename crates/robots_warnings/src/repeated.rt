@@ -1,7 +1,7 @@
 //! Rules that repeat a rule above them in their group.
 ghost use Rattle.std.specs.Prelude.{◌≡◌, IfOk, [], map};
 ghost use Rattle.texting_robots.specs.Callers.{by_value, label_by_value};
-ghost use Rattle.robots_warnings.specs.Internal.Values.{AddsLine, HasSeen, AddsValue};
+ghost use Rattle.robots_warnings.specs.Internal.Values.{AddsLine, AddsRule, AddsValue, HasSeen};
 ghost use Rattle.robots_warnings.specs.Repeated.{is_checked, repeated};
 
 use crate::checks::is_in_scope_of;
@@ -14,13 +14,13 @@ use texting_robots::parser::Line;
 
 /// The rules of a group that were seen so far, by their values.
 #[derive(Drop)]
-struct Seen<'a> {
-    allows: Values<'a>,
-    disallows: Values<'a>,
+pub(crate) struct Seen<'a> {
+    pub(crate) allows: Values<'a>,
+    pub(crate) disallows: Values<'a>,
 }
 
 /// No rules.
-fn nothing<'a>(alloc: Global) -> Seen<'a>
+pub(crate) fn nothing<'a>(alloc: Global) -> Seen<'a>
     ensures { HasSeen result [] }
 {
     Seen {
@@ -36,19 +36,27 @@ fn add_value<'a>(values: &mut Values<'a>, bytes: &'a [u8]) -> Result<bool, Alloc
     Ok(!values.insert(Value { bytes })?)
 }
 
-/// Adds the line if it is a rule, or drops all rules if it is a user-agent line. It returns whether the line repeats a
-/// rule.
-fn add_line<'a>(alloc: Global, seen: &mut Seen<'a>, line: Line<'a>) -> Result<bool, AllocError>
-    ensures { IfOk result (λ is. AddsLine seen.old seen.new (by_value line.entry) is) }
+/// Adds the line if it is a rule, and returns whether it repeats one.
+pub(crate) fn add_rule<'a>(seen: &mut Seen<'a>, line: Line<'a>) -> Result<bool, AllocError>
+    ensures { IfOk result (λ is. AddsRule seen.old seen.new (by_value line.entry) is) }
 {
     match line {
         Line::Allow(value) => add_value(&mut seen.allows, value),
         Line::Disallow(value) => add_value(&mut seen.disallows, value),
+        Line::UserAgent(_) | Line::CrawlDelay(_) | Line::Sitemap(_) | Line::Raw(_) => Ok(false),
+    }
+}
+
+/// The same, but drops all rules if it is a user-agent line.
+fn add_line<'a>(alloc: Global, seen: &mut Seen<'a>, line: Line<'a>) -> Result<bool, AllocError>
+    ensures { IfOk result (λ is. AddsLine seen.old seen.new (by_value line.entry) is) }
+{
+    match line {
         Line::UserAgent(_) => {
             *seen = nothing(alloc);
             Ok(false)
         }
-        Line::CrawlDelay(_) | Line::Sitemap(_) | Line::Raw(_) => Ok(false),
+        _ => add_rule(seen, line),
     }
 }
 

@@ -1,13 +1,13 @@
 //! Groups of crawlers that have none of the Disallow rules of `*`.
-ghost use Rattle.std.specs.Prelude.{◌≡◌, Bool, IfOk, List, OnOk, map, string_bytes, ℕ};
-ghost use Rattle.std.specs.{List.list_any, Str.str_to_ascii_lowercase};
+ghost use Rattle.std.specs.Prelude.{◌≡◌, ◌||◌, ◌&&◌, Bool, IfOk, List, OnOk, bytes_eq, map, string_bytes, ℕ};
+ghost use Rattle.std.specs.{BTreeSet.contains, HashSet.contains_text, List.list_any, Str.str_to_ascii_lowercase};
 ghost use Rattle.texting_robots.specs.Callers.{LineValue, by_value, file_lines, label_by_value};
 ghost use Rattle.texting_robots.specs.Group.{is_group};
-ghost use Rattle.robots_warnings.specs.Replaced.{is_lacking, is_partial, is_replacing, lacks_all, replacing};
+ghost use Rattle.robots_warnings.specs.Replaced.{denies, is_lacking, is_partial, is_replacing, lacks_all, replacing};
 ghost use Rattle.robots_warnings.specs.Replaced.{star_count, star_rules};
 ghost use Rattle.robots_warnings.specs.{File.lines_of, Positions.begin_with_one};
-ghost use Rattle.robots_warnings.specs.Internal.Rules.{AddsDenied, AddsLacking, HasDenied, HasThose};
-ghost use Rattle.robots_warnings.specs.Internal.Rules.{is_kept_in};
+ghost use Rattle.robots_warnings.specs.Internal.Names.{Key, key_cmp};
+ghost use Rattle.robots_warnings.specs.Internal.Rules.{HasDenied, HasThose, is_kept_in};
 
 use crate::closed::is_whole_site;
 use crate::names::{Names, add_name};
@@ -35,20 +35,13 @@ pub(crate) fn star_count(alloc: Global, site: &Site) -> Result<usize, AllocError
     Ok(numbers.len())
 }
 
-/// Whether the rule is a Disallow, but not of the whole site.
+/// Whether `*` has a Disallow that isn't of the whole site.
 #[tactic(auto, using(crate::proofs::RuleLemmas::whole_site_escaped))]
-fn is_partial(rule: &SiteRule<'_>) -> bool
-    ensures { result ≡ is_partial rule.now }
-{
-    !rule.is_allow && !is_whole_site(rule.value.as_bytes())
-}
-
-/// Whether `*` has such a rule.
 fn has_partial(site: &Site) -> bool
     ensures { result ≡ list_any is_partial (star_rules (file_lines site.now)) }
 {
     for rule in site.rules("*") {
-        if is_partial(&rule) {
+        if !rule.is_allow && !is_whole_site(rule.value.as_bytes()) {
             return true;
         }
     }
@@ -57,7 +50,8 @@ fn has_partial(site: &Site) -> bool
 
 /// Inserts the pattern of the rule if it is a Disallow.
 fn add_denied(alloc: Global, denied: &mut Patterns, rule: &SiteRule<'_>) -> Result<(), AllocError>
-    ensures { OnOk result (AddsDenied denied.old denied.new rule.now) }
+    ensures { OnOk result ((pattern : List ℕ) → contains_text denied.new pattern
+        ≡ (contains_text denied.old pattern || denies pattern rule.now)) }
 {
     if !rule.is_allow {
         let pattern = rule.pattern(alloc)?;
@@ -110,7 +104,8 @@ fn add_lacking(
     agent: &str,
 ) -> Result<(), AllocError>
     requires { HasDenied denied.now (star_rules (file_lines site.now)) }
-    ensures { OnOk result (AddsLacking (file_lines site.now) names.old names.new agent.now) }
+    ensures { OnOk result ((key : Key) → contains key_cmp names.new key ≡ (contains key_cmp names.old key
+        || (lacks_all (file_lines site.now) agent.now && bytes_eq (str_to_ascii_lowercase agent.now) key.items))) }
 {
     if lacks_all(alloc, site, denied, agent)? {
         add_name(alloc, names, agent.as_bytes())?;
@@ -131,7 +126,6 @@ fn lacking(alloc: Global, site: &Site, agents: &[String]) -> Result<Names, Alloc
 }
 
 /// Whether these lines begin with user-agent lines, one of whose names is in the set, in lower case.
-#[tactic(auto, using(crate::proofs::StepLemmas::name_from))]
 fn begin_with_one(
     alloc: Global,
     names: &Names,
@@ -140,7 +134,8 @@ fn begin_with_one(
     ensures { IfOk result (λ is. (test : List ℕ → Bool) → HasThose names.now test
         → is ≡ begin_with_one (λ name. test (str_to_ascii_lowercase name)) (lines_of (map label_by_value labels.now))) }
 {
-    for labeled in labels {
+    let mut rest = labels;
+    while let [labeled, after @ ..] = rest {
         match labeled.line {
             Line::UserAgent(value) => {
                 let lowered = value.to_ascii_lowercase(alloc)?;
@@ -151,26 +146,31 @@ fn begin_with_one(
             Line::Allow(_) | Line::Disallow(_) | Line::CrawlDelay(_) => return Ok(false),
             Line::Sitemap(_) | Line::Raw(_) => {}
         }
+        rest = after;
     }
     Ok(false)
 }
 
-/// Whether one of these lines is a rule or a delay.
-#[tactic(auto, using(crate::proofs::RuleLemmas::groups_from))]
-fn have_group(labels: &[LabeledLine<'_>]) -> bool
-    ensures { result ≡ list_any is_group (lines_of (map label_by_value labels.now)) }
+/// Whether the line is a rule or a delay.
+fn is_in_group(labeled: &LabeledLine<'_>) -> bool
+    ensures { result ≡ is_group (by_value labeled.now.line) }
 {
-    for labeled in labels {
-        match labeled.line {
-            Line::Allow(_) | Line::Disallow(_) | Line::CrawlDelay(_) => return true,
-            Line::UserAgent(_) | Line::Sitemap(_) | Line::Raw(_) => {}
-        }
-    }
-    false
+    matches!(
+        labeled.line,
+        Line::Allow(_) | Line::Disallow(_) | Line::CrawlDelay(_)
+    )
+}
+
+/// Whether one of these lines is.
+fn have_group(labels: &[LabeledLine<'_>]) -> bool
+    ensures { result ≡ list_any (λ labeled. is_group (by_value labeled.line)) labels.now }
+{
+    labels.iter().any(is_in_group)
 }
 
 /// Whether the line is the first user-agent line of a group that has rules or delays and one of these names, but isn't
 /// the group of `*`, too. `from_here` are the lines from this one on.
+#[tactic(auto, using(crate::proofs::RuleLemmas::groups_among))]
 fn is_replacing(
     alloc: Global,
     names: &Names,

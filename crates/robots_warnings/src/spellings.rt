@@ -1,23 +1,21 @@
 //! Rules with a nonstandard percent escape, for which the group has no rule in the standard spelling.
-ghost use Rattle.std.specs.Prelude.{◌≡◌, ◌<◌, ◌++◌, ◌&&◌, Bool, List, IfOk, OnOk, false, length, map, slice_index, true};
+ghost use Rattle.std.specs.Prelude.{◌≡◌, ◌<◌, ◌++◌, ◌&&◌, Bool, List, IfOk, OnOk, length, map, slice_index, true};
 ghost use Rattle.std.specs.Char.{is_ascii_hexdigit};
 ghost use Rattle.std.specs.List.{list_any, slice_split};
-ghost use Rattle.texting_robots.specs.Callers.{LineValue, by_value, label_by_value};
+ghost use Rattle.texting_robots.specs.Callers.{LineValue, label_by_value};
 ghost use Rattle.robots_warnings.specs.File.{lines_of};
-ghost use Rattle.robots_warnings.specs.Internal.Values.{AddsRuleValue, HasRuleValues, has_odd_line};
-ghost use Rattle.robots_warnings.specs.Spellings.{is_agent_line, is_escape, is_unpaired, is_unpaired_at, nonstandard_escapes};
+ghost use Rattle.robots_warnings.specs.Internal.Values.{HasSeen, HasValues, has_odd_line};
+ghost use Rattle.robots_warnings.specs.Spellings.{is_agent_line, is_escape, is_rule_with, is_unpaired, is_unpaired_at, nonstandard_escapes};
 ghost use Rattle.robots_warnings.specs.Spellings.{standard_escape, standard_spelling, unpaired_in};
 
 use crate::checks::is_in_scope_of;
 use crate::numbers::push_if;
+use crate::repeated::{Seen, add_rule, nothing};
 use crate::rules::{begins_odd_escape, hex_value, needs_no_escape, somewhere};
+use crate::values::{Value, Values};
 use std::alloc::{AllocError, Global};
-use std::collections::BTreeSet;
 use texting_robots::labels::LabeledLine;
 use texting_robots::parser::Line;
-
-/// The values of rules.
-type Values = BTreeSet<Vec<u8>>;
 
 /// Whether the text starts with a percent escape.
 fn begins_escape(text: &[u8]) -> bool
@@ -67,68 +65,55 @@ fn standard_spelling(alloc: Global, value: &[u8]) -> Result<Vec<u8>, AllocError>
     Ok(text)
 }
 
-/// Inserts the value of the line, if it is a rule of this kind.
-#[tactic(auto, using(crate::proofs::SeenLemmas::value_added))]
-fn add_value(
-    alloc: Global,
-    values: &mut Values,
-    is_allow: bool,
-    line: Line<'_>,
-) -> Result<(), AllocError>
-    ensures { OnOk result (AddsRuleValue values.old values.new is_allow (by_value line.entry)) }
+/// The rules of a group.
+#[tactic(auto, using(crate::proofs::SeenLemmas::seen_more))]
+fn seen_in<'a>(alloc: Global, group: &[LabeledLine<'a>]) -> Result<Seen<'a>, AllocError>
+    ensures { IfOk result (λ seen. HasSeen seen (lines_of (map label_by_value group.now))) }
 {
-    let value = match line {
-        Line::Allow(value) if is_allow => value,
-        Line::Disallow(value) if !is_allow => value,
-        _ => return Ok(()),
-    };
-    values.insert(value.to_vec(alloc)?)?;
-    Ok(())
+    let mut seen = nothing(alloc);
+    for labeled in group {
+        add_rule(&mut seen, labeled.line)?;
+    }
+    Ok(seen)
 }
 
-/// The values of the rules of this kind in the group.
-#[tactic(auto, using(crate::proofs::SeenLemmas::values_more))]
-fn values_of(alloc: Global, is_allow: bool, group: &[LabeledLine<'_>]) -> Result<Values, AllocError>
-    ensures { IfOk result (λ values. HasRuleValues values is_allow (lines_of (map label_by_value group.now))) }
+/// Whether the text is one of these values.
+fn has_value(values: &Values<'_>, bytes: &[u8]) -> bool
+    ensures { (is_allow : Bool) → (lines : List LineValue) → HasValues values.now is_allow lines
+        → result ≡ list_any (is_rule_with is_allow bytes.now) lines }
 {
-    let mut values = BTreeSet::new(alloc);
-    for labeled in group {
-        add_value(alloc, &mut values, is_allow, labeled.line)?;
-    }
-    Ok(values)
+    values.contains(&Value { bytes })
 }
 
 /// Whether the value has a nonstandard escape, and its standard spelling isn't one of these values.
-fn is_unpaired(alloc: Global, values: &Values, value: &[u8]) -> Result<bool, AllocError>
-    ensures { IfOk result (λ is. (is_allow : Bool) (lines : List LineValue) → HasRuleValues values.now is_allow lines
+fn is_unpaired(alloc: Global, values: &Values<'_>, value: &[u8]) -> Result<bool, AllocError>
+    ensures { IfOk result (λ is. (is_allow : Bool) (lines : List LineValue) → HasValues values.now is_allow lines
         → is ≡ is_unpaired lines is_allow value.now) }
 {
     if !somewhere(value, begins_odd_escape) {
         return Ok(false);
     }
     let spelling = standard_spelling(alloc, value)?;
-    Ok(!values.contains(&spelling))
+    Ok(!has_value(values, &spelling))
 }
 
-/// Whether the line is a rule that is checked and has a nonstandard escape, and its standard spelling isn't among the
-/// values of its kind.
+/// Whether the line is a rule that is checked and has a nonstandard escape, and none of these rules has its standard
+/// spelling.
 fn is_unpaired_at(
     alloc: Global,
     everywhere: bool,
-    allows: &Values,
-    disallows: &Values,
+    seen: &Seen<'_>,
     labeled: &LabeledLine<'_>,
 ) -> Result<bool, AllocError>
-    ensures { IfOk result (λ is. (lines : List LineValue) → HasRuleValues allows.now true lines
-        → HasRuleValues disallows.now false lines
+    ensures { IfOk result (λ is. (lines : List LineValue) → HasSeen seen.now lines
         → is ≡ is_unpaired_at everywhere lines (label_by_value labeled.now)) }
 {
     if !is_in_scope_of(everywhere, labeled.membership) {
         return Ok(false);
     }
     match labeled.line {
-        Line::Allow(value) => is_unpaired(alloc, allows, value),
-        Line::Disallow(value) => is_unpaired(alloc, disallows, value),
+        Line::Allow(value) => is_unpaired(alloc, &seen.allows, value),
+        Line::Disallow(value) => is_unpaired(alloc, &seen.disallows, value),
         _ => Ok(false),
     }
 }
@@ -144,21 +129,14 @@ fn has_odd_line(labeled: &LabeledLine<'_>) -> bool
 }
 
 /// Whether one of the lines is such a rule.
-#[tactic(auto, using(crate::proofs::SeenLemmas::odd_from))]
 fn has_odd_lines(group: &[LabeledLine<'_>]) -> bool
-    ensures { result ≡ list_any has_odd_line (map label_by_value group.now) }
+    ensures { result ≡ list_any (λ labeled. has_odd_line (label_by_value labeled)) group.now }
 {
-    for labeled in group {
-        if has_odd_line(labeled) {
-            return true;
-        }
-    }
-    false
+    group.iter().any(has_odd_line)
 }
 
 /// Appends the numbers of the rules of a group that are checked, have a nonstandard escape, and whose standard spelling
 /// isn't a rule of their kind in the group.
-#[tactic(auto, using(crate::proofs::SeenLemmas::unpaired_from, crate::proofs::SeenLemmas::none_unpaired))]
 fn add_unpaired(
     alloc: Global,
     found: &mut Vec<usize>,
@@ -170,10 +148,9 @@ fn add_unpaired(
     if !has_odd_lines(group) {
         return Ok(());
     }
-    let allows = values_of(alloc, true, group)?;
-    let disallows = values_of(alloc, false, group)?;
+    let seen = seen_in(alloc, group)?;
     for labeled in group {
-        let is = is_unpaired_at(alloc, everywhere, &allows, &disallows, labeled)?;
+        let is = is_unpaired_at(alloc, everywhere, &seen, labeled)?;
         push_if(found, is, labeled.number)?;
     }
     Ok(())

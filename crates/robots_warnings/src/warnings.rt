@@ -7,7 +7,7 @@ ghost use Rattle.robots_warnings.specs.EmptyDisallows.{is_empty_at};
 ghost use Rattle.robots_warnings.specs.Internal.{Adds};
 ghost use Rattle.robots_warnings.specs.Internal.Rules.{warnings_at};
 ghost use Rattle.robots_warnings.specs.Warnings.{agent_warnings, crawler_warnings, file_lines_warnings, general_warnings};
-ghost use Rattle.robots_warnings.specs.Warnings.{google_warning, google_warnings, group_warnings, line_warnings, lines_warnings};
+ghost use Rattle.robots_warnings.specs.Warnings.{google_warning, google_warnings, group_warnings, line_warnings};
 ghost use Rattle.robots_warnings.specs.Warnings.{past_limit_warnings, position_warnings, url_warnings, warned, warned_at, warned_beside, warnings};
 
 use crate::checks::{
@@ -241,29 +241,8 @@ fn warn_of_line(
     warn(found, Some(labeled.number), None, &checks)
 }
 
-/// Appends the warnings about the lines of a file, which are given with their labels.
-fn warn_of_lines(
-    alloc: Global,
-    found: &mut Found<'_>,
-    everywhere: bool,
-    labels: &[LabeledLine<'_>],
-    file: &[u8],
-) -> Result<(), AllocError>
-    ensures { OnOk result (Adds found.old.items found.new.items (lines_warnings everywhere (bodies_read file.now) (map label_by_value labels.now))) }
-{
-    let mut rest = labels;
-    for body in file_bodies(counted(file)) {
-        let [labeled, after @ ..] = rest else {
-            return Ok(());
-        };
-        warn_of_line(alloc, found, everywhere, labeled, body)?;
-        rest = after;
-    }
-    Ok(())
-}
-
 /// Appends the warnings about each line of a file, if lines are checked.
-fn warn_of_file_lines(
+fn warn_of_lines(
     alloc: Global,
     found: &mut Found<'_>,
     everywhere: bool,
@@ -276,7 +255,15 @@ fn warn_of_file_lines(
     if suppresses_line_warnings(read.facts) {
         return Ok(());
     }
-    warn_of_lines(alloc, found, everywhere, read.labels, read.bytes)
+    let mut rest = read.labels;
+    for body in file_bodies(counted(read.bytes)) {
+        let [labeled, after @ ..] = rest else {
+            return Ok(());
+        };
+        warn_of_line(alloc, found, everywhere, labeled, body)?;
+        rest = after;
+    }
+    Ok(())
 }
 
 /// Appends the warnings about the positions of lines.
@@ -482,7 +469,7 @@ pub fn warnings<'a>(
 {
     let mut found = Vec::new(alloc);
     warn_in_general(alloc, &mut found, read.facts, everywhere, named, urls)?;
-    warn_of_file_lines(alloc, &mut found, everywhere, read)?;
+    warn_of_lines(alloc, &mut found, everywhere, read)?;
     warn_of_positions(&mut found, read.labels)?;
     warn_past_limit(alloc, &mut found, read)?;
     warn_of_groups(alloc, &mut found, everywhere, agents, read)?;

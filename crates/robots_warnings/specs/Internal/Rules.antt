@@ -1,41 +1,27 @@
 -- What is found among the rules of a crawler: their lines by their patterns, as they are compared, and sets
 -- of
 -- patterns.
-use Rattle.std.specs.Prelude.{◌≡◌, ℕ, ◌==◌, Bool, List, None, Option, String, true, if◌then◌else◌, not, ◌||◌}
-use Rattle.std.specs.Prelude.{◌&&◌, bytes_eq}
-use Rattle.std.specs.{BTreeMap.BTreeMap, BTreeMap.get, BTreeSet.contains, BTreeSet.BTreeSet, Global.Global}
-use Rattle.std.specs.{HashMap.HashMap, HashMap.get_by_text, Option.option_or, Ordering.nat_cmp}
-use Rattle.std.specs.{HashSet.HashSet, HashSet.contains_text, List.list_any, Str.str_to_ascii_lowercase}
+use Rattle.std.specs.Prelude.{◌≡◌, ℕ, Bool, List, String, true, not, ◌||◌}
+use Rattle.std.specs.Prelude.{◌&&◌}
+use Rattle.std.specs.{BTreeMap.get, BTreeSet.contains, BTreeSet.BTreeSet, Global.Global}
+use Rattle.std.specs.{HashMap.HashMap, HashMap.get_by_text, Ordering.nat_cmp}
+use Rattle.std.specs.{HashSet.HashSet, HashSet.contains_text, List.list_any}
 use Rattle.texting_robots.specs.Callers.{LineValue, PlacedRule}
 use Rattle.robots_warnings.specs.declared.conflicts.RuleLines.{RuleLines}
-use Rattle.robots_warnings.specs.Conflicts.{conflict, first_line, is_like, line_if, overruled}
+use Rattle.robots_warnings.specs.Conflicts.{conflict, first_line, is_like, overruled}
 use Rattle.robots_warnings.specs.{Closed.is_closed, Closed.is_whole_site, WarningValue.WarningValue}
-use Rattle.robots_warnings.specs.{Warnings.rule_warnings, Replaced.denies, Replaced.lacks_all}
+use Rattle.robots_warnings.specs.{Warnings.rule_warnings, Replaced.denies}
 use Rattle.robots_warnings.specs.Internal.Names.{Key, key_cmp}
 
 -- a map from patterns to lines, for any hash function
 abbrev pub Lines : Type 0 → Type 0
 Lines S = HashMap (String Global) ℕ S
 
--- the new map has the line of this rule, if it is an Allow and no empty Disallow, and the old one has no line
--- for its pattern
-pub record AddsLine {S : Type 0} (is_empty : ℕ → Bool) (old new : Lines S) (placed : PlacedRule) : Type 0
-  where
-    pub each : (pattern : List ℕ) → get_by_text new pattern
-        ≡ option_or (get_by_text old pattern) (line_if (is_like is_empty true pattern) placed)
-
 -- the map has the line of the first Allow with each pattern, other than empty Disallows
 pub record HasFirst {S : Type 0} (is_empty : ℕ → Bool) (lines : Lines S) (rules : List PlacedRule) : Type 0
   where
     pub each : (pattern : List ℕ) → get_by_text lines pattern
         ≡ first_line (is_like is_empty true pattern) rules
-
--- with the rules that are left, the map has that of all
-pub record HasFirstWith {S : Type 0} (is_empty : ℕ → Bool) (lines : Lines S) (left all : List PlacedRule)
-    : Type 0 where
-  pub each : (pattern : List ℕ)
-      → option_or (get_by_text lines pattern) (first_line (is_like is_empty true pattern) left)
-      ≡ first_line (is_like is_empty true pattern) all
 
 -- these are the lines for which something is to be said about the rules of these crawlers
 pub record AreOf (is_empty : ℕ → Bool) (agents : List (List ℕ)) (lines : List LineValue) (found : RuleLines)
@@ -50,28 +36,13 @@ warnings_at found number =
     rule_warnings (get nat_cmp found.conflicts) (get nat_cmp found.overruled) (contains nat_cmp found.closed)
     number
 
--- the new map has this number for the line, if the old one has none
-abbrev pub Notes : BTreeMap ℕ ℕ → BTreeMap ℕ ℕ → (number : ℕ) → Option ℕ → Type 0
-Notes old new number other = (n : ℕ) → get nat_cmp new n
-    ≡ option_or (get nat_cmp old n) (if number == n then other else None)
-
 -- a set of patterns, for any hash function
 abbrev pub Patterns : Type 0 → Type 0
 Patterns S = HashSet (String Global) S
 
--- the new set is the old one and the pattern of the rule, if it is a Disallow
-pub record AddsDenied {S : Type 0} (old new : Patterns S) (placed : PlacedRule) : Type 0 where
-  pub each : (pattern : List ℕ) → contains_text new pattern
-      ≡ (contains_text old pattern || denies pattern placed)
-
 -- the set has exactly the patterns of the Disallows among the rules
 pub record HasDenied {S : Type 0} (denied : Patterns S) (rules : List PlacedRule) : Type 0 where
   pub each : (pattern : List ℕ) → contains_text denied pattern ≡ list_any (denies pattern) rules
-
--- with the patterns of the Disallows among the rules that are left, the set has those of all
-pub record DeniedWith {S : Type 0} (denied : Patterns S) (left all : List PlacedRule) : Type 0 where
-  pub each : (pattern : List ℕ) → (contains_text denied pattern || list_any (denies pattern) left)
-      ≡ list_any (denies pattern) all
 
 -- the rule is for the whole site, or a Disallow whose pattern is in the set
 abbrev pub is_kept_in : {S : Type 0} → Patterns S → PlacedRule → Bool
@@ -81,8 +52,3 @@ is_kept_in denied placed =
 -- the set contains exactly the names, in lower case, for which the test holds
 pub record HasThose (names : BTreeSet Key) (test : List ℕ → Bool) : Type 0 where
   pub each : (key : Key) → contains key_cmp names key ≡ test key.items
-
--- the new set is the old one and the name of the crawler, if it has none of the Disallows of `*`
-pub record AddsLacking (lines : List LineValue) (old new : BTreeSet Key) (agent : List ℕ) : Type 0 where
-  pub each : (key : Key) → contains key_cmp new key ≡ (contains key_cmp old key
-      || (lacks_all lines agent && bytes_eq (str_to_ascii_lowercase agent) key.items))

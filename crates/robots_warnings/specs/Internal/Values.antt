@@ -1,12 +1,11 @@
 -- Sets of the values of rules, and the rules of a group that were seen so far.
-use Rattle.std.specs.Prelude.{◌≡◌, ℕ, Bool, List, ◌||◌, bytes_eq, false, true, ◌++◌}
+use Rattle.std.specs.Prelude.{◌≡◌, ℕ, Bool, List, [], ◌∷◌, ◌||◌, bytes_eq, false, true, ◌++◌}
 use Rattle.std.specs.HashSet as hash
-use Rattle.std.specs.{HashSet.HashSet, List.list_any, BTreeSet.BTreeSet, BTreeSet.contains}
+use Rattle.std.specs.{HashSet.HashSet, List.list_any}
 use Rattle.texting_robots.specs.Callers.{LineValue, Allow, Disallow, Label}
 use Rattle.robots_warnings.specs.declared.values.Value.{Value}
 use Rattle.robots_warnings.specs.Repeated.{above_next, is_repeated, repeated, repeated_from}
 use Rattle.robots_warnings.specs.{Spellings.is_rule_with, Rules.begins_odd_escape, Rules.somewhere}
-use Rattle.robots_warnings.specs.Internal.Names.{Key, key_cmp}
 use Rattle.robots_warnings.specs.declared.repeated.Seen.{Seen}
 
 abbrev pub value_eq : Value → Value → Bool
@@ -29,15 +28,6 @@ pub record AddsValue {S : Type 0} (old new : Values S) (value : List ℕ) (is : 
   pub each : (key : Value) → hash.contains value_eq new key
       ≡ (hash.contains value_eq old key || bytes_eq value key.bytes.now)
 
--- the set has exactly the values of the rules of this kind in these lines
-pub record HasRuleValues (values : BTreeSet Key) (is_allow : Bool) (lines : List LineValue) : Type 0 where
-  pub each : (key : Key) → contains key_cmp values key ≡ list_any (is_rule_with is_allow key.items) lines
-
--- the new set is the old one and the value of the line, if it is a rule of this kind
-pub record AddsRuleValue (old new : BTreeSet Key) (is_allow : Bool) (line : LineValue) : Type 0 where
-  pub each : (key : Key) → contains key_cmp new key
-      ≡ (contains key_cmp old key || is_rule_with is_allow key.items line)
-
 -- the line is a rule with a nonstandard escape
 abbrev pub has_odd_value : LineValue → Bool
 has_odd_value (Allow value) = somewhere begins_odd_escape value
@@ -52,8 +42,12 @@ pub record HasSeen (seen : Seen) (above : List LineValue) : Type 0 where
   pub allows : HasValues seen.allows true above
   pub disallows : HasValues seen.disallows false above
 
--- the line was added if it is a rule, or all rules were dropped if it is a user-agent line; `is` is true if
--- the line repeats a rule
+-- the line was added; `is` is true if it repeats a rule
+pub record AddsRule (old new : Seen) (line : LineValue) (is : Bool) : Type 0 where
+  pub was : (above : List LineValue) → HasSeen old above → is ≡ is_repeated above line
+  pub has : (above : List LineValue) → HasSeen old above → HasSeen new (above ++ line ∷ [])
+
+-- the same, or all rules were dropped if it is a user-agent line
 pub record AddsLine (old new : Seen) (line : LineValue) (is : Bool) : Type 0 where
   pub was : (above : List LineValue) → HasSeen old above → is ≡ is_repeated above line
   pub has : (above : List LineValue) → HasSeen old above → HasSeen new (above_next above line)

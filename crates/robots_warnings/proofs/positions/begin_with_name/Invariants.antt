@@ -1,9 +1,12 @@
-use Rattle.std.proofs.Common.{◌≡◌, drop, map}
+use Rattle.std.proofs.Common.{◌≡◌, length, map}
 use Rattle.texting_robots.specs.Callers.{label_by_value}
 use Rattle.robots_warnings.specs.{File.lines_of, Positions.begin_with_name}
 use Rattle.robots_warnings.proofs.positions.begin_with_name.Given as goal
 
-abbrev pub invariant-loop-labeled : goal.invariant-loop-labeled
-invariant-loop-labeled l =
-    begin_with_name l.name (lines_of (map label_by_value (drop l.labeled-index l.labels)))
+abbrev pub invariant-loop-rest : goal.invariant-loop-rest
+invariant-loop-rest l =
+    begin_with_name l.name (lines_of (map label_by_value l.rest))
     ≡ begin_with_name l.name (lines_of (map label_by_value l.labels))
+
+abbrev pub decreases-loop-rest : goal.decreases-loop-rest
+decreases-loop-rest l = length l.rest

@@ -18,6 +18,6 @@ loop-agent-preserved c =
         each = λ key.
             any_next (λ agent. lacks_all lines agent && bytes_eq (str_to_ascii_lowercase agent) key.items)
             agents at item below c.agent-item.is c.deref.ensures (c.loop-agent.invariant.names.each key)
-            (c.in_ok-add_lacking.ensures.each key);
+            (c.in_ok-add_lacking.ensures key);
       };
     }

@@ -5,5 +5,4 @@ use Rattle.robots_warnings.proofs.spellings.is_unpaired.Goals as goal
 pub returns : goal.returns
 returns c = λ is_allow lines has.
     let odd : somewhere begins_odd_escape c.args.value.now ≡ true = search rules in
-    let there = has.each c.in_ok-spelling.spelling in
-    rw (odd, c.contains.ensures, there, c.in_ok-spelling.ensures)
+    rw (odd, c.has_value.ensures is_allow lines has, c.deref.ensures.value, c.in_ok-spelling.ensures)

@@ -9,4 +9,4 @@ invariant-loop-body l =
     l.found.items
     ++ lines_warnings l.everywhere l.body-iterator (map label_by_value l.rest)
     ≡ l.fn.found.items
-    ++ lines_warnings l.everywhere (bodies_read l.file) (map label_by_value l.labels)
+    ++ lines_warnings l.everywhere (bodies_read l.read.bytes.now) (map label_by_value l.read.labels.now)
