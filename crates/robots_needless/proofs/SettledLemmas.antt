@@ -3,7 +3,8 @@ use Rattle.std.proofs.Common.{◌≡◌, ◌↔◌, inl, inr, ℕ, zero, suc, �
 use Rattle.std.proofs.Common.{All, ◌+◌, ◌<◌, length, not, ap, sym, refl, subst, ◌∙◌, arith, codes, filter, map}
 use Rattle.std.specs.{BTreeMap.IsOrdered, BTreeMap.keys, BTreeSet.BTreeSet, BTreeSet.contains, List.Contains}
 use Rattle.std.specs.{List.enumerate_from, List.list_any, Ordering.nat_cmp, Cmp.nat_cmp_total}
-use Rattle.std.proofs.lemmas.Bool.{cases_Bool, false≢true, not-true}
+use Rattle.std.proofs.lemmas.Bool.{Decides.same_from_decides, false≢true, not-true}
+use Rattle.std.specs.Bool.{Decides}
 use Rattle.std.proofs.lemmas.{List.Sums.AllPass-from_list_all, Option.slice_get_within}
 use Rattle.std.proofs.lemmas.List.Elements.{All-contains, Contains-append_left, All-map, All-nil}
 use Rattle.std.proofs.lemmas.List.Elements.{Contains-push, Contains-push_cases}
@@ -148,17 +149,10 @@ reasons_listed found ordered list are lines reasons =
 is_key : (found : Reasons) (list : List NeedlessRule) → list ≡ map rule_at found.entries → (n : ℕ)
     → list_any (λ number. number == n) (numbers_of list) ≡ is_found found n
 is_key found list are n =
-    let (to, from) = btree_map_contains_key_iff nat_cmp_total exact_unsigned found n in
     let same : numbers_of list ≡ keys found = rw are (numbers_are found.entries) in
-    elim (cases_Bool (is_found found n)) [
-      | inl has ↦ rw has (named_in n (numbers_of list) (rw same (to has)))
-      | inr hasnt ↦ elim (cases_Bool (list_any (λ number. number == n) (numbers_of list))) [
-        | inr none ↦ none ∙ sym hasnt
-        | inl some ↦
-            let has = from (rw same at (in_named n (numbers_of list) some)) in
-            absurd (false≢true (sym hasnt ∙ has))
-      ]
-    ]
+    same_from_decides _ _ (in_named n (numbers_of list), named_in n (numbers_of list))
+    (subst (λ ns. Decides (is_found found n) (Contains ns n)) (sym same)
+    (btree_map_contains_key_iff nat_cmp_total exact_unsigned found n))
 
 are_keys : (found : Reasons) (list : List NeedlessRule) → list ≡ map rule_at found.entries
     → ◌≡◌ {A = ℕ → Bool} (among (numbers_of list)) (is_found found)
