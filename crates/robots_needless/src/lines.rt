@@ -1,5 +1,6 @@
 //! Which lines of a file have rules that are needless for every crawler.
-ghost use Rattle.std.specs.Prelude.{◌≡◌, ◌∷◌, All, Contains, IfOk, IsTrue, List, OnOk, codes, false, map, ℕ};
+ghost use Rattle.std.specs.Prelude.{◌≡◌, ◌∷◌, All, Contains, IfOk, IsTrue, List, OnOk, bytes_eq, codes, false, map, ℕ};
+ghost use Rattle.std.specs.List.{list_any};
 ghost use Rattle.texting_robots.specs.Callers.{LineValue, agents_in, file_bodies, file_lines, placed_rules};
 ghost use Rattle.robots_needless.specs.Blocks.{KeepBlocks, is_found, left_from};
 ghost use Rattle.robots_needless.specs.Internal.{AreAccepted, AreReasons, AreSettled, Grow, HasAll, IsSettled, are_free, rule_at};
@@ -39,14 +40,9 @@ fn add_crawler(
 
 /// Whether `*` is among the names.
 fn has_star(agents: &[&str]) -> bool
-    ensures { IsTrue result → Contains (map (λ agent. agent.now) agents.now) (codes "*") }
+    ensures { result ≡ list_any (λ agent. bytes_eq agent.now (codes "*")) agents.now }
 {
-    for agent in agents {
-        if *agent == "*" {
-            return true;
-        }
-    }
-    false
+    agents.iter().any(|agent| *agent == "*")
 }
 
 /// `*` and the crawlers that the file names, each once.
