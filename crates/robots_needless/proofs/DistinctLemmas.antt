@@ -72,29 +72,26 @@ module _ (numbers : List ℕ) (rules left removed : List PlacedRule)
     (go : (placed : PlacedRule) → Contains removed placed → Contains numbers placed.line)
     (stay : (placed : PlacedRule) → Contains left placed → ¬ Contains numbers placed.line)
     (placed : PlacedRule) where
-  to_left : Contains (without numbers rules) placed → Contains left placed
-  to_left has =
-      let (listed, passes) = in_filter _ rules placed has in
-      elim (Contains-append_cases left removed placed
-      (Contains-permutation rules (left ++ removed) placed same listed)) [
-        | inl stays ↦ stays
-        | inr goes ↦
-            let wrong = rw (named_in placed.line numbers (go placed goes)) at passes in
-            absurd (false≢true wrong)
-      ]
-
-  of_left : Contains left placed → Contains (without numbers rules) placed
-  of_left has =
-      let listed = Contains-permutation (left ++ removed) rules placed
-      (IsPermutation-sym rules (left ++ removed) same) (Contains-append_left left removed placed has) in
-      to_filter _ rules placed listed
-      (elim (cases_Bool (list_any (λ number. number == placed.line) numbers)) [
-        | inr none ↦ rw none refl
-        | inl some ↦ absurd (stay placed has (in_named placed.line numbers some))
-      ])
-
   pub left_without : Contains (without numbers rules) placed ↔ Contains left placed
-  left_without = (to_left, of_left)
+  left_without = (
+    λ has.
+        let (listed, passes) = in_filter _ rules placed has in
+        elim (Contains-append_cases left removed placed
+        (Contains-permutation rules (left ++ removed) placed same listed)) [
+          | inl stays ↦ stays
+          | inr goes ↦
+              let wrong = rw (named_in placed.line numbers (go placed goes)) at passes in
+              absurd (false≢true wrong)
+        ],
+    λ has.
+        let listed = Contains-permutation (left ++ removed) rules placed
+        (IsPermutation-sym rules (left ++ removed) same) (Contains-append_left left removed placed has) in
+        to_filter _ rules placed listed
+        (elim (cases_Bool (list_any (λ number. number == placed.line) numbers)) [
+          | inr none ↦ rw none refl
+          | inl some ↦ absurd (stay placed has (in_named placed.line numbers some))
+        ]),
+  )
 
 abbrev in_one_line : PlacedRule → PlacedRule → Bool
 in_one_line placed other = placed.line == other.line
