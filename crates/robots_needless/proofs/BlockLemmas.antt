@@ -5,7 +5,7 @@ use Rattle.std.proofs.Common.{List, [], ◌∷◌, Option, Some, None, ap, ap₂
 use Rattle.std.proofs.Common.{filter, filter_map, length, length-drop, map, slice_get, if◌then◌else◌}
 use Rattle.std.specs.{List.cons_option, List.enumerate_from, List.list_any, Option.option_or}
 use Rattle.std.proofs.Math.Bool.{and-false}
-use Rattle.std.proofs.lemmas.Bool.{cases_Bool, cases_eq, false≢true}
+use Rattle.std.proofs.lemmas.Bool.{cases_Bool, cases_eq, false≢true, not-false}
 use Rattle.texting_robots.specs.Line.{LineValue, UserAgent, Allow, Disallow, Sitemap, CrawlDelay, Raw}
 use Rattle.texting_robots.specs.Line.{delay_in, is_raw}
 use Rattle.texting_robots.specs.Group.{group_name, is_agent, is_agent_named, is_group, passes_at}
@@ -274,10 +274,6 @@ other_step : (name : List ℕ) (t : GroupTracker) (line : LineValue) → is_agen
 other_step name t (UserAgent value) isnt = absurd (false≢true (sym isnt))
 other_step name t line isnt = refl
 
-not_false : (b : Bool) → not b ≡ false → b ≡ true
-not_false true is = refl
-not_false false is = sym is
-
 module _ (gone : ℕ → Bool) (name : List ℕ) where
   next_alike : (block : Block) (tracker other : GroupTracker) (position : ℕ) (line : LineValue)
       (lines : List LineValue) → AreAlike block tracker other
@@ -288,7 +284,7 @@ module _ (gone : ℕ → Bool) (name : List ℕ) where
       keeps _
       (λ rule goes. rw (goes, other_step name tracker line (no_agent line rule), in_group line rule) (record {
         captured = alike.captured;
-        named = λ none. sym (alike.unnamed (not_false block.has_rule none));
+        named = λ none. sym (alike.unnamed (not-false block.has_rule none));
         unnamed = alike.unnamed;
       }))
       (λ rule stays.

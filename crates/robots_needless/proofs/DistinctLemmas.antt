@@ -4,8 +4,9 @@ use Rattle.std.proofs.Common.{IsPermutation, ap, sym, refl, ◌∙◌, arith, ge
 use Rattle.std.proofs.Common.{length-append, false, ◌+◌}
 use Rattle.std.specs.List.{Contains, filter, list_any}
 use Rattle.std.proofs.lemmas.Bool.{cases_Bool, eqb-true, false≢true, ne_eqb}
-use Rattle.std.proofs.lemmas.Bool.Decides.{Decides-eqb}
-use Rattle.std.proofs.lemmas.List.Elements.{Contains-append_cases, Contains-append_left}
+use Rattle.std.proofs.lemmas.Bool.Decides.{Decides-eqb, same_from_decides}
+use Rattle.std.proofs.lemmas.List.Elements.{All-contains, All-contains_itself, All-filter}
+use Rattle.std.proofs.lemmas.List.Elements.{Contains-append_cases, Contains-append_left, filter_passes}
 use Rattle.std.proofs.lemmas.List.Sorted.{Contains-permutation, IsPermutation-sym}
 use Rattle.std.proofs.lemmas.List.{get_or-map, length-map, get_or-append-add, get_or_append_left}
 use Rattle.std.proofs.lemmas.List.{get_or_default}
@@ -43,26 +44,14 @@ pub in_cons : {A : Type 0} (first : A) (rules : List A) (placed : A) → Contain
     → Contains (first ∷ rules) placed
 in_cons first rules placed (k, below, at) = (suc k, omega arith, at)
 
-in_passed : (test : PlacedRule → Bool) (first : PlacedRule) (left rules : List PlacedRule)
-    (placed : PlacedRule) → test first ≡ true
-    → (Contains left placed → Contains rules placed × (test placed ≡ true))
-    → Contains (first ∷ left) placed → Contains (first ∷ rules) placed × (test placed ≡ true)
-in_passed test first left rules placed passes rest (zero, below, at) =
-    ((0, omega arith, at), ap test (sym at) ∙ passes)
-in_passed test first left rules placed passes rest (suc k, below, at) =
-    let (listed, is) = rest (k, omega arith, at) in (in_cons first rules placed listed, is)
-
 pub in_filter : (test : PlacedRule → Bool) (rules : List PlacedRule) (placed : PlacedRule)
     → Contains (filter test rules) placed → Contains rules placed × (test placed ≡ true)
-in_filter test [] placed (k, below, at) = absurd (omega arith)
-in_filter test (first ∷ rules) placed has = elim (cases_Bool (test first)) [
-  | inl passes ↦
-      in_passed test first (filter test rules) rules placed passes (in_filter test rules placed)
-      (rw passes at has)
-  | inr fails ↦
-      let (listed, is) = in_filter test rules placed (rw fails at has) in
-      (in_cons first rules placed listed, is)
-]
+in_filter test rules placed has =
+    let listed = All-filter test (Contains rules) rules (All-contains_itself rules) in (
+      All-contains (Contains rules) (filter test rules) placed listed has,
+      All-contains (λ (p : PlacedRule). test p ≡ true) (filter test rules) placed (filter_passes test rules)
+          has,
+    )
 
 pub to_filter : {A : Type 0} (test : A → Bool) (rules : List A) (placed : A) → Contains rules placed
     → test placed ≡ true → Contains (filter test rules) placed
@@ -83,39 +72,34 @@ module _ (numbers : List ℕ) (rules left removed : List PlacedRule)
     (go : (placed : PlacedRule) → Contains removed placed → Contains numbers placed.line)
     (stay : (placed : PlacedRule) → Contains left placed → ¬ Contains numbers placed.line)
     (placed : PlacedRule) where
-  to_left : Contains (without numbers rules) placed → Contains left placed
-  to_left has =
-      let (listed, passes) = in_filter _ rules placed has in
-      elim (Contains-append_cases left removed placed
-      (Contains-permutation rules (left ++ removed) placed same listed)) [
-        | inl stays ↦ stays
-        | inr goes ↦
-            let wrong = rw (named_in placed.line numbers (go placed goes)) at passes in
-            absurd (false≢true wrong)
-      ]
-
-  of_left : Contains left placed → Contains (without numbers rules) placed
-  of_left has =
-      let listed = Contains-permutation (left ++ removed) rules placed
-      (IsPermutation-sym rules (left ++ removed) same) (Contains-append_left left removed placed has) in
-      to_filter _ rules placed listed
-      (elim (cases_Bool (list_any (λ number. number == placed.line) numbers)) [
-        | inr none ↦ rw none refl
-        | inl some ↦ absurd (stay placed has (in_named placed.line numbers some))
-      ])
-
   pub left_without : Contains (without numbers rules) placed ↔ Contains left placed
-  left_without = (to_left, of_left)
+  left_without = (
+    λ has.
+        let (listed, passes) = in_filter _ rules placed has in
+        elim (Contains-append_cases left removed placed
+        (Contains-permutation rules (left ++ removed) placed same listed)) [
+          | inl stays ↦ stays
+          | inr goes ↦
+              let wrong = rw (named_in placed.line numbers (go placed goes)) at passes in
+              absurd (false≢true wrong)
+        ],
+    λ has.
+        let listed = Contains-permutation (left ++ removed) rules placed
+        (IsPermutation-sym rules (left ++ removed) same) (Contains-append_left left removed placed has) in
+        to_filter _ rules placed listed
+        (elim (cases_Bool (list_any (λ number. number == placed.line) numbers)) [
+          | inr none ↦ rw none refl
+          | inl some ↦ absurd (stay placed has (in_named placed.line numbers some))
+        ]),
+  )
 
 abbrev in_one_line : PlacedRule → PlacedRule → Bool
 in_one_line placed other = placed.line == other.line
 
 either_way : (m n : ℕ) → (m == n) ≡ (n == m)
-either_way m n = elim (cases_Bool (m == n)) [
-  | inl same ↦ same ∙ sym ((Decides-eqb n m).1 (sym (eqb-true m n same)))
-  | inr other ↦ other
-      ∙ sym (ne_eqb n m (λ same. false≢true (sym other ∙ (Decides-eqb m n).1 (sym same))))
-]
+either_way m n =
+    let back = Decides-eqb n m in
+    same_from_decides (m == n) (n == m) (Decides-eqb m n) (λ is. sym (back.0 is), λ same. back.1 (sym same))
 
 module _ (rules kept removed : List PlacedRule) (same : IsPermutation rules (kept ++ removed))
     (once : AreDistinct rules) where

@@ -106,8 +106,6 @@ pub generic_by_covers : (wide narrow : List ℕ) → Matches narrow (generic nar
     → Matches wide (generic narrow)
 generic_by_covers wide narrow own covers = covers (generic narrow) own
 
--- ---- generic texts of prepared rules
-
 -- ---- patterns that match no text in common
 
 differ_at : (at : ℕ) (g h t : List ℕ) → at < length g → at < length h
@@ -135,10 +133,6 @@ heads_apart p q is = λ text fits others.
     differ_at is.at (generic p) (generic q) text is.in_one is.in_other is.same is.differ is.fixed
     is.other_fixed (matches_fill p text fits) (matches_fill q text others)
 
--- a pattern that doesn't match its generic text matches nothing
-pub nothing_matches : (p : List ℕ) → ¬ Matches p (generic p) → MatchesNothing p
-nothing_matches p none = λ text fits. absurd (none (matches_generic p text fits))
-
 -- the same, given the generic texts
 pub apart_by : (p q one other : List ℕ) → one ≡ generic p → other ≡ generic q → HeadsDiffer one other
     → AreApart p q
@@ -150,8 +144,9 @@ covers_by wide narrow text below is fits =
     covers_by_generic wide narrow (λ k d within same. let less = below k d within in omega arith)
     (rw is at fits)
 
+-- a pattern that doesn't match its generic text matches nothing
 pub nothing_by : (p text : List ℕ) → text ≡ generic p → ¬ Matches p text → MatchesNothing p
-nothing_by p text is none = nothing_matches p (rw is at none)
+nothing_by p text is none = λ t fits. absurd (none (rw is (matches_generic p t fits)))
 
 pub not_true : (b : Bool) → IsTrue (not b) → ¬ IsTrue b
 not_true true is too = cc

@@ -1,10 +1,11 @@
 -- What is found for several crawlers: rules that are needless for each of them.
 use Rattle.std.proofs.Common.{◌≡◌, ◌↔◌, inl, inr, ℕ, zero, suc, ◌==◌, Bool, true, false, List, [], ◌∷◌, ◌++◌}
-use Rattle.std.proofs.Common.{All, ◌+◌, ◌<◌, length, ap, sym, refl, subst, ◌∙◌, arith, codes, filter, map}
+use Rattle.std.proofs.Common.{All, ◌+◌, ◌<◌, length, not, ap, sym, refl, subst, ◌∙◌, arith, codes, filter, map}
 use Rattle.std.specs.{BTreeMap.IsOrdered, BTreeMap.keys, BTreeSet.BTreeSet, BTreeSet.contains, List.Contains}
 use Rattle.std.specs.{List.enumerate_from, List.list_any, Ordering.nat_cmp, Cmp.nat_cmp_total}
-use Rattle.std.proofs.lemmas.Bool.{cases_Bool, false≢true}
-use Rattle.std.proofs.lemmas.Option.{slice_get_within}
+use Rattle.std.proofs.lemmas.Bool.{Decides.same_from_decides, false≢true, not-true}
+use Rattle.std.specs.Bool.{Decides}
+use Rattle.std.proofs.lemmas.{List.Sums.AllPass-from_list_all, Option.slice_get_within}
 use Rattle.std.proofs.lemmas.List.Elements.{All-contains, Contains-append_left, All-map, All-nil}
 use Rattle.std.proofs.lemmas.List.Elements.{Contains-push, Contains-push_cases}
 use Rattle.std.proofs.lemmas.Map.{Lookups.exact_unsigned, Views.All-found, Views.btree_map_contains_key_iff}
@@ -16,7 +17,7 @@ use Rattle.texting_robots.proofs.BestLemmas.{placed_of}
 use Rattle.texting_robots.proofs.HeldLemmas.{computed_are, rejection_is_computed}
 use Rattle.robots_needless.specs.Blocks.{KeepBlocks, is_found, keep_blocks_from, left_from, no_rule}
 use Rattle.robots_needless.specs.Deleted.{AreFoundIn, begin_with_mark}
-use Rattle.robots_needless.specs.Internal.{AreFree, AreReasons, AreSettled, Grow, HasAll, IsSettled, Reasons, rule_at}
+use Rattle.robots_needless.specs.Internal.{are_free, AreReasons, AreSettled, Grow, HasAll, IsSettled, Reasons, rule_at}
 use Rattle.robots_needless.specs.Internal.{AreAccepted}
 use Rattle.robots_needless.specs.Needless.{AreFound, AreNeedless, IsFound, IsFoundFor, KeepsRule, numbers_of}
 use Rattle.robots_needless.specs.Needless.{without}
@@ -113,7 +114,7 @@ numbers_are [] = refl
 numbers_are (e ∷ entries) = ap (λ ns. e.0 ∷ ns) (numbers_are entries)
 
 pub settled_needless : (found : Reasons) (stays : BTreeSet ℕ) (list : List NeedlessRule)
-    → list ≡ map rule_at found.entries → AreFree list stays → (rules : List PlacedRule)
+    → list ≡ map rule_at found.entries → are_free list stays ≡ true → (rules : List PlacedRule)
     → IsSettled rules found stays → AreNeedless rules (numbers_of list)
 settled_needless found stays list are free rules is text answer =
     let numbers = numbers_of list in
@@ -127,10 +128,13 @@ settled_needless found stays list are free rules is text answer =
     rw are (subst (λ ns. Contains ns placed.line) (sym (numbers_are found.entries)) key))
     (λ placed kept number.
     let (one, listed, at) = of_map (λ (o : NeedlessRule). o.line) list placed.line number in
-    let is_free = λ (o : NeedlessRule). contains nat_cmp stays o.line ≡ false in
-    let none : contains nat_cmp stays placed.line ≡ false =
-    subst (λ n. contains nat_cmp stays n ≡ false) at (All-contains is_free list one free listed) in
-    false≢true (sym none ∙ is.stay placed kept)) in
+    let (k, below, same) = listed in
+    let none : not (contains nat_cmp stays one.line) ≡ true =
+    rw same at (AllPass-from_list_all (λ (o : NeedlessRule). not (contains nat_cmp stays o.line)) list free k
+    one below) in
+    let stay : contains nat_cmp stays one.line ≡ true =
+    subst (λ n. contains nat_cmp stays n ≡ true) (sym at) (is.stay placed kept) in
+    false≢true (sym (not-true _ none) ∙ stay)) in
     verdicts_without rules left numbers text (is.reduced.denied text) members answer
 
 pub reasons_listed : (found : Reasons) → IsOrdered nat_cmp found → (list : List NeedlessRule)
@@ -145,17 +149,10 @@ reasons_listed found ordered list are lines reasons =
 is_key : (found : Reasons) (list : List NeedlessRule) → list ≡ map rule_at found.entries → (n : ℕ)
     → list_any (λ number. number == n) (numbers_of list) ≡ is_found found n
 is_key found list are n =
-    let (to, from) = btree_map_contains_key_iff nat_cmp_total exact_unsigned found n in
     let same : numbers_of list ≡ keys found = rw are (numbers_are found.entries) in
-    elim (cases_Bool (is_found found n)) [
-      | inl has ↦ rw has (named_in n (numbers_of list) (rw same (to has)))
-      | inr hasnt ↦ elim (cases_Bool (list_any (λ number. number == n) (numbers_of list))) [
-        | inr none ↦ none ∙ sym hasnt
-        | inl some ↦
-            let has = from (rw same at (in_named n (numbers_of list) some)) in
-            absurd (false≢true (sym hasnt ∙ has))
-      ]
-    ]
+    same_from_decides _ _ (in_named n (numbers_of list), named_in n (numbers_of list))
+    (subst (λ ns. Decides (is_found found n) (Contains ns n)) (sym same)
+    (btree_map_contains_key_iff nat_cmp_total exact_unsigned found n))
 
 are_keys : (found : Reasons) (list : List NeedlessRule) → list ≡ map rule_at found.entries
     → ◌≡◌ {A = ℕ → Bool} (among (numbers_of list)) (is_found found)
@@ -179,7 +176,7 @@ all_keep lines found keeps all number has =
     (named_in (place + 1) (numbers_of found) (subst (Contains (numbers_of found)) same has)))
 
 pub are_found : (lines : List LineValue) (found : Reasons) (stays : BTreeSet ℕ) (list : List NeedlessRule)
-    → list ≡ map rule_at found.entries → AreFree list stays
+    → list ≡ map rule_at found.entries → are_free list stays ≡ true
     → AreSettled lines (codes "*" ∷ agents_in lines) found stays → All (IsFoundFor lines) list
     → KeepBlocks found lines → AreFound lines list
 are_found lines found stays list are free settled reasons keep =

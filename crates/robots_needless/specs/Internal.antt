@@ -1,10 +1,10 @@
 -- How the check compares patterns, and when it finds a rule needless.
 use Rattle.std.specs.Prelude.{◌≡◌, ◌≢◌, ◌⊎◌, ◌↔◌, ℕ, ◌<◌, ◌≤◌, ◌==◌, true, false, List, [], ◌∷◌, ◌++◌, All}
 use Rattle.std.specs.Prelude.{Contains, IsPermutation, None, Option, Some, length, slice_index, if◌then◌else◌}
-use Rattle.std.specs.Prelude.{◌&&◌, Bool, bytes_eq, codes, nat_eq, slice_index_or}
+use Rattle.std.specs.Prelude.{◌&&◌, Bool, bytes_eq, codes, nat_eq, not, slice_index_or}
 use Rattle.std.specs.BTreeSet.{BTreeSet, contains}
 use Rattle.std.specs.Ordering.{is_lt, nat_cmp, ordering_then}
-use Rattle.std.specs.{BTreeMap.BTreeMap, BTreeMap.get, List.starts_with, Option.IsSome}
+use Rattle.std.specs.{BTreeMap.BTreeMap, BTreeMap.get, List.list_all, List.starts_with, Option.IsSome}
 use Rattle.std.specs.Cmp.Lexicographic.{slice_cmp}
 use Rattle.std.specs.declared.cmp.Ordering.{Ordering}
 use Rattle.texting_robots.specs.Callers.{IsDenied, IsOverlong, LineValue, PlacedRule, Rule, placed_rules}
@@ -196,5 +196,5 @@ abbrev pub rule_at : ℕ × Reason → NeedlessRule
 rule_at entry = record { line = entry.0; reason = entry.1 }
 
 -- no rule is in one of the lines
-abbrev pub AreFree : List NeedlessRule → BTreeSet ℕ → Type 0
-AreFree rules stays = All (λ (one : NeedlessRule). contains nat_cmp stays one.line ≡ false) rules
+abbrev pub are_free : List NeedlessRule → BTreeSet ℕ → Bool
+are_free rules stays = list_all (λ (one : NeedlessRule). not (contains nat_cmp stays one.line)) rules

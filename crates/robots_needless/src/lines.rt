@@ -1,8 +1,9 @@
 //! Which lines of a file have rules that are needless for every crawler.
-ghost use Rattle.std.specs.Prelude.{◌≡◌, ◌∷◌, All, Contains, IfOk, IsTrue, List, OnOk, codes, false, map, ℕ};
+ghost use Rattle.std.specs.Prelude.{◌≡◌, ◌∷◌, All, Contains, IfOk, IsTrue, List, OnOk, bytes_eq, codes, false, map, ℕ};
+ghost use Rattle.std.specs.List.{list_any};
 ghost use Rattle.texting_robots.specs.Callers.{LineValue, agents_in, file_bodies, file_lines, placed_rules};
 ghost use Rattle.robots_needless.specs.Blocks.{KeepBlocks, is_found, left_from};
-ghost use Rattle.robots_needless.specs.Internal.{AreAccepted, AreFree, AreReasons, AreSettled, Grow, HasAll, IsSettled, rule_at};
+ghost use Rattle.robots_needless.specs.Internal.{AreAccepted, AreReasons, AreSettled, Grow, HasAll, IsSettled, are_free, rule_at};
 ghost use Rattle.robots_needless.specs.Deleted.{AreFoundIn, begin_with_mark};
 ghost use Rattle.robots_needless.specs.Needless.{IsFoundFor};
 
@@ -39,14 +40,9 @@ fn add_crawler(
 
 /// Whether `*` is among the names.
 fn has_star(agents: &[&str]) -> bool
-    ensures { IsTrue result → Contains (map (λ agent. agent.now) agents.now) (codes "*") }
+    ensures { result ≡ list_any (λ agent. bytes_eq agent.now (codes "*")) agents.now }
 {
-    for agent in agents {
-        if *agent == "*" {
-            return true;
-        }
-    }
-    false
+    agents.iter().any(|agent| *agent == "*")
 }
 
 /// `*` and the crawlers that the file names, each once.
@@ -100,20 +96,15 @@ fn listed(alloc: Global, found: &BTreeMap<usize, Reason>) -> Result<Vec<Needless
 
 /// Whether none of the rules is in one of these lines.
 fn are_free(rules: &[NeedlessRule], stays: &Numbers) -> bool
-    ensures { IsTrue result → AreFree rules.now stays.now }
+    ensures { result ≡ are_free rules.now stays.now }
 {
-    for rule in rules {
-        if stays.contains(&rule.line) {
-            return false;
-        }
-    }
-    true
+    rules.iter().all(|rule| !stays.contains(&rule.line))
 }
 
 /// Whether the rules can be removed: none is in a line that stays, each block that has rules keeps one, and the
 /// first line that stays doesn't begin with a byte of the byte order mark.
 fn can_be_removed(rules: &[NeedlessRule], findings: &Findings, text: &[u8]) -> bool
-    ensures free { IsTrue result → AreFree rules.now findings.now.stays }
+    ensures free { IsTrue result → IsTrue (are_free rules.now findings.now.stays) }
     ensures keep { IsTrue result → KeepBlocks findings.now.found (file_lines text.now) }
     ensures front { IsTrue result
         → begin_with_mark (left_from (is_found findings.now.found) 0 (file_bodies text.now)) ≡ false }

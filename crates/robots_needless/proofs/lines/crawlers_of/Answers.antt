@@ -1,15 +1,21 @@
-use Rattle.std.proofs.Common.{Bor, List, ℕ, codes, map}
+use Rattle.std.proofs.Common.{◌∙◌, Bor, List, ℕ, bytes_eq, codes, map, subst, sym}
 use Rattle.std.specs.List.{Contains}
-use Rattle.std.proofs.lemmas.List.{map-append}
+use Rattle.std.proofs.lemmas.{List.Folds.Any-from_list_any, List.map-append, Slice.Eq.bytes_eq-Decides}
+use Rattle.robots_needless.proofs.DistinctLemmas.{to_map}
 use Rattle.robots_needless.proofs.SettledLemmas.{among_names, among_pushed}
 use Rattle.robots_needless.proofs.lines.crawlers_of.Goals as goal
 
 pub returns-then-has_star : goal.returns-then-has_star
 returns-then-has_star c =
-    let names = map (λ (agent : Bor (List ℕ)). agent.now) c.in_ok-agents.agents.items in
-    let star : Contains names (codes "*") =
-    rw (c.deref.ensures.value) at (c.has_star.ensures c.if-has_star.true) in
-    λ agent has. among_names (codes "*") names star agent (rw (← c.in_ok-agents.ensures) at has)
+    let name = λ (agent : Bor (List ℕ)). agent.now in
+    let agents = c.in_ok-agents.agents.items in
+    let some = rw c.deref.ensures.value at (sym c.has_star.ensures ∙ c.if-has_star.true) in
+    let (k, one, below, at, is) =
+    Any-from_list_any (λ (agent : Bor (List ℕ)). bytes_eq agent.now (codes "*")) agents some in
+    let star : Contains (map name agents) (codes "*") =
+    subst (Contains (map name agents)) ((bytes_eq-Decides one.now (codes "*")).0 is)
+    (to_map name agents one (k, below, at)) in
+    λ agent has. among_names (codes "*") (map name agents) star agent (rw (← c.in_ok-agents.ensures) at has)
 
 pub returns : goal.returns
 returns c =
