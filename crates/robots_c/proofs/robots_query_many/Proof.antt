@@ -68,8 +68,8 @@ robots_query_many_spec 𝓤 𝓛 𝓜 𝓡 wired =
     qed 𝓛 (context 𝓛 Robots a.1.0 x κ q S z.0 (raw (fact 𝓤 (IsRobotOfSomeFile x)) ∷ [])) ∵
     borrows 𝓛 𝓜 𝓡 Robots a.1.0 x κ q (_ ∷ []) _ _ _ (lasts callee.ended κs first)
     (ensured_by callee.ended (callee.clauses 𝓛 𝓜.mem 𝓡.returns) κs first tt) _ (λ b o e.
-    let ws = heap 𝓛 a.0 vs.0 are.0 ∷ lent_place are.1.0 e ∷ slice are.1.1.0.0.0 are.1.1.0.0.1.0
-    ∷ slice are.1.1.1.0.0.0 are.1.1.1.0.0.1.0 ∷ [] in (
+    let ws = heap 𝓛 a.0 vs.0 are.0 ∷ lent_place are.1.0 e ∷ slice are.1.1.0.0
+    ∷ slice are.1.1.1.0.0 ∷ [] in (
       ws,
       refl,
       λ X Q given. enter ! _ _ _ _ _ $ alloc_all ! (λ l. pass_all ! refl (goods ws) $

@@ -57,7 +57,7 @@ robots_site_is_named_spec 𝓤 𝓛 𝓜 𝓡 wired =
     qed 𝓛 (context 𝓛 Sites a.0 x κ q S z.0 []) ∵
     and_nothing 𝓛 (borrows 𝓛 𝓜 𝓡 Sites a.0 x κ q [] _ _ _ (lasts callee.ended κs first)
     (ensured_by callee.ended (callee.clauses 𝓛 𝓜.mem 𝓡.returns) κs first tt) _ (λ b o e.
-    let ws = lent_place are.0 e ∷ slice are.1.0.0.0 are.1.0.0.1.0 ∷ [] in (
+    let ws = lent_place are.0 e ∷ slice are.1.0.0 ∷ [] in (
       ws,
       refl,
       λ X Q given. enter ! _ _ _ _ _ $ alloc_all ! (λ l. pass_all ! refl (goods ws) $

@@ -67,7 +67,7 @@ robots_site_sitemaps_spec 𝓤 𝓛 𝓜 𝓡 wired =
     qed 𝓛 (context 𝓛 Sites a.1.0 x κ q S z.0 []) ∵
     and_nothing 𝓛 (borrows 𝓛 𝓜 𝓡 Sites a.1.0 x κ q (_ ∷ []) _ _ _ (lasts callee.ended κs first)
     (ensured_by callee.ended (callee.clauses 𝓛 𝓜.mem 𝓡.returns) κs first tt) _ (λ b o e.
-    let ws = heap 𝓛 a.0 vs.0 are.0 ∷ lent_place are.1.0 e ∷ slice are.1.1.0.0.0 are.1.1.0.0.1.0
+    let ws = heap 𝓛 a.0 vs.0 are.0 ∷ lent_place are.1.0 e ∷ slice are.1.1.0.0
     ∷ place are.1.1.1.0.0 ∷ [] in (
       ws,
       refl,
