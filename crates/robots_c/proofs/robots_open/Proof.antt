@@ -110,7 +110,8 @@ robots_open_spec 𝓤 𝓛 𝓜 𝓡 wired =
     (lasts self.ended z.0.0 a) E made (lasts callee.ended κs given_at)
     (ensured_by callee.ended (callee.clauses 𝓛 𝓜.mem 𝓡.returns) κs given_at tt) (ftrue ∷ ftrue ∷ ftrue
     ∷ []) (λ w. fsep (last_value usize z.0.0.1.1.1.0 line w.1.1.1.1.0) ftrue)
-    (λ w. id⊢ 𝓤 _) (λ w p. id⊢ 𝓤 _) (λ r w. owned_now 𝓛 𝓜 𝓡 Robots _ _ (rest r.status r.at w.1.1.1.1.0) r (λ is. is))
+    (λ w. id⊢ 𝓤 _) (λ w p. id⊢ 𝓤 _)
+    (λ r w. owned_now 𝓛 𝓜 𝓡 Robots _ _ (rest r.status r.at w.1.1.1.1.0) r (λ is. is))
     (_ ∷ _ ∷ _ ∷ []) _ _ _ _ fn given_words words
     (met 𝓤 𝓛 𝓜 𝓡 (code.calls-robots_c::handle::opened 𝓡.env wired) (
       (

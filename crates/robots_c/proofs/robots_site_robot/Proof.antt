@@ -123,9 +123,11 @@ robots_site_robot_spec 𝓤 𝓛 𝓜 𝓡 wired =
     opens_out 𝓛 𝓜 𝓡 Robots (named 1) z.0.0.1.0 z.0.1.1.0 out (flft κ q ∷ flft z.0.0.0 z.0.1.0
     ∷ []) (tokens 1 z.0.0.1.1 z.0.1.1.1)
     (lasts self.ended z.0.0 a) E made (lasts callee.ended κs (given_at 0 0))
-    (ensured_by callee.ended (callee.clauses 𝓛 𝓜.mem 𝓡.returns) κs (given_at 0 0) tt) (ftrue ∷ ftrue ∷ ftrue ∷ [])
+    (ensured_by callee.ended (callee.clauses 𝓛 𝓜.mem 𝓡.returns) κs (given_at 0 0) tt)
+    (ftrue ∷ ftrue ∷ ftrue ∷ [])
     (λ w. fsep (last_value usize z.0.0.1.1.0 line w.1.1.1.1.0) ftrue)
-    (λ w. id⊢ 𝓤 _) (λ w p. id⊢ 𝓤 _) (λ r w. owned_now 𝓛 𝓜 𝓡 Robots _ _ (rest r.status r.at w.1.1.1.1.0) r (λ is. is))
+    (λ w. id⊢ 𝓤 _) (λ w p. id⊢ 𝓤 _)
+    (λ r w. owned_now 𝓛 𝓜 𝓡 Robots _ _ (rest r.status r.at w.1.1.1.1.0) r (λ is. is))
     (_ ∷ _ ∷ _ ∷ []) _ _ _ _ fn given_words words
     (met 𝓤 𝓛 𝓜 𝓡 (code.calls-robots_c::site::robot_opened 𝓡.env wired) (
       (

@@ -95,7 +95,8 @@ robots_site_share_spec 𝓤 𝓛 𝓜 𝓡 wired =
     let made : W → Ptr → V = λ w p. (tt, (tt, (p, tt))) in
     let rest : ℤ → Ptr → SProp 𝓤 = λ r p. sep 𝓤 (fact 𝓤 (r ≢ pos 0
     → p ≡ out.now)) (fact 𝓤 (HasFault IsWhyNoHandle r)) in
-    let E : ℤ → V → SProp 𝓤 = λ r w. sep 𝓤 (sem 𝓛 (opens Sites (λ other. other ≡ x) r w.1.1.0)) (rest r w.1.1.0) in
+    let E : ℤ → V → SProp 𝓤 = λ r w. sep 𝓤 (sem 𝓛 (opens Sites (λ other. other ≡ x) r w.1.1.0))
+    (rest r w.1.1.0) in
     qed 𝓛 (context 𝓛 Sites a.1.0 x κ q S z.0 []) ∵
     and_nothing 𝓛 (lends 𝓛 𝓜 𝓡 Sites a.1.0 x κ q (_ ∷ []) _ _ fn _ (lasts self.ended z.0.0 a) E (λ b o e.
     let words_with : Word → List Word = λ w. heap 𝓛 a.0 vs.0 are.0 ∷ lent_place are.1.0 e ∷ w ∷ [] in
@@ -104,7 +105,8 @@ robots_site_share_spec 𝓤 𝓛 𝓜 𝓡 wired =
     (lasts self.ended z.0.0 a) E made (lasts callee.ended κs (given_at 0 0))
     (ensured_by callee.ended (callee.clauses 𝓛 𝓜.mem 𝓡.returns) κs (given_at 0 0) tt) (ftrue ∷ ftrue
     ∷ []) (λ w. ftrue)
-    (λ w. id⊢ 𝓤 _) (λ w p. id⊢ 𝓤 _) (λ r w. owned_now 𝓛 𝓜 𝓡 Sites _ _ (rest r.status r.at) r (λ is zero. (x, refl, is zero)))
+    (λ w. id⊢ 𝓤 _) (λ w p. id⊢ 𝓤 _)
+    (λ r w. owned_now 𝓛 𝓜 𝓡 Sites _ _ (rest r.status r.at) r (λ is zero. (x, refl, is zero)))
     (_ ∷ _ ∷ []) _ _ _ _ fn given_words words
     (met 𝓤 𝓛 𝓜 𝓡 (code.calls-robots_c::site::shared 𝓡.env wired)
     ((κs, (q, tt), tt, given_at b o, (vs.0, (vs.1.0, (ptr_val out.now ∷ [], tt)))), tt))
