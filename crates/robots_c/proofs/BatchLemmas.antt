@@ -7,8 +7,7 @@ use Rattle.std.proofs.lemmas.List.Elements.{All-cons, All-head, All-tail}
 use Rattle.texting_robots.specs.Callers.{PlacedRule}
 use Rattle.robots_c.specs.{Batch.Ascend, Batch.pieces, Results.HasResult, Status.IsWhyNoResult}
 use Rattle.robots_c.specs.declared.fault.Fault.{Fault}
-use Rattle.robots_c.specs.declared.fault.Fault.TheVariants.{BufferTooSmall, InvalidEnds, Memory, NoAddress}
-use Rattle.robots_c.specs.declared.fault.Fault.TheVariants.{NoDelay, NotUtf8, Overlong}
+use Rattle.robots_c.specs.declared.fault.Fault.TheVariants.{Memory, NotUtf8}
 
 -- ---- the places that are left
 
@@ -80,8 +79,4 @@ count_pieces text start (end ∷ ends) = omega (arith, count_pieces text end end
 pub only_memory : (url : List ℕ) (fault : Fault) → IsUtf8 url → IsWhyNoResult url fault → fault ≡ Memory
 only_memory url NotUtf8 is why = absurd (why is)
 only_memory url Memory is why = refl
-only_memory url BufferTooSmall is why = absurd why
-only_memory url NoDelay is why = absurd why
-only_memory url NoAddress is why = absurd why
-only_memory url (Overlong line) is why = absurd why
-only_memory url InvalidEnds is why = absurd why
+only_memory url _ is why = absurd why

@@ -112,8 +112,9 @@ pointer 𝓛 p = record {
   good = pointer_typed 𝓛 p;
 }
 
-abbrev pub slice : {p : ℕ × ℕ} {n : ℕ} {vs : List Val} → vs ≡ slice_val p n ∷ [] → n < 2 ^ 64 → Word
-slice {p} {n} {vs} is fits = record {
+abbrev pub slice : {p : ℕ × ℕ} {n : ℕ} {vs : List Val} {A : Type 0}
+    → (vs ≡ slice_val p n ∷ []) × ((n < 2 ^ 64) × A) → Word
+slice {p} {n} {vs} (is, (fits, more)) = record {
   type = slice_ty ty_ptr;
   listed = vs;
   value = slice_val p n;

@@ -61,7 +61,8 @@ one_more_row site targets agents at agent rows row (below, here) are is =
 
 row_length : (site : List ℕ) (targets : List (List ℕ)) (agent : List ℕ) (row : List ℤ)
     → IsRow site targets agent row → length row ≡ length targets
-row_length site targets agent row (inl (robot, of, are)) = AllZip-long (IsResultOn robot.rules) targets row are
+row_length site targets agent row (inl (robot, of, are)) =
+    AllZip-long (IsResultOn robot.rules) targets row are
 row_length site targets agent row (inr (rejected, is)) = ap length is
     ∙ length-replicate (length targets) no_result
 

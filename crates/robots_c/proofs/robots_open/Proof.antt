@@ -1,5 +1,6 @@
 -- `robots_open` writes a pointer to a robot, which C owns from then on.
 use Rattle.robots_c.proofs.Borrowing.{
+  ensured_by,
   List,
   Word,
   hands_on,
@@ -66,7 +67,6 @@ use Rattle.robots_c.proofs.Keeping.{
   pos,
   ◌≢◌,
   named,
-  sem,
   await,
   split,
   move,
@@ -79,10 +79,9 @@ use Rattle.robots_c.proofs.Keeping.{
   last_value,
   fsep,
   usize,
-  Some,
 }
-use Rattle.robots_c.specs.File.{GivesRobot, IsRobotFor, bytes_read}
-use Rattle.robots_c.specs.Kept.{Robots, opens}
+use Rattle.robots_c.specs.File.{bytes_read}
+use Rattle.robots_c.specs.Kept.{Robots}
 use Rattle.robots_c.specs.Status.{HasFaultAt, IsWhyNoRobot}
 use Rattle.robots_c.specs.contracts.handle.opened as callee
 use Rattle.robots_c.proofs.handle.opened.Met.{met}
@@ -97,37 +96,22 @@ robots_open_spec 𝓤 𝓛 𝓜 𝓡 wired =
     let a = z.0.3 in let vs = z.0.4 in let out = a.1.1.1.0 in let line = a.1.1.1.1.0 in
     let κs : Lfts 3 = (z.0.0.0, (z.0.0.1.0, (z.0.0.1.1.1.0, tt))) in
     let given_at : Args callee.signature κs = (a.0, (a.1.0, (a.1.1.0, (out.now, (line, tt))))) in
-    let made : Lasts callee.ended κs given_at → Ptr → Lasts self.ended z.0.0 a = λ w p. (
-      tt,
-      (
-        tt,
-        (
-          tt,
-          (
-            p,
-            (w.1.1.1.1.0, tt),
-          ),
-        ),
-      ),
-    ) in
+    let W : Type 0 = Lasts callee.ended κs given_at in let V : Type 0 = Lasts self.ended z.0.0 a in
+    let made : W → Ptr → V = λ w p. (tt, (tt, (tt, (p, (w.1.1.1.1.0, tt))))) in
     let rest : ℤ → Ptr → ℕ → SProp 𝓤 = λ r p n. sep 𝓤 (fact 𝓤 (r ≢ pos 0 → p ≡ out.now))
     (fact 𝓤 (HasFaultAt (IsWhyNoRobot a.1.0.now (bytes_read a.1.1.0.now)) r line.now n)) in
-    let P : Robots.Denot → Type 0 = IsRobotFor a.1.0.now (bytes_read a.1.1.0.now) in
-    let E : ℤ → Lasts self.ended z.0.0 a → SProp 𝓤 = λ r w. sep 𝓤
-    (sem 𝓛 (opens Robots P r w.1.1.1.0)) (rest r w.1.1.1.0 w.1.1.1.1.0) in
+    let E : ℤ → V → SProp 𝓤 = ensured_by self.ended (self.clauses 𝓛 𝓜.mem 𝓡.returns) z.0.0 a z.1 in
     qed 𝓛 ((‵ (tokens 4 z.0.0 z.0.1) ⊛ ‵ (owns (types_at S.params z.0.0) a vs)) ∷ raw (emp 𝓤) ∷ []) ∵
-    let words_with : Word → List Word = λ w. heap 𝓛 a.0 vs.0 are.0 ∷ slice are.1.0.0.0 are.1.0.0.1.0
-    ∷ slice are.1.1.0.0.0 are.1.1.0.0.1.0 ∷ w ∷ place are.1.1.1.1.0.0 ∷ [] in
+    let words_with : Word → List Word = λ w. heap 𝓛 a.0 vs.0 are.0 ∷ slice are.1.0.0
+    ∷ slice are.1.1.0.0 ∷ w ∷ place are.1.1.1.1.0.0 ∷ [] in
     let words = words_with (place are.1.1.1.0.0) in let given_words = words_with (pointer 𝓛 out.now) in
     opens_out 𝓛 𝓜 𝓡 Robots (named 2) z.0.0.1.1.0 z.0.1.1.1.0 out (flft z.0.0.0 z.0.1.0
     ∷ flft z.0.0.1.0 z.0.1.1.0 ∷ []) (tokens 1 z.0.0.1.1.1 z.0.1.1.1.1)
     (lasts self.ended z.0.0 a) E made (lasts callee.ended κs given_at)
-    (λ r w. sep 𝓤 (fact 𝓤 (r.status ≡ pos 0 → GivesRobot a.1.0.now (bytes_read a.1.1.0.now)
-    (λ robot. r.value ≡ Some robot))) (rest r.status r.at w.1.1.1.1.0)) (ftrue ∷ ftrue ∷ ftrue
+    (ensured_by callee.ended (callee.clauses 𝓛 𝓜.mem 𝓡.returns) κs given_at tt) (ftrue ∷ ftrue ∷ ftrue
     ∷ []) (λ w. fsep (last_value usize z.0.0.1.1.1.0 line w.1.1.1.1.0) ftrue)
-    (λ w. id⊢ 𝓤 _) (λ w p. id⊢ 𝓤 _) (λ r w. owned_now 𝓛 𝓜 𝓡 Robots P (r.status ≡ pos 0
-    → GivesRobot a.1.0.now (bytes_read a.1.1.0.now) (λ robot. r.value ≡ Some robot))
-    (rest r.status r.at w.1.1.1.1.0) r (λ is. is))
+    (λ w. id⊢ 𝓤 _) (λ w p. id⊢ 𝓤 _)
+    (λ r w. owned_now 𝓛 𝓜 𝓡 Robots _ _ (rest r.status r.at w.1.1.1.1.0) r (λ is. is))
     (_ ∷ _ ∷ _ ∷ []) _ _ _ _ fn given_words words
     (met 𝓤 𝓛 𝓜 𝓡 (code.calls-robots_c::handle::opened 𝓡.env wired) (
       (

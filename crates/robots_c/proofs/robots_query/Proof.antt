@@ -57,11 +57,10 @@ robots_query_spec 𝓤 𝓛 𝓜 𝓡 wired =
     let a = z.0.3 in let vs = z.0.4 in let κ = z.1.0 in let q = z.1.1 in let x = z.1.2 in
     let κs : Lfts 3 = (κ, z.0.0) in
     let given_at : ℕ → ℕ → Args callee.signature κs = λ b o. (a.0, (reference x b o, a.1.1)) in
-    let first = given_at 0 0 in
     qed 𝓛 (context 𝓛 Robots a.1.0 x κ q S z.0 (raw (fact 𝓤 (IsRobotOfSomeFile x)) ∷ [])) ∵
-    borrows 𝓛 𝓜 𝓡 Robots a.1.0 x κ q (_ ∷ []) _ _ _ (lasts callee.ended κs first)
-    (ensured_by callee.ended (callee.clauses 𝓛 𝓜.mem 𝓡.returns) κs first tt) _ (λ b o e.
-    let ws = heap 𝓛 a.0 vs.0 are.0 ∷ lent_place are.1.0 e ∷ slice are.1.1.0.0.0 are.1.1.0.0.1.0
+    borrows 𝓛 𝓜 𝓡 Robots a.1.0 x κ q (_ ∷ []) _ _ _ (lasts callee.ended κs (given_at 0 0))
+    (ensured_by callee.ended (callee.clauses 𝓛 𝓜.mem 𝓡.returns) κs (given_at 0 0) tt) _ (λ b o e.
+    let ws = heap 𝓛 a.0 vs.0 are.0 ∷ lent_place are.1.0 e ∷ slice are.1.1.0.0
     ∷ place are.1.1.1.0.0 ∷ [] in (
       ws,
       refl,

@@ -1,5 +1,6 @@
 -- `robots_share` writes a pointer to another handle on a borrowed robot, which C owns from then on.
 use Rattle.robots_c.proofs.Borrowing.{
+  ensured_by,
   List,
   Word,
   hands_on,
@@ -74,7 +75,6 @@ use Rattle.robots_c.proofs.Keeping.{
   owned_now,
   status_typed,
   wrote,
-  Some,
 }
 use Rattle.robots_c.specs.Kept.{Robots, opens}
 use Rattle.robots_c.specs.Status.{HasFault, IsWhyNoHandle}
@@ -91,31 +91,22 @@ robots_share_spec 𝓤 𝓛 𝓜 𝓡 wired =
     let a = z.0.3 in let vs = z.0.4 in let κ = z.1.0 in let q = z.1.1 in let x = z.1.2 in let out = a.1.1.0 in
     let κs : Lfts 1 = (κ, tt) in
     let given_at : ℕ → ℕ → Args callee.signature κs = λ b o. (a.0, (reference x b o, (out.now, tt))) in
-    let made : Lasts callee.ended κs (given_at 0 0) → Ptr → Lasts self.ended z.0.0 a = λ w p. (
-      tt,
-      (
-        tt,
-        (
-          p,
-          tt,
-        ),
-      ),
-    ) in
+    let W : Type 0 = Lasts callee.ended κs (given_at 0 0) in let V : Type 0 = Lasts self.ended z.0.0 a in
+    let made : W → Ptr → V = λ w p. (tt, (tt, (p, tt))) in
     let rest : ℤ → Ptr → SProp 𝓤 = λ r p. sep 𝓤 (fact 𝓤 (r ≢ pos 0
     → p ≡ out.now)) (fact 𝓤 (HasFault IsWhyNoHandle r)) in
-    let E : ℤ → Lasts self.ended z.0.0 a → SProp 𝓤 = λ r w. sep 𝓤
-    (sem 𝓛 (opens Robots (λ other. other ≡ x) r w.1.1.0)) (rest r w.1.1.0) in
+    let E : ℤ → V → SProp 𝓤 = λ r w. sep 𝓤 (sem 𝓛 (opens Robots (λ other. other ≡ x) r w.1.1.0))
+    (rest r w.1.1.0) in
     qed 𝓛 (context 𝓛 Robots a.1.0 x κ q S z.0 []) ∵
     and_nothing 𝓛 (lends 𝓛 𝓜 𝓡 Robots a.1.0 x κ q (_ ∷ []) _ _ fn _ (lasts self.ended z.0.0 a) E (λ b o e.
     let words_with : Word → List Word = λ w. heap 𝓛 a.0 vs.0 are.0 ∷ lent_place are.1.0 e ∷ w ∷ [] in
     let words = words_with (place are.1.1.0.0) in let given_words = words_with (pointer 𝓛 out.now) in
     opens_out 𝓛 𝓜 𝓡 Robots (named 0) z.0.0.0 z.0.1.0 out (flft κ q ∷ []) (tokens 0 z.0.0.1 z.0.1.1)
     (lasts self.ended z.0.0 a) E made (lasts callee.ended κs (given_at 0 0))
-    (λ r w. sep 𝓤 (fact 𝓤 (r.status ≡ pos 0 → r.value ≡ Some x)) (rest r.status r.at)) (ftrue ∷ ftrue
+    (ensured_by callee.ended (callee.clauses 𝓛 𝓜.mem 𝓡.returns) κs (given_at 0 0) tt) (ftrue ∷ ftrue
     ∷ []) (λ w. ftrue)
-    (λ w. id⊢ 𝓤 _) (λ w p. id⊢ 𝓤 _) (λ r w. owned_now 𝓛 𝓜 𝓡 Robots (λ other. other ≡ x) (r.status ≡ pos 0
-    → r.value ≡ Some x)
-    (rest r.status r.at) r (λ is zero. (x, refl, is zero)))
+    (λ w. id⊢ 𝓤 _) (λ w p. id⊢ 𝓤 _)
+    (λ r w. owned_now 𝓛 𝓜 𝓡 Robots _ _ (rest r.status r.at) r (λ is zero. (x, refl, is zero)))
     (_ ∷ _ ∷ []) _ _ _ _ fn given_words words
     (met 𝓤 𝓛 𝓜 𝓡 (code.calls-robots_c::handle::shared 𝓡.env wired)
     ((κs, (q, tt), tt, given_at b o, (vs.0, (vs.1.0, (ptr_val out.now ∷ [], tt)))), tt))

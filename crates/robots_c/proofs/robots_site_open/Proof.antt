@@ -1,5 +1,6 @@
 -- `robots_site_open` writes a pointer to a site, which C owns from then on.
 use Rattle.robots_c.proofs.Borrowing.{
+  ensured_by,
   List,
   Word,
   hands_on,
@@ -64,7 +65,6 @@ use Rattle.robots_c.proofs.Keeping.{
   pos,
   ◌≢◌,
   named,
-  sem,
   await,
   split,
   move,
@@ -74,10 +74,9 @@ use Rattle.robots_c.proofs.Keeping.{
   status_typed,
   wrote,
   emp,
-  Some,
 }
 use Rattle.robots_c.specs.File.{bytes_read}
-use Rattle.robots_c.specs.Kept.{Sites, opens}
+use Rattle.robots_c.specs.Kept.{Sites}
 use Rattle.robots_c.specs.Status.{HasFault, IsWhyNoHandle}
 use Rattle.robots_c.specs.contracts.site.opened as callee
 use Rattle.robots_c.proofs.site.opened.Met.{met}
@@ -92,24 +91,22 @@ robots_site_open_spec 𝓤 𝓛 𝓜 𝓡 wired =
     let a = z.0.3 in let vs = z.0.4 in let out = a.1.1.0 in
     let κs : Lfts 1 = (z.0.0.0, tt) in
     let given_at : Args callee.signature κs = (a.0, (a.1.0, (out.now, tt))) in
-    let made : Lasts callee.ended κs given_at → Ptr → Lasts self.ended z.0.0 a = λ w p. (tt, (tt, (p, tt))) in
+    let W : Type 0 = Lasts callee.ended κs given_at in let V : Type 0 = Lasts self.ended z.0.0 a in
+    let made : W → Ptr → V = λ w p. (tt, (tt, (p, tt))) in
     let rest : ℤ → Ptr → SProp 𝓤 = λ r p. sep 𝓤 (fact 𝓤 (r ≢ pos 0
     → p ≡ out.now)) (fact 𝓤 (HasFault IsWhyNoHandle r)) in
-    let P : Sites.Denot → Type 0 = λ site. site ≡ bytes_read a.1.0.now in
-    let E : ℤ → Lasts self.ended z.0.0 a → SProp 𝓤 = λ r w. sep 𝓤
-    (sem 𝓛 (opens Sites P r w.1.1.0)) (rest r w.1.1.0) in
+    let E : ℤ → V → SProp 𝓤 = ensured_by self.ended (self.clauses 𝓛 𝓜.mem 𝓡.returns) z.0.0 a z.1 in
     qed 𝓛 ((‵ (tokens 2 z.0.0 z.0.1) ⊛ ‵ (owns (types_at S.params z.0.0) a vs)) ∷ raw (emp 𝓤) ∷ []) ∵
-    let words_with : Word → List Word = λ w. heap 𝓛 a.0 vs.0 are.0 ∷ slice are.1.0.0.0 are.1.0.0.1.0 ∷ w
+    let words_with : Word → List Word = λ w. heap 𝓛 a.0 vs.0 are.0 ∷ slice are.1.0.0 ∷ w
     ∷ [] in
     let words = words_with (place are.1.1.0.0) in let given_words = words_with (pointer 𝓛 out.now) in
     opens_out 𝓛 𝓜 𝓡 Sites (named 1) z.0.0.1.0 z.0.1.1.0 out (flft z.0.0.0 z.0.1.0
     ∷ []) (tokens 0 z.0.0.1.1 z.0.1.1.1)
     (lasts self.ended z.0.0 a) E made (lasts callee.ended κs given_at)
-    (λ r w. sep 𝓤 (fact 𝓤 (r.status ≡ pos 0 → r.value ≡ Some (bytes_read a.1.0.now))) (rest r.status r.at))
-    (ftrue ∷ ftrue ∷ []) (λ w. ftrue)
-    (λ w. id⊢ 𝓤 _) (λ w p. id⊢ 𝓤 _) (λ r w. owned_now 𝓛 𝓜 𝓡 Sites P (r.status ≡ pos 0
-    → r.value ≡ Some (bytes_read a.1.0.now))
-    (rest r.status r.at) r (λ is zero. (bytes_read a.1.0.now, refl, is zero)))
+    (ensured_by callee.ended (callee.clauses 𝓛 𝓜.mem 𝓡.returns) κs given_at tt) (ftrue ∷ ftrue ∷ [])
+    (λ w. ftrue)
+    (λ w. id⊢ 𝓤 _) (λ w p. id⊢ 𝓤 _)
+    (λ r w. owned_now 𝓛 𝓜 𝓡 Sites _ _ (rest r.status r.at) r (λ is zero. (bytes_read a.1.0.now, refl, is zero)))
     (_ ∷ _ ∷ []) _ _ _ _ fn given_words words
     (met 𝓤 𝓛 𝓜 𝓡 (code.calls-robots_c::site::opened 𝓡.env wired)
     ((κs, (z.0.1.0, tt), tt, given_at, (vs.0, (vs.1.0, (ptr_val out.now ∷ [], tt)))), tt))

@@ -1,5 +1,6 @@
 -- `robots_site_robot` writes a pointer to a robot of a borrowed site, which C owns from then on.
 use Rattle.robots_c.proofs.Borrowing.{
+  ensured_by,
   List,
   Word,
   hands_on,
@@ -78,9 +79,8 @@ use Rattle.robots_c.proofs.Keeping.{
   last_value,
   fsep,
   usize,
-  Some,
 }
-use Rattle.robots_c.specs.File.{GivesRobot, IsRobotFor}
+use Rattle.robots_c.specs.File.{IsRobotFor}
 use Rattle.robots_c.specs.Kept.{Robots, Sites, opens}
 use Rattle.robots_c.specs.Status.{HasFaultAt, IsWhyNoRobot}
 use Rattle.robots_c.specs.contracts.site.robot_opened as callee
@@ -109,35 +109,25 @@ robots_site_robot_spec 𝓤 𝓛 𝓜 𝓡 wired =
         ),
       ),
     ) in
-    let made : Lasts callee.ended κs (given_at 0 0) → Ptr → Lasts self.ended z.0.0 a = λ w p. (
-      tt,
-      (
-        tt,
-        (
-          tt,
-          (p, (w.1.1.1.1.0, tt)),
-        ),
-      ),
-    ) in
+    let W : Type 0 = Lasts callee.ended κs (given_at 0 0) in let V : Type 0 = Lasts self.ended z.0.0 a in
+    let made : W → Ptr → V = λ w p. (tt, (tt, (tt, (p, (w.1.1.1.1.0, tt))))) in
     let rest : ℤ → Ptr → ℕ → SProp 𝓤 = λ r p n. sep 𝓤 (fact 𝓤 (r ≢ pos 0 → p ≡ out.now))
     (fact 𝓤 (HasFaultAt (IsWhyNoRobot a.1.1.0.now x) r line.now n)) in
-    let E : ℤ → Lasts self.ended z.0.0 a → SProp 𝓤 = λ r w. sep 𝓤
-    (sem 𝓛 (opens Robots (IsRobotFor a.1.1.0.now x) r w.1.1.1.0))
+    let E : ℤ → V → SProp 𝓤 = λ r w. sep 𝓤 (sem 𝓛 (opens Robots (IsRobotFor a.1.1.0.now x) r w.1.1.1.0))
     (rest r w.1.1.1.0 w.1.1.1.1.0) in
     qed 𝓛 (context 𝓛 Sites a.1.0 x κ q S z.0 []) ∵
     and_nothing 𝓛 (lends 𝓛 𝓜 𝓡 Sites a.1.0 x κ q (_ ∷ []) _ _ fn _ (lasts self.ended z.0.0 a) E (λ b o e.
     let words_with : Word → List Word = λ w. heap 𝓛 a.0 vs.0 are.0 ∷ lent_place are.1.0 e
-    ∷ slice are.1.1.0.0.0 are.1.1.0.0.1.0 ∷ w ∷ place are.1.1.1.1.0.0 ∷ [] in
+    ∷ slice are.1.1.0.0 ∷ w ∷ place are.1.1.1.1.0.0 ∷ [] in
     let words = words_with (place are.1.1.1.0.0) in let given_words = words_with (pointer 𝓛 out.now) in
     opens_out 𝓛 𝓜 𝓡 Robots (named 1) z.0.0.1.0 z.0.1.1.0 out (flft κ q ∷ flft z.0.0.0 z.0.1.0
     ∷ []) (tokens 1 z.0.0.1.1 z.0.1.1.1)
     (lasts self.ended z.0.0 a) E made (lasts callee.ended κs (given_at 0 0))
-    (λ r w. sep 𝓤 (fact 𝓤 (r.status ≡ pos 0 → GivesRobot a.1.1.0.now x (λ robot. r.value ≡ Some robot)))
-    (rest r.status r.at w.1.1.1.1.0)) (ftrue ∷ ftrue ∷ ftrue ∷ [])
+    (ensured_by callee.ended (callee.clauses 𝓛 𝓜.mem 𝓡.returns) κs (given_at 0 0) tt)
+    (ftrue ∷ ftrue ∷ ftrue ∷ [])
     (λ w. fsep (last_value usize z.0.0.1.1.0 line w.1.1.1.1.0) ftrue)
-    (λ w. id⊢ 𝓤 _) (λ w p. id⊢ 𝓤 _) (λ r w. owned_now 𝓛 𝓜 𝓡 Robots (IsRobotFor a.1.1.0.now x)
-    (r.status ≡ pos 0 → GivesRobot a.1.1.0.now x (λ robot. r.value ≡ Some robot))
-    (rest r.status r.at w.1.1.1.1.0) r (λ is. is))
+    (λ w. id⊢ 𝓤 _) (λ w p. id⊢ 𝓤 _)
+    (λ r w. owned_now 𝓛 𝓜 𝓡 Robots _ _ (rest r.status r.at w.1.1.1.1.0) r (λ is. is))
     (_ ∷ _ ∷ _ ∷ []) _ _ _ _ fn given_words words
     (met 𝓤 𝓛 𝓜 𝓡 (code.calls-robots_c::site::robot_opened 𝓡.env wired) (
       (
