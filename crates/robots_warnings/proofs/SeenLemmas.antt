@@ -1,7 +1,7 @@
 -- How names and the values of rules are remembered, and how lines are found by them.
-use Rattle.std.proofs.Common.{◌≡◌, ℕ, ◌+◌, ◌<◌, Bool, true, false, List, [], ◌∷◌, ◌++◌, ◌∙◌, ◌&&◌, ap}
-use Rattle.std.proofs.Common.{arith, drop, filter, if◌then◌else◌, inl, inr, length, map, refl, slice_index_or}
-use Rattle.std.proofs.Common.{sym, take, append_assoc, not, bytes_eq}
+use Rattle.std.proofs.Common.{◌≡◌, ℕ, ◌+◌, ◌<◌, Bool, true, false, List, [], ◌∷◌, ◌++◌, ◌∙◌, ◌&&◌, ap, arith}
+use Rattle.std.proofs.Common.{drop, filter, if◌then◌else◌, inl, inr, length, map, refl, slice_index_or, sym}
+use Rattle.std.proofs.Common.{take, append_assoc, not, bytes_eq}
 use Rattle.std.proofs.lemmas.List.{drop_more, map-append, take_more, length_push}
 use Rattle.std.proofs.lemmas.{Bool.cases_Bool, Bool.or_parts, Simd.map-map}
 use Rattle.std.specs.List.{list_any, onto_first, slice_split, enumerate_from}
@@ -13,8 +13,7 @@ use Rattle.texting_robots.specs.Callers.{UserAgent, by_value, label_by_value, fi
 use Rattle.robots_warnings.specs.File.{lines_of}
 use Rattle.robots_warnings.specs.Spellings.{is_agent_line, is_escape, is_unpaired_at, is_unpaired_line}
 use Rattle.robots_warnings.specs.Spellings.{standard_escape, standard_spelling}
-use Rattle.robots_warnings.specs.Internal.Names.{Key, AddsLine, HasNames, IsFoundUpto}
-use Rattle.robots_warnings.specs.Internal.Names.{past_limit_from}
+use Rattle.robots_warnings.specs.Internal.Names.{Key, AddsLine, HasNames, IsFoundUpto, past_limit_from}
 use Rattle.robots_warnings.specs.Internal.Values.{has_odd_line, has_odd_value}
 use Rattle.robots_warnings.proofs.{NameLemmas.either, StepLemmas.picked}
 use Rattle.std.specs.HashSet as hash

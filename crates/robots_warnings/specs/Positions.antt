@@ -2,8 +2,7 @@
 use Rattle.std.specs.Prelude.{ℕ, Bool, true, false, nat_lt, not, ◌||◌, ◌&&◌, List, [], ◌∷◌, Option, None}
 use Rattle.std.specs.Prelude.{Some, ◌==◌, bytes_eq, codes, if◌then◌else◌}
 use Rattle.std.specs.{Option.option_or, Str.str_eq_ignore_ascii_case}
-use Rattle.texting_robots.specs.Callers.{CrawlDelay, LineValue, Label}
-use Rattle.texting_robots.specs.Callers.{UserAgent}
+use Rattle.texting_robots.specs.Callers.{CrawlDelay, LineValue, Label, UserAgent}
 use Rattle.texting_robots.specs.{Group.is_agent, Group.is_group, Line.delay_in}
 use Rattle.texting_robots.specs.declared.labels.Membership.{Membership}
 use Rattle.texting_robots.specs.declared.labels.Membership.TheVariants.{Ungrouped}

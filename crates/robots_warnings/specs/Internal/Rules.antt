@@ -1,16 +1,15 @@
 -- What is found among the rules of a crawler: their lines by their patterns, as they are compared, and sets
 -- of
 -- patterns.
-use Rattle.std.specs.Prelude.{◌≡◌, ℕ, Bool, List, String, true, not, ◌||◌}
-use Rattle.std.specs.Prelude.{◌&&◌}
-use Rattle.std.specs.{BTreeMap.get, BTreeSet.contains, BTreeSet.BTreeSet, Global.Global}
-use Rattle.std.specs.{HashMap.HashMap, HashMap.get_by_text, Ordering.nat_cmp}
-use Rattle.std.specs.{HashSet.HashSet, HashSet.contains_text, List.list_any}
+use Rattle.std.specs.Prelude.{◌≡◌, ℕ, Bool, List, String, true, not, ◌||◌, ◌&&◌}
+use Rattle.std.specs.HashSet.{HashSet, contains_text}
+use Rattle.std.specs.{BTreeMap.get, BTreeSet.contains, BTreeSet.BTreeSet, Global.Global, HashMap.HashMap}
+use Rattle.std.specs.{HashMap.get_by_text, Ordering.nat_cmp, List.list_any}
 use Rattle.texting_robots.specs.Callers.{LineValue, PlacedRule}
 use Rattle.robots_warnings.specs.declared.conflicts.RuleLines.{RuleLines}
 use Rattle.robots_warnings.specs.Conflicts.{conflict, first_line, is_like, overruled}
-use Rattle.robots_warnings.specs.{Closed.is_closed, Closed.is_whole_site, WarningValue.WarningValue}
-use Rattle.robots_warnings.specs.{Warnings.rule_warnings, Replaced.denies}
+use Rattle.robots_warnings.specs.Closed.{is_closed, is_whole_site}
+use Rattle.robots_warnings.specs.{WarningValue.WarningValue, Warnings.rule_warnings, Replaced.denies}
 use Rattle.robots_warnings.specs.Internal.Names.{Key, key_cmp}
 
 -- a map from patterns to lines, for any hash function
