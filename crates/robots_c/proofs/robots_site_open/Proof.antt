@@ -106,7 +106,8 @@ robots_site_open_spec 𝓤 𝓛 𝓜 𝓡 wired =
     (ensured_by callee.ended (callee.clauses 𝓛 𝓜.mem 𝓡.returns) κs given_at tt) (ftrue ∷ ftrue ∷ [])
     (λ w. ftrue)
     (λ w. id⊢ 𝓤 _) (λ w p. id⊢ 𝓤 _)
-    (λ r w. owned_now 𝓛 𝓜 𝓡 Sites _ _ (rest r.status r.at) r (λ is zero. (bytes_read a.1.0.now, refl, is zero)))
+    (λ r w. owned_now 𝓛 𝓜 𝓡 Sites _ _ (rest r.status r.at) r
+    (λ is zero. (bytes_read a.1.0.now, refl, is zero)))
     (_ ∷ _ ∷ []) _ _ _ _ fn given_words words
     (met 𝓤 𝓛 𝓜 𝓡 (code.calls-robots_c::site::opened 𝓡.env wired)
     ((κs, (z.0.1.0, tt), tt, given_at, (vs.0, (vs.1.0, (ptr_val out.now ∷ [], tt)))), tt))
