@@ -28,12 +28,16 @@ impl Format {
     pub fn named(name: &str) -> Format
         ensures { result ≡ format_named name.now }
     {
-        match name.as_bytes() {
-            b"json" => Format::Json,
-            b"html" => Format::Html,
-            b"github" => Format::Github,
-            b"sarif" => Format::Sarif,
-            _ => Format::Text,
+        if name == "json" {
+            Format::Json
+        } else if name == "html" {
+            Format::Html
+        } else if name == "github" {
+            Format::Github
+        } else if name == "sarif" {
+            Format::Sarif
+        } else {
+            Format::Text
         }
     }
 }
