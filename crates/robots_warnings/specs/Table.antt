@@ -1,5 +1,5 @@
 -- Every warning, as in the table of src/table.rt.
-use Rattle.std.specs.Prelude.{ℕ, Bool, true, false, List, [], bytes_eq, map, slice_index_or}
+use Rattle.std.specs.Prelude.{ℕ, Bool, true, false, List, [], bytes_eq, map, not, slice_index_or}
 use Rattle.std.specs.List.{list_any}
 use denote.Enum.Declared.{tag_of}
 use Rattle.robots_warnings.specs.contracts.table.Cause.{the_type}
@@ -7,7 +7,7 @@ use Rattle.printable_text.specs.declared.level.Level.{Level}
 use Rattle.printable_text.specs.declared.level.Level.TheVariants as level
 use Rattle.robots_warnings.specs.declared.table.TheConstants.{EXAMPLES, WARNINGS}
 use Rattle.robots_warnings.specs.declared.table.{Cause.Cause, Topic.Topic}
-use Rattle.robots_warnings.specs.declared.table.Topic.TheVariants.{Meaning, Syntax}
+use Rattle.robots_warnings.specs.declared.table.Topic.TheVariants.{Meaning, Syntax, Verdict}
 
 -- the index of a warning in the table
 abbrev pub number_of : Cause → ℕ
@@ -53,14 +53,22 @@ example_of cause = slice_index_or all_examples (number_of cause) []
 unfoldable pub topic_of : Cause → Topic
 topic_of cause = slice_index_or all_topics (number_of cause) Syntax
 
-abbrev pub is_meaning : Topic → Bool
-is_meaning Syntax = false
-is_meaning Meaning = true
+abbrev pub is_syntax : Topic → Bool
+is_syntax Syntax = true
+is_syntax _ = false
 
--- the warning isn't about the syntax of a file, but about the request, the size of the file, or what a file
--- of the standard's grammar means
+abbrev pub is_meaning : Topic → Bool
+is_meaning Meaning = true
+is_meaning _ = false
+
+-- the warning isn't about the syntax of a file, but about the request, or what a file of the standard's grammar
+-- means
 abbrev pub is_not_about_syntax : Cause → Bool
-is_not_about_syntax cause = is_meaning (topic_of cause)
+is_not_about_syntax cause = not (is_syntax (topic_of cause))
+
+-- the warning leaves open that verdicts are those of the standard
+abbrev pub keeps_verdicts : Cause → Bool
+keeps_verdicts cause = is_meaning (topic_of cause)
 
 -- some warning has this name
 unfoldable pub is_name : List ℕ → Bool

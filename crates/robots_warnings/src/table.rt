@@ -6,7 +6,7 @@ ghost use Rattle.std.specs.Prelude.{◌≡◌, ◌<◌, IfOk, bytes_eq, length, 
 ghost use Rattle.std.specs.List.{list_any};
 ghost use Rattle.robots_warnings.specs.Internal.{IsAt, IsRowAt};
 ghost use Rattle.robots_warnings.specs.Table.{all_causes, all_levels, all_names, all_texts, all_topics};
-ghost use Rattle.robots_warnings.specs.Table.{example_of, is_not_about_syntax, is_name, level_of, name_of, text_of, topic_of};
+ghost use Rattle.robots_warnings.specs.Table.{example_of, is_not_about_syntax, is_name, keeps_verdicts, level_of, name_of, text_of, topic_of};
 ghost use Rattle.robots_warnings.specs.declared.table.TheConstants.{WARNINGS};
 
 use printable_text::level::Level;
@@ -106,7 +106,9 @@ pub enum Cause {
 pub enum Topic {
     /// The syntax of the file.
     Syntax,
-    /// The request, the size of the file, or what a file of the standard's grammar means.
+    /// What a file of the standard's grammar means for a URL: the verdict may not be that of the standard.
+    Verdict,
+    /// Anything else: the request, or what else a file of the standard's grammar means.
     Meaning,
 }
 
@@ -122,7 +124,7 @@ pub static WARNINGS: [(Cause, Level, Topic, &str, &str); 69] = [
         "no usable User-agent, Allow, Disallow, Crawl-delay or Sitemap line found, so everything is allowed; write one directive per line, for example: Disallow: /search"),
     (Cause::EmptyFile, Level::Warning, Topic::Meaning, "empty-file",
         "the file is empty, so every URL may be fetched; name the right file with --file, or, if that is meant, write User-agent: * and an empty Disallow"),
-    (Cause::FileTooLarge, Level::Warning, Topic::Meaning, "file-too-large",
+    (Cause::FileTooLarge, Level::Warning, Topic::Verdict, "file-too-large",
         "the file is larger than 512,000 bytes (500 KiB); the rest is ignored; shorten it or move important groups to the top"),
     (Cause::NoUserAgent, Level::Warning, Topic::Syntax, "no-user-agent",
         "there are rules but no User-agent line; valid rules are applied here, but Google ignores them; add User-agent: * above them"),
@@ -200,15 +202,15 @@ pub static WARNINGS: [(Cause, Level, Topic, &str, &str); 69] = [
         "the rule doesn't start with / or *, so it matches no path; add a leading /, or /* if it may come later in the path"),
     (Cause::UrlAsRule, Level::Error, Topic::Syntax, "url-as-rule",
         "the rule starts like a URL, but rules apply to paths, so it matches none; keep only the part after the host, for example: /search"),
-    (Cause::UnencodedCharacter, Level::Warning, Topic::Meaning, "unencoded-character",
+    (Cause::UnencodedCharacter, Level::Warning, Topic::Verdict, "unencoded-character",
         "the rule contains a character that usually has another form in URLs (^ { } \\ in a path, ' or a backquote in a query, or a tab); use * in its place"),
     (Cause::QuotedRule, Level::Error, Topic::Syntax, "quoted-rule",
         "the quotes are treated as part of the path, so the rule won't match; remove them"),
     (Cause::RegexSyntax, Level::Warning, Topic::Meaning, "regex-syntax",
         "this looks like a regular expression, which robots.txt doesn't support; use * for any characters, and a final $ for the end of the URL"),
-    (Cause::DollarNotAtEnd, Level::Warning, Topic::Meaning, "dollar-not-at-end",
+    (Cause::DollarNotAtEnd, Level::Warning, Topic::Verdict, "dollar-not-at-end",
         "the rule has a $ before its end, so it matches nothing here (some crawlers match $ literally); use $ only at the end, or * in place of a literal $"),
-    (Cause::NonstandardEscape, Level::Warning, Topic::Meaning, "nonstandard-escape",
+    (Cause::NonstandardEscape, Level::Warning, Topic::Verdict, "nonstandard-escape",
         "the rule has a lowercase or unnecessary percent escape; here it can match only URLs written that way; use uppercase (%C3), and don't encode letters, digits, - . _ ~"),
     (Cause::DotSegment, Level::Error, Topic::Meaning, "dot-segment",
         "the rule contains a . or .. segment, which crawlers resolve in a URL's path before matching; write the resolved path"),
@@ -233,15 +235,15 @@ pub static WARNINGS: [(Cause, Level, Topic, &str, &str); 69] = [
         "the rule comes before the first User-agent line, so it belongs to no group and is ignored; move it below the User-agent line it is meant for"),
     (Cause::EmptyGroup, Level::Warning, Topic::Meaning, "empty-group",
         "no rule that is read follows this User-agent line, so its group is empty: if the name has no other group, it may fetch everything; add rules or delete the line"),
-    (Cause::DelayAboveStar, Level::Note, Topic::Meaning, "delay-splits-group",
+    (Cause::DelayAboveStar, Level::Note, Topic::Verdict, "delay-splits-group",
         "only a Crawl-delay ends the group above, so it has none of the rules of * below; crawlers that ignore the delay, such as Google's, apply these to that group too; add to it those meant for it, or, if its names have no other group, an empty Disallow"),
-    (Cause::DelaySplitsGroup, Level::Warning, Topic::Meaning, "delay-splits-group",
+    (Cause::DelaySplitsGroup, Level::Warning, Topic::Verdict, "delay-splits-group",
         "only a Crawl-delay ends the group above; crawlers that ignore it, such as Google's, apply the rules below to that group too; add to that group the rules meant for it, or move the Crawl-delay down to join the two"),
     (Cause::GroupPastSizeLimit, Level::Warning, Topic::Meaning, "group-past-size-limit",
         "this name isn't in the first 512,000 bytes, so its group is ignored; move the group up or shorten the file"),
     (Cause::AllowedAndDisallowed, Level::Warning, Topic::Meaning, "allowed-and-disallowed",
         "a crawler that gets this Disallow also gets an Allow with the same path, and the Allow wins here; delete the one you don't want"),
-    (Cause::EmptyDisallow, Level::Warning, Topic::Meaning, "empty-disallow",
+    (Cause::EmptyDisallow, Level::Warning, Topic::Verdict, "empty-disallow",
         "here an empty Disallow is an Allow of /, which wins over a Disallow of / or * for the same crawler; for RFC 9309 and Google it is no rule, and that Disallow applies; delete the one you don't want"),
     // the groups
     (Cause::TwoDelays, Level::Warning, Topic::Meaning, "two-delays",
@@ -456,6 +458,16 @@ impl Cause {
     {
         match self.row().2 {
             Topic::Syntax => false,
+            Topic::Verdict | Topic::Meaning => true,
+        }
+    }
+
+    /// Whether the warning leaves open that verdicts are those of RFC 9309.
+    pub fn keeps_verdicts(self) -> bool
+        ensures { result ≡ keeps_verdicts self }
+    {
+        match self.row().2 {
+            Topic::Syntax | Topic::Verdict => false,
             Topic::Meaning => true,
         }
     }
