@@ -1,8 +1,8 @@
 -- Pairs of adjacent bytes show where no user-agent line can begin, so that the code may skip those bytes.
 use Rattle.std.proofs.Common.{◌≡◌, ◌⊎◌, ℕ, zero, suc, ◌+◌, ◌<◌, Bool, true, false}
 use Rattle.std.proofs.Common.{List, [], ◌∷◌, length, take, drop, map, sym, refl, ap, ◌∙◌, arith}
-use Rattle.std.proofs.Common.{Some, None}
-use Rattle.std.proofs.Common.{◌==◌, ◌||◌, if◌then◌else◌, inl, inr}
+use Rattle.std.proofs.Common.{Some}
+use Rattle.std.proofs.Common.{◌==◌, ◌||◌, inl, inr}
 use Rattle.std.specs.{List.list_any, Char.to_ascii_lowercase}
 use Rattle.std.proofs.lemmas.{Grind.common_steps, Bool.cases_Bool, Bool.eqb-true, Bool.ne_eqb}
 use Rattle.texting_robots.specs.{Cut.Pair, Cut.cr, Cut.lf, Group.is_agent, Group.is_agent_named}
@@ -23,19 +23,7 @@ IsOther [] = Unit {0}
 IsOther (b ∷ body) = may_begin b ≡ false
 
 letter_is : (letter : ℕ) → kind_with letter ≡ Some kind.UserAgent → letter ≡ 117
-letter_is letter is = elim (cases_Bool (letter == 117)) [
-  | inl same ↦ eqb-true letter 117 same
-  | inr other ↦ absurd (none (letter == 97) (letter == 100) (letter == 115) (letter == 99) (rw other at is))
-]
-  where
-    none : (a d s c : Bool) → (if a then Some kind.Allow else (if d then Some kind.Disallow
-        else (if s then Some kind.Sitemap else (if c then Some kind.CrawlDelay else None))))
-        ≡ Some kind.UserAgent → ⊥
-    none true d s c is = cc
-    none false true s c is = cc
-    none false false true c is = cc
-    none false false false true is = cc
-    none false false false false is = cc
+letter_is letter is = grind (arith, common_steps)
 
 pub no_agent : (line : LineValue) (name : List ℕ) → is_agent line ≡ false
     → is_agent_named name line ≡ false

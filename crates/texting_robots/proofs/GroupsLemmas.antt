@@ -5,7 +5,7 @@ use Rattle.std.specs.{List.Contains, Prelude.filter, List.cons_option, List.filt
 use Rattle.std.specs.Str.{str_to_ascii_lowercase}
 use Rattle.std.proofs.Math.Bool.{and-false, or-false}
 use Rattle.texting_robots.specs.declared.groups.GroupTracker.{GroupTracker}
-use Rattle.texting_robots.specs.Line.{LineValue, UserAgent, Sitemap, Raw, delay_in}
+use Rattle.texting_robots.specs.Line.{LineValue, UserAgent, delay_in}
 use Rattle.texting_robots.specs.Group.{IsCaptured, group_name, is_agent, is_group}
 use Rattle.texting_robots.specs.Groups.{GroupValue, grouped_from, groups, is_for, lines_for, with_name}
 use Rattle.texting_robots.specs.Executable.{captured_delays, captured_lines, placed_in, placed_rules}
@@ -56,13 +56,15 @@ with_agent name value position named (l ∷ above) groups is same =
     rw (← same, not_joined name groups) (ap (λ b. cond b (l ∷ (above ++ rest)) rest)
     (sym (or-false (is || named)) ∙ moved is named false))
 
--- a rule or a delay more
-with_group : (name : List ℕ) (line : ℕ × LineValue) (captured named : Bool) (above : List (ℕ × LineValue))
-    (groups : List GroupValue)
-    → cons_option (cond captured (Some line) None) (captured_of name captured false above groups)
-    ≡ captured_of name captured named (line ∷ above) groups
-with_group name line true named above groups = rw (and-false (is_empty above)) refl
-with_group name line false named above groups = rw (and-false (is_empty above)) refl
+-- another line more
+with_other : (is_group : Bool) (name : List ℕ) (line : ℕ × LineValue) (captured named : Bool)
+    (above : List (ℕ × LineValue)) (groups : List GroupValue)
+    → cons_option (cond captured (cond is_group (Some line) None) None)
+    (captured_of name captured (not is_group && named) above groups)
+    ≡ captured_of name captured named (cond is_group (line ∷ above) above) groups
+with_other true name line true named above groups = rw (and-false (is_empty above)) refl
+with_other true name line false named above groups = rw (and-false (is_empty above)) refl
+with_other false name line captured named above groups = nothing_here captured None _ refl
 
 -- the line, if it is a rule or a delay
 abbrev group_line : ℕ × LineValue → Option (ℕ × LineValue)
@@ -79,17 +81,11 @@ walked name tracker position (UserAgent value ∷ lines) =
     ∙ walked name (step name tracker (UserAgent value)) (position + 1) lines
     ∙ with_agent name value position tracker.named below.above below.groups _ refl
     ∙ sym (cond_same tracker.captured _)
-walked name tracker position (Sitemap value ∷ lines) =
-    nothing_here tracker.captured None _ refl
-    ∙ walked name (step name tracker (Sitemap value)) (position + 1) lines
-walked name tracker position (Raw body ∷ lines) =
-    nothing_here tracker.captured None _ refl
-    ∙ walked name (step name tracker (Raw body)) (position + 1) lines
 walked name tracker position (line ∷ lines) =
     let below = grouped_from (position + 1) lines in
-    ap (cons_option (cond tracker.captured (Some (position, line)) None))
+    ap (cons_option (cond tracker.captured (group_line (position, line)) None))
     (walked name (step name tracker line) (position + 1) lines)
-    ∙ with_group name (position, line) tracker.captured tracker.named below.above below.groups
+    ∙ with_other (is_group line) name (position, line) tracker.captured tracker.named below.above below.groups
 
 -- ---- lines that are rules or delays
 

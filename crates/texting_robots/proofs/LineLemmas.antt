@@ -143,15 +143,15 @@ abbrev IsKindOf : Option Kind → LineValue → Type 0
 IsKindOf kind line = (kind_in line ≡ kind) ⊎ (kind_in line ≡ None)
 
 kind_with_value : (k : Kind) (value body : List ℕ) → IsKindOf (Some k) (line_with k value body)
-kind_with_value kind.Allow value body = inr refl
+kind_with_value kind.UserAgent value body = inl refl
+kind_with_value kind.Sitemap value body = inl refl
 kind_with_value kind.Disallow [] body = inr refl
-kind_with_value kind.Disallow (b ∷ value) body = inr refl
 kind_with_value kind.CrawlDelay value body = at (delay_of value)
   where
     at : (delay : Option ℕ) → IsKindOf (Some kind.CrawlDelay) (delay_or_raw delay body)
     at None = inr refl
     at (Some delay) = inl refl
-kind_with_value rest value body = inl refl
+kind_with_value rest value body = inr refl
 
 pub kind_is : (body : List ℕ) → IsKindOf (kind_by (skip_blanks body)) (line_of body)
 kind_is body = at (kind_by (skip_blanks body)) refl

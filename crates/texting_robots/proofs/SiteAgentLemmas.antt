@@ -2,7 +2,7 @@
 use Rattle.std.proofs.Common.{◌≡◌, ℕ, zero, suc, ◌+◌, ◌==◌, Bool, true, false, not, ◌||◌, cond, inl, inr}
 use Rattle.std.proofs.Common.{List, []}
 use Rattle.std.proofs.Common.{◌∷◌, ◌++◌, None, Some, ap, arith, bytes_eq, drop, filter, length, map, refl}
-use Rattle.std.proofs.Common.{slice_get}
+use Rattle.std.proofs.Common.{slice_get, ◌&&◌}
 use Rattle.std.proofs.Common.{option_map, sym, take, ◌≢◌, ◌≤◌, ◌∙◌}
 use Rattle.std.specs.{List.cons_option, List.filter_map, List.list_any, Str.is_utf8}
 use Rattle.std.specs.{Str.str_to_ascii_lowercase}
@@ -11,9 +11,9 @@ use Rattle.std.proofs.lemmas.List.{length-map, take-map, take_more}
 use Rattle.std.proofs.lemmas.Option.{get_or_from_slice_get, slice_get-map, slice_get_within}
 use Rattle.std.proofs.lemmas.Slice.Eq.{bytes_eq-Decides}
 use Rattle.texting_robots.specs.Agents.{agent_in, agents_in, each_once, is_among}
-use Rattle.texting_robots.specs.Line.{LineValue, UserAgent, Sitemap, Raw}
+use Rattle.texting_robots.specs.{Group.is_group, Line.LineValue, Line.UserAgent}
 use Rattle.texting_robots.specs.Internal.{Group.text_from, Names.first_named}
-use Rattle.texting_robots.specs.Internal.Site.{Named, has_name, named, named_from, run_after}
+use Rattle.texting_robots.specs.Internal.Site.{Named, count_after, has_name, named, named_from, run_after}
 use Rattle.texting_robots.proofs.SiteNameLemmas.{drop_is, first_later, first_now, past_end}
 
 abbrev pub name_of : Named → List ℕ
@@ -25,11 +25,8 @@ values_from run joins position count [] = refl
 values_from run joins position count (UserAgent value ∷ lines) =
     ap (λ (vs : List (List ℕ)). value ∷ vs)
     (values_from (run_after run joins (position + 1) (UserAgent value)) true (position + 1) count lines)
-values_from run joins position count (Sitemap value ∷ lines) = values_from run joins
-    (position + 1) count lines
-values_from run joins position count (Raw body ∷ lines) = values_from run joins (position + 1) count lines
-values_from run joins position count (line ∷ lines) = values_from run false (position + 1)
-    (count + 1) lines
+values_from run joins position count (line ∷ lines) =
+    values_from run (not (is_group line) && joins) (position + 1) (count_after count line) lines
 
 pub values_are : (lines : List LineValue) → map name_of (named lines) ≡ filter_map agent_in lines
 values_are lines = values_from 0 false 0 0 lines

@@ -6,15 +6,14 @@ use Rattle.std.specs.{Prelude.filter}
 use Rattle.std.specs.{List.cons_option, List.filter_map, List.list_any, Option.option_to_list}
 use Rattle.std.proofs.lemmas.List.Elements.{filter_map-append}
 use Rattle.std.proofs.Math.Bool.{and-false, and-true, or-false}
-use Rattle.std.proofs.lemmas.{Bool.eq-eqb, Bool.ne_eqb, List.Folds.list_any-append}
+use Rattle.std.proofs.lemmas.{Bool.and_parts, Bool.eq-eqb, Bool.ne_eqb, List.Folds.list_any-append}
 use Rattle.texting_robots.specs.declared.groups.GroupTracker.{GroupTracker}
-use Rattle.texting_robots.specs.Line.{LineValue, UserAgent, Allow, Disallow, Sitemap, CrawlDelay, Raw}
-use Rattle.texting_robots.specs.Line.{delay_in}
+use Rattle.texting_robots.specs.Line.{LineValue, UserAgent, Allow, Disallow, CrawlDelay, delay_in}
 use Rattle.texting_robots.specs.Group.{group_name, is_agent, is_group}
 use Rattle.texting_robots.specs.Executable.{captured_delays, captured_lines, placed_in, placed_rules}
 use Rattle.texting_robots.specs.Internal.Group.{from_captured, start_of, step}
 use Rattle.texting_robots.specs.Internal.Site.{Named, Tagged, delay_of, has_name, is_of, is_run_of, named}
-use Rattle.texting_robots.specs.Internal.Site.{named_from}
+use Rattle.texting_robots.specs.Internal.Site.{count_after, named_from}
 use Rattle.texting_robots.specs.Internal.Site.{own_tagged, rule_of, tagged_from}
 use Rattle.texting_robots.specs.Internal.Site.{early_after}
 use Rattle.texting_robots.proofs.RulesLemmas.{delay_from, last_more}
@@ -48,12 +47,14 @@ none_later name r run false position count (UserAgent value ∷ lines) within ea
     rw (not_of name r (record { name = value; run = position + 1; start = count }) (λ same. omega arith))
     (none_later name r (position + 1) true (position + 1) count lines (omega arith) (omega arith)
     (λ _. omega arith))
-none_later name r run joins position count (Sitemap value ∷ lines) within earlier closed =
-    none_later name r run joins (position + 1) count lines (omega arith) earlier closed
-none_later name r run joins position count (Raw body ∷ lines) within earlier closed =
-    none_later name r run joins (position + 1) count lines (omega arith) earlier closed
 none_later name r run joins position count (line ∷ lines) within earlier closed =
-    none_later name r run false (position + 1) (count + 1) lines (omega arith) earlier (λ wrong. cc)
+    none_later name r run (not (is_group line) && joins) (position + 1) (count_after count line) lines
+    (omega arith) earlier (λ joined. closed (and_parts (not (is_group line)) joins joined).1)
+
+-- the next user-agent line doesn't belong to the run of a group line
+pub run_ends : (is_group joins : Bool) → is_group ≡ true → (not is_group && joins) ≡ false
+run_ends true joins is = refl
+run_ends false joins is = cc
 
 -- ---- the state for a name, and the runs
 
@@ -113,42 +114,47 @@ in_new_run name value walk run position count before within splits =
       ) refl;
     }
 
--- after a group line
-after_group : (name : List ℕ) (walk : GroupTracker) (run : ℕ) (joins : Bool) (before : List Named)
+-- after another line
+after_other : (name : List ℕ) (walk : GroupTracker) (run : ℕ) (joins is_group : Bool) (before : List Named)
     → BelongsTo name walk run joins before
-    → BelongsTo name (record { captured = walk.captured; named = false }) run false before
-after_group name walk run joins before splits =
+    → BelongsTo name (record { captured = walk.captured; named = not is_group && walk.named }) run
+    (not is_group && joins) before
+after_other name walk run joins true before splits =
     record { captured = splits.captured; named = refl; first = splits.first }
+after_other name walk run joins false before splits = splits
 
--- what a group line adds, depending on its run
-group_next : {X : Type 0} (given : Tagged → Option X) (name : List ℕ) (captured : Bool) (tag : Tagged)
-    (names : List Named) (tags : List Tagged) (rest : List X) (here : Option X) → given tag ≡ here
-    → captured ≡ is_run_of name names tag.run
-    → rest ≡ filter_map given (filter (λ t. is_run_of name names t.run) tags)
-    → cons_option (cond captured here None) rest
-    ≡ filter_map given (filter (λ t. is_run_of name names t.run) (tag ∷ tags))
-group_next given name captured tag names tags rest here fits same later =
-    ap (λ o. cons_option (cond captured o None) rest) (sym fits)
-    ∙ rw (same, later) (sym (kept_next (is_run_of name names tag.run) given tag _))
-
--- the run of a group line gets no further name
-named_here : (name : List ℕ) (walk : GroupTracker) (run : ℕ) (joins : Bool) (position count : ℕ)
-    (before all : List Named)
-    (lines : List LineValue) → run ≤ position → BelongsTo name walk run joins before
-    → all ≡ before ++ named_from run false position count lines → walk.captured ≡ is_run_of name all run
-named_here name walk run joins position count before all lines within splits are =
-    rw (
-      are,
-      list_any-append (is_of name run) before (named_from run false position count lines),
-      none_later name run run false position count lines within (omega arith) (λ wrong. cc),
-    )
-    (splits.captured ∙ sym (or-false _))
-
--- any other line gives nothing
+-- nothing is found in a line
 pub nothing_here : {X : Type 0} (captured : Bool) (o : Option X) (rest : List X) → o ≡ None
     → cons_option (cond captured o None) rest ≡ rest
 nothing_here true o rest none = rw none refl
 nothing_here false o rest none = refl
+
+-- what a line other than a user-agent line adds, depending on its run
+other_next : {X : Type 0} (is_group : Bool) (given : Tagged → Option X) (name : List ℕ) (captured : Bool)
+    (tag : Tagged) (names : List Named) (tags : List Tagged) (rest : List X) (here : Option X)
+    → given tag ≡ here → (is_group ≡ false → here ≡ None)
+    → (is_group ≡ true → captured ≡ is_run_of name names tag.run)
+    → rest ≡ filter_map given (filter (λ t. is_run_of name names t.run) tags)
+    → cons_option (cond captured here None) rest ≡ filter_map given
+    (filter (λ t. is_run_of name names t.run) (cons_option (cond is_group (Some tag) None) tags))
+other_next true given name captured tag names tags rest here fits none same later =
+    ap (λ o. cons_option (cond captured o None) rest) (sym fits)
+    ∙ rw (same refl, later) (sym (kept_next (is_run_of name names tag.run) given tag _))
+other_next false given name captured tag names tags rest here fits none same later =
+    nothing_here captured here rest (none refl) ∙ later
+
+-- the run of a group line gets no further name
+named_here : (name : List ℕ) (walk : GroupTracker) (run : ℕ) (joins joined : Bool) (position count : ℕ)
+    (before all : List Named) (lines : List LineValue) → run ≤ position
+    → BelongsTo name walk run joins before → joined ≡ false
+    → all ≡ before ++ named_from run joined position count lines → walk.captured ≡ is_run_of name all run
+named_here name walk run joins joined position count before all lines within splits closed are =
+    rw (
+      are,
+      list_any-append (is_of name run) before (named_from run joined position count lines),
+      none_later name run run joined position count lines within (omega arith) (λ wrong. cc),
+    )
+    (splits.captured ∙ sym (or-false _))
 
 -- what the captured lines give is what the lines of the runs with the name give
 found_in_runs : {X : Type 0} (given : ℕ × LineValue → Option X) (of_tag : Tagged → Option X)
@@ -183,29 +189,17 @@ found_in_runs given of_tag fits none name walk run false position count before a
     (are ∙ sym (append_assoc before
     (record { name = value; run = position + 1; start = count } ∷ []) _))
 found_in_runs given of_tag fits none name walk run joins position count before all
-    (Sitemap value ∷ lines) within
-    splits are =
-    nothing_here walk.captured _ _ (none position (Sitemap value) refl)
-    ∙ found_in_runs given of_tag fits none name walk run joins (position + 1) count before all lines
-    (omega arith)
-    splits are
-found_in_runs given of_tag fits none name walk run joins position count before all (Raw body ∷ lines) within
-    splits are =
-    nothing_here walk.captured _ _ (none position (Raw body) refl)
-    ∙ found_in_runs given of_tag fits none name walk run joins (position + 1) count before all lines
-    (omega arith)
-    splits are
-found_in_runs given of_tag fits none name walk run joins position count before all
     (line ∷ lines) within
     splits are =
-    group_next of_tag name walk.captured
-    (record { number = position + 1; line = line; run = run }) all _
-    _ _
-    (fits position run line)
-    (named_here name walk run joins (position + 1) (count + 1) before all lines (omega arith) splits are)
-    (found_in_runs given of_tag fits none name (record { captured = walk.captured; named = false }) run false
-    (position + 1) (count + 1) before all lines (omega arith)
-    (after_group name walk run joins before splits) are)
+    let joined = not (is_group line) && joins in
+    let below = count_after count line in
+    other_next (is_group line) of_tag name walk.captured
+    (record { number = position + 1; line = line; run = run }) all _ _ _
+    (fits position run line) (none position line)
+    (λ group. named_here name walk run joins joined (position + 1) below before all lines (omega arith)
+    splits (run_ends (is_group line) joins group) are)
+    (found_in_runs given of_tag fits none name (step name walk line) run joined (position + 1) below
+    before all lines (omega arith) (after_other name walk run joins (is_group line) before splits) are)
 
 -- the same for a complete file with user-agent lines
 pub found_in_own : {X : Type 0} (given : ℕ × LineValue → Option X) (of_tag : Tagged → Option X)

@@ -1,7 +1,7 @@
 -- Iterating over the lines of a name: what this gives, and where it starts.
 use Rattle.std.proofs.Common.{◌≡◌, inl, inr, ℕ, zero, suc, ◌+◌, ◌<◌, ◌≤◌, ◌==◌, Bool, true, false, ◌||◌}
 use Rattle.std.proofs.Common.{not, ◌&&◌, List, [], ◌∷◌, ◌++◌, Option, Some, None, length, drop, refl, ap, sym}
-use Rattle.std.proofs.Common.{◌∙◌, arith, get_or, slice_get, take}
+use Rattle.std.proofs.Common.{◌∙◌, arith, cond, get_or, slice_get, take}
 use Rattle.std.specs.{Prelude.filter, List.Any, List.cons_option, List.filter_map, List.list_any}
 use Rattle.std.specs.Option.{option_or, option_to_list}
 use Rattle.std.proofs.lemmas.{Bool.eq-eqb, Bool.ne_eqb, Bool.Decides.eqb_tells}
@@ -20,8 +20,7 @@ use Rattle.std.proofs.Common.{IsPermutation, subst}
 use Rattle.texting_robots.proofs.{HeldLemmas.rejection_is_computed, HeldLemmas.rules_are_computed}
 use Rattle.texting_robots.proofs.{GivenLemmas.delay_is_computed, RulesLemmas.any_unplaced}
 use Rattle.texting_robots.proofs.SiteLemmas.{delay_of_group, given_push, rule_of_group}
-use Rattle.texting_robots.specs.Line.{LineValue, UserAgent, Sitemap, Raw}
-use Rattle.texting_robots.specs.Line.{delay_in}
+use Rattle.texting_robots.specs.Line.{LineValue, UserAgent, delay_in}
 use Rattle.texting_robots.specs.Internal.Site.{Named, Tagged, delay_of, in_front, is_run_of, named}
 use Rattle.texting_robots.specs.Internal.Site.{listed, own_tagged, rule_of, tagged, tagged_from}
 use Rattle.texting_robots.specs.Internal.{Names.first_named, Own.AreOfFile, Own.IsWholeWalk, Own.is_later}
@@ -240,9 +239,13 @@ whole_walk name position (n ∷ names) tags first at_zero unnamed some = λ line
 
 -- ---- a file with no user-agent line
 
-cons_same : {X : Type 0} (o p : Option X) (xs ys : List X) → o ≡ p → xs ≡ ys → cons_option o xs
-    ≡ cons_option p ys
-cons_same o p xs ys here later = rw (here, later) refl
+-- what a line other than a user-agent line adds
+added : {X : Type 0} (is_group : Bool) (given : Tagged → Option X) (tag : Tagged) (tags : List Tagged)
+    (here : Option X) → given tag ≡ here → (is_group ≡ false → here ≡ None)
+    → cons_option here (filter_map given tags)
+    ≡ filter_map given (cons_option (cond is_group (Some tag) None) tags)
+added true given tag tags here fits none = ap (λ o. cons_option o (filter_map given tags)) (sym fits)
+added false given tag tags here fits none = ap (λ o. cons_option o (filter_map given tags)) (none refl)
 
 all_from : {X : Type 0} (given : ℕ × LineValue → Option X) (of_tag : Tagged → Option X)
     → ((name_index run : ℕ) (line : LineValue)
@@ -253,25 +256,24 @@ all_from : {X : Type 0} (given : ℕ × LineValue → Option X) (of_tag : Tagged
     ≡ filter_map of_tag (tagged_from 0 false name_index lines)
 all_from given of_tag fits none name name_index [] without = refl
 all_from given of_tag fits none name name_index (UserAgent value ∷ lines) without = cc
-all_from given of_tag fits none name name_index (Sitemap value ∷ lines) without =
-    cons_same _ None _ _ (none name_index (Sitemap value) refl)
-    (all_from given of_tag fits none name (name_index + 1) lines without)
-all_from given of_tag fits none name name_index (Raw body ∷ lines) without =
-    cons_same _ None _ _ (none name_index (Raw body) refl) (all_from given of_tag fits none name
-    (name_index + 1) lines without)
 all_from given of_tag fits none name name_index (line ∷ lines) without =
-    cons_same _ _ _ _ (sym (fits name_index 0 line)) (all_from given of_tag fits none name
-    (name_index + 1) lines without)
+    ap (cons_option (given (name_index, line))) (all_from given of_tag fits none name (name_index + 1) lines
+    without)
+    ∙ added (is_group line) of_tag _ _ _ (fits name_index 0 line) (none name_index line)
+
+front_next : (is_group : Bool) (tag : Tagged) (tags : List Tagged) → (tag.run == 0) ≡ true
+    → in_front 0 tags ≡ tags
+    → let all = cons_option (cond is_group (Some tag) None) tags in in_front 0 all ≡ all
+front_next true tag tags first same = rw first (ap (λ ts. tag ∷ ts) same)
+front_next false tag tags first same = same
 
 front_all : (name_index : ℕ) (lines : List LineValue) → list_any is_agent lines ≡ false
     → in_front 0 (tagged_from 0 false name_index lines) ≡ tagged_from 0 false name_index lines
 front_all name_index [] without = refl
 front_all name_index (UserAgent value ∷ lines) without = cc
-front_all name_index (Sitemap value ∷ lines) without = front_all (name_index + 1) lines without
-front_all name_index (Raw body ∷ lines) without = front_all (name_index + 1) lines without
 front_all name_index (line ∷ lines) without =
-    let t : Tagged = record { number = name_index + 1; line = line; run = 0 } in
-    ap (λ ts. t ∷ ts) (front_all (name_index + 1) lines without)
+    front_next (is_group line) (record { number = name_index + 1; line = line; run = 0 }) _ refl
+    (front_all (name_index + 1) lines without)
 
 found_in_all : {X : Type 0} (given : ℕ × LineValue → Option X) (of_tag : Tagged → Option X)
     → ((name_index run : ℕ) (line : LineValue)

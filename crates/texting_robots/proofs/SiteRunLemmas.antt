@@ -1,17 +1,15 @@
 -- Where the lines of a run begin, and what one more run gives.
 use Rattle.std.proofs.Common.{◌≡◌, ◌≢◌, ℕ, zero, suc, ◌+◌, ◌<◌, ◌≤◌, ◌==◌, Bool, true, false, ◌||◌}
-use Rattle.std.proofs.Common.{inl, inr, List, [], ◌∷◌, ◌++◌, Some, length, drop, refl, ap, sym, ◌∙◌}
-use Rattle.std.proofs.Common.{append_assoc, arith, bytes_eq, not, slice_get, subst}
-use Rattle.std.proofs.Common.{length-append}
+use Rattle.std.proofs.Common.{inl, inr, List, [], ◌∷◌, Some, length, drop, refl, ap, sym, ◌∙◌}
+use Rattle.std.proofs.Common.{arith, bytes_eq, cond, not, None, slice_get, subst, ◌&&◌}
 use Rattle.std.specs.{Prelude.filter, Str.str_to_ascii_lowercase}
-use Rattle.std.specs.List.{list_any}
-use Rattle.std.proofs.lemmas.{Bool.ne_eqb, Bool.Decides.eqb_tells}
-use Rattle.std.proofs.lemmas.List.{Elements.filter-append}
-use Rattle.texting_robots.specs.Line.{LineValue, UserAgent, Sitemap, Raw}
-use Rattle.texting_robots.specs.Group.{is_agent, is_agent_named}
+use Rattle.std.specs.List.{cons_option, list_any}
+use Rattle.std.proofs.lemmas.{Bool.and_parts, Bool.ne_eqb, Bool.Decides.eqb_tells}
+use Rattle.texting_robots.specs.Line.{LineValue, UserAgent}
+use Rattle.texting_robots.specs.Group.{is_agent, is_agent_named, is_group}
 use Rattle.texting_robots.specs.Internal.Site.{Named, Tagged, has_name, in_front, named, named_from}
-use Rattle.texting_robots.specs.Internal.Site.{run_after}
-use Rattle.texting_robots.specs.Internal.Site.{tagged, tagged_from}
+use Rattle.texting_robots.specs.Internal.Site.{count_after, run_after, tagged, tagged_from}
+use Rattle.texting_robots.proofs.SiteLemmas.{run_ends}
 
 -- the lines of a run
 abbrev pub of_run : ℕ → List Tagged → List Tagged
@@ -26,6 +24,11 @@ abbrev pub Ascends : List Tagged → Type 0
 Ascends [] = Unit {0}
 Ascends (t ∷ tags) = IsAbove t.run tags × Ascends tags
 
+above_next : (is_group : Bool) (run : ℕ) (tag : Tagged) (tags : List Tagged) → run ≤ tag.run
+    → IsAbove run tags → IsAbove run (cons_option (cond is_group (Some tag) None) tags)
+above_next true run tag tags here later = (here, later)
+above_next false run tag tags here later = later
+
 above_from : (r run : ℕ) (joins : Bool) (position : ℕ) (lines : List LineValue) → r ≤ run → run ≤ position
     → IsAbove r (tagged_from run joins position lines)
 above_from r run joins position [] below within = tt
@@ -33,15 +36,17 @@ above_from r run true position (UserAgent value ∷ lines) below within =
     above_from r run true (position + 1) lines below (omega arith)
 above_from r run false position (UserAgent value ∷ lines) below within =
     above_from r (position + 1) true (position + 1) lines (omega arith) (omega arith)
-above_from r run joins position (Sitemap value ∷ lines) below within =
-    above_from r run joins (position + 1) lines below (omega arith)
-above_from r run joins position (Raw body ∷ lines) below within =
-    above_from r run joins (position + 1) lines below (omega arith)
 above_from r run joins position (line ∷ lines) below within =
-    (below, above_from r run false (position + 1) lines below (omega arith))
+    above_next (is_group line) r (record { number = position + 1; line = line; run = run }) _ below
+    (above_from r run (not (is_group line) && joins) (position + 1) lines below (omega arith))
 
 le_self : (n : ℕ) → n ≤ n
 le_self n = omega arith
+
+ascends_next : (is_group : Bool) (tag : Tagged) (tags : List Tagged) → IsAbove tag.run tags → Ascends tags
+    → Ascends (cons_option (cond is_group (Some tag) None) tags)
+ascends_next true tag tags above later = (above, later)
+ascends_next false tag tags above later = later
 
 ascends_from : (run : ℕ) (joins : Bool) (position : ℕ) (lines : List LineValue) → run ≤ position
     → Ascends (tagged_from run joins position lines)
@@ -50,14 +55,11 @@ ascends_from run true position (UserAgent value ∷ lines) within =
     ascends_from run true (position + 1) lines (omega arith)
 ascends_from run false position (UserAgent value ∷ lines) within =
     ascends_from (position + 1) true (position + 1) lines (omega arith)
-ascends_from run joins position (Sitemap value ∷ lines) within =
-    ascends_from run joins (position + 1) lines (omega arith)
-ascends_from run joins position (Raw body ∷ lines) within = ascends_from run joins (position + 1) lines
-    (omega arith)
-ascends_from run joins position (line ∷ lines) within = (
-  above_from run run false (position + 1) lines (le_self run) (omega arith),
-  ascends_from run false (position + 1) lines (omega arith),
-)
+ascends_from run joins position (line ∷ lines) within =
+    let joined = not (is_group line) && joins in
+    ascends_next (is_group line) (record { number = position + 1; line = line; run = run }) _
+    (above_from run run joined (position + 1) lines (le_self run) (omega arith))
+    (ascends_from run joined (position + 1) lines (omega arith))
 
 pub tagged_ascends : (lines : List LineValue) → Ascends (tagged lines)
 tagged_ascends lines = ascends_from 0 false 0 lines (omega arith)
@@ -86,12 +88,8 @@ names_from name run joins position count [] = refl
 names_from name run joins position count (UserAgent value ∷ lines) =
     ap (λ b. bytes_eq (str_to_ascii_lowercase value) name || b) (names_from name (run_after run joins
     (position + 1) (UserAgent value)) true (position + 1) count lines)
-names_from name run joins position count (Sitemap value ∷ lines) =
-    names_from name run joins (position + 1) count lines
-names_from name run joins position count (Raw body ∷ lines) = names_from name run joins
-    (position + 1) count lines
 names_from name run joins position count (line ∷ lines) =
-    names_from name run false (position + 1) (count + 1) lines
+    names_from name run (not (is_group line) && joins) (position + 1) (count_after count line) lines
 
 pub names_any : (name : List ℕ) (lines : List LineValue)
     → list_any (has_name name) (named lines) ≡ list_any (is_agent_named name) lines
@@ -101,10 +99,8 @@ some_from : (run : ℕ) (joins : Bool) (position count : ℕ) (lines : List Line
     → list_any (λ (n : Named). true) (named_from run joins position count lines) ≡ list_any is_agent lines
 some_from run joins position count [] = refl
 some_from run joins position count (UserAgent value ∷ lines) = refl
-some_from run joins position count (Sitemap value ∷ lines) = some_from run joins (position + 1) count lines
-some_from run joins position count (Raw body ∷ lines) = some_from run joins (position + 1) count lines
-some_from run joins position count (line ∷ lines) = some_from run false (position + 1)
-    (count + 1) lines
+some_from run joins position count (line ∷ lines) =
+    some_from run (not (is_group line) && joins) (position + 1) (count_after count line) lines
 
 pub no_names : (lines : List LineValue) → named lines ≡ [] → list_any is_agent lines ≡ false
 no_names lines none = sym (some_from 0 false 0 0 lines) ∙ ap (list_any (λ (n : Named). true)) none
@@ -125,100 +121,26 @@ has_names lines (n ∷ names) are =
     filled : {n : Named} (names : List Named) → n ∷ names ≡ [] → ⊥
     filled names is = cc
 
--- ---- where the lines of a run begin
-
-pub record IsStart (tags : List Tagged) (n : Named) : Type 0 where
-  pub within : n.start ≤ length tags
-  pub lines : in_front n.run (drop n.start tags) ≡ of_run n.run tags
-
-drop_front : (front rest : List Tagged) → drop (length front) (front ++ rest) ≡ rest
-drop_front [] rest = refl
-drop_front (t ∷ front) rest = drop_front front rest
-
-start_here : (name : List ℕ) (run count : ℕ) (front rest : List Tagged) → length front ≡ count
-    → of_run run front ≡ [] → IsAbove run rest → Ascends rest
-    → IsStart (front ++ rest) (record { name = name; run = run; start = count })
-start_here name run count front rest counted none above ascends = record {
-  within = simp length-append (omega arith);
-  lines = rw (← counted) (rw (
-    drop_front front rest,
-    filter-append (λ (t : Tagged). t.run == run) front rest,
-    none,
-  )
-      (front_is_run run rest above ascends));
-}
-
-one_tag : (r run : ℕ) (front : List Tagged) (t : Tagged) → t.run ≡ run → run < r → of_run r front ≡ []
-    → of_run r (front ++ t ∷ []) ≡ []
-one_tag r run front t is above none =
-    rw (
-      filter-append (λ (t : Tagged). t.run == r) front (t ∷ []),
-      none,
-      ne_eqb t.run r
-          (λ same. omega arith),
-    ) refl
-
-pub starts_from : (run : ℕ) (joins : Bool) (position count : ℕ) (front : List Tagged) (lines : List LineValue)
-    → run ≤ position → length front ≡ count
-    → ((r : ℕ) → run ≤ r → (joins ≡ false → run < r) → of_run r front ≡ [])
-    → (i : ℕ) (n : Named) → slice_get (named_from run joins position count lines) i ≡ Some n
-    → IsStart (front ++ tagged_from run joins position lines) n
-starts_from run joins position count front [] within counted none i n at = cc
-starts_from run true position count front (UserAgent value ∷ lines) within counted none zero n at =
-    let same : record { name = value; run = run; start = count } ≡ n = cc in
-    subst (IsStart (front ++ tagged_from run true (position + 1) lines)) same
-    (start_here _ run count front _ counted (none run (le_self run) (λ wrong. cc))
-    (above_from run run true (position + 1) lines (le_self run) (omega arith))
-    (ascends_from run true (position + 1) lines (omega arith)))
-starts_from run true position count front (UserAgent value ∷ lines) within counted none (suc i) n at =
-    starts_from run true (position + 1) count front lines (omega arith) counted none i n at
-starts_from run false position count front (UserAgent value ∷ lines) within counted none zero n at =
-    let same : record { name = value; run = position + 1; start = count } ≡ n = cc in
-    subst (IsStart (front ++ tagged_from (position + 1) true (position + 1) lines)) same
-    (start_here _ (position + 1) count front _ counted (none (position + 1) (omega arith) (λ _. omega arith))
-    (above_from (position + 1) (position + 1) true (position + 1) lines (le_self (position + 1))
-    (omega arith))
-    (ascends_from (position + 1) true (position + 1) lines (omega arith)))
-starts_from run false position count front (UserAgent value ∷ lines) within counted none (suc i) n at =
-    starts_from (position + 1) true (position + 1) count front lines (omega arith) counted
-    (λ r above _. none r (omega arith) (λ _. omega arith)) i n at
-starts_from run joins position count front (Sitemap value ∷ lines) within counted none i n at =
-    starts_from run joins (position + 1) count front lines (omega arith) counted none i n at
-starts_from run joins position count front (Raw body ∷ lines) within counted none i n at =
-    starts_from run joins (position + 1) count front lines (omega arith) counted none i n at
-starts_from run joins position count front (line ∷ lines) within counted none i n at =
-    let t : Tagged = record { number = position + 1; line = line; run = run } in
-    subst (λ tags. IsStart tags n) (append_assoc front (t ∷ []) (tagged_from run false (position + 1) lines))
-    (starts_from run false (position + 1) (count + 1) (front ++ t ∷ []) lines (omega arith)
-    (simp length-append (omega arith))
-    (λ r above closed. one_tag r run front t refl (closed refl) (none r above (λ _. closed refl))) i n at)
-
-pub starts : (lines : List LineValue) (i : ℕ) (n : Named) → slice_get (named lines) i ≡ Some n
-    → IsStart (tagged lines) n
-starts lines i n at = starts_from 0 false 0 0 [] lines (omega arith) refl (λ r above closed. refl) i n at
-
 -- ---- the runs of names ascend
 
-named_above : (least run : ℕ) (joins : Bool) (position count : ℕ) (lines : List LineValue) → least ≤ run
-    → run ≤ position → (i : ℕ) (n : Named)
+-- a run below these lines is at least this one, if the current one is, or is closed
+named_above : (least run : ℕ) (joins : Bool) (position count : ℕ) (lines : List LineValue)
+    → least ≤ position + 1 → (joins ≡ true → least ≤ run) → (i : ℕ) (n : Named)
     → slice_get (named_from run joins position count lines) i ≡ Some n → least ≤ n.run
-named_above least run joins position count [] below within i n at = cc
-named_above least run true position count (UserAgent value ∷ lines) below within zero n at =
+named_above least run joins position count [] below here i n at = cc
+named_above least run true position count (UserAgent value ∷ lines) below here zero n at =
     let same : record { name = value; run = run; start = count } ≡ n = cc in
-    subst (λ (n : Named). least ≤ n.run) same below
-named_above least run true position count (UserAgent value ∷ lines) below within (suc i) n at =
-    named_above least run true (position + 1) count lines below (omega arith) i n at
-named_above least run false position count (UserAgent value ∷ lines) below within zero n at =
+    subst (λ (n : Named). least ≤ n.run) same (here refl)
+named_above least run true position count (UserAgent value ∷ lines) below here (suc i) n at =
+    named_above least run true (position + 1) count lines (omega arith) here i n at
+named_above least run false position count (UserAgent value ∷ lines) below here zero n at =
     let same : record { name = value; run = position + 1; start = count } ≡ n = cc in
-    subst (λ (n : Named). least ≤ n.run) same (omega arith)
-named_above least run false position count (UserAgent value ∷ lines) below within (suc i) n at =
-    named_above least (position + 1) true (position + 1) count lines (omega arith) (omega arith) i n at
-named_above least run joins position count (Sitemap value ∷ lines) below within i n at =
-    named_above least run joins (position + 1) count lines below (omega arith) i n at
-named_above least run joins position count (Raw body ∷ lines) below within i n at =
-    named_above least run joins (position + 1) count lines below (omega arith) i n at
-named_above least run joins position count (line ∷ lines) below within i n at =
-    named_above least run false (position + 1) (count + 1) lines below (omega arith) i n at
+    subst (λ (n : Named). least ≤ n.run) same below
+named_above least run false position count (UserAgent value ∷ lines) below here (suc i) n at =
+    named_above least (position + 1) true (position + 1) count lines (omega arith) (λ _. below) i n at
+named_above least run joins position count (line ∷ lines) below here i n at =
+    named_above least run (not (is_group line) && joins) (position + 1) (count_after count line) lines
+    (omega arith) (λ joined. here (and_parts (not (is_group line)) joins joined).1) i n at
 
 ascend_from : (run : ℕ) (joins : Bool) (position count : ℕ) (lines : List LineValue) → run ≤ position
     → (i j : ℕ) (m n : Named) → i < j
@@ -230,24 +152,80 @@ ascend_from run joins position count (UserAgent value ∷ lines) within i zero m
 ascend_from run true position count (UserAgent value ∷ lines) within zero (suc j) m n less here there =
     let same : record { name = value; run = run; start = count } ≡ m = cc in
     subst (λ (m : Named). m.run ≤ n.run) same
-    (named_above run run true (position + 1) count lines (le_self run) (omega arith) j n there)
+    (named_above run run true (position + 1) count lines (omega arith) (λ _. le_self run) j n there)
 ascend_from run true position count (UserAgent value ∷ lines) within (suc i) (suc j) m n less here there =
     ascend_from run true (position + 1) count lines (omega arith) i j m n (omega arith) here there
 ascend_from run false position count (UserAgent value ∷ lines) within zero (suc j) m n less here there =
     let same : record { name = value; run = position + 1; start = count } ≡ m = cc in
     subst (λ (m : Named). m.run ≤ n.run) same
-    (named_above (position + 1) (position + 1) true (position + 1) count lines (le_self (position + 1))
-    (omega arith) j n there)
+    (named_above (position + 1) (position + 1) true (position + 1) count lines (omega arith)
+    (λ _. le_self (position + 1)) j n there)
 ascend_from run false position count (UserAgent value ∷ lines) within (suc i) (suc j) m n less here there =
     ascend_from (position + 1) true (position + 1) count lines (omega arith) i j m n (omega arith) here there
-ascend_from run joins position count (Sitemap value ∷ lines) within i j m n less here there =
-    ascend_from run joins (position + 1) count lines (omega arith) i j m n less here there
-ascend_from run joins position count (Raw body ∷ lines) within i j m n less here there =
-    ascend_from run joins (position + 1) count lines (omega arith) i j m n less here there
 ascend_from run joins position count (line ∷ lines) within i j m n less here there =
-    ascend_from run false (position + 1) (count + 1) lines (omega arith) i j m n less here there
+    ascend_from run (not (is_group line) && joins) (position + 1) (count_after count line) lines (omega arith)
+    i j m n less here there
 
 pub names_ascend : (lines : List LineValue) (i j : ℕ) (m n : Named) → i < j
     → slice_get (named lines) i ≡ Some m → slice_get (named lines) j ≡ Some n → m.run ≤ n.run
 names_ascend lines i j m n less here there =
     ascend_from 0 false 0 0 lines (omega arith) i j m n less here there
+
+-- ---- where the lines of a run begin
+
+pub record IsStart (tags : List Tagged) (n : Named) : Type 0 where
+  pub within : n.start ≤ length tags
+  pub lines : in_front n.run (drop n.start tags) ≡ of_run n.run tags
+
+-- the same for the group lines below `count` others
+abbrev IsStartBelow : ℕ → List Tagged → Named → Type 0
+IsStartBelow count tags n = (skipped : ℕ) × (n.start ≡ count + skipped) × (skipped ≤ length tags)
+    × (in_front n.run (drop skipped tags) ≡ of_run n.run tags)
+
+start_here : (name : List ℕ) (run count : ℕ) (tags : List Tagged) (n : Named)
+    → record { name = name; run = run; start = count } ≡ n → IsAbove run tags → Ascends tags
+    → IsStartBelow count tags n
+start_here name run count tags n same above ascends =
+    rw (← same) (0, omega arith, omega arith, front_is_run run tags above ascends)
+
+start_next : (is_group : Bool) (count : ℕ) (tag : Tagged) (tags : List Tagged) (n : Named)
+    → (is_group ≡ true → tag.run + 1 ≤ n.run) → IsStartBelow (cond is_group (count + 1) count) tags n
+    → IsStartBelow count (cons_option (cond is_group (Some tag) None) tags) n
+start_next true count tag tags n later (skipped, is, within, same) =
+    let less = later refl in
+    (suc skipped, omega arith, omega arith, rw (ne_eqb tag.run n.run (λ same. omega arith)) same)
+start_next false count tag tags n later below = below
+
+starts_from : (run : ℕ) (joins : Bool) (position count : ℕ) (lines : List LineValue) → run ≤ position
+    → (i : ℕ) (n : Named) → slice_get (named_from run joins position count lines) i ≡ Some n
+    → IsStartBelow count (tagged_from run joins position lines) n
+starts_from run joins position count [] within i n at = cc
+starts_from run true position count (UserAgent value ∷ lines) within zero n at =
+    let same : record { name = value; run = run; start = count } ≡ n = cc in
+    start_here value run count _ n same
+    (above_from run run true (position + 1) lines (le_self run) (omega arith))
+    (ascends_from run true (position + 1) lines (omega arith))
+starts_from run false position count (UserAgent value ∷ lines) within zero n at =
+    let same : record { name = value; run = position + 1; start = count } ≡ n = cc in
+    start_here value (position + 1) count _ n same
+    (above_from (position + 1) (position + 1) true (position + 1) lines (le_self (position + 1))
+    (omega arith))
+    (ascends_from (position + 1) true (position + 1) lines (omega arith))
+starts_from run true position count (UserAgent value ∷ lines) within (suc i) n at =
+    starts_from run true (position + 1) count lines (omega arith) i n at
+starts_from run false position count (UserAgent value ∷ lines) within (suc i) n at =
+    starts_from (position + 1) true (position + 1) count lines (omega arith) i n at
+starts_from run joins position count (line ∷ lines) within i n at =
+    let joined = not (is_group line) && joins in
+    let below = count_after count line in
+    start_next (is_group line) count (record { number = position + 1; line = line; run = run }) _ n
+    (λ group. let ends = run_ends (is_group line) joins group in
+    named_above (run + 1) run joined (position + 1) below lines (omega arith) (λ goes_on. cc) i n at)
+    (starts_from run joined (position + 1) below lines (omega arith) i n at)
+
+pub starts : (lines : List LineValue) (i : ℕ) (n : Named) → slice_get (named lines) i ≡ Some n
+    → IsStart (tagged lines) n
+starts lines i n at =
+    let (skipped, is, within, same) = starts_from 0 false 0 0 lines (omega arith) i n at in
+    let first : n.start ≡ skipped = omega arith in
+    record { within = omega arith; lines = rw first same }

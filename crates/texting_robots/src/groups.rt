@@ -97,7 +97,7 @@ impl GroupTracker {
                 self.captured = self.named;
             }
             Line::Allow(_) | Line::Disallow(_) | Line::CrawlDelay(_) => self.named = false,
-            Line::Sitemap(_) | Line::Raw(_) => {}
+            _ => {}
         }
     }
 

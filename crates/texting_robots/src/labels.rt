@@ -74,11 +74,13 @@ impl<'n, 'a> Model for LabeledLineIter<'n, 'a> {
 fn membership_of(captured: bool, begun: bool, line: Line<'_>) -> Membership
     ensures { result ≡ membership_by captured begun (by_value line.entry) }
 {
-    match line {
-        Line::Sitemap(_) | Line::Raw(_) => Membership::Ungrouped,
-        _ if captured => Membership::Own,
-        _ if begun => Membership::Other,
-        _ => Membership::Ungrouped,
+    let of_group = line.is_group() || matches!(line, Line::UserAgent(_));
+    if of_group && captured {
+        Membership::Own
+    } else if of_group && begun {
+        Membership::Other
+    } else {
+        Membership::Ungrouped
     }
 }
 

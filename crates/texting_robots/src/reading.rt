@@ -169,7 +169,7 @@ impl RobotBuilder {
                 self.delay = self.delay.or(delay);
                 Ok(())
             }
-            Line::UserAgent(_) | Line::Raw(_) => Ok(()),
+            _ => Ok(()),
         }
     }
 }

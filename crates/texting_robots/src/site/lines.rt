@@ -186,7 +186,7 @@ impl SiteLines {
                 self.sitemaps.push(span)?;
                 Ok(())
             }
-            Line::Raw(_) => Ok(()),
+            _ => Ok(()),
         }
     }
 

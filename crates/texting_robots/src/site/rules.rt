@@ -85,7 +85,7 @@ fn rule_in<'s>(line: &GroupLine<'s>) -> Option<SiteRule<'s>>
     match line.line {
         Line::Allow(value) => rule_with(value, true, line.number),
         Line::Disallow(value) => rule_with(value, false, line.number),
-        Line::UserAgent(_) | Line::Sitemap(_) | Line::CrawlDelay(_) | Line::Raw(_) => None,
+        _ => None,
     }
 }
 
