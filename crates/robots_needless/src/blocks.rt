@@ -37,8 +37,8 @@ fn block_after(block: Block, is_gone: bool, line: Line<'_>) -> Option<Block>
         }),
         Line::UserAgent(_) if is_gone || block.is_lost => None,
         Line::UserAgent(_) => Some(NO_RULE),
-        Line::CrawlDelay(_) | Line::Sitemap(_) | Line::Raw(_) if is_gone => None,
-        Line::CrawlDelay(_) | Line::Sitemap(_) | Line::Raw(_) => Some(block),
+        _ if is_gone => None,
+        _ => Some(block),
     }
 }
 
