@@ -8,8 +8,8 @@ use Rattle.std.specs.List.{list_any, onto_first, slice_split, enumerate_from}
 use Rattle.std.specs.Prelude.{Err, IfOk, Ok, Result, slice_index}
 use Rattle.std.specs.{BTreeSet.BTreeSet, Borrow.Bor, Global.Vec}
 use Rattle.texting_robots.specs.declared.labels.LabeledLine.{LabeledLine}
-use Rattle.texting_robots.specs.Callers.{Allow, CrawlDelay, Disallow, Label, LineValue, Raw, Sitemap}
-use Rattle.texting_robots.specs.Callers.{UserAgent, by_value, label_by_value, file_lines}
+use Rattle.texting_robots.specs.Callers.{Allow, Disallow, Label, LineValue}
+use Rattle.texting_robots.specs.Callers.{by_value, label_by_value, file_lines}
 use Rattle.robots_warnings.specs.File.{lines_of}
 use Rattle.robots_warnings.specs.Spellings.{is_agent_line, is_escape, is_unpaired_at, is_unpaired_line}
 use Rattle.robots_warnings.specs.Spellings.{standard_escape, standard_spelling}
@@ -70,10 +70,7 @@ plain_is_paired : (group : List LineValue) (line : LineValue) → has_odd_value 
     → is_unpaired_line group line ≡ false
 plain_is_paired group (Allow value) is = rw is refl
 plain_is_paired group (Disallow value) is = rw is refl
-plain_is_paired group (UserAgent value) is = refl
-plain_is_paired group (CrawlDelay delay) is = refl
-plain_is_paired group (Sitemap value) is = refl
-plain_is_paired group (Raw body) is = refl
+plain_is_paired group line is = refl
 
 -- without nonstandard escapes there is no such rule
 pub none_unpaired : (everywhere : Bool) (group : List LineValue) (labels : List LabeledLine)

@@ -2,8 +2,7 @@
 use Rattle.std.specs.Prelude.{ℕ, ◌==◌, Bool, true, false, nat_eq, nat_le, nat_lt, not, ◌||◌, ◌&&◌, List, []}
 use Rattle.std.specs.Prelude.{◌∷◌, codes, drop, if◌then◌else◌, length, take}
 use Rattle.std.specs.List.{list_any, starts_with}
-use Rattle.texting_robots.specs.Callers.{Allow, CrawlDelay, Disallow, LineValue, Label, Raw, Sitemap}
-use Rattle.texting_robots.specs.Callers.{file_limit}
+use Rattle.texting_robots.specs.Callers.{Allow, Disallow, LineValue, Label, Raw, UserAgent, file_limit}
 use Rattle.texting_robots.specs.{Cut.cr, Cut.lf, Group.is_agent}
 use Rattle.robots_warnings.specs.declared.facts.{FileFacts.FileFacts, LineKinds.LineKinds}
 use Rattle.robots_warnings.specs.File.{is_blank, lines_of, space, tab}
@@ -21,11 +20,13 @@ is_rule (Allow value) = true
 is_rule (Disallow value) = true
 is_rule _ = false
 
--- a delay or a sitemap
+-- any directive but these and a user-agent line
 abbrev pub is_extra : LineValue → Bool
-is_extra (CrawlDelay delay) = true
-is_extra (Sitemap value) = true
-is_extra _ = false
+is_extra (UserAgent value) = false
+is_extra (Allow value) = false
+is_extra (Disallow value) = false
+is_extra (Raw body) = false
+is_extra _ = true
 
 -- the kinds of these lines
 abbrev pub kinds_of : List LineValue → LineKinds

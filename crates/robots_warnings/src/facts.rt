@@ -2,8 +2,9 @@
 ghost use Rattle.std.specs.Prelude.{◌≡◌, ◌==◌, ◌||◌, map, not};
 ghost use Rattle.std.specs.List.{list_any};
 ghost use Rattle.texting_robots.specs.Callers.{by_value, label_by_value};
-ghost use Rattle.robots_warnings.specs.Facts.{facts_of, has_text, suppresses_line_warnings, is_too_large, is_unknown};
-ghost use Rattle.robots_warnings.specs.Facts.{has_damaged_mark, has_nul, kinds_of, mark, nul_at_every_other, seems_html, seems_utf_16, without_start, without_white};
+ghost use Rattle.robots_warnings.specs.Facts.{facts_of, has_damaged_mark, has_nul, has_text, is_extra, is_too_large};
+ghost use Rattle.robots_warnings.specs.Facts.{is_unknown, kinds_of, mark, nul_at_every_other, seems_html, seems_utf_16};
+ghost use Rattle.robots_warnings.specs.Facts.{suppresses_line_warnings, without_start, without_white};
 ghost use Rattle.robots_warnings.specs.File.{lines_of};
 ghost use Rattle.robots_warnings.specs.Internal.{kinds_with};
 
@@ -55,6 +56,16 @@ fn has_text(line: Line<'_>) -> bool
     }
 }
 
+/// Whether it is a directive of another kind.
+fn is_extra(line: Line<'_>) -> bool
+    ensures { result ≡ is_extra (by_value line.entry) }
+{
+    !matches!(
+        line,
+        Line::UserAgent(_) | Line::Allow(_) | Line::Disallow(_) | Line::Raw(_)
+    )
+}
+
 /// The kinds so far, and that of one more line.
 fn kinds_with(kinds: LineKinds, line: Line<'_>) -> LineKinds
     ensures { result ≡ kinds_with kinds (by_value line.entry) }
@@ -63,7 +74,7 @@ fn kinds_with(kinds: LineKinds, line: Line<'_>) -> LineKinds
         text: kinds.text || has_text(line),
         user_agent: kinds.user_agent || matches!(line, Line::UserAgent(_)),
         rule: kinds.rule || matches!(line, Line::Allow(_) | Line::Disallow(_)),
-        extra: kinds.extra || matches!(line, Line::CrawlDelay(_) | Line::Sitemap(_)),
+        extra: kinds.extra || is_extra(line),
     }
 }
 

@@ -31,7 +31,7 @@ pub(crate) fn preceding_with(preceding: Preceding, line: Line<'_>) -> Preceding
             Preceding::Other => Preceding::Other,
             Preceding::Agent | Preceding::Delay => Preceding::Delay,
         },
-        Line::Sitemap(_) | Line::Raw(_) => preceding,
+        _ => preceding,
     }
 }
 
@@ -42,7 +42,7 @@ pub(crate) fn first_delay(first: Option<u64>, line: Line<'_>) -> Option<u64>
     match line {
         Line::UserAgent(_) => None,
         Line::CrawlDelay(delay) => first.or(delay),
-        Line::Allow(_) | Line::Disallow(_) | Line::Sitemap(_) | Line::Raw(_) => first,
+        _ => first,
     }
 }
 
@@ -72,7 +72,7 @@ pub(crate) fn last_group(labels: &[LabeledLine<'_>]) -> Option<usize>
     for labeled in labels {
         match labeled.line {
             Line::Allow(_) | Line::Disallow(_) | Line::CrawlDelay(_) => last = Some(labeled.number),
-            Line::UserAgent(_) | Line::Sitemap(_) | Line::Raw(_) => {}
+            _ => {}
         }
     }
     last
@@ -101,7 +101,7 @@ fn begin_with_rules(labels: &[LabeledLine<'_>]) -> bool
             Line::UserAgent(_) if begun => return false,
             Line::Allow(_) | Line::Disallow(_) => return true,
             Line::CrawlDelay(_) => begun = true,
-            Line::UserAgent(_) | Line::Sitemap(_) | Line::Raw(_) => {}
+            _ => {}
         }
         rest = after;
     }
@@ -124,7 +124,7 @@ fn begin_with_name(name: &[u8], labels: &[LabeledLine<'_>]) -> bool
         match labeled.line {
             Line::UserAgent(value) if is_same_name(value, name) => return true,
             Line::Allow(_) | Line::Disallow(_) | Line::CrawlDelay(_) => return false,
-            Line::UserAgent(_) | Line::Sitemap(_) | Line::Raw(_) => rest = after,
+            _ => rest = after,
         }
     }
     false
@@ -139,9 +139,7 @@ pub(crate) fn name_star(labels: &[LabeledLine<'_>]) -> bool
         match labeled.line {
             Line::UserAgent(value) if value == b"*".as_slice() => return true,
             Line::Allow(_) | Line::Disallow(_) => return false,
-            Line::UserAgent(_) | Line::CrawlDelay(_) | Line::Sitemap(_) | Line::Raw(_) => {
-                rest = after;
-            }
+            _ => rest = after,
         }
     }
     false

@@ -43,7 +43,7 @@ pub(crate) fn add_rule<'a>(seen: &mut Seen<'a>, line: Line<'a>) -> Result<bool, 
     match line {
         Line::Allow(value) => add_value(&mut seen.allows, value),
         Line::Disallow(value) => add_value(&mut seen.disallows, value),
-        Line::UserAgent(_) | Line::CrawlDelay(_) | Line::Sitemap(_) | Line::Raw(_) => Ok(false),
+        _ => Ok(false),
     }
 }
 

@@ -144,7 +144,7 @@ fn begin_with_one(
                 }
             }
             Line::Allow(_) | Line::Disallow(_) | Line::CrawlDelay(_) => return Ok(false),
-            Line::Sitemap(_) | Line::Raw(_) => {}
+            _ => {}
         }
         rest = after;
     }
