@@ -4,8 +4,9 @@
 ghost use Rattle.std.specs.Prelude.{◌≡◌, ℕ, List, [], take};
 ghost use Rattle.texting_robots.specs.Callers.{IsLineOf, IsRobotOfFile, LineValue, RobotValue, file_limit};
 ghost use Rattle.rfc9309_laws.specs.LineForms.{HasForm};
+ghost use Rattle.rfc9309_laws.specs.Rfc9309 as rfc;
 ghost use Rattle.warnings_laws.specs.Examples as example;
-ghost use Rattle.warnings_laws.specs.Syntax.{HasSyntax, IsQuietLine, IsRobotStated, IsSilentOn, form_of, warnings_of};
+ghost use Rattle.warnings_laws.specs.Syntax.{AreGroupsWhole, HasSyntax, IsQuietLine, IsRobotStated, IsSilentOn, form_of, warnings_of};
 
 /// A line without a warning about its syntax is a line of the grammar, of the form that belongs to its kind.
 pub fn quiet_lines_have_forms()
@@ -30,6 +31,14 @@ pub fn silence_means_syntax()
     ensures robot { (named agents urls : List (List ℕ)) (file agent : List ℕ) (robot : RobotValue)
         → IsSilentOn named agents urls file → IsRobotOfFile agent (take file_limit file) robot
         → IsRobotStated agent file robot }
+{}
+
+/// Crawl-delays don't change the rules of a file in which no warning says that a delay splits a group (`delay-splits-group`).
+/// Each crawler's rules, for which a delay separates groups as a rule does, are those of the standard, for which a
+/// delay is another record, and has no effect on the groups.
+pub fn delays_change_no_rules()
+    ensures { (file agent : List ℕ) (groups : List rfc.Group) → rfc.IsFile groups (take file_limit file)
+        → AreGroupsWhole file → rfc.rules_for agent (rfc.merged groups) ≡ rfc.standard_rules agent groups }
 {}
 
 /// Worked examples: a file without warnings about its syntax, and one with such a warning.
