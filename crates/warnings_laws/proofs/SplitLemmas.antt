@@ -216,27 +216,16 @@ walk Delay above before tokens ((UserAgent token, text) ∷ sources) sole are =
 walk Other above before tokens ((UserAgent token, text) ∷ sources) sole are =
     checked [] (below (token ∷ []) sources) (inr (has_none (below (token ∷ []) sources)))
     (walk Agent (Some token) [] (token ∷ []) sources refl are)
-walk Agent above before tokens ((Allow value, text) ∷ sources) sole are =
+walk Other above before tokens ((_, text) ∷ sources) sole are =
+    walk Other above before tokens sources sole are
+walk _ above before tokens ((Allow value, text) ∷ sources) sole are =
     rw (rule_allowed text value) (walk Other above before tokens sources sole are)
-walk Delay above before tokens ((Allow value, text) ∷ sources) sole are =
-    rw (rule_allowed text value) (walk Other above before tokens sources sole are)
-walk Other above before tokens ((Allow value, text) ∷ sources) sole are =
-    walk Other above before tokens sources sole are
-walk Agent above before tokens ((Disallow value, text) ∷ sources) sole are =
-    walk Other above before tokens sources sole are
-walk Delay above before tokens ((Disallow value, text) ∷ sources) sole are =
-    walk Other above before tokens sources sole are
-walk Other above before tokens ((Disallow value, text) ∷ sources) sole are =
+walk _ above before tokens ((Disallow value, text) ∷ sources) sole are =
     walk Other above before tokens sources sole are
 walk Agent above before tokens ((CrawlDelay delay, text) ∷ sources) sole are =
     walk Delay above before tokens sources sole are
-walk Delay above before tokens ((CrawlDelay delay, text) ∷ sources) sole are =
-    walk Delay above before tokens sources sole are
-walk Other above before tokens ((CrawlDelay delay, text) ∷ sources) sole are =
-    walk Other above before tokens sources sole are
-walk Agent above before tokens ((_, text) ∷ sources) sole are = walk Agent above before tokens sources sole are
-walk Delay above before tokens ((_, text) ∷ sources) sole are = walk Delay above before tokens sources sole are
-walk Other above before tokens ((_, text) ∷ sources) sole are = walk Other above before tokens sources sole are
+walk preceding above before tokens ((_, text) ∷ sources) sole are =
+    walk preceding above before tokens sources sole are
 
 -- ---- the file
 

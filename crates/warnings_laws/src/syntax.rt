@@ -33,9 +33,9 @@ pub fn silence_means_syntax()
         → IsRobotStated agent file robot }
 {}
 
-/// Crawl-delays don't change the rules of a file in which no warning says that a delay splits a group (`delay-splits-group`).
-/// Each crawler's rules, for which a delay separates groups as a rule does, are those of the standard, for which a
-/// delay is another record, and has no effect on the groups.
+/// A user-agent line after a Crawl-delay begins another group. For the standard it doesn't, since a delay is another record,
+/// which has no effect on groups. Without a warning that a delay splits a group, such as `delay-splits-group`, each
+/// crawler's rules are the same for both.
 pub fn delays_change_no_rules()
     ensures { (file agent : List ℕ) (groups : List rfc.Group) → rfc.IsFile groups (take file_limit file)
         → AreGroupsWhole file → rfc.rules_for agent (rfc.merged groups) ≡ rfc.standard_rules agent groups }
