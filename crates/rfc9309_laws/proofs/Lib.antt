@@ -17,3 +17,7 @@ pub mod GroupLemmas
 pub mod LineFormLemmas
 pub mod FileLemmas
 pub mod RobotLemmas
+pub mod MatchLemmas
+pub mod VerdictLemmas
+pub mod ExampleLemmas
+pub mod LongestLemmas
