@@ -70,6 +70,8 @@ unfolding normal_from without_end filled
 differences = (
   only _ _ _ [] refl (differs (codes "/") 37 98 (codes "62") [] refl refl refl),
   only _ _ _ [] refl (differs (codes "/%") 99 67 (codes "3") (codes "3") refl refl refl),
+  only _ _ _ [] refl (differs (codes "/") 98 37 [] (codes "62") refl refl refl),
+  only _ _ _ [] refl (differs (codes "/%") 67 99 (codes "3") (codes "3") refl refl refl),
   only _ _ _ [] refl (differs (codes "/") 123 37 [] (codes "7B") refl refl refl),
   only _ _ _ [] refl (differs (codes "/a") 124 37 (codes "b") (codes "7Cb") refl refl refl),
   only _ _ _ [] refl (differs (codes "/a") 37 42 (codes "2Ab") (codes "b") refl refl refl),

@@ -3,13 +3,14 @@ use Rattle.std.proofs.Common.{◌≡◌, ◌↔◌, ℕ, ◌+◌, ◌/◌, ◌%�
 use Rattle.std.proofs.Common.{true, false, inl, inr, List, [], ◌∷◌, ◌++◌, refl}
 use Rattle.std.proofs.Common.{sym, ap, ◌∙◌, append_assoc, arith}
 use Rattle.std.specs.Fmt.{digit_glyph}
-use Rattle.std.proofs.lemmas.Bool.{cases_Bool, eqb-true, ne_eqb, or_parts, cond_both}
+use Rattle.std.proofs.lemmas.Bool.{both_ways, cases_Bool, eqb-true, ne_eqb, or_parts, cond_both}
 use Rattle.std.proofs.lemmas.List.Concat.{flat_map-append}
 use Rattle.std.proofs.lemmas.List.{append-nil}
 use Rattle.texting_robots.specs.Pattern.{dollar, Matches, MatchesWith, star}
 use Rattle.texting_robots.specs.Escape.{escaped, escape_byte, is_escaped}
+use Rattle.rfc9309_laws.specs.Comparable.{IsComparedAs}
 use Rattle.rfc9309_laws.specs.Matching.{IsMatch, Reading, filled, first_of, has_dollar, is_ended, later_of}
-use Rattle.rfc9309_laws.specs.Matching.{normal_path, normal_uri, without_end}
+use Rattle.rfc9309_laws.specs.Matching.{normal_uri, without_end}
 
 -- ---- stars
 
@@ -96,55 +97,45 @@ nothing : (rest : List ℕ) → MatchesWith true [] rest
 unfolding MatchesWith
 nothing rest = tt
 
-pub matches_ended : (stays : Reading) (path uri : List ℕ) → normal_uri stays uri ≡ uri
-    → normal_path stays path ≡ escaped (without_end path) → has_dollar (without_end path) ≡ false
-    → is_ended path ≡ true → Matches (escaped path) uri ↔ IsMatch stays path uri
-matches_ended stays path uri same normal free ended =
-    let stem = without_end path in
-    let none = escaped_plain stem free in
-    let parts : escaped path ≡ escaped stem ++ dollar ∷ [] =
-    ap escaped (ended_parts path ended) ∙ flat_map-append escape_byte stem (dollar ∷ []) in (
-      λ m.
-          let (strings, rest, e, n) = to_filled (escaped stem) (dollar ∷ []) uri none (rw parts at m) in
-          record {
-            strings = strings;
-            rest = rest;
-            whole = rw (same, normal) e;
-            end = λ _. none_left rest n;
-          },
-      λ is.
-          rw parts (from_filled (escaped stem) (dollar ∷ []) uri is.strings is.rest none
-          (rw (same, normal) at is.whole) (at_end is.rest (is.end ended))),
-    )
+module _ (stays : Reading) (path spelling uri : List ℕ) (same : normal_uri stays uri ≡ uri)
+    (compared : IsComparedAs stays path spelling) where
+  matches_ended : is_ended spelling ≡ true → Matches (escaped spelling) uri ↔ IsMatch stays path uri
+  matches_ended ended =
+      let none = escaped_plain (without_end spelling) compared.dollar in
+      let parts : escaped spelling ≡ escaped (without_end spelling) ++ dollar ∷ [] =
+      ap escaped (ended_parts spelling ended) ∙ flat_map-append escape_byte (without_end spelling) (dollar ∷ []) in (
+        λ m.
+            let (strings, rest, e, n) =
+            to_filled (escaped (without_end spelling)) (dollar ∷ []) uri none (rw parts at m) in
+            record {
+              strings = strings;
+              rest = rest;
+              whole = rw (same, compared.normal) e;
+              end = λ _. none_left rest n;
+            },
+        λ is.
+            rw parts (from_filled (escaped (without_end spelling)) (dollar ∷ []) uri is.strings is.rest none
+            (rw (same, compared.normal) at is.whole) (at_end is.rest (is.end (compared.ended ∙ ended)))),
+      )
 
-pub matches_open : (stays : Reading) (path uri : List ℕ) → normal_uri stays uri ≡ uri
-    → normal_path stays path ≡ escaped (without_end path) → has_dollar (without_end path) ≡ false
-    → is_ended path ≡ false → Matches (escaped path) uri ↔ IsMatch stays path uri
-matches_open stays path uri same normal free is_open =
-    let stem = without_end path in
-    let none = escaped_plain stem free in
-    let parts : escaped path ≡ escaped stem ++ [] =
-    ap escaped (open_parts path is_open) ∙ sym (append-nil (escaped stem)) in (
-      λ m.
-          let (strings, rest, e, n) = to_filled (escaped stem) [] uri none (rw parts at m) in
-          record {
-            strings = strings;
-            rest = rest;
-            whole = rw (same, normal) e;
-            end = λ ended. absurd (both is_open ended);
-          },
-      λ is.
-          rw parts (from_filled (escaped stem) [] uri is.strings is.rest none (rw (same, normal) at is.whole)
-          (nothing is.rest)),
-    )
-  where
-    both : is_ended path ≡ false → is_ended path ≡ true → ⊥
-    both one two = cc
+  matches_open : is_ended spelling ≡ false → Matches (escaped spelling) uri ↔ IsMatch stays path uri
+  matches_open is_open =
+      let none = escaped_plain (without_end spelling) compared.dollar in
+      let parts : escaped spelling ≡ escaped (without_end spelling) ++ [] =
+      ap escaped (open_parts spelling is_open) ∙ sym (append-nil (escaped (without_end spelling))) in (
+        λ m.
+            let (strings, rest, e, n) =
+            to_filled (escaped (without_end spelling)) [] uri none (rw parts at m) in
+            record {
+              strings = strings;
+              rest = rest;
+              whole = rw (same, compared.normal) e;
+              end = λ ended. absurd (both_ways (is_ended spelling) is_open (sym compared.ended ∙ ended));
+            },
+        λ is.
+            rw parts (from_filled (escaped (without_end spelling)) [] uri is.strings is.rest none
+            (rw (same, compared.normal) at is.whole) (nothing is.rest)),
+      )
 
-pub matches_so : (stays : Reading) (path uri : List ℕ) → normal_uri stays uri ≡ uri
-    → normal_path stays path ≡ escaped (without_end path) → has_dollar (without_end path) ≡ false
-    → Matches (escaped path) uri ↔ IsMatch stays path uri
-matches_so stays path uri same normal free = elim (cases_Bool (is_ended path)) [
-  | inl ended ↦ matches_ended stays path uri same normal free ended
-  | inr is_open ↦ matches_open stays path uri same normal free is_open
-]
+  pub matches_so : Matches (escaped spelling) uri ↔ IsMatch stays path uri
+  matches_so = elim (cases_Bool (is_ended spelling)) [ inl ended ↦ matches_ended ended | inr is_open ↦ matches_open is_open ]

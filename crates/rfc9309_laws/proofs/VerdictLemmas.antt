@@ -3,7 +3,7 @@ use Rattle.std.proofs.Common.{◌≡◌, ◌≢◌, ◌↔◌, ◌⊎◌, ℕ, z
 use Rattle.std.proofs.Common.{List, [], ◌∷◌, ◌++◌, refl, codes, length, length-append}
 use Rattle.std.proofs.Common.{sym, ap, ◌∙◌, arith, subst, take}
 use Rattle.std.specs.List.{AllByRecursion as Each, AllZip, Contains, list_any}
-use Rattle.std.proofs.lemmas.Bool.{cases_Bool, false≢true}
+use Rattle.std.proofs.lemmas.Bool.{both_ways, cases_Bool, false≢true}
 use Rattle.std.proofs.lemmas.List.Concat.{flat_map-append}
 use Rattle.texting_robots.specs.Callers.{IsDenied, IsRobotOfFile, IsVerdict, Matches, RobotValue, Rule}
 use Rattle.texting_robots.specs.Callers.{escaped}
@@ -14,11 +14,13 @@ use Rattle.texting_robots.proofs.{VerdictLemmas.same_verdicts}
 use Rattle.rfc9309_laws.specs.ReadAs.{IsReadAs}
 use Rattle.rfc9309_laws.specs.Rfc9309 as rfc
 use Rattle.rfc9309_laws.specs.StandardRobot.{IsFileWith}
-use Rattle.rfc9309_laws.specs.Comparable.{AreComparable, IsPathOf, IsPlainPath}
+use Rattle.rfc9309_laws.specs.Comparable.{AreComparable, HasTwin, IsComparedAs, IsPathOf, IsPlainPath}
+use Rattle.rfc9309_laws.specs.Comparable.{has_odd_escape}
 use Rattle.rfc9309_laws.specs.Matching.{IsDisallowed, IsMatch, IsRfcVerdict, Reading, is_ended}
-use Rattle.rfc9309_laws.specs.Matching.{octets, without_end}
+use Rattle.rfc9309_laws.specs.Matching.{normal_uri, octets, without_end}
 use Rattle.rfc9309_laws.proofs.{FileLemmas.file_with, RobotLemmas.robot_as}
 use Rattle.rfc9309_laws.proofs.MatchLemmas.{ended_parts, matches_so, open_parts}
+use Rattle.rfc9309_laws.proofs.NormalLemmas.{never_matches, no_odd_escape}
 
 -- ---- lists place by place
 
@@ -51,59 +53,63 @@ kind_of rule other e = ap (λ (r : Rule). r.1) e
 pattern_of : (rule other : Rule) → ◌≡◌ {A = Rule} rule other → rule.0 ≡ other.0
 pattern_of rule other e = ap (λ (r : Rule). r.0) e
 
--- ---- the paths of rules
-
--- the path of a rule is in normal form, when escaped
-abbrev pub IsFit : Reading → rfc.Member → Type 0
-IsFit stays (rfc.Allow path) = IsPlainPath stays path
-IsFit stays (rfc.Disallow path) = IsPlainPath stays path
-IsFit stays (rfc.Delay number) = Unit {0}
-
-each_contains : {X : Type 0} (P : X → Type 0) (xs : List X) (x : X) → Each P xs → Contains xs x → P x
+pub each_contains : {X : Type 0} (P : X → Type 0) (xs : List X) (x : X) → Each P xs → Contains xs x → P x
 each_contains P [] x all (k, below, at) = absurd (omega arith)
 each_contains P (first ∷ xs) x all (zero, below, at) = subst P at all.0
 each_contains P (first ∷ xs) x all (suc k, below, at) = each_contains P xs x all.1 (k, omega arith, at)
 
-pub path_fit : (stays : Reading) (members : List rfc.Member) (path : List ℕ) → Each (IsFit stays) members
-    → IsPathOf members path → IsPlainPath stays path
-path_fit stays members path all (inl has) = each_contains (IsFit stays) members (rfc.Allow path) all has
-path_fit stays members path all (inr has) = each_contains (IsFit stays) members (rfc.Disallow path) all has
-
 -- ---- octets
 
-pub octets_are : (stays : Reading) (path : List ℕ) → IsPlainPath stays path
-    → length (escaped path) ≡ octets stays path
-octets_are stays path is = elim (cases_Bool (is_ended path)) [
+pub octets_are : (stays : Reading) (path spelling : List ℕ) → IsComparedAs stays path spelling
+    → length (escaped spelling) ≡ octets stays path
+octets_are stays path spelling is = elim (cases_Bool (is_ended spelling)) [
   | inl ended ↦
-      let parts : escaped path ≡ escaped (without_end path) ++ dollar ∷ [] =
-      ap escaped (ended_parts path ended) ∙ flat_map-append escape_byte (without_end path) (dollar ∷ []) in
-      rw (ended, is.normal) (ap length parts ∙ length-append (escaped (without_end path)) (dollar ∷ []))
+      let parts : escaped spelling ≡ escaped (without_end spelling) ++ dollar ∷ [] =
+      ap escaped (ended_parts spelling ended) ∙ flat_map-append escape_byte (without_end spelling) (dollar ∷ []) in
+      rw (is.ended, ended, is.normal)
+      (ap length parts ∙ length-append (escaped (without_end spelling)) (dollar ∷ []))
   | inr is_open ↦
-      let parts : escaped path ≡ escaped (without_end path) = ap escaped (open_parts path is_open) in
-      rw (is_open, is.normal) (let e = ap length parts in omega arith)
+      let parts : escaped spelling ≡ escaped (without_end spelling) = ap escaped (open_parts spelling is_open) in
+      rw (is.ended, is_open, is.normal) (let e = ap length parts in omega arith)
 ]
 
 pub octets_written : (stays : Reading) (path : List ℕ) → IsPlainPath stays path
     → list_any is_escaped path ≡ false → length path ≡ octets stays path
 octets_written stays path is plain =
-    ap (λ (p : List ℕ). length p) (sym (plain_stays path plain)) ∙ octets_are stays path is
+    ap (λ (p : List ℕ). length p) (sym (plain_stays path plain)) ∙ octets_are stays path path is
 
 -- ---- verdicts
 
 module _ (stays : Reading) (count : List ℕ → ℕ) (members : List rfc.Member) (rules : List Rule)
     (uri : List ℕ) (zip : AllZip IsReadAs members rules)
-    (fit : AreComparable stays count members uri) where
-  matching : (path : List ℕ) → IsPathOf members path → Matches (escaped path) uri ↔ IsMatch stays path uri
-  matching path listed =
-      let is = fit.paths path listed in
-      matches_so stays path uri fit.normal is.normal is.dollar
+    (are : AreComparable stays count members uri) where
+  matching : (path spelling : List ℕ) → IsComparedAs stays path spelling
+      → Matches (escaped spelling) uri ↔ IsMatch stays path uri
+  matching path spelling is = matches_so stays path spelling uri are.normal is
 
-  counts : (path : List ℕ) → IsPathOf members path → count path ≡ length (escaped path)
-  counts path listed = fit.counted path listed ∙ sym (octets_are stays path (fit.paths path listed))
+  counts : (path spelling : List ℕ) → IsPathOf members path → IsComparedAs stays path spelling
+      → count path ≡ length (escaped spelling)
+  counts path spelling listed is = are.counted path listed ∙ sym (octets_are stays path spelling is)
+
+  -- this library compares a path of the same kind of rule
+  compared : (kind : List ℕ → rfc.Member) (path : List ℕ) → Contains members (kind path)
+      → IsPlainPath stays path ⊎ HasTwin stays (λ twin. Contains members (kind twin)) path
+      → (spelling : List ℕ) × Contains members (kind spelling) × IsComparedAs stays path spelling
+  compared kind path listed (inl plain) = (path, listed, plain)
+  compared kind path listed (inr twin) = (twin.twin, twin.listed, twin.same)
+
+  -- a path that matches here is plain
+  plain : (kind : List ℕ → rfc.Member) (path : List ℕ) → Matches (escaped path) uri
+      → IsPlainPath stays path ⊎ HasTwin stays (λ twin. Contains members (kind twin)) path
+      → IsPlainPath stays path
+  plain kind path matches (inl is) = is
+  plain kind path matches (inr twin) =
+      absurd (both_ways (has_odd_escape path) (never_matches path uri (no_odd_escape stays uri are.normal) matches)
+      twin.odd)
 
   own : (path value : List ℕ) → IsPathOf members path → IsTrimOf value path → value ≡ path
   own path value listed trim =
-      sym (is_trimmed path value trim) ∙ is_trimmed path path (fit.paths path listed).trimmed
+      sym (is_trimmed path value trim) ∙ is_trimmed path path (are.trimmed path listed)
 
   allow_listed : (path : List ℕ) → Contains members (rfc.Allow path) → Contains rules (escaped path, true)
   allow_listed path listed =
@@ -143,45 +149,61 @@ module _ (stays : Reading) (count : List ℕ → ℕ) (members : List rfc.Member
   to_disallowed (differs, pattern, has, matches, longest) =
       let (member, at, as_read) = zip_left members rules (pattern, false) zip has in
       let (path, listed, some, written) = disallow_of pattern member at as_read in
+      let here : Matches (escaped path) uri = rw written at matches in
+      let is = plain rfc.Disallow path here (are.fit (rfc.Disallow path) listed) in
       record {
-        other = rw fit.normal differs;
+        other = rw (are.normal, are.robots) differs;
         path = path;
         listed = listed;
         some = some;
-        is_match = (matching path (inr listed)).0 (rw written at matches);
-        most = λ allowed has_allowed is.
-            let less = longest (escaped allowed) (allow_listed allowed has_allowed)
-            ((matching allowed (inl has_allowed)).1 is) in
+        is_match = (matching path path is).0 here;
+        most = λ allowed has_allowed allows.
+            let (spelling, has_spelling, same) =
+            compared rfc.Allow allowed has_allowed (are.fit (rfc.Allow allowed) has_allowed) in
+            let less = longest (escaped spelling) (allow_listed spelling has_spelling)
+            ((matching allowed spelling same).1 allows) in
             let size = ap length written in
-            let one = counts allowed (inl has_allowed) in
-            let two = counts path (inr listed) in
+            let one = counts allowed spelling (inl has_allowed) same in
+            let two = counts path path (inr listed) is in
             omega arith;
       }
 
   to_denied : IsDisallowed stays count members uri → IsDenied rules uri
-  to_denied is = (
-    rw fit.normal at is.other,
-    escaped is.path,
-    disallow_listed is.path is.some is.listed,
-    (matching is.path (inr is.listed)).1 is.is_match,
-    shorter,
-  )
+  to_denied is =
+      let (spelling, listed, same) =
+      compared rfc.Disallow is.path is.listed (are.fit (rfc.Disallow is.path) is.listed) in
+      let size = octets_are stays is.path spelling same in (
+        λ e. is.other (ap (λ text. normal_uri stays text) e),
+        escaped spelling,
+        disallow_listed spelling (λ e. not_empty spelling listed size e) listed,
+        (matching is.path spelling same).1 is.is_match,
+        shorter spelling same,
+      )
     where
-      shorter : (pattern : List ℕ) → Contains rules (pattern, true) → Matches pattern uri
-          → length pattern < length (escaped is.path)
-      shorter pattern has matches =
+      -- an empty Disallow isn't a twin, since it has too few octets
+      not_empty : (spelling : List ℕ) → Contains members (rfc.Disallow spelling)
+          → length (escaped spelling) ≡ octets stays is.path → spelling ≢ []
+      not_empty [] listed size e = let longer = are.empty listed is.path is.listed is.some in omega arith
+      not_empty (b ∷ spelling) listed size e = cc
+
+      shorter : (spelling : List ℕ) → IsComparedAs stays is.path spelling → (pattern : List ℕ)
+          → Contains rules (pattern, true) → Matches pattern uri
+          → length pattern < length (escaped spelling)
+      shorter spelling same pattern has matches =
           let (member, at, as_read) = zip_left members rules (pattern, true) zip has in
-          let own_count = counts is.path (inr is.listed) in
+          let own_count = counts is.path spelling (inr is.listed) same in
           elim (allow_of pattern member at as_read) [
             | inl (path, listed, written) ↦
-                let less = is.most path listed ((matching path (inl listed)).0 (rw written at matches)) in
+                let here : Matches (escaped path) uri = rw written at matches in
+                let plain_path = plain rfc.Allow path here (are.fit (rfc.Allow path) listed) in
+                let less = is.most path listed ((matching path path plain_path).0 here) in
                 let size = ap length written in
-                let one = counts path (inl listed) in
+                let one = counts path path (inl listed) plain_path in
                 omega arith
             | inr (empty, root) ↦
-                let longer = fit.empty empty is.path is.listed is.some in
+                let longer = are.empty empty is.path is.listed is.some in
                 let size = ap length root in
-                let one = octets_are stays is.path (fit.paths is.path (inr is.listed)) in
+                let one = octets_are stays is.path spelling same in
                 omega arith
           ]
 

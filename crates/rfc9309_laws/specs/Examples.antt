@@ -1,5 +1,5 @@
 -- Worked examples of matching and of verdicts. They are theorems, proved as contracts in `src/verdict.rt`.
-use Rattle.std.specs.Prelude.{◌≡◌, ℕ, true, false, List, [], ◌∷◌, ◌++◌, codes}
+use Rattle.std.specs.Prelude.{◌≡◌, ℕ, Bool, true, false, List, [], ◌∷◌, ◌++◌, codes}
 use Rattle.rfc9309_laws.specs.Matching.{IsMatch, IsRfcVerdict, Reading, all_stay, as_in_table}
 use Rattle.rfc9309_laws.specs.Matching.{normal_path, normal_uri, octets}
 use Rattle.rfc9309_laws.specs.Comparable.{AreComparable}
@@ -41,13 +41,15 @@ pub record OnlyByStandard (stays : Reading) (path uri : List ℕ) : Type 0 where
   pub standard : IsMatch stays path uri
   pub here : ¬ Matches (escaped path) uri
 
--- a needless escape, and a lowercase one; octets that URIs don't contain; a star in the URI, which isn't in
--- normal form; a dollar inside, which is an octet like others for the standard, also before a star and before
--- the dollar at the end
+-- a needless escape, and a lowercase one, in the rule and in the URI; octets that URIs don't contain; a star in
+-- the URI, which isn't in normal form; a dollar inside, which is an octet like others for the standard, also
+-- before a star and before the dollar at the end
 abbrev pub differences : Type 0
 differences =
     OnlyByStandard all_stay (codes "/%62") (codes "/b")
     × OnlyByStandard all_stay (codes "/%c3") (codes "/%C3")
+    × OnlyByStandard all_stay (codes "/b") (codes "/%62")
+    × OnlyByStandard all_stay (codes "/%C3") (codes "/%c3")
     × OnlyByStandard all_stay (codes "/{") (codes "/%7B")
     × OnlyByStandard all_stay (codes "/a|b") (codes "/a%7Cb")
     × OnlyByStandard all_stay (codes "/a%2Ab") (codes "/a*b")
@@ -86,3 +88,20 @@ abbrev pub longest : Type 0
 longest =
     AreComparable as_in_table (octets as_in_table) page_rules (codes "/example/page/disallowed.gif")
     × IsRfcVerdict as_in_table (octets as_in_table) page_rules (codes "/example/page/disallowed.gif") false
+
+-- ---- rules that meet all conditions
+
+-- an empty Disallow, non-ASCII paths, stars, a dollar at the end, and a rule beside its standard spelling
+abbrev pub mixed_rules : List rfc.Member
+mixed_rules =
+    rfc.Disallow [] ∷ rfc.Disallow (codes "/" ++ tsu ++ codes "*.gif$")
+    ∷ rfc.Allow (codes "/" ++ tsu ++ codes "/%62*.gif$") ∷ rfc.Allow (codes "/" ++ tsu ++ codes "/b*.gif$") ∷ []
+
+abbrev pub HasMixedVerdict : List ℕ → Bool → Type 0
+HasMixedVerdict uri answer =
+    AreComparable all_stay (octets all_stay) mixed_rules uri
+    × IsRfcVerdict all_stay (octets all_stay) mixed_rules uri answer
+
+abbrev pub mixed : Type 0
+mixed =
+    HasMixedVerdict (codes "/%E3%83%84a.gif") false × HasMixedVerdict (codes "/%E3%83%84/b.gif") true
