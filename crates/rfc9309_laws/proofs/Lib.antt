@@ -18,3 +18,9 @@ pub mod DelayLemmas
 pub mod LineFormLemmas
 pub mod FileLemmas
 pub mod RobotLemmas
+pub mod MatchLemmas
+pub mod NormalLemmas
+pub mod SpellingLemmas
+pub mod VerdictLemmas
+pub mod ExampleLemmas
+pub mod LongestLemmas
