@@ -9,7 +9,7 @@ use Rattle.rfc9309_laws.proofs.KeyedLemmas.{AreFree, HasNoRule}
 use Rattle.rfc9309_laws.proofs.FileLemmas.{Line, after_front, bodies_are, file_made, file_with, forms_of}
 use Rattle.rfc9309_laws.proofs.FileLemmas.{has_delays, joined, line_bodies, lines_free, no_nul, sources_are}
 use Rattle.rfc9309_laws.proofs.FileLemmas.{sources_from}
-use Rattle.rfc9309_laws.specs.LineForms.{Agent, AreForms, Delay, Empty, Form, HasForm, Other, Rule, Sitemap}
+use Rattle.rfc9309_laws.specs.LineForms.{Agent, AreForms, Form, HasForm, Rule}
 use Rattle.std.proofs.{lemmas.List.Elements.All-from_recursion}
 use Rattle.texting_robots.specs.{Cut.lf, Internal.Cut.bodies_of, Line.without_front}
 use Rattle.texting_robots.proofs.{CutFromFront.bodies_nil, TrimLemmas.each_append}
@@ -21,12 +21,9 @@ use Rattle.rfc9309_laws.specs.Rfc9309 as rfc
 
 free_next : (form : Form) (forms others : List Form) → (AreFree forms → AreFree others)
     → AreFree (form ∷ forms) → AreFree (form ∷ others)
-free_next Empty forms others more free = more free
 free_next Agent forms others more free = tt
 free_next Rule forms others more free = absurd free
-free_next Delay forms others more free = more free
-free_next Sitemap forms others more free = more free
-free_next Other forms others more free = more free
+free_next form forms others more free = more free
 
 -- the contents have forms, in which no rule is above the first user-agent line if that is so in the others
 record AreFormed (others : List Form) (bodies : List (List ℕ)) : Type 0 where

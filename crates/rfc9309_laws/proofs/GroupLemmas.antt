@@ -1,13 +1,12 @@
 -- A crawler gets the rules and the delay that the source lines define for it.
 use Rattle.std.proofs.Common.{◌≡◌, ℕ, Bool, true, false, not, ◌||◌, List, [], ◌∷◌, ◌++◌, Option, Some, None}
 use Rattle.std.proofs.Common.{flat_map, filter, cond, bytes_eq, sym, refl, ap, ◌∙◌, subst, append-nil}
-use Rattle.std.proofs.Common.{slice_get}
+use Rattle.std.proofs.Common.{slice_get, ◌&&◌}
 use Rattle.std.specs.List.{AllZip, AllByRecursion as Each, list_any, cons_option, filter_map, last_or}
 use Rattle.std.specs.List.{before_first}
 use Rattle.std.proofs.Math.Bool.{or-false, or_assoc, or_comm}
 use Rattle.texting_robots.specs.Executable.{rule_in, rules_for, captured_delays, delay_for}
-use Rattle.texting_robots.specs.Line.{LineValue, UserAgent, Allow, CrawlDelay, Disallow, Sitemap, Raw}
-use Rattle.texting_robots.specs.Line.{delay_in}
+use Rattle.texting_robots.specs.Line.{LineValue, UserAgent, Allow, CrawlDelay, Disallow, delay_in}
 use Rattle.texting_robots.specs.Group.{group_name, is_agent, is_agent_named, is_group}
 use Rattle.texting_robots.proofs.CapturedLemmas.{cond_same, given_captured, rules_are, delays_are}
 use Rattle.rfc9309_laws.specs.Rfc9309.{Group, Member, put_before, is_rule, has_token, groups_for}
@@ -56,6 +55,14 @@ module _ {X : Type 0} (given : LineValue → Option X) (wanted : Member → Bool
         → Gives member found → AreFound members rest → AreFound (member ∷ members) (cons_option found rest)
     one_found member None members rest none all = rw none all
     one_found member (Some x) members rest is all = rw is.0 (is.1, all)
+
+    -- the same for any line but a user-agent line; one that isn't in a group gives nothing
+    pub line_found : (group : Bool) (member : Member) (found : Option X) (members : List Member)
+        (rest : List X) → (group ≡ true → Gives member found) → (group ≡ false → found ≡ None)
+        → AreFound members rest → AreFound (cond group (member ∷ members) members) (cons_option found rest)
+    line_found true member found members rest gives none all =
+        one_found member found members rest (gives refl) all
+    line_found false member found members rest gives none all = rw (none refl) all
 
 -- rules are what the lines of rules give
 pub rules_given : IsGiven rule_in is_rule IsReadAs
@@ -166,6 +173,21 @@ module _ {X : Type 0} (given : LineValue → Option X) (wanted : Member → Bool
       at true all = one_found given wanted R member o (members ++ theirs name groups) rest gives all
       at false all = all
 
+  -- after any line but a user-agent line
+  abbrev after : Bool → GroupTracker → GroupTracker
+  after group walk = record { captured = walk.captured; named = not group && walk.named }
+
+  captured_found : (group : Bool) (walk : GroupTracker) (member : Member) (o : Option X)
+      (members : List Member) (groups : List Group) (rest : List X)
+      → (group ≡ true → Gives given wanted R member o) → (group ≡ false → o ≡ None)
+      → Found (captured name (after group walk) members groups) rest
+      → Found (captured name walk (cond group (member ∷ members) members) groups)
+      (cons_option (cond walk.captured o None) rest)
+  captured_found true walk member o members groups rest gives none all =
+      member_found walk.captured member o members groups rest (gives refl) all
+  captured_found false walk member o members groups rest gives none all =
+      rw (none refl, cond_same {X = Option X} walk.captured None) all
+
   -- the `GroupTracker` finds what the members that apply mean
   pub walk_finds : (walk : GroupTracker) (sources : List Source) → Each IsRead sources
       → Found (captured name walk (parts_in sources).ungrouped (parts_in sources).groups)
@@ -179,17 +201,11 @@ module _ {X : Type 0} (given : LineValue → Option X) (wanted : Member → Bool
         captured_after name walk token parts.ungrouped parts.groups,
       )
       (walk_finds (run (is_named name token || walk.named)) sources all)
-  walk_finds walk ((Sitemap value, text) ∷ sources) (is, all) =
-      rw (is_given.none (Sitemap value) refl, cond_same {X = Option X} walk.captured None)
-      (walk_finds walk sources all)
-  walk_finds walk ((Raw body, text) ∷ sources) (is, all) =
-      rw (is_given.none (Raw body) refl, cond_same {X = Option X} walk.captured None)
-      (walk_finds walk sources all)
   walk_finds walk ((line, text) ∷ sources) (is, all) =
       let parts = parts_in sources in
-      member_found walk.captured (member_in line text) (given line) parts.ungrouped parts.groups
-      (found (closed walk.captured) sources) (is_given.some line text refl is)
-      (walk_finds (closed walk.captured) sources all)
+      captured_found (is_group line) walk (member_in line text) (given line) parts.ungrouped parts.groups _
+      (λ group. is_given.some line text group is) (is_given.none line)
+      (walk_finds (after (is_group line) walk) sources all)
 
 -- the groups with the group name are the groups for the crawler
 named_groups : (agent : List ℕ) (groups : List Group) (lines : List LineValue) (some : Bool)
@@ -280,12 +296,10 @@ above_found : (sources : List Source) → Each IsRead sources
     (filter_map delay_in (before_agent (lines_in sources)))
 above_found [] all = tt
 above_found ((UserAgent token, text) ∷ sources) (is, all) = tt
-above_found ((Sitemap value, text) ∷ sources) (is, all) = above_found sources all
-above_found ((Raw body, text) ∷ sources) (is, all) = above_found sources all
 above_found ((line, text) ∷ sources) (is, all) =
-    one_found delay_in is_delay IsDelayOf (member_in line text) (delay_in line) (parts_in sources).ungrouped
-    (filter_map delay_in (before_agent (lines_in sources))) (delays_given.some line text refl is)
-    (above_found sources all)
+    line_found delay_in is_delay IsDelayOf (is_group line) (member_in line text) (delay_in line)
+    (parts_in sources).ungrouped (filter_map delay_in (before_agent (lines_in sources)))
+    (λ group. delays_given.some line text group is) (delays_given.none line) (above_found sources all)
 
 abbrev has_any : List Group → Bool
 has_any [] = false

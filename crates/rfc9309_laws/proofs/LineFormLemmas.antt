@@ -142,10 +142,7 @@ are_free : (forms : List Form) → AreRulesBelowAgents forms → AreFree forms
 are_free [] are = tt
 are_free (Agent ∷ forms) are = tt
 are_free (Rule ∷ forms) are = let (k, within, is) = are [] forms refl in absurd (omega arith)
-are_free (Empty ∷ forms) are = are_free forms (later Empty forms (λ e. cc) are)
-are_free (Delay ∷ forms) are = are_free forms (later Delay forms (λ e. cc) are)
-are_free (Sitemap ∷ forms) are = are_free forms (later Sitemap forms (λ e. cc) are)
-are_free (Other ∷ forms) are = are_free forms (later Other forms (λ e. cc) are)
+are_free (form ∷ forms) are = are_free forms (later form forms (λ e. cc) are)
 
 -- ---- the end of a file
 

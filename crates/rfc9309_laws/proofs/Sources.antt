@@ -1,10 +1,10 @@
 -- Source lines: the line as the library reads it, with its value as written. The source lines of groups give
 -- back the groups, merged.
 use Rattle.std.proofs.Common.{◌≡◌, ℕ, Bool, false, not, List, [], ◌∷◌, Option, Some, None, ◌++◌, refl, ap}
-use Rattle.std.proofs.Common.{◌∙◌, append-nil, append_assoc, map}
-use Rattle.texting_robots.specs.Line.{LineValue, UserAgent, Allow, CrawlDelay, Disallow, Sitemap, Raw, is_raw}
+use Rattle.std.proofs.Common.{◌∙◌, append-nil, append_assoc, if◌then◌else◌, map}
+use Rattle.texting_robots.specs.Line.{LineValue, UserAgent, Allow, CrawlDelay, Disallow, Sitemap, is_raw}
 use Rattle.texting_robots.specs.Executable.{rule_in, sitemap_in}
-use Rattle.texting_robots.specs.{Delay.IsDelay, Trim.IsTrimOf, Rules.Rule}
+use Rattle.texting_robots.specs.{Delay.IsDelay, Group.is_group, Trim.IsTrimOf, Rules.Rule}
 use Rattle.texting_robots.specs.Internal.Line.{line_of}
 use Rattle.rfc9309_laws.specs.{HasForm.value_in, ReadAs.IsReadAs}
 use Rattle.rfc9309_laws.specs.Rfc9309 as rfc
@@ -45,12 +45,12 @@ GivesRuleOf member (Some rule) = IsReadAs member rule
 GivesRuleOf member None = rfc.is_rule member ≡ false
 
 abbrev IsReadLine : LineValue → List ℕ → Type 0
-IsReadLine (UserAgent token) text = Unit {0}
 IsReadLine (Sitemap value) text = (sitemap_in (Sitemap value) ≡ Some value) × IsTrimOf value text
-IsReadLine (Raw body) text = Unit {0}
 IsReadLine (CrawlDelay None) text = ⊥
 IsReadLine (CrawlDelay (Some delay)) text = IsDelay text (Some delay)
-IsReadLine line text = GivesRuleOf (member_in line text) (rule_in line)
+IsReadLine (Allow value) text = GivesRuleOf (member_in (Allow value) text) (rule_in (Allow value))
+IsReadLine (Disallow value) text = GivesRuleOf (member_in (Disallow value) text) (rule_in (Disallow value))
+IsReadLine line text = Unit {0}
 
 -- what the library reads in the line is what its value as written defines
 abbrev pub IsRead : Source → Type 0
@@ -82,9 +82,7 @@ with_member member parts = parts_of (member ∷ parts.ungrouped) parts.groups
 
 abbrev with_line : LineValue → List ℕ → Parts → Parts
 with_line (UserAgent token) text parts = with_token token parts
-with_line (Sitemap value) text parts = parts
-with_line (Raw body) text parts = parts
-with_line line text parts = with_member (member_in line text) parts
+with_line line text parts = if is_group line then with_member (member_in line text) parts else parts
 
 abbrev pub with_source : Source → Parts → Parts
 with_source source parts = with_line source.0 source.1 parts

@@ -1,6 +1,6 @@
 -- The rows of an audit.
 use Rattle.std.specs.Prelude.{ℕ, ◌+◌, List, [], ◌∷◌}
-use Rattle.texting_robots.specs.Callers.{LineValue, UserAgent, Allow, Disallow, CrawlDelay, Raw, by_value}
+use Rattle.texting_robots.specs.Callers.{LineValue, UserAgent, Allow, Disallow, CrawlDelay, by_value}
 use Rattle.texting_robots.specs.Callers.{Sitemap as SitemapLine}
 use Rattle.robots_examples.specs.declared.audit.{Kind.Kind, Row.Row}
 use Rattle.robots_examples.specs.declared.audit.Kind.TheVariants.{Agent, Rule, Sitemap, Delay, Other}
@@ -12,7 +12,7 @@ kind_of (Allow value) = Rule
 kind_of (Disallow value) = Rule
 kind_of (SitemapLine value) = Sitemap
 kind_of (CrawlDelay delay) = Delay
-kind_of (Raw body) = Other
+kind_of _ = Other
 
 -- a row by value, independent of where the bytes of its line are stored
 pub record RowValue : Type 0 where

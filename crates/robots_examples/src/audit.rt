@@ -17,7 +17,7 @@ pub enum Kind {
     Sitemap,
     /// A crawl delay.
     Delay,
-    /// An ignored line, such as an empty one, a comment, or one that isn't a directive.
+    /// Any other line, such as an empty one or a comment.
     Other,
 }
 
@@ -41,7 +41,7 @@ fn kind_of(line: Line<'_>) -> Kind
         Line::Allow(_) | Line::Disallow(_) => Kind::Rule,
         Line::Sitemap(_) => Kind::Sitemap,
         Line::CrawlDelay(_) => Kind::Delay,
-        Line::Raw(_) => Kind::Other,
+        _ => Kind::Other,
     }
 }
 

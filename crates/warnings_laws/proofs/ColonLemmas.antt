@@ -187,7 +187,6 @@ other is = absurd (false≢true is)
 
 all_usual : (kind : Kind) → Each (IsUsualOnly kind) (field_names kind)
 all_usual kind.UserAgent = (λ more is. refl, (λ more is. other is, (λ more is. other is, tt)))
-all_usual kind.Allow = (λ more is. refl, tt)
 all_usual kind.Disallow = (
   λ more is. refl,
   (
@@ -197,6 +196,7 @@ all_usual kind.Disallow = (
 )
 all_usual kind.Sitemap = (λ more is. refl, (λ more is. other is, (λ more is. other is, tt)))
 all_usual kind.CrawlDelay = (λ more is. refl, (λ more is. other is, (λ more is. other is, tt)))
+all_usual _ = (λ more is. refl, tt)
 
 -- the field name of a line that starts with a usual one is the standard's
 pub usual_key : (kind : Kind) (key rest : List ℕ) → Contains (field_names kind) (str_to_ascii_lowercase key)
@@ -222,13 +222,13 @@ IsNotContinued name = (b : ℕ) (more : List ℕ) → is_accepted_as (name ++ b 
 
 all_ended : (kind : Kind) → Each IsNotContinued (field_names kind)
 all_ended kind.UserAgent = (λ b more. refl, (λ b more. refl, (λ b more. refl, tt)))
-all_ended kind.Allow = (λ b more. refl, tt)
 all_ended kind.Disallow = (
   λ b more. refl,
   (λ b more. refl, (λ b more. refl, (λ b more. refl, (λ b more. refl, (λ b more. refl, tt))))),
 )
 all_ended kind.Sitemap = (λ b more. refl, (λ b more. refl, (λ b more. refl, tt)))
 all_ended kind.CrawlDelay = (λ b more. refl, (λ b more. refl, (λ b more. refl, tt)))
+all_ended _ = (λ b more. refl, tt)
 
 pub not_continued : (kind : Kind) (key more : List ℕ) (b : ℕ)
     → Contains (field_names kind) (str_to_ascii_lowercase key)

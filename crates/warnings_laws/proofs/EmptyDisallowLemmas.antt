@@ -3,11 +3,12 @@ use Rattle.std.proofs.Common.{◌≡◌, ◌↔◌, ◌==◌, ◌&&◌, ◌||◌
 use Rattle.std.proofs.Common.{Some, ap, arith, codes, cond, if◌then◌else◌, inl, inr, map, refl, slice_get}
 use Rattle.std.proofs.Common.{subst, suc, sym, take, zero, ◌∙◌, ◌<◌, Contains, Option, length, not}
 use Rattle.std.specs.Prelude.{nat_lt, is_some}
-use Rattle.std.proofs.lemmas.Bool.{cases_Bool, eq-eqb, eqb-true, or_cases, cases_lt, false≢true}
+use Rattle.std.proofs.lemmas.{Grind.common_steps, Bool.cases_Bool, Bool.eq-eqb, Bool.eqb-true, Bool.or_cases}
+use Rattle.std.proofs.lemmas.Bool.{cases_lt, false≢true}
 use Rattle.std.proofs.lemmas.Slice.Zip.{AllZip-left, AllZip-right}
 use Rattle.std.proofs.lemmas.Option.{option_and_then_some, same_Some}
-use Rattle.texting_robots.specs.Callers.{Allow, AreLabelsOf, CrawlDelay, Disallow, IsLineOf, Label}
-use Rattle.texting_robots.specs.Callers.{LineValue, Sitemap, UserAgent, bodies_read, file_limit, lines_read}
+use Rattle.texting_robots.specs.Callers.{Allow, AreLabelsOf, Disallow, IsLineOf, Label}
+use Rattle.texting_robots.specs.Callers.{LineValue, bodies_read, file_limit, lines_read}
 use Rattle.texting_robots.specs.Callers.{AreRulesFor, IsDenied, IsVerdict, Matches, PlacedRule, Rule}
 use Rattle.texting_robots.specs.Callers.{escaped, placed_rules, unplaced}
 use Rattle.texting_robots.specs.Internal.Statement.{kind_by, kind_with, skip_blanks, statement_of, tail_as}
@@ -57,22 +58,8 @@ lower_d b is = by (nat_lt b 65) (nat_lt b 91) is
     by false true is = letter 68 refl (omega (is, arith))
     by false false is = letter 100 refl is
 
-another : (u a s c : Bool) → ¬ ((if u then Some kind.UserAgent
-    else (if a then Some kind.Allow
-    else (if s then Some kind.Sitemap
-    else (if c then Some kind.CrawlDelay else None)))) ≡ Some kind.Disallow)
-another true a s c is = cc
-another false true s c is = cc
-another false false true c is = cc
-another false false false true is = cc
-another false false false false is = cc
-
 only_d : (letter : ℕ) → kind_with letter ≡ Some kind.Disallow → letter ≡ 100
-only_d letter is = elim (cases_Bool (letter == 100)) [
-  | inl same ↦ eqb-true letter 100 same
-  | inr other ↦
-      absurd (another (letter == 117) (letter == 97) (letter == 115) (letter == 99) (rw other at is))
-]
+only_d letter is = grind (arith, common_steps)
 
 selects_d : (text : List ℕ) → kind_by text ≡ Some kind.Disallow → begins_with_d text ≡ true
 selects_d [] is = cc

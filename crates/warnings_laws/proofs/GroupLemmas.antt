@@ -4,12 +4,11 @@ use Rattle.std.proofs.Common.{◌≡◌, ◌+◌, ◌∙◌, ◌||◌, ℕ, suc,
 use Rattle.std.proofs.Common.{Contains, Option, None, Some, filter, map, slice_get, take, ap, ap₂, arith}
 use Rattle.std.proofs.Common.{codes, if◌then◌else◌, inl, inr, refl, subst, sym, ◌≤◌, ◌-◌}
 use Rattle.std.specs.List.{enumerate_from, fold, list_any, count_by}
-use Rattle.std.proofs.lemmas.Bool.{cases_Bool, false≢true, cases_lt, or_cases, or_right}
+use Rattle.std.proofs.lemmas.Bool.{and_parts, cases_Bool, false≢true, cases_lt, not-true, or_cases, or_right}
 use Rattle.std.proofs.lemmas.List.{get_or-map, length-map}
 use Rattle.std.proofs.lemmas.Option.{same_Some, slice_get-map}
 use Rattle.texting_robots.specs.Callers.{AreLabelsOf, CrawlDelay, Label, LineValue, UserAgent, delay_for}
-use Rattle.texting_robots.specs.Callers.{group_name, AreRulesFor, HoldsRule, PlacedRule, Raw, Rule, Sitemap}
-use Rattle.texting_robots.specs.Callers.{placed_rules}
+use Rattle.texting_robots.specs.Callers.{group_name, AreRulesFor, HoldsRule, PlacedRule, Rule, placed_rules}
 use Rattle.texting_robots.specs.Executable.{captured_delays, delay_before_agents}
 use Rattle.texting_robots.specs.Group.{is_agent, is_agent_named, passes_at, is_group}
 use Rattle.texting_robots.specs.Internal.Group.{if_captured, start_of, step}
@@ -371,9 +370,9 @@ named test (UserAgent value ∷ lines) is = elim (or_cases (test value) (begin_w
   }
   | inr later ↦ named_next (UserAgent value) refl (named test lines later)
 ]
-named test (Sitemap value ∷ lines) is = named_next (Sitemap value) refl (named test lines is)
-named test (Raw body ∷ lines) is = named_next (Raw body) refl (named test lines is)
-named test (line ∷ lines) is = cc
+named test (line ∷ lines) is =
+    let (outside, later) = and_parts (not (is_group line)) (begin_with_one test lines) is in
+    named_next line (not-true _ outside) (named test lines later)
 
 one_run : {test : List ℕ → Bool} {lines : List LineValue} {position : ℕ} {rest : List LineValue}
     → IsFrom lines position rest → (is : IsNamed test rest)
