@@ -1,6 +1,6 @@
--- Skipping delays changes no rules if each group with rules has all tokens of the groups without rules that
--- come directly above it.
-use Rattle.std.proofs.Common.{◌≡◌, ℕ, Bool, true, false, not, ◌||◌, ◌&&◌, List, [], ◌∷◌, ◌++◌, append_assoc}
+-- Skipping delays changes no rules if the merged groups are unsplit (`is_unsplit`): each group with rules has
+-- all tokens of the groups without rules that come directly above it.
+use Rattle.std.proofs.Common.{◌≡◌, ℕ, Bool, true, false, not, ◌||◌, ◌&&◌, List, [], ◌∷◌, ◌++◌}
 use Rattle.std.proofs.Common.{ap, codes, cond, filter, flat_map, inl, inr, refl, subst, sym, ◌∙◌}
 use Rattle.std.proofs.Common.{if◌then◌else◌}
 use Rattle.std.specs.{List.list_all, List.list_any, Str.str_to_ascii_lowercase}
@@ -9,7 +9,7 @@ use Rattle.std.proofs.lemmas.Bool.{and_parts, cases_Bool}
 use Rattle.std.proofs.lemmas.List.{Elements.filter-append, Folds.list_any-append}
 use Rattle.std.proofs.lemmas.Slice.Eq.{bytes_eq-Decides}
 use Rattle.texting_robots.proofs.CapturedLemmas.{cond_same}
-use Rattle.rfc9309_laws.specs.Rfc9309.{Group, Member, has_token, is_rule, is_token, merged, put_before}
+use Rattle.rfc9309_laws.specs.Rfc9309.{Group, Member, has_token, is_rule, merged, put_before}
 use Rattle.rfc9309_laws.specs.Rfc9309.{Allow, Delay, Disallow, rules_for, standard_rules, without_delays}
 use Rattle.rfc9309_laws.proofs.{GroupLemmas.has, GroupLemmas.is_named, GroupLemmas.theirs, Sources.put_both}
 
@@ -148,8 +148,7 @@ all_bare agent groups is =
       | inr none ↦ rw (any_bare name groups, none) (sym (rules_bare (codes "*") groups is))
     ]
 
--- if no merged group with rules lacks a token of those without rules directly above it, the rules are those of
--- the standard
+-- if the merged groups are unsplit, the rules are those of the standard
 pub rules_unsplit : (agent : List ℕ) (groups : List Group) → is_unsplit [] (merged groups) ≡ true
     → rules_for agent (merged groups) ≡ standard_rules agent groups
 rules_unsplit agent groups is =

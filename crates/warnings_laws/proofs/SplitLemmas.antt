@@ -1,30 +1,27 @@
 -- Without a warning about a delay that splits a group, the merged groups of a file are unsplit
--- (`is_unsplit`), so that each crawler's rules are those of the standard. A walk through the source lines shows
--- it: what the warnings know of the lines above is what they need to know of the groups above.
-use Rattle.std.proofs.Common.{◌≡◌, ◌≢◌, ◌⊎◌, inl, inr, ℕ, Bool, true, false, not, ◌||◌, ◌&&◌, List, [], ◌∷◌}
+-- (`is_unsplit`), so each crawler's rules are those of the standard. The proof walks through the source lines
+-- (`Sources`), as the warnings do: they keep one name above a line, which is enough to check the next group.
+use Rattle.std.proofs.Common.{◌≡◌, ◌⊎◌, inl, inr, ℕ, Bool, true, false, not, ◌||◌, ◌&&◌, List, [], ◌∷◌}
 use Rattle.std.proofs.Common.{◌++◌, ◌∙◌, Option, Some, None, ap, codes, filter, if◌then◌else◌, map, refl}
 use Rattle.std.proofs.Common.{subst, sym, take}
-use Rattle.std.specs.List.{AllByRecursion as Each, list_any}
+use Rattle.std.specs.List.{AllByRecursion as Each, list_all, list_any}
 use Rattle.std.proofs.Math.Bool.{or-false, or-true, or_assoc}
 use Rattle.std.proofs.lemmas.Bool.{and_from, and_parts, cases_Bool, not-false, not-true}
 use Rattle.std.proofs.lemmas.{List.Folds.list_any-append, Simd.map-map}
 use Rattle.texting_robots.specs.Callers.{Allow, CrawlDelay, Disallow, Label, LineValue, Raw, Sitemap}
 use Rattle.texting_robots.specs.Callers.{UserAgent, file_bodies, file_limit, group_name, lines_read}
-use Rattle.texting_robots.specs.{Group.is_agent, Internal.Line.line_of, Labels.AreLabelsOf}
+use Rattle.texting_robots.specs.{Group.is_agent}
 use Rattle.texting_robots.proofs.LabelLemmas.{each_line_has_its_label}
-use Rattle.rfc9309_laws.specs.Rfc9309.{Group, IsFile, Member, has_token, is_rule, is_token, merged}
+use Rattle.rfc9309_laws.specs.Rfc9309.{Group, IsFile, has_token, is_rule, is_token, merged}
 use Rattle.rfc9309_laws.specs.Rfc9309.{put_before, rules_for, standard_rules}
-use Rattle.rfc9309_laws.proofs.DelayLemmas.{has_all, has_rule, is_unsplit, left_above, rules_unsplit}
+use Rattle.rfc9309_laws.proofs.DelayLemmas.{has_rule, is_unsplit, left_above, rules_unsplit}
 use Rattle.rfc9309_laws.proofs.FileLemmas.{file_read, groups_written}
-use Rattle.rfc9309_laws.proofs.ReadLemmas.{file_sources, lines_in}
+use Rattle.rfc9309_laws.proofs.ReadLemmas.{lines_in}
 use Rattle.rfc9309_laws.proofs.Sources.{Parts, Source, allowed_in, is_not_raw, parts_in, put_both, source_of}
 use Rattle.rfc9309_laws.proofs.Sources.{with_source}
 use Rattle.rfc9309_laws.proofs.SyntaxLemmas.{each_front}
 use Rattle.robots_warnings.specs.declared.positions.Preceding.{Preceding}
 use Rattle.robots_warnings.specs.declared.positions.Preceding.TheVariants.{Agent, Delay, Other}
-use Rattle.robots_warnings.specs.declared.table.Cause.{Cause}
-use Rattle.robots_warnings.specs.declared.table.Cause.TheVariants.{DelayAboveStar, DelaySplitsGroup}
-use Rattle.robots_warnings.specs.declared.table.Cause.TheVariants.{EmptyGroup, RuleBeforeUserAgent}
 use Rattle.robots_warnings.specs.Positions.{begin_with_name, begin_with_rules, first_delay, is_delay}
 use Rattle.robots_warnings.specs.Positions.{is_split, last_group, name_again, name_star, preceding_with}
 use Rattle.robots_warnings.specs.Positions.{sole_name}
@@ -148,51 +145,42 @@ is_unsplit_after above (group ∷ later) = is_unsplit (left_above above group) l
 
 -- if the first group passes the check, all are unsplit
 checked : (above : List (List ℕ)) (groups : List Group)
-    → (first has_a_rule groups ≡ false) ⊎ (first (has_all above) groups ≡ true)
+    → (first has_a_rule groups ≡ false) ⊎ (list_all (λ token. first (has_token token) groups) above ≡ true)
     → is_unsplit_after above groups ≡ true → is_unsplit above groups ≡ true
 checked above [] passes after = refl
 checked above (group ∷ later) (inl none) after = rw (ap (λ b. not b) none) after
 checked above (group ∷ later) (inr all) after = rw (all, or-true) after
-
-has_none : (groups : List Group) → first (has_all []) groups ≡ true
-has_none [] = refl
-has_none (group ∷ later) = refl
-
-has_one : (name : List ℕ) (groups : List Group) → first (has_token name) groups ≡ true
-    → first (has_all (name ∷ [])) groups ≡ true
-has_one name [] is = refl
-has_one name (group ∷ later) is = rw is refl
 
 -- the name, if there is one, is the only one of these tokens
 abbrev IsSole : Option (List ℕ) → List (List ℕ) → Type 0
 IsSole None tokens = Unit {0}
 IsSole (Some name) tokens = tokens ≡ name ∷ []
 
--- at a user-agent line after a delay
-first_passes : (above : Option (List ℕ)) (tokens : List (List ℕ)) (token text : List ℕ) (sources : List Source)
-    → IsSole above tokens
+-- the check of the first group, at a user-agent line after a delay
+first_passes : (name : Option (List ℕ)) (tokens : List (List ℕ)) (token text : List ℕ)
+    (sources : List Source) → IsSole name tokens
     → not (begin_with_rules false (UserAgent token ∷ lines_in sources)
-    && not (name_again above (UserAgent token ∷ lines_in sources))) ≡ true
+    && not (name_again name (UserAgent token ∷ lines_in sources))) ≡ true
     → (first has_a_rule (below (token ∷ []) sources) ≡ false)
-    ⊎ (first (has_all tokens) (below (token ∷ []) sources) ≡ true)
-first_passes above tokens token text sources sole is =
+    ⊎ (list_all (λ name. first (has_token name) (below (token ∷ []) sources)) tokens ≡ true)
+first_passes name tokens token text sources sole is =
     elim (cases_Bool (begin_with_rules false (lines_in sources))) [
-      | inl some ↦ inr (named above sole (rw some at is))
+      | inl some ↦ inr (named name sole (rw some at is))
       | inr none ↦ inl (sym (first_rules (token ∷ []) sources) ∙ none)
     ]
   where
-    named : (above : Option (List ℕ)) → IsSole above tokens
-        → not (not (name_again above (UserAgent token ∷ lines_in sources))) ≡ true
-        → first (has_all tokens) (below (token ∷ []) sources) ≡ true
+    named : (name : Option (List ℕ)) → IsSole name tokens
+        → not (not (name_again name (UserAgent token ∷ lines_in sources))) ≡ true
+        → list_all (λ name. first (has_token name) (below (token ∷ []) sources)) tokens ≡ true
     named None sole is = absurd cc
     named (Some name) sole is =
-        rw sole (has_one name (below (token ∷ []) sources)
-        (sym (first_names name [] ((UserAgent token, text) ∷ sources)
-        ∙ ap (first (has_token name)) (below_token [] token text sources))
-        ∙ not-false _ (not-true _ is)))
+        let has : first (has_token name) (below (token ∷ []) sources) ≡ true =
+        ap (first (has_token name)) (sym (below_token [] token text sources))
+        ∙ sym (first_names name [] ((UserAgent token, text) ∷ sources)) ∙ not-false _ (not-true _ is) in
+        rw (sole, has) refl
 
--- what is known of the groups below; `before` and `tokens` are the tokens since the last rule above: those above
--- the last delay between them, and the others
+-- what is so of the groups below a line. `before` and `tokens` are the tokens since the last rule above it:
+-- those of the groups that only have delays, and those of the last group
 abbrev Holds : Preceding → (before tokens : List (List ℕ)) → List Source → Type 0
 Holds Agent before tokens sources = is_unsplit_after before (below tokens sources) ≡ true
 Holds Delay before tokens sources =
@@ -200,32 +188,32 @@ Holds Delay before tokens sources =
     is_unsplit (if has_rule parts.ungrouped then [] else before ++ tokens) parts.groups ≡ true
 Holds Other before tokens sources = is_unsplit [] (parts_in sources).groups ≡ true
 
-walk : (preceding : Preceding) (above : Option (List ℕ)) (before tokens : List (List ℕ)) (sources : List Source)
-    → IsSole above (before ++ tokens) → are_unsplit preceding above (lines_in sources) ≡ true
-    → Holds preceding before tokens sources
-walk Agent above before tokens [] sole are = refl
-walk Delay above before tokens [] sole are = refl
-walk Other above before tokens [] sole are = refl
-walk Agent above before tokens ((UserAgent token, text) ∷ sources) sole are =
+walk : (preceding : Preceding) (name : Option (List ℕ)) (before tokens : List (List ℕ))
+    (sources : List Source) → IsSole name (before ++ tokens)
+    → are_unsplit preceding name (lines_in sources) ≡ true → Holds preceding before tokens sources
+walk Agent name before tokens [] sole are = refl
+walk Delay name before tokens [] sole are = refl
+walk Other name before tokens [] sole are = refl
+walk Agent name before tokens ((UserAgent token, text) ∷ sources) sole are =
     rw (below_token tokens token text sources) (walk Agent None before (tokens ++ token ∷ []) sources tt are)
-walk Delay above before tokens ((UserAgent token, text) ∷ sources) sole are =
+walk Delay name before tokens ((UserAgent token, text) ∷ sources) sole are =
     let both = and_parts _ (are_unsplit Agent None (lines_in sources)) are in
     checked (before ++ tokens) (below (token ∷ []) sources)
-    (first_passes above (before ++ tokens) token text sources sole both.0)
+    (first_passes name (before ++ tokens) token text sources sole both.0)
     (walk Agent None (before ++ tokens) (token ∷ []) sources tt both.1)
-walk Other above before tokens ((UserAgent token, text) ∷ sources) sole are =
-    checked [] (below (token ∷ []) sources) (inr (has_none (below (token ∷ []) sources)))
+walk Other name before tokens ((UserAgent token, text) ∷ sources) sole are =
+    checked [] (below (token ∷ []) sources) (inr refl)
     (walk Agent (Some token) [] (token ∷ []) sources refl are)
-walk Other above before tokens ((_, text) ∷ sources) sole are =
-    walk Other above before tokens sources sole are
-walk _ above before tokens ((Allow value, text) ∷ sources) sole are =
-    rw (rule_allowed text value) (walk Other above before tokens sources sole are)
-walk _ above before tokens ((Disallow value, text) ∷ sources) sole are =
-    walk Other above before tokens sources sole are
-walk Agent above before tokens ((CrawlDelay delay, text) ∷ sources) sole are =
-    walk Delay above before tokens sources sole are
-walk preceding above before tokens ((_, text) ∷ sources) sole are =
-    walk preceding above before tokens sources sole are
+walk Other name before tokens ((_, text) ∷ sources) sole are =
+    walk Other name before tokens sources sole are
+walk _ name before tokens ((Allow value, text) ∷ sources) sole are =
+    rw (rule_allowed text value) (walk Other name before tokens sources sole are)
+walk _ name before tokens ((Disallow value, text) ∷ sources) sole are =
+    walk Other name before tokens sources sole are
+walk Agent name before tokens ((CrawlDelay delay, text) ∷ sources) sole are =
+    walk Delay name before tokens sources sole are
+walk preceding name before tokens ((_, text) ∷ sources) sole are =
+    walk preceding name before tokens sources sole are
 
 -- ---- the file
 
@@ -237,8 +225,7 @@ raw_parts ((line, text) ∷ sources) = ap (with_source (line, text)) (raw_parts 
 
 -- without a warning about a delay that splits a group, each crawler gets the rules of the standard
 pub rules_not_split : (file agent : List ℕ) (groups : List Group) → IsFile groups (take file_limit file)
-    → AreGroupsWhole file
-    → rules_for agent (merged groups) ≡ standard_rules agent groups
+    → AreGroupsWhole file → rules_for agent (merged groups) ≡ standard_rules agent groups
 rules_not_split file agent groups is quiet =
     let text = take file_limit file in
     let lines = lines_read file in
@@ -246,7 +233,8 @@ rules_not_split file agent groups is quiet =
     let sources : List Source = map source_of (file_bodies text) in
     let (numbers, read) = file_read text groups is in
     let made : (parts_in sources).groups ≡ merged groups =
-    ap (λ (parts : Parts). parts.groups) (sym (raw_parts sources)) ∙ groups_written text numbers groups read in
+    ap (λ (parts : Parts). parts.groups) (sym (raw_parts sources))
+    ∙ groups_written text numbers groups read in
     let same : lines_of labels ≡ lines_in sources =
     ((each_line_has_its_label (group_name (codes "*") lines) lines labels).1 refl).lines_are
     ∙ sym (map-map (λ (source : Source). source.0) source_of (file_bodies text)) in

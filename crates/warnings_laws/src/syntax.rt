@@ -6,7 +6,8 @@ ghost use Rattle.texting_robots.specs.Callers.{IsLineOf, IsRobotOfFile, LineValu
 ghost use Rattle.rfc9309_laws.specs.LineForms.{HasForm};
 ghost use Rattle.rfc9309_laws.specs.Rfc9309 as rfc;
 ghost use Rattle.warnings_laws.specs.Examples as example;
-ghost use Rattle.warnings_laws.specs.Syntax.{AreGroupsWhole, HasSyntax, IsQuietLine, IsRobotStated, IsSilentOn, form_of, warnings_of};
+ghost use Rattle.warnings_laws.specs.Syntax.{AreGroupsWhole, HasSyntax, IsQuietLine, IsRobotStated};
+ghost use Rattle.warnings_laws.specs.Syntax.{IsSilentOn, form_of, warnings_of};
 
 /// A line without a warning about its syntax is a line of the grammar, of the form that belongs to its kind.
 pub fn quiet_lines_have_forms()
@@ -33,9 +34,9 @@ pub fn silence_means_syntax()
         → IsRobotStated agent file robot }
 {}
 
-/// A user-agent line after a Crawl-delay begins another group. For the standard it doesn't, since a delay is another record,
-/// which has no effect on groups. Without a warning that a delay splits a group, such as `delay-splits-group`, each
-/// crawler's rules are the same for both.
+/// A user-agent line after a Crawl-delay begins another group. For the standard it doesn't, since a delay is
+/// another record, which has no effect on groups. Without a warning that a delay splits a group, such as
+/// `delay-splits-group`, each crawler's rules are the same for both.
 pub fn delays_change_no_rules()
     ensures { (file agent : List ℕ) (groups : List rfc.Group) → rfc.IsFile groups (take file_limit file)
         → AreGroupsWhole file → rfc.rules_for agent (rfc.merged groups) ≡ rfc.standard_rules agent groups }
