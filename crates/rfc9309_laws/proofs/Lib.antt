@@ -20,7 +20,6 @@ pub mod FileLemmas
 pub mod RobotLemmas
 pub mod MatchLemmas
 pub mod NormalLemmas
-pub mod SpellingLemmas
 pub mod VerdictLemmas
 pub mod ExampleLemmas
 pub mod LongestLemmas

@@ -5,12 +5,14 @@ use Rattle.std.specs.Char.{is_ascii_graphic}
 use Rattle.std.specs.List.{AllByRecursion as Each, Contains}
 use Rattle.std.specs.Prelude.{slice_index}
 use Rattle.std.proofs.lemmas.Bool.{eqb-false, false≢true, true≢false}
-use Rattle.texting_robots.specs.{Escape.escaped, Pattern.Matches, Pattern.MatchesWith, Rules.Rule, Trim.IsTrimOf}
+use Rattle.texting_robots.specs.{Escape.escaped, Pattern.Matches, Pattern.MatchesWith, Rules.Rule}
+use Rattle.texting_robots.specs.Trim.{IsTrimOf}
 use Rattle.texting_robots.proofs.TrimLemmas.{graphic_trim, trimmed_is_trim}
 use Rattle.rfc9309_laws.specs.Comparable.{AreComparable, HasTwin, IsFit, IsPlainPath}
 use Rattle.rfc9309_laws.specs.Examples as example
 use Rattle.rfc9309_laws.specs.Examples.{mixed_rules, page_rules, tsu}
-use Rattle.rfc9309_laws.specs.Matching.{IsDisallowed, IsMatch, Reading, all_stay, as_in_table, filled, has_dollar}
+use Rattle.rfc9309_laws.specs.Matching.{IsDisallowed, IsMatch, Reading, all_stay, as_in_table, filled}
+use Rattle.rfc9309_laws.specs.Matching.{has_dollar}
 use Rattle.rfc9309_laws.specs.Matching.{is_ended, normal_from, normal_path, normal_uri, octets, without_end}
 use Rattle.rfc9309_laws.specs.Rfc9309 as rfc
 use Rattle.rfc9309_laws.proofs.{ValueLemmas.visible_trim, VerdictLemmas.each_contains}
@@ -54,7 +56,8 @@ module _ (stays : Reading) (members : List rfc.Member) (uri : List ℕ) where
     where
       longer : (path : List ℕ) → Contains members (rfc.Disallow path) → path ≢ [] → 1 < octets stays path
       longer [] listed some = absurd (some refl)
-      longer (b ∷ path) listed some = each_contains (IsLong stays) members (rfc.Disallow (b ∷ path)) long listed
+      longer (b ∷ path) listed some =
+          each_contains (IsLong stays) members (rfc.Disallow (b ∷ path)) long listed
 
   denied : (b : ℕ) (path : List ℕ) → normal_uri stays uri ≢ normal_uri stays (codes "/robots.txt")
       → Contains members (rfc.Disallow (b ∷ path)) → IsMatch stays (b ∷ path) uri
@@ -76,7 +79,8 @@ module _ (stays : Reading) (members : List rfc.Member) (uri : List ℕ) where
       → IsDisallowed stays (octets stays) members uri → ⊥
   allowed path listed is below other =
       let more = other.most path listed is in
-      let less = each_contains (IsBelow stays (suc (octets stays path))) members (rfc.Disallow other.path) below
+      let less =
+      each_contains (IsBelow stays (suc (octets stays path))) members (rfc.Disallow other.path) below
       other.listed in
       omega arith
 
@@ -93,15 +97,17 @@ plain stays path normal dollar = record { normal = normal; ended = refl; dollar 
 
 pub longest : example.longest
 unfolding normal_from without_end is_ended filled
-longest = let long : 1 < 28 = omega arith in let shorter : 14 < 28 = omega arith in (
-  comparable as_in_table page_rules (codes "/example/page/disallowed.gif") refl refl
-      (trimmed 47 (codes "example/page/") refl refl, (trimmed 47 (codes "example/page/disallowed.gif") refl refl, tt))
-      (inl (plain as_in_table _ refl refl), (inl (plain as_in_table _ refl refl), tt))
-      (tt, (long, tt)),
-  denied as_in_table page_rules (codes "/example/page/disallowed.gif") 47 (codes "example/page/disallowed.gif")
-      (λ e. eqb-false 101 114 refl (ap (λ (l : List ℕ). slice_index l 1) e)) (1, omega arith, refl)
-      record { strings = []; rest = []; whole = refl; end = λ _. refl } ((λ _. shorter), (tt, tt)),
-)
+longest =
+    let long : 1 < 28 = omega arith in
+    let shorter : 14 < 28 = omega arith in
+    let path = codes "example/page/disallowed.gif" in (
+      comparable as_in_table page_rules (codes "/example/page/disallowed.gif") refl refl
+          (trimmed 47 (codes "example/page/") refl refl, (trimmed 47 path refl refl, tt))
+          (inl (plain as_in_table _ refl refl), (inl (plain as_in_table _ refl refl), tt)) (tt, (long, tt)),
+      denied as_in_table page_rules (codes "/example/page/disallowed.gif") 47 path
+          (λ e. eqb-false 101 114 refl (ap (λ (l : List ℕ). slice_index l 1) e)) (1, omega arith, refl)
+          record { strings = []; rest = []; whole = refl; end = λ _. refl } ((λ _. shorter), (tt, tt)),
+    )
 
 -- ---- rules that meet all conditions
 
@@ -133,31 +139,29 @@ mixed_fit = (
 
 pub mixed : example.mixed
 unfolding normal_from without_end is_ended filled
-mixed = let long : 1 < 16 = omega arith in let none : 0 < 19 = omega arith in let below : 16 < 19 = omega arith in (
-  (
-    comparable all_stay mixed_rules (codes "/%E3%83%84a.gif") refl refl mixed_trimmed mixed_fit
-        (tt, (long, (tt, (tt, tt)))),
-    denied all_stay mixed_rules (codes "/%E3%83%84a.gif") 47 (tsu ++ codes "*.gif$")
-        (λ e. eqb-false 37 114 refl (ap (λ (l : List ℕ). slice_index l 1) e)) (1, omega arith, refl)
-        record { strings = codes "a" ∷ []; rest = []; whole = refl; end = λ _. refl } (
-          tt,
-          (
-            tt,
-            (
-              (λ is. absurd (eqb-false 97 47 refl (ap (λ (l : List ℕ). slice_index l 10) is.whole))),
-              ((λ is. absurd (eqb-false 97 47 refl (ap (λ (l : List ℕ). slice_index l 10) is.whole))), tt),
-            ),
-          ),
-        ),
-  ),
-  (
-    comparable all_stay mixed_rules (codes "/%E3%83%84/b.gif") refl refl mixed_trimmed mixed_fit
-        (tt, (long, (tt, (tt, tt)))),
-    allowed all_stay mixed_rules (codes "/%E3%83%84/b.gif") (codes "/" ++ tsu ++ codes "/b*.gif$")
-        (3, omega arith, refl) record { strings = [] ∷ []; rest = []; whole = refl; end = λ _. refl }
-        (none, (below, (tt, (tt, tt)))),
-  ),
-)
+mixed =
+    let long : 1 < 16 = omega arith in
+    let none : 0 < 19 = omega arith in
+    let below : 16 < 19 = omega arith in (
+      (
+        comparable all_stay mixed_rules (codes "/%E3%83%84a.gif") refl refl mixed_trimmed mixed_fit
+            (tt, (long, (tt, (tt, tt)))),
+        denied all_stay mixed_rules (codes "/%E3%83%84a.gif") 47 (tsu ++ codes "*.gif$")
+            (λ e. eqb-false 37 114 refl (ap (λ (l : List ℕ). slice_index l 1) e)) (1, omega arith, refl)
+            record { strings = codes "a" ∷ []; rest = []; whole = refl; end = λ _. refl }
+            (tt, (tt, ((λ is. absurd (other_byte is.whole)), ((λ is. absurd (other_byte is.whole)), tt)))),
+      ),
+      (
+        comparable all_stay mixed_rules (codes "/%E3%83%84/b.gif") refl refl mixed_trimmed mixed_fit
+            (tt, (long, (tt, (tt, tt)))),
+        allowed all_stay mixed_rules (codes "/%E3%83%84/b.gif") (codes "/" ++ tsu ++ codes "/b*.gif$")
+            (3, omega arith, refl) record { strings = [] ∷ []; rest = []; whole = refl; end = λ _. refl }
+            (none, (below, (tt, (tt, tt)))),
+      ),
+    )
+  where
+    other_byte : {rest : List ℕ} → codes "/%E3%83%84a.gif" ≡ codes "/%E3%83%84/" ++ rest → ⊥
+    other_byte e = eqb-false 97 47 refl (ap (λ (l : List ℕ). slice_index l 10) e)
 
 of_two : {X : Type 0} (a b x : X) → Contains (a ∷ b ∷ []) x → (a ≡ x) ⊎ (b ≡ x)
 of_two a b x (zero, below, at) = inl at
@@ -181,7 +185,8 @@ unfolding normal_from without_end is_ended filled
 empty_disallow = (
   denied all_stay (rfc.Disallow [] ∷ rfc.Disallow (codes "/") ∷ []) (codes "/x") 47 []
       (λ e. eqb-false 120 114 refl (ap (λ (l : List ℕ). slice_index l 1) e)) (1, omega arith, refl)
-      record { strings = []; rest = codes "x"; whole = refl; end = λ e. absurd (false≢true e) } (tt, (tt, tt)),
+      record { strings = []; rest = codes "x"; whole = refl; end = λ e. absurd (false≢true e) }
+      (tt, (tt, tt)),
   λ (differs, p, has, matches, longest).
       elim (of_two {X = Rule} (codes "/", true) (codes "/", false) (p, false) has) [
         | inl e ↦ true≢false (kind_of (codes "/", true) (p, false) e)

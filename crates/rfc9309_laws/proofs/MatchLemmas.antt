@@ -99,43 +99,38 @@ nothing rest = tt
 
 module _ (stays : Reading) (path spelling uri : List ℕ) (same : normal_uri stays uri ≡ uri)
     (compared : IsComparedAs stays path spelling) where
-  matches_ended : is_ended spelling ≡ true → Matches (escaped spelling) uri ↔ IsMatch stays path uri
-  matches_ended ended =
+  -- the pattern is that of what comes before the end, and the end, which restricts what is left of the URI
+  by_end : (end : List ℕ) → spelling ≡ without_end spelling ++ end → escaped end ≡ end
+      → ((rest : List ℕ) → MatchesWith true end rest ↔ (is_ended path ≡ true → rest ≡ []))
+      → Matches (escaped spelling) uri ↔ IsMatch stays path uri
+  by_end end parted plain restricts =
+      let stem = escaped (without_end spelling) in
       let none = escaped_plain (without_end spelling) compared.dollar in
-      let parts : escaped spelling ≡ escaped (without_end spelling) ++ dollar ∷ [] =
-      ap escaped (ended_parts spelling ended) ∙ flat_map-append escape_byte (without_end spelling) (dollar ∷ []) in (
+      let parts : escaped spelling ≡ escaped (without_end spelling) ++ end =
+      ap escaped parted ∙ flat_map-append escape_byte (without_end spelling) end
+      ∙ ap (λ t. escaped (without_end spelling) ++ t) plain in (
         λ m.
-            let (strings, rest, e, n) =
-            to_filled (escaped (without_end spelling)) (dollar ∷ []) uri none (rw parts at m) in
+            let (strings, rest, e, n) = to_filled stem end uri none (rw parts at m) in
             record {
               strings = strings;
               rest = rest;
               whole = rw (same, compared.normal) e;
-              end = λ _. none_left rest n;
+              end = (restricts rest).0 n;
             },
         λ is.
-            rw parts (from_filled (escaped (without_end spelling)) (dollar ∷ []) uri is.strings is.rest none
-            (rw (same, compared.normal) at is.whole) (at_end is.rest (is.end (compared.ended ∙ ended)))),
-      )
-
-  matches_open : is_ended spelling ≡ false → Matches (escaped spelling) uri ↔ IsMatch stays path uri
-  matches_open is_open =
-      let none = escaped_plain (without_end spelling) compared.dollar in
-      let parts : escaped spelling ≡ escaped (without_end spelling) ++ [] =
-      ap escaped (open_parts spelling is_open) ∙ sym (append-nil (escaped (without_end spelling))) in (
-        λ m.
-            let (strings, rest, e, n) =
-            to_filled (escaped (without_end spelling)) [] uri none (rw parts at m) in
-            record {
-              strings = strings;
-              rest = rest;
-              whole = rw (same, compared.normal) e;
-              end = λ ended. absurd (both_ways (is_ended spelling) is_open (sym compared.ended ∙ ended));
-            },
-        λ is.
-            rw parts (from_filled (escaped (without_end spelling)) [] uri is.strings is.rest none
-            (rw (same, compared.normal) at is.whole) (nothing is.rest)),
+            rw parts (from_filled stem end uri is.strings is.rest none (rw (same, compared.normal) at is.whole)
+            ((restricts is.rest).1 is.end)),
       )
 
   pub matches_so : Matches (escaped spelling) uri ↔ IsMatch stays path uri
-  matches_so = elim (cases_Bool (is_ended spelling)) [ inl ended ↦ matches_ended ended | inr is_open ↦ matches_open is_open ]
+  matches_so = elim (cases_Bool (is_ended spelling)) [
+    | inl ended ↦ by_end (dollar ∷ []) (ended_parts spelling ended) refl (λ rest. (
+      λ m _. none_left rest m,
+      λ gone. at_end rest (gone (compared.ended ∙ ended)),
+    ))
+    | inr is_open ↦
+        by_end [] (open_parts spelling is_open ∙ sym (append-nil (without_end spelling))) refl (λ rest. (
+          λ _ ended. absurd (both_ways (is_ended spelling) is_open (sym compared.ended ∙ ended)),
+          λ _. nothing rest,
+        ))
+  ]

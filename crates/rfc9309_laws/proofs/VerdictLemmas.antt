@@ -65,11 +65,13 @@ pub octets_are : (stays : Reading) (path spelling : List ℕ) → IsComparedAs s
 octets_are stays path spelling is = elim (cases_Bool (is_ended spelling)) [
   | inl ended ↦
       let parts : escaped spelling ≡ escaped (without_end spelling) ++ dollar ∷ [] =
-      ap escaped (ended_parts spelling ended) ∙ flat_map-append escape_byte (without_end spelling) (dollar ∷ []) in
+      ap escaped (ended_parts spelling ended)
+      ∙ flat_map-append escape_byte (without_end spelling) (dollar ∷ []) in
       rw (is.ended, ended, is.normal)
       (ap length parts ∙ length-append (escaped (without_end spelling)) (dollar ∷ []))
   | inr is_open ↦
-      let parts : escaped spelling ≡ escaped (without_end spelling) = ap escaped (open_parts spelling is_open) in
+      let parts : escaped spelling ≡ escaped (without_end spelling) =
+      ap escaped (open_parts spelling is_open) in
       rw (is.ended, is_open, is.normal) (let e = ap length parts in omega arith)
 ]
 
@@ -104,8 +106,8 @@ module _ (stays : Reading) (count : List ℕ → ℕ) (members : List rfc.Member
       → IsPlainPath stays path
   plain kind path matches (inl is) = is
   plain kind path matches (inr twin) =
-      absurd (both_ways (has_odd_escape path) (never_matches path uri (no_odd_escape stays uri are.normal) matches)
-      twin.odd)
+      absurd (both_ways (has_odd_escape path)
+      (never_matches path uri (no_odd_escape stays uri are.normal) matches) twin.odd)
 
   own : (path value : List ℕ) → IsPathOf members path → IsTrimOf value path → value ≡ path
   own path value listed trim =

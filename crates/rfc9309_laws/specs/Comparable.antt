@@ -10,8 +10,8 @@ use Rattle.texting_robots.specs.{Escape.escaped, Trim.IsTrimOf}
 
 -- ---- escapes
 
--- the text starts with an escape that isn't in normal form: one of its digits is lowercase, or it is that of an
--- unreserved octet
+-- the text starts with an escape that isn't in normal form: one of its digits is lowercase, or it is that of
+-- an unreserved octet
 abbrev pub begins_odd_escape : List ℕ → Bool
 begins_odd_escape text =
     let high = slice_index text 1 in
@@ -36,8 +36,8 @@ is_normal uri = list_all is_uri_octet uri && not (has_odd_escape uri)
 
 -- ---- rules
 
--- For the second path, this library compares what the standard compares for the first one: its normal form.
--- A dollar is only at the end.
+-- What this library compares for the spelling is what the standard compares for the path: the normal form of
+-- the path. A dollar is only at the end.
 pub record IsComparedAs (stays : Reading) (path spelling : List ℕ) : Type 0 where
   pub normal : normal_path stays path ≡ escaped (without_end spelling)
   pub ended : is_ended path ≡ is_ended spelling
@@ -47,8 +47,8 @@ pub record IsComparedAs (stays : Reading) (path spelling : List ℕ) : Type 0 wh
 abbrev pub IsPlainPath : Reading → List ℕ → Type 0
 IsPlainPath stays path = IsComparedAs stays path path
 
--- A rule's path that matches nothing here that is in normal form, since it has an odd escape; but another path of
--- the same kind of rule is compared in its place, such as `/b` for `/%62`.
+-- A path that matches no URI in normal form here, since it has an odd escape. But another rule of the same
+-- kind has a spelling of the path that is compared in its place, such as `/b` for `/%62`.
 pub record HasTwin (stays : Reading) (IsListed : List ℕ → Type 0) (path : List ℕ) : Type 0 where
   pub odd : has_odd_escape path ≡ true
   pub twin : List ℕ

@@ -41,9 +41,9 @@ pub record OnlyByStandard (stays : Reading) (path uri : List ℕ) : Type 0 where
   pub standard : IsMatch stays path uri
   pub here : ¬ Matches (escaped path) uri
 
--- a needless escape, and a lowercase one, in the rule and in the URI; octets that URIs don't contain; a star in
--- the URI, which isn't in normal form; a dollar inside, which is an octet like others for the standard, also
--- before a star and before the dollar at the end
+-- a needless escape, and a lowercase one, in the rule and in the URI; octets that URIs don't contain; a star
+-- in the URI, which isn't in normal form; a dollar inside, which is an octet like others for the standard,
+-- also before a star and before the dollar at the end
 abbrev pub differences : Type 0
 differences =
     OnlyByStandard all_stay (codes "/%62") (codes "/b")

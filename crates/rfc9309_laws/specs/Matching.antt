@@ -27,24 +27,24 @@ percent_encoded b = byte "%" ∷ digit_glyph true (b / 16 % 16) ∷ digit_glyph 
 
 -- ---- readings
 
--- Which reserved octets stay as they are, given whether they come after the first `?`. RFC 9309 (section 2.2.2)
--- requires that octets "in the reserved range" are percent-encoded, but by its own table some stay, and it
--- doesn't state which. So a reading is a parameter here.
+-- Which reserved octets stay as they are, given whether they come after the first `?`. RFC 9309 (section
+-- 2.2.2) requires that octets "in the reserved range" are percent-encoded, but by its own table some stay,
+-- and it doesn't state which. So a reading is a parameter here.
 abbrev pub Reading : Type 0
 Reading = Bool → ℕ → Bool
 
--- All reserved octets stay, since a delimiter and its escape differ by RFC 3986. This is against what RFC 9309
--- requires, and against one row of its table: there `:` and its escape are the same.
+-- All reserved octets stay, since a delimiter and its escape differ by RFC 3986. This is against what RFC
+-- 9309 requires, and against one row of its table: there `:` and its escape are the same.
 abbrev pub all_stay : Reading
 all_stay in_query b = true
 
--- As in the table of RFC 9309: after the first `?` a colon and a slash are percent-encoded. The query of a rule
--- begins at its first `?`, even if a star before it matches a `?`.
+-- As in the table of RFC 9309: after the first `?` a colon and a slash are percent-encoded. The query of a
+-- rule begins at its first `?`, even if a star before it matches a `?`.
 abbrev pub as_in_table : Reading
 as_in_table in_query b = not (in_query && is_one_of (codes ":/") b)
 
--- A star and a dollar of a rule stay if they are special; those of a URI never do, so that a rule matches them
--- by `%2A` and `%24`, as in the table of section 2.2.3. Here a delimiter and its escape don't differ.
+-- A star and a dollar of a rule stay if they are special; those of a URI never do, so that a rule matches
+-- them by `%2A` and `%24`, as in the table of section 2.2.3. Here a delimiter and its escape don't differ.
 -- Neither does `#` stay in a URI, since it isn't part of a path or a query.
 abbrev pub in_rule : Reading → Reading
 in_rule stays in_query b = b == byte "*" || (not (b == byte "$") && stays in_query b)
@@ -59,17 +59,18 @@ abbrev pub is_kept : Reading → Bool → ℕ → Bool
 is_kept stays in_query b =
     nat_lt b 128 && (is_unreserved b || (b == byte "%" || (is_reserved b && stays in_query b)))
 
--- An octet that isn't part of an escape. By the letter of section 2.2.2 only non-ASCII octets and reserved ones
--- are percent-encoded. Here all others are, too, that no URI contains by RFC 3986: controls, the space, and
--- `" < > \ ^ { | }` and a backquote. About a `%` without two hexadecimal digits the standard says nothing.
+-- An octet that isn't part of an escape. By the letter of section 2.2.2 only non-ASCII octets and reserved
+-- ones are percent-encoded. Here all others are, too, that no URI contains by RFC 3986: controls, the space,
+-- and `" < > \ ^ { | }` and a backquote. About a `%` without two hexadecimal digits the standard says
+-- nothing.
 abbrev pub normal_octet : Reading → Bool → ℕ → List ℕ
 normal_octet stays in_query b = if is_kept stays in_query b then b ∷ [] else percent_encoded b
 
 abbrev pub is_escape : ℕ → ℕ → ℕ → Bool
 is_escape b high low = b == byte "%" && (is_ascii_hexdigit high && is_ascii_hexdigit low)
 
--- An escape: unencoded if it is that of an unreserved octet. The standard requires this of URIs. That it holds
--- of rules follows only from the last row of its table, whose encoded path keeps the escapes.
+-- An escape: unencoded if it is that of an unreserved octet. The standard requires this of URIs. That it
+-- holds of rules follows only from the last row of its table, whose encoded path keeps the escapes.
 abbrev pub normal_escape : ℕ → ℕ → List ℕ
 normal_escape high low =
     let b = digit_value high * 16 + digit_value low in
@@ -121,8 +122,8 @@ later_of [] = []
 later_of (string ∷ strings) = strings
 
 -- The path with the first of these strings in place of its first star, the second in place of the second, and
--- so on, and nothing in place of further stars. A star "designates 0 or more instances of any character": here
--- of any octets of the normal form, even a part of an escape, so `/*4` matches `/%24`.
+-- so on, and nothing in place of further stars. A star "designates 0 or more instances of any character":
+-- here of any octets of the normal form, even a part of an escape, so `/*4` matches `/%24`.
 unfoldable pub filled : List ℕ → List (List ℕ) → List ℕ
 filled [] strings = []
 filled (b ∷ path) strings =
@@ -138,15 +139,16 @@ pub record IsMatch (stays : Reading) (path uri : List ℕ) : Type 0 where
 
 -- ---- verdicts
 
--- How many octets a rule has. By the standard, the match with the most octets is used; it doesn't say which are
--- counted. Here they are those of the rule's path in normal form, stars and a final `$` included.
+-- How many octets a rule has. By the standard, the match with the most octets is used; it doesn't say which
+-- are counted. Here they are those of the rule's path in normal form, stars and a final `$` included.
 abbrev pub octets : Reading → List ℕ → ℕ
 octets stays path = length (normal_path stays path) + (if is_ended path then 1 else 0)
 
 -- Access is disallowed: a matching Disallow has more octets than every matching Allow.
 -- - `other`: the URI isn't `/robots.txt`, without a query, which is implicitly allowed;
 -- - `some`: an empty Disallow disallows nothing, as usual, though the standard doesn't say so;
--- - `most`: an Allow is used if it is equivalent to the Disallow, which here means that it has as many octets.
+-- - `most`: an Allow is used if it is equivalent to the Disallow, which here means that it has as many
+--   octets.
 pub record IsDisallowed (stays : Reading) (count : List ℕ → ℕ) (members : List rfc.Member) (uri : List ℕ)
     : Type 0 where
   pub other : normal_uri stays uri ≢ normal_uri stays (codes "/robots.txt")

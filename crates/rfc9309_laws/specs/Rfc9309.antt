@@ -388,10 +388,10 @@ rules_for agent groups = filter is_rule (flat_map (λ group. group.members) (gro
 
 -- ---- the same, with delays skipped
 
--- A Crawl-delay is another record for the standard: "Crawlers MAY interpret other records that are not part of
--- the robots.txt protocol", but "parsing of other records MUST NOT interfere with the parsing of explicitly
--- defined records" (section 2.2.4, from memory). So a delay between two lines with product tokens doesn't
--- separate their groups.
+-- A Crawl-delay is another record for the standard: "Crawlers MAY interpret other records that are not part
+-- of the robots.txt protocol", but "parsing of other records MUST NOT interfere with the parsing of
+-- explicitly defined records" (section 2.2.4, from memory). So a delay between two lines with product tokens
+-- doesn't separate their groups.
 abbrev pub without_delays : List Group → List Group
 without_delays groups =
     map (λ group. record { tokens = group.tokens; members = filter is_rule group.members }) groups

@@ -1,4 +1,4 @@
-use Rattle.rfc9309_laws.proofs.SpellingLemmas.{normal_uris}
+use Rattle.rfc9309_laws.proofs.NormalLemmas.{normal_uris}
 use Rattle.rfc9309_laws.proofs.verdict.normal_uris_are_those.Goals as goal
 
 pub returns : goal.returns
