@@ -79,13 +79,16 @@ def shown(document):
     return "".join(line[4:] + "\n" for line in document.splitlines() if line.startswith("    "))
 
 
+TOPICS = {"": "Syntax", "‡": "Verdict", "†": "Meaning"}  # by their marks
+
+
 def documented_warnings():
     """Each warning's name, level, topic and message, in the order of docs/PROGRAMS.md. One of the messages has KEY in place of a field
     name."""
     for row in tables(DOCUMENTS["docs/PROGRAMS.md"]):
-        level = row[1].removesuffix(" †")
+        level, _, mark = row[1].partition(" ")
         if len(row) == 4 and level in ("error", "warning", "note"):
-            yield row[0].strip("`"), level, "Syntax" if level == row[1] else "Meaning", row[3]
+            yield row[0].strip("`"), level, TOPICS[mark], row[3]
 
 
 # the levels and messages of each warning by its name
@@ -95,7 +98,7 @@ for name, level, _, text in documented_warnings():
 
 
 FORMATS = re.findall(r'"(\w+)"', re.search(r"const NAMES: [^=]*= &\[(.*?)\];", (CRATES / "audit_core/src/request.rt").read_text(), re.S)[1])
-OF_A_URL = {"not-a-url-or-path", "invalid-url"}
+OF_A_URL = {"not-a-url-or-path", "invalid-url", "url-not-normal"}
 OF_A_CRAWLER = {"empty-agent", "space-around-agent", "version-in-agent", "googlebot-group", "google-ignores-star"}
 OF_RULES = {"replaces-star"}
 OF_A_LINE = {"allowed-and-disallowed", "empty-disallow"}
@@ -103,7 +106,7 @@ NEEDLESS = ["never", "nothing", "allowed", "covered"]  # in the order of the mes
 
 
 def level_and_text(name, detail=""):
-    """The documented level and message of a warning. Its detail is the field name that may be meant; the level, if the name has two; how
+    """The documented level and message of a warning. Its detail is the field name that may be meant; the level of one before the last; how
     many rules it is about; the line of another rule; the kind of a needless rule, possibly with such a line; the name of one of several
     crawlers, in quotes; or else the URL that the warning is about."""
     if name == "needless-rule":

@@ -264,8 +264,9 @@ def test_each_warning_has_an_example():
 
 def test_warnings_are_those_of_the_table():
     table = (CRATES / "robots_warnings/src/table.rt").read_text()
-    rows = re.findall(r'\(Cause::\w+, Level::(\w+), Topic::(\w+), "([a-z0-9-]+)",\s+"((?:[^"\\]|\\.)*)"\)', table)
-    stated = [(name, level.lower(), topic, text.replace('\\"', '"').replace("\\\\", "\\")) for level, topic, name, text in rows]
+    rows = re.findall(r'\(Cause::(\w+), Level::(\w+), Topic::(\w+), "([a-z0-9-]+)"\)', table)
+    messages = dict(re.findall(r'\(Cause::(\w+),\n +"((?:[^"\\]|\\.)*)"\)', table))
+    stated = [(name, level.lower(), topic, messages[cause].replace('\\"', '"').replace("\\\\", "\\")) for cause, level, topic, name in rows]
     names = ["User-agent", "Allow", "Disallow", "Sitemap", "Crawl-delay"]
     documented = [(*row, text.replace("KEY", key)) for *row, text in documented_warnings() for key in (names if "KEY" in text else [""])]
     assert stated == documented

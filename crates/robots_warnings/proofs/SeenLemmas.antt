@@ -11,10 +11,11 @@ use Rattle.texting_robots.specs.declared.labels.LabeledLine.{LabeledLine}
 use Rattle.texting_robots.specs.Callers.{Allow, Disallow, Label, LineValue}
 use Rattle.texting_robots.specs.Callers.{by_value, label_by_value, file_lines}
 use Rattle.robots_warnings.specs.File.{lines_of}
+use Rattle.robots_warnings.specs.declared.spellings.Spelling.{Spelling}
 use Rattle.robots_warnings.specs.Spellings.{is_agent_line, is_escape, is_unpaired_at, is_unpaired_line}
-use Rattle.robots_warnings.specs.Spellings.{standard_escape, standard_spelling}
+use Rattle.robots_warnings.specs.Spellings.{spelled, spelled_escape}
 use Rattle.robots_warnings.specs.Internal.Names.{Key, AddsLine, HasNames, IsFoundUpto, past_limit_from}
-use Rattle.robots_warnings.specs.Internal.Values.{has_odd_line, has_odd_value}
+use Rattle.robots_warnings.specs.Internal.Values.{has_other_line, has_other_value}
 use Rattle.robots_warnings.proofs.{NameLemmas.either, StepLemmas.picked}
 use Rattle.std.specs.HashSet as hash
 use Rattle.robots_warnings.specs.declared.repeated.Seen.{Seen}
@@ -24,31 +25,31 @@ use Rattle.robots_warnings.specs.Repeated.{above_next, is_checked, repeated_from
 use Rattle.std.proofs.Math.Seq.{take-append_seam}
 use Rattle.robots_warnings.specs.NamesPastLimit.{is_past_limit}
 
--- ---- the standard spelling
+-- ---- spellings
 
-pub next_escape : (text : List ℕ) → 2 < length text
+pub next_escape : (spelling : Spelling) (text : List ℕ) → 2 < length text
     → is_escape (slice_index text 0) (slice_index text 1) (slice_index text 2) ≡ true
-    → standard_spelling text
-    ≡ standard_escape (slice_index text 1) (slice_index text 2) ++ standard_spelling (drop 3 text)
-unfolding standard_spelling
-next_escape [] long is = absurd (omega arith)
-next_escape (b ∷ []) long is = absurd (omega arith)
-next_escape (b ∷ high ∷ []) long is = absurd (omega arith)
-next_escape (b ∷ high ∷ low ∷ text) long is = rw is refl
+    → spelled spelling text
+    ≡ spelled_escape spelling (slice_index text 1) (slice_index text 2) ++ spelled spelling (drop 3 text)
+unfolding spelled
+next_escape spelling [] long is = absurd (omega arith)
+next_escape spelling (b ∷ []) long is = absurd (omega arith)
+next_escape spelling (b ∷ high ∷ []) long is = absurd (omega arith)
+next_escape spelling (b ∷ high ∷ low ∷ text) long is = rw is refl
 
-pub next_byte : (text : List ℕ) → 0 < length text
+pub next_byte : (spelling : Spelling) (text : List ℕ) → 0 < length text
     → is_escape (slice_index text 0) (slice_index text 1) (slice_index text 2) ≡ false
-    → standard_spelling text ≡ slice_index text 0 ∷ standard_spelling (drop 1 text)
-unfolding standard_spelling
-next_byte [] long isnt = absurd (omega arith)
-next_byte (b ∷ []) long isnt = refl
-next_byte (b ∷ high ∷ []) long isnt = refl
-next_byte (b ∷ high ∷ low ∷ text) long isnt = rw isnt refl
+    → spelled spelling text ≡ slice_index text 0 ∷ spelled spelling (drop 1 text)
+unfolding spelled
+next_byte spelling [] long isnt = absurd (omega arith)
+next_byte spelling (b ∷ []) long isnt = refl
+next_byte spelling (b ∷ high ∷ []) long isnt = refl
+next_byte spelling (b ∷ high ∷ low ∷ text) long isnt = rw isnt refl
 
-pub no_bytes : (text : List ℕ) → length text ≡ 0 → standard_spelling text ≡ []
-unfolding standard_spelling
-no_bytes [] none = refl
-no_bytes (b ∷ text) none = absurd (omega arith)
+pub no_bytes : (spelling : Spelling) (text : List ℕ) → length text ≡ 0 → spelled spelling text ≡ []
+unfolding spelled
+no_bytes spelling [] none = refl
+no_bytes spelling (b ∷ text) none = absurd (omega arith)
 
 -- ---- sets of values
 
@@ -66,36 +67,37 @@ pub and_false : (a b : Bool) → b ≡ false → (a && b) ≡ false
 and_false true b is = is
 and_false false b is = refl
 
-plain_is_paired : (group : List LineValue) (line : LineValue) → has_odd_value line ≡ false
-    → is_unpaired_line group line ≡ false
-plain_is_paired group (Allow value) is = rw is refl
-plain_is_paired group (Disallow value) is = rw is refl
-plain_is_paired group line is = refl
+plain_is_paired : (spelling : Spelling) (group : List LineValue) (line : LineValue)
+    → has_other_value spelling line ≡ false → is_unpaired_line spelling group line ≡ false
+plain_is_paired spelling group (Allow value) is = rw is refl
+plain_is_paired spelling group (Disallow value) is = rw is refl
+plain_is_paired spelling group line is = refl
 
--- without nonstandard escapes there is no such rule
-pub none_unpaired : (everywhere : Bool) (group : List LineValue) (labels : List LabeledLine)
-    → list_any (λ labeled. has_odd_line (label_by_value labeled)) labels ≡ false
-    → filter (is_unpaired_at everywhere group) (map label_by_value labels) ≡ []
-none_unpaired everywhere group [] none = refl
-none_unpaired everywhere group (labeled ∷ labels) none =
+-- without escapes that call for the spelling there is no such rule
+pub none_unpaired : (spelling : Spelling) (everywhere : Bool) (group : List LineValue)
+    (labels : List LabeledLine)
+    → list_any (λ labeled. has_other_line spelling (label_by_value labeled)) labels ≡ false
+    → filter (is_unpaired_at spelling everywhere group) (map label_by_value labels) ≡ []
+none_unpaired spelling everywhere group [] none = refl
+none_unpaired spelling everywhere group (labeled ∷ labels) none =
     let (here, later) = or_parts _ _ none in
-    rw (and_false _ _ (plain_is_paired group (by_value labeled.line) here))
-    (none_unpaired everywhere group labels later)
+    rw (and_false _ _ (plain_is_paired spelling group (by_value labeled.line) here))
+    (none_unpaired spelling everywhere group labels later)
 
 -- the numbers of such rules from index `at` on, in terms of the line there
-pub unpaired_from : (everywhere : Bool) (lines : List LineValue) (group : List LabeledLine) (at : ℕ)
-    (labeled : LabeledLine) → at < length group
-    → map (λ (label : Label). label.number) (filter (is_unpaired_at everywhere lines)
+pub unpaired_from : (spelling : Spelling) (everywhere : Bool) (lines : List LineValue)
+    (group : List LabeledLine) (at : ℕ) (labeled : LabeledLine) → at < length group
+    → map (λ (label : Label). label.number) (filter (is_unpaired_at spelling everywhere lines)
     (map label_by_value (drop at group)))
-    ≡ (if is_unpaired_at everywhere lines (label_by_value (slice_index_or group at labeled))
+    ≡ (if is_unpaired_at spelling everywhere lines (label_by_value (slice_index_or group at labeled))
     then (slice_index_or group at labeled).number ∷ [] else [])
-    ++ map (λ (label : Label). label.number) (filter (is_unpaired_at everywhere lines)
+    ++ map (λ (label : Label). label.number) (filter (is_unpaired_at spelling everywhere lines)
     (map label_by_value (drop (at + 1) group)))
-unpaired_from everywhere lines group at labeled below =
+unpaired_from spelling everywhere lines group at labeled below =
     let item = label_by_value (slice_index_or group at labeled) in
     rw (drop_more group at labeled below)
-    (picked (λ (label : Label). label.number) (is_unpaired_at everywhere lines item) item
-    (filter (is_unpaired_at everywhere lines) (map label_by_value (drop (at + 1) group))))
+    (picked (λ (label : Label). label.number) (is_unpaired_at spelling everywhere lines item) item
+    (filter (is_unpaired_at spelling everywhere lines) (map label_by_value (drop (at + 1) group))))
 
 -- ---- groups
 

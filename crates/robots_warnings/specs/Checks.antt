@@ -15,8 +15,9 @@ use Rattle.robots_warnings.specs.Contents.{is_cut_short, is_cut_to_root, tail_of
 use Rattle.robots_warnings.specs.FieldNames.{begins_inner_field, is_misspelled, is_without_colon, meant_by}
 use Rattle.robots_warnings.specs.Positions.{is_above_agents, is_empty_group, is_other_delay, is_split}
 use Rattle.robots_warnings.specs.Positions.{name_star}
-use Rattle.robots_warnings.specs.Rules.{before_byte, begins_dot_segment, has, has_dollar_inside}
-use Rattle.robots_warnings.specs.Rules.{has_odd_start, holds_otherwise, is_expression, is_quoted, somewhere}
+use Rattle.robots_warnings.specs.Rules.{before_byte, begins_dot_segment, begins_wildcard, has, has_dollar_inside}
+use Rattle.robots_warnings.specs.Rules.{has_more_after_dollar, has_odd_character, has_odd_start, holds_otherwise, is_expression, is_quoted, somewhere}
+use Rattle.robots_warnings.specs.Targets.{has_odd_target}
 use Rattle.robots_warnings.specs.Tokens.{has_space_around, is_product_token, is_usual_name}
 use Rattle.robots_warnings.specs.Urls.{begins_as_url, is_absolute_url, is_invalid_url}
 use Rattle.robots_warnings.specs.{File.is_blank, SeveralValues.has_several_values}
@@ -50,6 +51,7 @@ abbrev pub url_checks : List ℕ → List Check
 url_checks url =
     (cause.NotAUrlOrPath, not (starts_with nat_eq url (codes "/") || begins_as_url url))
     ∷ (cause.InvalidUrl, is_invalid_url url)
+    ∷ (cause.UrlNotNormal, has_odd_target url)
     ∷ []
 
 -- the field name in the content of a directive
@@ -81,10 +83,13 @@ rule_checks value =
     (cause.RuleNotUtf8, not (is_utf8 value))
     ∷ (cause.MissingSlash, has_odd_start value)
     ∷ (cause.UrlAsRule, begins_as_url value)
+    ∷ (cause.OddCharacter, has_odd_character value && not (holds_otherwise value || is_quoted value))
     ∷ (cause.UnencodedCharacter, holds_otherwise value)
     ∷ (cause.QuotedRule, is_quoted value)
     ∷ (cause.RegexSyntax, is_expression value)
+    ∷ (cause.StarAfterDollar, has_more_after_dollar value)
     ∷ (cause.DollarNotAtEnd, has_dollar_inside value)
+    ∷ (cause.EscapedWildcard, somewhere begins_wildcard value)
     ∷ (cause.DotSegment, somewhere begins_dot_segment (before_byte (byte "?") value))
     ∷ (cause.SeveralValues, is_utf8 value && has_several_values value)
     ∷ []

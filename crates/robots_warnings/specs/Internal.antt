@@ -30,11 +30,11 @@ name_value row = (row.0.now, row.1)
 
 -- a row of the table of warnings
 abbrev pub Row : Type 0
-Row = Cause × Level × Topic × Bor (List ℕ) × Bor (List ℕ)
+Row = Cause × Level × Topic × Bor (List ℕ)
 
--- a row of the table of examples
-abbrev pub Example : Type 0
-Example = Cause × Bor (List ℕ)
+-- a row of the table of messages, or of examples
+abbrev pub Text : Type 0
+Text = Cause × Bor (List ℕ)
 
 -- the item is at this index
 pub record IsAt {X : Type 0} (items : List X) (number : ℕ) (item : X) : Type 0 where

@@ -8,6 +8,7 @@ pub mod Rules
 pub mod SeveralValues
 pub mod Positions
 pub mod Contents
+pub mod Targets
 pub mod Checks
 pub mod Conflicts
 pub mod EmptyDisallows

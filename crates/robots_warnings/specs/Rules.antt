@@ -25,6 +25,10 @@ abbrev pub somewhere : (List ℕ → Bool) → List ℕ → Bool
 somewhere test [] = false
 somewhere test (b ∷ text) = test (b ∷ text) || somewhere test text
 
+-- the text contains one of these bytes
+abbrev pub has_any : List ℕ → List ℕ → Bool
+has_any bytes text = list_any (λ b. has b bytes) text
+
 -- ---- the start of a rule
 
 -- the value isn't empty and doesn't start with a slash or a star
@@ -39,8 +43,16 @@ begins_oddly (b ∷ value) = not (b == byte "/" || b == byte "*")
 -- starts at the first `?`, although a star may match a `?` before it
 abbrev pub holds_otherwise : List ℕ → Bool
 holds_otherwise value =
-    list_any (λ b. has b (codes "\t\\^{}")) (before_byte (byte "?") value)
-    || list_any (λ b. has b (codes "\t'`")) (after_byte (byte "?") value)
+    has_any (codes "\t\\^{}") (before_byte (byte "?") value)
+    || has_any (codes "\t'`") (after_byte (byte "?") value)
+
+-- the value contains a byte that crawlers encode differently. Some bytes are only that where a query may be:
+-- after the first `?`, or after the first star, which may match a `?`
+abbrev pub has_odd_character : List ℕ → Bool
+has_odd_character value =
+    has_any (codes "|\"<>`") value
+    || (has_any (codes "\\^{}'") (after_byte (byte "?") value)
+    || has_any (codes "\\^{}'") (after_byte (byte "*") value))
 
 -- ---- quotes
 
@@ -86,11 +98,20 @@ abbrev pub has_dollar_inside : List ℕ → Bool
 has_dollar_inside value =
     list_any (λ b. not (b == byte "*" || b == byte "$")) (after_byte (byte "$") value)
 
+-- only stars or `$`, and at least one of them, come after the first `$`
+abbrev pub has_more_after_dollar : List ℕ → Bool
+has_more_after_dollar value =
+    nat_lt 0 (length (after_byte (byte "$") value)) && not (has_dollar_inside value)
+
 -- ---- escapes
 
 -- a byte that needs no escape anywhere in a URL
 abbrev pub needs_no_escape : ℕ → Bool
 needs_no_escape b = is_ascii_alphanumeric b || has b (codes "-._~")
+
+-- a reserved character of RFC 3986 that isn't special in a rule, and that a path or a query may have
+abbrev pub is_delimiter : ℕ → Bool
+is_delimiter b = has b (codes ":/?[]@!&'()+,;=")
 
 -- the text starts with a percent escape one of whose digits is lowercase, or which means a byte that needs no
 -- escape
@@ -101,6 +122,20 @@ begins_odd_escape text =
     (slice_index text 0 == byte "%" && (is_ascii_hexdigit high && is_ascii_hexdigit low))
     && ((is_ascii_lowercase high || is_ascii_lowercase low)
     || needs_no_escape (digit_value high * 16 + digit_value low))
+
+-- the text starts with the percent escape of a star or a dollar
+abbrev pub begins_wildcard : List ℕ → Bool
+begins_wildcard text =
+    starts_with nat_eq text (codes "%2A")
+    || (starts_with nat_eq text (codes "%2a") || starts_with nat_eq text (codes "%24"))
+
+-- the text starts with the percent escape of a delimiter
+abbrev pub begins_delimiter : List ℕ → Bool
+begins_delimiter text =
+    let high = slice_index text 1 in
+    let low = slice_index text 2 in
+    (slice_index text 0 == byte "%" && (is_ascii_hexdigit high && is_ascii_hexdigit low))
+    && is_delimiter (digit_value high * 16 + digit_value low)
 
 -- ---- dot segments
 

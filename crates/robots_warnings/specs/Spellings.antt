@@ -1,34 +1,47 @@
--- Rules with a nonstandard percent escape, for which the group has no rule in the standard spelling.
+-- Rules with a percent escape that a spelling doesn't have, for which the group has no rule in that spelling.
 use Rattle.std.specs.Prelude.{ℕ, ◌+◌, ◌*◌, ◌==◌, Bool, true, false, not, ◌&&◌, List, [], ◌∷◌, ◌++◌, bytes_eq}
 use Rattle.std.specs.Prelude.{filter, flat_map, if◌then◌else◌, map}
 use Rattle.std.specs.Char.{digit_value, is_ascii_hexdigit, to_ascii_uppercase}
 use Rattle.std.specs.{List.list_any, List.slice_split, Str.byte}
 use Rattle.texting_robots.specs.Callers.{Allow, Disallow, LineValue, Label}
 use Rattle.texting_robots.specs.Group.{is_agent}
-use Rattle.robots_warnings.specs.Rules.{begins_odd_escape, needs_no_escape, somewhere}
+use Rattle.robots_warnings.specs.declared.spellings.Spelling.{Spelling}
+use Rattle.robots_warnings.specs.declared.spellings.Spelling.TheVariants.{Plain, Standard}
+use Rattle.robots_warnings.specs.Rules.{begins_delimiter, begins_odd_escape, is_delimiter, needs_no_escape}
+use Rattle.robots_warnings.specs.Rules.{somewhere}
 use Rattle.robots_warnings.specs.{Checks.is_in_scope_of, File.lines_of}
 
--- ---- the standard spelling
+-- ---- spellings
 
 -- these bytes begin a percent escape
 abbrev pub is_escape : ℕ → ℕ → ℕ → Bool
 is_escape first high low = first == byte "%" && (is_ascii_hexdigit high && is_ascii_hexdigit low)
 
--- the escape with these digits: the byte that they mean if it needs no escape, else with uppercase digits
-abbrev pub standard_escape : ℕ → ℕ → List ℕ
-standard_escape high low =
+-- the standard spelling doesn't escape bytes that need no escape, the plain one delimiters
+abbrev pub is_unescaped : Spelling → ℕ → Bool
+is_unescaped Standard b = needs_no_escape b
+is_unescaped Plain b = is_delimiter b
+
+-- the escape with these digits: the byte that they mean if it isn't escaped, else with uppercase digits
+abbrev pub spelled_escape : Spelling → ℕ → ℕ → List ℕ
+spelled_escape spelling high low =
     let b = digit_value high * 16 + digit_value low in
-    if needs_no_escape b then b ∷ []
+    if is_unescaped spelling b then b ∷ []
     else byte "%" ∷ to_ascii_uppercase high ∷ to_ascii_uppercase low ∷ []
 
--- the value with each escape in its standard spelling
-unfoldable pub standard_spelling : List ℕ → List ℕ
-standard_spelling [] = []
-standard_spelling (b ∷ []) = b ∷ []
-standard_spelling (b ∷ c ∷ []) = b ∷ c ∷ []
-standard_spelling (b ∷ high ∷ low ∷ value) =
-    if is_escape b high low then standard_escape high low ++ standard_spelling value
-    else b ∷ standard_spelling (high ∷ low ∷ value)
+-- the value with each escape in this spelling
+unfoldable pub spelled : Spelling → List ℕ → List ℕ
+spelled spelling [] = []
+spelled spelling (b ∷ []) = b ∷ []
+spelled spelling (b ∷ c ∷ []) = b ∷ c ∷ []
+spelled spelling (b ∷ high ∷ low ∷ value) =
+    if is_escape b high low then spelled_escape spelling high low ++ spelled spelling value
+    else b ∷ spelled spelling (high ∷ low ∷ value)
+
+-- the value has an escape that calls for this spelling: a nonstandard one, or that of a delimiter
+abbrev pub has_other_escape : Spelling → List ℕ → Bool
+has_other_escape Standard value = somewhere begins_odd_escape value
+has_other_escape Plain value = somewhere begins_delimiter value
 
 -- ---- a group
 
@@ -38,27 +51,28 @@ is_rule_with is_allow value (Allow other) = is_allow && bytes_eq other value
 is_rule_with is_allow value (Disallow other) = not is_allow && bytes_eq other value
 is_rule_with is_allow value _ = false
 
--- the value has a nonstandard escape, and the group has no rule of this kind in the standard spelling
-abbrev pub is_unpaired : List LineValue → Bool → List ℕ → Bool
-is_unpaired group is_allow value =
-    somewhere begins_odd_escape value
-    && not (list_any (is_rule_with is_allow (standard_spelling value)) group)
+-- the value has such an escape, and the group has no rule of this kind in the spelling
+abbrev pub is_unpaired : Spelling → List LineValue → Bool → List ℕ → Bool
+is_unpaired spelling group is_allow value =
+    has_other_escape spelling value
+    && not (list_any (is_rule_with is_allow (spelled spelling value)) group)
 
 -- the line is such a rule
-abbrev pub is_unpaired_line : List LineValue → LineValue → Bool
-is_unpaired_line group (Allow value) = is_unpaired group true value
-is_unpaired_line group (Disallow value) = is_unpaired group false value
-is_unpaired_line group _ = false
+abbrev pub is_unpaired_line : Spelling → List LineValue → LineValue → Bool
+is_unpaired_line spelling group (Allow value) = is_unpaired spelling group true value
+is_unpaired_line spelling group (Disallow value) = is_unpaired spelling group false value
+is_unpaired_line spelling group _ = false
 
 -- and it is checked
-abbrev pub is_unpaired_at : Bool → List LineValue → Label → Bool
-is_unpaired_at everywhere group label =
-    is_in_scope_of everywhere label.membership && is_unpaired_line group label.line
+abbrev pub is_unpaired_at : Spelling → Bool → List LineValue → Label → Bool
+is_unpaired_at spelling everywhere group label =
+    is_in_scope_of everywhere label.membership && is_unpaired_line spelling group label.line
 
 -- the numbers of such lines of a group
-abbrev pub unpaired_in : Bool → List Label → List ℕ
-unpaired_in everywhere group =
-    map (λ (label : Label). label.number) (filter (is_unpaired_at everywhere (lines_of group)) group)
+abbrev pub unpaired_in : Spelling → Bool → List Label → List ℕ
+unpaired_in spelling everywhere group =
+    map (λ (label : Label). label.number)
+    (filter (is_unpaired_at spelling everywhere (lines_of group)) group)
 
 -- ---- a file
 
@@ -66,5 +80,6 @@ abbrev pub is_agent_line : Label → Bool
 is_agent_line label = is_agent label.line
 
 -- the numbers of such lines in a file, whose groups are what is between user-agent lines
-abbrev pub nonstandard_escapes : Bool → List Label → List ℕ
-nonstandard_escapes everywhere labels = flat_map (unpaired_in everywhere) (slice_split is_agent_line labels)
+abbrev pub unpaired : Spelling → Bool → List Label → List ℕ
+unpaired spelling everywhere labels =
+    flat_map (unpaired_in spelling everywhere) (slice_split is_agent_line labels)

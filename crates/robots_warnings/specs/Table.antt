@@ -5,9 +5,9 @@ use denote.Enum.Declared.{tag_of}
 use Rattle.robots_warnings.specs.contracts.table.Cause.{the_type}
 use Rattle.printable_text.specs.declared.level.Level.{Level}
 use Rattle.printable_text.specs.declared.level.Level.TheVariants as level
-use Rattle.robots_warnings.specs.declared.table.TheConstants.{EXAMPLES, WARNINGS}
+use Rattle.robots_warnings.specs.declared.table.TheConstants.{EXAMPLES, MESSAGES, WARNINGS}
 use Rattle.robots_warnings.specs.declared.table.{Cause.Cause, Topic.Topic}
-use Rattle.robots_warnings.specs.declared.table.Topic.TheVariants.{Meaning, Syntax, Verdict}
+use Rattle.robots_warnings.specs.declared.table.Topic.TheVariants.{Meaning, Syntax}
 
 -- the index of a warning in the table
 abbrev pub number_of : Cause → ℕ
@@ -28,7 +28,7 @@ abbrev pub all_names : List (List ℕ)
 all_names = map (λ row. row.3.now) WARNINGS
 
 abbrev pub all_texts : List (List ℕ)
-all_texts = map (λ row. row.4.now) WARNINGS
+all_texts = map (λ row. row.1.now) MESSAGES
 
 abbrev pub all_examples : List (List ℕ)
 all_examples = map (λ row. row.1.now) EXAMPLES

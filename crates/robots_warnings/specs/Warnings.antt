@@ -7,7 +7,8 @@ use Rattle.robots_warnings.specs.declared.positions.Preceding.{Preceding}
 use Rattle.robots_warnings.specs.declared.positions.Preceding.TheVariants.{Other}
 use Rattle.robots_warnings.specs.declared.table.Cause.{Cause}
 use Rattle.robots_warnings.specs.declared.table.Cause.TheVariants.{AllowedAndDisallowed, ClosesEverything}
-use Rattle.robots_warnings.specs.declared.table.Cause.TheVariants.{EmptyDisallow, GoogleIgnoresStar}
+use Rattle.robots_warnings.specs.declared.table.Cause.TheVariants.{EmptyDisallow, EscapedDelimiter}
+use Rattle.robots_warnings.specs.declared.table.Cause.TheVariants.{GoogleIgnoresStar}
 use Rattle.robots_warnings.specs.declared.table.Cause.TheVariants.{GooglebotGroup, GroupPastSizeLimit}
 use Rattle.robots_warnings.specs.declared.table.Cause.TheVariants.{NonstandardEscape, RepeatedRule}
 use Rattle.robots_warnings.specs.declared.table.Cause.TheVariants.{ReplacesStar}
@@ -22,7 +23,8 @@ use Rattle.robots_warnings.specs.Replaced.{replacing, star_count}
 use Rattle.robots_warnings.specs.{Closed.is_closed, Conflicts.conflict, Conflicts.overruled}
 use Rattle.robots_warnings.specs.{EmptyDisallows.is_empty_at, Facts.suppresses_line_warnings, File.lines_of}
 use Rattle.robots_warnings.specs.{NamesPastLimit.names_past_limit, Repeated.repeated}
-use Rattle.robots_warnings.specs.{Spellings.nonstandard_escapes, WarningValue.WarningValue}
+use Rattle.robots_warnings.specs.declared.spellings.Spelling.TheVariants.{Plain, Standard}
+use Rattle.robots_warnings.specs.{Spellings.unpaired, WarningValue.WarningValue}
 
 -- ---- warnings from checks
 
@@ -133,11 +135,12 @@ google_warnings everywhere agents lines =
 abbrev pub group_warnings : Bool → List (List ℕ) → (bodies : List (List ℕ)) → List LineValue → List Label
     → List WarningValue
 group_warnings everywhere agents bodies lines labels =
-    warned_at NonstandardEscape None (nonstandard_escapes everywhere labels)
+    warned_at NonstandardEscape None (unpaired Standard everywhere labels)
+    ++ (warned_at EscapedDelimiter None (unpaired Plain everywhere labels)
     ++ (crawler_warnings (is_empty_at bodies labels) agents lines labels
     ++ (warned_at ReplacesStar (Some (Rules (star_count lines))) (replacing agents lines labels)
     ++ (warned_at RepeatedRule None (repeated everywhere labels)
-    ++ google_warnings everywhere agents lines)))
+    ++ google_warnings everywhere agents lines))))
 
 -- ---- all
 

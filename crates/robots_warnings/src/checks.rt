@@ -10,11 +10,13 @@ use crate::facts::FileFacts;
 use crate::field_names::{begins_inner_field, is_misspelled};
 use crate::positions::{Preceding, is_empty_group, is_other_delay, is_split, name_star};
 use crate::rules::{
-    before_byte, begins_dot_segment, begins_oddly, has, has_dollar_inside, holds_otherwise,
-    is_expression, is_quoted, is_utf8, somewhere,
+    before_byte, begins_dot_segment, begins_wildcard, has, has_dollar_inside,
+    has_more_after_dollar, has_odd_start, holds_otherwise, is_expression, is_only_odd, is_quoted,
+    is_utf8, somewhere,
 };
 use crate::several_values::has_several_values;
 use crate::table::Cause;
+use crate::targets::has_odd_target;
 use crate::tokens::{has_space_around, is_product_token, is_usual_name};
 use crate::urls::{begins_as_url, is_absolute_url, is_invalid_url};
 use std::alloc::{AllocError, Global};
@@ -55,13 +57,14 @@ pub(crate) fn agent_checks(agent: &str) -> [Check; 3]
 }
 
 /// Checks of a URL that the user passed.
-pub(crate) fn url_checks(alloc: Global, url: &str) -> Result<[Check; 2], AllocError>
+pub(crate) fn url_checks(alloc: Global, url: &str) -> Result<[Check; 3], AllocError>
     ensures { IfOk result (λ checks. checks ≡ url_checks url.now) }
 {
     let begins = url.starts_with("/") || begins_as_url(url.as_bytes());
     Ok([
         (Cause::NotAUrlOrPath, !begins),
         (Cause::InvalidUrl, is_invalid_url(alloc, url)?),
+        (Cause::UrlNotNormal, has_odd_target(alloc, url)?),
     ])
 }
 
@@ -119,24 +122,22 @@ pub(crate) fn is_in_scope_of(everywhere: bool, membership: Membership) -> bool
 }
 
 /// Checks of the value of an Allow or a Disallow.
-pub(crate) fn rule_checks(value: &[u8]) -> [Check; 9]
+pub(crate) fn rule_checks(value: &[u8]) -> [Check; 12]
     ensures { result ≡ rule_checks value.now }
 {
     let is_utf8 = is_utf8(value);
-    let is_url = begins_as_url(value);
-    let is_quoted = is_quoted(value);
     let has_dots = somewhere(before_byte(b'?', value), begins_dot_segment);
     [
         (Cause::RuleNotUtf8, !is_utf8),
-        (
-            Cause::MissingSlash,
-            begins_oddly(value) && !(is_url || is_quoted),
-        ),
-        (Cause::UrlAsRule, is_url),
+        (Cause::MissingSlash, has_odd_start(value)),
+        (Cause::UrlAsRule, begins_as_url(value)),
+        (Cause::OddCharacter, is_only_odd(value)),
         (Cause::UnencodedCharacter, holds_otherwise(value)),
-        (Cause::QuotedRule, is_quoted),
+        (Cause::QuotedRule, is_quoted(value)),
         (Cause::RegexSyntax, is_expression(value)),
+        (Cause::StarAfterDollar, has_more_after_dollar(value)),
         (Cause::DollarNotAtEnd, has_dollar_inside(value)),
+        (Cause::EscapedWildcard, somewhere(value, begins_wildcard)),
         (Cause::DotSegment, has_dots),
         (Cause::SeveralValues, is_utf8 && has_several_values(value)),
     ]

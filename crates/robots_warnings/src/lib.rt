@@ -21,6 +21,7 @@ pub mod rules;
 pub mod several_values;
 mod spellings;
 pub mod table;
+pub mod targets;
 pub mod tokens;
 pub mod urls;
 mod values;

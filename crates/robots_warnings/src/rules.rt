@@ -1,12 +1,13 @@
 //! Conditions on the value of an Allow or a Disallow line.
-ghost use Rattle.std.specs.Prelude.{◌≡◌, ◌<◌, ◌≤◌, ◌==◌, ℕ, Bool, List, false, length, true};
+ghost use Rattle.std.specs.Prelude.{◌≡◌, ◌<◌, ◌≤◌, ◌==◌, ◌&&◌, ◌||◌, ℕ, Bool, List, false, length, not, true};
 ghost use Rattle.std.specs.Char.{digit_value, is_ascii_hexdigit};
 ghost use Rattle.std.specs.{Fn.FnReturnsAt, List.list_any, List.position_or_len, Str.is_utf8};
-ghost use Rattle.robots_warnings.specs.Rules.{after_byte, before_byte, begins_dot_segment, begins_odd_escape};
-ghost use Rattle.robots_warnings.specs.Rules.{begins_oddly, begins_sign, has, has_dollar_inside};
-ghost use Rattle.robots_warnings.specs.Rules.{holds_otherwise, is_expression, is_quoted, needs_no_escape};
+ghost use Rattle.robots_warnings.specs.Rules.{after_byte, before_byte, begins_delimiter, begins_dot_segment, begins_odd_escape};
+ghost use Rattle.robots_warnings.specs.Rules.{begins_oddly, begins_sign, begins_wildcard, has, has_any, has_dollar_inside};
+ghost use Rattle.robots_warnings.specs.Rules.{has_more_after_dollar, has_odd_character, has_odd_start, holds_otherwise, is_delimiter, is_expression, is_quoted, needs_no_escape};
 ghost use Rattle.robots_warnings.specs.Rules.{somewhere};
 
+use crate::urls::begins_as_url;
 use memchr::memchr;
 
 /// Whether the text contains the byte.
@@ -78,7 +79,7 @@ pub(crate) fn begins_oddly(value: &[u8]) -> bool
 
 /// Whether the text contains one of these bytes.
 fn has_any(bytes: &[u8], text: &[u8]) -> bool
-    ensures { result ≡ list_any (λ b. has b bytes.now) text.now }
+    ensures { result ≡ has_any bytes.now text.now }
 {
     text.iter().any(|byte| has(*byte, bytes))
 }
@@ -90,11 +91,28 @@ pub(crate) fn holds_otherwise(value: &[u8]) -> bool
     has_any(b"\t\\^{}", before_byte(b'?', value)) || has_any(b"\t'`", after_byte(b'?', value))
 }
 
+/// Whether the value contains a byte that crawlers encode differently. Some bytes are only that after the first `?` or
+/// star.
+pub(crate) fn has_odd_character(value: &[u8]) -> bool
+    ensures { result ≡ has_odd_character value.now }
+{
+    has_any(b"|\"<>`", value)
+        || has_any(b"\\^{}'", after_byte(b'?', value))
+        || has_any(b"\\^{}'", after_byte(b'*', value))
+}
+
 /// Whether the value is in single or double quotes.
 pub(crate) fn is_quoted(value: &[u8]) -> bool
     ensures { result ≡ is_quoted value.now }
 {
     matches!(value, [b'"', .., b'"'] | [b'\'', .., b'\''])
+}
+
+/// Whether the value starts otherwise than a rule does, and isn't an absolute URL or in quotes.
+pub(crate) fn has_odd_start(value: &[u8]) -> bool
+    ensures { result ≡ has_odd_start value.now }
+{
+    begins_oddly(value) && !(begins_as_url(value) || is_quoted(value))
 }
 
 /// Whether the text starts with a range, such as `[0-9]`, with `.*` after a slash or `(` or before `$`, or with a
@@ -121,6 +139,13 @@ pub(crate) fn is_expression(value: &[u8]) -> bool
         || value.ends_with(b")+")
 }
 
+/// Whether the value contains such a byte, is not in quotes, and has no byte that a parsed URL contains in another form.
+pub(crate) fn is_only_odd(value: &[u8]) -> bool
+    ensures { result ≡ (has_odd_character value.now && not (holds_otherwise value.now || is_quoted value.now)) }
+{
+    has_odd_character(value) && !(holds_otherwise(value) || is_quoted(value))
+}
+
 /// Whether a byte other than a star or `$` occurs after the first `$` of the value.
 pub(crate) fn has_dollar_inside(value: &[u8]) -> bool
     ensures { result ≡ has_dollar_inside value.now }
@@ -130,11 +155,25 @@ pub(crate) fn has_dollar_inside(value: &[u8]) -> bool
         .any(|byte| !(*byte == b'*' || *byte == b'$'))
 }
 
+/// Whether only stars or `$`, and at least one of them, come after the first `$` of the value.
+pub(crate) fn has_more_after_dollar(value: &[u8]) -> bool
+    ensures { result ≡ has_more_after_dollar value.now }
+{
+    !after_byte(b'$', value).is_empty() && !has_dollar_inside(value)
+}
+
 /// Whether a byte needs no escape anywhere in a URL.
 pub(crate) fn needs_no_escape(byte: u8) -> bool
     ensures { result ≡ needs_no_escape byte }
 {
     byte.is_ascii_alphanumeric() || has(byte, b"-._~")
+}
+
+/// Whether a byte is a reserved character of RFC 3986 that isn't special in a rule, and that a path or a query may have.
+pub(crate) fn is_delimiter(byte: u8) -> bool
+    ensures { result ≡ is_delimiter byte }
+{
+    has(byte, b":/?[]@!&'()+,;=")
 }
 
 /// The value of a hexadecimal digit.
@@ -160,6 +199,25 @@ pub(crate) fn begins_odd_escape(text: &[u8]) -> bool
             high.is_ascii_lowercase()
                 || low.is_ascii_lowercase()
                 || needs_no_escape(hex_value(*high) * 16 + hex_value(*low))
+        }
+        _ => false,
+    }
+}
+
+/// Whether the text starts with the percent escape of a star or a dollar.
+pub(crate) fn begins_wildcard(text: &[u8]) -> bool
+    ensures { result ≡ begins_wildcard text.now }
+{
+    text.starts_with(b"%2A") || text.starts_with(b"%2a") || text.starts_with(b"%24")
+}
+
+/// Whether the text starts with the percent escape of a delimiter.
+pub(crate) fn begins_delimiter(text: &[u8]) -> bool
+    ensures { result ≡ begins_delimiter text.now }
+{
+    match text {
+        [b'%', high, low, ..] if high.is_ascii_hexdigit() && low.is_ascii_hexdigit() => {
+            is_delimiter(hex_value(*high) * 16 + hex_value(*low))
         }
         _ => false,
     }

@@ -1,21 +1,52 @@
-//! Rules with a nonstandard percent escape, for which the group has no rule in the standard spelling.
+//! Rules with a percent escape that a spelling doesn't have, for which the group has no rule in that spelling.
 ghost use Rattle.std.specs.Prelude.{◌≡◌, ◌<◌, ◌++◌, ◌&&◌, Bool, List, IfOk, OnOk, length, map, slice_index, true};
 ghost use Rattle.std.specs.Char.{is_ascii_hexdigit};
 ghost use Rattle.std.specs.List.{list_any, slice_split};
 ghost use Rattle.texting_robots.specs.Callers.{LineValue, label_by_value};
 ghost use Rattle.robots_warnings.specs.File.{lines_of};
-ghost use Rattle.robots_warnings.specs.Internal.Values.{HasSeen, HasValues, has_odd_line};
-ghost use Rattle.robots_warnings.specs.Spellings.{is_agent_line, is_escape, is_rule_with, is_unpaired, is_unpaired_at, nonstandard_escapes};
-ghost use Rattle.robots_warnings.specs.Spellings.{standard_escape, standard_spelling, unpaired_in};
+ghost use Rattle.robots_warnings.specs.Internal.Values.{HasSeen, HasValues, has_other_line};
+ghost use Rattle.robots_warnings.specs.Spellings.{has_other_escape, is_agent_line, is_escape, is_rule_with, is_unescaped};
+ghost use Rattle.robots_warnings.specs.Spellings.{is_unpaired, is_unpaired_at, spelled, spelled_escape, unpaired, unpaired_in};
 
 use crate::checks::is_in_scope_of;
 use crate::numbers::push_if;
 use crate::repeated::{Seen, add_rule, nothing};
-use crate::rules::{begins_odd_escape, hex_value, needs_no_escape, somewhere};
+use crate::rules::{
+    begins_delimiter, begins_odd_escape, hex_value, is_delimiter, needs_no_escape, somewhere,
+};
 use crate::values::{Value, Values};
 use std::alloc::{AllocError, Global};
 use texting_robots::labels::LabeledLine;
 use texting_robots::parser::Line;
+
+/// How bytes are written in a rule.
+#[derive(Clone, Copy)]
+pub enum Spelling {
+    /// As RFC 9309 compares them: only bytes that need no escape have none.
+    Standard,
+    /// Delimiters have no escape.
+    Plain,
+}
+
+/// Whether the byte has no escape in this spelling.
+fn is_unescaped(spelling: Spelling, byte: u8) -> bool
+    ensures { result ≡ is_unescaped spelling byte }
+{
+    match spelling {
+        Spelling::Standard => needs_no_escape(byte),
+        Spelling::Plain => is_delimiter(byte),
+    }
+}
+
+/// Whether the value has an escape that calls for this spelling: a nonstandard one, or that of a delimiter.
+fn has_other_escape(spelling: Spelling, value: &[u8]) -> bool
+    ensures { result ≡ has_other_escape spelling value.now }
+{
+    match spelling {
+        Spelling::Standard => somewhere(value, begins_odd_escape),
+        Spelling::Plain => somewhere(value, begins_delimiter),
+    }
+}
 
 /// Whether the text starts with a percent escape.
 fn begins_escape(text: &[u8]) -> bool
@@ -30,14 +61,14 @@ fn begins_escape(text: &[u8]) -> bool
     }
 }
 
-/// Appends the escape with these digits in its standard spelling.
-fn push_standard_escape(text: &mut Vec<u8>, high: u8, low: u8) -> Result<(), AllocError>
+/// Appends the escape with these digits in this spelling.
+fn push_escape(text: &mut Vec<u8>, spelling: Spelling, high: u8, low: u8) -> Result<(), AllocError>
     requires high { is_ascii_hexdigit high ≡ true }
     requires low { is_ascii_hexdigit low ≡ true }
-    ensures { OnOk result (text.new.items ≡ text.old.items ++ standard_escape high low) }
+    ensures { OnOk result (text.new.items ≡ text.old.items ++ spelled_escape spelling high low) }
 {
     let byte = hex_value(high) * 16 + hex_value(low);
-    if needs_no_escape(byte) {
+    if is_unescaped(spelling, byte) {
         text.push(byte)?;
         return Ok(());
     }
@@ -47,15 +78,15 @@ fn push_standard_escape(text: &mut Vec<u8>, high: u8, low: u8) -> Result<(), All
     Ok(())
 }
 
-/// The value with each percent escape in its standard spelling.
-fn standard_spelling(alloc: Global, value: &[u8]) -> Result<Vec<u8>, AllocError>
-    ensures { IfOk result (λ text. text.items ≡ standard_spelling value.now) }
+/// The value with each percent escape in this spelling.
+fn spelled(alloc: Global, spelling: Spelling, value: &[u8]) -> Result<Vec<u8>, AllocError>
+    ensures { IfOk result (λ text. text.items ≡ spelled spelling value.now) }
 {
     let mut text = Vec::new(alloc);
     let mut rest = value;
     while let [first, next @ ..] = rest {
         if begins_escape(rest) {
-            push_standard_escape(&mut text, rest[1], rest[2])?;
+            push_escape(&mut text, spelling, rest[1], rest[2])?;
             rest = &rest[3..];
         } else {
             text.push(*first)?;
@@ -85,72 +116,80 @@ fn has_value(values: &Values<'_>, bytes: &[u8]) -> bool
     values.contains(&Value { bytes })
 }
 
-/// Whether the value has a nonstandard escape, and its standard spelling isn't one of these values.
-fn is_unpaired(alloc: Global, values: &Values<'_>, value: &[u8]) -> Result<bool, AllocError>
+/// Whether the value has such an escape, and in this spelling it isn't one of these values.
+fn is_unpaired(
+    alloc: Global,
+    spelling: Spelling,
+    values: &Values<'_>,
+    value: &[u8],
+) -> Result<bool, AllocError>
     ensures { IfOk result (λ is. (is_allow : Bool) (lines : List LineValue) → HasValues values.now is_allow lines
-        → is ≡ is_unpaired lines is_allow value.now) }
+        → is ≡ is_unpaired spelling lines is_allow value.now) }
 {
-    if !somewhere(value, begins_odd_escape) {
+    if !has_other_escape(spelling, value) {
         return Ok(false);
     }
-    let spelling = standard_spelling(alloc, value)?;
-    Ok(!has_value(values, &spelling))
+    let other = spelled(alloc, spelling, value)?;
+    Ok(!has_value(values, &other))
 }
 
-/// Whether the line is a rule that is checked and has a nonstandard escape, and none of these rules has its standard
-/// spelling.
+/// Whether the line is a rule that is checked and has such an escape, and in this spelling it is none of these rules.
 fn is_unpaired_at(
     alloc: Global,
+    spelling: Spelling,
     everywhere: bool,
     seen: &Seen<'_>,
     labeled: &LabeledLine<'_>,
 ) -> Result<bool, AllocError>
     ensures { IfOk result (λ is. (lines : List LineValue) → HasSeen seen.now lines
-        → is ≡ is_unpaired_at everywhere lines (label_by_value labeled.now)) }
+        → is ≡ is_unpaired_at spelling everywhere lines (label_by_value labeled.now)) }
 {
     if !is_in_scope_of(everywhere, labeled.membership) {
         return Ok(false);
     }
     match labeled.line {
-        Line::Allow(value) => is_unpaired(alloc, &seen.allows, value),
-        Line::Disallow(value) => is_unpaired(alloc, &seen.disallows, value),
+        Line::Allow(value) => is_unpaired(alloc, spelling, &seen.allows, value),
+        Line::Disallow(value) => is_unpaired(alloc, spelling, &seen.disallows, value),
         _ => Ok(false),
     }
 }
 
-/// Whether the line is a rule with a nonstandard escape.
-fn has_odd_line(labeled: &LabeledLine<'_>) -> bool
-    ensures { result ≡ has_odd_line (label_by_value labeled.now) }
+/// Whether the line is a rule with such an escape.
+fn has_other_line(spelling: Spelling, labeled: &LabeledLine<'_>) -> bool
+    ensures { result ≡ has_other_line spelling (label_by_value labeled.now) }
 {
     match labeled.line {
-        Line::Allow(value) | Line::Disallow(value) => somewhere(value, begins_odd_escape),
+        Line::Allow(value) | Line::Disallow(value) => has_other_escape(spelling, value),
         _ => false,
     }
 }
 
 /// Whether one of the lines is such a rule.
-fn has_odd_lines(group: &[LabeledLine<'_>]) -> bool
-    ensures { result ≡ list_any (λ labeled. has_odd_line (label_by_value labeled)) group.now }
+fn has_other_lines(spelling: Spelling, group: &[LabeledLine<'_>]) -> bool
+    ensures { result ≡ list_any (λ labeled. has_other_line spelling (label_by_value labeled)) group.now }
 {
-    group.iter().any(has_odd_line)
+    group
+        .iter()
+        .any(|labeled| has_other_line(spelling, labeled))
 }
 
-/// Appends the numbers of the rules of a group that are checked, have a nonstandard escape, and whose standard spelling
-/// isn't a rule of their kind in the group.
+/// Appends the numbers of the rules of a group that are checked, have such an escape, and in this spelling are no rule of
+/// their kind in the group.
 fn add_unpaired(
     alloc: Global,
     found: &mut Vec<usize>,
+    spelling: Spelling,
     everywhere: bool,
     group: &[LabeledLine<'_>],
 ) -> Result<(), AllocError>
-    ensures { OnOk result (found.new.items ≡ found.old.items ++ unpaired_in everywhere (map label_by_value group.now)) }
+    ensures { OnOk result (found.new.items ≡ found.old.items ++ unpaired_in spelling everywhere (map label_by_value group.now)) }
 {
-    if !has_odd_lines(group) {
+    if !has_other_lines(spelling, group) {
         return Ok(());
     }
     let seen = seen_in(alloc, group)?;
     for labeled in group {
-        let is = is_unpaired_at(alloc, everywhere, &seen, labeled)?;
+        let is = is_unpaired_at(alloc, spelling, everywhere, &seen, labeled)?;
         push_if(found, is, labeled.number)?;
     }
     Ok(())
@@ -174,18 +213,19 @@ fn groups<'a, 'b>(
     labels.split(is_agent_line).collect(alloc)
 }
 
-/// The numbers of the rules that are checked, have a nonstandard escape, and whose standard spelling isn't a rule of
-/// their kind in their group.
-pub(crate) fn nonstandard_escapes(
+/// The numbers of the rules that are checked, have such an escape, and in this spelling are no rule of their kind in their
+/// group.
+pub(crate) fn unpaired(
     alloc: Global,
+    spelling: Spelling,
     everywhere: bool,
     labels: &[LabeledLine<'_>],
 ) -> Result<Vec<usize>, AllocError>
-    ensures { IfOk result (λ found. found.items ≡ nonstandard_escapes everywhere (map label_by_value labels.now)) }
+    ensures { IfOk result (λ found. found.items ≡ unpaired spelling everywhere (map label_by_value labels.now)) }
 {
     let mut found = Vec::new(alloc);
     for group in &groups(alloc, labels)? {
-        add_unpaired(alloc, &mut found, everywhere, group)?;
+        add_unpaired(alloc, &mut found, spelling, everywhere, group)?;
     }
     Ok(found)
 }

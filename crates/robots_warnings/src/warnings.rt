@@ -6,6 +6,7 @@ ghost use Rattle.robots_warnings.specs.Contents.{comment_of, tail_of};
 ghost use Rattle.robots_warnings.specs.EmptyDisallows.{is_empty_at};
 ghost use Rattle.robots_warnings.specs.Internal.{Adds};
 ghost use Rattle.robots_warnings.specs.Internal.Rules.{warnings_at};
+ghost use Rattle.robots_warnings.specs.Spellings.{unpaired};
 ghost use Rattle.robots_warnings.specs.Warnings.{agent_warnings, crawler_warnings, file_lines_warnings, general_warnings};
 ghost use Rattle.robots_warnings.specs.Warnings.{google_warning, google_warnings, group_warnings, line_warnings};
 ghost use Rattle.robots_warnings.specs.Warnings.{past_limit_warnings, position_warnings, url_warnings, warned, warned_at, warned_beside, warnings};
@@ -25,7 +26,7 @@ use crate::names_past_limit::names_past_limit;
 use crate::positions::{Preceding, first_delay, last_group, preceding_with, sole_name};
 use crate::repeated::repeated;
 use crate::replaced::{replacing, star_count};
-use crate::spellings::nonstandard_escapes;
+use crate::spellings::{Spelling, unpaired};
 use crate::table::Cause;
 use crate::warning::{Detail, Warning};
 use std::alloc::{AllocError, Global};
@@ -427,6 +428,22 @@ fn warn_of_google(
     )
 }
 
+/// Appends this warning about rules for which their group has no rule in this spelling.
+fn warn_of_spelling(
+    alloc: Global,
+    found: &mut Found<'_>,
+    cause: Cause,
+    spelling: Spelling,
+    everywhere: bool,
+    labels: &[LabeledLine<'_>],
+) -> Result<(), AllocError>
+    ensures { OnOk result (Adds found.old.items found.new.items
+        (warned_at cause None (unpaired spelling everywhere (map label_by_value labels.now)))) }
+{
+    let numbers = unpaired(alloc, spelling, everywhere, labels)?;
+    warn_at(found, cause, None, &numbers)
+}
+
 /// Appends the warnings about the rules of a group or of a crawler as a whole.
 fn warn_of_groups(
     alloc: Global,
@@ -440,8 +457,22 @@ fn warn_of_groups(
         (map label_by_value read.now.labels.now))) }
 {
     let (labels, site) = (read.labels, read.site);
-    let escapes = nonstandard_escapes(alloc, everywhere, labels)?;
-    warn_at(found, Cause::NonstandardEscape, None, &escapes)?;
+    warn_of_spelling(
+        alloc,
+        found,
+        Cause::NonstandardEscape,
+        Spelling::Standard,
+        everywhere,
+        labels,
+    )?;
+    warn_of_spelling(
+        alloc,
+        found,
+        Cause::EscapedDelimiter,
+        Spelling::Plain,
+        everywhere,
+        labels,
+    )?;
     warn_of_crawlers(alloc, found, agents, read)?;
     let replacing = replacing(alloc, site, agents, labels)?;
     let detail = Some(Detail::Rules(star_count(alloc, site)?));

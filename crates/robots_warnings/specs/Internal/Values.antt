@@ -5,7 +5,8 @@ use Rattle.std.specs.{HashSet.HashSet, List.list_any}
 use Rattle.texting_robots.specs.Callers.{LineValue, Allow, Disallow, Label}
 use Rattle.robots_warnings.specs.declared.values.Value.{Value}
 use Rattle.robots_warnings.specs.Repeated.{above_next, is_repeated, repeated, repeated_from}
-use Rattle.robots_warnings.specs.{Spellings.is_rule_with, Rules.begins_odd_escape, Rules.somewhere}
+use Rattle.robots_warnings.specs.declared.spellings.Spelling.{Spelling}
+use Rattle.robots_warnings.specs.Spellings.{has_other_escape, is_rule_with}
 use Rattle.robots_warnings.specs.declared.repeated.Seen.{Seen}
 
 abbrev pub value_eq : Value → Value → Bool
@@ -28,14 +29,14 @@ pub record AddsValue {S : Type 0} (old new : Values S) (value : List ℕ) (is : 
   pub each : (key : Value) → hash.contains value_eq new key
       ≡ (hash.contains value_eq old key || bytes_eq value key.bytes.now)
 
--- the line is a rule with a nonstandard escape
-abbrev pub has_odd_value : LineValue → Bool
-has_odd_value (Allow value) = somewhere begins_odd_escape value
-has_odd_value (Disallow value) = somewhere begins_odd_escape value
-has_odd_value _ = false
+-- the line is a rule with an escape that calls for the spelling
+abbrev pub has_other_value : Spelling → LineValue → Bool
+has_other_value spelling (Allow value) = has_other_escape spelling value
+has_other_value spelling (Disallow value) = has_other_escape spelling value
+has_other_value spelling _ = false
 
-abbrev pub has_odd_line : Label → Bool
-has_odd_line label = has_odd_value label.line
+abbrev pub has_other_line : Spelling → Label → Bool
+has_other_line spelling label = has_other_value spelling label.line
 
 -- the sets have exactly the values of the rules in these lines
 pub record HasSeen (seen : Seen) (above : List LineValue) : Type 0 where

@@ -1,7 +1,7 @@
 use Rattle.std.proofs.Common.{[]}
 use Rattle.robots_warnings.specs.Internal.{Row}
 use Rattle.printable_text.specs.declared.level.Level.TheVariants as level
-use Rattle.robots_warnings.specs.Table.{level_of, name_of, text_of, topic_of}
+use Rattle.robots_warnings.specs.Table.{level_of, name_of, topic_of}
 use Rattle.robots_warnings.specs.declared.table.Topic.TheVariants.{Syntax}
 use Rattle.robots_warnings.proofs.TableLemmas.{own_row, part_in}
 use Rattle.robots_warnings.proofs.table.Cause.row.Goals as goal
@@ -20,7 +20,3 @@ returns-clause-topic c = part_in (λ (row : Row). row.2) Syntax c.row_at.ensures
 pub returns-clause-name : goal.returns-clause-name
 unfolding name_of
 returns-clause-name c = part_in (λ (row : Row). row.3.now) [] c.row_at.ensures c.rows.ensures.names
-
-pub returns-clause-text : goal.returns-clause-text
-unfolding text_of
-returns-clause-text c = part_in (λ (row : Row). row.4.now) [] c.row_at.ensures c.rows.ensures.texts

@@ -1,10 +1,10 @@
 use Rattle.std.proofs.Common.{◌≡◌, ◌++◌, length}
-use Rattle.robots_warnings.specs.Spellings.{standard_spelling}
-use Rattle.robots_warnings.proofs.spellings.standard_spelling.Given as goal
+use Rattle.robots_warnings.specs.Spellings.{spelled}
+use Rattle.robots_warnings.proofs.spellings.spelled.Given as goal
 
 -- what is written and the spelling of the rest are the whole spelling
 abbrev pub invariant-loop-rest : goal.invariant-loop-rest
-invariant-loop-rest l = l.text.items ++ standard_spelling l.rest ≡ standard_spelling l.value
+invariant-loop-rest l = l.text.items ++ spelled l.spelling l.rest ≡ spelled l.spelling l.value
 
 abbrev pub decreases-loop-rest : goal.decreases-loop-rest
 decreases-loop-rest l = length l.rest
