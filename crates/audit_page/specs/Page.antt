@@ -382,21 +382,25 @@ sentence_safe Standard = refl
 sentence_safe StandardVerdicts = refl
 sentence_safe StandardWithoutWarnings = refl
 
--- what the warnings tell about the syntax of the file and about its verdicts, if it is known
+-- what the warnings tell about the syntax of the file, if it is known
 unfoldable pub syntax_entry : Syntax → Tree
 syntax_entry syntax =
-    (if is_standard syntax
+    if is_standard syntax
     then entry (fixed (codes "Syntax") refl) (text (fixed (sentence syntax) (sentence_safe syntax)))
-    else nothing)
-    ⊕ (if has_standard_verdicts syntax
-    then entry (fixed (codes "Verdicts") refl) (text (fixed VERDICTS_SENTENCE.now refl)) else nothing)
+    else nothing
+
+-- and about its verdicts
+unfoldable pub verdicts_entry : Syntax → Tree
+verdicts_entry syntax =
+    if has_standard_verdicts syntax
+    then entry (fixed (codes "Verdicts") refl) (text (fixed VERDICTS_SENTENCE.now refl)) else nothing
 
 -- the summary at the top
 unfoldable pub summary : Option (List ℕ) → AuditValue → Tree
 summary agent audit =
     tag (codes "dl") [] refl
     (crawler_entries agent audit.agents ⊕ sitemap_entry audit.labels ⊕ syntax_entry audit.syntax
-    ⊕ warning_entry (length audit.labels) audit.warnings)
+    ⊕ verdicts_entry audit.syntax ⊕ warning_entry (length audit.labels) audit.warnings)
 
 -- the verdicts, as a table of URLs, or of crawlers and URLs
 abbrev pub verdict_part : Option (List ℕ) → List (List ℕ) → List AgentValue → Tree

@@ -5,7 +5,7 @@ ghost use Rattle.std.specs.Prelude.{◌≡◌, ◌++◌, IfOk, OnOk, length, map
 ghost use Rattle.texting_robots.specs.Callers.{label_by_value};
 ghost use Rattle.html_writer.specs.Html.{document};
 ghost use Rattle.audit_core.specs.Request.{requested_by};
-ghost use Rattle.audit_page.specs.Page.{page, page_content, page_head, page_tree, summary, syntax_entry};
+ghost use Rattle.audit_page.specs.Page.{page, page_content, page_head, page_tree, summary, syntax_entry, verdicts_entry};
 ghost use Rattle.audit_page.specs.Tree.{written};
 
 mod by_line;
@@ -43,20 +43,28 @@ fn push_head(page: &mut Page, agent: Option<&str>) -> Result<(), AllocError>
     push_end(&mut page.out, "head")
 }
 
-/// Appends what the warnings tell about the syntax of the file and about its verdicts, if it is known.
+/// Appends what the warnings tell about the syntax of the file, if it is known.
 #[tactic(auto, using(crate::proofs::TreeLemmas::joined), unfolding(crate::specs::Page::syntax_entry))]
 fn push_syntax_entry(page: &mut Page, syntax: Syntax) -> Result<(), AllocError>
     ensures { OnOk result (page.new.out.items ≡ page.old.out.items ++ written (syntax_entry syntax)) }
 {
-    if syntax.is_standard() {
-        push_element(&mut page.out, "dt", b"Syntax")?;
-        push_element(&mut page.out, "dd", syntax.sentence().as_bytes())?;
+    if !syntax.is_standard() {
+        return Ok(());
     }
-    if syntax.has_standard_verdicts() {
-        push_element(&mut page.out, "dt", b"Verdicts")?;
-        push_element(&mut page.out, "dd", VERDICTS_SENTENCE.as_bytes())?;
+    push_element(&mut page.out, "dt", b"Syntax")?;
+    push_element(&mut page.out, "dd", syntax.sentence().as_bytes())
+}
+
+/// Appends what they tell about its verdicts.
+#[tactic(auto, using(crate::proofs::TreeLemmas::joined), unfolding(crate::specs::Page::verdicts_entry))]
+fn push_verdicts_entry(page: &mut Page, syntax: Syntax) -> Result<(), AllocError>
+    ensures { OnOk result (page.new.out.items ≡ page.old.out.items ++ written (verdicts_entry syntax)) }
+{
+    if !syntax.has_standard_verdicts() {
+        return Ok(());
     }
-    Ok(())
+    push_element(&mut page.out, "dt", b"Verdicts")?;
+    push_element(&mut page.out, "dd", VERDICTS_SENTENCE.as_bytes())
 }
 
 /// How many rows the table of lines has.
@@ -81,6 +89,7 @@ fn push_summary(
     push_crawler_entries(page, agent, &audit.agents)?;
     push_sitemap_entry(alloc, page, &audit.labels)?;
     push_syntax_entry(page, audit.syntax)?;
+    push_verdicts_entry(page, audit.syntax)?;
     push_warning_entry(alloc, page, row_count(&audit.labels), &audit.warnings)?;
     push_end(&mut page.out, "dl")
 }

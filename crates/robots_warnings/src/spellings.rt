@@ -48,7 +48,7 @@ fn push_standard_escape(text: &mut Vec<u8>, high: u8, low: u8) -> Result<(), All
 }
 
 /// The value with each percent escape in its standard spelling.
-fn standard_spelling(alloc: Global, value: &[u8]) -> Result<Vec<u8>, AllocError>
+pub fn standard_spelling(alloc: Global, value: &[u8]) -> Result<Vec<u8>, AllocError>
     ensures { IfOk result (λ text. text.items ≡ standard_spelling value.now) }
 {
     let mut text = Vec::new(alloc);
