@@ -24,7 +24,7 @@ use Rattle.audit_core.specs.Syntax.{is_standard, sentence}
 use Rattle.audit_core.specs.declared.syntax.{Syntax.Syntax, TheConstants.VERDICTS_SENTENCE}
 use Rattle.audit_core.specs.declared.syntax.Syntax.TheVariants.{Standard, StandardVerdicts, StandardWithoutWarnings}
 use Rattle.audit_core.specs.declared.syntax.Syntax.TheVariants.{Unstated}
-use Rattle.audit_page.specs.declared.page.style.TheConstants.{CRAWLERS, CSS, POLICY, REJECTED, SITEMAPS}
+use Rattle.audit_page.specs.declared.page.style.TheConstants.{CRAWLERS, CSS, POLICY, REJECTED, SITEMAPS, VERDICTS}
 use Rattle.audit_page.specs.Html.{html_of}
 use Rattle.audit_page.specs.Tree.{Field, Tree, Words, each, field, fixed, is_ascii, labelled, message}
 use Rattle.audit_page.specs.Tree.{nothing, opened, shown, style, tag, text, title, void, with, written, ◌⊕◌}
@@ -382,25 +382,21 @@ sentence_safe Standard = refl
 sentence_safe StandardVerdicts = refl
 sentence_safe StandardWithoutWarnings = refl
 
--- what the warnings tell about the syntax of the file, if it is known
+-- what the warnings tell about the syntax of the file and about its verdicts, if it is known
 unfoldable pub syntax_entry : Syntax → Tree
 syntax_entry syntax =
-    if is_standard syntax
+    (if is_standard syntax
     then entry (fixed (codes "Syntax") refl) (text (fixed (sentence syntax) (sentence_safe syntax)))
-    else nothing
-
--- and about its verdicts
-unfoldable pub verdicts_entry : Syntax → Tree
-verdicts_entry syntax =
-    if has_standard_verdicts syntax
-    then entry (fixed (codes "Verdicts") refl) (text (fixed VERDICTS_SENTENCE.now refl)) else nothing
+    else nothing)
+    ⊕ (if has_standard_verdicts syntax
+    then entry (fixed VERDICTS.now refl) (text (fixed VERDICTS_SENTENCE.now refl)) else nothing)
 
 -- the summary at the top
 unfoldable pub summary : Option (List ℕ) → AuditValue → Tree
 summary agent audit =
     tag (codes "dl") [] refl
     (crawler_entries agent audit.agents ⊕ sitemap_entry audit.labels ⊕ syntax_entry audit.syntax
-    ⊕ verdicts_entry audit.syntax ⊕ warning_entry (length audit.labels) audit.warnings)
+    ⊕ warning_entry (length audit.labels) audit.warnings)
 
 -- the verdicts, as a table of URLs, or of crawlers and URLs
 abbrev pub verdict_part : Option (List ℕ) → List (List ℕ) → List AgentValue → Tree

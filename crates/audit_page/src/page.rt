@@ -5,7 +5,7 @@ ghost use Rattle.std.specs.Prelude.{◌≡◌, ◌++◌, IfOk, OnOk, length, map
 ghost use Rattle.texting_robots.specs.Callers.{label_by_value};
 ghost use Rattle.html_writer.specs.Html.{document};
 ghost use Rattle.audit_core.specs.Request.{requested_by};
-ghost use Rattle.audit_page.specs.Page.{page, page_content, page_head, page_tree, summary, syntax_entry, verdicts_entry};
+ghost use Rattle.audit_page.specs.Page.{page, page_content, page_head, page_tree, summary, syntax_entry};
 ghost use Rattle.audit_page.specs.Tree.{written};
 
 mod by_line;
@@ -25,6 +25,7 @@ use html_writer::write::{push_doctype, push_element, push_end, push_start};
 use parts::{Page, push, push_start_with};
 use pieces::{head_start, page_heading, title};
 use std::alloc::{AllocError, Global};
+use style::VERDICTS;
 use texting_robots::labels::LabeledLine;
 use verdicts::{push_crawler_entries, push_verdict_part};
 use warnings::push_warning_entry;
@@ -43,28 +44,20 @@ fn push_head(page: &mut Page, agent: Option<&str>) -> Result<(), AllocError>
     push_end(&mut page.out, "head")
 }
 
-/// Appends what the warnings tell about the syntax of the file, if it is known.
+/// Appends what the warnings tell about the syntax of the file and about its verdicts, if it is known.
 #[tactic(auto, using(crate::proofs::TreeLemmas::joined), unfolding(crate::specs::Page::syntax_entry))]
 fn push_syntax_entry(page: &mut Page, syntax: Syntax) -> Result<(), AllocError>
     ensures { OnOk result (page.new.out.items ≡ page.old.out.items ++ written (syntax_entry syntax)) }
 {
-    if !syntax.is_standard() {
-        return Ok(());
+    if syntax.is_standard() {
+        push_element(&mut page.out, "dt", b"Syntax")?;
+        push_element(&mut page.out, "dd", syntax.sentence().as_bytes())?;
     }
-    push_element(&mut page.out, "dt", b"Syntax")?;
-    push_element(&mut page.out, "dd", syntax.sentence().as_bytes())
-}
-
-/// Appends what they tell about its verdicts.
-#[tactic(auto, using(crate::proofs::TreeLemmas::joined), unfolding(crate::specs::Page::verdicts_entry))]
-fn push_verdicts_entry(page: &mut Page, syntax: Syntax) -> Result<(), AllocError>
-    ensures { OnOk result (page.new.out.items ≡ page.old.out.items ++ written (verdicts_entry syntax)) }
-{
-    if !syntax.has_standard_verdicts() {
-        return Ok(());
+    if syntax.has_standard_verdicts() {
+        push_element(&mut page.out, "dt", VERDICTS.as_bytes())?;
+        push_element(&mut page.out, "dd", VERDICTS_SENTENCE.as_bytes())?;
     }
-    push_element(&mut page.out, "dt", b"Verdicts")?;
-    push_element(&mut page.out, "dd", VERDICTS_SENTENCE.as_bytes())
+    Ok(())
 }
 
 /// How many rows the table of lines has.
@@ -89,7 +82,6 @@ fn push_summary(
     push_crawler_entries(page, agent, &audit.agents)?;
     push_sitemap_entry(alloc, page, &audit.labels)?;
     push_syntax_entry(page, audit.syntax)?;
-    push_verdicts_entry(page, audit.syntax)?;
     push_warning_entry(alloc, page, row_count(&audit.labels), &audit.warnings)?;
     push_end(&mut page.out, "dl")
 }
