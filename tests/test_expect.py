@@ -97,6 +97,32 @@ EMPTY_DISALLOW = {
     "a byte order mark and a NUL": (b"\xef\xbb\xbfUser-agent: *\nDisallow: /\0Disallow:\0", b"allow Ferris /a", f"Ferris must be allowed /a, but {OTHERWISE} 2 denies it"),
 }
 
+NORMALLY = "by RFC 9309, which compares normal forms,"
+
+# rules, an expectation, and what is reported on it. Normal forms have only needed escapes, in uppercase, and only a `$` at the end of a rule is special.
+NORMAL_FORMS = {
+    "an escape that isn't needed": (b"Disallow: /b", b"allow Ferris /%62", f"Ferris must be allowed /%62, but {NORMALLY} line 2 denies it"),
+    "one in a rule": (b"Disallow: /foo/bar/%62%61%7A", b"allow Ferris /foo/bar/baz", f"Ferris must be allowed /foo/bar/baz, but {NORMALLY} line 2 denies it"),
+    "lowercase digits": (b"Disallow: /\xc3\xa9", b"allow Ferris /%c3%a9", f"Ferris must be allowed /%c3%a9, but {NORMALLY} line 2 denies it"),
+    "lowercase digits in a rule": (b"Disallow: /%c3%a9", b"allow Ferris https://e.com/\xc3\xa9", f"Ferris must be allowed https://e.com/é, but {NORMALLY} line 2 denies it"),
+    "uppercase digits": (b"Disallow: /\xc3\xa9", b"deny Ferris /%C3%A9", None),
+    "a bar in a rule": (b"Disallow: /a|b", b"allow Ferris /a%7Cb", f"Ferris must be allowed /a%7Cb, but {NORMALLY} line 2 denies it"),
+    "a bar in a URL": (b"Disallow: /a%7Cb", b"allow Ferris https://e.com/a|b", f"Ferris must be allowed https://e.com/a|b, but {NORMALLY} line 2 denies it"),
+    "braces in a query": (b"Disallow: /x?{s}", b"allow Ferris /x?%7Bs%7D", f"Ferris must be allowed /x?%7Bs%7D, but {NORMALLY} line 2 denies it"),
+    "a star after a dollar": (b"Disallow: /a$*", b"deny Ferris /a", f"Ferris must be denied /a, but {NORMALLY} no rule matches it"),
+    "two dollars": (b"Disallow: /a$$", b"allow Ferris /a$", f"Ferris must be allowed /a$, but {NORMALLY} line 2 denies it"),
+    "a dollar inside a rule": (b"Disallow: /*?$top=", b"allow Ferris /x?$top=1", f"Ferris must be allowed /x?$top=1, but {NORMALLY} line 2 denies it"),
+    "a dollar at the end": (b"Disallow: /a$", b"allow Ferris /a$", None),
+    "an escaped star": (b"Disallow: /a%2Ab", b"allow Ferris /a*b", f"Ferris must be allowed /a*b, but {NORMALLY} line 2 denies it"),
+    "a delimiter and its escape differ": (b"Disallow: /foo/bar?baz=https://foo.bar", b"allow Ferris /foo/bar?baz=https%3A%2F%2Ffoo.bar", None),
+    "a percent sign that begins no escape": (b"Disallow: /%", b"deny Ferris /%zz", None),
+    "denied here": (b"Disallow: /a|b\nAllow: /a%7Cb*", b"allow Ferris /a|b", "Ferris must be allowed /a|b, but line 2 denies it"),
+    "a longer Allow in normal form": (b"Disallow: /a|b\nAllow: /a%7Cb*", b"deny Ferris /a|b", f"Ferris must be denied /a|b, but {NORMALLY} line 3 allows it"),
+    "an empty Disallow, which is no rule": (b"Disallow: /%41\nDisallow:", b"allow Ferris /A", f"Ferris must be allowed /A, but {NORMALLY} line 2 denies it"),
+    "a rule of 4,096 bytes in normal form": (b"Disallow: /" + b"|" * 1_364 + b"/b$", b"allow Ferris /" + b"%7C" * 1_364 + b"/b", f"Ferris must be allowed /{'%7C' * 1_364}/b, but {NORMALLY} line 2 denies it"),
+    "a rule that is longer in normal form": (b"Disallow: /" + b"|" * 1_364 + b"/ab$", b"allow Ferris /" + b"%7C" * 1_364 + b"/ab", None),
+}
+
 # a URL is asked without its fragment
 FRAGMENT = {
     "allowed": (b"allow FerrisBot https://example.com/a#b", "FerrisBot must be allowed https://example.com/a#b, but line 2 denies it"),
@@ -176,6 +202,18 @@ def test_crawler_of_google(tmp_path, text, line):
 def test_other_reading_of_an_empty_disallow(tmp_path, robots, text, line):
     expected = (1, f"expect.txt:1: {line}\n", "") if line else (0, "1 expectation holds\n", "")
     assert outcome(check(tmp_path, text, robots=robots)) == expected
+
+
+@pytest.mark.parametrize("rules, text, line", NORMAL_FORMS.values(), ids=NORMAL_FORMS)
+def test_normal_forms(tmp_path, rules, text, line):
+    expected = (1, f"expect.txt:1: {line}\n", "") if line else (0, "1 expectation holds\n", "")
+    assert outcome(check(tmp_path, text, robots=b"User-agent: *\n" + rules)) == expected
+
+
+def test_normal_forms_of_the_group_of_googlebot(tmp_path):
+    line = f"expect.txt:1: Googlebot-News must be allowed /%62, {GOOGLEBOT} Googlebot-News, and {NORMALLY} line 2 denies it\n"
+    result = check(tmp_path, b"allow Googlebot-News /%62", robots=b"User-agent: Googlebot\nDisallow: /b\n")
+    assert outcome(result) == (1, line, "")
 
 
 @pytest.mark.parametrize("text, line", FRAGMENT.values(), ids=FRAGMENT)

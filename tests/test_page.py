@@ -198,10 +198,15 @@ def test_page_has_the_lines_and_warnings_of_the_json():
     assert texts(elements, "li") == [*found["sitemaps"], *listed]
 
 
-@pytest.mark.parametrize("rule, sentence", [("/a", "no warnings: the file has RFC 9309 syntax"), ("/", "no warnings about syntax: the file has RFC 9309 syntax"), ("a", None)])
-def test_page_has_the_sentence_about_syntax(rule, sentence):
+SYNTAX = "the file has RFC 9309 syntax"
+VERDICTS = "verdicts are those of RFC 9309 for URLs in normal form (reserved characters as in RFC 3986, octets counted in the rule)"
+
+
+@pytest.mark.parametrize("rule, syntax, verdicts", [("/a", f"no warnings: {SYNTAX}", VERDICTS), ("/", f"no warnings about syntax: {SYNTAX}", VERDICTS), ("/a$b", f"no warnings about syntax: {SYNTAX}", None), ("a", None, None)])
+def test_page_has_the_sentences_about_the_standard(rule, syntax, verdicts):
     elements = Reader(page("--agents", file=f"User-agent: *\nDisallow: {rule}".encode())).elements
-    assert dict(zip(texts(elements, "dt"), texts(elements, "dd"))).get("Syntax") == sentence
+    entries = dict(zip(texts(elements, "dt"), texts(elements, "dd")))
+    assert (entries.get("Syntax"), entries.get("Verdicts")) == (syntax, verdicts)
 
 
 def verdict(it):

@@ -1,24 +1,25 @@
--- The other reading: which lines are empty Disallows, and what decides without their rules.
+-- Other readings: which lines are empty Disallows, and what decides without their rules, also in normal form.
 use Rattle.std.proofs.Common.{◌≡◌, ◌≢◌, ◌∙◌, ℕ, zero, suc, ◌==◌, Bool, true, false, List, [], ◌∷◌, ◌++◌}
 use Rattle.std.proofs.Common.{Contains, Option, Some, None, ap, arith, if◌then◌else◌, inl, inr, map, refl}
 use Rattle.std.proofs.Common.{slice_get, slice_index_or, subst, sym}
-use Rattle.std.specs.Prelude.{◌||◌}
+use Rattle.std.specs.Prelude.{◌||◌, length, nat_le}
 use Rattle.std.specs.{Char.to_ascii_lowercase, List.All, Option.option_map_or}
 use Rattle.std.proofs.lemmas.Bool.{cases_Bool, false≢true, not-true}
 use Rattle.std.proofs.lemmas.Option.{option_and_then_some, same_Some}
 use Rattle.std.proofs.lemmas.Bool.Decides.{nat_tests}
-use Rattle.std.proofs.lemmas.List.Elements.{Contains-append_left, Contains-get_or, Contains-push}
+use Rattle.std.proofs.lemmas.List.Elements.{All-map, Contains-append_left, Contains-get_or, Contains-push}
 use Rattle.std.proofs.lemmas.List.Elements.{Contains-push_cases}
 use Rattle.texting_robots.specs.Callers.{Allow, IsBetter, IsDecidingLine, IsDecidingRule, IsOverlong}
 use Rattle.texting_robots.specs.Callers.{IsRejected, IsVerdict, LineValue, Matches, PlacedRule, Rule}
 use Rattle.texting_robots.specs.Callers.{placed_rules, robots_file, unplaced}
-use Rattle.texting_robots.specs.{Statement.IsStatement, Decision.IsDecisionOn}
+use Rattle.texting_robots.specs.{Statement.IsStatement, Decision.IsDecisionOn, Pattern.longest_with_dollar}
 use Rattle.texting_robots.specs.Internal.Line.{line_of}
 use Rattle.texting_robots.specs.Internal.Statement.{kind_by, kind_with, skip_blanks, statement_of, tail_as}
 use Rattle.texting_robots.specs.declared.decision.Decision.{Decision}
 use Rattle.texting_robots.specs.declared.parser.statement.Kind.{Kind}
 use Rattle.texting_robots.specs.declared.parser.statement.Kind.TheVariants.{Disallow}
 use Rattle.texting_robots.proofs.BestLemmas.{none_denies, verdict_by}
+use Rattle.texting_robots.proofs.CollapseLemmas.{length_within}
 use Rattle.texting_robots.proofs.LineLemmas.{line_raw, line_stated}
 use Rattle.texting_robots.proofs.StatementLemmas.{found_statement, statement_found}
 use Rattle.texting_robots.proofs.{HeldLemmas.rejection_is_computed, MainTheoremLemmas.no_line_allows}
@@ -26,6 +27,7 @@ use Rattle.texting_robots.proofs.{RulesLemmas.any_unplaced, VerdictLemmas.one_ve
 use Rattle.robots_needless.proofs.DistinctLemmas.{in_filter, to_filter}
 use Rattle.robots_warnings.specs.EmptyDisallows.{IsEmptyDisallow, begins_with_d, is_empty_disallow}
 use Rattle.robots_warnings.specs.FieldNames.{is_space_or_tab, without_front}
+use Rattle.audit_expect.specs.NormalForm.{IsNormalDecision, normal_pattern, normal_rule, normal_target}
 use Rattle.audit_expect.specs.OtherReading.{AreOthers, IsOtherDecision}
 use Rattle.audit_expect.specs.Internal.OtherReading.{IsDecidedBy, IsPreferred, decision_with, is_empty}
 use Rattle.audit_expect.specs.Internal.OtherReading.{is_marked, marks_of, others_of}
@@ -193,6 +195,10 @@ module _ (bodies : List (List ℕ)) (rules : List PlacedRule) (text : List ℕ) 
   pub decided_otherwise : IsDecisionOn others text decision → IsOtherDecision bodies rules text decision
   decided_otherwise is = record { others = others; are = others_are bodies rules; decided = is }
 
+  pub decided_normally : IsDecisionOn (map normal_rule others) (normal_target text) decision
+      → IsNormalDecision bodies rules text decision
+  decided_normally is = record { others = others; are = others_are bodies rules; decided = is }
+
   -- the other rules decide alike if the line that decides isn't an empty Disallow
   pub unchanged : IsDecisionOn rules text decision
       → option_map_or (is_marked (marks_of bodies)) decision.line false ≡ false
@@ -237,3 +243,19 @@ others_accepted bodies agent lines accepted k d below overlong =
     in_filter _ rules (slice_index_or others k d) (Contains-get_or others k d below) in
     accepted ((rejection_is_computed agent lines).1 (any_unplaced (λ (rule : Rule). IsOverlong rule.0) rules
     (place, slice_index_or others k d, less, at, overlong)))
+
+-- a rule in normal form isn't overlong if it wasn't before
+normal_short : (placed : PlacedRule) → ¬ IsOverlong placed.rule.0 → ¬ IsOverlong (normal_rule placed).rule.0
+normal_short placed accepted =
+    let normal = normal_pattern placed.rule.0 in
+    elim (cases_Bool (nat_le (length normal) longest_with_dollar)) [
+      | inl short ↦ rw short (λ overlong. grind (arith, nat_tests, length_within normal))
+      | inr long ↦ rw long accepted
+    ]
+
+pub normal_accepted : (rules : List PlacedRule)
+    → All (λ (placed : PlacedRule). ¬ IsOverlong placed.rule.0) rules
+    → All (λ (placed : PlacedRule). ¬ IsOverlong placed.rule.0) (map normal_rule rules)
+normal_accepted rules accepted =
+    All-map (λ (placed : PlacedRule). ¬ IsOverlong placed.rule.0) normal_rule rules
+    (λ k d below. normal_short (slice_index_or rules k d) (accepted k d below))

@@ -16,18 +16,21 @@ use Rattle.audit_expect.specs.declared.checks.{AtGoogle.AtGoogle, Judgment.Judgm
 use Rattle.audit_expect.specs.declared.checks.AtGoogle.TheVariants.{Googlebot, Nobody, Same}
 use Rattle.audit_expect.specs.declared.checks.Judgment.TheVariants.{Decided, Rejected}
 use Rattle.audit_core.specs.{Asked.asked_target, Texts.rejected_front, Texts.rejected_line_part}
-use Rattle.audit_expect.specs.{Expect.ExpectationValue, Expect.expectations_in, OtherReading.IsOtherDecision}
+use Rattle.audit_expect.specs.{Expect.ExpectationValue, Expect.expectations_in, NormalForm.IsNormalDecision}
+use Rattle.audit_expect.specs.{OtherReading.IsOtherDecision}
 
 -- ---- what the robots.txt file says
 
 -- the file is rejected for the crawler, and this is the line of its first overlong rule; or these are the
--- decisions on the URL, where an empty Disallow is an Allow of `/`, as here, and where it is no rule
+-- decisions on the URL: where an empty Disallow is an Allow of `/`, as here; where it is no rule; and where it is
+-- no rule and normal forms are compared
 abbrev pub IsJudgmentOn : List ℕ → List ℕ → List ℕ → Judgment → Type 0
 IsJudgmentOn file agent url (Rejected line) = IsFirstOverlong (placed_rules agent (lines_read file)) line
-IsJudgmentOn file agent url (Decided decision other) =
+IsJudgmentOn file agent url (Decided decision other normal) =
     let rules = placed_rules agent (lines_read file) in
     (¬ IsRejected agent (lines_read file)) × IsDecisionOn rules (asked_target url) decision
     × IsOtherDecision (bodies_read file) rules (asked_target url) other
+    × IsNormalDecision (bodies_read file) rules (asked_target url) normal
 
 -- which of the two notes on Google's crawlers applies: neither; or Google applies the group of Googlebot, for
 -- which this is the judgment, as names are compared here; or Google applies no group, so everything is
@@ -57,7 +60,8 @@ is_unexpected allowed decision = if allowed then not decision.allowed else decis
 -- the file is rejected for the crawler, or the decision isn't the expected one in one of the readings
 abbrev pub fails_at : Bool → Judgment → Bool
 fails_at allowed (Rejected line) = true
-fails_at allowed (Decided decision other) = is_unexpected allowed decision || is_unexpected allowed other
+fails_at allowed (Decided decision other normal) =
+    is_unexpected allowed decision || (is_unexpected allowed other || is_unexpected allowed normal)
 
 -- this is so of the group that applies here
 abbrev pub fails_here : CheckedValue → Bool
@@ -102,9 +106,12 @@ decision_parts url allowed None = unmatched (bytes_eq (asked_target url) robots_
 decision_parts url allowed (Some line) =
     Part (label (codes "line ") refl) (Number line) ∷ decides allowed ∷ []
 
--- what precedes it if the decision here is the expected one
+-- what precedes it if the decision here is the expected one, and if only that on normal forms isn't
 abbrev pub other_front : PartValue
 other_front = only (codes "where an empty Disallow is no rule, as for RFC 9309 and Google, ") refl
+
+abbrev pub normal_front : PartValue
+normal_front = only (codes "by RFC 9309, which compares normal forms, ") refl
 
 abbrev pub rejected_parts : List ℕ → ℕ → List PartValue
 rejected_parts agent line =
@@ -113,9 +120,10 @@ rejected_parts agent line =
 -- why the decision isn't the expected one
 abbrev pub judgment_parts : List ℕ → List ℕ → Bool → Judgment → List PartValue
 judgment_parts agent url allowed (Rejected line) = rejected_parts agent line
-judgment_parts agent url allowed (Decided decision other) =
+judgment_parts agent url allowed (Decided decision other normal) =
     if is_unexpected allowed decision then decision_parts url decision.allowed decision.line
-    else other_front ∷ decision_parts url other.allowed other.line
+    else if is_unexpected allowed other then other_front ∷ decision_parts url other.allowed other.line
+    else normal_front ∷ decision_parts url normal.allowed normal.line
 
 -- which group Google applies
 abbrev pub googlebot_parts : List ℕ → List PartValue

@@ -7,7 +7,7 @@ ghost use Rattle.audit_expect.specs.Internal.Expectations.{checked_value};
 ghost use Rattle.audit_expect.specs.Internal.OtherReading.{marks_of};
 
 use crate::expect::Expectation;
-use crate::other_reading::other_decision;
+use crate::other_reading::{normal_decision, other_decision};
 use audit_core::asked::decision_on;
 use audit_core::audit::{Reading, read_for};
 use audit_core::fault::Fault;
@@ -21,8 +21,8 @@ use texting_robots::{Robot, Site};
 pub(crate) enum Judgment {
     /// The file is rejected for the crawler because of the rule in this line.
     Rejected(usize),
-    /// The decision on the URL, and the one where an empty Disallow is no rule.
-    Decided(Decision, Decision),
+    /// The decision on the URL, the one where an empty Disallow is no rule, and the same of normal forms.
+    Decided(Decision, Decision, Decision),
 }
 
 /// Which note on Google's crawlers applies to a crawler.
@@ -62,7 +62,8 @@ fn decided_on(
 {
     let decision = decision_on(alloc, robot, url)?;
     let other = other_decision(alloc, agent, url, &decision, site, marks)?;
-    Ok(Judgment::Decided(decision, other))
+    let normal = normal_decision(alloc, agent, url, site, marks)?;
+    Ok(Judgment::Decided(decision, other, normal))
 }
 
 /// What a file says about a URL for a crawler, where `reading` is how it is read for the crawler.
@@ -155,8 +156,10 @@ fn fails_at(allowed: bool, judgment: &Judgment) -> bool
 {
     match judgment {
         Judgment::Rejected(_) => true,
-        Judgment::Decided(decision, other) => {
-            is_unexpected(allowed, decision) || is_unexpected(allowed, other)
+        Judgment::Decided(decision, other, normal) => {
+            is_unexpected(allowed, decision)
+                || is_unexpected(allowed, other)
+                || is_unexpected(allowed, normal)
         }
     }
 }

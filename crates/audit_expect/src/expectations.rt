@@ -131,16 +131,20 @@ fn push_decisions(
     allowed: bool,
     decision: &Decision,
     other: &Decision,
+    normal: &Decision,
 ) -> Result<(), Fault>
     ensures ok { OnOk result (string_bytes text.new ≡ string_bytes text.old
-        ++ parts_text (judgment_parts [] url.now allowed (Decided decision.now other.now))) }
+        ++ parts_text (judgment_parts [] url.now allowed (Decided decision.now other.now normal.now))) }
     ensures fault { IfErr result (λ fault. fault ≡ Fault.Memory) }
 {
     if is_unexpected(allowed, decision) {
         push_decision(alloc, text, "", url, decision)
-    } else {
+    } else if is_unexpected(allowed, other) {
         let front = "where an empty Disallow is no rule, as for RFC 9309 and Google, ";
         push_decision(alloc, text, front, url, other)
+    } else {
+        let front = "by RFC 9309, which compares normal forms, ";
+        push_decision(alloc, text, front, url, normal)
     }
 }
 
@@ -172,8 +176,8 @@ fn push_judgment(
 {
     match judgment {
         Judgment::Rejected(line) => Ok(push_parts(text, &rejected_parts(agent, *line))?),
-        Judgment::Decided(decision, other) => {
-            push_decisions(alloc, text, url, allowed, decision, other)
+        Judgment::Decided(decision, other, normal) => {
+            push_decisions(alloc, text, url, allowed, decision, other, normal)
         }
     }
 }

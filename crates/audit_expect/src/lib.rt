@@ -5,5 +5,6 @@ mod checks;
 mod entries;
 mod expect;
 pub mod expectations;
+mod normal_form;
 mod other_reading;
 pub mod url_list;

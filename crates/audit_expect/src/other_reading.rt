@@ -1,12 +1,14 @@
-//! The other reading of an empty Disallow. Here it is an Allow of `/`; for RFC 9309 and Google it is no rule.
+//! Other readings: of an empty Disallow, which here is an Allow of `/`, and for RFC 9309 and Google no rule; and of
+//! characters that RFC 9309 compares in their normal forms.
 ghost use Rattle.std.specs.Prelude.{◌≡◌, ◌↔◌, All, Decides, IfErr, IfOk, IsTrue, false, option_map};
 ghost use Rattle.std.specs.Option.{option_map_or};
 ghost use Rattle.texting_robots.specs.Callers.{IsBetter, IsOverlong, IsRejected, Matches, PlacedRule, file_bodies, file_lines, placed_rules};
 ghost use Rattle.texting_robots.specs.Decision.{IsDecisionOn};
 ghost use Rattle.audit_core.specs.Asked.{asked_target};
-ghost use Rattle.audit_expect.specs.OtherReading.{IsOtherDecision};
+ghost use Rattle.audit_expect.specs.{NormalForm.IsNormalDecision, OtherReading.IsOtherDecision};
 ghost use Rattle.audit_expect.specs.Internal.OtherReading.{IsDecidedBy, IsPreferred, decision_with, is_marked, marks_of, others_of};
 
+use crate::normal_form::{normal_rules, normal_target};
 use audit_core::asked::asked_target;
 use audit_core::fault::Fault;
 use audit_core::rules::{Rule, rules_for};
@@ -181,4 +183,26 @@ pub(crate) fn other_decision(
     let rules = other_rules(alloc, site, agent, marks)?;
     let other = decision_of(alloc, &rules, &target)?;
     Ok(other)
+}
+
+/// The decision on a URL where an empty Disallow is no rule, and normal forms are compared.
+pub(crate) fn normal_decision(
+    alloc: Global,
+    agent: &str,
+    url: &str,
+    site: &Site,
+    marks: &[bool],
+) -> Result<Decision, Fault>
+    requires marks { marks.now ≡ marks_of (file_bodies site.now) }
+    requires accepted { ¬ IsRejected agent.now (file_lines site.now) }
+    ensures ok { IfOk result (IsNormalDecision (file_bodies site.now) (placed_rules agent.now (file_lines site.now))
+        (asked_target url.now)) }
+    ensures fault { IfErr result (λ fault. fault ≡ Fault.Memory) }
+{
+    let target = asked_target(alloc, url)?;
+    let target = normal_target(alloc, &target)?;
+    let rules = other_rules(alloc, site, agent, marks)?;
+    let rules = normal_rules(alloc, &rules)?;
+    let decision = decision_of(alloc, &rules, &target)?;
+    Ok(decision)
 }

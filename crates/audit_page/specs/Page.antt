@@ -24,7 +24,7 @@ use Rattle.audit_core.specs.Syntax.{is_standard, sentence}
 use Rattle.audit_core.specs.declared.syntax.{Syntax.Syntax, TheConstants.VERDICTS_SENTENCE}
 use Rattle.audit_core.specs.declared.syntax.Syntax.TheVariants.{Standard, StandardVerdicts, StandardWithoutWarnings}
 use Rattle.audit_core.specs.declared.syntax.Syntax.TheVariants.{Unstated}
-use Rattle.audit_page.specs.declared.page.style.TheConstants.{CRAWLERS, CSS, POLICY, REJECTED, SITEMAPS}
+use Rattle.audit_page.specs.declared.page.style.TheConstants.{CRAWLERS, CSS, POLICY, REJECTED, SITEMAPS, VERDICTS}
 use Rattle.audit_page.specs.Html.{html_of}
 use Rattle.audit_page.specs.Tree.{Field, Tree, Words, each, field, fixed, is_ascii, labelled, message}
 use Rattle.audit_page.specs.Tree.{nothing, opened, shown, style, tag, text, title, void, with, written, ◌⊕◌}
@@ -389,7 +389,7 @@ syntax_entry syntax =
     then entry (fixed (codes "Syntax") refl) (text (fixed (sentence syntax) (sentence_safe syntax)))
     else nothing)
     ⊕ (if has_standard_verdicts syntax
-    then entry (fixed (codes "Verdicts") refl) (text (fixed VERDICTS_SENTENCE.now refl)) else nothing)
+    then entry (fixed VERDICTS.now refl) (text (fixed VERDICTS_SENTENCE.now refl)) else nothing)
 
 -- the summary at the top
 unfoldable pub summary : Option (List ℕ) → AuditValue → Tree

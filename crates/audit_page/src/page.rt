@@ -25,6 +25,7 @@ use html_writer::write::{push_doctype, push_element, push_end, push_start};
 use parts::{Page, push, push_start_with};
 use pieces::{head_start, page_heading, title};
 use std::alloc::{AllocError, Global};
+use style::VERDICTS;
 use texting_robots::labels::LabeledLine;
 use verdicts::{push_crawler_entries, push_verdict_part};
 use warnings::push_warning_entry;
@@ -53,7 +54,7 @@ fn push_syntax_entry(page: &mut Page, syntax: Syntax) -> Result<(), AllocError>
         push_element(&mut page.out, "dd", syntax.sentence().as_bytes())?;
     }
     if syntax.has_standard_verdicts() {
-        push_element(&mut page.out, "dt", b"Verdicts")?;
+        push_element(&mut page.out, "dt", VERDICTS.as_bytes())?;
         push_element(&mut page.out, "dd", VERDICTS_SENTENCE.as_bytes())?;
     }
     Ok(())

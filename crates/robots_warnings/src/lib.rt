@@ -19,7 +19,7 @@ mod repeated;
 mod replaced;
 pub mod rules;
 pub mod several_values;
-mod spellings;
+pub mod spellings;
 pub mod table;
 pub mod targets;
 pub mod tokens;

@@ -79,7 +79,7 @@ fn push_escape(text: &mut Vec<u8>, spelling: Spelling, high: u8, low: u8) -> Res
 }
 
 /// The value with each percent escape in this spelling.
-fn spelled(alloc: Global, spelling: Spelling, value: &[u8]) -> Result<Vec<u8>, AllocError>
+pub fn spelled(alloc: Global, spelling: Spelling, value: &[u8]) -> Result<Vec<u8>, AllocError>
     ensures { IfOk result (λ text. text.items ≡ spelled spelling value.now) }
 {
     let mut text = Vec::new(alloc);

@@ -108,3 +108,5 @@ pub(crate) const REJECTED: &str = "; rejected: ";
 pub(crate) const CRAWLERS: &str = "Crawlers";
 
 pub(crate) const SITEMAPS: &str = "Sitemaps";
+
+pub(crate) const VERDICTS: &str = "Verdicts";

@@ -11,7 +11,16 @@ other_decision-requires-clause-decided c =
     rw c.requires.site
     (robot_found _ c.args.file.now _ _ _ c.requires.robot c.in_ok-decision.ensures.ok).1
 
+pub normal_decision-requires-clause-accepted : goal.normal_decision-requires-clause-accepted
+normal_decision-requires-clause-accepted c =
+    rw c.requires.site
+    (robot_found _ c.args.file.now _ _ _ c.requires.robot c.in_ok-decision.ensures.ok).0
+
 pub returns-clause-ok : goal.returns-clause-ok
 returns-clause-ok c =
-    let found = robot_found _ c.args.file.now _ _ _ c.requires.robot c.in_ok-decision.ensures.ok in
-    (found.0, found.1, rw c.requires.site at c.in_ok-other.ensures.ok)
+    let found = robot_found _ c.args.file.now _ _ _ c.requires.robot c.in_ok-decision.ensures.ok in (
+      found.0,
+      found.1,
+      rw c.requires.site at c.in_ok-other.ensures.ok,
+      rw c.requires.site at c.in_ok-normal.ensures.ok,
+    )
