@@ -6,14 +6,15 @@ use Rattle.percent_encoding.specs.Percent.{percent_encode}
 use Rattle.percent_encoding.specs.declared.ascii_set.AsciiSet.{AsciiSet}
 use Rattle.texting_robots.specs.{Callers.PlacedRule, Decision.IsDecisionOn, Pattern.longest_with_dollar}
 use Rattle.texting_robots.specs.declared.decision.Decision.{Decision}
-use Rattle.robots_warnings.specs.Spellings.{standard_spelling}
+use Rattle.robots_warnings.specs.Spellings.{spelled}
+use Rattle.robots_warnings.specs.declared.spellings.Spelling.TheVariants.{Standard}
 use Rattle.audit_expect.specs.declared.normal_form.TheConstants.{IN_RULES, IN_TARGETS}
 use Rattle.audit_expect.specs.OtherReading.{AreOthers}
 
 -- the text without escapes of bytes that need none, with the others in uppercase, and with each byte of the set
 -- escaped
 abbrev pub normal_text : AsciiSet → List ℕ → List ℕ
-normal_text set text = percent_encode set (standard_spelling text)
+normal_text set text = percent_encode set (spelled Standard text)
 
 -- the match target of a URL: nothing in it is special, so that stars and dollars are escaped
 abbrev pub normal_target : List ℕ → List ℕ

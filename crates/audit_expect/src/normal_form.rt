@@ -4,7 +4,7 @@ ghost use Rattle.audit_expect.specs.NormalForm.{normal_pattern, normal_rule, nor
 
 use audit_core::rules::Rule;
 use percent_encoding::{AsciiSet, NON_ALPHANUMERIC, ascii_set, percent_encode};
-use robots_warnings::spellings::standard_spelling;
+use robots_warnings::spellings::{Spelling, spelled};
 use std::alloc::{AllocError, Global};
 
 /// The ASCII bytes that are escaped in a match target: all but unreserved and reserved ones and `%`. Of the reserved ones,
@@ -23,7 +23,7 @@ fn normal_text(alloc: Global, set: AsciiSet, text: &[u8]) -> Result<String, Allo
     ensures { IfOk result (λ normal. string_bytes normal ≡ normal_text set text.now) }
 {
     let mut normal = String::new(alloc);
-    percent_encode(&standard_spelling(alloc, text)?, set).append_to(&mut normal)?;
+    percent_encode(&spelled(alloc, Spelling::Standard, text)?, set).append_to(&mut normal)?;
     Ok(normal)
 }
 
