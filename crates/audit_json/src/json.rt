@@ -55,11 +55,10 @@ impl<'a> Json for Verdict<'a> {
     ghost json = { verdict_json };
 
     fn json(&self, alloc: Global) -> Result<Value, AllocError> {
-        let url = sanitized_json(alloc, self.url.as_bytes())?;
         json!(in alloc; {
             "allowed": self.decision.allowed,
             "line": self.decision.line,
-            "url": url,
+            "url": sanitized_json(alloc, self.url.as_bytes())?,
         })
     }
 }
@@ -100,14 +99,12 @@ fn agent_json(
       verdicts = verdicts.now;
     })) }
 {
-    let name = sanitized_json(alloc, agent.as_bytes())?;
-    let verdicts = verdicts_json(alloc, verdicts)?;
     json!(in alloc; {
-        "agent": name,
+        "agent": sanitized_json(alloc, agent.as_bytes())?,
         "delay": delay,
         "group": group_word(group),
         "rejected": rejected,
-        "verdicts": verdicts,
+        "verdicts": verdicts_json(alloc, verdicts)?,
     })
 }
 
@@ -150,12 +147,11 @@ impl<'a> Json for LabeledLine<'a> {
     ghost json = { λ labeled. line_json (label_by_value labeled) };
 
     fn json(&self, alloc: Global) -> Result<Value, AllocError> {
-        let value = value_json(alloc, self.line)?;
         json!(in alloc; {
             "kind": kind_text(self.line),
             "membership": membership_word(self.membership),
             "number": self.number,
-            "value": value,
+            "value": value_json(alloc, self.line)?,
         })
     }
 }
@@ -237,19 +233,15 @@ fn known_json(is_known: bool) -> Value
 fn audit_json(alloc: Global, has_rows: bool, audit: &Audit<'_, '_>) -> Result<Value, AllocError>
     ensures { IfOk result (λ value. view value ≡ audit_json has_rows audit.now) }
 {
-    let agents = agents_json(alloc, &audit.agents)?;
     let syntax = known_json(audit.syntax.is_standard());
     let verdicts = known_json(audit.syntax.has_standard_verdicts());
-    let lines = rows_json(alloc, has_rows, &audit.labels)?;
-    let sitemaps = sitemaps_json(alloc, &audit.labels)?;
-    let warnings = warnings_json(alloc, &audit.warnings)?;
     json!(in alloc; {
-        "agents": agents,
+        "agents": agents_json(alloc, &audit.agents)?,
         "has_rfc_9309_syntax": syntax,
         "has_rfc_9309_verdicts": verdicts,
-        "lines": lines,
-        "sitemaps": sitemaps,
-        "warnings": warnings,
+        "lines": rows_json(alloc, has_rows, &audit.labels)?,
+        "sitemaps": sitemaps_json(alloc, &audit.labels)?,
+        "warnings": warnings_json(alloc, &audit.warnings)?,
     })
 }
 

@@ -229,15 +229,12 @@ fn help_json(alloc: Global, example: &str) -> Result<Value, AllocError>
 fn rule_json(alloc: Global, rule: &SarifRule) -> Result<Value, AllocError>
     ensures { IfOk result (λ value. view value ≡ rule_json (rule_value rule.now)) }
 {
-    let full_description = message_json(alloc, rule.text)?;
-    let help = help_json(alloc, rule.example)?;
-    let short_description = message_json(alloc, rule.text)?;
     json!(in alloc; {
         "defaultConfiguration": { "level": rule.level.word() },
-        "fullDescription": full_description,
-        "help": help,
+        "fullDescription": message_json(alloc, rule.text)?,
+        "help": help_json(alloc, rule.example)?,
         "id": rule.name,
-        "shortDescription": short_description,
+        "shortDescription": message_json(alloc, rule.text)?,
     })
 }
 
@@ -266,12 +263,10 @@ fn place_json(alloc: Global, uri: &str, line: Option<usize>) -> Result<Value, Al
 fn result_json(alloc: Global, uri: &str, finding: &Finding) -> Result<Value, AllocError>
     ensures { IfOk result (λ value. view value ≡ result_json uri.now (finding_value finding.now)) }
 {
-    let place = place_json(alloc, uri, finding.line)?;
-    let message = message_json(alloc, &finding.message)?;
     json!(in alloc; {
         "level": finding.level.word(),
-        "locations": [{ "physicalLocation": place }],
-        "message": message,
+        "locations": [{ "physicalLocation": place_json(alloc, uri, finding.line)? }],
+        "message": message_json(alloc, &finding.message)?,
         "ruleId": finding.name,
     })
 }
@@ -291,11 +286,10 @@ fn results_json(alloc: Global, uri: &str, findings: &[Finding]) -> Result<Value,
 fn tool_json(alloc: Global) -> Result<Value, AllocError>
     ensures { IfOk result (λ value. view value ≡ tool_json) }
 {
-    let rules = rules_json(alloc, &all_rules(alloc)?)?;
     json!(in alloc; {
         "driver": {
             "name": "robots_audit",
-            "rules": rules,
+            "rules": rules_json(alloc, &all_rules(alloc)?)?,
             "version": VERSION,
         },
     })
@@ -305,11 +299,9 @@ fn tool_json(alloc: Global) -> Result<Value, AllocError>
 fn log_json(alloc: Global, uri: &str, findings: &[Finding]) -> Result<Value, AllocError>
     ensures { IfOk result (λ value. view value ≡ log_json uri.now (map finding_value findings.now)) }
 {
-    let results = results_json(alloc, uri, findings)?;
-    let tool = tool_json(alloc)?;
     json!(in alloc; {
         "$schema": "https://json.schemastore.org/sarif-2.1.0.json",
-        "runs": [{ "results": results, "tool": tool }],
+        "runs": [{ "results": results_json(alloc, uri, findings)?, "tool": tool_json(alloc)? }],
         "version": "2.1.0",
     })
 }
