@@ -131,7 +131,8 @@ module _ (stays : Reading) (test : ℕ → Bool)
         let second = kept in_query low (hex_kept stays in_query low two) in
         let no_first = hex_not (λ c. c == 37) high refl one in
         let no_second = hex_not (λ c. c == 37) low refl two in
-        (rw (kept in_query b begins, first, second, all) refl, rw (is, digits, no_first, no_second, even) refl)
+        let b_passes = kept in_query b begins in
+        (rw (b_passes, first, second, all) refl, rw (is, digits, no_first, no_second, even) refl)
     | inr other ↦
         plain_step in_query b (high ∷ low ∷ text) (and_left _ _ other) (rw other at e)
         (fixed (in_query || b == 63) (high ∷ low ∷ text))
