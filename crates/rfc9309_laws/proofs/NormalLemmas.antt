@@ -1,5 +1,5 @@
 -- Normal forms of URIs, and paths with an odd escape, which match none of them.
-use Rattle.std.proofs.Common.{◌≡◌, ◌↔◌, ℕ, ◌+◌, ◌*◌, ◌<◌, ◌==◌, ◌&&◌, ◌||◌, not, ltb, Bool, true, false, inl}
+use Rattle.std.proofs.Common.{◌≡◌, ◌↔◌, ℕ, ◌+◌, ◌*◌, ◌<◌, ◌==◌, ◌&&◌, ◌||◌, ltb, Bool, true, false, inl}
 use Rattle.std.proofs.Common.{inr, List, [], ◌∷◌, ◌++◌, codes, refl, sym, ap, ◌∙◌, subst, arith}
 use Rattle.std.specs.Char.{digit_value, is_ascii_alphanumeric, is_ascii_hexdigit, is_ascii_lowercase}
 use Rattle.std.specs.Char.{to_ascii_uppercase}
@@ -13,7 +13,7 @@ use Rattle.texting_robots.specs.{Escape.escaped, Escape.escape_byte, Escape.is_e
 use Rattle.texting_robots.specs.Pattern.{Consumes, IsSuffix, Matches, MatchesWith, dollar, star}
 use Rattle.texting_robots.proofs.PatternLemmas.{suffix_trans}
 use Rattle.rfc9309_laws.specs.Comparable.{begins_odd_escape, has_odd_escape, is_normal, is_uri_octet}
-use Rattle.rfc9309_laws.specs.Matching.{Reading, all_stay, in_uri, is_escape, is_kept, is_one_of, is_reserved}
+use Rattle.rfc9309_laws.specs.Matching.{Reading, all_stay, in_uri, is_escape, is_kept, is_one_of}
 use Rattle.rfc9309_laws.specs.Matching.{is_unreserved, normal_escape, normal_from, normal_octet, normal_uri}
 
 -- ---- an octet, and an escape
@@ -131,7 +131,8 @@ module _ (stays : Reading) (test : ℕ → Bool)
         let second = kept in_query low (hex_kept stays in_query low two) in
         let no_first = hex_not (λ c. c == 37) high refl one in
         let no_second = hex_not (λ c. c == 37) low refl two in
-        (rw (kept in_query b begins, first, second, all) refl, rw (is, digits, no_first, no_second, even) refl)
+        let b_passes = kept in_query b begins in
+        (rw (b_passes, first, second, all) refl, rw (is, digits, no_first, no_second, even) refl)
     | inr other ↦
         plain_step in_query b (high ∷ low ∷ text) (and_left _ _ other) (rw other at e)
         (fixed (in_query || b == 63) (high ∷ low ∷ text))
