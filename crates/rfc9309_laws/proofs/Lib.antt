@@ -17,3 +17,8 @@ pub mod GroupLemmas
 pub mod LineFormLemmas
 pub mod FileLemmas
 pub mod RobotLemmas
+pub mod MatchLemmas
+pub mod NormalLemmas
+pub mod VerdictLemmas
+pub mod ExampleLemmas
+pub mod LongestLemmas

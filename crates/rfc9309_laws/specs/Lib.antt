@@ -4,3 +4,6 @@ pub mod ReadAs
 pub mod StandardRobot
 pub mod LineForms
 pub mod HasForm
+pub mod Matching
+pub mod Comparable
+pub mod Examples

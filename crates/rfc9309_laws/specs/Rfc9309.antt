@@ -385,3 +385,17 @@ is_rule (Delay number) = false
 -- the rules of these groups, in order
 abbrev pub rules_for : List ℕ → List Group → List Member
 rules_for agent groups = filter is_rule (flat_map (λ group. group.members) (groups_for agent groups))
+
+-- ---- the same, with delays skipped
+
+-- A Crawl-delay is another record for the standard: "Crawlers MAY interpret other records that are not part
+-- of the robots.txt protocol", but "parsing of other records MUST NOT interfere with the parsing of
+-- explicitly defined records" (section 2.2.4, from memory). So a delay between two lines with product tokens
+-- doesn't separate their groups.
+abbrev pub without_delays : List Group → List Group
+without_delays groups =
+    map (λ group. record { tokens = group.tokens; members = filter is_rule group.members }) groups
+
+-- the rules of the crawler, by the standard
+abbrev pub standard_rules : List ℕ → List Group → List Member
+standard_rules agent groups = rules_for agent (merged (without_delays groups))

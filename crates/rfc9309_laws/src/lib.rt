@@ -2,6 +2,8 @@
 //! specification, each written as the contract of an empty function.
 #![tactic(auto)]
 
+pub mod verdict;
+
 ghost use Rattle.std.specs.Prelude.{◌≡◌, ℕ, All, true, List, codes, take};
 ghost use Rattle.std.specs.List.{AllZip};
 ghost use Rattle.rfc9309_laws.specs.LineForms.{AreForms, Form, HasForm};

@@ -1,0 +1,88 @@
+-- Conditions on rules and on a URI under which the verdict of this library is that of the standard.
+use Rattle.std.specs.Prelude.{◌≡◌, ◌≢◌, ◌⊎◌, ℕ, ◌+◌, ◌*◌, ◌<◌, ◌==◌, ◌&&◌, ◌||◌, not, Bool, true, false}
+use Rattle.std.specs.Prelude.{List, [], ◌∷◌, Contains, codes, slice_index}
+use Rattle.std.specs.Char.{digit_value, is_ascii_lowercase}
+use Rattle.std.specs.{List.list_all, Str.byte}
+use Rattle.rfc9309_laws.specs.Matching.{Reading, has_dollar, is_ended, is_escape, is_one_of, is_unreserved}
+use Rattle.rfc9309_laws.specs.Matching.{normal_path, normal_uri, octets, without_end}
+use Rattle.rfc9309_laws.specs.Rfc9309 as rfc
+use Rattle.texting_robots.specs.{Escape.escaped, Trim.IsTrimOf}
+
+-- ---- escapes
+
+-- the text starts with an escape that isn't in normal form: one of its digits is lowercase, or it is that of
+-- an unreserved octet
+abbrev pub begins_odd_escape : List ℕ → Bool
+begins_odd_escape text =
+    let high = slice_index text 1 in
+    let low = slice_index text 2 in
+    is_escape (slice_index text 0) high low
+    && ((is_ascii_lowercase high || is_ascii_lowercase low)
+    || is_unreserved (digit_value high * 16 + digit_value low))
+
+-- the text contains such an escape
+abbrev pub has_odd_escape : List ℕ → Bool
+has_odd_escape [] = false
+has_odd_escape (b ∷ text) = begins_odd_escape (b ∷ text) || has_odd_escape text
+
+-- an octet that a URI in normal form may contain: unreserved, `%`, or reserved other than a star, a dollar
+-- and `#`
+abbrev pub is_uri_octet : ℕ → Bool
+is_uri_octet b = is_unreserved b || (is_one_of (codes ":/?[]@!&'()+,;=") b || b == byte "%")
+
+-- the URI is in normal form, if reserved octets stay
+abbrev pub is_normal : List ℕ → Bool
+is_normal uri = list_all is_uri_octet uri && not (has_odd_escape uri)
+
+-- ---- rules
+
+-- What this library compares for the spelling is what the standard compares for the path: the normal form of
+-- the path. A dollar is only at the end.
+pub record IsComparedAs (stays : Reading) (path spelling : List ℕ) : Type 0 where
+  pub normal : normal_path stays path ≡ escaped (without_end spelling)
+  pub ended : is_ended path ≡ is_ended spelling
+  pub dollar : has_dollar (without_end spelling) ≡ false
+
+-- a rule's path that this library compares in its normal form
+abbrev pub IsPlainPath : Reading → List ℕ → Type 0
+IsPlainPath stays path = IsComparedAs stays path path
+
+-- A path that matches no URI in normal form here, since it has an odd escape. But another rule of the same
+-- kind has a spelling of the path that is compared in its place, such as `/b` for `/%62`.
+pub record HasTwin (stays : Reading) (IsListed : List ℕ → Type 0) (path : List ℕ) : Type 0 where
+  pub odd : has_odd_escape path ≡ true
+  pub twin : List ℕ
+  pub listed : IsListed twin
+  pub same : IsComparedAs stays path twin
+
+-- the path of the rule is plain, or has a twin among these rules
+abbrev pub IsFit : Reading → List rfc.Member → rfc.Member → Type 0
+IsFit stays members (rfc.Allow path) =
+    IsPlainPath stays path ⊎ HasTwin stays (λ twin. Contains members (rfc.Allow twin)) path
+IsFit stays members (rfc.Disallow path) =
+    IsPlainPath stays path ⊎ HasTwin stays (λ twin. Contains members (rfc.Disallow twin)) path
+IsFit stays members (rfc.Delay number) = Unit {0}
+
+-- some rule has the path
+abbrev pub IsPathOf : List rfc.Member → List ℕ → Type 0
+IsPathOf members path = Contains members (rfc.Allow path) ⊎ Contains members (rfc.Disallow path)
+
+-- ---- both
+
+-- The rules and the URI are such that both verdicts agree.
+-- - `normal`: the URI is in normal form;
+-- - `robots`: so is `/robots.txt`;
+-- - `trimmed`: no rule has white space to trim;
+-- - `fit`: the rules are in normal form, when escaped, or have a twin that is;
+-- - `counted`: the octets of a rule are counted in its normal form, or this count is the same;
+-- - `empty`: beside an empty Disallow, which this library reads as an Allow of `/`, each Disallow that isn't
+--   empty has more than one octet, so that it isn't `/` or `*`.
+pub record AreComparable (stays : Reading) (count : List ℕ → ℕ) (members : List rfc.Member) (uri : List ℕ)
+    : Type 0 where
+  pub normal : normal_uri stays uri ≡ uri
+  pub robots : normal_uri stays (codes "/robots.txt") ≡ codes "/robots.txt"
+  pub trimmed : (path : List ℕ) → IsPathOf members path → IsTrimOf path path
+  pub fit : (member : rfc.Member) → Contains members member → IsFit stays members member
+  pub counted : (path : List ℕ) → IsPathOf members path → count path ≡ octets stays path
+  pub empty : Contains members (rfc.Disallow []) → (path : List ℕ) → Contains members (rfc.Disallow path)
+      → path ≢ [] → 1 < octets stays path
