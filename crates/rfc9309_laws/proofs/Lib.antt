@@ -14,6 +14,7 @@ pub mod Sources
 pub mod ReadLemmas
 pub mod KeyedLemmas
 pub mod GroupLemmas
+pub mod DelayLemmas
 pub mod LineFormLemmas
 pub mod FileLemmas
 pub mod RobotLemmas

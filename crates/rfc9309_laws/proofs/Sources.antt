@@ -1,7 +1,7 @@
 -- Source lines: the line as the library reads it, with its value as written. The source lines of groups give
 -- back the groups, merged.
 use Rattle.std.proofs.Common.{◌≡◌, ℕ, Bool, false, not, List, [], ◌∷◌, Option, Some, None, ◌++◌, refl, ap}
-use Rattle.std.proofs.Common.{◌∙◌, append-nil, map}
+use Rattle.std.proofs.Common.{◌∙◌, append-nil, append_assoc, map}
 use Rattle.texting_robots.specs.Line.{LineValue, UserAgent, Allow, CrawlDelay, Disallow, Sitemap, Raw, is_raw}
 use Rattle.texting_robots.specs.Executable.{rule_in, sitemap_in}
 use Rattle.texting_robots.specs.{Delay.IsDelay, Trim.IsTrimOf, Rules.Rule}
@@ -112,20 +112,20 @@ members_put : (members : List rfc.Member) (parts : Parts)
 members_put [] parts = refl
 members_put (member ∷ members) parts = ap (with_member member) (members_put members parts)
 
--- adding tokens one by one is the same as adding them at once
-put_twice : (token : List ℕ) (tokens : List (List ℕ)) (members : List rfc.Member) (later : List rfc.Group)
-    → rfc.put_before (token ∷ []) [] (rfc.put_before tokens members later)
-    ≡ rfc.put_before (token ∷ tokens) members later
-put_twice token tokens [] [] = refl
-put_twice token tokens [] (next ∷ later) = refl
-put_twice token tokens (member ∷ members) later = refl
+-- adding tokens twice is the same as adding them at once
+pub put_both : (tokens more : List (List ℕ)) (members : List rfc.Member) (later : List rfc.Group)
+    → rfc.put_before tokens [] (rfc.put_before more members later)
+    ≡ rfc.put_before (tokens ++ more) members later
+put_both tokens more [] [] = refl
+put_both tokens more [] (next ∷ later) = rw append_assoc refl
+put_both tokens more (member ∷ members) later = refl
 
 tokens_put : (token : List ℕ) (tokens : List (List ℕ)) (parts : Parts)
     → onto with_token (token ∷ tokens) parts ≡ with_tokens (token ∷ tokens) parts
 tokens_put token [] parts = refl
 tokens_put token (next ∷ tokens) parts =
     ap (with_token token) (tokens_put next tokens parts)
-    ∙ ap (parts_of []) (put_twice token (next ∷ tokens) parts.ungrouped parts.groups)
+    ∙ ap (parts_of []) (put_both (token ∷ []) (next ∷ tokens) parts.ungrouped parts.groups)
 
 -- adding a group's tokens and members one by one is the same as adding the group at once
 pub group_put : (token : List ℕ) (tokens : List (List ℕ)) (group : rfc.Group) (parts : Parts)

@@ -5,6 +5,7 @@ pub mod ColonLemmas
 pub mod QuietLemmas
 pub mod FormLemmas
 pub mod SyntaxLemmas
+pub mod SplitLemmas
 pub mod ConflictLemmas
 pub mod EmptyDisallowLemmas
 pub mod RepeatedLemmas

@@ -1,6 +1,6 @@
 -- What the silence of an audit means: a file without warnings about its syntax follows the extended grammar
 -- of RFC 9309 (`IsFile`).
-use Rattle.std.specs.Prelude.{◌≡◌, ℕ, Bool, true, not, ◌||◌, List, codes, take}
+use Rattle.std.specs.Prelude.{◌≡◌, ◌≢◌, ℕ, Bool, true, not, ◌||◌, List, codes, take}
 use Rattle.std.specs.List.{AllByRecursion as Each}
 use Rattle.texting_robots.specs.Callers.{Allow, CrawlDelay, Disallow, LineValue, Raw, Sitemap}
 use Rattle.texting_robots.specs.Callers.{RobotValue, UserAgent, file_limit, lines_read}
@@ -9,7 +9,9 @@ use Rattle.rfc9309_laws.specs.LineForms.{Form}
 use Rattle.rfc9309_laws.specs.Rfc9309 as rfc
 use Rattle.rfc9309_laws.specs.StandardRobot.{IsFileWith, IsRobotAs}
 use Rattle.robots_warnings.specs.{Checks.Check, Checks.line_checks, Facts.facts_of, File.labels_for}
-use Rattle.robots_warnings.specs.{Table.is_not_about_syntax, Warnings.warnings, WarningValue.WarningValue}
+use Rattle.robots_warnings.specs.declared.table.Cause.TheVariants.{DelayAboveStar, DelaySplitsGroup}
+use Rattle.robots_warnings.specs.{Table.is_not_about_syntax, Warnings.position_warnings, Warnings.warnings}
+use Rattle.robots_warnings.specs.{WarningValue.WarningValue}
 
 -- ---- warnings about syntax
 
@@ -63,3 +65,13 @@ form_of (Disallow value) = form.Rule
 form_of (CrawlDelay delay) = form.Delay
 form_of (Sitemap value) = form.Sitemap
 form_of (Raw body) = form.Empty
+
+-- ---- delays
+
+-- the warning isn't about a delay that splits a group
+abbrev pub IsNoSplit : WarningValue → Type 0
+IsNoSplit warning = (warning.cause ≢ DelaySplitsGroup) × (warning.cause ≢ DelayAboveStar)
+
+-- no warning about the position of a line of the file is about a delay that splits a group
+abbrev pub AreGroupsWhole : List ℕ → Type 0
+AreGroupsWhole file = Each IsNoSplit (position_warnings (labels_for (codes "*") (lines_read file)))

@@ -4,8 +4,10 @@
 ghost use Rattle.std.specs.Prelude.{◌≡◌, ℕ, List, [], take};
 ghost use Rattle.texting_robots.specs.Callers.{IsLineOf, IsRobotOfFile, LineValue, RobotValue, file_limit};
 ghost use Rattle.rfc9309_laws.specs.LineForms.{HasForm};
+ghost use Rattle.rfc9309_laws.specs.Rfc9309 as rfc;
 ghost use Rattle.warnings_laws.specs.Examples as example;
-ghost use Rattle.warnings_laws.specs.Syntax.{HasSyntax, IsQuietLine, IsRobotStated, IsSilentOn, form_of, warnings_of};
+ghost use Rattle.warnings_laws.specs.Syntax.{AreGroupsWhole, HasSyntax, IsQuietLine, IsRobotStated};
+ghost use Rattle.warnings_laws.specs.Syntax.{IsSilentOn, form_of, warnings_of};
 
 /// A line without a warning about its syntax is a line of the grammar, of the form that belongs to its kind.
 pub fn quiet_lines_have_forms()
@@ -30,6 +32,14 @@ pub fn silence_means_syntax()
     ensures robot { (named agents urls : List (List ℕ)) (file agent : List ℕ) (robot : RobotValue)
         → IsSilentOn named agents urls file → IsRobotOfFile agent (take file_limit file) robot
         → IsRobotStated agent file robot }
+{}
+
+/// A user-agent line after a Crawl-delay begins another group. For the standard it doesn't, since a delay is
+/// another record, which has no effect on groups. Without a warning that a delay splits a group, such as
+/// `delay-splits-group`, each crawler's rules are the same for both.
+pub fn delays_change_no_rules()
+    ensures { (file agent : List ℕ) (groups : List rfc.Group) → rfc.IsFile groups (take file_limit file)
+        → AreGroupsWhole file → rfc.rules_for agent (rfc.merged groups) ≡ rfc.standard_rules agent groups }
 {}
 
 /// Worked examples: a file without warnings about its syntax, and one with such a warning.

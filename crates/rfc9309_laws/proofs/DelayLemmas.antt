@@ -1,0 +1,155 @@
+-- Skipping delays changes no rules if the merged groups are unsplit (`is_unsplit`): each group with rules has
+-- all tokens of the groups without rules that come directly above it.
+use Rattle.std.proofs.Common.{◌≡◌, ℕ, Bool, true, false, not, ◌||◌, ◌&&◌, List, [], ◌∷◌, ◌++◌}
+use Rattle.std.proofs.Common.{ap, codes, cond, filter, flat_map, inl, inr, refl, subst, sym, ◌∙◌}
+use Rattle.std.proofs.Common.{if◌then◌else◌}
+use Rattle.std.specs.{List.list_all, List.list_any, Str.str_to_ascii_lowercase}
+use Rattle.std.proofs.Math.Bool.{or_assoc}
+use Rattle.std.proofs.lemmas.Bool.{and_parts, cases_Bool}
+use Rattle.std.proofs.lemmas.List.{Elements.filter-append, Folds.list_any-append}
+use Rattle.std.proofs.lemmas.Slice.Eq.{bytes_eq-Decides}
+use Rattle.texting_robots.proofs.CapturedLemmas.{cond_same}
+use Rattle.rfc9309_laws.specs.Rfc9309.{Group, Member, has_token, is_rule, merged, put_before}
+use Rattle.rfc9309_laws.specs.Rfc9309.{Allow, Delay, Disallow, rules_for, standard_rules, without_delays}
+use Rattle.rfc9309_laws.proofs.{GroupLemmas.has, GroupLemmas.is_named, GroupLemmas.theirs, Sources.put_both}
+
+-- ---- the condition
+
+abbrev is_some : List Member → Bool
+is_some [] = false
+is_some (member ∷ members) = true
+
+-- one of the members is a rule
+abbrev pub has_rule : List Member → Bool
+has_rule members = is_some (filter is_rule members)
+
+-- all of these are tokens of the group
+abbrev pub has_all : List (List ℕ) → Group → Bool
+has_all tokens group = list_all (λ token. has_token token group) tokens
+
+-- the tokens of the groups without rules directly above the group after this one; `above` are those of the
+-- groups directly above this one
+abbrev pub left_above : List (List ℕ) → Group → List (List ℕ)
+left_above above group = if has_rule group.members then [] else above ++ group.tokens
+
+-- each group with rules has the tokens of the groups without rules directly above it
+abbrev pub is_unsplit : (above : List (List ℕ)) → List Group → Bool
+is_unsplit above [] = true
+is_unsplit above (group ∷ later) =
+    (not (has_rule group.members) || has_all above group) && is_unsplit (left_above above group) later
+
+-- ---- groups without delays, merged
+
+abbrev bare : List Group → List Group
+bare groups = merged (without_delays groups)
+
+twice : (members : List Member) → filter is_rule (filter is_rule members) ≡ filter is_rule members
+twice [] = refl
+twice (Allow pattern ∷ members) = ap (λ rules. Allow pattern ∷ rules) (twice members)
+twice (Disallow pattern ∷ members) = ap (λ rules. Disallow pattern ∷ rules) (twice members)
+twice (Delay number ∷ members) = twice members
+
+bare_put : (tokens : List (List ℕ)) (members : List Member) (groups : List Group)
+    → bare (put_before tokens members groups) ≡ put_before tokens (filter is_rule members) (bare groups)
+bare_put tokens [] [] = refl
+bare_put tokens [] (next ∷ later) =
+    sym (put_both tokens next.tokens (filter is_rule next.members) (bare later))
+bare_put tokens (member ∷ members) groups = refl
+
+bare_merged : (groups : List Group) → bare (merged groups) ≡ bare groups
+bare_merged [] = refl
+bare_merged (group ∷ later) =
+    bare_put group.tokens group.members (merged later)
+    ∙ ap (put_before group.tokens (filter is_rule group.members)) (bare_merged later)
+
+module _ (name : List ℕ) where
+  any_put : (tokens : List (List ℕ)) (members : List Member) (groups : List Group)
+      → list_any (has name) (put_before tokens members groups)
+      ≡ (list_any (is_named name) tokens || list_any (has name) groups)
+  any_put tokens [] [] = refl
+  any_put tokens [] (next ∷ later) = rw (list_any-append, or_assoc) refl
+  any_put tokens (member ∷ members) groups = refl
+
+  any_bare : (groups : List Group) → list_any (has name) (bare groups) ≡ list_any (has name) groups
+  any_bare [] = refl
+  any_bare (group ∷ later) =
+      any_put group.tokens (filter is_rule group.members) (bare later)
+      ∙ ap (λ b. has name group || b) (any_bare later)
+
+  -- ---- the rules of the groups with a name
+
+  abbrev held : List Group → List Member
+  held groups = flat_map (λ group. cond (has name group) (filter is_rule group.members) []) groups
+
+  held_rules : (groups : List Group) → filter is_rule (theirs name groups) ≡ held groups
+  held_rules [] = refl
+  held_rules (group ∷ later) = elim (cases_Bool (has name group)) [
+    | inl is ↦
+        rw is (filter-append is_rule group.members (theirs name later)
+        ∙ ap (λ rules. filter is_rule group.members ++ rules) (held_rules later))
+    | inr isnt ↦ rw isnt (held_rules later)
+  ]
+
+  held_put_none : (groups : List Group) → held (put_before [] [] groups) ≡ held groups
+  held_put_none [] = refl
+  held_put_none (group ∷ later) = refl
+
+  -- if all of these are tokens of the group, they add no name to it
+  named_too : (above : List (List ℕ)) (group : Group) → has_all above group ≡ true
+      → list_any (is_named name) (above ++ group.tokens) ≡ has name group
+  named_too [] group all = refl
+  named_too (token ∷ above) group all =
+      let both = and_parts (has_token token group) (has_all above group) all in
+      ap (λ b. is_named name token || b) (named_too above group both.1)
+      ∙ elim (cases_Bool (is_named name token)) [
+        | inl is ↦
+            let same = (bytes_eq-Decides (str_to_ascii_lowercase token) name).0 is in
+            rw is (sym (subst (λ text. has text group ≡ true) same both.0))
+        | inr isnt ↦ rw isnt refl
+      ]
+
+  -- a group with these rules, and those that come after it
+  held_step : (above : List (List ℕ)) (group : Group) (rules : List Member) (later others : List Group)
+      → ((not (is_some rules) || has_all above group)
+      && is_unsplit (if is_some rules then [] else above ++ group.tokens) later) ≡ true
+      → ((tokens : List (List ℕ)) → is_unsplit tokens later ≡ true
+      → held (put_before tokens [] others) ≡ held later)
+      → filter is_rule rules ≡ rules
+      → held (put_before above [] (put_before group.tokens rules others))
+      ≡ cond (has name group) rules [] ++ held later
+  held_step above group [] later others is same all =
+      rw (cond_same {X = List Member} (has name group) [], put_both above group.tokens [] others)
+      (same (above ++ group.tokens) is)
+  held_step above group (rule ∷ rules) later others is same all =
+      let both = and_parts (has_all above group) (is_unsplit [] later) is in
+      rw (named_too above group both.0, all)
+      (ap (λ more. cond (has name group) (rule ∷ rules) [] ++ more)
+      (sym (held_put_none others) ∙ same [] both.1))
+
+  held_bare : (above : List (List ℕ)) (groups : List Group) → is_unsplit above groups ≡ true
+      → held (put_before above [] (bare groups)) ≡ held groups
+  held_bare above [] is = rw (cond_same {X = List Member} _ []) refl
+  held_bare above (group ∷ later) is =
+      held_step above group (filter is_rule group.members) later (bare later) is
+      (λ tokens. held_bare tokens later) (twice group.members)
+
+  rules_bare : (groups : List Group) → is_unsplit [] groups ≡ true
+      → filter is_rule (theirs name (bare groups)) ≡ filter is_rule (theirs name groups)
+  rules_bare groups is =
+      held_rules (bare groups) ∙ sym (held_put_none (bare groups)) ∙ held_bare [] groups is
+      ∙ sym (held_rules groups)
+
+all_bare : (agent : List ℕ) (groups : List Group) → is_unsplit [] groups ≡ true
+    → rules_for agent groups ≡ rules_for agent (bare groups)
+all_bare agent groups is =
+    let name = str_to_ascii_lowercase agent in
+    elim (cases_Bool (list_any (has_token agent) groups)) [
+      | inl some ↦ rw (any_bare name groups, some) (sym (rules_bare name groups is))
+      | inr none ↦ rw (any_bare name groups, none) (sym (rules_bare (codes "*") groups is))
+    ]
+
+-- if the merged groups are unsplit, the rules are those of the standard
+pub rules_unsplit : (agent : List ℕ) (groups : List Group) → is_unsplit [] (merged groups) ≡ true
+    → rules_for agent (merged groups) ≡ standard_rules agent groups
+rules_unsplit agent groups is =
+    all_bare agent (merged groups) is ∙ ap (rules_for agent) (bare_merged groups)
