@@ -1,13 +1,14 @@
--- What the warnings tell about the syntax of a file.
+-- What the warnings tell about the syntax of a file, and about its verdicts.
 use Rattle.std.specs.Prelude.{ℕ, ◌==◌, Bool, true, false, not, ◌||◌, List, [], ◌∷◌, Option, codes}
 use Rattle.std.specs.Prelude.{if◌then◌else◌, is_some, length}
-use Rattle.std.specs.List.{list_any}
+use Rattle.std.specs.List.{list_all, list_any}
 use Rattle.robots_warnings.specs.declared.table.Cause.{Cause}
-use Rattle.robots_warnings.specs.{Table.is_not_about_syntax, WarningValue.WarningValue}
+use Rattle.robots_warnings.specs.{Table.is_not_about_syntax, Table.keeps_verdicts, WarningValue.WarningValue}
 use Rattle.std.proofs.Common.{refl}
 use Rattle.printable_text.specs.Text.{PartValue, ReportLine, line_from, only, part_text}
-use Rattle.audit_core.specs.declared.syntax.Syntax.{Syntax}
-use Rattle.audit_core.specs.declared.syntax.Syntax.TheVariants.{Standard, StandardWithoutWarnings, Unstated}
+use Rattle.audit_core.specs.declared.syntax.{Syntax.Syntax, TheConstants.VERDICTS_SENTENCE}
+use Rattle.audit_core.specs.declared.syntax.Syntax.TheVariants.{Standard, StandardVerdicts, StandardWithoutWarnings}
+use Rattle.audit_core.specs.declared.syntax.Syntax.TheVariants.{Unstated}
 
 -- a warning with this reason is about syntax
 unfoldable pub is_about_syntax : Cause → Bool
@@ -16,22 +17,32 @@ is_about_syntax cause = not (is_not_about_syntax cause)
 abbrev pub has_syntax_warning : List WarningValue → Bool
 has_syntax_warning warnings = list_any (λ (warning : WarningValue). is_about_syntax warning.cause) warnings
 
--- what all warnings about a file, reported or not, tell about its syntax; nothing is stated for a single
+-- all of these warnings leave open that verdicts are those of the standard
+abbrev pub keep_verdicts : List WarningValue → Bool
+keep_verdicts warnings = list_all (λ (warning : WarningValue). keeps_verdicts warning.cause) warnings
+
+-- what all warnings about a file, reported or not, tell about its syntax and its verdicts; nothing is stated for a single
 -- crawler, since the rules of other groups aren't checked; nor if the file is larger than the size limit,
 -- since the rest isn't read; nor if it is rejected for a crawler, as that would look like a file without
 -- faults; nor if a warning is about syntax
 abbrev pub syntax_of : Option (List ℕ) → (is_too_large is_rejected : Bool) → List WarningValue → Syntax
 syntax_of agent is_too_large is_rejected warnings =
     if ((is_some agent || is_too_large) || is_rejected) || has_syntax_warning warnings then Unstated
-    else if length warnings == 0 then StandardWithoutWarnings else Standard
+    else if length warnings == 0 then StandardWithoutWarnings
+    else if keep_verdicts warnings then StandardVerdicts else Standard
 
 -- the file is stated to have the syntax of RFC 9309
 abbrev pub is_standard : Syntax → Bool
 is_standard Unstated = false
-is_standard Standard = true
-is_standard StandardWithoutWarnings = true
+is_standard _ = true
 
--- the sentence about it in a report
+-- and its verdicts are stated to be those of RFC 9309
+abbrev pub has_standard_verdicts : Syntax → Bool
+has_standard_verdicts StandardVerdicts = true
+has_standard_verdicts StandardWithoutWarnings = true
+has_standard_verdicts _ = false
+
+-- the sentence about its syntax in a report
 abbrev pub sentence_part : (without_warnings : Bool) → PartValue
 sentence_part false = only (codes "no warnings about syntax: the file has RFC 9309 syntax") refl
 sentence_part true = only (codes "no warnings: the file has RFC 9309 syntax") refl
@@ -40,10 +51,19 @@ sentence_part true = only (codes "no warnings: the file has RFC 9309 syntax") re
 abbrev pub sentence : Syntax → List ℕ
 sentence Unstated = []
 sentence Standard = part_text (sentence_part false)
+sentence StandardVerdicts = part_text (sentence_part false)
 sentence StandardWithoutWarnings = part_text (sentence_part true)
 
--- the line with this sentence
+-- the sentence about its verdicts
+abbrev pub verdicts_part : PartValue
+verdicts_part = only VERDICTS_SENTENCE.now refl
+
+abbrev pub verdicts_line : ReportLine
+verdicts_line = line_from verdicts_part refl []
+
+-- the lines with what is stated
 abbrev pub syntax_lines : Syntax → List ReportLine
 syntax_lines Unstated = []
 syntax_lines Standard = line_from (sentence_part false) refl [] ∷ []
-syntax_lines StandardWithoutWarnings = line_from (sentence_part true) refl [] ∷ []
+syntax_lines StandardVerdicts = line_from (sentence_part false) refl [] ∷ verdicts_line ∷ []
+syntax_lines StandardWithoutWarnings = line_from (sentence_part true) refl [] ∷ verdicts_line ∷ []

@@ -25,12 +25,10 @@ use Rattle.audit_core.specs.declared.group.Group.{Group}
 use Rattle.audit_core.specs.declared.group.Group.TheVariants.{Everyone, Named, Nobody, Star}
 use Rattle.audit_core.specs.Rows.{has_value, kind_of, line_value, membership_value}
 use Rattle.audit_core.specs.{Audit.AgentValue, Audit.AuditValue, Audit.VerdictValue, Findings.Parts}
-use Rattle.audit_core.specs.declared.syntax.Syntax.{Syntax}
-use Rattle.audit_core.specs.declared.syntax.Syntax.TheVariants.{Standard, StandardWithoutWarnings, Unstated}
 use Rattle.audit_core.proofs.EscapeLemmas.{in_quotes}
 use Rattle.audit_core.proofs.FindingLemmas.{message_printable, name_printable}
-use Rattle.audit_json.specs.Json.{agent_json, audit_json, group_word, json_text, line_json, list_json}
-use Rattle.audit_json.specs.Json.{number_json, sanitized_json, syntax_json, value_json, verdict_json}
+use Rattle.audit_json.specs.Json.{agent_json, audit_json, group_word, json_text, known_json, line_json}
+use Rattle.audit_json.specs.Json.{list_json, number_json, sanitized_json, value_json, verdict_json}
 use Rattle.audit_json.specs.Json.{warning_json}
 
 -- ---- lists
@@ -177,15 +175,14 @@ warning_plain warning = assumption (
   message_printable (Parts (message_parts warning)),
 )
 
-syntax_plain : (syntax : Syntax) → IsPlain (syntax_json syntax)
-syntax_plain Unstated = tt
-syntax_plain Standard = tt
-syntax_plain StandardWithoutWarnings = tt
+known_plain : (is_known : Bool) → IsPlain (known_json is_known)
+known_plain true = tt
+known_plain false = tt
 
 pub audit_plain : (has_rows : Bool) (audit : AuditValue) → IsPlain (audit_json has_rows audit)
 audit_plain has_rows audit = search (
   list_plain agent_json agent_plain,
-  syntax_plain,
+  known_plain,
   list_plain line_json line_plain,
   list_plain sanitized_json sanitized_printable,
   list_plain warning_json warning_plain,

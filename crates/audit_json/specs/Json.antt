@@ -9,10 +9,10 @@ use Rattle.printable_text.specs.{Lines.lf, Level.level_word, Sanitize.sanitized}
 use Rattle.audit_core.specs.declared.group.Group.{Group}
 use Rattle.audit_core.specs.declared.group.Group.TheVariants.{Everyone, Named, Nobody, Star}
 use Rattle.audit_core.specs.Rows.{has_value, kind_text, line_value_text, membership_word}
-use Rattle.audit_core.specs.{Audit.AgentValue, Audit.AuditValue, Audit.VerdictValue, Syntax.is_standard}
+use Rattle.audit_core.specs.{Audit.AgentValue, Audit.AuditValue, Audit.VerdictValue, Syntax.has_standard_verdicts}
+use Rattle.audit_core.specs.Syntax.{is_standard}
 use Rattle.robots_warnings.specs.Table.{level_of, name_of}
 use Rattle.robots_warnings.specs.{File.lines_of, Message.warning_text, WarningValue.WarningValue}
-use Rattle.audit_core.specs.declared.syntax.Syntax.{Syntax}
 
 -- ---- values
 
@@ -78,18 +78,19 @@ warning_json warning = object
     (member (codes "name") (string (name_of warning.cause))
     (member (codes "text") (string (warning_text warning)) no_members))))
 
--- true if the file is known to have the syntax of RFC 9309, or else null
-abbrev pub syntax_json : Syntax → Data
-syntax_json syntax = if is_standard syntax then boolean true else null
+-- true if this is known of the file, or else null
+abbrev pub known_json : Bool → Data
+known_json is_known = if is_known then boolean true else null
 
--- what the file means for each crawler, its syntax, the lines if there are rows, the sitemaps, the warnings
+-- what the file means for each crawler, its syntax and verdicts, the lines if there are rows, the sitemaps, the warnings
 abbrev pub audit_json : Bool → AuditValue → Data
 audit_json has_rows audit = object
     (member (codes "agents") (list_json agent_json audit.agents)
-    (member (codes "has_rfc_9309_syntax") (syntax_json audit.syntax)
+    (member (codes "has_rfc_9309_syntax") (known_json (is_standard audit.syntax))
+    (member (codes "has_rfc_9309_verdicts") (known_json (has_standard_verdicts audit.syntax))
     (member (codes "lines") (list_json line_json (if has_rows then audit.labels else []))
     (member (codes "sitemaps") (list_json sanitized_json (sitemaps_in (lines_of audit.labels)))
-    (member (codes "warnings") (list_json warning_json audit.warnings) no_members)))))
+    (member (codes "warnings") (list_json warning_json audit.warnings) no_members))))))
 
 -- a value in one line
 abbrev pub json_line : Data → List ℕ

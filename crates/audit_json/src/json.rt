@@ -2,8 +2,8 @@
 ghost use Rattle.std.specs.Prelude.{◌≡◌, [], false, IfOk, if◌then◌else◌, map, string_bytes};
 ghost use Rattle.serde_json.specs.{View.view, Written.has_float};
 ghost use Rattle.texting_robots.specs.Callers.{by_value, label_by_value, sitemaps_in};
-ghost use Rattle.audit_json.specs.Json.{agent_json, audit_json, group_word, json_line, json_text, line_json};
-ghost use Rattle.audit_json.specs.Json.{list_json, sanitized_json, syntax_json, value_json, verdict_json};
+ghost use Rattle.audit_json.specs.Json.{agent_json, audit_json, group_word, json_line, json_text, known_json};
+ghost use Rattle.audit_json.specs.Json.{line_json, list_json, sanitized_json, value_json, verdict_json};
 ghost use Rattle.audit_json.specs.Json.{warning_json};
 ghost use Rattle.audit_core.specs.Rows.{membership_word};
 ghost use Rattle.robots_warnings.specs.File.{lines_of};
@@ -12,7 +12,6 @@ use audit_core::audit::{AgentAudit, Audit, Verdict};
 use audit_core::group::Group;
 use audit_core::rows::{has_value, kind_text, membership_word, push_value};
 use audit_core::sitemaps::sitemaps_of;
-use audit_core::syntax::Syntax;
 use printable_text::sanitize::push_sanitized;
 use robots_warnings::warning::{Warning, push_warning_text};
 use serde_json::{Value, json};
@@ -223,11 +222,11 @@ fn rows_json(alloc: Global, has_rows: bool, labels: &[LabeledLine<'_>]) -> Resul
     }
 }
 
-/// True if the file is known to have the syntax of RFC 9309, or else null.
-fn syntax_json(syntax: Syntax) -> Value
-    ensures { view result ≡ syntax_json syntax }
+/// True if this is known of the file, or else null.
+fn known_json(is_known: bool) -> Value
+    ensures { view result ≡ known_json is_known }
 {
-    if syntax.is_standard() {
+    if is_known {
         Value::Bool(true)
     } else {
         Value::Null
@@ -239,13 +238,15 @@ fn audit_json(alloc: Global, has_rows: bool, audit: &Audit<'_, '_>) -> Result<Va
     ensures { IfOk result (λ value. view value ≡ audit_json has_rows audit.now) }
 {
     let agents = agents_json(alloc, &audit.agents)?;
-    let syntax = syntax_json(audit.syntax);
+    let syntax = known_json(audit.syntax.is_standard());
+    let verdicts = known_json(audit.syntax.has_standard_verdicts());
     let lines = rows_json(alloc, has_rows, &audit.labels)?;
     let sitemaps = sitemaps_json(alloc, &audit.labels)?;
     let warnings = warnings_json(alloc, &audit.warnings)?;
     json!(in alloc; {
         "agents": agents,
         "has_rfc_9309_syntax": syntax,
+        "has_rfc_9309_verdicts": verdicts,
         "lines": lines,
         "sitemaps": sitemaps,
         "warnings": warnings,

@@ -19,9 +19,11 @@ use Rattle.robots_warnings.specs.declared.table.Cause.{Cause}
 use Rattle.audit_core.specs.Audit.{AgentValue, AuditValue, VerdictValue, labeling_agent}
 use Rattle.audit_core.specs.Rows.{kind_of, line_value, membership_value}
 use Rattle.audit_core.specs.Texts.{delay_value, group_end, group_reason, group_value}
-use Rattle.audit_core.specs.{Request.RequestValue, Syntax.is_standard, Syntax.sentence}
-use Rattle.audit_core.specs.declared.syntax.Syntax.{Syntax}
-use Rattle.audit_core.specs.declared.syntax.Syntax.TheVariants.{Standard, StandardWithoutWarnings, Unstated}
+use Rattle.audit_core.specs.{Request.RequestValue, Syntax.has_standard_verdicts}
+use Rattle.audit_core.specs.Syntax.{is_standard, sentence}
+use Rattle.audit_core.specs.declared.syntax.{Syntax.Syntax, TheConstants.VERDICTS_SENTENCE}
+use Rattle.audit_core.specs.declared.syntax.Syntax.TheVariants.{Standard, StandardVerdicts, StandardWithoutWarnings}
+use Rattle.audit_core.specs.declared.syntax.Syntax.TheVariants.{Unstated}
 use Rattle.audit_page.specs.declared.page.style.TheConstants.{CRAWLERS, CSS, POLICY, REJECTED, SITEMAPS}
 use Rattle.audit_page.specs.Html.{html_of}
 use Rattle.audit_page.specs.Tree.{Field, Tree, Words, each, field, fixed, is_ascii, labelled, message}
@@ -377,14 +379,17 @@ crawler_entries (Some agent) agents = each agent_entries agents
 pub sentence_safe : (syntax : Syntax) → is_ascii (sentence syntax) ≡ true
 sentence_safe Unstated = refl
 sentence_safe Standard = refl
+sentence_safe StandardVerdicts = refl
 sentence_safe StandardWithoutWarnings = refl
 
--- what the warnings tell about the syntax of the file, if it is known
+-- what the warnings tell about the syntax of the file and about its verdicts, if it is known
 unfoldable pub syntax_entry : Syntax → Tree
 syntax_entry syntax =
-    if is_standard syntax
+    (if is_standard syntax
     then entry (fixed (codes "Syntax") refl) (text (fixed (sentence syntax) (sentence_safe syntax)))
-    else nothing
+    else nothing)
+    ⊕ (if has_standard_verdicts syntax
+    then entry (fixed (codes "Verdicts") refl) (text (fixed VERDICTS_SENTENCE.now refl)) else nothing)
 
 -- the summary at the top
 unfoldable pub summary : Option (List ℕ) → AuditValue → Tree

@@ -19,7 +19,7 @@ mod warnings;
 
 use audit_core::audit::Audit;
 use audit_core::request::Request;
-use audit_core::syntax::Syntax;
+use audit_core::syntax::{Syntax, VERDICTS_SENTENCE};
 use file::{push_file_table, push_sitemap_entry};
 use html_writer::write::{push_doctype, push_element, push_end, push_start};
 use parts::{Page, push, push_start_with};
@@ -43,16 +43,20 @@ fn push_head(page: &mut Page, agent: Option<&str>) -> Result<(), AllocError>
     push_end(&mut page.out, "head")
 }
 
-/// Appends what the warnings tell about the syntax of the file, if it is known.
+/// Appends what the warnings tell about the syntax of the file and about its verdicts, if it is known.
 #[tactic(auto, using(crate::proofs::TreeLemmas::joined), unfolding(crate::specs::Page::syntax_entry))]
 fn push_syntax_entry(page: &mut Page, syntax: Syntax) -> Result<(), AllocError>
     ensures { OnOk result (page.new.out.items ≡ page.old.out.items ++ written (syntax_entry syntax)) }
 {
-    if !syntax.is_standard() {
-        return Ok(());
+    if syntax.is_standard() {
+        push_element(&mut page.out, "dt", b"Syntax")?;
+        push_element(&mut page.out, "dd", syntax.sentence().as_bytes())?;
     }
-    push_element(&mut page.out, "dt", b"Syntax")?;
-    push_element(&mut page.out, "dd", syntax.sentence().as_bytes())
+    if syntax.has_standard_verdicts() {
+        push_element(&mut page.out, "dt", b"Verdicts")?;
+        push_element(&mut page.out, "dd", VERDICTS_SENTENCE.as_bytes())?;
+    }
+    Ok(())
 }
 
 /// How many rows the table of lines has.

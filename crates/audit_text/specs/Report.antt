@@ -42,7 +42,7 @@ agent_lines agent =
     group_line agent.agent agent.group ∷ delay_line agent.delay
     ∷ (rejected_lines agent.agent agent.rejected ++ map verdict_line agent.verdicts)
 
--- a row for each line of the file if there are rows, the lines about each crawler, and the one about syntax
+-- a row for each line of the file if there are rows, the lines about each crawler, and those about syntax
 abbrev pub report_lines : Bool → AuditValue → List ReportLine
 report_lines has_rows audit =
     (if has_rows then rows audit.labels else [])

@@ -10,7 +10,7 @@ use crate::denied::Totals;
 use crate::listed::{More, listing_of};
 use audit_core::audit::{AgentAudit, Audit, Verdict};
 use audit_core::rows::push_rows;
-use audit_core::syntax::Syntax;
+use audit_core::syntax::{Syntax, VERDICTS_SENTENCE};
 use audit_core::texts::{delay_value, push_group, push_rejected};
 use printable_text::level::shown_word;
 use printable_text::lines::{push_line, push_number};
@@ -78,14 +78,17 @@ fn push_agents(text: &mut String, agents: &[AgentAudit<'_>]) -> Result<(), Alloc
     Ok(())
 }
 
-/// Appends the line that the file has the syntax of RFC 9309, if it is known to have it.
+/// Appends the lines that the file has the syntax of RFC 9309, and its verdicts, if this is known.
 fn push_syntax(text: &mut String, syntax: Syntax) -> Result<(), AllocError>
     ensures { OnOk result (string_bytes text.new ≡ string_bytes text.old ++ written (syntax_lines syntax)) }
 {
-    if !syntax.is_standard() {
-        return Ok(());
+    if syntax.is_standard() {
+        push_line(text, syntax.sentence(), "")?;
     }
-    push_line(text, syntax.sentence(), "")
+    if syntax.has_standard_verdicts() {
+        push_line(text, VERDICTS_SENTENCE, "")?;
+    }
+    Ok(())
 }
 
 /// The report on an audit, with or without rows.
