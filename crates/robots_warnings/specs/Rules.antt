@@ -109,7 +109,8 @@ has_more_after_dollar value =
 abbrev pub needs_no_escape : ℕ → Bool
 needs_no_escape b = is_ascii_alphanumeric b || has b (codes "-._~")
 
--- a reserved character of RFC 3986 that isn't special in a rule, and that a path or a query may have
+-- a reserved character of RFC 3986, but not `*` or `$`, which are special in a rule, nor `#`, which no path or
+-- query has
 abbrev pub is_delimiter : ℕ → Bool
 is_delimiter b = has b (codes ":/?[]@!&'()+,;=")
 

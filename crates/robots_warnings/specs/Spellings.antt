@@ -1,4 +1,4 @@
--- Rules with a percent escape that a spelling doesn't have, for which the group has no rule in that spelling.
+-- Rules with percent escapes that a spelling doesn't have, and that their group lacks in that spelling.
 use Rattle.std.specs.Prelude.{ℕ, ◌+◌, ◌*◌, ◌==◌, Bool, true, false, not, ◌&&◌, List, [], ◌∷◌, ◌++◌, bytes_eq}
 use Rattle.std.specs.Prelude.{filter, flat_map, if◌then◌else◌, map}
 use Rattle.std.specs.Char.{digit_value, is_ascii_hexdigit, to_ascii_uppercase}

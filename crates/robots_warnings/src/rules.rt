@@ -2,10 +2,11 @@
 ghost use Rattle.std.specs.Prelude.{◌≡◌, ◌<◌, ◌≤◌, ◌==◌, ◌&&◌, ◌||◌, ℕ, Bool, List, false, length, not, true};
 ghost use Rattle.std.specs.Char.{digit_value, is_ascii_hexdigit};
 ghost use Rattle.std.specs.{Fn.FnReturnsAt, List.list_any, List.position_or_len, Str.is_utf8};
-ghost use Rattle.robots_warnings.specs.Rules.{after_byte, before_byte, begins_delimiter, begins_dot_segment, begins_odd_escape};
-ghost use Rattle.robots_warnings.specs.Rules.{begins_oddly, begins_sign, begins_wildcard, has, has_any, has_dollar_inside};
-ghost use Rattle.robots_warnings.specs.Rules.{has_more_after_dollar, has_odd_character, has_odd_start, holds_otherwise, is_delimiter, is_expression, is_quoted, needs_no_escape};
-ghost use Rattle.robots_warnings.specs.Rules.{somewhere};
+ghost use Rattle.robots_warnings.specs.Rules.{after_byte, before_byte, begins_delimiter, begins_dot_segment};
+ghost use Rattle.robots_warnings.specs.Rules.{begins_odd_escape, begins_oddly, begins_sign, begins_wildcard};
+ghost use Rattle.robots_warnings.specs.Rules.{has, has_any, has_dollar_inside, has_more_after_dollar};
+ghost use Rattle.robots_warnings.specs.Rules.{has_odd_character, has_odd_start, holds_otherwise, is_delimiter};
+ghost use Rattle.robots_warnings.specs.Rules.{is_expression, is_quoted, needs_no_escape, somewhere};
 
 use crate::urls::begins_as_url;
 use memchr::memchr;
@@ -91,8 +92,8 @@ pub(crate) fn holds_otherwise(value: &[u8]) -> bool
     has_any(b"\t\\^{}", before_byte(b'?', value)) || has_any(b"\t'`", after_byte(b'?', value))
 }
 
-/// Whether the value contains a byte that crawlers encode differently. Some bytes are only that after the first `?` or
-/// star.
+/// Whether the value contains a byte that crawlers encode differently. Some are only that after the first `?`
+/// or star.
 pub(crate) fn has_odd_character(value: &[u8]) -> bool
     ensures { result ≡ has_odd_character value.now }
 {
@@ -139,9 +140,10 @@ pub(crate) fn is_expression(value: &[u8]) -> bool
         || value.ends_with(b")+")
 }
 
-/// Whether the value contains such a byte, is not in quotes, and has no byte that a parsed URL contains in another form.
+/// Whether the value contains such a byte, but isn't in quotes and has no other warning about its bytes.
 pub(crate) fn is_only_odd(value: &[u8]) -> bool
-    ensures { result ≡ (has_odd_character value.now && not (holds_otherwise value.now || is_quoted value.now)) }
+    ensures { result
+        ≡ (has_odd_character value.now && not (holds_otherwise value.now || is_quoted value.now)) }
 {
     has_odd_character(value) && !(holds_otherwise(value) || is_quoted(value))
 }
@@ -169,7 +171,7 @@ pub(crate) fn needs_no_escape(byte: u8) -> bool
     byte.is_ascii_alphanumeric() || has(byte, b"-._~")
 }
 
-/// Whether a byte is a reserved character of RFC 3986 that isn't special in a rule, and that a path or a query may have.
+/// Whether a byte is a reserved character of RFC 3986, but not special in a rule, and a path or a query may have it.
 pub(crate) fn is_delimiter(byte: u8) -> bool
     ensures { result ≡ is_delimiter byte }
 {

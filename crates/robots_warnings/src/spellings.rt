@@ -1,4 +1,4 @@
-//! Rules with a percent escape that a spelling doesn't have, for which the group has no rule in that spelling.
+//! Rules with percent escapes that a spelling doesn't have, and that their group lacks in that spelling.
 ghost use Rattle.std.specs.Prelude.{◌≡◌, ◌<◌, ◌++◌, ◌&&◌, Bool, List, IfOk, OnOk, length, map, slice_index, true};
 ghost use Rattle.std.specs.Char.{is_ascii_hexdigit};
 ghost use Rattle.std.specs.List.{list_any, slice_split};
@@ -133,7 +133,7 @@ fn is_unpaired(
     Ok(!has_value(values, &other))
 }
 
-/// Whether the line is a rule that is checked and has such an escape, and in this spelling it is none of these rules.
+/// Whether the line is a rule that is checked and has such an escape, and in this spelling is none of these rules.
 fn is_unpaired_at(
     alloc: Global,
     spelling: Spelling,
@@ -173,8 +173,8 @@ fn has_other_lines(spelling: Spelling, group: &[LabeledLine<'_>]) -> bool
         .any(|labeled| has_other_line(spelling, labeled))
 }
 
-/// Appends the numbers of the rules of a group that are checked, have such an escape, and in this spelling are no rule of
-/// their kind in the group.
+/// Appends the numbers of the rules of a group that are checked, have such an escape, and in this spelling are no
+/// rule of their kind in the group.
 fn add_unpaired(
     alloc: Global,
     found: &mut Vec<usize>,
@@ -213,8 +213,8 @@ fn groups<'a, 'b>(
     labels.split(is_agent_line).collect(alloc)
 }
 
-/// The numbers of the rules that are checked, have such an escape, and in this spelling are no rule of their kind in their
-/// group.
+/// The numbers of the rules that are checked, have such an escape, and in this spelling are no rule of their kind in
+/// their group.
 pub(crate) fn unpaired(
     alloc: Global,
     spelling: Spelling,

@@ -2,12 +2,13 @@
 ghost use Rattle.std.specs.Prelude.{◌≡◌, ◌&&◌, IfOk, codes, nat_eq, not};
 ghost use Rattle.std.specs.List.{list_all, starts_with};
 ghost use Rattle.texting_robots.specs.Callers.{prepared};
-ghost use Rattle.robots_warnings.specs.Targets.{has_odd_target, is_normal, is_normal_byte, is_odd_url, requested_target};
+ghost use Rattle.robots_warnings.specs.Targets.{has_odd_target, is_normal, is_normal_byte, is_odd_url};
+ghost use Rattle.robots_warnings.specs.Targets.{requested_target};
 
 use crate::rules::{begins_odd_escape, is_delimiter, needs_no_escape, somewhere};
 use crate::urls::begins_as_url;
 use std::alloc::{AllocError, Global};
-use texting_robots::Robot;
+use texting_robots::{Error, Robot};
 use url::{ParseError, Position, Url};
 
 /// Whether the normal form of a path and a query may have the byte.
@@ -48,7 +49,8 @@ fn is_odd_path(alloc: Global, text: &str) -> Result<bool, AllocError>
     }
     match Robot::prepare_url(alloc, text) {
         Ok(target) => Ok(!is_normal(target.as_bytes())),
-        Err(_) => Err(AllocError),
+        Err(Error::Memory) => Err(AllocError),
+        Err(Error::InvalidRobots | Error::InvalidRule) => unreachable!(),
     }
 }
 

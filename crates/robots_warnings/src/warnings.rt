@@ -428,7 +428,7 @@ fn warn_of_google(
     )
 }
 
-/// Appends this warning about rules for which their group has no rule in this spelling.
+/// Appends this warning about the rules that their group lacks in this spelling.
 fn warn_of_spelling(
     alloc: Global,
     found: &mut Found<'_>,
@@ -457,22 +457,9 @@ fn warn_of_groups(
         (map label_by_value read.now.labels.now))) }
 {
     let (labels, site) = (read.labels, read.site);
-    warn_of_spelling(
-        alloc,
-        found,
-        Cause::NonstandardEscape,
-        Spelling::Standard,
-        everywhere,
-        labels,
-    )?;
-    warn_of_spelling(
-        alloc,
-        found,
-        Cause::EscapedDelimiter,
-        Spelling::Plain,
-        everywhere,
-        labels,
-    )?;
+    let (escape, delimiter) = (Cause::NonstandardEscape, Cause::EscapedDelimiter);
+    warn_of_spelling(alloc, found, escape, Spelling::Standard, everywhere, labels)?;
+    warn_of_spelling(alloc, found, delimiter, Spelling::Plain, everywhere, labels)?;
     warn_of_crawlers(alloc, found, agents, read)?;
     let replacing = replacing(alloc, site, agents, labels)?;
     let detail = Some(Detail::Rules(star_count(alloc, site)?));

@@ -8,8 +8,8 @@ use Rattle.robots_warnings.proofs.spellings.add_unpaired.Goals as goal
 pub returns-then-not-has_other_lines : goal.returns-then-not-has_other_lines
 returns-then-not-has_other_lines c =
     let group = c.args.group.now in
-    rw (none_unpaired c.args.spelling c.args.everywhere (lines_of (map label_by_value group)) group (search rules))
-    (sym (append-nil _))
+    let lines = lines_of (map label_by_value group) in
+    rw (none_unpaired c.args.spelling c.args.everywhere lines group (search rules)) (sym (append-nil _))
 
 pub loop-labeled-preserved : goal.loop-labeled-preserved
 loop-labeled-preserved c =
