@@ -123,7 +123,7 @@ module _ (name : List ℕ) where
   captured_closed is (member ∷ members) groups = refl
 
   -- after a user-agent line, the first group also counts as the name's if its token is the name
-  captured_after : (walk : GroupTracker) (token : List ℕ) (members : List Member) (groups : List Group)
+  pub captured_after : (walk : GroupTracker) (token : List ℕ) (members : List Member) (groups : List Group)
       → captured walk [] (put_before (token ∷ []) members groups)
       ≡ captured (run (is_named token || walk.named)) members groups
   captured_after walk token [] [] = rw (cond_same {X = List Member} _ []) refl
@@ -223,27 +223,38 @@ groups_with_name agent sources =
     named_groups agent (parts_in sources).groups (lines_in sources) _
     (any_named (str_to_ascii_lowercase agent) sources) refl
 
--- if no rule comes before the first token, a crawler gets the rules that the groups define for it
-pub rules_written : (agent : List ℕ) (sources : List Source) → Each IsRead sources
-    → filter is_rule (parts_in sources).ungrouped ≡ []
-    → AllZip IsReadAs (rfc.rules_for agent (parts_in sources).groups)
-    (rules_for agent (lines_in sources))
-rules_written agent sources all none =
-    let parts = parts_in sources in
-    let lines = lines_in sources in
-    let name = group_name agent lines in
-    rw (rules_are agent lines, ← groups_with_name agent sources) (
-    subst (λ members. AllZip IsReadAs members (given_captured rule_in name (start_of lines) lines))
-    (ap (filter is_rule) (captured_closed name (not (list_any is_agent lines)) parts.ungrouped parts.groups)
-    ∙ grouped (not (list_any is_agent lines)) (theirs name parts.groups))
-    (walk_finds rule_in is_rule IsReadAs rules_given name (start_of lines) sources all))
-  where
-    grouped : (is : Bool) (members : List Member)
-        → filter is_rule (cond is (parts_in sources).ungrouped [] ++ members) ≡ filter is_rule members
-    grouped true members =
-        filter-append is_rule (parts_in sources).ungrouped members
-        ∙ ap (λ rules. rules ++ filter is_rule members) none
-    grouped false members = refl
+module _ (agent : List ℕ) (sources : List Source)
+    (none : filter is_rule (parts_in sources).ungrouped ≡ []) where
+  abbrev own_name : List ℕ
+  own_name = group_name agent (lines_in sources)
+
+  -- the rules among the members that apply from the first line on are those of the crawler's groups
+  pub rules_captured : filter is_rule (captured own_name (start_of (lines_in sources)) (parts_in sources).ungrouped
+      (parts_in sources).groups)
+      ≡ rfc.rules_for agent (parts_in sources).groups
+  rules_captured =
+      let parts = parts_in sources in
+      let is = not (list_any is_agent (lines_in sources)) in
+      ap (filter is_rule) (captured_closed own_name is parts.ungrouped parts.groups)
+      ∙ grouped is (theirs own_name parts.groups)
+      ∙ ap (λ groups. filter is_rule (members_in groups)) (groups_with_name agent sources)
+    where
+      grouped : (is : Bool) (members : List Member)
+          → filter is_rule (cond is (parts_in sources).ungrouped [] ++ members) ≡ filter is_rule members
+      grouped true members =
+          filter-append is_rule (parts_in sources).ungrouped members
+          ∙ ap (λ rules. rules ++ filter is_rule members) none
+      grouped false members = refl
+
+  -- if no rule comes before the first token, a crawler gets the rules that the groups define for it
+  pub rules_written : Each IsRead sources
+      → AllZip IsReadAs (rfc.rules_for agent (parts_in sources).groups)
+      (rules_for agent (lines_in sources))
+  rules_written all =
+      let lines = lines_in sources in
+      rw (rules_are agent lines) (
+      subst (λ members. AllZip IsReadAs members (given_captured rule_in own_name (start_of lines) lines))
+      rules_captured (walk_finds rule_in is_rule IsReadAs rules_given own_name (start_of lines) sources all))
 
 -- delays are what the lines of delays give
 delays_given : IsGiven delay_in is_delay IsDelayOf

@@ -51,7 +51,7 @@ module _ (stays : Reading) (members : List rfc.Member) (uri : List ℕ) where
     ];
     fit = λ member has. each_contains (IsFit stays members) members member fit has;
     counted = λ path listed. refl;
-    empty = λ has. longer;
+    empty = λ has path listed some. inl (longer path listed some);
   }
     where
       longer : (path : List ℕ) → Contains members (rfc.Disallow path) → path ≢ [] → 1 < octets stays path

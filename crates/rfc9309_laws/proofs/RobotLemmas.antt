@@ -81,7 +81,7 @@ pub rules_read : (text agent : List ℕ) (numbers : List (List ℕ)) (groups : L
     → AllZip IsReadAs (rfc.rules_for agent (rfc.merged groups)) (rules_for agent (file_lines text))
 rules_read text agent numbers groups is =
     rw (← groups_written text numbers groups is, (file_same text agent).0.rules) (
-    rules_written agent (file_sources text) is.read is.none)
+    rules_written agent (file_sources text) is.none is.read)
 
 lines_are : (text : List ℕ) → AreFileLinesOf (file_lines text) text
 lines_are text = (each_text_has_its_lines (map nul_as_lf text) (file_lines text)).1 refl

@@ -8,7 +8,7 @@ use Rattle.std.proofs.lemmas.List.{Concat.flat_map-append, Elements.All-contains
 use Rattle.texting_robots.specs.Callers.{IsDenied, IsRobotOfFile, IsVerdict, Matches, RobotValue, Rule}
 use Rattle.texting_robots.specs.Callers.{escaped}
 use Rattle.texting_robots.specs.Callers.{file_limit, unplaced}
-use Rattle.texting_robots.specs.{Escape.escape_byte, Escape.is_escaped, Pattern.dollar, Trim.IsTrimOf}
+use Rattle.texting_robots.specs.{Escape.escape_byte, Escape.is_escaped, Pattern.MatchesWith, Pattern.dollar, Trim.IsTrimOf}
 use Rattle.texting_robots.proofs.{EscapeLemmas.plain_stays, TrimLemmas.is_trimmed}
 use Rattle.texting_robots.proofs.{VerdictLemmas.same_verdicts}
 use Rattle.rfc9309_laws.specs.ReadAs.{IsReadAs}
@@ -46,6 +46,10 @@ zip_right (first ∷ members) (rule ∷ rules) member (is, zip) (zero, below, at
 zip_right (first ∷ members) (rule ∷ rules) member (is, zip) (suc k, below, at) =
     let (other, (j, low, here), as_read) = zip_right members rules member zip (k, omega arith, at) in
     (other, (suc j, omega arith, here), as_read)
+
+star_matches : (uri : List ℕ) → Matches (codes "*") uri
+unfolding MatchesWith
+star_matches uri = (uri, ([], refl), tt)
 
 kind_of : (rule other : Rule) → ◌≡◌ {A = Rule} rule other → rule.1 ≡ other.1
 kind_of rule other e = ap (λ (r : Rule). r.1) e
@@ -183,7 +187,10 @@ module _ (stays : Reading) (count : List ℕ → ℕ) (members : List rfc.Member
       -- an empty Disallow isn't a twin, since it has too few octets
       not_empty : (spelling : List ℕ) → Contains members (rfc.Disallow spelling)
           → length (escaped spelling) ≡ octets stays is.path → spelling ≢ []
-      not_empty [] listed size e = let longer = are.empty listed is.path is.listed is.some in omega arith
+      not_empty [] listed size e = elim (are.empty listed is.path is.listed is.some) [
+        | inl longer ↦ omega arith
+        | inr (one, allowed) ↦ omega arith
+      ]
       not_empty (b ∷ spelling) listed size e = cc
 
       shorter : (spelling : List ℕ) → IsComparedAs stays is.path spelling → (pattern : List ℕ)
@@ -201,11 +208,26 @@ module _ (stays : Reading) (count : List ℕ → ℕ) (members : List rfc.Member
                 let one = counts path path (inl listed) plain_path in
                 omega arith
             | inr (empty, root) ↦
-                let longer = are.empty empty is.path is.listed is.some in
+                let here : Matches (codes "/") uri = rw root at matches in
                 let size = ap length root in
                 let one = octets_are stays is.path spelling same in
-                omega arith
+                elim (are.empty empty is.path is.listed is.some) [
+                  | inl longer ↦ omega arith
+                  | inr (single, inl slash) ↦ let more = longer_than 47 slash refl here in omega arith
+                  | inr (single, inr star) ↦ let more = longer_than 42 star refl (star_matches uri) in omega arith
+                ]
           ]
+        where
+          -- than an Allow of one octet that matches
+          longer_than : (b : ℕ) → Contains members (rfc.Allow (b ∷ [])) → length (escaped (b ∷ [])) ≡ 1
+              → Matches (escaped (b ∷ [])) uri → 1 < length (escaped spelling)
+          longer_than b listed size here =
+              let path : List ℕ = b ∷ [] in
+              let is_plain = plain rfc.Allow path here (are.fit (rfc.Allow path) listed) in
+              let less = is.most path listed ((matching path path is_plain).0 here) in
+              let one = counts path path (inl listed) is_plain in
+              let two = counts is.path spelling (inr is.listed) same in
+              omega arith
 
   pub verdicts_agree : (answer : Bool)
       → IsVerdict rules uri answer ↔ IsRfcVerdict stays count members uri answer

@@ -293,7 +293,7 @@ module _ (kind : Kind) (value body : List ℕ) (line : HasColon kind value body)
   abbrev kept : List ℕ
   kept = front ++ 58 ∷ line.region
 
-  plain : Each IsPlainByte front
+  pub plain : Each IsPlainByte front
   plain =
       plain_front kind line.margin line.key line.blanks line.margin_blank line.is_key line.blanks_blank
 

@@ -339,7 +339,8 @@ module _ (agent file : List ℕ) (rules : List PlacedRule)
 
   module _ (is_empty : ℕ → Bool)
       (right : (number : ℕ) → is_empty number ≡ true → IsEmptyDisallow bodies number)
-      (silent : (number : ℕ) → overruled_for is_empty (lines_read file) number agent ≡ None) where
+      (silent : (placed : PlacedRule) → Contains rules placed
+      → overruled_for is_empty (lines_read file) placed.line agent ≡ None) where
     abbrev stated : List PlacedRule
     stated = stated_rules is_empty rules
 
@@ -382,6 +383,38 @@ module _ (agent file : List ℕ) (rules : List PlacedRule)
               longest q (subst (Contains (unplaced rules)) same (unplaced_of rules allow there)),
         )
 
+    -- beside an empty Disallow and a Disallow of everything, there is an Allow of everything
+    pub allow_beside : (allow deny : PlacedRule) → Contains rules allow → is_empty allow.line ≡ true
+        → Contains rules deny → deny.rule.1 ≡ false → compared deny.rule.0 ≡ root
+        → (one : PlacedRule) × Contains rules one × (one.rule.1 ≡ true) × (compared one.rule.0 ≡ root)
+        × (is_empty one.line ≡ false)
+    allow_beside allow deny there empty own denies alike =
+        let are_all = computed_are agent (lines_read file) in
+        let first = first_line (is_like is_empty true root) all in
+        elim (cases_Bool (is_some first)) [
+          | inl some ↦
+              let (n, found) = some_or_none first some in
+              let (one, listed_too, allows, like, stated_too, line) =
+              like_found is_empty all true root n found in (
+                one,
+                also_listed are_all are one listed_too,
+                allows,
+                like,
+                subst (λ n. is_empty n ≡ false) (sym line) stated_too,
+              )
+          | inr lacking ↦
+              let isnt = denies_stated deny deny.rule.0 own (ap (λ b. (deny.rule.0, b)) denies) in
+              let has = listed all deny false deny.line (also_listed are are_all deny own) denies refl in
+              let found = like_holds is_empty all false root deny.line deny.rule.0 alike isnt has in
+              let at_root = rule_there allow there (right allow.line empty) in
+              let given = listed all allow true allow.line (also_listed are are_all allow there)
+              (ap (λ (rule : Rule). rule.1) at_root) refl in
+              let holds = first_some (at_line allow.line (overruled_by is_empty all)) all
+              (record { rule = (allow.rule.0, true); line = allow.line }) given
+              (rw (eq-eqb allow.line allow.line refl, empty, lacking) found) in
+              absurd (false≢true (sym (ap is_some (silent allow there)) ∙ holds))
+        ]
+
     module _ (text p : List ℕ) (denied : Contains (unplaced stated) (p, false)) (fits : Matches p text)
         (longest : (q : List ℕ) → Contains (unplaced stated) (q, true) → Matches q text → length q < length p)
         (allow : PlacedRule) (there : Contains rules allow) (empty : is_empty allow.line ≡ true)
@@ -390,34 +423,13 @@ module _ (agent file : List ℕ) (rules : List PlacedRule)
       never_short : ¬ (length p ≡ 1)
       never_short short =
           let (deny, own, isnt, is) = from (p, false) denied in
-          let are_all = computed_are agent (lines_read file) in
-          let first = first_line (is_like is_empty true root) all in
-          let has = listed all deny false deny.line (also_listed are are_all deny own)
-          (ap (λ (rule : Rule). rule.1) is) refl in
-          let same = ap (λ (rule : Rule). rule.0) is in
-          let alike = one_byte p text short fits path in
-          elim (cases_Bool (is_some first)) [
-            | inl some ↦
-                let (n, found) = some_or_none first some in
-                let (one, own_too, allows, like, stated_too, line) =
-                like_found is_empty all true root n found in
-                let (matches, long) = root_wins one.rule.0 text like path in
-                let stays = kept one (also_listed are_all are one own_too)
-                (subst (λ n. is_empty n ≡ false) (sym line) stated_too) in
-                let less = longest one.rule.0
-                (subst (λ b. Contains (unplaced stated) (one.rule.0, b)) allows stays) matches in
-                omega arith
-            | inr lacking ↦
-                let found = like_holds is_empty all false root deny.line deny.rule.0
-                (ap compared same ∙ alike) isnt has in
-                let at_root = rule_there allow there (right allow.line empty) in
-                let given = listed all allow true allow.line (also_listed are are_all allow there)
-                (ap (λ (rule : Rule). rule.1) at_root) refl in
-                let holds = first_some (at_line allow.line (overruled_by is_empty all)) all
-                (record { rule = (allow.rule.0, true); line = allow.line }) given
-                (rw (eq-eqb allow.line allow.line refl, empty, lacking) found) in
-                false≢true (sym (ap is_some (silent allow.line)) ∙ holds)
-          ]
+          let alike = ap (λ (rule : Rule). compared rule.0) is ∙ one_byte p text short fits path in
+          let (one, there_too, allows, like, stated_too) =
+          allow_beside allow deny there empty own (ap (λ (rule : Rule). rule.1) is) alike in
+          let (matches, long) = root_wins one.rule.0 text like path in
+          let less = longest one.rule.0
+          (subst (λ b. Contains (unplaced stated) (one.rule.0, b)) allows (kept one there_too stated_too)) matches in
+          omega arith
 
       longer : 1 < length p
       longer = elim (cases_lt 1 (length p)) [

@@ -154,13 +154,13 @@ digits (b ∷ text) is =
     passing rfc.IsDigitByte is_ascii_digit digit (b ∷ text) both.1
 
 -- the text before a byte, that byte, and the text after it; or a text without the byte
-record IsSplitAt (stop : ℕ) (text : List ℕ) : Type 0 where
-  front : List ℕ
-  rest : List ℕ
-  whole : text ≡ front ++ stop ∷ rest
-  before : Each (λ b. b ≢ stop) front
+pub record IsSplitAt (stop : ℕ) (text : List ℕ) : Type 0 where
+  pub front : List ℕ
+  pub rest : List ℕ
+  pub whole : text ≡ front ++ stop ∷ rest
+  pub before : Each (λ b. b ≢ stop) front
 
-split : (stop : ℕ) (text : List ℕ) → Each (λ b. b ≢ stop) text ⊎ IsSplitAt stop text
+pub split : (stop : ℕ) (text : List ℕ) → Each (λ b. b ≢ stop) text ⊎ IsSplitAt stop text
 split stop [] = inl tt
 split stop (b ∷ text) = elim (cases_Bool (b == stop)) [
   | inl is ↦ inr (record {

@@ -1,4 +1,5 @@
--- Every file has an audit, and without `--needless` only one. Needless rules can be deleted together.
+-- Every file has an audit, and without `--needless` only one. Needless rules can be deleted together. What a report
+-- tells about the syntax of a file and its verdicts is so.
 use Rattle.std.proofs.Common.{◌≡◌, ◌≢◌, ◌≤◌, ◌↔◌, ℕ, Bool, inl, inr, List, [], ◌∷◌, Contains, IsUtf8, arith}
 use Rattle.std.proofs.Common.{codes, length, ltb-false, refl, subst, subst₂, sym, take, take_all, ◌⊎◌, suc}
 use Rattle.std.proofs.Common.{false, true, ◌++◌, ap, ap₂, None, Option, Some, ◌∙◌}
@@ -24,6 +25,23 @@ use Rattle.texting_robots.proofs.{BestLemmas.each_text_answered, ExampleLemmas.o
 use Rattle.robots_needless.specs.declared.needless.NeedlessRule.{NeedlessRule}
 use Rattle.robots_warnings.specs.Facts.{is_too_large}
 use Rattle.texting_robots.specs.declared.decision.Decision.{Decision}
+use Rattle.std.proofs.Common.{if◌then◌else◌, is_none, map, not, ◌==◌, ◌||◌, ltb-false}
+use Rattle.std.proofs.lemmas.Bool.{ne_eqb, not-false, or_parts}
+use Rattle.texting_robots.specs.Callers.{IsRobotOfFile, RobotValue}
+use Rattle.rfc9309_laws.specs.Rfc9309.{Group, IsFile}
+use Rattle.rfc9309_laws.proofs.SyntaxLemmas.{each_front, passing}
+use Rattle.robots_warnings.specs.{Facts.facts_of, File.labels_for, Warnings.warnings, WarningValue.WarningValue}
+use Rattle.robots_warnings.specs.Table.{is_not_about_syntax, keeps_verdicts}
+use Rattle.robots_warnings.specs.declared.table.Cause.{Cause}
+use Rattle.audit_core.specs.Audit.{labeling_agent}
+use Rattle.audit_core.specs.Syntax.{has_standard_verdicts, has_syntax_warning, is_about_syntax, is_standard}
+use Rattle.audit_core.specs.Syntax.{keep_verdicts}
+use Rattle.audit_core.specs.declared.syntax.Syntax.TheVariants.{Standard, StandardVerdicts, StandardWithoutWarnings}
+use Rattle.audit_core.specs.{Needless.needless_warning}
+use Rattle.warnings_laws.proofs.SyntaxLemmas.{ArePassed, robot_stated, silence}
+use Rattle.warnings_laws.proofs.{VerdictLemmas.verdicts_stated}
+use Rattle.warnings_laws.specs.Syntax.{IsNotAboutSyntax, IsRobotStated, warnings_of}
+use Rattle.warnings_laws.specs.Verdict.{IsAsked, IsStandardVerdict}
 
 -- a crawler with this name decides each text as it does without the found lines
 abbrev DecidesAlike : List LineValue → List NeedlessRule → List ℕ → Type 0
@@ -306,3 +324,114 @@ some_audit requested file =
         syntax_is = refl;
       },
     )
+
+-- ---- what a report tells
+
+each_not : (warnings : List WarningValue) → has_syntax_warning warnings ≡ false
+    → Each IsNotAboutSyntax warnings
+unfolding is_about_syntax
+each_not [] none = tt
+each_not (warning ∷ warnings) none =
+    let parts = or_parts (not (is_not_about_syntax warning.cause)) (has_syntax_warning warnings) none in
+    (not-false (is_not_about_syntax warning.cause) parts.0, each_not warnings parts.1)
+
+-- all groups are checked and the whole file is read, and the warnings pass the test
+record IsKnown (test : Cause → Bool) (agent : Option (List ℕ)) (large : Bool) (warnings : List WarningValue)
+    : Type 0 where
+  everyone : agent ≡ None
+  whole : large ≡ false
+  passed : ArePassed test warnings
+
+known : (agent : Option (List ℕ)) (large rejected : Bool) (warnings : List WarningValue)
+    → is_standard (syntax_of agent large rejected warnings) ≡ true → IsKnown is_not_about_syntax agent large warnings
+known (Some agent) large rejected warnings is = absurd (false≢true is)
+known None true rejected warnings is = absurd (false≢true is)
+known None false true warnings is = absurd (false≢true is)
+known None false false warnings is = elim (cases_Bool (has_syntax_warning warnings)) [
+  | inl some ↦ absurd (false≢true (rw some at is))
+  | inr none ↦ record { everyone = refl; whole = refl; passed = each_not warnings none }
+]
+
+known_verdicts : (agent : Option (List ℕ)) (large rejected : Bool) (warnings : List WarningValue)
+    → has_standard_verdicts (syntax_of agent large rejected warnings) ≡ true
+    → IsKnown keeps_verdicts agent large warnings
+known_verdicts (Some agent) large rejected warnings is = absurd (false≢true is)
+known_verdicts None true rejected warnings is = absurd (false≢true is)
+known_verdicts None false true warnings is = absurd (false≢true is)
+known_verdicts None false false warnings is =
+    elim (cases_Bool (has_syntax_warning warnings)) [
+      | inl some ↦ absurd (false≢true (rw some at is))
+      | inr none ↦ record { everyone = refl; whole = refl; passed = by warnings (rw none at is) }
+    ]
+  where
+    by : (warnings : List WarningValue)
+        → has_standard_verdicts (if length warnings == 0 then StandardWithoutWarnings
+        else (if keep_verdicts warnings then StandardVerdicts else Standard)) ≡ true
+        → ArePassed keeps_verdicts warnings
+    by [] is = tt
+    by (warning ∷ warnings) is = elim (cases_Bool (keep_verdicts (warning ∷ warnings))) [
+      | inl all ↦ passing _ (λ (warning : WarningValue). keeps_verdicts warning.cause) (λ _ is. is)
+          (warning ∷ warnings) all
+      | inr other ↦
+          let some : (length (warning ∷ warnings) == 0) ≡ false = ne_eqb _ 0 (λ e. omega arith) in
+          absurd (false≢true (rw (some, other) at is))
+    ]
+
+-- all warnings but those about needless rules, as `warnings_found` has them
+abbrev warnings_for : Option (List ℕ) → (named agents urls : List (List ℕ)) → List ℕ → List WarningValue
+warnings_for agent named agents urls file =
+    let labels = labels_for (labeling_agent agent) (lines_read file) in
+    warnings (is_none agent) named agents urls file (facts_of file labels) labels (lines_read file)
+
+-- if the request isn't about a single crawler, the warnings are those of all groups
+passed_on : (test : Cause → Bool) (agent : Option (List ℕ)) (named agents urls : List (List ℕ)) (file : List ℕ)
+    → agent ≡ None → ArePassed test (warnings_for agent named agents urls file)
+    → ArePassed test (warnings_of named agents urls file)
+passed_on test None named agents urls file everyone all = all
+passed_on test (Some agent) named agents urls file everyone all = absurd cc
+
+module _ (requested : RequestValue) (file : List ℕ) (audit : AuditValue) (is : IsAuditOf requested file audit)
+  where
+    abbrev found : List WarningValue
+    found = warnings_found requested file (labels_requested requested file) is.needless
+
+    abbrev agents : List (List ℕ)
+    agents = agents_requested requested.agents (lines_read file)
+
+    audited : (test : Cause → Bool) → IsKnown test requested.agent (is_too_large file) found
+        → ArePassed test (warnings_of requested.agents agents requested.urls file)
+    audited test known =
+        passed_on test requested.agent requested.agents agents requested.urls file known.everyone
+        (each_front (λ warning. test warning.cause ≡ true)
+        (warnings_for requested.agent requested.agents agents requested.urls file)
+        (map needless_warning is.needless) known.passed)
+
+    module _ (standard : is_standard audit.syntax ≡ true) where
+      is_known : IsKnown is_not_about_syntax requested.agent (is_too_large file) found
+      is_known =
+          known requested.agent (is_too_large file) (rejects_some audit.agents) found
+          (subst (λ syntax. is_standard syntax ≡ true) is.syntax_is standard)
+
+      pub file_of_the_standard : (groups : List Group) × IsFile groups file
+      file_of_the_standard =
+          let (groups, is) =
+          silence requested.agents agents requested.urls file (audited is_not_about_syntax is_known) in (
+            groups,
+            subst (IsFile groups) (take_all file_limit file (ltb-false file_limit (length file) is_known.whole))
+                is,
+          )
+
+      pub robot_of_the_standard : (agent : List ℕ) (robot : RobotValue)
+          → IsRobotOfFile agent (take file_limit file) robot → IsRobotStated agent file robot
+      robot_of_the_standard agent robot of =
+          robot_stated requested.agents agents requested.urls file (audited is_not_about_syntax is_known) agent robot
+          of
+
+    pub verdicts_of_the_standard : has_standard_verdicts audit.syntax ≡ true → (agent uri : List ℕ)
+        (groups : List Group) (robot : RobotValue) (answer : Bool) → IsAsked agents file agent uri
+        → IsFile groups file → IsRobotOfFile agent (take file_limit file) robot
+        → IsVerdict (unplaced robot.rules) uri answer ↔ IsStandardVerdict groups agent uri answer
+    verdicts_of_the_standard standard agent uri groups robot answer =
+        verdicts_stated requested.agents agents requested.urls file agent uri groups robot answer
+        (audited keeps_verdicts (known_verdicts requested.agent (is_too_large file) (rejects_some audit.agents) found
+        (subst (λ syntax. has_standard_verdicts syntax ≡ true) is.syntax_is standard)))

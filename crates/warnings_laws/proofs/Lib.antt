@@ -6,9 +6,15 @@ pub mod QuietLemmas
 pub mod FormLemmas
 pub mod SyntaxLemmas
 pub mod SplitLemmas
+pub mod PathLemmas
+pub mod RuleLemmas
+pub mod TwinLemmas
+pub mod CaughtLemmas
 pub mod ConflictLemmas
 pub mod EmptyDisallowLemmas
 pub mod RepeatedLemmas
 pub mod GroupLemmas
+pub mod VerdictLemmas
+pub mod CrawlerLemmas
 pub mod LawLemmas
 pub mod WarningLemmas

@@ -222,7 +222,7 @@ pub data IsRuleValue (value : List ℕ) : Type 0 where
   Path : rfc.IsPathPattern value → IsRuleValue value
   Star : rfc.IsStarPattern value → IsRuleValue value
 
-started : (value : List ℕ) → not (has_odd_start value) ≡ true → not (begins_as_url value) ≡ true
+pub started : (value : List ℕ) → not (has_odd_start value) ≡ true → not (begins_as_url value) ≡ true
     → not (is_quoted value) ≡ true → begins_oddly value ≡ false
 started value starts url quoted =
     by (begins_oddly value) (begins_as_url value) (is_quoted value) starts url quoted
@@ -234,7 +234,7 @@ started value starts url quoted =
     by true false true one two three = absurd (false≢true three)
     by true false false one two three = absurd (false≢true one)
 
-first_byte : (b : ℕ) (text : List ℕ) → begins_oddly (b ∷ text) ≡ false → (b ≡ 0x2F) ⊎ (b ≡ 0x2A)
+pub first_byte : (b : ℕ) (text : List ℕ) → begins_oddly (b ∷ text) ≡ false → (b ≡ 0x2F) ⊎ (b ≡ 0x2A)
 first_byte b text is = elim (or_cases (b == 0x2F) (b == 0x2A) (not-false _ is)) [
   | inl slash ↦ inl (eqb-true b 0x2F slash)
   | inr star ↦ inr (eqb-true b 0x2A star)
@@ -256,8 +256,10 @@ pub rule_value : (value : List ℕ) → AreQuiet (rule_checks value) → Each (�
     → IsRuleValue value
 unfolding topic_of
 rule_value [] all plain = Empty refl
-rule_value (b ∷ text) (utf8, (starts, (url, (escapes, (quoted, (regex, (dollar, (dots, (several, end)))))))))
-    plain =
+rule_value (b ∷ text) (
+  utf8,
+  (starts, (url, (odd, (escapes, (quoted, (regex, (more, (dollar, (wild, (dots, (several, end))))))))))),
+) plain =
     let first = first_byte b text (started (b ∷ text) starts url quoted) in
     let one = not-false (is_utf8 (b ∷ text)) (not-true _ utf8) in
     let single = second (is_utf8 (b ∷ text)) (has_several_values (b ∷ text)) one (not-true _ several) in

@@ -218,7 +218,7 @@ walk preceding name before tokens ((_, text) ∷ sources) sole are =
 -- ---- the file
 
 -- ignored lines have no part
-raw_parts : (sources : List Source) → parts_in (filter is_not_raw sources) ≡ parts_in sources
+pub raw_parts : (sources : List Source) → parts_in (filter is_not_raw sources) ≡ parts_in sources
 raw_parts [] = refl
 raw_parts ((Raw body, text) ∷ sources) = raw_parts sources
 raw_parts ((line, text) ∷ sources) = ap (with_source (line, text)) (raw_parts sources)

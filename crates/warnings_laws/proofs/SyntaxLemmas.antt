@@ -1,5 +1,5 @@
 -- A file without warnings about its syntax follows the grammar: its start is in order, each line has a form,
--- and each rule is below a user-agent line. What a report tells about the syntax of a file is so.
+-- and each rule is below a user-agent line.
 use Rattle.std.proofs.Common.{◌≡◌, ◌≢◌, inl, inr, ℕ, suc, ◌==◌, ◌&&◌, Bool, true, false, List, [], ◌∷◌, ◌++◌}
 use Rattle.std.proofs.Common.{All, nat_eq, not, refl, sym, take, zero, ◌<◌, Some, ap, arith, length, map}
 use Rattle.std.proofs.Common.{slice_get, subst, ◌∙◌, ◌||◌, None, Option, codes, flat_map, if◌then◌else◌}
@@ -25,12 +25,8 @@ use Rattle.texting_robots.specs.Callers.{lines_read}
 use Rattle.texting_robots.specs.{Group.is_agent, Group.passes_at, Line.without_front, Labels.AreLabelsOf}
 use Rattle.rfc9309_laws.specs.LineForms.{AreRulesBelowAgents, Form, HasForm, AreForms}
 use Rattle.rfc9309_laws.specs.Rfc9309.{Group, IsFile}
-use Rattle.warnings_laws.specs.Syntax.{form_of, AreQuiet, IsNotAboutSyntax, is_quiet, HasSyntax}
+use Rattle.warnings_laws.specs.Syntax.{form_of, AreQuiet, IsNotAboutSyntax, IsQuietLine, HasSyntax}
 use Rattle.warnings_laws.specs.Syntax.{IsRobotStated, IsSilentOn, warnings_of}
-use Rattle.audit_core.specs.Audit.{AuditValue, IsAuditOf, agents_requested, labeling_agent, labels_requested}
-use Rattle.audit_core.specs.Audit.{rejects_some, warnings_found}
-use Rattle.audit_core.specs.Syntax.{has_syntax_warning, is_about_syntax, is_standard, syntax_of}
-use Rattle.audit_core.specs.{Request.RequestValue, Needless.needless_warning}
 use Rattle.warnings_laws.proofs.QuietLemmas.{each_back, second}
 use Rattle.warnings_laws.proofs.{WarningLemmas.below_agent, FormLemmas.line_form}
 use Rattle.std.proofs.lemmas.List.Elements.{All-from_recursion}
@@ -39,6 +35,8 @@ use Rattle.texting_robots.proofs.{CapturedLemmas.some_passes, LineLemmas.lines_o
 use Rattle.rfc9309_laws.proofs.LineFormLemmas.{forms_make_file}
 use Rattle.rfc9309_laws.proofs.{SyntaxLemmas.each_front, RobotLemmas.forms_robot}
 use Rattle.robots_warnings.specs.declared.facts.FileFacts.{FileFacts}
+use Rattle.robots_warnings.specs.declared.table.Cause.{Cause}
+use Rattle.texting_robots.specs.Internal.Line.{line_of}
 use Rattle.robots_warnings.specs.declared.positions.Preceding.{Preceding}
 use Rattle.robots_warnings.specs.declared.positions.Preceding.TheVariants.{Other}
 use Rattle.rfc9309_laws.specs.Rfc9309 as rfc
@@ -213,20 +211,49 @@ quiet_by true holds is = refl
 quiet_by false true is = is refl
 quiet_by false false is = refl
 
-one : (line : Option ℕ) (about : Option (List ℕ)) (check : Check)
-    → Each IsNotAboutSyntax (warning_of line about check) → is_quiet check ≡ true
-one line about check all = quiet_by (is_not_about_syntax check.0) check.1 (λ holds. (rw holds at all).0)
+-- the warnings have causes that pass the test
+abbrev pub ArePassed : (Cause → Bool) → List WarningValue → Type 0
+ArePassed test warnings = Each (λ warning. test warning.cause ≡ true) warnings
 
--- checks whose warnings aren't about syntax
-pub warned_quiet : (line : Option ℕ) (about : Option (List ℕ)) (checks : List Check)
-    → Each IsNotAboutSyntax (warned line about checks) → AreQuiet checks
-warned_quiet line about [] all = tt
-warned_quiet line about (check ∷ checks) all =
-    let first : List WarningValue = warning_of line about check in
-    let rest : List WarningValue = warned line about checks in (
-      one line about check (each_front IsNotAboutSyntax first rest all),
-      warned_quiet line about checks (each_back IsNotAboutSyntax first rest all),
-    )
+-- so have those that the checks make
+abbrev pub AreQuietBy : (Cause → Bool) → List Check → Type 0
+AreQuietBy test checks = Each (λ check. (test check.0 || not check.1) ≡ true) checks
+
+module _ (test : Cause → Bool) where
+  one : (line : Option ℕ) (about : Option (List ℕ)) (check : Check)
+      → ArePassed test (warning_of line about check) → (test check.0 || not check.1) ≡ true
+  one line about check all = quiet_by (test check.0) check.1 (λ holds. (rw holds at all).0)
+
+  pub warned_quiet : (line : Option ℕ) (about : Option (List ℕ)) (checks : List Check)
+      → ArePassed test (warned line about checks) → AreQuietBy test checks
+  warned_quiet line about [] all = tt
+  warned_quiet line about (check ∷ checks) all =
+      let first : List WarningValue = warning_of line about check in
+      let rest : List WarningValue = warned line about checks in (
+        one line about check (each_front _ first rest all),
+        warned_quiet line about checks (each_back _ first rest all),
+      )
+
+  -- the same, line by line
+  pub lines_quiet : (bodies : List (List ℕ)) (labels : List Label) → lines_of labels ≡ map line_of bodies
+      → ArePassed test (lines_warnings true bodies labels)
+      → Each (λ body. AreQuietBy test (line_checks true (line_of body) body)) bodies
+  lines_quiet [] labels same all = tt
+  lines_quiet (body ∷ bodies) [] same all = absurd cc
+  lines_quiet (body ∷ bodies) (label ∷ labels) same all =
+      let first : List WarningValue = line_warnings true label body in
+      let rest : List WarningValue = lines_warnings true bodies labels in
+      let line : label.line ≡ line_of body = cc in (
+        subst (λ line. AreQuietBy test (line_checks true line body)) line
+            (warned_quiet (Some label.number) None (line_checks true label.line body)
+            (each_front _ first rest all)),
+        lines_quiet bodies labels (cc) (each_back _ first rest all),
+      )
+
+  pub shown : (hidden : Bool) (warnings : List WarningValue) → hidden ≡ false
+      → ArePassed test (if hidden then [] else warnings) → ArePassed test warnings
+  shown true warnings isnt all = absurd (false≢true (sym isnt))
+  shown false warnings isnt all = all
 
 -- ---- the file
 
@@ -252,20 +279,12 @@ quiet_file facts (html, (utf_16, (other, (empty, (large, (agent, (mark, (nul, en
 
 -- ---- the lines
 
-pub lines_forms : (bodies : List (List ℕ)) (labels : List Label) → AllZip IsLineOf (lines_of labels) bodies
-    → Each IsNotAboutSyntax (lines_warnings true bodies labels)
-    → AllZip HasForm (map form_of (lines_of labels)) bodies
-lines_forms [] [] reads all = tt
-lines_forms [] (label ∷ labels) reads all = absurd reads
-lines_forms (body ∷ bodies) [] reads all = absurd reads
-lines_forms (body ∷ bodies) (label ∷ labels) reads all =
-    let first : List WarningValue = line_warnings true label body in
-    let rest : List WarningValue = lines_warnings true bodies labels in
-    let checks : List Check = line_checks true label.line body in (
-      line_form label.line body reads.0
-          (warned_quiet (Some label.number) None checks (each_front IsNotAboutSyntax first rest all)),
-      lines_forms bodies labels reads.1 (each_back IsNotAboutSyntax first rest all),
-    )
+lines_forms : (bodies : List (List ℕ)) → AllZip IsLineOf (map line_of bodies) bodies
+    → Each (λ body. IsQuietLine (line_of body) body) bodies
+    → AllZip HasForm (map form_of (map line_of bodies)) bodies
+lines_forms [] reads all = tt
+lines_forms (body ∷ bodies) reads all =
+    (line_form (line_of body) body reads.0 all.0, lines_forms bodies reads.1 all.1)
 
 -- ---- the positions
 
@@ -284,87 +303,105 @@ none_above last preceding above delay (label ∷ labels) all =
     let after : Option ℕ = first_delay delay label.line in
     let rest : List WarningValue = positions_from last next name after labels in
     let quiets =
-    warned_quiet (Some label.number) None checks (each_front IsNotAboutSyntax first rest all) in (
+    warned_quiet is_not_about_syntax (Some label.number) None checks
+    (each_front IsNotAboutSyntax first rest all) in (
       not-true _ quiets.0,
       none_above last next name after labels (each_back IsNotAboutSyntax first rest all),
     )
 
-shown : (b : Bool) (warnings : List WarningValue) → b ≡ false
-    → Each IsNotAboutSyntax (if b then [] else warnings) → Each IsNotAboutSyntax warnings
-shown true warnings isnt all = absurd (false≢true (sym isnt))
-shown false warnings isnt all = all
+-- ---- all warnings about a file
+
+module _ (file : List ℕ) where
+  abbrev pub bodies : List (List ℕ)
+  bodies = file_bodies (take file_limit file)
+
+  abbrev pub name : List ℕ
+  name = group_name (codes "*") (lines_read file)
+
+  abbrev pub labels : List Label
+  labels = labels_for (codes "*") (lines_read file)
+
+  abbrev pub facts : FileFacts
+  facts = facts_of file labels
+
+  pub labels_are : AreLabelsOf name (lines_read file) labels
+  labels_are = (each_line_has_its_label name (lines_read file) labels).1 refl
+
+  pub reads : AllZip IsLineOf (lines_read file) bodies
+  reads = lines_of_file_bodies (take file_limit file) bodies refl
+
+  module _ (test : Cause → Bool) (named agents urls : List (List ℕ))
+      (all : ArePassed test (warnings_of named agents urls file)) where
+    abbrev Passes : WarningValue → Type 0
+    Passes warning = test warning.cause ≡ true
+
+    abbrev general : List WarningValue
+    general = general_warnings facts true named urls
+
+    abbrev of_lines : List WarningValue
+    of_lines = file_lines_warnings facts true labels bodies
+
+    abbrev of_positions : List WarningValue
+    of_positions = position_warnings labels
+
+    abbrev past_limit : List WarningValue
+    past_limit = past_limit_warnings facts file labels
+
+    abbrev of_groups : List WarningValue
+    of_groups = group_warnings true agents bodies (lines_read file) labels
+
+    passed_later : Each Passes (of_lines ++ (of_positions ++ (past_limit ++ of_groups)))
+    passed_later = each_back Passes general (of_lines ++ (of_positions ++ (past_limit ++ of_groups))) all
+
+    passed_after : Each Passes (of_positions ++ (past_limit ++ of_groups))
+    passed_after = each_back Passes of_lines (of_positions ++ (past_limit ++ of_groups)) passed_later
+
+    pub facts_quiet : AreQuietBy test (file_checks facts)
+    facts_quiet =
+        warned_quiet test None None (file_checks facts) (each_front Passes (warned None None (file_checks facts))
+        (flat_map (agent_warnings true) named ++ flat_map url_warnings urls)
+        (each_front Passes general (of_lines ++ (of_positions ++ (past_limit ++ of_groups))) all))
+
+    pub bodies_quiet : suppresses_line_warnings facts ≡ false
+        → Each (λ body. AreQuietBy test (line_checks true (line_of body) body)) bodies
+    bodies_quiet are_shown =
+        lines_quiet test bodies labels labels_are.lines_are
+        (shown test (suppresses_line_warnings facts) (lines_warnings true bodies labels) are_shown
+        (each_front Passes of_lines (of_positions ++ (past_limit ++ of_groups)) passed_later))
+
+    pub passed_positions : ArePassed test of_positions
+    passed_positions = each_front Passes of_positions (past_limit ++ of_groups) passed_after
+
+    pub passed_groups : ArePassed test of_groups
+    passed_groups =
+        each_back Passes past_limit of_groups
+        (each_back Passes of_positions (past_limit ++ of_groups) passed_after)
 
 module _ (named agents urls : List (List ℕ)) (file : List ℕ)
     (silent : IsSilentOn named agents urls file) where
   abbrev text : List ℕ
   text = take file_limit file
 
-  abbrev lines : List LineValue
-  lines = lines_read file
-
-  abbrev name : List ℕ
-  name = group_name (codes "*") lines
-
-  abbrev labels : List Label
-  labels = labels_for (codes "*") lines
-
-  abbrev facts : FileFacts
-  facts = facts_of file labels
-
-  abbrev general : List WarningValue
-  general = general_warnings facts true named urls
-
-  abbrev of_lines : List WarningValue
-  of_lines = file_lines_warnings facts true labels (file_bodies text)
-
-  abbrev of_positions : List WarningValue
-  of_positions = position_warnings labels
-
-  abbrev others : List WarningValue
-  others = past_limit_warnings facts file labels ++ group_warnings true agents (file_bodies text) lines labels
-
-  silent_general : Each IsNotAboutSyntax general
-  silent_general = each_front IsNotAboutSyntax general (of_lines ++ (of_positions ++ others)) silent
-
-  silent_rest : Each IsNotAboutSyntax (of_lines ++ (of_positions ++ others))
-  silent_rest = each_back IsNotAboutSyntax general (of_lines ++ (of_positions ++ others)) silent
-
-  silent_lines : Each IsNotAboutSyntax of_lines
-  silent_lines = each_front IsNotAboutSyntax of_lines (of_positions ++ others) silent_rest
-
-  silent_positions : Each IsNotAboutSyntax of_positions
-  silent_positions =
-      each_front IsNotAboutSyntax of_positions others
-      (each_back IsNotAboutSyntax of_lines (of_positions ++ others) silent_rest)
-
-  quiets : IsQuietFile facts
-  quiets =
-      quiet_file facts (warned_quiet None None (file_checks facts)
-      (each_front IsNotAboutSyntax (warned None None (file_checks facts))
-      (flat_map (agent_warnings true) named ++ flat_map url_warnings urls) silent_general))
-
-  are : AreLabelsOf name lines labels
-  are = (each_line_has_its_label name lines labels).1 refl
-
-  same : lines_of labels ≡ lines
-  same = are.lines_are
-
-  reads : AllZip IsLineOf (lines_of labels) (file_bodies text)
-  reads = subst (λ l. AllZip IsLineOf l (file_bodies text)) (sym same)
-      (lines_of_file_bodies text (file_bodies text) refl)
+  pub quiets : IsQuietFile (facts file)
+  quiets = quiet_file (facts file) (facts_quiet file is_not_about_syntax named agents urls silent)
 
   abbrev forms : List Form
-  forms = map form_of (lines_of labels)
+  forms = map form_of (lines_read file)
 
   are_forms : AreForms forms text
-  are_forms = record {
-    no_nul = no_nul text quiets.nul;
-    bom = marked 511997 file quiets.mark;
-    each = lines_forms (file_bodies text) labels reads
-        (shown _ (lines_warnings true (file_bodies text) labels) quiets.shown silent_lines);
-    below = rules_below name labels (subst (λ l. AreLabelsOf name l labels) (sym same) are) quiets.with_agent
-        (none_above (last_group labels) Other None None labels silent_positions);
-  }
+  are_forms =
+      let are = labels_are file in
+      record {
+        no_nul = no_nul text quiets.nul;
+        bom = marked 511997 file quiets.mark;
+        each = lines_forms (bodies file) (reads file)
+            (bodies_quiet file is_not_about_syntax named agents urls silent quiets.shown);
+        below = subst (λ lines. AreRulesBelowAgents (map form_of lines)) are.lines_are
+            (rules_below (name file) (labels file)
+            (subst (λ l. AreLabelsOf (name file) l (labels file)) (sym are.lines_are) are) quiets.with_agent
+            (none_above (last_group (labels file)) Other None None (labels file)
+            (passed_positions file is_not_about_syntax named agents urls silent)));
+      }
 
   pub silence : HasSyntax file
   silence = forms_make_file text forms are_forms
@@ -378,69 +415,3 @@ pub no_warnings : (named agents urls : List (List ℕ)) (file : List ℕ)
     → warnings_of named agents urls file ≡ [] → HasSyntax file
 no_warnings named agents urls file none =
     silence named agents urls file (subst (Each IsNotAboutSyntax) (sym none) tt)
-
-each_not : (warnings : List WarningValue) → has_syntax_warning warnings ≡ false
-    → Each IsNotAboutSyntax warnings
-unfolding is_about_syntax
-each_not [] none = tt
-each_not (warning ∷ warnings) none =
-    let parts = or_parts (not (is_not_about_syntax warning.cause)) (has_syntax_warning warnings) none in
-    (not-false (is_not_about_syntax warning.cause) parts.0, each_not warnings parts.1)
-
-record IsKnown (agent : Option (List ℕ)) (large : Bool) (warnings : List WarningValue) : Type 0 where
-  everyone : agent ≡ None
-  whole : large ≡ false
-  silent : Each IsNotAboutSyntax warnings
-
-known : (agent : Option (List ℕ)) (large rejected : Bool) (warnings : List WarningValue)
-    → is_standard (syntax_of agent large rejected warnings) ≡ true → IsKnown agent large warnings
-known (Some agent) large rejected warnings is = absurd (false≢true is)
-known None true rejected warnings is = absurd (false≢true is)
-known None false true warnings is = absurd (false≢true is)
-known None false false warnings is = elim (cases_Bool (has_syntax_warning warnings)) [
-  | inl some ↦ absurd (false≢true (rw some at is))
-  | inr none ↦ record { everyone = refl; whole = refl; silent = each_not warnings none }
-]
-
--- all warnings but those about needless rules, as `warnings_found` has them
-abbrev warnings_for : Option (List ℕ) → (named agents urls : List (List ℕ)) → List ℕ → List WarningValue
-warnings_for agent named agents urls file =
-    let labels = labels_for (labeling_agent agent) (lines_read file) in
-    warnings (is_none agent) named agents urls file (facts_of file labels) labels (lines_read file)
-
--- if the request isn't about a single crawler, the warnings are those of all groups
-silent_on : (agent : Option (List ℕ)) (named agents urls : List (List ℕ)) (file : List ℕ) → agent ≡ None
-    → Each IsNotAboutSyntax (warnings_for agent named agents urls file) → IsSilentOn named agents urls file
-silent_on None named agents urls file everyone all = all
-silent_on (Some agent) named agents urls file everyone all = absurd cc
-
-module _ (requested : RequestValue) (file : List ℕ) (audit : AuditValue) (is : IsAuditOf requested file audit)
-    (standard : is_standard audit.syntax ≡ true) where
-  found : IsKnown requested.agent (is_too_large file)
-      (warnings_found requested file (labels_requested requested file) is.needless)
-  found =
-      known requested.agent (is_too_large file) (rejects_some audit.agents)
-      (warnings_found requested file (labels_requested requested file) is.needless)
-      (subst (λ syntax. is_standard syntax ≡ true) is.syntax_is standard)
-
-  abbrev agents : List (List ℕ)
-  agents = agents_requested requested.agents (lines_read file)
-
-  silent : IsSilentOn requested.agents agents requested.urls file
-  silent = silent_on requested.agent requested.agents agents requested.urls file found.everyone
-      (each_front IsNotAboutSyntax (warnings_for requested.agent requested.agents agents requested.urls file)
-      (map needless_warning is.needless) found.silent)
-
-  all_read : take file_limit file ≡ file
-  all_read = take_all file_limit file (ltb-false file_limit (length file) found.whole)
-
-  pub file_of_the_standard : (groups : List Group) × IsFile groups file
-  file_of_the_standard =
-      let (groups, is) =
-      silence requested.agents agents requested.urls file silent in
-      (groups, subst (IsFile groups) all_read is)
-
-  pub robot_of_the_standard : (agent : List ℕ) (robot : RobotValue)
-      → IsRobotOfFile agent (take file_limit file) robot → IsRobotStated agent file robot
-  robot_of_the_standard agent robot of =
-      robot_stated requested.agents agents requested.urls file silent agent robot of

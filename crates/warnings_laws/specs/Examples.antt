@@ -1,6 +1,6 @@
 -- Worked examples. They are theorems, proved as contracts in `src/lib.rt`.
 use Rattle.std.specs.Prelude.{ℕ, List, [], ◌∷◌, ◌++◌, codes}
-use Rattle.warnings_laws.specs.Syntax.{HasSyntax, IsSilentOn}
+use Rattle.warnings_laws.specs.{Syntax.HasSyntax, Syntax.IsSilentOn, Verdict.AreVerdictsKept}
 
 abbrev pub lf : List ℕ
 lf = 10 ∷ []
@@ -18,3 +18,13 @@ warned_file = codes "User-agent: *" ++ lf ++ codes "Disallow: a" ++ lf
 
 abbrev pub warned : Type 0
 warned = ¬ IsSilentOn [] [] [] warned_file
+
+-- a file without warnings about syntax or verdicts: with a star, a `$` at the end, a path that isn't ASCII, and an
+-- empty Disallow
+abbrev pub kept_file : List ℕ
+kept_file =
+    codes "User-agent: *" ++ lf ++ codes "Disallow: /" ++ (0xC3 ∷ 0xA9 ∷ []) ++ codes "*.gif$" ++ lf
+    ++ codes "Disallow:" ++ lf ++ codes "Allow: /%C3%A9/b*.gif$" ++ lf
+
+abbrev pub kept : Type 0
+kept = AreVerdictsKept [] (codes "*" ∷ []) [] kept_file

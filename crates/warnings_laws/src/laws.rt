@@ -10,8 +10,8 @@ ghost use Rattle.texting_robots.specs.Callers.{bodies_read, delay_for, rules_for
 ghost use Rattle.texting_robots.specs.{Labels.IsInOwnGroup, Verdict.robots_file};
 ghost use Rattle.robots_needless.specs.Deleted.{HaveSameRobot, IsLeftOf};
 ghost use Rattle.robots_needless.specs.Needless.{lines_without, numbers_of};
-ghost use Rattle.rfc9309_laws.specs.Rfc9309.{Group, IsFile};
-ghost use Rattle.warnings_laws.specs.Syntax.{IsRobotStated};
+ghost use Rattle.rfc9309_laws.specs.Rfc9309.{Group, IsFile, IsProductToken};
+ghost use Rattle.warnings_laws.specs.{Syntax.IsRobotStated, Verdict.IsAsOneOf, Verdict.IsAsked, Verdict.IsStandardVerdict};
 ghost use Rattle.robots_warnings.specs.Conflicts.{IsConflict, IsOverruled, conflict, overruled, overruled_for};
 ghost use Rattle.robots_warnings.specs.EmptyDisallows.{IsEmptyDisallow, is_empty_at, stated_rules};
 ghost use Rattle.robots_warnings.specs.{Closed.is_closed_for, Contents.is_cut_to_root};
@@ -20,8 +20,8 @@ ghost use Rattle.robots_warnings.specs.{Repeated.repeated, Replaced.replacing, R
 ghost use Rattle.robots_warnings.specs.{Rules.begins_oddly, Rules.has_dollar_inside, Tokens.has_space_around};
 ghost use Rattle.robots_warnings.specs.{Urls.is_invalid_url, Warnings.position_warnings, Warnings.warned_at};
 ghost use Rattle.robots_warnings.specs.declared.table.Cause.TheVariants.{TwoDelays};
-ghost use Rattle.audit_core.specs.Audit.{AuditValue, IsAuditOf};
-ghost use Rattle.audit_core.specs.{Asked.asked_target, Request.RequestValue, Syntax.is_standard};
+ghost use Rattle.audit_core.specs.Audit.{AuditValue, IsAuditOf, agents_requested};
+ghost use Rattle.audit_core.specs.{Asked.asked_target, Request.RequestValue, Syntax.has_standard_verdicts, Syntax.is_standard};
 
 /// Without `--needless`, a request and a file have at most one audit, and so at most one report; with it, at most one for
 /// each list of needless rules.
@@ -71,6 +71,20 @@ pub fn syntax_is_that_of_the_standard()
     ensures robot { (requested : RequestValue) (file : List ℕ) (audit : AuditValue) (agent : List ℕ) (robot : RobotValue)
         → IsAuditOf requested file audit → is_standard audit.syntax ≡ true
         → IsRobotOfFile agent (take file_limit file) robot → IsRobotStated agent file robot }
+{}
+
+/// If a report says that verdicts are those of RFC 9309, whichever warnings it leaves out, the verdict of a crawler for
+/// which the file isn't rejected, on each path and query in normal form, is the standard's (`verdicts`). The crawler may be
+/// any with a product token if the request names none (`everyone`).
+pub fn verdicts_are_those_of_the_standard()
+    ensures verdicts { (requested : RequestValue) (file : List ℕ) (audit : AuditValue) (agent uri : List ℕ) (groups : List Group)
+        (robot : RobotValue) (answer : Bool) → IsAuditOf requested file audit
+        → has_standard_verdicts audit.syntax ≡ true
+        → IsAsked (agents_requested requested.agents (lines_read file)) file agent uri → IsFile groups file
+        → IsRobotOfFile agent (take file_limit file) robot
+        → IsVerdict (unplaced robot.rules) uri answer ↔ IsStandardVerdict groups agent uri answer }
+    ensures everyone { (file agent : List ℕ) → IsProductToken agent
+        → IsAsOneOf (agents_requested [] (lines_read file)) file agent }
 {}
 
 /// `allowed-and-disallowed` is given for a line exactly if it has a Disallow that applies to one of the crawlers reported

@@ -1,4 +1,4 @@
-use Rattle.warnings_laws.proofs.SyntaxLemmas.{file_of_the_standard, robot_of_the_standard}
+use Rattle.warnings_laws.proofs.LawLemmas.{file_of_the_standard, robot_of_the_standard}
 use Rattle.warnings_laws.proofs.laws.syntax_is_that_of_the_standard.Goals as goal
 
 pub returns-clause-syntax : goal.returns-clause-syntax
