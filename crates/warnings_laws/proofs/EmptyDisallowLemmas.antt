@@ -6,8 +6,8 @@ use Rattle.std.specs.Prelude.{nat_lt, is_some}
 use Rattle.std.proofs.lemmas.Bool.{cases_Bool, eq-eqb, eqb-true, or_cases, cases_lt, false≢true}
 use Rattle.std.proofs.lemmas.Slice.Zip.{AllZip-left, AllZip-right}
 use Rattle.std.proofs.lemmas.Option.{option_and_then_some, same_Some}
-use Rattle.texting_robots.specs.Callers.{Allow, AreLabelsOf, CrawlDelay, Disallow, IsLineOf, Label}
-use Rattle.texting_robots.specs.Callers.{LineValue, Sitemap, UserAgent, bodies_read, file_limit, lines_read}
+use Rattle.texting_robots.specs.Callers.{Allow, AreLabelsOf, Disallow, IsLineOf, Label}
+use Rattle.texting_robots.specs.Callers.{LineValue, bodies_read, file_limit, lines_read}
 use Rattle.texting_robots.specs.Callers.{AreRulesFor, IsDenied, IsVerdict, Matches, PlacedRule, Rule}
 use Rattle.texting_robots.specs.Callers.{escaped, placed_rules, unplaced}
 use Rattle.texting_robots.specs.Internal.Statement.{kind_by, kind_with, skip_blanks, statement_of, tail_as}
@@ -441,7 +441,8 @@ module _ (agent file : List ℕ) (rules : List PlacedRule)
           allow_beside allow deny there empty own (ap (λ (rule : Rule). rule.1) is) alike in
           let (matches, long) = root_wins one.rule.0 text like path in
           let less = longest one.rule.0
-          (subst (λ b. Contains (unplaced stated) (one.rule.0, b)) allows (kept one there_too stated_too)) matches in
+          (subst (λ b. Contains (unplaced stated) (one.rule.0, b)) allows (kept one there_too stated_too))
+          matches in
           omega arith
 
       longer : 1 < length p
