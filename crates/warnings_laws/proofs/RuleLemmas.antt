@@ -4,7 +4,7 @@ use Rattle.std.proofs.Common.{◌≡◌, ◌≢◌, ◌⊎◌, inl, inr, ℕ, �
 use Rattle.std.proofs.Common.{◌∷◌, ◌++◌, ap, append-nil, append_assoc, arith, codes, drop, length}
 use Rattle.std.proofs.Common.{length-append, nat_lt, refl, subst, sym, ◌∙◌}
 use Rattle.std.specs.List.{AllByRecursion as Each, list_any}
-use Rattle.std.specs.{Char.is_whitespace, Prelude.IsTrue}
+use Rattle.std.specs.{Str.is_utf8}
 use Rattle.std.proofs.lemmas.Bool.{Decides.nat_tests, false≢true, not-true, or_left, or_parts}
 use Rattle.std.proofs.lemmas.Bool.{or_right}
 use Rattle.std.proofs.lemmas.Str.{encodes-append}
@@ -21,6 +21,10 @@ use Rattle.rfc9309_laws.specs.HasForm.{stripped, text_after, text_before}
 use Rattle.rfc9309_laws.specs.{Matching.all_stay}
 use Rattle.rfc9309_laws.specs.Comparable.{IsComparedAs}
 use Rattle.rfc9309_laws.specs.Rfc9309 as rfc
+use Rattle.texting_robots.specs.Internal.Statement.{trimmed}
+use Rattle.texting_robots.proofs.TrimLemmas.{blanks_skipped, same_trim, trailing_blanks}
+use Rattle.std.proofs.lemmas.Str.{IsUtf8-from_is_utf8}
+use Rattle.std.proofs.lemmas.Bool.{not-false}
 use Rattle.robots_warnings.specs.declared.spellings.Spelling.TheVariants.{Standard}
 use Rattle.robots_warnings.specs.Checks.{Check, directive_checks, line_checks, rule_checks, text_checks}
 use Rattle.robots_warnings.specs.Contents.{comment_of, raw_value, tail_of}
@@ -62,37 +66,6 @@ checks_quiet =
         → (other || rest) ≡ true
     by true other rest weaker is = or_left other rest (weaker refl)
     by false other rest weaker is = or_right other rest is
-
--- ---- a trimmed value is its own trim
-
-spaces_both : (s t : List ℕ) → IsSpaces s → IsSpaces t → IsSpaces (s ++ t)
-spaces_both s t (cs, all, is) (ds, more, also) = (
-  cs ++ ds,
-  each_append (λ char. IsTrue (is_whitespace char)) cs ds all more,
-  rw (is, also) (sym (encodes-append cs ds)),
-)
-
-own_trim : (value region : List ℕ) → IsTrimOf value region → IsTrimOf value value
-own_trim value region is = record {
-  front = [];
-  back = [];
-  whole = sym (append-nil value);
-  front_spaces = ([], tt, refl);
-  front_longest = λ spaces rest e are.
-      let whole : region ≡ (is.front ++ spaces) ++ (rest ++ is.back) =
-      is.whole ∙ ap (λ v. is.front ++ (v ++ is.back)) e ∙ simp append_assoc in
-      let longest =
-      is.front_longest (is.front ++ spaces) (rest ++ is.back) whole
-      (spaces_both is.front spaces is.front_spaces are) in
-      omega (arith, longest, length-append is.front spaces);
-  back_spaces = ([], tt, refl);
-  back_longest = λ rest spaces e are.
-      let whole : value ++ is.back ≡ rest ++ (spaces ++ is.back) =
-      ap (λ v. v ++ is.back) (sym (append-nil value) ∙ e) ∙ append_assoc rest spaces is.back in
-      let longest =
-      is.back_longest rest (spaces ++ is.back) whole (spaces_both spaces is.back are is.back_spaces) in
-      omega (arith, longest, length-append spaces is.back);
-}
 
 -- ---- the value as written
 
@@ -162,12 +135,14 @@ odd_off true held quoted none one two = rw (one, two) at none
 
 -- what the warnings about a rule leave of its value
 path_kept : (value : List ℕ) → AreQuietBy keeps_verdicts (rule_checks value)
-    → (begins_oddly value ≡ false) × IsComparedAs all_stay value (spelled Standard value)
+    → (is_utf8 value ≡ true) × (begins_oddly value ≡ false)
+    × IsComparedAs all_stay value (spelled Standard value)
 unfolding topic_of
 path_kept value (
   utf8,
   (starts, (url, (odd, (held, (quoted, (regex, (more, (dollar, (wild, (dots, (several, end))))))))))),
 ) = (
+  not-false _ (not-true _ utf8),
   started value starts url quoted,
   compared_as value
       (no_odd_octet value (not-true _ held)
@@ -178,14 +153,24 @@ path_kept value (
 
 module _ (kind : Kind) (read value body : List ℕ) (is : IsStatement kind read body)
     (checks : AreQuietBy keeps_verdicts (rule_checks value)) (line : HasColon kind read body) where
-  good_path : (read ≡ value) ⊎ (value ≡ codes "/") → IsGoodPath value
-  good_path same =
-      let (begins, compared) = path_kept value checks in
-      record { trimmed = by same; begins = begins; compared = compared }
+  -- the value is as written, without spaces and tabs at both ends, or it is `/`
+  good_path : ((read ≡ value) × (raw_value (tail_of body) ≡ value)) ⊎ (value ≡ codes "/") → IsGoodPath value
+  good_path stated =
+      let (utf8, begins, compared) = path_kept value checks in
+      record { trimmed = by utf8 stated; begins = begins; compared = compared }
     where
-      by : (read ≡ value) ⊎ (value ≡ codes "/") → IsTrimOf value value
-      by (inl same) = subst (λ v. IsTrimOf v v) same (own_trim read line.region line.trimmed)
-      by (inr slash) = rw slash (visible_trim (codes "/") (slash_plain.0, tt))
+      by : is_utf8 value ≡ true → ((read ≡ value) × (raw_value (tail_of body) ≡ value)) ⊎ (value ≡ codes "/")
+          → IsTrimOf value value
+      by utf8 (inl (same, raw)) =
+          let parts = around line.region in
+          let whole : line.region ≡ parts.front ++ (value ++ parts.back) =
+          parts.whole
+          ∙ ap (λ v. parts.front ++ (v ++ parts.back)) (ap raw_value (sym (tail_is kind read body line)) ∙ raw) in
+          same_trim value line.region value
+          (sym (ap trimmed whole ∙ blanks_skipped parts.front (value ++ parts.back) parts.front_blank
+          ∙ trailing_blanks value parts.back (IsUtf8-from_is_utf8 value utf8) parts.back_blank))
+          (subst (λ v. IsTrimOf v line.region) same line.trimmed)
+      by utf8 (inr slash) = rw slash (visible_trim (codes "/") (slash_plain.0, tt))
 
   written_is : raw_value (tail_of body) ≡ value → written body ≡ value
   written_is same =
@@ -222,10 +207,10 @@ unfolding topic_of
 allow_written value body is (of, all) =
     let quiets = quiet (Allow value) body (checks_quiet (line_checks true (Allow value) body) all) in
     let line = has_colon kind.Allow value body is quiets.with_colon in
-    let kept = value_kept (Allow value) value body all in (
-      good_path kind.Allow value value body is kept line (inl refl),
-      written_is kind.Allow value value body is kept line
-          (raw_is kind.Allow value body line (not-true _ quiets.raw.0)),
+    let kept = value_kept (Allow value) value body all in
+    let raw = raw_is kind.Allow value body line (not-true _ quiets.raw.0) in (
+      good_path kind.Allow value value body is kept line (inl (refl, raw)),
+      written_is kind.Allow value value body is kept line raw,
     )
 
 pub good_line : (line : LineValue) (body : List ℕ) → IsKeptLine line body → IsGoodLine line (written body)
@@ -247,10 +232,10 @@ good_line (Disallow value) body (of, all) =
     let is = (is_stated (Disallow value) body of).0 in
     let quiets = quiet (Disallow value) body (checks_quiet (line_checks true (Disallow value) body) all) in
     let line = has_colon kind.Disallow value body is quiets.with_colon in
-    let kept = value_kept (Disallow value) value body all in (
-      good_path kind.Disallow value value body is kept line (inl refl),
-      written_is kind.Disallow value value body is kept line
-          (raw_is kind.Disallow value body line (not-true _ quiets.raw.0)),
+    let kept = value_kept (Disallow value) value body all in
+    let raw = raw_is kind.Disallow value body line (not-true _ quiets.raw.0) in (
+      good_path kind.Disallow value value body is kept line (inl (refl, raw)),
+      written_is kind.Disallow value value body is kept line raw,
     )
 good_line (UserAgent value) body is = tt
 good_line (CrawlDelay delay) body is = tt

@@ -116,35 +116,31 @@ none_for f xs x has none = by (f x) (first_some f xs x has)
 
 -- ---- patterns of one byte
 
-escaped_none : (text : List ℕ) → escaped text ≡ [] → text ≡ []
-escaped_none [] none = refl
-escaped_none (b ∷ text) none = elim (cases_Bool (is_escaped b)) [
-  | inl is ↦ let wrong = rw is at none in cc
-  | inr isnt ↦ let wrong = rw isnt at none in cc
-]
-
-escaped_one : (value : List ℕ) (c : ℕ) → begins_oddly value ≡ false → escaped value ≡ c ∷ [] → value ≡ c ∷ []
-escaped_one [] c begins e = cc
-escaped_one (b ∷ text) c begins e =
-    let plain : is_escaped b ≡ false =
-    elim (first_byte b text begins) [ inl is ↦ rw is refl | inr is ↦ rw is refl ] in
-    let same : b ∷ escaped text ≡ c ∷ [] = rw plain at e in
-    let none = escaped_none text (cc) in
-    let first : b ≡ c = cc in
-    cc
-
 -- the members have an Allow of everything
 abbrev AllowAll : List rfc.Member → Type 0
 AllowAll members = Contains members (rfc.Allow (codes "/")) ⊎ Contains members (rfc.Allow (codes "*"))
 
+escaped_longer : (text : List ℕ) → length text ≤ length (escaped text)
+escaped_longer [] = omega arith
+escaped_longer (b ∷ text) =
+    let later = escaped_longer text in
+    elim (cases_Bool (is_escaped b)) [ inl is ↦ rw is (omega arith) | inr isnt ↦ rw isnt (omega arith) ]
+
 root_or_star : (members : List rfc.Member) (value : List ℕ) → begins_oddly value ≡ false
     → compared (escaped value) ≡ codes "/" → Contains members (rfc.Allow value) → AllowAll members
-root_or_star members value begins alike listed = elim (star_or_same (escaped value)) [
-  | inl plain ↦ inl (subst (λ v. Contains members (rfc.Allow v))
-      (escaped_one value 47 begins (sym plain ∙ alike)) listed)
-  | inr (star, slash) ↦
-      inr (subst (λ v. Contains members (rfc.Allow v)) (escaped_one value 42 begins star) listed)
+root_or_star members [] begins alike listed = cc
+root_or_star members (b ∷ []) begins alike listed = elim (first_byte b [] begins) [
+  | inl slash ↦ inl (subst (λ c. Contains members (rfc.Allow (c ∷ []))) slash listed)
+  | inr star ↦ inr (subst (λ c. Contains members (rfc.Allow (c ∷ []))) star listed)
 ]
+root_or_star members (b ∷ c ∷ text) begins alike listed =
+    let value : List ℕ = b ∷ c ∷ text in
+    let longer = escaped_longer value in
+    let short : length (escaped value) ≡ 1 = elim (star_or_same (escaped value)) [
+      | inl plain ↦ ap (λ (v : List ℕ). length v) (sym plain ∙ alike)
+      | inr (star, slash) ↦ ap (λ (v : List ℕ). length v) star
+    ] in
+    absurd (omega arith)
 
 pattern_read : (value : List ℕ) (is_allow : Bool) (rule : Rule) → rule_with value is_allow ≡ Some rule
     → (escaped value ≡ rule.0) × (is_allow ≡ rule.1)
@@ -174,12 +170,6 @@ line_allows members (Disallow value) body rule kept stated reads allows alike li
 line_allows members line body rule kept stated reads allows alike listed = cc
 
 -- ---- octets
-
-escaped_longer : (text : List ℕ) → length text ≤ length (escaped text)
-escaped_longer [] = omega arith
-escaped_longer (b ∷ text) =
-    let later = escaped_longer text in
-    elim (cases_Bool (is_escaped b)) [ inl is ↦ rw is (omega arith) | inr isnt ↦ rw isnt (omega arith) ]
 
 -- a path of more than one byte has more than one octet
 long_path : (b c : ℕ) (text : List ℕ) → IsGoodPath (b ∷ c ∷ text) → 1 < octets all_stay (b ∷ c ∷ text)
