@@ -1,5 +1,5 @@
 -- Examples of verdicts.
-use Rattle.std.proofs.Common.{◌≡◌, ◌≢◌, ◌⊎◌, inl, inr, ℕ, zero, suc, ◌<◌, true, false, List, [], ◌∷◌, ◌++◌}
+use Rattle.std.proofs.Common.{◌≡◌, ◌≢◌, inl, inr, ℕ, suc, ◌<◌, ◌≤◌, true, false, List, [], ◌∷◌, ◌++◌}
 use Rattle.std.proofs.Common.{refl, codes, ap, arith, get_or, length, subst}
 use Rattle.std.specs.Char.{is_ascii_graphic}
 use Rattle.std.specs.List.{AllByRecursion as Each, Contains}
@@ -163,22 +163,11 @@ mixed =
     other_byte : {rest : List ℕ} → codes "/%E3%83%84a.gif" ≡ codes "/%E3%83%84/" ++ rest → ⊥
     other_byte e = eqb-false 97 47 refl (ap (λ (l : List ℕ). slice_index l 10) e)
 
-of_two : {X : Type 0} (a b x : X) → Contains (a ∷ b ∷ []) x → (a ≡ x) ⊎ (b ≡ x)
-of_two a b x (zero, below, at) = inl at
-of_two a b x (suc zero, below, at) = inr at
-of_two a b x (suc (suc k), below, at) = absurd (omega arith)
-
 -- ---- an empty Disallow
 
 one_slash : Matches (codes "/") (codes "/x")
 unfolding MatchesWith
 one_slash = (codes "x", refl, tt)
-
-kind_of : (rule other : Rule) → ◌≡◌ {A = Rule} rule other → rule.1 ≡ other.1
-kind_of rule other e = ap (λ (r : Rule). r.1) e
-
-size_of : (rule other : Rule) → ◌≡◌ {A = Rule} rule other → length rule.0 ≡ length other.0
-size_of rule other e = ap (λ (r : Rule). length r.0) e
 
 pub empty_disallow : example.empty_disallow
 unfolding normal_from without_end is_ended filled
@@ -188,11 +177,9 @@ empty_disallow = (
       record { strings = []; rest = codes "x"; whole = refl; end = λ e. absurd (false≢true e) }
       (tt, (tt, tt)),
   λ (differs, p, has, matches, longest).
-      elim (of_two {X = Rule} (codes "/", true) (codes "/", false) (p, false) has) [
-        | inl e ↦ true≢false (kind_of (codes "/", true) (p, false) e)
-        | inr e ↦
-            let same : 1 ≡ length p = size_of (codes "/", false) (p, false) e in
-            let more : 1 < length p = longest (codes "/") (0, omega arith, refl) one_slash in
-            omega arith
-      ],
+      let small : length p ≤ 1 = each_contains (λ (rule : Rule). rule.1 ≡ false → length rule.0 ≤ 1)
+      ((codes "/", true) ∷ (codes "/", false) ∷ []) (p, false)
+      ((λ e. absurd (true≢false e)), ((λ _. omega arith), tt)) has refl in
+      let more : 1 < length p = longest (codes "/") (0, omega arith, refl) one_slash in
+      omega arith,
 )

@@ -118,8 +118,8 @@ module _ (stays : Reading) (path spelling uri : List ℕ) (same : normal_uri sta
               end = (restricts rest).0 n;
             },
         λ is.
-            rw parts (from_filled stem end uri is.strings is.rest none (rw (same, compared.normal) at is.whole)
-            ((restricts is.rest).1 is.end)),
+            rw parts (from_filled stem end uri is.strings is.rest none
+            (rw (same, compared.normal) at is.whole) ((restricts is.rest).1 is.end)),
       )
 
   pub matches_so : Matches (escaped spelling) uri ↔ IsMatch stays path uri

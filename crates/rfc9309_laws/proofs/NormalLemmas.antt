@@ -1,5 +1,5 @@
 -- Normal forms of URIs, and paths with an odd escape, which match none of them.
-use Rattle.std.proofs.Common.{◌≡◌, ◌↔◌, ℕ, ◌+◌, ◌*◌, ◌<◌, ◌==◌, ◌&&◌, ◌||◌, not, ltb, Bool, true, false, inl}
+use Rattle.std.proofs.Common.{◌≡◌, ◌↔◌, ℕ, ◌+◌, ◌*◌, ◌<◌, ◌==◌, ◌&&◌, ◌||◌, ltb, Bool, true, false, inl}
 use Rattle.std.proofs.Common.{inr, List, [], ◌∷◌, ◌++◌, codes, refl, sym, ap, ◌∙◌, subst, arith}
 use Rattle.std.specs.Char.{digit_value, is_ascii_alphanumeric, is_ascii_hexdigit, is_ascii_lowercase}
 use Rattle.std.specs.Char.{to_ascii_uppercase}
@@ -13,7 +13,7 @@ use Rattle.texting_robots.specs.{Escape.escaped, Escape.escape_byte, Escape.is_e
 use Rattle.texting_robots.specs.Pattern.{Consumes, IsSuffix, Matches, MatchesWith, dollar, star}
 use Rattle.texting_robots.proofs.PatternLemmas.{suffix_trans}
 use Rattle.rfc9309_laws.specs.Comparable.{begins_odd_escape, has_odd_escape, is_normal, is_uri_octet}
-use Rattle.rfc9309_laws.specs.Matching.{Reading, all_stay, in_uri, is_escape, is_kept, is_one_of, is_reserved}
+use Rattle.rfc9309_laws.specs.Matching.{Reading, all_stay, in_uri, is_escape, is_kept, is_one_of}
 use Rattle.rfc9309_laws.specs.Matching.{is_unreserved, normal_escape, normal_from, normal_octet, normal_uri}
 
 -- ---- an octet, and an escape
@@ -80,8 +80,8 @@ hex_not test b none is =
 escape_parts : (b high low : ℕ) → is_escape b high low ≡ true
     → (b ≡ 37) × (is_ascii_hexdigit high ≡ true) × (is_ascii_hexdigit low ≡ true)
 escape_parts b high low is =
-    let (percent, digits) = and_parts (b == 37) (is_ascii_hexdigit high && is_ascii_hexdigit low) is in
-    let (one, two) = and_parts (is_ascii_hexdigit high) (is_ascii_hexdigit low) digits in
+    let (percent, digits) = and_parts _ _ is in
+    let (one, two) = and_parts _ _ digits in
     (eqb-true b 37 percent, one, two)
 
 -- ---- a URI in normal form has no odd escape
@@ -131,10 +131,10 @@ module _ (stays : Reading) (test : ℕ → Bool)
         let second = kept in_query low (hex_kept stays in_query low two) in
         let no_first = hex_not (λ c. c == 37) high refl one in
         let no_second = hex_not (λ c. c == 37) low refl two in
-        (rw (kept in_query b begins, first, second, all) refl, rw (is, digits, no_first, no_second, even) refl)
+        let b_passes = kept in_query b begins in
+        (rw (b_passes, first, second, all) refl, rw (is, digits, no_first, no_second, even) refl)
     | inr other ↦
-        plain_step in_query b (high ∷ low ∷ text)
-        (and_left (is_escape b high low) (has_odd_digits high low) other) (rw other at e)
+        plain_step in_query b (high ∷ low ∷ text) (and_left _ _ other) (rw other at e)
         (fixed (in_query || b == 63) (high ∷ low ∷ text))
   ]
 
@@ -148,19 +148,19 @@ listed_low : (octets : List ℕ) (b : ℕ) → list_all (λ c. ltb c 128) octets
     → is_one_of octets b ≡ true → b < 128
 listed_low [] b all is = absurd (false≢true is)
 listed_low (c ∷ octets) b all is =
-    let (low, rest) = and_parts (ltb c 128) (list_all (λ c. ltb c 128) octets) all in
-    elim (or_cases (c == b) (is_one_of octets b) is) [
+    let (low, rest) = and_parts _ _ all in
+    elim (or_cases _ _ is) [
       | inl same ↦ let below = ltb-true c 128 low in let at = eqb-true c b same in omega arith
       | inr later ↦ listed_low octets b rest later
     ]
 
 octet_low : (b : ℕ) → is_uri_octet b ≡ true → b < 128
-octet_low b is = elim (or_cases (is_unreserved b) (is_one_of (codes ":/?[]@!&'()+,;=") b || b == 37) is) [
-  | inl unreserved ↦ elim (or_cases (is_ascii_alphanumeric b) (is_one_of (codes "-._~") b) unreserved) [
+octet_low b is = elim (or_cases (is_unreserved b) _ is) [
+  | inl unreserved ↦ elim (or_cases (is_ascii_alphanumeric b) _ unreserved) [
     | inl letter ↦ grind (arith, nat_tests)
     | inr mark ↦ listed_low (codes "-._~") b refl mark
   ]
-  | inr others ↦ elim (or_cases (is_one_of (codes ":/?[]@!&'()+,;=") b) (b == 37) others) [
+  | inr others ↦ elim (or_cases (is_one_of (codes ":/?[]@!&'()+,;=") b) _ others) [
     | inl delimiter ↦ listed_low (codes ":/?[]@!&'()+,;=") b refl delimiter
     | inr percent ↦ let at = eqb-true b 37 percent in omega arith
   ]
@@ -177,32 +177,27 @@ octet_same in_query b is = rw (kept_octets in_query b (octet_low b is) ∙ is) r
 escape_same : (b high low : ℕ) → b ≡ 37 → has_odd_digits high low ≡ false
     → normal_escape high low ≡ b ∷ high ∷ low ∷ []
 escape_same b high low percent even =
-    let (lower, needed) =
-    or_parts (is_ascii_lowercase high || is_ascii_lowercase low)
-    (is_unreserved (digit_value high * 16 + digit_value low)) even in
-    let (one, two) = or_parts (is_ascii_lowercase high) (is_ascii_lowercase low) lower in
+    let (lower, needed) = or_parts (is_ascii_lowercase high || is_ascii_lowercase low) _ even in
+    let (one, two) = or_parts (is_ascii_lowercase high) _ lower in
     rw (needed, uppercase high one, uppercase low two, percent) refl
 
 normal_same : (in_query : Bool) (uri : List ℕ) → list_all is_uri_octet uri ≡ true
     → has_odd_escape uri ≡ false → normal_from (in_uri all_stay) in_query uri ≡ uri
 unfolding normal_from
 normal_same in_query [] all even = refl
-normal_same in_query (b ∷ []) all even = octet_same in_query b (and_parts (is_uri_octet b) true all).0
+normal_same in_query (b ∷ []) all even = octet_same in_query b (and_parts _ _ all).0
 normal_same in_query (b ∷ c ∷ []) all even =
-    let (one, rest) = and_parts (is_uri_octet b) (is_uri_octet c && true) all in
-    let two = (and_parts (is_uri_octet c) true rest).0 in
-    rw (octet_same in_query b one, octet_same (in_query || b == 63) c two) refl
+    let (one, rest) = and_parts _ _ all in
+    rw (octet_same in_query b one, octet_same (in_query || b == 63) c (and_parts _ _ rest).0) refl
 normal_same in_query (b ∷ high ∷ low ∷ text) all even =
-    let (one, later) = and_parts (is_uri_octet b) (list_all is_uri_octet (high ∷ low ∷ text)) all in
-    let (odd, no_more) =
-    or_parts (begins_odd_escape (b ∷ high ∷ low ∷ text)) (has_odd_escape (high ∷ low ∷ text)) even in
+    let (one, later) = and_parts _ _ all in
+    let (odd, no_more) = or_parts (begins_odd_escape (b ∷ high ∷ low ∷ text)) _ even in
     elim (cases_Bool (is_escape b high low)) [
       | inl is ↦
           let after = (and_parts (is_uri_octet high) (list_all is_uri_octet (low ∷ text)) later).1 in
           let rest = (and_parts (is_uri_octet low) (list_all is_uri_octet text) after).1 in
-          let none =
-          (or_parts (begins_odd_escape (high ∷ low ∷ text)) (has_odd_escape (low ∷ text)) no_more).1 in
-          let left = (or_parts (begins_odd_escape (low ∷ text)) (has_odd_escape text) none).1 in
+          let none = (or_parts (begins_odd_escape (high ∷ low ∷ text)) _ no_more).1 in
+          let left = (or_parts (begins_odd_escape (low ∷ text)) _ none).1 in
           rw (is, escape_same b high low (escape_parts b high low is).0 (rw is at odd))
           (ap (λ t. b ∷ high ∷ low ∷ t) (normal_same in_query text rest left))
       | inr other ↦
@@ -216,23 +211,20 @@ normal_uris uri = (
       let (octets, even) = fixed (in_uri all_stay) is_uri_octet passes false uri same in
       rw (octets, even) refl,
   λ is.
-      let (octets, even) = and_parts (list_all is_uri_octet uri) (not (has_odd_escape uri)) is in
+      let (octets, even) = and_parts _ _ is in
       normal_same false uri octets (not-true (has_odd_escape uri) even),
 )
   where
     passes : (in_query : Bool) (b : ℕ) → is_kept (in_uri all_stay) in_query b ≡ true → is_uri_octet b ≡ true
     passes in_query b kept =
-        let low = (and_parts (ltb b 128)
-        (is_unreserved b || (b == 37 || (is_reserved b && in_uri all_stay in_query b))) kept).0 in
-        sym (kept_octets in_query b (ltb-true b 128 low)) ∙ kept
+        sym (kept_octets in_query b (ltb-true b 128 (and_parts (ltb b 128) _ kept).0)) ∙ kept
 
 -- ---- paths with an odd escape
 
 odd_suffix : (front text : List ℕ) → has_odd_escape (front ++ text) ≡ false → has_odd_escape text ≡ false
 odd_suffix [] text even = even
 odd_suffix (b ∷ front) text even =
-    odd_suffix front text
-    (or_parts (begins_odd_escape (b ∷ (front ++ text))) (has_odd_escape (front ++ text)) even).1
+    odd_suffix front text (or_parts (begins_odd_escape (b ∷ (front ++ text))) _ even).1
 
 -- what follows a part of a pattern matches a suffix of the text
 later_match : (part pattern text : List ℕ) → MatchesWith true (part ++ pattern) text
@@ -280,9 +272,8 @@ begins b (high ∷ low ∷ path) text even m = elim (cases_Bool (is_escape b hig
       let (percent, one, two) = escape_parts b high low is in
       let (rest, same) = escape_match high low path text one two (rw percent at m) in
       let here : has_odd_escape (37 ∷ high ∷ low ∷ rest) ≡ false = rw same at even in
-      rw percent
-      (or_parts (begins_odd_escape (37 ∷ high ∷ low ∷ rest)) (has_odd_escape (high ∷ low ∷ rest)) here).0
-  | inr other ↦ and_left (is_escape b high low) (has_odd_digits high low) other
+      rw percent (or_parts _ (has_odd_escape (high ∷ low ∷ rest)) here).0
+  | inr other ↦ and_left _ _ other
 ]
 
 -- a path that matches a text without odd escapes has none
@@ -291,5 +282,5 @@ pub never_matches : (path text : List ℕ) → has_odd_escape text ≡ false →
 never_matches [] text even m = refl
 never_matches (b ∷ path) text even m =
     let (rest, (front, same), later) = later_match (escape_byte b) (escaped path) text m in
-    or_from (begins_odd_escape (b ∷ path)) (has_odd_escape path) (begins b path text even m)
+    or_from _ _ (begins b path text even m)
     (never_matches path rest (odd_suffix front rest (rw same at even)) later)

@@ -4,7 +4,7 @@ use Rattle.std.proofs.Common.{List, [], ◌∷◌, ◌++◌, refl, codes, length
 use Rattle.std.proofs.Common.{sym, ap, ◌∙◌, arith, subst, take}
 use Rattle.std.specs.List.{AllByRecursion as Each, AllZip, Contains, list_any}
 use Rattle.std.proofs.lemmas.Bool.{both_ways, cases_Bool, false≢true}
-use Rattle.std.proofs.lemmas.List.Concat.{flat_map-append}
+use Rattle.std.proofs.lemmas.List.{Concat.flat_map-append, Elements.All-contains, Elements.All-from_recursion}
 use Rattle.texting_robots.specs.Callers.{IsDenied, IsRobotOfFile, IsVerdict, Matches, RobotValue, Rule}
 use Rattle.texting_robots.specs.Callers.{escaped}
 use Rattle.texting_robots.specs.Callers.{file_limit, unplaced}
@@ -59,9 +59,7 @@ pattern_of : (rule other : Rule) → ◌≡◌ {A = Rule} rule other → rule.0 
 pattern_of rule other e = ap (λ (r : Rule). r.0) e
 
 pub each_contains : {X : Type 0} (P : X → Type 0) (xs : List X) (x : X) → Each P xs → Contains xs x → P x
-each_contains P [] x all (k, below, at) = absurd (omega arith)
-each_contains P (first ∷ xs) x all (zero, below, at) = subst P at all.0
-each_contains P (first ∷ xs) x all (suc k, below, at) = each_contains P xs x all.1 (k, omega arith, at)
+each_contains P xs x all has = All-contains P xs x (All-from_recursion P xs all) has
 
 -- ---- octets
 

@@ -95,7 +95,8 @@ longest =
 abbrev pub mixed_rules : List rfc.Member
 mixed_rules =
     rfc.Disallow [] ∷ rfc.Disallow (codes "/" ++ tsu ++ codes "*.gif$")
-    ∷ rfc.Allow (codes "/" ++ tsu ++ codes "/%62*.gif$") ∷ rfc.Allow (codes "/" ++ tsu ++ codes "/b*.gif$") ∷ []
+    ∷ rfc.Allow (codes "/" ++ tsu ++ codes "/%62*.gif$")
+    ∷ rfc.Allow (codes "/" ++ tsu ++ codes "/b*.gif$") ∷ []
 
 abbrev pub HasMixedVerdict : List ℕ → Bool → Type 0
 HasMixedVerdict uri answer =
