@@ -1,8 +1,8 @@
--- The value of a rule without certain warnings is compared here as RFC 9309 compares its standard spelling, which
--- is the value itself unless it has a nonstandard escape.
+-- The value of a rule without certain warnings is compared here as RFC 9309 compares its standard spelling,
+-- which is the value itself unless it has a nonstandard escape.
 use Rattle.std.proofs.Common.{◌≡◌, ◌≢◌, ℕ, ◌+◌, ◌*◌, ◌<◌, ◌≤◌, ◌==◌, ◌&&◌, ◌||◌, Bool, true, false, inl, inr}
-use Rattle.std.proofs.Common.{List, [], ◌∷◌, ◌++◌, ap, ap₂, nat_lt, not, append-nil, append_assoc, arith, codes, refl, subst, sym}
-use Rattle.std.proofs.Common.{◌∙◌}
+use Rattle.std.proofs.Common.{List, [], ◌∷◌, ◌++◌, ap, ap₂, not, append-nil, append_assoc, arith}
+use Rattle.std.proofs.Common.{codes, refl, sym, ◌∙◌}
 use Rattle.std.specs.Char.{digit_value, is_ascii_hexdigit, is_ascii_lowercase, to_ascii_uppercase}
 use Rattle.std.specs.List.{AllByRecursion as Each, list_any}
 use Rattle.std.proofs.lemmas.Bool.{Decides.nat_tests, agree_below_at, and_parts, and_right, cases_Bool}
@@ -10,8 +10,9 @@ use Rattle.std.proofs.lemmas.Bool.{agree_below, cases_lt, eqb-true, le-ltb, ne_e
 use Rattle.std.proofs.lemmas.List.{Concat.flat_map-append, Folds.list_any-append}
 use Rattle.texting_robots.specs.Escape.{escape_byte, escaped, is_escaped}
 use Rattle.texting_robots.proofs.EscapeLemmas.{plain_stays}
-use Rattle.rfc9309_laws.specs.Matching.{is_kept, all_stay, has_dollar, in_rule, is_ended, is_escape, is_unreserved}
-use Rattle.rfc9309_laws.specs.Matching.{normal_escape, normal_from, normal_octet, normal_path, without_end}
+use Rattle.rfc9309_laws.specs.Matching.{is_kept, all_stay, has_dollar, in_rule, is_ended, is_escape}
+use Rattle.rfc9309_laws.specs.Matching.{is_unreserved, normal_escape, normal_from, normal_octet}
+use Rattle.rfc9309_laws.specs.Matching.{without_end}
 use Rattle.rfc9309_laws.specs.Comparable.{IsComparedAs, has_odd_escape}
 use Rattle.robots_warnings.specs.declared.spellings.Spelling.TheVariants.{Standard}
 use Rattle.robots_warnings.specs.Rules.{after_byte, before_byte, begins_odd_escape, has, somewhere}
@@ -104,7 +105,8 @@ module _ (high low : ℕ) (first : is_ascii_hexdigit high ≡ true) (second : is
   escape_clean =
       let value = digit_value high * 16 + digit_value low in
       elim (cases_Bool (is_unreserved value)) [
-        | inl plain ↦ rw (plain, at_once is_unreserved is_special value refl (unreserved_low value plain) plain) refl
+        | inl plain ↦
+            rw (plain, at_once is_unreserved is_special value refl (unreserved_low value plain) plain) refl
         | inr kept ↦ rw (kept, upper_clean high first, upper_clean low second) refl
       ]
 
@@ -139,7 +141,8 @@ normal_same in_query (b ∷ c ∷ []) odds dollars =
     let (odd, more) = or_parts (stays_odd b) (stays_odd c || false) odds in
     let (dollar, others) = or_parts (b == 36) ((c == 36) || false) dollars in
     ap₂ (λ x y. x ++ y) (same_octet in_query b odd dollar)
-    (same_octet (in_query || b == 63) c (or_parts (stays_odd c) false more).0 (or_parts (c == 36) false others).0
+    (same_octet (in_query || b == 63) c (or_parts (stays_odd c) false more).0
+    (or_parts (c == 36) false others).0
     ∙ sym (append-nil (escape_byte c)))
 normal_same in_query (b ∷ high ∷ low ∷ text) odds dollars =
     let (odd, more) = or_parts (stays_odd b) (list_any stays_odd (high ∷ low ∷ text)) odds in
@@ -203,12 +206,13 @@ spelled_same (b ∷ high ∷ low ∷ text) none =
       | inl is ↦
           let (_, after) = or_parts (begins_odd_escape (high ∷ low ∷ text))
           (somewhere begins_odd_escape (low ∷ text)) later in
-          let (_, last) = or_parts (begins_odd_escape (low ∷ text)) (somewhere begins_odd_escape text) after in
+          let last = (or_parts (begins_odd_escape (low ∷ text)) _ after).1 in
           rw is (ap₂ (λ x y. x ++ y) (stays b high low is (rw is at here)) (spelled_same text last))
       | inr isnt ↦ rw isnt (ap (λ t. b ∷ t) (spelled_same (high ∷ low ∷ text) later))
     ]
   where
-    upper_same : (b : ℕ) → is_ascii_hexdigit b ≡ true → is_ascii_lowercase b ≡ false → to_ascii_uppercase b ≡ b
+    upper_same : (b : ℕ) → is_ascii_hexdigit b ≡ true → is_ascii_lowercase b ≡ false
+        → to_ascii_uppercase b ≡ b
     upper_same b is upper = grind (arith, nat_tests)
 
     stays : (b high low : ℕ) → is_escape b high low ≡ true
