@@ -14,6 +14,17 @@ use Rattle.rfc9309_laws.specs.Matching.{is_kept, all_stay, has_dollar, in_rule, 
 use Rattle.rfc9309_laws.specs.Matching.{is_unreserved, normal_escape, normal_from, normal_octet}
 use Rattle.rfc9309_laws.specs.Matching.{without_end}
 use Rattle.rfc9309_laws.specs.Comparable.{IsComparedAs, has_odd_escape}
+use Rattle.std.proofs.Common.{None}
+use Rattle.std.specs.Prelude.{Ok}
+use Rattle.std.specs.List.{list_all}
+use Rattle.std.proofs.lemmas.Bool.{and_from, not-false}
+use Rattle.rfc9309_laws.proofs.NormalLemmas.{normal_uris}
+use Rattle.rfc9309_laws.specs.Matching.{normal_uri}
+use Rattle.texting_robots.specs.Prepared.{prepared}
+use Rattle.url.specs.{Parts.Parts, Parser.parse_url}
+use Rattle.robots_warnings.specs.Targets.{has_odd_target, is_normal, is_normal_byte, is_odd_url}
+use Rattle.robots_warnings.specs.Targets.{requested_target}
+use Rattle.robots_warnings.specs.Urls.{begins_as_url}
 use Rattle.robots_warnings.specs.declared.spellings.Spelling.TheVariants.{Standard}
 use Rattle.robots_warnings.specs.Rules.{after_byte, before_byte, begins_odd_escape, has, somewhere}
 use Rattle.robots_warnings.specs.Spellings.{spelled_escape, spelled}
@@ -283,3 +294,23 @@ compared_as path odds end = elim (split 36 path) [
         dollar = ap has_dollar kept ∙ spelled_no_dollar front plain;
       }
 ]
+
+-- ---- match targets
+
+normal_target : (target : List ℕ) → is_normal target ≡ true → normal_uri all_stay target ≡ target
+normal_target target is =
+    let (bytes, even) = and_parts (list_all is_normal_byte target) (not (somewhere begins_odd_escape target)) is in
+    (normal_uris target).1
+    (and_from (list_all is_normal_byte target) _ bytes (ap not (odd_escapes target) ∙ even))
+
+pub path_normal : (path : List ℕ) → has_odd_target (47 ∷ path) ≡ false
+    → normal_uri all_stay (prepared (47 ∷ path)) ≡ prepared (47 ∷ path)
+path_normal path quiet =
+    normal_target (prepared (47 ∷ path))
+    (not-false _ (or_parts (not (is_normal (prepared (47 ∷ path)))) (is_odd_url (47 ∷ path)) quiet).0)
+
+pub url_normal : (url : List ℕ) (parts : Parts) → begins_as_url url ≡ true → parse_url None url ≡ Ok parts
+    → has_odd_target url ≡ false → normal_uri all_stay (requested_target parts) ≡ requested_target parts
+url_normal url parts begins parses quiet =
+    let odd = (or_parts _ (is_odd_url url) quiet).1 in
+    normal_target (requested_target parts) (not-false _ (rw (begins, parses) at odd))
