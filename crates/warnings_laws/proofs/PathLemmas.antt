@@ -1,25 +1,22 @@
 -- The value of a rule without certain warnings is compared here as RFC 9309 compares its standard spelling,
 -- which is the value itself unless it has a nonstandard escape.
 use Rattle.std.proofs.Common.{◌≡◌, ◌≢◌, ℕ, ◌+◌, ◌*◌, ◌<◌, ◌≤◌, ◌==◌, ◌&&◌, ◌||◌, Bool, true, false, inl, inr}
-use Rattle.std.proofs.Common.{List, [], ◌∷◌, ◌++◌, ap, ap₂, not, append-nil, append_assoc, arith}
-use Rattle.std.proofs.Common.{codes, refl, sym, ◌∙◌}
+use Rattle.std.proofs.Common.{List, [], ◌∷◌, ◌++◌, ap, ap₂, not, append-nil, append_assoc, arith, codes, refl}
+use Rattle.std.proofs.Common.{sym, ◌∙◌, None}
 use Rattle.std.specs.Char.{digit_value, is_ascii_hexdigit, is_ascii_lowercase, to_ascii_uppercase}
-use Rattle.std.specs.List.{AllByRecursion as Each, list_any}
+use Rattle.std.specs.List.{AllByRecursion as Each, list_any, list_all}
 use Rattle.std.proofs.lemmas.Bool.{Decides.nat_tests, agree_below_at, and_parts, and_right, cases_Bool}
 use Rattle.std.proofs.lemmas.Bool.{agree_below, cases_lt, eqb-true, le-ltb, ne_eqb, or_from, or_parts}
+use Rattle.std.proofs.lemmas.Bool.{and_from, not-false}
 use Rattle.std.proofs.lemmas.List.{Concat.flat_map-append, Folds.list_any-append}
 use Rattle.texting_robots.specs.Escape.{escape_byte, escaped, is_escaped}
 use Rattle.texting_robots.proofs.EscapeLemmas.{plain_stays}
 use Rattle.rfc9309_laws.specs.Matching.{is_kept, all_stay, has_dollar, in_rule, is_ended, is_escape}
-use Rattle.rfc9309_laws.specs.Matching.{is_unreserved, normal_escape, normal_from, normal_octet}
-use Rattle.rfc9309_laws.specs.Matching.{without_end}
-use Rattle.rfc9309_laws.specs.Comparable.{IsComparedAs, has_odd_escape}
-use Rattle.std.proofs.Common.{None}
-use Rattle.std.specs.Prelude.{Ok}
-use Rattle.std.specs.List.{list_all}
-use Rattle.std.proofs.lemmas.Bool.{and_from, not-false}
-use Rattle.rfc9309_laws.proofs.NormalLemmas.{normal_uris}
+use Rattle.rfc9309_laws.specs.Matching.{is_unreserved, normal_escape, normal_from, normal_octet, without_end}
 use Rattle.rfc9309_laws.specs.Matching.{normal_uri}
+use Rattle.rfc9309_laws.specs.Comparable.{IsComparedAs, has_odd_escape}
+use Rattle.std.specs.Prelude.{Ok}
+use Rattle.rfc9309_laws.proofs.NormalLemmas.{normal_uris}
 use Rattle.texting_robots.specs.Prepared.{prepared}
 use Rattle.url.specs.{Parts.Parts, Parser.parse_url}
 use Rattle.robots_warnings.specs.Targets.{has_odd_target, is_normal, is_normal_byte, is_odd_url}
