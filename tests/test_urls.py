@@ -3,7 +3,7 @@
 import json
 
 import pytest
-from support import run
+from support import run, warning_line
 
 ROBOTS = b"""User-agent: *
 Disallow: /private/
@@ -41,13 +41,15 @@ def check(folder, text, *args, robots=ROBOTS):
 @pytest.mark.parametrize("text, lines", LISTED.values(), ids=LISTED)
 def test_each_line_is_a_url(tmp_path, text, lines):
     out = "group: * (Ferris has no group of its own)\ndelay: none\n" + lines
-    assert outcome(check(tmp_path, text, "Ferris")) == (1 if "deny" in out else 0, out, "")
+    err = warning_line("url-not-normal /tea#cup") if b"#cup" in text else ""
+    assert outcome(check(tmp_path, text, "Ferris")) == (1 if "deny" in out else 0, out, err)
 
 
 def test_a_url_is_asked_without_its_fragment(tmp_path):
     """In a path, `#` is a byte like others."""
     out = "group: * (Ferris has no group of its own)\ndelay: none\ndeny 2 https://e.com/a#b\nallow - /a#b\n1 allowed, 1 denied\n"
-    assert outcome(check(tmp_path, b"https://e.com/a#b\n/a#b\n", "Ferris", robots=b"User-agent: *\nDisallow: /a$\n")) == (1, out, "")
+    result = check(tmp_path, b"https://e.com/a#b\n/a#b\n", "Ferris", robots=b"User-agent: *\nDisallow: /a$\n")
+    assert outcome(result) == (1, out, warning_line("url-not-normal /a#b"))
 
 
 def test_urls_of_the_command_line_come_first(tmp_path):

@@ -1,10 +1,11 @@
--- The normal form of match targets, as RFC 9309 compares them.
-use Rattle.std.specs.Prelude.{ℕ, ◌==◌, Bool, false, not, ◌||◌, ◌&&◌, List, ◌++◌, None, Ok, Err, codes, nat_eq}
+-- The match target of a URL or a path, as crawlers ask for it, and its normal form, which RFC 9309 compares.
+use Rattle.std.specs.Prelude.{ℕ, ◌==◌, Bool, not, ◌||◌, ◌&&◌, List, ◌++◌, None, Ok, Err, codes}
+use Rattle.std.specs.Prelude.{if◌then◌else◌, nat_eq}
 use Rattle.std.specs.{List.list_all, List.starts_with, Str.byte}
 use Rattle.url.specs.{Parts.Parts, Parser.parse_url}
-use Rattle.texting_robots.specs.{Prepared.prepared, Prepared.with_delimiter}
+use Rattle.texting_robots.specs.{Address.is_web, Prepared.prepared, Prepared.with_delimiter}
 use Rattle.robots_warnings.specs.Rules.{begins_odd_escape, is_delimiter, needs_no_escape, somewhere}
-use Rattle.robots_warnings.specs.Urls.{begins_as_url}
+use Rattle.robots_warnings.specs.Urls.{begins_as_url, is_unparsable}
 
 -- a byte that the normal form of a path and a query may have: one that needs no escape, a delimiter, or `%`
 abbrev pub is_normal_byte : ℕ → Bool
@@ -15,17 +16,21 @@ is_normal_byte b = needs_no_escape b || (is_delimiter b || b == byte "%")
 abbrev pub is_normal : List ℕ → Bool
 is_normal target = list_all is_normal_byte target && not (somewhere begins_odd_escape target)
 
--- what a crawler asks a site for: the path and the query
+-- what a crawler sends to a site for a URL: the path, `?` and the query, but not the fragment
 abbrev pub requested_target : Parts → List ℕ
 requested_target url = url.path ++ with_delimiter (codes "?") url.query
 
--- the text is an http(s) URL that parses, and what a crawler asks for isn't in normal form
-abbrev pub is_odd_url : List ℕ → Bool
-is_odd_url text =
-    begins_as_url text
-    && elim (parse_url None text) [ Ok url ↦ not (is_normal (requested_target url)) | Err e ↦ false ]
+-- an http(s) URL is asked without its fragment; any other text, such as a path, has the match target that the
+-- library gives it, in which `#` is an ordinary byte
+abbrev pub asked_target : List ℕ → List ℕ
+asked_target text =
+    elim (parse_url None text) [
+      | Ok url ↦ if is_web url.scheme then requested_target url else prepared text
+      | Err e ↦ prepared text
+    ]
 
--- the text is a path or such a URL, and its match target isn't in normal form
+-- the text is a path, or an http(s) URL that can be parsed, and what crawlers ask for isn't in normal form
 abbrev pub has_odd_target : List ℕ → Bool
 has_odd_target text =
-    (starts_with nat_eq text (codes "/") && not (is_normal (prepared text))) || is_odd_url text
+    (starts_with nat_eq text (codes "/") || (begins_as_url text && not (is_unparsable text)))
+    && not (is_normal (asked_target text))

@@ -1,12 +1,12 @@
-//! The normal form of match targets, as RFC 9309 compares them.
-ghost use Rattle.std.specs.Prelude.{◌≡◌, ◌&&◌, IfOk, codes, nat_eq, not};
-ghost use Rattle.std.specs.List.{list_all, starts_with};
-ghost use Rattle.texting_robots.specs.Callers.{prepared};
-ghost use Rattle.robots_warnings.specs.Targets.{has_odd_target, is_normal, is_normal_byte, is_odd_url};
+//! Match targets of URLs and paths, as crawlers ask for them, and their normal form, which RFC 9309 compares.
+ghost use Rattle.std.specs.Prelude.{◌≡◌, IfOk, string_bytes};
+ghost use Rattle.std.specs.List.{list_all};
+ghost use Rattle.texting_robots.specs.{Address.is_web, Callers.prepared};
+ghost use Rattle.robots_warnings.specs.Targets.{asked_target, has_odd_target, is_normal, is_normal_byte};
 ghost use Rattle.robots_warnings.specs.Targets.{requested_target};
 
 use crate::rules::{begins_odd_escape, is_delimiter, needs_no_escape, somewhere};
-use crate::urls::begins_as_url;
+use crate::urls::is_parsable_url;
 use std::alloc::{AllocError, Global};
 use texting_robots::{Error, Robot};
 use url::{ParseError, Position, Url};
@@ -32,45 +32,53 @@ pub fn is_normal(target: &[u8]) -> bool
     are_normal_bytes(target) && !somewhere(target, begins_odd_escape)
 }
 
-/// What a crawler asks a site for: the path and the query.
-pub fn requested_target(url: &Url) -> &str
+/// Whether the scheme is `http` or `https`.
+fn is_web(scheme: &str) -> bool
+    ensures { result ≡ is_web scheme.now }
+{
+    scheme == "http" || scheme == "https"
+}
+
+/// What a crawler sends to a site for a URL: the path and the query.
+fn requested_target(url: &Url) -> &str
     ensures { result.now ≡ requested_target url.now }
 {
     url.slice(Position::BeforePath, Position::AfterQuery)
 }
 
-/// Whether the text is a path, and its match target isn't in normal form.
-fn is_odd_path(alloc: Global, text: &str) -> Result<bool, AllocError>
-    ensures { IfOk result (λ answer. answer
-        ≡ (starts_with nat_eq text.now (codes "/") && not (is_normal (prepared text.now)))) }
+/// The match target that the library gives a text.
+fn prepared(alloc: Global, text: &str) -> Result<String, AllocError>
+    ensures { IfOk result (λ target. string_bytes target ≡ prepared text.now) }
 {
-    if !text.starts_with("/") {
-        return Ok(false);
-    }
     match Robot::prepare_url(alloc, text) {
-        Ok(target) => Ok(!is_normal(target.as_bytes())),
+        Ok(target) => Ok(target),
         Err(Error::Memory) => Err(AllocError),
         Err(Error::InvalidRobots | Error::InvalidRule) => unreachable!(),
     }
 }
 
-/// Whether the text is an http(s) URL that parses, and what a crawler asks for isn't in normal form.
-fn is_odd_url(alloc: Global, text: &str) -> Result<bool, AllocError>
-    ensures { IfOk result (λ answer. answer ≡ is_odd_url text.now) }
+/// The match target of a URL or a path, as crawlers ask for it: that of an http(s) URL has no fragment.
+///
+/// # Errors
+///
+/// An error if an allocation fails or the URL is too long for `url`.
+pub fn asked_target(alloc: Global, text: &str) -> Result<String, AllocError>
+    ensures { IfOk result (λ target. string_bytes target ≡ asked_target text.now) }
 {
-    if !begins_as_url(text.as_bytes()) {
-        return Ok(false);
-    }
     match Url::parse(alloc, text) {
-        Ok(url) => Ok(!is_normal(requested_target(&url).as_bytes())),
+        Ok(url) if is_web(url.scheme()) => String::from_str(alloc, requested_target(&url)),
+        Ok(_) => prepared(alloc, text),
         Err(ParseError::OutOfMemory | ParseError::Overflow) => Err(AllocError),
-        Err(_) => Ok(false),
+        Err(_) => prepared(alloc, text),
     }
 }
 
-/// Whether the text is a path or such a URL, and its match target isn't in normal form.
+/// Whether the text is a path or an http(s) URL, can be parsed, and has a match target that isn't in normal form.
 pub(crate) fn has_odd_target(alloc: Global, text: &str) -> Result<bool, AllocError>
     ensures { IfOk result (λ answer. answer ≡ has_odd_target text.now) }
 {
-    Ok(is_odd_path(alloc, text)? || is_odd_url(alloc, text)?)
+    if !text.starts_with("/") && !is_parsable_url(alloc, text)? {
+        return Ok(false);
+    }
+    Ok(!is_normal(asked_target(alloc, text)?.as_bytes()))
 }

@@ -40,7 +40,7 @@ pub(crate) fn is_invalid_url(alloc: Global, text: &str) -> Result<bool, AllocErr
 }
 
 /// Whether the text starts like an http(s) URL, and can be parsed.
-fn is_parsable_url(alloc: Global, text: &str) -> Result<bool, AllocError>
+pub(crate) fn is_parsable_url(alloc: Global, text: &str) -> Result<bool, AllocError>
     ensures { IfOk result (λ answer. answer ≡ (begins_as_url text.now && not (is_unparsable text.now))) }
 {
     Ok(begins_as_url(text.as_bytes()) && !is_unparsable(alloc, text)?)
