@@ -1,8 +1,7 @@
 -- Each rule that applies to a crawler is that of a source line, whose member is one of those that the
 -- crawler's groups have.
 use Rattle.std.proofs.Common.{◌≡◌, ℕ, zero, suc, ◌+◌, Bool, true, false, List, [], ◌∷◌, ◌++◌, Option, Some}
-use Rattle.std.proofs.Common.{None, Contains, ap, arith, cond, filter, refl, slice_get, subst}
-use Rattle.std.proofs.Common.{◌⊎◌, inl, inr}
+use Rattle.std.proofs.Common.{None, Contains, ap, arith, cond, filter, refl, slice_get, subst, ◌⊎◌, inl, inr}
 use Rattle.std.specs.List.{cons_option}
 use Rattle.texting_robots.specs.Line.{Allow, Disallow, LineValue, Raw, Sitemap, UserAgent}
 use Rattle.texting_robots.specs.Executable.{placed_in, placed_rules, rule_in}

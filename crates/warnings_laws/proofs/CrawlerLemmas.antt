@@ -1,7 +1,7 @@
 -- A report for which no crawler is given is about all crawlers that the file names, and `*`. So each crawler
 -- has the group of one of them.
-use Rattle.std.proofs.Common.{◌≡◌, ℕ, ◌<◌, Bool, true, false, List, [], ◌∷◌, ◌++◌, ap, arith, bytes_eq}
-use Rattle.std.proofs.Common.{codes, if◌then◌else◌, inl, inr, map, refl, subst, sym, ◌∙◌}
+use Rattle.std.proofs.Common.{◌≡◌, ℕ, ◌<◌, Bool, true, false, List, [], ◌∷◌, ◌++◌, ap, arith, bytes_eq, codes}
+use Rattle.std.proofs.Common.{if◌then◌else◌, inl, inr, map, refl, subst, sym, ◌∙◌}
 use Rattle.std.specs.List.{AllByRecursion as Each, list_any}
 use Rattle.std.specs.{Char.to_ascii_lowercase, Str.is_utf8, Str.str_to_ascii_lowercase}
 use Rattle.std.proofs.lemmas.Bool.{Decides.nat_tests, cases_Bool, false≢true, or_cases, or_left, or_right}

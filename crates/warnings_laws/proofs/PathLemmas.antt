@@ -1,19 +1,23 @@
 -- The value of a rule without certain warnings is compared here as RFC 9309 compares its standard spelling,
 -- which is the value itself unless it has a nonstandard escape.
 use Rattle.std.proofs.Common.{◌≡◌, ◌≢◌, ℕ, ◌+◌, ◌*◌, ◌<◌, ◌≤◌, ◌==◌, ◌&&◌, ◌||◌, Bool, true, false, inl, inr}
-use Rattle.std.proofs.Common.{List, [], ◌∷◌, ◌++◌, ap, ap₂, not, append-nil, append_assoc, arith}
-use Rattle.std.proofs.Common.{codes, refl, sym, ◌∙◌}
+use Rattle.std.proofs.Common.{List, [], ◌∷◌, ◌++◌, ap, ap₂, not, append-nil, append_assoc, arith, codes, refl}
+use Rattle.std.proofs.Common.{sym, ◌∙◌, nat_eq}
 use Rattle.std.specs.Char.{digit_value, is_ascii_hexdigit, is_ascii_lowercase, to_ascii_uppercase}
-use Rattle.std.specs.List.{AllByRecursion as Each, list_any}
+use Rattle.std.specs.List.{AllByRecursion as Each, list_any, list_all, starts_with}
 use Rattle.std.proofs.lemmas.Bool.{Decides.nat_tests, agree_below_at, and_parts, and_right, cases_Bool}
 use Rattle.std.proofs.lemmas.Bool.{agree_below, cases_lt, eqb-true, le-ltb, ne_eqb, or_from, or_parts}
+use Rattle.std.proofs.lemmas.Bool.{and_from, not-false}
 use Rattle.std.proofs.lemmas.List.{Concat.flat_map-append, Folds.list_any-append}
 use Rattle.texting_robots.specs.Escape.{escape_byte, escaped, is_escaped}
 use Rattle.texting_robots.proofs.EscapeLemmas.{plain_stays}
 use Rattle.rfc9309_laws.specs.Matching.{is_kept, all_stay, has_dollar, in_rule, is_ended, is_escape}
-use Rattle.rfc9309_laws.specs.Matching.{is_unreserved, normal_escape, normal_from, normal_octet}
-use Rattle.rfc9309_laws.specs.Matching.{without_end}
+use Rattle.rfc9309_laws.specs.Matching.{is_unreserved, normal_escape, normal_from, normal_octet, without_end}
+use Rattle.rfc9309_laws.specs.Matching.{normal_uri}
 use Rattle.rfc9309_laws.specs.Comparable.{IsComparedAs, has_odd_escape}
+use Rattle.rfc9309_laws.proofs.NormalLemmas.{normal_uris}
+use Rattle.robots_warnings.specs.Targets.{asked_target, has_odd_target, is_normal, is_normal_byte}
+use Rattle.robots_warnings.specs.Urls.{begins_as_url, is_unparsable}
 use Rattle.robots_warnings.specs.declared.spellings.Spelling.TheVariants.{Standard}
 use Rattle.robots_warnings.specs.Rules.{after_byte, before_byte, begins_odd_escape, has, somewhere}
 use Rattle.robots_warnings.specs.Spellings.{spelled_escape, spelled}
@@ -283,3 +287,21 @@ compared_as path odds end = elim (split 36 path) [
         dollar = ap has_dollar kept ∙ spelled_no_dollar front plain;
       }
 ]
+
+-- ---- match targets
+
+pub target_normal : (text : List ℕ)
+    → (starts_with nat_eq text (codes "/") || (begins_as_url text && not (is_unparsable text))) ≡ true
+    → has_odd_target text ≡ false → normal_uri all_stay (asked_target text) ≡ asked_target text
+target_normal text asked quiet =
+    let target = asked_target text in
+    let odd = not (is_normal target) in
+    let is = not-false (is_normal target) (second _ odd asked quiet) in
+    let (bytes, even) =
+    and_parts (list_all is_normal_byte target) (not (somewhere begins_odd_escape target)) is in
+    (normal_uris target).1
+    (and_from (list_all is_normal_byte target) _ bytes (ap not (odd_escapes target) ∙ even))
+  where
+    second : (x y : Bool) → x ≡ true → (x && y) ≡ false → y ≡ false
+    second true y is both = both
+    second false y is both = cc

@@ -1,18 +1,15 @@
 -- What a rule without warnings that are about verdicts has as its path: its value as read, which is compared
 -- as RFC 9309 compares its standard spelling.
-use Rattle.std.proofs.Common.{◌≡◌, ◌≢◌, ◌⊎◌, inl, inr, ℕ, ◌&&◌, ◌||◌, Bool, true, false, not, List, []}
-use Rattle.std.proofs.Common.{◌∷◌, ◌++◌, ap, append-nil, append_assoc, arith, codes, drop, length}
-use Rattle.std.proofs.Common.{length-append, nat_lt, refl, subst, sym, ◌∙◌}
+use Rattle.std.proofs.Common.{◌≡◌, ◌≢◌, ◌⊎◌, inl, inr, ℕ, ◌&&◌, ◌||◌, Bool, true, false, not, List, [], ◌∷◌}
+use Rattle.std.proofs.Common.{◌++◌, ap, arith, codes, drop, length, nat_lt, refl, subst, sym, ◌∙◌}
 use Rattle.std.specs.List.{AllByRecursion as Each, list_any}
 use Rattle.std.specs.{Str.is_utf8}
-use Rattle.std.proofs.lemmas.Bool.{Decides.nat_tests, false≢true, not-true, or_left, or_parts}
-use Rattle.std.proofs.lemmas.Bool.{or_right}
-use Rattle.std.proofs.lemmas.Str.{encodes-append}
+use Rattle.std.proofs.lemmas.Bool.{Decides.nat_tests, false≢true, not-true, or_left, or_parts, or_right}
+use Rattle.std.proofs.lemmas.Bool.{not-false}
 use Rattle.texting_robots.specs.Callers.{Allow, CrawlDelay, Disallow, IsLineOf, LineValue, Raw, Sitemap}
 use Rattle.texting_robots.specs.Callers.{UserAgent}
 use Rattle.texting_robots.specs.{Statement.IsStatement, declared.parser.statement.Kind.Kind}
-use Rattle.texting_robots.specs.Trim.{IsSpaces, IsTrimOf}
-use Rattle.texting_robots.proofs.TrimLemmas.{each_append}
+use Rattle.texting_robots.specs.Trim.{IsTrimOf}
 use Rattle.rfc9309_laws.proofs.{CharLemmas.IsCharByte, CharLemmas.chars_text, MemberLemmas.slash_plain}
 use Rattle.rfc9309_laws.proofs.{Sources.written, SyntaxLemmas.each_front, SyntaxLemmas.each_weaker}
 use Rattle.rfc9309_laws.proofs.KeyedLemmas.{IsSolid, parts_at, parts_comment, solid_char, stripped_is}
@@ -24,7 +21,6 @@ use Rattle.rfc9309_laws.specs.Rfc9309 as rfc
 use Rattle.texting_robots.specs.Internal.Statement.{trimmed}
 use Rattle.texting_robots.proofs.TrimLemmas.{blanks_skipped, same_trim, trailing_blanks}
 use Rattle.std.proofs.lemmas.Str.{IsUtf8-from_is_utf8}
-use Rattle.std.proofs.lemmas.Bool.{not-false}
 use Rattle.robots_warnings.specs.declared.spellings.Spelling.TheVariants.{Standard}
 use Rattle.robots_warnings.specs.Checks.{Check, directive_checks, line_checks, rule_checks, text_checks}
 use Rattle.robots_warnings.specs.Contents.{comment_of, raw_value, tail_of}

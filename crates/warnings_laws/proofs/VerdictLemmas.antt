@@ -1,24 +1,21 @@
 -- If no warning is about syntax or verdicts, the verdicts are those of the standard: the rules of a crawler
 -- are fine (`TwinLemmas`), and beside an empty Disallow there is no Disallow of everything, or an Allow of
 -- everything too.
-use Rattle.std.proofs.Common.{◌≡◌, ◌≢◌, ◌↔◌, ◌⊎◌, inl, inr, ℕ, zero, suc, ◌<◌, ◌≤◌, Bool, true}
-use Rattle.std.proofs.Common.{false, List, [], ◌∷◌, Option, None, Some, Contains, ap, arith}
-use Rattle.std.proofs.Common.{codes, if◌then◌else◌, length, map, refl, slice_get, subst}
-use Rattle.std.proofs.Common.{sym, take, ◌∙◌}
+use Rattle.std.proofs.Common.{◌≡◌, ◌≢◌, ◌↔◌, ◌⊎◌, inl, inr, ℕ, zero, suc, ◌<◌, ◌≤◌, Bool, true, false, List}
+use Rattle.std.proofs.Common.{[], ◌∷◌, Option, None, Some, Contains, ap, arith, codes, if◌then◌else◌, length}
+use Rattle.std.proofs.Common.{map, refl, slice_get, subst, sym, take, ◌∙◌}
 use Rattle.std.specs.List.{AllByRecursion as Each, AllZip, filter_map}
 use Rattle.std.specs.{Prelude.is_some, Str.is_utf8}
 use Rattle.std.proofs.lemmas.Bool.{cases_Bool, cases_lt, false≢true, ltb-false, not-true}
 use Rattle.std.proofs.lemmas.{List.take_all, Option.same_Some, Simd.map-map}
-use Rattle.texting_robots.specs.Callers.{Allow, Disallow, IsLineOf, IsRobotOfFile}
-use Rattle.texting_robots.specs.Callers.{IsVerdict, Label, LineValue, PlacedRule, RobotValue, Rule}
-use Rattle.texting_robots.specs.Callers.{escaped, file_limit}
+use Rattle.texting_robots.specs.Callers.{Allow, Disallow, IsLineOf, IsRobotOfFile, IsVerdict, Label}
+use Rattle.texting_robots.specs.Callers.{LineValue, PlacedRule, RobotValue, Rule, escaped, file_limit}
 use Rattle.texting_robots.specs.Callers.{lines_read, placed_rules, unplaced}
 use Rattle.texting_robots.specs.Escape.{is_escaped}
 use Rattle.texting_robots.specs.Executable.{captured_lines, placed_in, rule_in, rule_with, rules_for}
 use Rattle.texting_robots.specs.Internal.Line.{line_of}
 use Rattle.texting_robots.specs.Statement.{IsStatement}
-use Rattle.texting_robots.proofs.{BestLemmas.placed_of, HeldLemmas.computed_are}
-use Rattle.texting_robots.proofs.{TrimLemmas.is_trimmed}
+use Rattle.texting_robots.proofs.{BestLemmas.placed_of, HeldLemmas.computed_are, TrimLemmas.is_trimmed}
 use Rattle.rfc9309_laws.proofs.FileLemmas.{FileRead, file_with, groups_written, has_delays}
 use Rattle.rfc9309_laws.proofs.{ReadLemmas.file_sources, ReadLemmas.lines_in, RobotLemmas.rules_read}
 use Rattle.rfc9309_laws.proofs.Sources.{Source, member_in, parts_in, source_of, written}
@@ -34,9 +31,7 @@ use Rattle.robots_warnings.specs.EmptyDisallows.{IsEmptyDisallow, is_empty_at}
 use Rattle.robots_warnings.specs.{Closed.is_closed, File.lines_of, Rules.begins_oddly}
 use Rattle.robots_warnings.specs.Spellings.{unpaired, spelled}
 use Rattle.robots_warnings.specs.Table.{keeps_verdicts, topic_of}
-use Rattle.robots_warnings.specs.Warnings.{crawler_warnings}
-use Rattle.robots_warnings.specs.Warnings.{group_warnings}
-use Rattle.robots_warnings.specs.Warnings.{position_warnings, rule_warnings}
+use Rattle.robots_warnings.specs.Warnings.{crawler_warnings, group_warnings, position_warnings, rule_warnings}
 use Rattle.robots_warnings.specs.Warnings.{warned_at, warned_beside}
 use Rattle.robots_warnings.specs.WarningValue.{WarningValue}
 use Rattle.robots_warnings.specs.declared.facts.FileFacts.{FileFacts}
@@ -52,8 +47,7 @@ use Rattle.warnings_laws.proofs.SyntaxLemmas.{ArePassed, AreQuietBy, bodies, bod
 use Rattle.warnings_laws.proofs.SyntaxLemmas.{labels, labels_are, name, passed_groups, passed_positions}
 use Rattle.warnings_laws.proofs.SyntaxLemmas.{quiets, reads, silence}
 use Rattle.warnings_laws.proofs.TwinLemmas.{AreFine, AreFineGroups, AreGood, IsFine, allowed_same, each_flat}
-use Rattle.warnings_laws.proofs.TwinLemmas.{map_each, not_percent, rules_fine, sources_fine}
-use Rattle.warnings_laws.proofs.TwinLemmas.{spelled_short}
+use Rattle.warnings_laws.proofs.TwinLemmas.{map_each, not_percent, rules_fine, sources_fine, spelled_short}
 use Rattle.warnings_laws.specs.Syntax.{AreGroupsWhole, IsNoSplit, IsNotAboutSyntax, IsSilentOn, warnings_of}
 use Rattle.warnings_laws.specs.Verdict.{AreVerdictsKept, IsAsOneOf, IsAsked, IsStandardVerdict, KeepsVerdicts}
 use Rattle.rfc9309_laws.specs.Rfc9309 as rfc
