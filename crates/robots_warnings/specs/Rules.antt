@@ -46,11 +46,17 @@ holds_otherwise value =
     has_any (codes "\t\\^{}") (before_byte (byte "?") value)
     || has_any (codes "\t'`") (after_byte (byte "?") value)
 
+-- the text starts with a `%` that begins no escape
+abbrev pub begins_lone_percent : List ℕ → Bool
+begins_lone_percent text =
+    slice_index text 0 == byte "%"
+    && not (is_ascii_hexdigit (slice_index text 1) && is_ascii_hexdigit (slice_index text 2))
+
 -- the value contains a byte that crawlers encode differently. Some bytes are only that where a query may be:
 -- after the first `?`, or after the first star, which may match a `?`
 abbrev pub has_odd_character : List ℕ → Bool
 has_odd_character value =
-    has_any (codes "|\"<>`") value
+    (has_any (codes "|\"<>`") value || somewhere begins_lone_percent value)
     || (has_any (codes "\\^{}'") (after_byte (byte "?") value)
     || has_any (codes "\\^{}'") (after_byte (byte "*") value))
 

@@ -3,7 +3,7 @@ ghost use Rattle.std.specs.Prelude.{◌≡◌, ◌<◌, ◌≤◌, ◌==◌, ◌
 ghost use Rattle.std.specs.Char.{digit_value, is_ascii_hexdigit};
 ghost use Rattle.std.specs.{Fn.FnReturnsAt, List.list_any, List.position_or_len, Str.is_utf8};
 ghost use Rattle.robots_warnings.specs.Rules.{after_byte, before_byte, begins_delimiter, begins_dot_segment};
-ghost use Rattle.robots_warnings.specs.Rules.{begins_odd_escape, begins_oddly, begins_sign, begins_wildcard};
+ghost use Rattle.robots_warnings.specs.Rules.{begins_lone_percent, begins_odd_escape, begins_oddly, begins_sign, begins_wildcard};
 ghost use Rattle.robots_warnings.specs.Rules.{has, has_any, has_dollar_inside, has_more_after_dollar};
 ghost use Rattle.robots_warnings.specs.Rules.{has_odd_character, has_odd_start, holds_otherwise, is_delimiter};
 ghost use Rattle.robots_warnings.specs.Rules.{is_expression, is_quoted, needs_no_escape, somewhere};
@@ -92,12 +92,24 @@ pub(crate) fn holds_otherwise(value: &[u8]) -> bool
     has_any(b"\t\\^{}", before_byte(b'?', value)) || has_any(b"\t'`", after_byte(b'?', value))
 }
 
+/// Whether the text starts with a `%` that begins no escape.
+pub(crate) fn begins_lone_percent(text: &[u8]) -> bool
+    ensures { result ≡ begins_lone_percent text.now }
+{
+    match text {
+        [b'%', high, low, ..] => !(high.is_ascii_hexdigit() && low.is_ascii_hexdigit()),
+        [b'%', ..] => true,
+        _ => false,
+    }
+}
+
 /// Whether the value contains a byte that crawlers encode differently. Some are only that after the first `?`
 /// or star.
 pub(crate) fn has_odd_character(value: &[u8]) -> bool
     ensures { result ≡ has_odd_character value.now }
 {
     has_any(b"|\"<>`", value)
+        || somewhere(value, begins_lone_percent)
         || has_any(b"\\^{}'", after_byte(b'?', value))
         || has_any(b"\\^{}'", after_byte(b'*', value))
 }

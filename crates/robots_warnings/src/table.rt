@@ -194,7 +194,7 @@ pub static WARNINGS: [(Cause, Level, Topic, &str); 74] = [
     (Cause::DelayAboveStar, Level::Note, Topic::Verdict, "delay-splits-group"),
     (Cause::DelaySplitsGroup, Level::Warning, Topic::Verdict, "delay-splits-group"),
     (Cause::GroupPastSizeLimit, Level::Warning, Topic::Meaning, "group-past-size-limit"),
-    (Cause::AllowedAndDisallowed, Level::Warning, Topic::Meaning, "allowed-and-disallowed"),
+    (Cause::AllowedAndDisallowed, Level::Warning, Topic::Verdict, "allowed-and-disallowed"),
     (Cause::EmptyDisallow, Level::Warning, Topic::Verdict, "empty-disallow"),
     // the groups
     (Cause::TwoDelays, Level::Warning, Topic::Meaning, "two-delays"),
@@ -303,7 +303,7 @@ static MESSAGES: [(Cause, &str); 74] = [
     (Cause::UrlAsRule,
         "the rule starts like a URL, but rules apply to paths, so it matches none; keep only the part after the host, for example: /search"),
     (Cause::OddCharacter,
-        "the rule contains a character that crawlers encode differently (a vertical bar, \", <, > or a backquote; after a ? or *, also \\ ^ { } or '), so it may not match; use * in its place"),
+        "the rule contains a character that crawlers encode differently (a vertical bar, \", <, >, a backquote or a lone %; after a ? or *, also \\ ^ { } or '), so it may not match; use * in its place"),
     (Cause::UnencodedCharacter,
         "the rule contains a character that usually has another form in URLs (^ { } \\ in a path, ' or a backquote in a query, or a tab); use * in its place"),
     (Cause::QuotedRule,
