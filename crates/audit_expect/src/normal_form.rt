@@ -9,11 +9,29 @@ use std::alloc::{AllocError, Global};
 
 /// The ASCII bytes that are escaped in a match target: all but unreserved and reserved ones and `%`. Of the reserved ones,
 /// `*` and `$` are escaped, as they would be special in a rule, and `#`, which isn't part of a path or a query.
-const IN_TARGETS: AsciiSet = ascii_set!(NON_ALPHANUMERIC
-    .remove(b'-').remove(b'.').remove(b'_').remove(b'~').remove(b'%')
-    .remove(b':').remove(b'/').remove(b'?').remove(b'[').remove(b']').remove(b'@')
-    .remove(b'!').remove(b'&').remove(b'\'').remove(b'(').remove(b')').remove(b'+')
-    .remove(b',').remove(b';').remove(b'='));
+const IN_TARGETS: AsciiSet = ascii_set!(
+    NON_ALPHANUMERIC
+        .remove(b'-')
+        .remove(b'.')
+        .remove(b'_')
+        .remove(b'~')
+        .remove(b'%')
+        .remove(b':')
+        .remove(b'/')
+        .remove(b'?')
+        .remove(b'[')
+        .remove(b']')
+        .remove(b'@')
+        .remove(b'!')
+        .remove(b'&')
+        .remove(b'\'')
+        .remove(b'(')
+        .remove(b')')
+        .remove(b'+')
+        .remove(b',')
+        .remove(b';')
+        .remove(b'=')
+);
 
 /// The same of a rule before a `$` at its end: a star is special.
 const IN_RULES: AsciiSet = ascii_set!(IN_TARGETS.remove(b'*'));
