@@ -10,6 +10,7 @@ use Rattle.rfc9309_laws.proofs.ReadLemmas.{after_bom, file_sources, low_of_front
 use Rattle.rfc9309_laws.proofs.ReadLemmas.{bare_no_nul, end_bytes, last_end_adds_none, line_before}
 use Rattle.rfc9309_laws.proofs.ReadLemmas.{line_sources, low_append, sources_in, sources_of, file_same}
 use Rattle.rfc9309_laws.proofs.ReadLemmas.{lines_in}
+use Rattle.rfc9309_laws.proofs.{HasFormLemmas.form_passes}
 use Rattle.rfc9309_laws.proofs.KeyedLemmas.{AreFree, HasNoRule, IsLineOf}
 use Rattle.rfc9309_laws.proofs.MemberLemmas.{member_line, sitemap_line, token_line}
 use Rattle.rfc9309_laws.proofs.OtherLemmas.{empty_line, other_line}
@@ -105,7 +106,7 @@ lines_listed : (lines : List Line)
 lines_listed [] = ([], repeats_none IsAddressLine)
 lines_listed (line ∷ lines) =
     let is = line.is in
-    let (addresses, one) = listed line.form (is.body ++ is.nl) (is.again is.nl is.is_nl) in
+    let (addresses, one) = listed line.form (is.body ++ is.nl) (form_passes line.form is.body is.nl is.is_nl is.tested) in
     let (more, rest) = lines_listed lines in
     let first = repeats_one IsAddressLine addresses (is.body ++ is.nl) one in
     (addresses ++ more, repeats_both (subst (rfc.Repeats IsAddressLine addresses) (sym is.whole) first) rest)

@@ -13,7 +13,7 @@ use Rattle.rfc9309_laws.specs.LineForms.{Agent, AreForms, Form, HasForm, Rule}
 use Rattle.std.proofs.{lemmas.List.Elements.All-from_recursion}
 use Rattle.texting_robots.specs.{Cut.lf, Internal.Cut.bodies_of, Line.without_front}
 use Rattle.texting_robots.proofs.{CutFromFront.bodies_nil, TrimLemmas.each_append}
-use Rattle.rfc9309_laws.proofs.{OtherLemmas.only_empty}
+use Rattle.rfc9309_laws.proofs.{HasFormLemmas.form_passes, OtherLemmas.only_empty}
 use Rattle.rfc9309_laws.specs.{StandardRobot.IsFileBelow}
 use Rattle.rfc9309_laws.specs.Rfc9309 as rfc
 
@@ -58,7 +58,7 @@ formed (line ∷ lines) =
     ] in
     rw before.whole (record {
       forms = line.form ∷ later.forms;
-      each = (line.is.again (lf ∷ []) (inr (inl refl)), later.each);
+      each = (form_passes line.form line.is.body (lf ∷ []) (inr (inl refl)) line.is.tested, later.each);
       free = free_next line.form (forms_of lines) later.forms later.free;
     })
 

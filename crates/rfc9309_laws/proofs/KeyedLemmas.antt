@@ -1,5 +1,5 @@
--- What is known of a line of the grammar: it is content with a terminator, has its form with any other
--- terminator too, passes the test of its form, and is read as its source line. Lines with a field name, a
+-- What is known of a line of the grammar: it is content with a terminator, passes the test of its form, and
+-- is read as its source line. Lines with a field name, a
 -- colon and a value are such lines.
 use Rattle.std.proofs.Common.{◌≡◌, ◌≢◌, ◌⊎◌, inl, inr, ℕ, ◌<◌, ◌==◌, ◌||◌, Bool, true, false, List, [], ◌∷◌}
 use Rattle.std.proofs.Common.{◌++◌, append-nil, ap, arith, bytes_eq, drop, map, refl, subst, sym, ◌∙◌}
@@ -21,7 +21,7 @@ use Rattle.rfc9309_laws.specs.HasForm.{colon, has_byte, hash, is_blank, is_comme
 use Rattle.rfc9309_laws.specs.HasForm.{is_value_byte, is_value_text, kept_before, name_in, stripped}
 use Rattle.rfc9309_laws.specs.HasForm.{text_after, text_before, text_from, without_leading, without_trailing}
 use Rattle.rfc9309_laws.specs.HasForm.{has_form, is_identifier_byte, is_keyed, lower, value_in}
-use Rattle.rfc9309_laws.specs.LineForms.{Form, IsLine, Agent, Rule}
+use Rattle.rfc9309_laws.specs.LineForms.{Form, Agent, Rule}
 use Rattle.std.specs.{Char.to_ascii_lowercase, Str.IsUtf8}
 use Rattle.std.proofs.lemmas.Bool.Decides.{nat_tests}
 use Rattle.std.proofs.lemmas.Slice.Eq.{bytes_eq-Decides}
@@ -292,7 +292,6 @@ pub record IsLineOf (form : Form) (sources : List Source) (text : List ℕ) : Ty
   pub nl : List ℕ
   pub whole : text ≡ body ++ nl
   pub is_nl : rfc.IsNl nl
-  pub again : (end : List ℕ) → rfc.IsNl end → IsLine form (body ++ end)
   pub tested : has_form form body ≡ true
   pub bare : Each IsBare body
   pub low : BeginsLow body
@@ -389,39 +388,15 @@ module _ (kind : Kind) (value read text : List ℕ) (line : rfc.IsKeyed (word_of
         (blanks_after eol.blanks value read eol.are_blanks chars.utf8 trim);
   }
 
-  again : (end : List ℕ) → rfc.IsNl end → rfc.IsKeyed (word_of kind) value (body ++ end)
-  again end is_nl = record {
-    margin = line.margin;
-    key = line.key;
-    blanks = line.blanks;
-    gap = line.gap;
-    eol = eol.blanks ++ (eol.comment ++ end);
-    whole = simp append_assoc;
-    margin_blank = line.margin_blank;
-    is_key = line.is_key;
-    blanks_blank = line.blanks_blank;
-    gap_blank = line.gap_blank;
-    is_eol = record {
-      blanks = eol.blanks;
-      comment = eol.comment;
-      nl = end;
-      whole = refl;
-      are_blanks = eol.are_blanks;
-      is_comment = eol.is_comment;
-      is_nl = is_nl;
-    };
-  }
-
-  -- the line is read as `found`; each line with this field name and value has the form, and passes its test
+  -- the line is read as `found`; each line with this field name and value passes the test of the form
   pub keyed_line : (form : Form) (found : LineValue)
       → ((body : List ℕ) → line_with kind read body ≡ found)
       → Each IsRead (filter is_not_raw ((found, value) ∷ []))
       → IsCounted form (filter is_not_raw ((found, value) ∷ []))
-      → ((other : List ℕ) → rfc.IsKeyed (word_of kind) value other → IsLine form other)
       → ((body : List ℕ) → is_keyed (word_of kind) body ≡ true → value_in body ≡ value
       → has_form form body ≡ true)
       → IsLineOf form (filter is_not_raw ((found, value) ∷ [])) text
-  keyed_line form found is is_read counted has passes =
+  keyed_line form found is is_read counted passes =
       let source : ◌≡◌ {A = Source} (source_of body) (found, value) =
       ap (λ found. (found, written body))
       (line_stated body kind read (statement_found kind read body states) ∙ is body)
@@ -436,7 +411,6 @@ module _ (kind : Kind) (value read text : List ℕ) (line : rfc.IsKeyed (word_of
             eol.whole
             ∙ simp append_assoc;
         is_nl = eol.is_nl;
-        again = λ end is_nl. has (body ++ end) (again end is_nl);
         tested = passes body keyed_passes value_is;
         bare =
             named_key.bare

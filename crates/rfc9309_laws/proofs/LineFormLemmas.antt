@@ -15,7 +15,8 @@ use Rattle.std.proofs.{lemmas.Bool.ne_eqb, lemmas.List.Elements.recursion_from_A
 use Rattle.texting_robots.specs.{Internal.Cut.bodies_of, Executable.file_bodies, Line.without_front}
 use Rattle.texting_robots.proofs.{CutFromFront.bodies_nil, CutLemmas.byte_cases}
 use Rattle.std.specs.{Prelude.Contains}
-use Rattle.rfc9309_laws.proofs.{ReadLemmas.nothing_replaced, KeyedLemmas.AreFree, OtherLemmas.line_ended}
+use Rattle.rfc9309_laws.proofs.{HasFormLemmas.form_passes, KeyedLemmas.AreFree}
+use Rattle.rfc9309_laws.proofs.{OtherLemmas.form_tested, ReadLemmas.nothing_replaced}
 use Rattle.rfc9309_laws.specs.Rfc9309 as rfc
 
 -- ---- the contents of a text, and the terminators after them
@@ -283,7 +284,8 @@ tail_of [] (body ∷ bodies) text all are = absurd all
 tail_of (form ∷ forms) [] text all are = absurd all
 tail_of (form ∷ forms) (body ∷ bodies) text (is, all) (bytes, line) =
     let tail = tail_of forms bodies line.rest all line.is_rest in
-    let ended = line_ended body bytes form is (line.end ∷ []) (is_nl line.end line.is_end) in
+    let ended =
+    form_passes form body (line.end ∷ []) (is_nl line.end line.is_end) (form_tested body bytes form is) in
     let after = ends_before line.ends line.rest line.are_ends tail in
     let whole : text ≡ (body ++ line.end ∷ []) ++ (line.ends ++ line.rest) =
     line.whole ∙ simp append_assoc in

@@ -49,15 +49,6 @@ empty_line text eol =
       nl = eol.nl;
       whole = eol.whole ∙ sym (append_assoc eol.blanks eol.comment eol.nl);
       is_nl = eol.is_nl;
-      again = λ end is_nl. record {
-        blanks = eol.blanks;
-        comment = eol.comment;
-        nl = end;
-        whole = append_assoc eol.blanks eol.comment end;
-        are_blanks = eol.are_blanks;
-        is_comment = eol.is_comment;
-        is_nl = is_nl;
-      };
       tested =
           and_from _ _
           (ap (list_all is_blank) parts.before
@@ -210,20 +201,6 @@ module _ (text : List ℕ) (o : rfc.IsOtherLine text) where
         nl = o.nl;
         whole = o.whole ∙ simp append_assoc;
         is_nl = o.is_nl;
-        again = λ end is_nl. record {
-          margin = o.margin;
-          name = o.name;
-          blanks = o.blanks;
-          value = o.value;
-          nl = end;
-          whole = simp append_assoc;
-          margin_blank = o.margin_blank;
-          is_name = o.is_name;
-          is_other = o.is_other;
-          blanks_blank = o.blanks_blank;
-          is_value = o.is_value;
-          is_nl = is_nl;
-        };
         tested =
             and_from _ _
             (and_from (has_byte colon body) _ line.has (ap is_other_name line.name ∙ other_passes))
@@ -270,7 +247,7 @@ before_end (b ∷ body) (f ∷ front) nl bytes is e =
     let others = before_end body front nl bytes.1 is later in
     cc
 
--- what is known of a line with this content, whichever terminator follows it
+-- a content that has the form passes its test
 module _ (body : List ℕ) (bytes : Each IsBodyByte body) (form : Form) (is : HasForm form body) where
   abbrev line : (sources : List Source) × IsLineOf form sources (body ++ lf ∷ [])
   line = line_of form (body ++ lf ∷ []) is
@@ -280,9 +257,6 @@ module _ (body : List ℕ) (bytes : Each IsBodyByte body) (form : Form) (is : Ha
 
   pub form_tested : has_form form body ≡ true
   form_tested = subst (λ b. has_form form b ≡ true) content line.1.tested
-
-  pub line_ended : (end : List ℕ) → rfc.IsNl end → IsLine form (body ++ end)
-  line_ended end is_nl = subst (λ b. IsLine form (b ++ end)) content (line.1.again end is_nl)
 
 -- only an empty line has an empty content
 pub only_empty : (form : Form) → HasForm form [] → form ≡ Empty
