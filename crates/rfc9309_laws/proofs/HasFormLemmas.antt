@@ -184,7 +184,7 @@ module _ (end : List ℕ) (nl : rfc.IsNl end) where
     is_comment = elim (begins hash text) [
       | inl none ↦ inl none
       | inr some ↦ inr
-          (record { text = text_after hash text; is_text = comment_text (text_after hash text) is; whole = some })
+          (record { text = text_after hash text; is_text = comment_text _ is; whole = some })
     ];
     is_nl = nl;
   }
@@ -194,7 +194,7 @@ module _ (end : List ℕ) (nl : rfc.IsNl end) where
       let (blanks, comment) = and_parts (list_all is_blank (text_before hash body)) _ is in
       subst rfc.IsEol
       (sym (ap (λ t. t ++ end) (split hash body) ∙ append_assoc (text_before hash body) _ end))
-      (eol (text_before hash body) body (passing rfc.IsWs is_blank blank (text_before hash body) blanks) comment)
+      (eol (text_before hash body) body (passing rfc.IsWs is_blank blank _ blanks) comment)
 
   pub keyed_passes : (word body : List ℕ) → is_keyed word body ≡ true
       → rfc.IsKeyed word (value_in body) (body ++ end)

@@ -1,5 +1,6 @@
 -- The samples in `specs/Sample.antt` are files of the grammar, line by line.
-use Rattle.std.proofs.Common.{◌≡◌, ◌++◌, ◌∷◌, List, [], ℕ, codes, drop, flat_map, inl, inr, refl, subst, sym, true}
+use Rattle.std.proofs.Common.{◌≡◌, ◌++◌, ◌∷◌, List, [], ℕ, codes, drop, flat_map, inl, inr, refl, subst, sym}
+use Rattle.std.proofs.Common.{true}
 use Rattle.std.specs.Str.{chars, is_utf8}
 use lib.Utf8.{encode}
 use Rattle.texting_robots.specs.Internal.{Cut.cut, Line.line_of, Statement.statement_of, Delay.delay_of}
@@ -74,7 +75,8 @@ feed = inr (inl refl)
 both : rfc.IsNl cr_lf
 both = inr (inr refl)
 
-pattern : (first : ℕ) (text : List ℕ) → is_value_text text ≡ true → rfc.IsPatternWith (first ∷ []) (first ∷ text)
+pattern : (first : ℕ) (text : List ℕ) → is_value_text text ≡ true
+    → rfc.IsPatternWith (first ∷ []) (first ∷ text)
 pattern first text is = record { text = text; is_text = value_text text is; whole = refl }
 
 pub is_robotstxt : rfc.IsRobotstxt sample.bare_groups sample.bare_text
