@@ -126,56 +126,6 @@ encode_four c low =
 
 -- ---- characters
 
-tail : (n : ℕ) → rfc.IsUtf8Tail (128 + n % 64)
-tail n = (omega arith, omega arith)
-
-of_two : (c : ℕ) → 128 ≤ c → c < 2048 → rfc.IsUtf8CharNoctl ((192 + c / 64) ∷ (128 + c % 64) ∷ [])
-of_two c low high = inr (inl ((omega arith, omega arith), tail c))
-
-three_by : (q r c : ℕ) → q < 16 → r < 64 → (q ≡ 0 → 32 ≤ r) → (q ≡ 13 → r < 32)
-    → rfc.IsUtf8Three ((224 + q) ∷ (128 + r) ∷ (128 + c % 64) ∷ [])
-three_by q r c small least some low = elim (cases_eq q 0) [
-  | inl none ↦ let above = some none in
-      inl (omega arith, (omega arith, omega arith), tail c)
-  | inr more ↦ elim (cases_lt q 13) [
-    | inl before ↦ inr (inl ((omega arith, omega arith), (omega arith, omega arith), tail c))
-    | inr after ↦ elim (cases_eq q 13) [
-      | inl same ↦ let below = low same in
-          inr (inr (inl (omega arith, (omega arith, omega arith), tail c)))
-      | inr other ↦ inr (inr (inr ((omega arith, omega arith), (omega arith, omega arith), tail c)))
-    ]
-  ]
-]
-
-of_three : (c : ℕ) → 2048 ≤ c → c < 65536 → (c < 55296) ⊎ (57344 ≤ c)
-    → rfc.IsUtf8CharNoctl ((224 + c / 4096) ∷ (128 + c / 64 % 64) ∷ (128 + c % 64) ∷ [])
-of_three c low high is =
-    let parts =
-    three_by (c / 4096) (c / 64 % 64) c (omega arith) (omega arith) (λ e. omega arith) (λ e. omega arith) in
-    inr (inr (inl parts))
-
-four_by : (q r c d : ℕ) → q < 5 → r < 64 → (q ≡ 0 → 16 ≤ r) → (q ≡ 4 → r < 16)
-    → rfc.IsUtf8Four ((240 + q) ∷ (128 + r) ∷ (128 + c % 64) ∷ (128 + d % 64) ∷ [])
-four_by q r c d small least some low = elim (cases_eq q 0) [
-  | inl none ↦ let above = some none in
-      inl (omega arith, (omega arith, omega arith), tail c, tail d)
-  | inr more ↦ elim (cases_lt q 4) [
-    | inl before ↦ inr (inl ((omega arith, omega arith), (omega arith, omega arith), tail c, tail d))
-    | inr after ↦ let same : q ≡ 4 = omega arith in
-        let below = low same in
-        inr (inr (omega arith, (omega arith, omega arith), tail c, tail d))
-  ]
-]
-
-of_four : (c : ℕ) → 65536 ≤ c → c < 1114112
-    → rfc.IsUtf8CharNoctl
-    ((240 + c / 262144) ∷ (128 + c / 4096 % 64) ∷ (128 + c / 64 % 64) ∷ (128 + c % 64) ∷ [])
-of_four c low high =
-    let parts =
-    four_by (c / 262144) (c / 4096 % 64) (c / 64) c (omega arith) (omega arith) (λ e. omega arith)
-    (λ e. omega arith) in
-    inr (inr (inr parts))
-
 scalar_bounds : (c : ℕ) → scalar c ≡ true → ((c < 55296) ⊎ (57344 ≤ c)) × (c < 1114112)
 scalar_bounds c is = elim (scalar_cases c is) [
   | inl below ↦ (inl below, omega arith)
@@ -184,12 +134,12 @@ scalar_bounds c is = elim (scalar_cases c is) [
 
 wide : (c : ℕ) → scalar c ≡ true → 128 ≤ c → rfc.IsUtf8CharNoctl (encode_utf8 c)
 wide c is low =
-    let bounds = scalar_bounds c is in
+    let (surrogate, high) = scalar_bounds c is in
     elim (cases_lt c 2048) [
-      | inl two_bytes ↦ rw (encode_two c low two_bytes) (of_two c low two_bytes)
+      | inl two_bytes ↦ rw (encode_two c low two_bytes) (inr (inl ((omega arith, omega arith), (omega arith, omega arith))))
       | inr more ↦ elim (cases_lt c 65536) [
-        | inl three_bytes ↦ rw (encode_three c more three_bytes) (of_three c more three_bytes bounds.0)
-        | inr rest ↦ rw (encode_four c rest) (of_four c rest bounds.1)
+        | inl three_bytes ↦ rw (encode_three c more three_bytes) (inr (inr (inl (grind arith))))
+        | inr rest ↦ rw (encode_four c rest) (inr (inr (inr (grind arith))))
       ]
     ]
 
