@@ -48,6 +48,12 @@ zip_right (first ∷ members) (rule ∷ rules) member (is, zip) (suc k, below, a
     let (other, (j, low, here), as_read) = zip_right members rules member zip (k, omega arith, at) in
     (other, (suc j, omega arith, here), as_read)
 
+-- the rule as it is read, if it needn't be trimmed
+abbrev read : rfc.Member → Rule
+read (rfc.Allow path) = (escaped path, true)
+read (rfc.Disallow (b ∷ path)) = (escaped (b ∷ path), false)
+read _ = (codes "/", true)
+
 star_matches : (uri : List ℕ) → Matches (codes "*") uri
 unfolding MatchesWith
 star_matches uri = (uri, ([], refl), tt)
@@ -116,35 +122,36 @@ module _ (stays : Reading) (count : List ℕ → ℕ) (members : List rfc.Member
   own path value listed trim =
       sym (is_trimmed path value trim) ∙ is_trimmed path path (are.trimmed path listed)
 
-  allow_listed : (path : List ℕ) → Contains members (rfc.Allow path) → Contains rules (escaped path, true)
-  allow_listed path listed =
-      let (rule, has, (value, trim, e)) = zip_right members rules (rfc.Allow path) zip listed in
-      subst (Contains rules) (e ∙ ap (λ v. (escaped v, true)) (own path value (inl listed) trim)) has
+  -- the rule of a member
+  read_of : (member : rfc.Member) (rule : Rule) → Contains members member → IsReadAs member rule
+      → ◌≡◌ {A = Rule} rule (read member)
+  read_of (rfc.Allow path) rule listed (value, trim, e) =
+      e ∙ ap (λ v. (escaped v, true)) (own path value (inl listed) trim)
+  read_of (rfc.Disallow []) rule listed e = e
+  read_of (rfc.Disallow (b ∷ path)) rule listed (value, trim, e) =
+      e ∙ ap (λ v. (escaped v, false)) (own (b ∷ path) value (inr listed) trim)
+  read_of (rfc.Delay number) rule listed e = absurd e
 
-  disallow_listed : (path : List ℕ) → path ≢ [] → Contains members (rfc.Disallow path)
-      → Contains rules (escaped path, false)
-  disallow_listed [] some listed = absurd (some refl)
-  disallow_listed (b ∷ path) some listed =
-      let (rule, has, (value, trim, e)) = zip_right members rules (rfc.Disallow (b ∷ path)) zip listed in
-      subst (Contains rules) (e ∙ ap (λ v. (escaped v, false)) (own (b ∷ path) value (inr listed) trim)) has
+  read_listed : (member : rfc.Member) → Contains members member → Contains rules (read member)
+  read_listed member listed =
+      let (rule, has, is) = zip_right members rules member zip listed in
+      subst (Contains rules) (read_of member rule listed is) has
 
   -- a Disallow comes from a Disallow that isn't empty
   disallow_of : (pattern : List ℕ) (member : rfc.Member) → Contains members member
-      → IsReadAs member (pattern, false)
+      → ◌≡◌ {A = Rule} (pattern, false) (read member)
       → (path : List ℕ) × Contains members (rfc.Disallow path) × (path ≢ []) × (pattern ≡ escaped path)
-  disallow_of pattern (rfc.Allow path) listed (value, trim, e) = absurd (false≢true (kind_of _ _ e))
-  disallow_of pattern (rfc.Disallow []) listed e = absurd (false≢true (kind_of _ _ e))
-  disallow_of pattern (rfc.Disallow (b ∷ path)) listed (value, trim, e) =
-      (b ∷ path, listed, (λ e. cc), pattern_of _ _ e ∙ ap escaped (own (b ∷ path) value (inr listed) trim))
-  disallow_of pattern (rfc.Delay number) listed e = absurd e
+  disallow_of pattern (rfc.Disallow (b ∷ path)) listed e = (b ∷ path, listed, (λ e. cc), pattern_of _ _ e)
+  disallow_of pattern (rfc.Allow path) listed e = absurd (false≢true (kind_of _ _ e))
+  disallow_of pattern _ listed e = absurd (false≢true (kind_of _ _ e))
 
   -- an Allow comes from an Allow, or from an empty Disallow
   allow_of : (pattern : List ℕ) (member : rfc.Member) → Contains members member
       → IsReadAs member (pattern, true)
       → ((path : List ℕ) × Contains members (rfc.Allow path) × (pattern ≡ escaped path))
       ⊎ (Contains members (rfc.Disallow []) × (pattern ≡ codes "/"))
-  allow_of pattern (rfc.Allow path) listed (value, trim, e) =
-      inl (path, listed, pattern_of _ _ e ∙ ap escaped (own path value (inl listed) trim))
+  allow_of pattern (rfc.Allow path) listed is =
+      inl (path, listed, pattern_of _ _ (read_of (rfc.Allow path) (pattern, true) listed is))
   allow_of pattern (rfc.Disallow []) listed e = inr (listed, pattern_of _ _ e)
   allow_of pattern (rfc.Disallow (b ∷ path)) listed (value, trim, e) =
       absurd (false≢true (sym (kind_of _ _ e)))
@@ -153,7 +160,8 @@ module _ (stays : Reading) (count : List ℕ → ℕ) (members : List rfc.Member
   to_disallowed : IsDenied rules uri → IsDisallowed stays count members uri
   to_disallowed (differs, pattern, has, matches, longest) =
       let (member, at, as_read) = zip_left members rules (pattern, false) zip has in
-      let (path, listed, some, written) = disallow_of pattern member at as_read in
+      let (path, listed, some, written) =
+      disallow_of pattern member at (read_of member (pattern, false) at as_read) in
       let here : Matches (escaped path) uri = rw written at matches in
       let is = plain rfc.Disallow path here (are.fit (rfc.Disallow path) listed) in
       record {
@@ -165,7 +173,7 @@ module _ (stays : Reading) (count : List ℕ → ℕ) (members : List rfc.Member
         most = λ allowed has_allowed allows.
             let (spelling, has_spelling, same) =
             compared rfc.Allow allowed has_allowed (are.fit (rfc.Allow allowed) has_allowed) in
-            let less = longest (escaped spelling) (allow_listed spelling has_spelling)
+            let less = longest (escaped spelling) (read_listed (rfc.Allow spelling) has_spelling)
             ((matching allowed spelling same).1 allows) in
             let size = ap length written in
             let one = counts allowed spelling (inl has_allowed) same in
@@ -176,60 +184,55 @@ module _ (stays : Reading) (count : List ℕ → ℕ) (members : List rfc.Member
   to_denied : IsDisallowed stays count members uri → IsDenied rules uri
   to_denied is =
       let (spelling, listed, same) =
-      compared rfc.Disallow is.path is.listed (are.fit (rfc.Disallow is.path) is.listed) in
-      let size = octets_are stays is.path spelling same in (
+      compared rfc.Disallow is.path is.listed (are.fit (rfc.Disallow is.path) is.listed) in (
         λ e. is.other (ap (λ text. normal_uri stays text) e),
         escaped spelling,
-        disallow_listed spelling (λ e. not_empty spelling listed size e) listed,
+        disallow_listed spelling listed (octets_are stays is.path spelling same),
         (matching is.path spelling same).1 is.is_match,
         shorter spelling same,
       )
     where
       -- an empty Disallow isn't a twin, since it has too few octets
-      not_empty : (spelling : List ℕ) → Contains members (rfc.Disallow spelling)
-          → length (escaped spelling) ≡ octets stays is.path → spelling ≢ []
-      not_empty [] listed size e = elim (are.empty listed is.path is.listed is.some) [
-        | inl longer ↦ omega arith
-        | inr (one, allowed) ↦ omega arith
+      disallow_listed : (spelling : List ℕ) → Contains members (rfc.Disallow spelling)
+          → length (escaped spelling) ≡ octets stays is.path → Contains rules (escaped spelling, false)
+      disallow_listed [] listed size = elim (are.empty listed is.path is.listed is.some) [
+        | inl longer ↦ absurd (omega arith)
+        | inr (one, allowed) ↦ absurd (omega arith)
       ]
-      not_empty (b ∷ spelling) listed size e = cc
+      disallow_listed (b ∷ spelling) listed size = read_listed (rfc.Disallow (b ∷ spelling)) listed
+
+      -- an Allow that matches has fewer octets
+      below : (spelling : List ℕ) → IsComparedAs stays is.path spelling → (path : List ℕ)
+          → Contains members (rfc.Allow path) → Matches (escaped path) uri
+          → length (escaped path) < length (escaped spelling)
+      below spelling same path listed here =
+          let plain_path = plain rfc.Allow path here (are.fit (rfc.Allow path) listed) in
+          let less = is.most path listed ((matching path path plain_path).0 here) in
+          let one = counts path path (inl listed) plain_path in
+          let two = counts is.path spelling (inr is.listed) same in
+          omega arith
 
       shorter : (spelling : List ℕ) → IsComparedAs stays is.path spelling → (pattern : List ℕ)
           → Contains rules (pattern, true) → Matches pattern uri
           → length pattern < length (escaped spelling)
       shorter spelling same pattern has matches =
           let (member, at, as_read) = zip_left members rules (pattern, true) zip has in
-          let own_count = counts is.path spelling (inr is.listed) same in
           elim (allow_of pattern member at as_read) [
             | inl (path, listed, written) ↦
-                let here : Matches (escaped path) uri = rw written at matches in
-                let plain_path = plain rfc.Allow path here (are.fit (rfc.Allow path) listed) in
-                let less = is.most path listed ((matching path path plain_path).0 here) in
+                let less = below spelling same path listed (rw written at matches) in
                 let size = ap length written in
-                let one = counts path path (inl listed) plain_path in
                 omega arith
             | inr (empty, root) ↦
-                let here : Matches (codes "/") uri = rw root at matches in
                 let size = ap length root in
                 let one = octets_are stays is.path spelling same in
                 elim (are.empty empty is.path is.listed is.some) [
                   | inl longer ↦ omega arith
-                  | inr (single, inl slash) ↦ let more = longer_than 47 slash refl here in omega arith
+                  | inr (single, inl slash) ↦
+                      let less = below spelling same (codes "/") slash (rw root at matches) in omega arith
                   | inr (single, inr star) ↦
-                      let more = longer_than 42 star refl (star_matches uri) in omega arith
+                      let less = below spelling same (codes "*") star (star_matches uri) in omega arith
                 ]
           ]
-        where
-          -- than an Allow of one octet that matches
-          longer_than : (b : ℕ) → Contains members (rfc.Allow (b ∷ [])) → length (escaped (b ∷ [])) ≡ 1
-              → Matches (escaped (b ∷ [])) uri → 1 < length (escaped spelling)
-          longer_than b listed size here =
-              let path : List ℕ = b ∷ [] in
-              let is_plain = plain rfc.Allow path here (are.fit (rfc.Allow path) listed) in
-              let less = is.most path listed ((matching path path is_plain).0 here) in
-              let one = counts path path (inl listed) is_plain in
-              let two = counts is.path spelling (inr is.listed) same in
-              omega arith
 
   pub verdicts_agree : (answer : Bool)
       → IsVerdict rules uri answer ↔ IsRfcVerdict stays count members uri answer
