@@ -20,8 +20,9 @@ use Rattle.rfc9309_laws.proofs.{ReadLemmas.BeginsLow, ReadLemmas.IsBare, HasForm
 use Rattle.rfc9309_laws.specs.HasForm.{colon, has_byte, hash, is_blank, is_comment_byte, is_comment_text}
 use Rattle.rfc9309_laws.specs.HasForm.{is_value_byte, is_value_text, kept_before, name_in, stripped}
 use Rattle.rfc9309_laws.specs.HasForm.{text_after, text_before, text_from, without_leading, without_trailing}
-use Rattle.rfc9309_laws.specs.HasForm.{has_form, is_identifier_byte, is_keyed, lower, value_in}
-use Rattle.rfc9309_laws.specs.LineForms.{Form, Agent, Rule}
+use Rattle.rfc9309_laws.specs.HasForm.{has_form, is_identifier_byte, is_keyed, is_number, is_pattern}
+use Rattle.rfc9309_laws.specs.HasForm.{is_product_token, lower, value_in}
+use Rattle.rfc9309_laws.specs.LineForms.{Form, Agent, Delay, Rule, Sitemap}
 use Rattle.std.specs.{Char.to_ascii_lowercase, Str.IsUtf8}
 use Rattle.std.proofs.lemmas.Bool.Decides.{nat_tests}
 use Rattle.std.proofs.lemmas.Slice.Eq.{bytes_eq-Decides}
@@ -313,6 +314,21 @@ word_written : (kind : Kind) → Contains (field_names kind) (word_of kind)
 word_written kind.UserAgent = (0, omega arith, refl)
 word_written _ = (0, omega arith, refl)
 
+-- the form of a line with the kind's field name, and the test of its value
+abbrev pub form_of : Kind → Form × (List ℕ → Bool)
+form_of kind.UserAgent = (Agent, is_product_token)
+form_of kind.CrawlDelay = (Delay, is_number)
+form_of kind.Sitemap = (Sitemap, is_value_text)
+form_of _ = (Rule, is_pattern)
+
+form_passes : (kind : Kind) (body : List ℕ) → is_keyed (word_of kind) body ≡ true
+    → (form_of kind).1 (value_in body) ≡ true → has_form (form_of kind).0 body ≡ true
+form_passes kind.Allow body key value =
+    and_from _ (is_pattern (value_in body)) (or_first (is_keyed (codes "allow") body) _ key) value
+form_passes kind.Disallow body key value =
+    and_from _ (is_pattern (value_in body)) (or_second (is_keyed (codes "allow") body) _ key) value
+form_passes kind body key value = and_from (is_keyed (word_of kind) body) _ key value
+
 -- a line with the kind's field name and a value of characters, whose trimmed value is `read`
 module _ (kind : Kind) (value read text : List ℕ) (line : rfc.IsKeyed (word_of kind) value text)
     (chars : IsCharText value) (trim : IsTrimOf read value) where
@@ -388,15 +404,14 @@ module _ (kind : Kind) (value read text : List ℕ) (line : rfc.IsKeyed (word_of
         (blanks_after eol.blanks value read eol.are_blanks chars.utf8 trim);
   }
 
-  -- the line is read as `found`; each line with this field name and value passes the test of the form
-  pub keyed_line : (form : Form) (found : LineValue)
+  -- the line is read as `found`
+  pub keyed_line : (found : LineValue)
       → ((body : List ℕ) → line_with kind read body ≡ found)
       → Each IsRead (filter is_not_raw ((found, value) ∷ []))
-      → IsCounted form (filter is_not_raw ((found, value) ∷ []))
-      → ((body : List ℕ) → is_keyed (word_of kind) body ≡ true → value_in body ≡ value
-      → has_form form body ≡ true)
-      → IsLineOf form (filter is_not_raw ((found, value) ∷ [])) text
-  keyed_line form found is is_read counted passes =
+      → IsCounted (form_of kind).0 (filter is_not_raw ((found, value) ∷ []))
+      → (form_of kind).1 value ≡ true
+      → IsLineOf (form_of kind).0 (filter is_not_raw ((found, value) ∷ [])) text
+  keyed_line found is is_read counted passes =
       let source : ◌≡◌ {A = Source} (source_of body) (found, value) =
       ap (λ found. (found, written body))
       (line_stated body kind read (statement_found kind read body states) ∙ is body)
@@ -411,7 +426,7 @@ module _ (kind : Kind) (value read text : List ℕ) (line : rfc.IsKeyed (word_of
             eol.whole
             ∙ simp append_assoc;
         is_nl = eol.is_nl;
-        tested = passes body keyed_passes value_is;
+        tested = form_passes kind body keyed_passes (ap (form_of kind).1 value_is ∙ passes);
         bare =
             named_key.bare
             (each_append IsBare region eol.comment (values_bare region are_values) comment.bare);

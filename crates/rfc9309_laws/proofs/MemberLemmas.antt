@@ -69,10 +69,8 @@ pub token_line : (token text : List ℕ) → rfc.IsStartGroupLine token text
     → IsLineOf Agent ((UserAgent token, token) ∷ []) text
 token_line token text (is, line) =
     let (chars, trim) = plain_text token (token_plain token is) in
-    keyed_line kind.UserAgent token token text line chars trim Agent (UserAgent token) (λ body. refl) (tt, tt)
-    (λ following forms more none. tt)
-    (λ body key value. and_from (is_keyed (codes "user-agent") body) _ key
-    (ap is_product_token value ∙ token_passes token is))
+    keyed_line kind.UserAgent token token text line chars trim (UserAgent token) (λ body. refl) (tt, tt)
+    (λ following forms more none. tt) (token_passes token is)
 
 -- ---- rules
 
@@ -148,11 +146,6 @@ star_rule : (word pattern text : List ℕ) → rfc.IsStarPattern pattern × rfc.
     → IsRuleLine word pattern text
 star_rule word pattern text (is, line) = (begun 42 pattern star_plain refl is, line)
 
-rule_passes : (pattern body : List ℕ)
-    → (is_keyed (codes "allow") body || is_keyed (codes "disallow") body) ≡ true → value_in body ≡ pattern
-    → is_pattern pattern ≡ true → has_form Rule body ≡ true
-rule_passes pattern body key value is = and_from _ (is_pattern (value_in body)) key (ap is_pattern value ∙ is)
-
 allow : (pattern read text : List ℕ) → IsTrimOf read pattern → allowed_in pattern read ≡ rfc.Allow pattern
     → IsRuleLine (codes "allow") pattern text → MemberRead Rule (rfc.Allow pattern) text
 allow pattern read text trim same (value, line) =
@@ -161,11 +154,9 @@ allow pattern read text trim same (value, line) =
     record {
       source = (Allow read, pattern);
       is_line =
-          keyed_line kind.Allow pattern read text line chars trim Rule (Allow read) (λ body. refl)
+          keyed_line kind.Allow pattern read text line chars trim (Allow read) (λ body. refl)
           (rw (same, utf8) (read, trim, refl), tt)
-          (λ following forms more none. let some = rw same at none in cc)
-          (λ body key same.
-          rule_passes pattern body (or_first (is_keyed (codes "allow") body) _ key) same value.passes);
+          (λ following forms more none. let some = rw same at none in cc) value.passes;
       written = λ parts. ap (λ member. with_member member parts) same;
       unlisted = λ following. refl;
     }
@@ -176,11 +167,6 @@ allow_line [] text rule = allow [] [] text (visible_trim [] tt) refl rule
 allow_line (b ∷ pattern) text rule =
     allow (b ∷ pattern) (trimmed (b ∷ pattern)) text (trimmed_is_trim (b ∷ pattern)) refl rule
 
-disallow_passes : (pattern body : List ℕ) → is_pattern pattern ≡ true
-    → is_keyed (codes "disallow") body ≡ true → value_in body ≡ pattern → has_form Rule body ≡ true
-disallow_passes pattern body is key value =
-    rule_passes pattern body (or_second (is_keyed (codes "allow") body) _ key) value is
-
 disallow_line : (pattern text : List ℕ) → IsRuleLine (codes "disallow") pattern text
     → MemberRead Rule (rfc.Disallow pattern) text
 disallow_line [] text (_, line) =
@@ -188,11 +174,11 @@ disallow_line [] text (_, line) =
     record {
       source = (Allow slash, []);
       is_line =
-          keyed_line kind.Disallow [] [] text line (plain_text [] tt).0 (visible_trim [] tt) Rule
+          keyed_line kind.Disallow [] [] text line (plain_text [] tt).0 (visible_trim [] tt)
           (Allow slash)
           (λ body. refl)
           (rw (is_utf8-from_IsUtf8 slash (plain_text slash (slash_plain, tt)).0.utf8) refl, tt)
-          (λ following forms more none. cc) (λ body. disallow_passes [] body refl);
+          (λ following forms more none. cc) refl;
       written = λ parts. refl;
       unlisted = λ following. refl;
     }
@@ -203,10 +189,9 @@ disallow_line (b ∷ pattern) text (is, line) =
     record {
       source = (Disallow read, value);
       is_line =
-          keyed_line kind.Disallow value read text line is.chars trim Rule (Disallow read)
+          keyed_line kind.Disallow value read text line is.chars trim (Disallow read)
           (λ body. disallowed read body (trim_some b pattern read (is.plain b pattern refl) trim))
-          (rw (trim_is_utf8 value is.chars) (read, trim, refl), tt) (λ following forms more none. cc)
-          (λ body. disallow_passes value body is.passes);
+          (rw (trim_is_utf8 value is.chars) (read, trim, refl), tt) (λ following forms more none. cc) is.passes;
       written = λ parts. refl;
       unlisted = λ following. refl;
     }
@@ -326,11 +311,9 @@ delay_line (rfc.Delay number) text (is, line) =
     record {
       source = (CrawlDelay (Some n.delay), number);
       is_line =
-          keyed_line kind.CrawlDelay number number text line chars trim Delay (CrawlDelay (Some n.delay))
+          keyed_line kind.CrawlDelay number number text line chars trim (CrawlDelay (Some n.delay))
           (λ body. ap (λ delay. delay_or_raw delay body) n.is)
-          ((one_delay number (Some n.delay)).1 (sym n.is), tt) (λ following forms more none. more none)
-          (λ body key value. and_from (is_keyed (codes "crawl-delay") body) _ key
-          (ap is_number value ∙ n.passes));
+          ((one_delay number (Some n.delay)).1 (sym n.is), tt) (λ following forms more none. more none) n.passes;
       written = λ parts. refl;
       unlisted = λ following. refl;
     }
@@ -350,7 +333,5 @@ sitemap_line address text (is, line) =
     let chars = chars_text address is in
     let value = trimmed address in
     let trim = trimmed_is_trim address in
-    keyed_line kind.Sitemap address value text line chars trim Sitemap (library.Sitemap value) (λ body. refl)
-    ((rw (trim_is_utf8 address chars) refl, trim), tt) (λ following forms more none. more none)
-    (λ body key value. and_from (is_keyed (codes "sitemap") body) _ key
-    (ap is_value_text value ∙ value_passes address chars))
+    keyed_line kind.Sitemap address value text line chars trim (library.Sitemap value) (λ body. refl)
+    ((rw (trim_is_utf8 address chars) refl, trim), tt) (λ following forms more none. more none) (value_passes address chars)

@@ -25,7 +25,8 @@ use Rattle.std.proofs.{lemmas.Bool.Decides.nat_tests, lemmas.List.map-append}
 use Rattle.std.proofs.{lemmas.Map.Views.Contains-from_any, lemmas.Slice.Eq.bytes_eq-Decides}
 use Rattle.texting_robots.specs.{declared.parser.statement.Kind.Kind}
 use Rattle.texting_robots.proofs.{TrimLemmas.each_append}
-use Rattle.rfc9309_laws.proofs.{SyntaxLemmas.each_weaker}
+use Rattle.rfc9309_laws.proofs.SyntaxLemmas.{each_back, each_weaker}
+use Rattle.std.proofs.lemmas.List.{append_cancel_right}
 use Rattle.rfc9309_laws.specs.Rfc9309 as rfc
 
 -- ---- empty lines and comments
@@ -226,26 +227,16 @@ line_of Other text is = ([], other_line text is)
 -- what precedes the terminator is the content
 before_end : (body front nl : List ℕ) → Each IsBodyByte body → rfc.IsNl nl
     → body ++ lf ∷ [] ≡ front ++ nl → front ≡ body
-before_end [] [] nl bytes is e = refl
-before_end [] (f ∷ front) nl bytes is e = absurd (none front nl is (ap rest e))
-  where
-    rest : List ℕ → List ℕ
-    rest [] = []
-    rest (b ∷ text) = text
-
-    none : (front nl : List ℕ) → rfc.IsNl nl → [] ≡ front ++ nl → ⊥
-    none [] nl (inl is) e = cc
-    none [] nl (inr (inl is)) e = cc
-    none [] nl (inr (inr is)) e = cc
-    none (b ∷ front) nl is e = cc
-before_end (b ∷ body) [] nl bytes (inl is) e = let same : b ≡ cr = cc in absurd (bytes.0.0 same)
-before_end (b ∷ body) [] nl bytes (inr (inl is)) e = let same : b ≡ lf = cc in absurd (bytes.0.1 same)
-before_end (b ∷ body) [] nl bytes (inr (inr is)) e = let same : b ≡ cr = cc in absurd (bytes.0.0 same)
-before_end (b ∷ body) (f ∷ front) nl bytes is e =
-    let same : f ≡ b = cc in
-    let later : body ++ lf ∷ [] ≡ front ++ nl = cc in
-    let others = before_end body front nl bytes.1 is later in
-    cc
+before_end body front nl bytes is e =
+    let no_cr = each_append (λ b. b ≢ cr) body (lf ∷ [])
+    (each_weaker IsBodyByte (λ b. b ≢ cr) (λ b byte. byte.0) body bytes) ((λ e. cc), tt) in
+    let last = each_back (λ b. b ≢ cr) front nl (subst (Each (λ b. b ≢ cr)) e no_cr) in
+    elim is [
+      | inl return ↦ absurd ((rw return at last).0 refl)
+      | inr (inl feed) ↦
+          sym (append_cancel_right body front (lf ∷ []) (e ∙ ap (λ end. front ++ end) feed))
+      | inr (inr two) ↦ absurd ((rw two at last).0 refl)
+    ]
 
 -- a content that has the form passes its test
 module _ (body : List ℕ) (bytes : Each IsBodyByte body) (form : Form) (is : HasForm form body) where
