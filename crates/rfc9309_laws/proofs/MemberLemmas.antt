@@ -15,8 +15,8 @@ use Rattle.rfc9309_laws.proofs.KeyedLemmas.{passes, same_bytes, value_passes}
 use Rattle.rfc9309_laws.proofs.ValueLemmas.{IsVisible, trim_some, trim_utf8, visible_trim, visible_utf8}
 use Rattle.rfc9309_laws.proofs.Sources.{Parts, Source, allowed_in, with_address, with_member, with_source}
 use Rattle.rfc9309_laws.proofs.SyntaxLemmas.{each_weaker}
-use Rattle.rfc9309_laws.specs.HasForm.{are_some, has_byte, has_form, is_digit, is_identifier_byte, is_keyed}
-use Rattle.rfc9309_laws.specs.HasForm.{is_number, is_pattern, is_product_token, is_value_text, value_in}
+use Rattle.rfc9309_laws.specs.HasForm.{are_some, has_byte, is_digit, is_identifier_byte}
+use Rattle.rfc9309_laws.specs.HasForm.{is_number, is_pattern, is_product_token}
 use Rattle.rfc9309_laws.specs.LineForms.{Form, Agent, Rule, Delay, Sitemap}
 use Rattle.std.specs.List.{AllByRecursion as Each}
 use Rattle.std.specs.{Char.IsAsciiDigit, Str.is_utf8}

@@ -1,14 +1,14 @@
 -- The verdict of rules that are read from rules of the grammar is that of the standard.
 use Rattle.std.proofs.Common.{◌≡◌, ◌≢◌, ◌↔◌, ◌⊎◌, ℕ, zero, suc, ◌<◌, Bool, true, false, inl, inr}
-use Rattle.std.proofs.Common.{List, [], ◌∷◌, ◌++◌, refl, codes, length, length-append}
-use Rattle.std.proofs.Common.{sym, ap, ◌∙◌, arith, subst, take}
+use Rattle.std.proofs.Common.{List, [], ◌∷◌, refl, codes, length, length-append}
+use Rattle.std.proofs.Common.{◌+◌, if◌then◌else◌, sym, ap, ◌∙◌, arith, subst, take}
 use Rattle.std.specs.List.{AllByRecursion as Each, AllZip, Contains, list_any}
-use Rattle.std.proofs.lemmas.Bool.{both_ways, cases_Bool, false≢true}
-use Rattle.std.proofs.lemmas.List.{Concat.flat_map-append, Elements.All-contains, Elements.All-from_recursion}
+use Rattle.std.proofs.lemmas.Bool.{both_ways, false≢true}
+use Rattle.std.proofs.lemmas.List.{Elements.All-contains, Elements.All-from_recursion}
 use Rattle.texting_robots.specs.Callers.{IsDenied, IsRobotOfFile, IsVerdict, Matches, RobotValue, Rule}
 use Rattle.texting_robots.specs.Callers.{escaped}
 use Rattle.texting_robots.specs.Callers.{file_limit, unplaced}
-use Rattle.texting_robots.specs.{Escape.escape_byte, Escape.is_escaped, Pattern.MatchesWith, Pattern.dollar}
+use Rattle.texting_robots.specs.{Escape.is_escaped, Pattern.MatchesWith}
 use Rattle.texting_robots.specs.{Trim.IsTrimOf}
 use Rattle.texting_robots.proofs.{EscapeLemmas.plain_stays, TrimLemmas.is_trimmed}
 use Rattle.texting_robots.proofs.{VerdictLemmas.same_verdicts}
@@ -20,7 +20,7 @@ use Rattle.rfc9309_laws.specs.Comparable.{has_odd_escape}
 use Rattle.rfc9309_laws.specs.Matching.{IsDisallowed, IsMatch, IsRfcVerdict, Reading, is_ended}
 use Rattle.rfc9309_laws.specs.Matching.{normal_uri, octets, without_end}
 use Rattle.rfc9309_laws.proofs.{FileLemmas.file_with, RobotLemmas.robot_as}
-use Rattle.rfc9309_laws.proofs.MatchLemmas.{ended_parts, matches_so, open_parts}
+use Rattle.rfc9309_laws.proofs.MatchLemmas.{end_of, escaped_parts, matches_so}
 use Rattle.rfc9309_laws.proofs.NormalLemmas.{never_matches, no_odd_escape}
 
 -- ---- lists place by place
@@ -71,18 +71,13 @@ each_contains P xs x all has = All-contains P xs x (All-from_recursion P xs all)
 
 pub octets_are : (stays : Reading) (path spelling : List ℕ) → IsComparedAs stays path spelling
     → length (escaped spelling) ≡ octets stays path
-octets_are stays path spelling is = elim (cases_Bool (is_ended spelling)) [
-  | inl ended ↦
-      let parts : escaped spelling ≡ escaped (without_end spelling) ++ dollar ∷ [] =
-      ap escaped (ended_parts spelling ended)
-      ∙ flat_map-append escape_byte (without_end spelling) (dollar ∷ []) in
-      rw (is.ended, ended, is.normal)
-      (ap length parts ∙ length-append (escaped (without_end spelling)) (dollar ∷ []))
-  | inr is_open ↦
-      let parts : escaped spelling ≡ escaped (without_end spelling) =
-      ap escaped (open_parts spelling is_open) in
-      rw (is.ended, is_open, is.normal) (let e = ap length parts in omega arith)
-]
+octets_are stays path spelling is =
+    rw (is.ended, is.normal) (ap length (escaped_parts spelling) ∙ length-append (escaped (without_end spelling)) _
+    ∙ ap (λ n. length (escaped (without_end spelling)) + n) (size (is_ended spelling)))
+  where
+    size : (ended : Bool) → length (end_of ended) ≡ (if ended then 1 else 0)
+    size true = refl
+    size false = refl
 
 pub octets_written : (stays : Reading) (path : List ℕ) → IsPlainPath stays path
     → list_any is_escaped path ≡ false → length path ≡ octets stays path
