@@ -28,9 +28,6 @@ pub record IsCharText (text : List ℕ) : Type 0 where
   pub bytes : Each IsCharByte text
   pub utf8 : IsUtf8 text
 
-high : (byte : ℕ) → 128 ≤ byte → IsCharByte byte
-high byte low = (omega arith, λ e. omega arith)
-
 -- if all the bytes decode to one character, they are UTF-8
 read_whole : (bytes : List ℕ) (c : ℕ) → decoded bytes ≡ good c (length bytes) → IsUtf8 bytes
 read_whole bytes c e =

@@ -38,7 +38,7 @@ abbrev pub IsValueByte : ℕ → Type 0
 IsValueByte byte = IsBare byte × (byte ≢ hash)
 
 blank_value : (b : ℕ) → IsBlank b → IsValueByte b
-blank_value b is = (grind arith, λ e. omega arith)
+blank_value b is = grind arith
 
 pub char_value : (b : ℕ) → IsCharByte b → IsValueByte b
 char_value b is = (inr (omega arith), is.1)
@@ -54,7 +54,7 @@ abbrev pub IsFrontByte : ℕ → Type 0
 IsFrontByte byte = IsBare byte × (byte < 128) × (byte ≢ colon)
 
 blank_front : (b : ℕ) → IsBlank b → IsFrontByte b
-blank_front b is = (grind arith, omega arith, λ e. omega arith)
+blank_front b is = grind arith
 
 pub blanks_low : (blanks : List ℕ) → Each IsBlank blanks → BeginsLow blanks
 blanks_low [] all = tt

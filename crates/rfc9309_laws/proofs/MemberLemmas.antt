@@ -33,14 +33,14 @@ abbrev pub IsPlain : ℕ → Type 0
 IsPlain byte = IsVisible byte × (byte ≢ 35)
 
 identifier_plain : (b : ℕ) → rfc.IsIdentifierByte b → IsPlain b
-identifier_plain b is = ((omega arith, omega arith), λ e. omega arith)
+identifier_plain b is = grind arith
 
 pub token_plain : (token : List ℕ) → rfc.IsProductToken token → Each IsPlain token
 token_plain [] is = tt
 token_plain (b ∷ token) (inl is) =
     each_weaker rfc.IsIdentifierByte IsPlain identifier_plain (b ∷ token) is
 token_plain (b ∷ token) (inr is) =
-    subst (Each IsPlain) (sym is) (((omega arith, omega arith), λ e. omega arith), tt)
+    subst (Each IsPlain) (sym is) (grind arith)
 
 -- plain bytes are characters, and trimming leaves them unchanged
 pub plain_text : (bytes : List ℕ) → Each IsPlain bytes → IsCharText bytes × IsTrimOf bytes bytes
@@ -91,10 +91,10 @@ trim_is_utf8 text chars =
     is_utf8-from_IsUtf8 (trimmed text) (trim_utf8 text (trimmed text) chars.utf8 (trimmed_is_trim text))
 
 pub slash_plain : IsPlain 47
-slash_plain = ((omega arith, omega arith), λ e. omega arith)
+slash_plain = grind arith
 
 pub star_plain : IsPlain 42
-star_plain = ((omega arith, omega arith), λ e. omega arith)
+star_plain = grind arith
 
 -- a pattern as it stands in a line: nothing, or a plain byte and characters
 pub record IsRuleValue (value : List ℕ) : Type 0 where
@@ -229,7 +229,7 @@ record Numbered (number : List ℕ) : Type 0 where
   passes : is_number number ≡ true
 
 digit_plain : (b : ℕ) → rfc.IsDigitByte b → IsPlain b
-digit_plain b is = ((omega arith, omega arith), λ e. omega arith)
+digit_plain b is = grind arith
 
 -- a number that begins with a digit has no sign, so it denotes a delay
 numbered_by : (d : ℕ) (rest units fraction : List ℕ) → rfc.IsDigitByte d
@@ -270,7 +270,7 @@ whole_numbered (d ∷ ds) is =
     }) digits.1 (or_first (are_some is_digit (d ∷ ds)) _ (digits_pass (d ∷ ds) is))
 
 point_plain : Each IsPlain (codes ".")
-point_plain = (((omega arith, omega arith), λ e. omega arith), tt)
+point_plain = grind arith
 
 parts_numbered : (units fraction : List ℕ) → rfc.IsDigits units → rfc.IsDigits fraction
     → Numbered (units ++ (codes "." ++ fraction))

@@ -25,28 +25,28 @@ use Rattle.rfc9309_laws.proofs.NormalLemmas.{never_matches, no_odd_escape}
 
 -- ---- lists place by place
 
-zip_left : (members : List rfc.Member) (rules : List Rule) (rule : Rule) → AllZip IsReadAs members rules
-    → Contains rules rule → (member : rfc.Member) × Contains members member × IsReadAs member rule
-zip_left [] [] rule zip (k, below, at) = absurd (omega arith)
-zip_left [] (first ∷ rules) rule zip has = absurd zip
-zip_left (member ∷ members) [] rule zip has = absurd zip
-zip_left (member ∷ members) (first ∷ rules) rule (is, zip) (zero, below, at) =
-    (member, (0, omega arith, refl), subst (IsReadAs member) at is)
-zip_left (member ∷ members) (first ∷ rules) rule (is, zip) (suc k, below, at) =
-    let (other, (j, low, here), as_read) = zip_left members rules rule zip (k, omega arith, at) in
-    (other, (suc j, omega arith, here), as_read)
+zip_swap : {A B : Type 0} (R : A → B → Type 0) (xs : List A) (ys : List B) → AllZip R xs ys
+    → AllZip (λ y x. R x y) ys xs
+zip_swap R [] [] zip = zip
+zip_swap R [] (y ∷ ys) zip = zip
+zip_swap R (x ∷ xs) [] zip = zip
+zip_swap R (x ∷ xs) (y ∷ ys) zip = (zip.0, zip_swap R xs ys zip.1)
+
+zip_has : {A B : Type 0} (R : A → B → Type 0) (xs : List A) (ys : List B) (y : B) → AllZip R xs ys
+    → Contains ys y → (x : A) × Contains xs x × R x y
+zip_has R [] [] y zip (k, below, at) = absurd (omega arith)
+zip_has R [] (z ∷ ys) y zip has = absurd zip
+zip_has R (x ∷ xs) [] y zip has = absurd zip
+zip_has R (x ∷ xs) (z ∷ ys) y (is, zip) (zero, below, at) = (x, (0, omega arith, refl), subst (R x) at is)
+zip_has R (x ∷ xs) (z ∷ ys) y (is, zip) (suc k, below, at) =
+    let (other, (j, low, here), also) = zip_has R xs ys y zip (k, omega arith, at) in
+    (other, (suc j, omega arith, here), also)
 
 pub zip_right : (members : List rfc.Member) (rules : List Rule) (member : rfc.Member)
     → AllZip IsReadAs members rules → Contains members member
     → (rule : Rule) × Contains rules rule × IsReadAs member rule
-zip_right [] [] member zip (k, below, at) = absurd (omega arith)
-zip_right [] (first ∷ rules) member zip has = absurd zip
-zip_right (first ∷ members) [] member zip has = absurd zip
-zip_right (first ∷ members) (rule ∷ rules) member (is, zip) (zero, below, at) =
-    (rule, (0, omega arith, refl), subst (λ (m : rfc.Member). IsReadAs m rule) at is)
-zip_right (first ∷ members) (rule ∷ rules) member (is, zip) (suc k, below, at) =
-    let (other, (j, low, here), as_read) = zip_right members rules member zip (k, omega arith, at) in
-    (other, (suc j, omega arith, here), as_read)
+zip_right members rules member zip =
+    zip_has (λ rule member. IsReadAs member rule) rules members member (zip_swap IsReadAs members rules zip)
 
 -- the rule as it is read, if it needn't be trimmed
 abbrev read : rfc.Member → Rule
@@ -154,7 +154,7 @@ module _ (stays : Reading) (count : List ℕ → ℕ) (members : List rfc.Member
 
   to_disallowed : IsDenied rules uri → IsDisallowed stays count members uri
   to_disallowed (differs, pattern, has, matches, longest) =
-      let (member, at, as_read) = zip_left members rules (pattern, false) zip has in
+      let (member, at, as_read) = zip_has IsReadAs members rules (pattern, false) zip has in
       let (path, listed, some, written) =
       disallow_of pattern member at (read_of member (pattern, false) at as_read) in
       let here : Matches (escaped path) uri = rw written at matches in
@@ -211,7 +211,7 @@ module _ (stays : Reading) (count : List ℕ → ℕ) (members : List rfc.Member
           → Contains rules (pattern, true) → Matches pattern uri
           → length pattern < length (escaped spelling)
       shorter spelling same pattern has matches =
-          let (member, at, as_read) = zip_left members rules (pattern, true) zip has in
+          let (member, at, as_read) = zip_has IsReadAs members rules (pattern, true) zip has in
           elim (allow_of pattern member at as_read) [
             | inl (path, listed, written) ↦
                 let less = below spelling same path listed (rw written at matches) in
