@@ -3,6 +3,7 @@ use Rattle.std.proofs.Common.{◌≡◌, ◌↔◌, ℕ, ◌/◌, ◌%◌, ◌+�
 use Rattle.std.proofs.Common.{◌++◌, refl, sym, ap, ◌∙◌, append-nil, append_assoc, arith}
 use Rattle.std.specs.Fmt.{digit_glyph}
 use Rattle.std.proofs.lemmas.Bool.{cases_Bool, cond_both, eqb-true, false≢true, ne_eqb, or_parts}
+use Rattle.std.proofs.lemmas.Bool.Decides.{nat_tests}
 use Rattle.texting_robots.specs.Pattern.{dollar, Matches, MatchesWith, star}
 use Rattle.texting_robots.specs.Escape.{escaped, escape_byte, is_escaped}
 use Rattle.rfc9309_laws.specs.Comparable.{IsComparedAs}
@@ -68,9 +69,7 @@ restricts true rest = (λ (s, (e, gone), m) _. e, λ none. ([], (none refl, refl
 restricts false rest = (λ m is. absurd (false≢true is), λ _. tt)
 
 glyph_plain : (d : ℕ) → (digit_glyph true d == dollar) ≡ false
-glyph_plain d =
-    ne_eqb (digit_glyph true d) dollar
-    (cond_both (ltb d 10) (48 + d) (55 + d) (λ x. x ≡ dollar → ⊥) (λ _ e. omega arith) (λ _ e. omega arith))
+glyph_plain d = grind (arith, nat_tests)
 
 -- escaping makes no dollar
 escaped_plain : (q : List ℕ) → has_dollar q ≡ false → has_dollar (escaped q) ≡ false
