@@ -38,7 +38,7 @@ only : (stays : Reading) (path uri : List ℕ) (strings : List (List ℕ))
     → normal_uri stays uri ≡ filled (normal_path stays path) strings ++ []
     → matches true (escaped path) uri ≡ false → example.OnlyByStandard stays path uri
 only stays path uri strings e other =
-    record { standard = whole stays path uri strings e; here = not_matching true (escaped path) uri other }
+    record { standard = whole _ _ uri _ e; here = not_matching _ _ uri other }
 
 pub differences : example.differences
 unfolding normal_from without_end filled
@@ -61,7 +61,7 @@ reserved_in_uri = only _ _ _ [] refl refl
 
 pub reserved_alike : example.reserved_alike
 unfolding normal_from without_end filled
-reserved_alike = (whole _ _ _ [] refl, matching true _ _ refl)
+reserved_alike = (whole _ _ _ [] refl, matching _ _ _ refl)
 
 -- ---- verdicts that agree
 
@@ -81,7 +81,7 @@ trimmed : (path : List ℕ) → is_trimmed path ≡ true → IsTrimOf path path
 trimmed [] is = visible_trim [] tt
 trimmed (b ∷ path) is =
     let (first, last) = and_parts _ _ is in
-    subst (λ v. IsTrimOf v (b ∷ path)) (graphic_trim b path first last) (trimmed_is_trim (b ∷ path))
+    subst (λ v. IsTrimOf v (b ∷ path)) (graphic_trim b path first last) (trimmed_is_trim _)
 
 -- the rule of this library; its line doesn't matter
 abbrev read : rfc.Member → PlacedRule
@@ -97,15 +97,15 @@ module _ (stays : Reading) (members : List rfc.Member) (uri : List ℕ)
       (passing (λ member. is_usual stays member ≡ true) (is_usual stays) (λ member is. is) members usual)
 
   are_trimmed : (path : List ℕ) → IsPathOf members path → IsTrimOf path path
-  are_trimmed path (inl has) = trimmed path (are_usual (rfc.Allow path) has)
+  are_trimmed path (inl has) = trimmed path (are_usual _ has)
   are_trimmed [] (inr has) = visible_trim [] tt
   are_trimmed (b ∷ path) (inr has) =
-      trimmed (b ∷ path) (and_parts _ _ (are_usual (rfc.Disallow (b ∷ path)) has)).0
+      trimmed _ (and_parts _ _ (are_usual _ has)).0
 
   are_long : (path : List ℕ) → Contains members (rfc.Disallow path) → path ≢ [] → 1 < octets stays path
   are_long [] has some = absurd (some refl)
   are_long (b ∷ path) has some =
-      ltb-true 1 (octets stays (b ∷ path)) (and_parts _ _ (are_usual (rfc.Disallow (b ∷ path)) has)).1
+      ltb-true 1 _ (and_parts _ _ (are_usual _ has)).1
 
   -- the verdict of this library is that of the standard
   agreed : (answer : Bool) → normal_uri stays uri ≡ uri
@@ -114,7 +114,7 @@ module _ (stays : Reading) (members : List rfc.Member) (uri : List ℕ)
       → AreComparable stays (octets stays) members uri
       × IsRfcVerdict stays (octets stays) members uri answer
   agreed answer normal robots fit is =
-      let are : AreComparable stays (octets stays) members uri = record {
+      let are : AreComparable stays _ members uri = record {
         normal = normal;
         robots = robots;
         trimmed = are_trimmed;
@@ -122,9 +122,9 @@ module _ (stays : Reading) (members : List rfc.Member) (uri : List ℕ)
         counted = λ path listed. refl;
         empty = λ has path listed some. inl (are_long path listed some);
       } in
-      let rules = unplaced (map read members) in (
+      let rules = unplaced _ in (
         are,
-        (verdicts_agree stays (octets stays) members rules uri (are_read members usual) are answer).0
+        (verdicts_agree stays _ members rules uri (are_read members usual) are answer).0
             (subst (IsVerdict rules uri) is (answered (map read members) uri).0),
       )
     where
@@ -147,8 +147,8 @@ plain stays path normal dollar = record { normal = normal; ended = refl; dollar 
 pub longest : example.longest
 unfolding normal_from without_end is_ended
 longest =
-    agreed as_in_table page_rules _ refl false refl refl
-    (inl (plain as_in_table _ refl refl), (inl (plain as_in_table _ refl refl), tt)) refl
+    agreed _ page_rules _ refl false refl refl
+    (inl (plain as_in_table _ refl refl), (inl (plain _ _ refl refl), tt)) refl
 
 mixed_twin : HasTwin all_stay (λ twin. Contains mixed_rules (rfc.Allow twin))
     (codes "/" ++ tsu ++ codes "/%62*.gif$")
@@ -164,14 +164,14 @@ mixed_fit : Each (IsFit all_stay mixed_rules) mixed_rules
 unfolding normal_from without_end is_ended
 mixed_fit = (
   inl (plain all_stay [] refl refl),
-  (inl (plain all_stay _ refl refl), (inr mixed_twin, (inl (plain all_stay _ refl refl), tt))),
+  (inl (plain all_stay _ refl refl), (inr mixed_twin, (inl (plain _ _ refl refl), tt))),
 )
 
 pub mixed : example.mixed
 unfolding normal_from without_end is_ended
 mixed = (
   agreed all_stay mixed_rules _ refl false refl refl mixed_fit refl,
-  agreed all_stay mixed_rules _ refl true refl refl mixed_fit refl,
+  agreed _ _ _ refl true refl refl mixed_fit refl,
 )
 
 -- ---- an empty Disallow
@@ -186,7 +186,7 @@ empty_disallow = (
     some = λ e. cc;
     is_match = record { strings = []; rest = codes "x"; whole = refl; end = λ e. absurd (false≢true e) };
     most = λ allowed has. absurd (each_contains (λ member. member ≢ rfc.Allow allowed) rules
-        (rfc.Allow allowed) ((λ e. cc), ((λ e. cc), tt)) has refl);
+        _ ((λ e. cc), ((λ e. cc), tt)) has refl);
   },
   (answered (map read rules) (codes "/x")).0,
 )

@@ -21,7 +21,7 @@ split : (stop : ℕ) (text : List ℕ) → text ≡ text_before stop text ++ tex
 split stop [] = refl
 split stop (b ∷ text) = elim (cases_Bool (b == stop)) [
   | inl is ↦ rw is refl
-  | inr other ↦ rw other (ap (λ t. b ∷ t) (split stop text))
+  | inr other ↦ rw other (ap (λ t. b ∷ t) (split _ _))
 ]
 
 -- what is left begins with `stop`, if it isn't empty
@@ -29,8 +29,8 @@ begins : (stop : ℕ) (text : List ℕ)
     → (text_from stop text ≡ []) ⊎ (text_from stop text ≡ stop ∷ text_after stop text)
 begins stop [] = inl refl
 begins stop (b ∷ text) = elim (cases_Bool (b == stop)) [
-  | inl is ↦ rw is (inr (ap (λ c. c ∷ text) (eqb-true b stop is)))
-  | inr other ↦ rw other (begins stop text)
+  | inl is ↦ rw is (inr (ap (λ c. c ∷ text) (eqb-true b _ is)))
+  | inr other ↦ rw other (begins _ text)
 ]
 
 found : (stop : ℕ) (text : List ℕ) → has_byte stop text ≡ true
@@ -38,7 +38,7 @@ found : (stop : ℕ) (text : List ℕ) → has_byte stop text ≡ true
 found stop [] is = absurd (false≢true is)
 found stop (b ∷ text) is = elim (cases_Bool (b == stop)) [
   | inl same ↦ rw same (ap (λ c. c ∷ text) (eqb-true b stop same))
-  | inr other ↦ rw other (found stop text (rw other at is))
+  | inr other ↦ rw other (found _ text (rw other at is))
 ]
 
 pub blank : (b : ℕ) → is_blank b ≡ true → rfc.IsWs b
@@ -74,7 +74,7 @@ pub leading : (text : List ℕ)
     → (front : List ℕ) × Each rfc.IsWs front × (text ≡ front ++ without_leading text)
 leading [] = ([], tt, refl)
 leading (b ∷ text) = elim (cases_Bool (is_blank b)) [
-  | inl white ↦ let (front, all, whole) = leading text in
+  | inl white ↦ let (front, all, whole) = leading _ in
       rw white ((b ∷ front, (blank b white, all), ap (λ t. b ∷ t) whole))
   | inr solid ↦ rw solid (([], tt, refl))
 ]
@@ -107,7 +107,7 @@ named : (body : List ℕ) → has_byte colon body ≡ true
     ++ (name_in body ++ ((around (text_before colon body)).back ++ colon ∷ text_after colon body))
 named body has =
     split colon body ∙ ap (λ t. text_before colon body ++ t) (found colon body has)
-    ∙ ap (λ t. t ++ (colon ∷ text_after colon body)) (around (text_before colon body)).whole
+    ∙ ap (λ t. t ++ (colon ∷ text_after colon body)) (around _).whole
     ∙ simp append_assoc
 
 -- ---- values
@@ -117,15 +117,15 @@ identifier [] is = absurd (false≢true is)
 identifier (b ∷ word) is = passing rfc.IsIdentifierByte is_identifier_byte identifier_byte (b ∷ word) is
 
 product_token : (value : List ℕ) → is_product_token value ≡ true → rfc.IsProductToken value
-product_token value is = elim (or_cases (are_some is_identifier_byte value) _ is) [
-  | inl word ↦ inl (identifier value word)
-  | inr star ↦ inr ((bytes_eq-Decides value (codes "*")).0 star)
+product_token value is = elim (or_cases _ _ is) [
+  | inl word ↦ inl (identifier _ word)
+  | inr star ↦ inr ((bytes_eq-Decides _ _).0 star)
 ]
 
 pattern : (value : List ℕ) → is_pattern value ≡ true → rfc.IsPattern value value ⊎ rfc.IsStarPattern value
 pattern [] is = inl (inr (tt, refl))
 pattern (b ∷ text) is =
-    let both = and_parts (b == 0x2F || b == 0x2A) (is_value_text text) is in
+    let both = and_parts _ _ is in
     let chars = value_text text both.1 in
     elim (or_cases (b == 0x2F) (b == 0x2A) both.0) [
       | inl slash ↦ inl (inl (
@@ -141,20 +141,20 @@ digit b is = (grind (arith, nat_tests), grind (arith, nat_tests))
 
 digits : (text : List ℕ) → are_some is_digit text ≡ true → rfc.IsDigits text
 digits [] is = absurd (false≢true is)
-digits (b ∷ text) is = passing rfc.IsDigitByte is_digit digit (b ∷ text) is
+digits (b ∷ text) is = passing _ _ digit (b ∷ text) is
 
 number : (value : List ℕ) → is_number value ≡ true → rfc.IsNumber value
-number value is = elim (or_cases (are_some is_digit value) _ is) [
+number value is = elim (or_cases _ _ is) [
   | inl whole ↦ inl (digits value whole)
   | inr parts ↦
-      let point = and_parts (has_byte 0x2E value) _ parts in
-      let both = and_parts (are_some is_digit (text_before 0x2E value)) _ point.1 in
+      let point = and_parts _ _ parts in
+      let both = and_parts _ _ point.1 in
       inr (record {
         units = text_before 0x2E value;
         fraction = text_after 0x2E value;
-        are_units = digits (text_before 0x2E value) both.0;
-        is_fraction = digits (text_after 0x2E value) both.1;
-        whole = split 0x2E value ∙ ap (λ t. text_before 0x2E value ++ t) (found 0x2E value point.0);
+        are_units = digits _ both.0;
+        is_fraction = digits _ both.1;
+        whole = split 0x2E _ ∙ ap (λ t. text_before 0x2E value ++ t) (found 0x2E value point.0);
       })
 ]
 
@@ -162,11 +162,11 @@ not_listed : (name : List ℕ) (names : List (List ℕ)) → list_any (bytes_eq 
     → Contains names name → ⊥
 not_listed name [] none (k, within, is) = absurd (omega arith)
 not_listed name (first ∷ names) none (zero, within, is) =
-    let parts = or_parts (bytes_eq name first) (list_any (bytes_eq name) names) none in
-    let same = (bytes_eq-Decides name first).1 (sym is) in
+    let parts = or_parts (bytes_eq name _) _ none in
+    let same = (bytes_eq-Decides name _).1 (sym is) in
     false≢true (sym parts.0 ∙ same)
 not_listed name (first ∷ names) none (suc k, within, is) =
-    let parts = or_parts (bytes_eq name first) (list_any (bytes_eq name) names) none in
+    let parts = or_parts _ _ none in
     not_listed name names parts.1 (k, omega arith, is)
 
 -- ---- the forms
@@ -191,16 +191,16 @@ module _ (end : List ℕ) (nl : rfc.IsNl end) where
 
   pub empty_passes : (body : List ℕ) → has_form Empty body ≡ true → rfc.IsEmptyLine (body ++ end)
   empty_passes body is =
-      let (blanks, comment) = and_parts (list_all is_blank (text_before hash body)) _ is in
+      let (blanks, comment) = and_parts _ _ is in
       subst rfc.IsEol
       (sym (ap (λ t. t ++ end) (split hash body) ∙ append_assoc (text_before hash body) _ end))
-      (eol (text_before hash body) body (passing rfc.IsWs is_blank blank _ blanks) comment)
+      (eol _ body (passing rfc.IsWs is_blank blank _ blanks) comment)
 
   pub keyed_passes : (word body : List ℕ) → is_keyed word body ≡ true
       → rfc.IsKeyed word (value_in body) (body ++ end)
   keyed_passes word body is =
-      let (both, comment) = and_parts _ (is_comment_text (text_after hash (text_after colon body))) is in
-      let (has, name) = and_parts (has_byte colon body) _ both in
+      let (both, comment) = and_parts _ _ is in
+      let (has, name) = and_parts _ _ both in
       let around_name = around (text_before colon body) in
       let rest = text_after colon body in
       let value = around (text_before hash rest) in
@@ -225,26 +225,26 @@ module _ (end : List ℕ) (nl : rfc.IsNl end) where
   pub agent_passes : (body : List ℕ) → has_form Agent body ≡ true
       → rfc.IsStartGroupLine (value_in body) (body ++ end)
   agent_passes body is =
-      let (key, value) = and_parts (is_keyed (codes "user-agent") body) _ is in
-      (product_token (value_in body) value, keyed_passes (codes "user-agent") body key)
+      let (key, value) = and_parts _ _ is in
+      (product_token _ value, keyed_passes _ body key)
 
   pub delay_passes : (body : List ℕ) → has_form Delay body ≡ true
       → rfc.IsDelayLine (rfc.Delay (value_in body)) (body ++ end)
   delay_passes body is =
-      let (key, value) = and_parts (is_keyed (codes "crawl-delay") body) _ is in
-      (number (value_in body) value, keyed_passes (codes "crawl-delay") body key)
+      let (key, value) = and_parts _ _ is in
+      (number _ value, keyed_passes _ body key)
 
   pub sitemap_passes : (body : List ℕ) → has_form Sitemap body ≡ true
       → rfc.IsSitemapLine (value_in body) (body ++ end)
   sitemap_passes body is =
-      let (key, value) = and_parts (is_keyed (codes "sitemap") body) _ is in
-      (value_text (value_in body) value, keyed_passes (codes "sitemap") body key)
+      let (key, value) = and_parts _ _ is in
+      (value_text _ value, keyed_passes _ body key)
 
   pub other_passes : (body : List ℕ) → has_form Other body ≡ true → rfc.IsOtherLine (body ++ end)
   other_passes body is =
-      let (front, value) = and_parts (has_byte colon body && is_other_name (name_in body)) _ is in
-      let (has, name) = and_parts (has_byte colon body) _ front in
-      let (letters, other) = and_parts (are_some is_identifier_byte (name_in body)) _ name in
+      let (front, value) = and_parts _ _ is in
+      let (has, name) = and_parts _ _ front in
+      let (letters, other) = and_parts _ _ name in
       let around_name = around (text_before colon body) in
       record {
         margin = around_name.front;
@@ -276,8 +276,8 @@ pub form_passes : (form : Form) (body end : List ℕ) → rfc.IsNl end → has_f
 form_passes Empty body end nl is = empty_passes end nl body is
 form_passes Agent body end nl is = (value_in body, agent_passes end nl body is)
 form_passes Rule body end nl is =
-    let (key, value) = and_parts (is_keyed (codes "allow") body || is_keyed (codes "disallow") body) _ is in
-    elim (or_cases (is_keyed (codes "allow") body) (is_keyed (codes "disallow") body) key) [
+    let (key, value) = and_parts _ _ is in
+    elim (or_cases _ _ key) [
       | inl allow ↦ (rfc.Allow (value_in body), rule end nl (codes "allow") body allow value)
       | inr disallow ↦ (rfc.Disallow (value_in body), rule end nl (codes "disallow") body disallow value)
     ]

@@ -70,7 +70,7 @@ octet_first : (stays : Reading) (in_query : Bool) (b : ℕ) (text : List ℕ)
     → normal_from stays in_query (b ∷ text)
     ≡ normal_octet stays in_query b ++ normal_from stays (in_query || b == 63) text
 unfolding normal_from
-octet_first stays in_query b [] isnt = sym (append-nil (normal_octet stays in_query b))
+octet_first stays in_query b [] isnt = sym (append-nil _)
 octet_first stays in_query b (c ∷ []) isnt = refl
 octet_first stays in_query b (high ∷ low ∷ text) isnt = rw isnt refl
 
@@ -88,7 +88,7 @@ module _ (high low : ℕ) (text : List ℕ) (one : is_ascii_hexdigit high ≡ tr
   escape_first stays in_query = rw (one, two) refl
 
   escape_odd : has_odd_escape (37 ∷ high ∷ low ∷ text) ≡ (has_odd_digits high low || has_odd_escape text)
-  escape_odd = rw (one, two, hex_not (λ c. c == 37) high refl one, hex_not (λ c. c == 37) low refl two) refl
+  escape_odd = rw (one, two, hex_not (λ c. c == 37) _ refl one, hex_not (λ c. c == 37) low refl two) refl
 
 -- ---- an octet, and an escape
 
@@ -100,7 +100,7 @@ octet_stays stays in_query b rest text = elim (cases_Bool (is_kept stays in_quer
   | inr other ↦
       let percent : 37 ≡ b → false ≡ true =
       λ e. sym (subst (λ c. is_kept stays in_query c ≡ false) (sym e) other) in
-      rw other (λ e. let first : 37 ≡ b = cc in absurd (both_ways false refl (percent first)))
+      rw other (λ e. let first : 37 ≡ b = cc in absurd (both_ways _ refl (percent first)))
 ]
 
 not_lowercase : (b : ℕ) → to_ascii_uppercase b ≡ b → is_ascii_lowercase b ≡ false
@@ -116,11 +116,11 @@ escape_stays high low rest text =
     elim (cases_Bool (is_unreserved (digit_value high * 16 + digit_value low))) [
       | inl is ↦ rw is (λ e.
           let same : digit_value high * 16 + digit_value low ≡ 37 = cc in
-          absurd (both_ways false refl (subst (λ c. is_unreserved c ≡ true) same is)))
+          absurd (both_ways _ refl (subst (λ c. is_unreserved c ≡ true) same is)))
       | inr other ↦ rw other (λ e.
           let first : to_ascii_uppercase high ≡ high = cc in
           let second : to_ascii_uppercase low ≡ low = cc in
-          (rw (not_lowercase high first, not_lowercase low second) refl, (cc)))
+          (rw (not_lowercase _ first, not_lowercase low second) refl, (cc)))
     ]
 
 -- ---- a URI in normal form has no odd escape
@@ -150,7 +150,7 @@ module _ (stays : Reading) (test : ℕ → Bool)
 
 pub no_odd_escape : (stays : Reading) (uri : List ℕ) → normal_uri stays uri ≡ uri
     → has_odd_escape uri ≡ false
-no_odd_escape stays uri same = (fixed (in_uri stays) (λ _. true) (λ _ _ _. refl) false uri same).1
+no_odd_escape stays uri same = (fixed _ (λ _. true) (λ _ _ _. refl) _ uri same).1
 
 -- ---- which URIs are in normal form
 
@@ -168,8 +168,8 @@ octet_same in_query b is = rw (kept_octets in_query b (octet_low b is) ∙ is) r
 escape_same : (high low : ℕ) → has_odd_digits high low ≡ false
     → normal_escape high low ≡ 37 ∷ high ∷ low ∷ []
 escape_same high low even =
-    let (lower, needed) = or_parts (is_ascii_lowercase high || is_ascii_lowercase low) _ even in
-    let (one, two) = or_parts (is_ascii_lowercase high) _ lower in
+    let (lower, needed) = or_parts _ _ even in
+    let (one, two) = or_parts _ _ lower in
     rw (needed, uppercase high one, uppercase low two) refl
 
 normal_same : (in_query : Bool) (uri : List ℕ) → list_all is_uri_octet uri ≡ true
@@ -177,25 +177,25 @@ normal_same : (in_query : Bool) (uri : List ℕ) → list_all is_uri_octet uri �
 unfolding normal_from
 normal_same =
     by_escapes (λ in_query uri. list_all is_uri_octet uri ≡ true → has_odd_escape uri ≡ false
-    → normal_from (in_uri all_stay) in_query uri ≡ uri) (λ in_query all even. refl)
+    → normal_from _ in_query uri ≡ uri) (λ in_query all even. refl)
     (λ in_query b text isnt later all even.
     let (one, rest) = and_parts _ _ all in
-    octet_first (in_uri all_stay) in_query b text isnt
-    ∙ rw (octet_same in_query b one) (ap (λ t. b ∷ t) (later rest (or_parts _ _ even).1)))
+    octet_first (in_uri all_stay) _ b text isnt
+    ∙ rw (octet_same _ b one) (ap (λ t. b ∷ t) (later rest (or_parts _ _ even).1)))
     (λ in_query high low text one two later all even.
     let (digits, no_more) = or_parts _ _ (sym (escape_odd high low text one two) ∙ even) in
-    let (_, rest) = and_parts (is_uri_octet low) _ (and_parts (is_uri_octet high) _ all).1 in
-    escape_first high low text one two (in_uri all_stay) in_query
+    let (_, rest) = and_parts _ _ (and_parts _ _ all).1 in
+    escape_first high low text one two _ _
     ∙ rw (escape_same high low digits) (ap (λ t. 37 ∷ high ∷ low ∷ t) (later rest no_more)))
 
 pub normal_uris : (uri : List ℕ) → (normal_uri all_stay uri ≡ uri) ↔ (is_normal uri ≡ true)
 normal_uris uri = (
   λ same.
-      let (octets, even) = fixed (in_uri all_stay) is_uri_octet passes false uri same in
+      let (octets, even) = fixed _ _ passes false uri same in
       rw (octets, even) refl,
   λ is.
       let (octets, even) = and_parts _ _ is in
-      normal_same false uri octets (not-true (has_odd_escape uri) even),
+      normal_same false uri octets (not-true _ even),
 )
   where
     passes : (in_query : Bool) (b : ℕ) → is_kept (in_uri all_stay) in_query b ≡ true → is_uri_octet b ≡ true
@@ -207,7 +207,7 @@ normal_uris uri = (
 odd_suffix : (front text : List ℕ) → has_odd_escape (front ++ text) ≡ false → has_odd_escape text ≡ false
 odd_suffix [] text even = even
 odd_suffix (b ∷ front) text even =
-    odd_suffix front text (or_parts (begins_odd_escape (b ∷ (front ++ text))) _ even).1
+    odd_suffix front _ (or_parts _ _ even).1
 
 -- what follows a part of a pattern matches a suffix of the text
 later_match : (part pattern text : List ℕ) → MatchesWith true (part ++ pattern) text
@@ -242,7 +242,7 @@ escape_match : (high low : ℕ) (path text : List ℕ) → is_ascii_hexdigit hig
     → (rest : List ℕ) × (text ≡ 37 ∷ high ∷ low ∷ rest) × MatchesWith true (escaped path) rest
 unfolding MatchesWith
 escape_match high low path text one two (s, e, m) =
-    let (t, f, n) = digit_match high (low ∷ path) s one m in
+    let (t, f, n) = digit_match _ (low ∷ path) s one m in
     let (rest, g, last) = digit_match low path t two n in
     (rest, e ∙ ap (λ x. 37 ∷ x) (f ∙ ap (λ x. high ∷ x) g), last)
 
