@@ -1,16 +1,17 @@
 -- The characters of the standard's grammar are UTF-8, and none of their bytes is `#`, a space or lower than
 -- that. UTF-8 consists of such characters, if its bytes are in order.
 use Rattle.std.proofs.Common.{◌≡◌, ◌≢◌, inl, inr, ℕ, ◌≤◌, true, List, [], ◌∷◌, ◌++◌, length, drop, sym, ap}
-use Rattle.std.proofs.Common.{◌∙◌, subst, append-nil, arith, ◌⊎◌, ◌+◌, ◌/◌, ◌%◌, ◌<◌, refl, nat_le, ◌==◌}
+use Rattle.std.proofs.Common.{◌∙◌, subst, append-nil, arith, ◌⊎◌, refl}
 use Rattle.std.specs.List.{AllByRecursion as Each, list_all}
-use Rattle.std.specs.Str.{IsUtf8, encode_utf8_all}
+use Rattle.std.specs.Str.{IsUtf8, encode_utf8_all, is_utf8}
+use Rattle.std.proofs.Common.{◌&&◌, Bool}
+use Rattle.std.proofs.lemmas.List.Folds.{list_all-append}
 use Rattle.std.proofs.lemmas.Str.{IsUtf8-append, IsUtf8-encode, IsUtf8-nil, IsUtf8-from_is_utf8, encode_ascii}
 use Rattle.bstr.specs.Utf8.{code_of_2, code_of_3, code_of_4, continues, decoded, good, second}
 use Rattle.bstr.proofs.lemmas.PieceLemmas.{value-1, value-6, value-9, value-12}
-use Rattle.rfc9309_laws.proofs.SyntaxLemmas.{many, each_front, passing}
+use Rattle.rfc9309_laws.proofs.SyntaxLemmas.{many}
 use lib.Utf8.{scalar, scalar_cases, scalars}
-use Rattle.std.proofs.lemmas.Bool.{and_parts, cases_eq, cases_lt, eqb-true, le-ltb, leb-true, lt-ltb}
-use Rattle.std.proofs.lemmas.Bool.{ne_eqb, or_cases}
+use Rattle.std.proofs.lemmas.Bool.{and_parts, cases_lt, le-ltb, lt-ltb}
 use Rattle.rfc9309_laws.specs.HasForm.{is_comment_byte, is_comment_text, is_value_byte, is_value_text}
 use Rattle.std.specs.{Char.encode_utf8}
 use Rattle.std.proofs.{lemmas.Bool.Decides.nat_tests, lemmas.List.drop_all}
@@ -27,9 +28,6 @@ pub record IsCharText (text : List ℕ) : Type 0 where
   pub bytes : Each IsCharByte text
   pub utf8 : IsUtf8 text
 
-high : (byte : ℕ) → 128 ≤ byte → IsCharByte byte
-high byte low = (omega arith, λ e. omega arith)
-
 -- if all the bytes decode to one character, they are UTF-8
 read_whole : (bytes : List ℕ) (c : ℕ) → decoded bytes ≡ good c (length bytes) → IsUtf8 bytes
 read_whole bytes c e =
@@ -45,7 +43,7 @@ tail_continues c is = grind (arith, nat_tests)
 
 one : (bytes : List ℕ) → rfc.IsUtf8OneNoctl bytes → IsCharText bytes
 one (a ∷ []) is = record {
-  bytes = ((omega arith, λ e. omega arith), tt);
+  bytes = grind arith;
   utf8 = read_whole (a ∷ []) a (value-1 1 a 0 0 0 (omega arith, omega arith));
 }
 one _ is = absurd is
@@ -54,7 +52,7 @@ two : (bytes : List ℕ) → rfc.IsUtf8Two bytes → IsCharText bytes
 two (a ∷ b ∷ []) is =
     let after : second a b ≡ true = grind (arith, nat_tests) in
     record {
-      bytes = (high a (omega arith), (high b (omega arith), tt));
+      bytes = grind arith;
       utf8 =
           read_whole (a ∷ b ∷ []) (code_of_2 a b)
           (value-6 2 a b 0 0 (omega arith, omega arith, omega arith, after));
@@ -66,7 +64,7 @@ three (a ∷ b ∷ c ∷ []) is =
     let after : second a b ≡ true = grind (arith, nat_tests) in
     let tail = tail_continues c (omega arith, omega arith) in
     record {
-      bytes = (high a (omega arith), (high b (omega arith), (high c (omega arith), tt)));
+      bytes = grind arith;
       utf8 =
           read_whole (a ∷ b ∷ c ∷ []) (code_of_3 a b c)
           (value-9 3 a b c 0 (omega arith, omega arith, omega arith, after, tail));
@@ -79,8 +77,7 @@ four (a ∷ b ∷ c ∷ d ∷ []) is =
     let third = tail_continues c (omega arith, omega arith) in
     let fourth = tail_continues d (omega arith, omega arith) in
     record {
-      bytes =
-          (high a (omega arith), (high b (omega arith), (high c (omega arith), (high d (omega arith), tt))));
+      bytes = grind arith;
       utf8 =
           read_whole (a ∷ b ∷ c ∷ d ∷ []) (code_of_4 a b c d)
           (value-12 4 a b c d (omega arith, omega arith, omega arith, after, third, fourth));
@@ -103,166 +100,69 @@ text_append text later is also = record {
 pub chars_text : (text : List ℕ) → rfc.IsMany rfc.IsUtf8CharNoctl text → IsCharText text
 chars_text = many (record { bytes = tt; utf8 = IsUtf8-nil }) text_append char_text
 
--- ---- the bytes of a character
-
-encode_two : (c : ℕ) → 128 ≤ c → c < 2048 → encode_utf8 c ≡ (192 + c / 64) ∷ (128 + c % 64) ∷ []
-unfolding encode_utf8
-encode_two c low high = rw (le-ltb c 128 low, lt-ltb c 2048 high) refl
-
-encode_three : (c : ℕ) → 2048 ≤ c → c < 65536
-    → encode_utf8 c ≡ (224 + c / 4096) ∷ (128 + c / 64 % 64) ∷ (128 + c % 64) ∷ []
-unfolding encode_utf8
-encode_three c low high =
-    let past : 128 ≤ c = omega arith in rw (le-ltb c 128 past, le-ltb c 2048 low, lt-ltb c 65536 high) refl
-
-encode_four : (c : ℕ) → 65536 ≤ c
-    → encode_utf8 c
-    ≡ (240 + c / 262144) ∷ (128 + c / 4096 % 64) ∷ (128 + c / 64 % 64) ∷ (128 + c % 64) ∷ []
-unfolding encode_utf8
-encode_four c low =
-    let one : 128 ≤ c = omega arith in
-    let two : 2048 ≤ c = omega arith in
-    rw (le-ltb c 128 one, le-ltb c 2048 two, le-ltb c 65536 low) refl
-
 -- ---- characters
 
-tail : (n : ℕ) → rfc.IsUtf8Tail (128 + n % 64)
-tail n = (omega arith, omega arith)
-
-of_two : (c : ℕ) → 128 ≤ c → c < 2048 → rfc.IsUtf8CharNoctl ((192 + c / 64) ∷ (128 + c % 64) ∷ [])
-of_two c low high = inr (inl ((omega arith, omega arith), tail c))
-
-three_by : (q r c : ℕ) → q < 16 → r < 64 → (q ≡ 0 → 32 ≤ r) → (q ≡ 13 → r < 32)
-    → rfc.IsUtf8Three ((224 + q) ∷ (128 + r) ∷ (128 + c % 64) ∷ [])
-three_by q r c small least some low = elim (cases_eq q 0) [
-  | inl none ↦ let above = some none in
-      inl (omega arith, (omega arith, omega arith), tail c)
-  | inr more ↦ elim (cases_lt q 13) [
-    | inl before ↦ inr (inl ((omega arith, omega arith), (omega arith, omega arith), tail c))
-    | inr after ↦ elim (cases_eq q 13) [
-      | inl same ↦ let below = low same in
-          inr (inr (inl (omega arith, (omega arith, omega arith), tail c)))
-      | inr other ↦ inr (inr (inr ((omega arith, omega arith), (omega arith, omega arith), tail c)))
-    ]
-  ]
-]
-
-of_three : (c : ℕ) → 2048 ≤ c → c < 65536 → (c < 55296) ⊎ (57344 ≤ c)
-    → rfc.IsUtf8CharNoctl ((224 + c / 4096) ∷ (128 + c / 64 % 64) ∷ (128 + c % 64) ∷ [])
-of_three c low high is =
-    let parts =
-    three_by (c / 4096) (c / 64 % 64) c (omega arith) (omega arith) (λ e. omega arith) (λ e. omega arith) in
-    inr (inr (inl parts))
-
-four_by : (q r c d : ℕ) → q < 5 → r < 64 → (q ≡ 0 → 16 ≤ r) → (q ≡ 4 → r < 16)
-    → rfc.IsUtf8Four ((240 + q) ∷ (128 + r) ∷ (128 + c % 64) ∷ (128 + d % 64) ∷ [])
-four_by q r c d small least some low = elim (cases_eq q 0) [
-  | inl none ↦ let above = some none in
-      inl (omega arith, (omega arith, omega arith), tail c, tail d)
-  | inr more ↦ elim (cases_lt q 4) [
-    | inl before ↦ inr (inl ((omega arith, omega arith), (omega arith, omega arith), tail c, tail d))
-    | inr after ↦ let same : q ≡ 4 = omega arith in
-        let below = low same in
-        inr (inr (omega arith, (omega arith, omega arith), tail c, tail d))
-  ]
-]
-
-of_four : (c : ℕ) → 65536 ≤ c → c < 1114112
-    → rfc.IsUtf8CharNoctl
-    ((240 + c / 262144) ∷ (128 + c / 4096 % 64) ∷ (128 + c / 64 % 64) ∷ (128 + c % 64) ∷ [])
-of_four c low high =
-    let parts =
-    four_by (c / 262144) (c / 4096 % 64) (c / 64) c (omega arith) (omega arith) (λ e. omega arith)
-    (λ e. omega arith) in
-    inr (inr (inr parts))
-
-scalar_bounds : (c : ℕ) → scalar c ≡ true → ((c < 55296) ⊎ (57344 ≤ c)) × (c < 1114112)
-scalar_bounds c is = elim (scalar_cases c is) [
-  | inl below ↦ (inl below, omega arith)
-  | inr above ↦ (inr above.0, above.1)
-]
-
 wide : (c : ℕ) → scalar c ≡ true → 128 ≤ c → rfc.IsUtf8CharNoctl (encode_utf8 c)
+unfolding encode_utf8
 wide c is low =
-    let bounds = scalar_bounds c is in
-    elim (cases_lt c 2048) [
-      | inl two_bytes ↦ rw (encode_two c low two_bytes) (of_two c low two_bytes)
-      | inr more ↦ elim (cases_lt c 65536) [
-        | inl three_bytes ↦ rw (encode_three c more three_bytes) (of_three c more three_bytes bounds.0)
-        | inr rest ↦ rw (encode_four c rest) (of_four c rest bounds.1)
-      ]
-    ]
+    let cases = scalar_cases c is in
+    rw (le-ltb c 128 low) (elim (cases_lt c 2048) [
+      | inl two_bytes ↦ rw (lt-ltb c 2048 two_bytes) (inr (inl (grind arith)))
+      | inr more ↦ rw (le-ltb c 2048 more) (elim (cases_lt c 65536) [
+        | inl three_bytes ↦ rw (lt-ltb c 65536 three_bytes) (inr (inr (inl (grind arith))))
+        | inr rest ↦ rw (le-ltb c 65536 rest) (inr (inr (inr (grind arith))))
+      ])
+    ])
 
-narrow : (c : ℕ) → c < 128 → is_value_byte c ≡ true → rfc.IsUtf8CharNoctl (c ∷ [])
-narrow c small is = inl (grind (arith, nat_tests))
-
-value_unit : (c : ℕ) → scalar c ≡ true → Each (λ b. is_value_byte b ≡ true) (encode_utf8 c)
+value_unit : (c : ℕ) → scalar c ≡ true → list_all is_value_byte (encode_utf8 c) ≡ true
     → rfc.IsUtf8CharNoctl (encode_utf8 c)
 value_unit c is all = elim (cases_lt c 128) [
   | inl small ↦ let one = rw (encode_ascii c small) at all in
-      rw (encode_ascii c small) (narrow c small one.0)
+      rw (encode_ascii c small) (inl (grind (arith, nat_tests)))
   | inr large ↦ wide c is large
 ]
 
 comment_byte : (c : ℕ) → is_comment_byte c ≡ true → rfc.IsWs c ⊎ ((c ≡ 0x23) ⊎ (is_value_byte c ≡ true))
-comment_byte c is = elim (or_cases (nat_le 0x20 c) (c == 0x09) is) [
-  | inl high ↦ elim (cases_eq c 0x20) [
-    | inl space ↦ inl (inl space)
-    | inr more ↦ elim (cases_eq c 0x23) [
-      | inl hash ↦ inr (inl hash)
-      | inr other ↦ let low = leb-true 0x20 c high in
-          inr (inr (rw (lt-ltb 0x20 c (omega arith), ne_eqb c 0x23 other) refl))
-    ]
-  ]
-  | inr tab ↦ inl (inr (eqb-true c 0x09 tab))
-]
+comment_byte c is = grind (arith, nat_tests)
 
-comment_unit : (c : ℕ) → scalar c ≡ true → Each (λ b. is_comment_byte b ≡ true) (encode_utf8 c)
+comment_unit : (c : ℕ) → scalar c ≡ true → list_all is_comment_byte (encode_utf8 c) ≡ true
     → rfc.IsCommentUnit (encode_utf8 c)
 comment_unit c is all = elim (cases_lt c 128) [
   | inl small ↦ let one = rw (encode_ascii c small) at all in
-      rw (encode_ascii c small) (elim (comment_byte c one.0) [
+      rw (encode_ascii c small) (elim (comment_byte c (and_parts _ _ one).0) [
         | inl blank ↦ inr (inl (c, blank, refl))
         | inr (inl hash) ↦ inr (inr (ap (λ b. b ∷ []) hash))
-        | inr (inr value) ↦ inl (narrow c small value)
+        | inr (inr value) ↦ inl (inl (grind (arith, nat_tests)))
       ])
   | inr large ↦ inl (wide c is large)
 ]
 
 -- ---- texts
 
-each_rest : {X : Type 0} (P : X → Type 0) (xs ys : List X) → Each P (xs ++ ys) → Each P ys
-each_rest P [] ys all = all
-each_rest P (x ∷ xs) ys all = each_rest P xs ys all.1
-
-module _ (P : ℕ → Type 0) (Part : List ℕ → Type 0)
-    (unit : (c : ℕ) → scalar c ≡ true → Each P (encode_utf8 c) → Part (encode_utf8 c)) where
-  units : (chars : List ℕ) → scalars chars ≡ true → Each P (encode_utf8_all chars)
+module _ (test : ℕ → Bool) (Part : List ℕ → Type 0)
+    (unit : (c : ℕ) → scalar c ≡ true → list_all test (encode_utf8 c) ≡ true → Part (encode_utf8 c)) where
+  units : (chars : List ℕ) → scalars chars ≡ true → list_all test (encode_utf8_all chars) ≡ true
       → rfc.IsMany Part (encode_utf8_all chars)
   units [] are all = record { units = []; each = tt; whole = refl }
   units (c ∷ chars) are all =
-      let both = and_parts (scalar c) (scalars chars) are in
-      let rest = units chars both.1 (each_rest P (encode_utf8 c) (encode_utf8_all chars) all) in
+      let (is, more) = and_parts (scalar c) (scalars chars) are in
+      let (first, later) =
+      and_parts (list_all test (encode_utf8 c)) _ (sym (list_all-append test (encode_utf8 c) _) ∙ all) in
+      let rest = units chars more later in
       record {
         units = encode_utf8 c ∷ rest.units;
-        each = (unit c both.0 (each_front P (encode_utf8 c) (encode_utf8_all chars) all), rest.each);
+        each = (unit c is first, rest.each);
         whole = ap (λ t. encode_utf8 c ++ t) rest.whole;
       }
 
-  units_of : (text : List ℕ) → IsUtf8 text → Each P text → rfc.IsMany Part text
-  units_of text (chars, (are, same)) all =
-      subst (rfc.IsMany Part) same (units chars are (subst (Each P) (sym same) all))
+  units_of : (text : List ℕ) → (is_utf8 text && list_all test text) ≡ true → rfc.IsMany Part text
+  units_of text is =
+      let (utf8, all) = and_parts (is_utf8 text) (list_all test text) is in
+      let (chars, (are, same)) = IsUtf8-from_is_utf8 text utf8 in
+      subst (rfc.IsMany Part) same (units chars are (ap (list_all test) same ∙ all))
 
 pub value_text : (text : List ℕ) → is_value_text text ≡ true → rfc.IsMany rfc.IsUtf8CharNoctl text
-value_text text is =
-    let both = and_parts _ (list_all is_value_byte text) is in
-    units_of (λ b. is_value_byte b ≡ true) rfc.IsUtf8CharNoctl value_unit text
-    (IsUtf8-from_is_utf8 text both.0)
-    (passing (λ b. is_value_byte b ≡ true) is_value_byte (λ b passes. passes) text both.1)
+value_text = units_of is_value_byte rfc.IsUtf8CharNoctl value_unit
 
 pub comment_text : (text : List ℕ) → is_comment_text text ≡ true → rfc.IsMany rfc.IsCommentUnit text
-comment_text text is =
-    let both = and_parts _ (list_all is_comment_byte text) is in
-    units_of (λ b. is_comment_byte b ≡ true) rfc.IsCommentUnit comment_unit text
-    (IsUtf8-from_is_utf8 text both.0)
-    (passing (λ b. is_comment_byte b ≡ true) is_comment_byte (λ b passes. passes) text both.1)
+comment_text = units_of is_comment_byte rfc.IsCommentUnit comment_unit

@@ -53,14 +53,14 @@ bare_put : (tokens : List (List ℕ)) (members : List Member) (groups : List Gro
     → bare (put_before tokens members groups) ≡ put_before tokens (filter is_rule members) (bare groups)
 bare_put tokens [] [] = refl
 bare_put tokens [] (next ∷ later) =
-    sym (put_both tokens next.tokens (filter is_rule next.members) (bare later))
+    sym (put_both _ _ _ _)
 bare_put tokens (member ∷ members) groups = refl
 
 bare_merged : (groups : List Group) → bare (merged groups) ≡ bare groups
 bare_merged [] = refl
 bare_merged (group ∷ later) =
-    bare_put group.tokens group.members (merged later)
-    ∙ ap (put_before group.tokens (filter is_rule group.members)) (bare_merged later)
+    bare_put _ group.members _
+    ∙ ap (put_before _ _) (bare_merged later)
 
 module _ (name : List ℕ) where
   any_put : (tokens : List (List ℕ)) (members : List Member) (groups : List Group)
@@ -73,7 +73,7 @@ module _ (name : List ℕ) where
   any_bare : (groups : List Group) → list_any (has name) (bare groups) ≡ list_any (has name) groups
   any_bare [] = refl
   any_bare (group ∷ later) =
-      any_put group.tokens (filter is_rule group.members) (bare later)
+      any_put group.tokens _ _
       ∙ ap (λ b. has name group || b) (any_bare later)
 
   -- ---- the rules of the groups with a name
@@ -85,7 +85,7 @@ module _ (name : List ℕ) where
   held_rules [] = refl
   held_rules (group ∷ later) = elim (cases_Bool (has name group)) [
     | inl is ↦
-        rw is (filter-append is_rule group.members (theirs name later)
+        rw is (filter-append _ group.members _
         ∙ ap (λ rules. filter is_rule group.members ++ rules) (held_rules later))
     | inr isnt ↦ rw isnt (held_rules later)
   ]
@@ -99,11 +99,11 @@ module _ (name : List ℕ) where
       → list_any (is_named name) (above ++ group.tokens) ≡ has name group
   named_too [] group all = refl
   named_too (token ∷ above) group all =
-      let both = and_parts (has_token token group) (has_all above group) all in
+      let both = and_parts _ _ all in
       ap (λ b. is_named name token || b) (named_too above group both.1)
       ∙ elim (cases_Bool (is_named name token)) [
         | inl is ↦
-            let same = (bytes_eq-Decides (str_to_ascii_lowercase token) name).0 is in
+            let same = (bytes_eq-Decides _ _).0 is in
             rw is (sym (subst (λ text. has text group ≡ true) same both.0))
         | inr isnt ↦ rw isnt refl
       ]
@@ -118,10 +118,10 @@ module _ (name : List ℕ) where
       → held (put_before above [] (put_before group.tokens rules others))
       ≡ cond (has name group) rules [] ++ held later
   held_step above group [] later others is same all =
-      rw (cond_same {X = List Member} (has name group) [], put_both above group.tokens [] others)
-      (same (above ++ group.tokens) is)
+      rw (cond_same {X = List Member} (has name group) [], put_both _ _ [] others)
+      (same _ is)
   held_step above group (rule ∷ rules) later others is same all =
-      let both = and_parts (has_all above group) (is_unsplit [] later) is in
+      let both = and_parts _ _ is in
       rw (named_too above group both.0, all)
       (ap (λ more. cond (has name group) (rule ∷ rules) [] ++ more)
       (sym (held_put_none others) ∙ same [] both.1))
@@ -130,7 +130,7 @@ module _ (name : List ℕ) where
       → held (put_before above [] (bare groups)) ≡ held groups
   held_bare above [] is = rw (cond_same {X = List Member} _ []) refl
   held_bare above (group ∷ later) is =
-      held_step above group (filter is_rule group.members) later (bare later) is
+      held_step above group _ later _ is
       (λ tokens. held_bare tokens later) (twice group.members)
 
   rules_bare : (groups : List Group) → is_unsplit [] groups ≡ true
@@ -145,7 +145,7 @@ all_bare agent groups is =
     let name = str_to_ascii_lowercase agent in
     elim (cases_Bool (list_any (has_token agent) groups)) [
       | inl some ↦ rw (any_bare name groups, some) (sym (rules_bare name groups is))
-      | inr none ↦ rw (any_bare name groups, none) (sym (rules_bare (codes "*") groups is))
+      | inr none ↦ rw (any_bare name groups, none) (sym (rules_bare _ groups is))
     ]
 
 -- if the merged groups are unsplit, the rules are those of the standard

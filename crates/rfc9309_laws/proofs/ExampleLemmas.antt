@@ -1,12 +1,23 @@
--- Examples of matching.
-use Rattle.std.proofs.Common.{◌≡◌, ◌==◌, ◌||◌, ℕ, Bool, List, [], ◌∷◌, ◌++◌, refl, false, true, codes}
-use Rattle.std.specs.List.{list_any}
-use Rattle.std.proofs.lemmas.Bool.{eqb-false, or_parts}
-use Rattle.texting_robots.specs.{Escape.escaped, Pattern.Matches, Pattern.MatchesWith, Pattern.dollar}
-use Rattle.texting_robots.specs.Pattern.{star}
+-- Examples of matching and of verdicts. Where both verdicts agree, that of this library is computed.
+use Rattle.std.proofs.Common.{◌≡◌, ◌≢◌, ◌<◌, ◌++◌, ◌∷◌, ◌&&◌, Bool, true, false, inl, inr, List, [], ℕ}
+use Rattle.std.proofs.Common.{codes, get_or, length, map, nat_lt, refl, ap, arith, subst}
+use Rattle.std.specs.List.{AllByRecursion as Each, AllZip, Contains, list_all}
+use Rattle.std.specs.{Char.is_ascii_graphic, Prelude.slice_index}
+use Rattle.std.proofs.lemmas.Bool.{and_parts, eqb-false, false≢true, ltb-true}
+use Rattle.texting_robots.specs.{Escape.escaped, Rules.PlacedRule, Rules.unplaced, Trim.IsTrimOf}
+use Rattle.texting_robots.specs.{Verdict.IsVerdict}
+use Rattle.texting_robots.proofs.BestLemmas.{allowed_by, answered, deciding_rule, matches}
+use Rattle.texting_robots.proofs.{ExampleLemmas.matching, ExampleLemmas.not_matching, TrimLemmas.graphic_trim}
+use Rattle.texting_robots.proofs.{TrimLemmas.trimmed_is_trim}
+use Rattle.rfc9309_laws.specs.Comparable.{AreComparable, HasTwin, IsFit, IsPathOf, IsPlainPath}
 use Rattle.rfc9309_laws.specs.Examples as example
-use Rattle.rfc9309_laws.specs.Matching.{IsMatch, Reading, filled, normal_from, normal_path, normal_uri}
-use Rattle.rfc9309_laws.specs.Matching.{without_end}
+use Rattle.rfc9309_laws.specs.Examples.{mixed_rules, page_rules, tsu}
+use Rattle.rfc9309_laws.specs.Matching.{IsMatch, IsRfcVerdict, Reading, all_stay, as_in_table, filled}
+use Rattle.rfc9309_laws.specs.Matching.{has_dollar, is_ended, normal_from, normal_path, normal_uri, octets}
+use Rattle.rfc9309_laws.specs.{Matching.without_end, ReadAs.IsReadAs}
+use Rattle.rfc9309_laws.specs.Rfc9309 as rfc
+use Rattle.rfc9309_laws.proofs.{SyntaxLemmas.passing, ValueLemmas.visible_trim}
+use Rattle.rfc9309_laws.proofs.VerdictLemmas.{each_contains, verdicts_agree}
 
 pub encoding : example.encoding
 unfolding normal_from without_end
@@ -18,43 +29,6 @@ literals = ((refl, refl), (refl, refl))
 
 -- ---- where this library matches otherwise
 
-abbrev is_special : ℕ → Bool
-is_special b = b == star || b == dollar
-
--- both begin with the same plain bytes
-strip : (front q t : List ℕ) → list_any is_special front ≡ false
-    → MatchesWith true (front ++ q) (front ++ t) → MatchesWith true q t
-unfolding MatchesWith
-strip [] q t plain = λ m. m
-strip (b ∷ front) q t plain =
-    let (first, later) = or_parts (is_special b) (list_any is_special front) plain in
-    let (not_star, not_end) = or_parts (b == star) (b == dollar) first in
-    rw (not_star, not_end) (λ (s, e, m).
-    let same : s ≡ front ++ t = cc in strip front q t later (rw same at m))
-
-head_same : (b c : ℕ) (x y : List ℕ) → b ∷ x ≡ c ∷ y → b ≡ c
-head_same b c x y e = cc
-
--- after the same bytes, another byte comes
-differs : (front : List ℕ) (b c : ℕ) (q t : List ℕ) → list_any is_special front ≡ false
-    → is_special b ≡ false → (c == b) ≡ false → ¬ Matches (front ++ b ∷ q) (front ++ c ∷ t)
-unfolding MatchesWith
-differs front b c q t plain free other m =
-    let (not_star, not_end) = or_parts (b == star) (b == dollar) free in
-    first not_star not_end (strip front (b ∷ q) (c ∷ t) plain m)
-  where
-    first : (b == star) ≡ false → (b == dollar) ≡ false → ¬ MatchesWith true (b ∷ q) (c ∷ t)
-    first not_star not_end = rw (not_star, not_end) (λ (s, e, m). eqb-false c b other (head_same c b t s e))
-
--- after the same bytes, the pattern ends before the text
-ends : (front : List ℕ) (c : ℕ) (q t : List ℕ) → list_any is_special front ≡ false
-    → ¬ Matches (front ++ dollar ∷ q) (front ++ c ∷ t)
-unfolding MatchesWith
-ends front c q t plain m = first (strip front (dollar ∷ q) (c ∷ t) plain m)
-  where
-    first : ¬ MatchesWith true (dollar ∷ q) (c ∷ t)
-    first (s, (e, f), m) = cc
-
 -- the whole URI is matched with these strings in place of the stars
 whole : (stays : Reading) (path uri : List ℕ) (strings : List (List ℕ))
     → normal_uri stays uri ≡ filled (normal_path stays path) strings ++ [] → IsMatch stays path uri
@@ -62,39 +36,160 @@ whole stays path uri strings e = record { strings = strings; rest = []; whole = 
 
 only : (stays : Reading) (path uri : List ℕ) (strings : List (List ℕ))
     → normal_uri stays uri ≡ filled (normal_path stays path) strings ++ []
-    → ¬ Matches (escaped path) uri → example.OnlyByStandard stays path uri
-only stays path uri strings e here = record { standard = whole stays path uri strings e; here = here }
+    → matches true (escaped path) uri ≡ false → example.OnlyByStandard stays path uri
+only stays path uri strings e other =
+    record { standard = whole _ _ uri _ e; here = not_matching _ _ uri other }
 
 pub differences : example.differences
 unfolding normal_from without_end filled
 differences = (
-  only _ _ _ [] refl (differs (codes "/") 37 98 (codes "62") [] refl refl refl),
-  only _ _ _ [] refl (differs (codes "/%") 99 67 (codes "3") (codes "3") refl refl refl),
-  only _ _ _ [] refl (differs (codes "/") 98 37 [] (codes "62") refl refl refl),
-  only _ _ _ [] refl (differs (codes "/%") 67 99 (codes "3") (codes "3") refl refl refl),
-  only _ _ _ [] refl (differs (codes "/") 123 37 [] (codes "7B") refl refl refl),
-  only _ _ _ [] refl (differs (codes "/a") 124 37 (codes "b") (codes "7Cb") refl refl refl),
-  only _ _ _ [] refl (differs (codes "/a") 37 42 (codes "2Ab") (codes "b") refl refl refl),
-  only _ _ _ [] refl (ends (codes "/") 37 (codes "a") (codes "24a") refl),
-  only _ _ _ (codes "b" ∷ []) refl (ends (codes "/a") 37 (codes "*") (codes "24b") refl),
-  only _ _ _ [] refl (ends (codes "/a") 37 (codes "$") (codes "24") refl),
+  only _ _ _ [] refl refl,
+  only _ _ _ [] refl refl,
+  only _ _ _ [] refl refl,
+  only _ _ _ [] refl refl,
+  only _ _ _ [] refl refl,
+  only _ _ _ [] refl refl,
+  only _ _ _ [] refl refl,
+  only _ _ _ [] refl refl,
+  only _ _ _ (codes "b" ∷ []) refl refl,
+  only _ _ _ [] refl refl,
 )
 
 pub reserved_in_uri : example.reserved_in_uri
 unfolding normal_from without_end filled
-reserved_in_uri =
-    only _ _ _ [] refl
-    (differs (codes "/foo/bar?baz=https") 58 37 (codes "//foo.bar") (codes "3A%2F%2Ffoo.bar") refl refl refl)
-
--- a text without stars and dollars matches itself
-itself : (p : List ℕ) → list_any is_special p ≡ false → Matches p p
-unfolding MatchesWith
-itself [] plain = tt
-itself (b ∷ p) plain =
-    let (first, later) = or_parts (is_special b) (list_any is_special p) plain in
-    let (not_star, not_end) = or_parts (b == star) (b == dollar) first in
-    rw (not_star, not_end) (p, refl, itself p later)
+reserved_in_uri = only _ _ _ [] refl refl
 
 pub reserved_alike : example.reserved_alike
 unfolding normal_from without_end filled
-reserved_alike = (whole _ _ _ [] refl, itself (codes "/foo/bar?baz=https://foo.bar") refl)
+reserved_alike = (whole _ _ _ [] refl, matching _ _ _ refl)
+
+-- ---- verdicts that agree
+
+-- the path is empty, or begins and ends with visible bytes
+abbrev is_trimmed : List ℕ → Bool
+is_trimmed [] = true
+is_trimmed (b ∷ path) = is_ascii_graphic b && is_ascii_graphic (get_or (b ∷ path) (length path) 0)
+
+-- an Allow is trimmed, and a Disallow, too; if it isn't empty, it has more than one octet
+abbrev is_usual : Reading → rfc.Member → Bool
+is_usual stays (rfc.Allow path) = is_trimmed path
+is_usual stays (rfc.Disallow []) = true
+is_usual stays (rfc.Disallow (b ∷ path)) = is_trimmed (b ∷ path) && nat_lt 1 (octets stays (b ∷ path))
+is_usual stays (rfc.Delay number) = false
+
+trimmed : (path : List ℕ) → is_trimmed path ≡ true → IsTrimOf path path
+trimmed [] is = visible_trim [] tt
+trimmed (b ∷ path) is =
+    let (first, last) = and_parts _ _ is in
+    subst (λ v. IsTrimOf v (b ∷ path)) (graphic_trim b path first last) (trimmed_is_trim _)
+
+-- the rule of this library; its line doesn't matter
+abbrev read : rfc.Member → PlacedRule
+read (rfc.Allow path) = record { rule = (escaped path, true); line = 0 }
+read (rfc.Disallow (b ∷ path)) = record { rule = (escaped (b ∷ path), false); line = 0 }
+read _ = record { rule = (codes "/", true); line = 0 }
+
+module _ (stays : Reading) (members : List rfc.Member) (uri : List ℕ)
+    (usual : list_all (is_usual stays) members ≡ true) where
+  are_usual : (member : rfc.Member) → Contains members member → is_usual stays member ≡ true
+  are_usual member =
+      each_contains (λ member. is_usual stays member ≡ true) members member
+      (passing (λ member. is_usual stays member ≡ true) (is_usual stays) (λ member is. is) members usual)
+
+  are_trimmed : (path : List ℕ) → IsPathOf members path → IsTrimOf path path
+  are_trimmed path (inl has) = trimmed path (are_usual _ has)
+  are_trimmed [] (inr has) = visible_trim [] tt
+  are_trimmed (b ∷ path) (inr has) =
+      trimmed _ (and_parts _ _ (are_usual _ has)).0
+
+  are_long : (path : List ℕ) → Contains members (rfc.Disallow path) → path ≢ [] → 1 < octets stays path
+  are_long [] has some = absurd (some refl)
+  are_long (b ∷ path) has some =
+      ltb-true 1 _ (and_parts _ _ (are_usual _ has)).1
+
+  -- the verdict of this library is that of the standard
+  agreed : (answer : Bool) → normal_uri stays uri ≡ uri
+      → normal_uri stays (codes "/robots.txt") ≡ codes "/robots.txt" → Each (IsFit stays members) members
+      → allowed_by (deciding_rule (map read members) uri) ≡ answer
+      → AreComparable stays (octets stays) members uri
+      × IsRfcVerdict stays (octets stays) members uri answer
+  agreed answer normal robots fit is =
+      let are : AreComparable stays _ members uri = record {
+        normal = normal;
+        robots = robots;
+        trimmed = are_trimmed;
+        fit = λ member has. each_contains (IsFit stays members) members member fit has;
+        counted = λ path listed. refl;
+        empty = λ has. are_long;
+      } in
+      let rules = unplaced _ in (
+        are,
+        (verdicts_agree stays _ members rules uri (are_read members usual) are answer).0
+            (subst (IsVerdict rules uri) is (answered (map read members) uri).0),
+      )
+    where
+      are_read : (members : List rfc.Member) → list_all (is_usual stays) members ≡ true
+          → AllZip IsReadAs members (unplaced (map read members))
+      are_read [] all = tt
+      are_read (member ∷ members) all =
+          let (is, rest) = and_parts _ _ all in (one member is, are_read members rest)
+        where
+          one : (member : rfc.Member) → is_usual stays member ≡ true → IsReadAs member (read member).rule
+          one (rfc.Allow path) is = (path, trimmed path is, refl)
+          one (rfc.Disallow []) is = refl
+          one (rfc.Disallow (b ∷ path)) is = (b ∷ path, trimmed (b ∷ path) (and_parts _ _ is).0, refl)
+          one (rfc.Delay number) is = absurd (false≢true is)
+
+plain : (stays : Reading) (path : List ℕ) → normal_path stays path ≡ escaped (without_end path)
+    → has_dollar (without_end path) ≡ false → IsPlainPath stays path
+plain stays path normal dollar = record { normal = normal; ended = refl; dollar = dollar }
+
+pub longest : example.longest
+unfolding normal_from without_end is_ended
+longest =
+    agreed _ page_rules _ refl false refl refl
+    (inl (plain as_in_table _ refl refl), (inl (plain _ _ refl refl), tt)) refl
+
+mixed_twin : HasTwin all_stay (λ twin. Contains mixed_rules (rfc.Allow twin))
+    (codes "/" ++ tsu ++ codes "/%62*.gif$")
+unfolding normal_from without_end is_ended
+mixed_twin = record {
+  odd = refl;
+  twin = codes "/" ++ tsu ++ codes "/b*.gif$";
+  listed = (3, omega arith, refl);
+  same = record { normal = refl; ended = refl; dollar = refl };
+}
+
+mixed_fit : Each (IsFit all_stay mixed_rules) mixed_rules
+unfolding normal_from without_end is_ended
+mixed_fit = (
+  inl (plain all_stay [] refl refl),
+  (inl (plain all_stay _ refl refl), (inr mixed_twin, (inl (plain _ _ refl refl), tt))),
+)
+
+pub mixed : example.mixed
+unfolding normal_from without_end is_ended
+mixed = (
+  agreed all_stay mixed_rules _ refl false refl refl mixed_fit refl,
+  agreed _ _ _ refl true refl refl mixed_fit refl,
+)
+
+-- ---- an empty Disallow
+
+pub empty_disallow : example.empty_disallow
+unfolding normal_from without_end is_ended filled
+empty_disallow = (
+  record {
+    other = λ e. eqb-false 120 114 refl (ap (λ (l : List ℕ). slice_index l 1) e);
+    path = codes "/";
+    listed = (1, omega arith, refl);
+    some = λ e. cc;
+    is_match = record { strings = []; rest = codes "x"; whole = refl; end = λ e. absurd (false≢true e) };
+    most = λ allowed has. absurd (each_contains (λ member. member ≢ rfc.Allow allowed) rules
+        _ ((λ e. cc), ((λ e. cc), tt)) has refl);
+  },
+  (answered (map read rules) (codes "/x")).0,
+)
+  where
+    rules : List rfc.Member
+    rules = rfc.Disallow [] ∷ rfc.Disallow (codes "/") ∷ []

@@ -10,6 +10,7 @@ use Rattle.rfc9309_laws.proofs.ReadLemmas.{after_bom, file_sources, low_of_front
 use Rattle.rfc9309_laws.proofs.ReadLemmas.{bare_no_nul, end_bytes, last_end_adds_none, line_before}
 use Rattle.rfc9309_laws.proofs.ReadLemmas.{line_sources, low_append, sources_in, sources_of, file_same}
 use Rattle.rfc9309_laws.proofs.ReadLemmas.{lines_in}
+use Rattle.rfc9309_laws.proofs.{HasFormLemmas.form_passes}
 use Rattle.rfc9309_laws.proofs.KeyedLemmas.{AreFree, HasNoRule, IsLineOf}
 use Rattle.rfc9309_laws.proofs.MemberLemmas.{member_line, sitemap_line, token_line}
 use Rattle.rfc9309_laws.proofs.OtherLemmas.{empty_line, other_line}
@@ -46,8 +47,8 @@ pub line_bodies : (line : Line) (rest : List ℕ)
 line_bodies line rest =
     let is = line.is in
     subst (λ text. IsBefore is.body (bodies_of text) (bodies_of rest))
-    (sym (ap (λ text. text ++ rest) is.whole ∙ append_assoc is.body is.nl rest))
-    (line_before is.body is.nl rest is.bare is.is_nl)
+    (sym (ap (λ text. text ++ rest) is.whole ∙ append_assoc _ _ rest))
+    (line_before _ _ _ is.bare is.is_nl)
 
 lines_read : (lines : List Line) → sources_of (joined lines) ≡ sources_from lines
 lines_read [] = ap sources_in bodies_nil
@@ -63,7 +64,7 @@ lines_read (line ∷ lines) =
 pub each_read : (lines : List Line) → Each IsRead (sources_from lines)
 each_read [] = tt
 each_read (line ∷ lines) =
-    each_append IsRead line.sources (sources_from lines) line.is.read (each_read lines)
+    each_append _ _ _ line.is.read (each_read lines)
 
 -- no byte is NUL, and the first one is ASCII
 abbrev AreBytes : List ℕ → Type 0
@@ -71,20 +72,20 @@ AreBytes text = Each (λ b. b ≢ 0) text × BeginsLow text
 
 bytes_append : (text later : List ℕ) → AreBytes text → AreBytes later → AreBytes (text ++ later)
 bytes_append text later is also =
-    (each_append (λ b. b ≢ 0) text later is.0 also.0, low_append text later is.1 also.1)
+    (each_append (λ b. b ≢ 0) _ _ is.0 also.0, low_append _ _ is.1 also.1)
 
 lines_bytes : (lines : List Line) → AreBytes (joined lines)
 lines_bytes [] = (tt, tt)
 lines_bytes (line ∷ lines) =
     let is = line.is in
-    let body : AreBytes is.body = (bare_no_nul is.body is.bare, is.low) in
-    let bytes = bytes_append is.body is.nl body (end_bytes is.nl is.is_nl) in
-    bytes_append line.text (joined lines) (subst AreBytes (sym is.whole) bytes) (lines_bytes lines)
+    let body : AreBytes _ = (bare_no_nul _ is.bare, is.low) in
+    let bytes = bytes_append _ _ body (end_bytes _ is.is_nl) in
+    bytes_append _ _ (subst AreBytes (sym is.whole) bytes) (lines_bytes lines)
 
 pub lines_free : (lines : List Line) → HasNoRule (sources_from lines) → AreFree (forms_of lines)
 lines_free [] none = tt
 lines_free (line ∷ lines) none =
-    line.is.counted (sources_from lines) (forms_of lines) (lines_free lines) none
+    line.is.counted _ _ (lines_free lines) none
 
 -- each line lists a sitemap or none
 abbrev IsAddressLine : List (List ℕ) → List ℕ → Type 0
@@ -105,7 +106,8 @@ lines_listed : (lines : List Line)
 lines_listed [] = ([], repeats_none IsAddressLine)
 lines_listed (line ∷ lines) =
     let is = line.is in
-    let (addresses, one) = listed line.form (is.body ++ is.nl) (is.again is.nl is.is_nl) in
+    let (addresses, one) =
+    listed line.form (is.body ++ is.nl) (form_passes line.form is.body is.nl is.is_nl is.tested) in
     let (more, rest) = lines_listed lines in
     let first = repeats_one IsAddressLine addresses (is.body ++ is.nl) one in
     (addresses ++ more, repeats_both (subst (rfc.Repeats IsAddressLine addresses) (sym is.whole) first) rest)
@@ -122,7 +124,7 @@ pub record Makes {A : Type 0} (put : Source → A → A) (make : A → A) (text 
 onto_both : {X A : Type 0} (put : X → A → A) (xs ys : List X) (following : A)
     → onto put (xs ++ ys) following ≡ onto put xs (onto put ys following)
 onto_both put [] ys following = refl
-onto_both put (x ∷ xs) ys following = ap (put x) (onto_both put xs ys following)
+onto_both put (x ∷ xs) ys following = ap (put x) (onto_both put xs ys _)
 
 module _ {A : Type 0} {put : Source → A → A} where
   -- the text is a single line
@@ -145,9 +147,9 @@ module _ {A : Type 0} {put : Source → A → A} where
         lines = is.lines ++ also.lines;
         same = λ following.
             ap (λ all. onto put all following) sources
-            ∙ onto_both put (sources_from is.lines) (sources_from also.lines) following
-            ∙ ap (onto put (sources_from is.lines)) (also.same following)
-            ∙ is.same (second following);
+            ∙ onto_both put _ _ following
+            ∙ ap (onto put _) (also.same _)
+            ∙ is.same _;
         whole = cc;
       }
 
@@ -158,7 +160,7 @@ module _ {A : Type 0} {put : Source → A → A} where
       → ((text : List ℕ) → Q text → Makes put (λ following. following) text)
       → {items : List X} {text : List ℕ} → rfc.Repeats (rfc.IsOneOr P Q) items text
       → Makes put (onto act items) text
-  items_make {X} act P Q one other is = rw (is.written, is.whole) (units_make is.units is.each)
+  items_make {X} act P Q one other is = rw (is.written, is.whole) (units_make _ is.each)
     where
       units_make : (units : List (rfc.RepeatUnit X))
           → Each (λ unit. rfc.IsOneOr P Q unit.items unit.bytes) units
@@ -178,7 +180,7 @@ module _ (Content : List ℕ → Type 0) (text : List ℕ) (file : rfc.IsFileOf 
   bytes = subst AreBytes (sym whole) (lines_bytes lines)
 
   pub no_nul : Each (λ b. b ≢ 0) file.rest
-  no_nul = each_front (λ b. b ≢ 0) file.rest file.nl bytes.0
+  no_nul = each_front (λ b. b ≢ 0) _ _ bytes.0
 
   pub after_front : without_front (map nul_as_lf (file.bom ++ file.rest)) ≡ file.rest
   after_front = after_bom file.bom file.rest file.is_bom no_nul (low_of_front file.rest file.nl bytes.1)
@@ -207,7 +209,7 @@ skipped text (inr (inr is)) =
 
 token_made : (token text : List ℕ) → rfc.IsStartGroupLine token text → Writes (with_token token) text
 token_made token text is =
-    line_makes (token_line token text is) (λ parts. refl)
+    line_makes (token_line _ text is) (λ parts. refl)
 
 member_made : (member : rfc.Member) (text : List ℕ) → rfc.IsMemberLine member text
     → Writes (with_member member) text
@@ -234,7 +236,7 @@ abbrev IsNumberLine : List ℕ → List ℕ → Type 0
 IsNumberLine number text = rfc.IsDelayLine (rfc.Delay number) text
 
 number_made : (number text : List ℕ) → IsNumberLine number text → Writes (with_delay number) text
-number_made number text is = member_made (rfc.Delay number) text (inr (inr is))
+number_made number text is = member_made _ _ (inr (inr is))
 
 abbrev HasNumbers : List (List ℕ) → List ℕ → Type 0
 HasNumbers numbers text = rfc.IsOneOr IsNumberLine rfc.IsSkipped numbers text
@@ -248,17 +250,17 @@ lead_numbers unit (inl (rfc.Disallow pattern, is)) = absurd is
 -- lines of delays, and others, have some numbers
 numbered : (units : List (List ℕ)) → Each rfc.IsLeadUnit units
     → (numbers : List (List ℕ)) × rfc.Repeats HasNumbers numbers (flat_map (λ unit. unit) units)
-numbered [] all = ([], repeats_none HasNumbers)
+numbered [] all = ([], repeats_none _)
 numbered (unit ∷ units) all =
     let (first, one) = lead_numbers unit all.0 in
     let (numbers, rest) = numbered units all.1 in
-    (first ++ numbers, repeats_both (repeats_one HasNumbers first unit one) rest)
+    (first ++ numbers, repeats_both (repeats_one _ first unit one) rest)
 
 pub has_delays : (text : List ℕ) (groups : List rfc.Group) → rfc.IsFile groups text
     → (numbers : List (List ℕ)) × IsFileWith numbers groups text
 has_delays text groups file =
     let content = file.is_content in
-    let (numbers, front) = numbered content.is_front.units content.is_front.each in (
+    let (numbers, front) = numbered _ content.is_front.each in (
       numbers,
       record {
         bom = file.bom;
@@ -303,10 +305,10 @@ pub file_with : (text : List ℕ) (numbers : List (List ℕ)) (groups : List rfc
     → IsFileWith numbers groups text → FileRead numbers groups text
 file_with text numbers groups file =
     let all = file_made numbers groups (file.rest ++ file.nl) file.is_content in
-    let sources = sources_are (IsFileBelow numbers groups) text file all.lines all.whole in
+    let sources = sources_are _ text file all.lines all.whole in
     let parts : parts_in (file_sources text) ≡ parts_of (map rfc.Delay numbers) (rfc.merged groups) =
     ap parts_in sources ∙ all.same (parts_of [] []) ∙ ap (onto with_delay numbers) (groups_put groups)
-    ∙ delays_put numbers (parts_of [] (rfc.merged groups))
+    ∙ delays_put numbers _
     ∙ ap (λ members. parts_of members (rfc.merged groups)) (append-nil (map rfc.Delay numbers)) in
     let (addresses, lists) = lines_listed all.lines in
     record {
@@ -343,7 +345,7 @@ Lists make text = Makes with_address make text
 
 sitemap_lists : (address text : List ℕ) → rfc.IsSitemapLine address text
     → Lists (◌∷◌ address) text
-sitemap_lists address text is = line_makes (sitemap_line address text is) (λ following. refl)
+sitemap_lists address text is = line_makes (sitemap_line _ _ is) (λ following. refl)
 
 unlisted : (text : List ℕ) → rfc.IsUnlisted text → Lists (λ following. following) text
 unlisted text (inl (token, is)) = line_makes (token_line token text is) (λ following. refl)
@@ -358,7 +360,7 @@ addresses_in sources = onto with_address sources []
 
 each_put : (addresses : List (List ℕ)) → onto ◌∷◌ addresses [] ≡ addresses
 each_put [] = refl
-each_put (address ∷ addresses) = ap (λ following. address ∷ following) (each_put addresses)
+each_put (address ∷ addresses) = ap (λ following. address ∷ following) (each_put _)
 
 trims_read : (sources : List Source) → Each IsRead sources
     → AllZip IsTrimOf (sitemaps_in (lines_in sources)) (addresses_in sources)
@@ -375,11 +377,11 @@ module _ (text : List ℕ) (addresses : List (List ℕ)) (file : rfc.ListsSitema
   read = sources_are _ text file file_lists.lines file_lists.whole
 
   pub addresses_are : addresses_in (file_sources text) ≡ addresses
-  addresses_are = ap addresses_in read ∙ file_lists.same [] ∙ each_put addresses
+  addresses_are = ap addresses_in read ∙ file_lists.same [] ∙ each_put _
 
   pub sitemaps_are_read : AllZip IsTrimOf (sitemaps_in (file_lines text)) addresses
   sitemaps_are_read =
       rw ((file_same text []).1, read) (
-      subst (AllZip IsTrimOf (sitemaps_in (lines_in (sources_from file_lists.lines))))
+      subst (AllZip IsTrimOf _)
       (file_lists.same [] ∙ each_put addresses)
-      (trims_read (sources_from file_lists.lines) (each_read file_lists.lines)))
+      (trims_read _ (each_read file_lists.lines)))

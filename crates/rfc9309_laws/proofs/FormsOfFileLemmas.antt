@@ -13,7 +13,7 @@ use Rattle.rfc9309_laws.specs.LineForms.{Agent, AreForms, Form, HasForm, Rule}
 use Rattle.std.proofs.{lemmas.List.Elements.All-from_recursion}
 use Rattle.texting_robots.specs.{Cut.lf, Internal.Cut.bodies_of, Line.without_front}
 use Rattle.texting_robots.proofs.{CutFromFront.bodies_nil, TrimLemmas.each_append}
-use Rattle.rfc9309_laws.proofs.{OtherLemmas.only_empty}
+use Rattle.rfc9309_laws.proofs.{HasFormLemmas.form_passes, OtherLemmas.only_empty}
 use Rattle.rfc9309_laws.specs.{StandardRobot.IsFileBelow}
 use Rattle.rfc9309_laws.specs.Rfc9309 as rfc
 
@@ -54,12 +54,12 @@ formed (line ∷ lines) =
     let before = line_bodies line (joined lines) in
     let later : AreFormed (forms_of lines) before.later = elim before.same [
       | inl same ↦ rw same rest
-      | inr more ↦ without_empty (forms_of lines) before.later (rw more at rest)
+      | inr more ↦ without_empty _ before.later (rw more at rest)
     ] in
     rw before.whole (record {
       forms = line.form ∷ later.forms;
-      each = (line.is.again (lf ∷ []) (inr (inl refl)), later.each);
-      free = free_next line.form (forms_of lines) later.forms later.free;
+      each = (form_passes line.form line.is.body (lf ∷ []) (inr (inl refl)) line.is.tested, later.each);
+      free = free_next line.form _ later.forms later.free;
     })
 
 -- the forms without that of the last content
@@ -69,11 +69,11 @@ without_last [] [] each = absurd each
 without_last [] (body ∷ bodies) each = absurd each
 without_last (form ∷ forms) [] each = record { forms = []; each = tt; free = λ free. tt }
 without_last (form ∷ forms) (body ∷ bodies) (is, each) =
-    let rest = without_last forms bodies each in
+    let rest = without_last forms _ each in
     record {
       forms = form ∷ rest.forms;
       each = (is, rest.each);
-      free = free_next form forms rest.forms rest.free;
+      free = free_next form _ _ rest.free;
     }
 
 -- ---- rules are below user-agent lines
@@ -87,7 +87,7 @@ free_below forms [] below free e = absurd (rw e at free)
 free_below forms (Agent ∷ above) below free e = (zero, omega arith, refl)
 free_below forms (Rule ∷ above) below free e = absurd (rw e at free)
 free_below forms (form ∷ above) below free e =
-    contains_next form above (free_below (above ++ Rule ∷ below) above below (rw e at free) refl)
+    contains_next _ _ (free_below _ above _ (rw e at free) refl)
 
 -- ---- the file
 
@@ -111,7 +111,7 @@ file_has_forms text groups wide =
     let none : HasNoRule (sources_from lines) =
     subst HasNoRule (sources_are Content text file lines all.whole)
     (file_with text numbers groups file).none in
-    let whole : AreFormed (forms_of lines) (bodies_of (file.rest ++ file.nl)) =
+    let whole : AreFormed (forms_of lines) _ =
     subst (λ t. AreFormed (forms_of lines) (bodies_of t)) (sym all.whole) (formed lines) in
     let are : AreFormed (forms_of lines) (bodies_of file.rest) =
     elim (end_more file.rest file.nl file.is_nl) [

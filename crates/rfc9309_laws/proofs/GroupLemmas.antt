@@ -61,7 +61,7 @@ module _ {X : Type 0} (given : LineValue → Option X) (wanted : Member → Bool
         (rest : List X) → (group ≡ true → Gives member found) → (group ≡ false → found ≡ None)
         → AreFound members rest → AreFound (cond group (member ∷ members) members) (cons_option found rest)
     line_found true member found members rest gives none all =
-        one_found member found members rest (gives refl) all
+        one_found _ _ _ _ (gives refl) all
     line_found false member found members rest gives none all = rw (none refl) all
 
 -- rules are what the lines of rules give
@@ -83,7 +83,7 @@ rules_given = record { none = none; some = some }
     some : (line : LineValue) (text : List ℕ) → is_group line ≡ true → IsRead (line, text)
         → Gives rule_in is_rule IsReadAs (member_in line text) (rule_in line)
     some (Allow value) text is read = gives (allowed_in text value) (rule_in (Allow value)) read
-    some (Disallow value) text is read = gives (rfc.Disallow text) (rule_in (Disallow value)) read
+    some (Disallow value) text is read = gives (rfc.Disallow text) _ read
     some (CrawlDelay delay) text is read = refl
     some line text is read = cc
 
@@ -119,7 +119,7 @@ module _ (name : List ℕ) where
       → captured (closed is) members groups ≡ cond is members [] ++ theirs groups
   captured_closed is [] [] = rw (cond_same {X = List Member} is []) refl
   captured_closed is [] (next ∷ later) =
-      rw (cond_same {X = List Member} is []) (first_if (has next) next (filter has later))
+      rw (cond_same {X = List _} is []) (first_if (has next) _ _)
   captured_closed is (member ∷ members) groups = refl
 
   -- after a user-agent line, the first group also counts as the name's if its token is the name
@@ -131,7 +131,7 @@ module _ (name : List ℕ) where
       ap (λ b. cond b next.members [] ++ theirs later) (or_swapped walk.named (is_named token) (has next))
   captured_after walk token (member ∷ members) groups =
       ap (λ b. cond b (member ∷ members) [] ++ theirs groups)
-      (or_swapped walk.named (is_named token) false ∙ or-false (is_named token || walk.named))
+      (or_swapped walk.named (is_named token) false ∙ or-false _)
 
   -- ---- which groups have the name
 
@@ -139,8 +139,8 @@ module _ (name : List ℕ) where
       → (is_named token || list_any has groups)
       ≡ list_any has (put_before (token ∷ []) members groups)
   any_put token [] [] = sym (or_assoc (is_named token) false false)
-  any_put token [] (next ∷ later) = sym (or_assoc (is_named token) (has next) (list_any has later))
-  any_put token (member ∷ members) groups = sym (or_assoc (is_named token) false (list_any has groups))
+  any_put token [] (next ∷ later) = sym (or_assoc (is_named token) _ _)
+  any_put token (member ∷ members) groups = sym (or_assoc (is_named token) _ _)
 
   any_named : (sources : List Source)
       → list_any (is_agent_named name) (lines_in sources) ≡ list_any has (parts_in sources).groups
@@ -166,7 +166,7 @@ module _ {X : Type 0} (given : LineValue → Option X) (wanted : Member → Bool
       → Found (captured name (closed is) members groups) rest
       → Found (cond is (member ∷ members) [] ++ theirs name groups) (cons_option (cond is o None) rest)
   member_found is member o members groups rest gives all =
-      at is (rw (captured_closed name is members groups) at all)
+      at is (rw (captured_closed name is members _) at all)
     where
       at : (is : Bool) → Found (cond is members [] ++ theirs name groups) rest
           → Found (cond is (member ∷ members) [] ++ theirs name groups) (cons_option (cond is o None) rest)
@@ -184,7 +184,7 @@ module _ {X : Type 0} (given : LineValue → Option X) (wanted : Member → Bool
       → Found (captured name walk (cond group (member ∷ members) members) groups)
       (cons_option (cond walk.captured o None) rest)
   captured_found true walk member o members groups rest gives none all =
-      member_found walk.captured member o members groups rest (gives refl) all
+      member_found _ _ o _ groups rest (gives refl) all
   captured_found false walk member o members groups rest gives none all =
       rw (none refl, cond_same {X = Option X} walk.captured None) all
 
@@ -196,14 +196,14 @@ module _ {X : Type 0} (given : LineValue → Option X) (wanted : Member → Bool
   walk_finds walk ((UserAgent token, text) ∷ sources) (is, all) =
       let parts = parts_in sources in
       rw (
-        is_given.none (UserAgent token) refl,
+        is_given.none _ refl,
         cond_same {X = Option X} walk.captured None,
         captured_after name walk token parts.ungrouped parts.groups,
       )
-      (walk_finds (run (is_named name token || walk.named)) sources all)
+      (walk_finds (run _) sources all)
   walk_finds walk ((line, text) ∷ sources) (is, all) =
       let parts = parts_in sources in
-      captured_found (is_group line) walk (member_in line text) (given line) parts.ungrouped parts.groups _
+      captured_found (is_group line) walk _ (given line) parts.ungrouped parts.groups _
       (λ group. is_given.some line text group is) (is_given.none line)
       (walk_finds (after (is_group line) walk) sources all)
 
@@ -221,7 +221,7 @@ pub groups_with_name : (agent : List ℕ) (sources : List Source)
     ≡ groups_for agent (parts_in sources).groups
 groups_with_name agent sources =
     named_groups agent (parts_in sources).groups (lines_in sources) _
-    (any_named (str_to_ascii_lowercase agent) sources) refl
+    (any_named _ sources) refl
 
 module _ (agent : List ℕ) (sources : List Source)
     (none : filter is_rule (parts_in sources).ungrouped ≡ []) where
@@ -229,14 +229,15 @@ module _ (agent : List ℕ) (sources : List Source)
   own_name = group_name agent (lines_in sources)
 
   -- the rules among the members that apply from the first line on are those of the crawler's groups
-  pub rules_captured : filter is_rule
+  pub rules_captured :
+      filter is_rule
       (captured own_name (start_of (lines_in sources)) (parts_in sources).ungrouped (parts_in sources).groups)
       ≡ rfc.rules_for agent (parts_in sources).groups
   rules_captured =
       let parts = parts_in sources in
-      let is = not (list_any is_agent (lines_in sources)) in
-      ap (filter is_rule) (captured_closed own_name is parts.ungrouped parts.groups)
-      ∙ grouped is (theirs own_name parts.groups)
+      let is = not _ in
+      ap (filter is_rule) (captured_closed own_name is parts.ungrouped _)
+      ∙ grouped is _
       ∙ ap (λ groups. filter is_rule (members_in groups)) (groups_with_name agent sources)
     where
       grouped : (is : Bool) (members : List Member)
@@ -293,7 +294,7 @@ last_as member delay [] [] is all = is
 last_as member delay [] (d ∷ delays) is all = absurd all
 last_as member delay (m ∷ members) [] is all = absurd all
 last_as member delay (m ∷ members) (d ∷ delays) is all =
-    last_as (Some m) (Some d) members delays (d, all.0, refl) all.1
+    last_as _ _ members _ (d, all.0, refl) all.1
 
 or_as : (member other : Option Member) (delay more : Option ℕ) → IsDelayAs member delay
     → IsDelayAs other more → IsDelayAs (option_or member other) (option_or delay more)
@@ -308,8 +309,8 @@ above_found : (sources : List Source) → Each IsRead sources
 above_found [] all = tt
 above_found ((UserAgent token, text) ∷ sources) (is, all) = tt
 above_found ((line, text) ∷ sources) (is, all) =
-    line_found delay_in is_delay IsDelayOf (is_group line) (member_in line text) (delay_in line)
-    (parts_in sources).ungrouped (filter_map delay_in (before_agent (lines_in sources)))
+    line_found delay_in is_delay IsDelayOf _ (member_in line text) _
+    (parts_in sources).ungrouped _
     (λ group. delays_given.some line text group is) (delays_given.none line) (above_found sources all)
 
 abbrev has_any : List Group → Bool
@@ -326,7 +327,7 @@ any_group : (sources : List Source)
     → list_any is_agent (lines_in sources) ≡ has_any (parts_in sources).groups
 any_group [] = refl
 any_group ((UserAgent token, text) ∷ sources) =
-    put_some (token ∷ []) (parts_in sources).ungrouped (parts_in sources).groups
+    put_some _ (parts_in sources).ungrouped (parts_in sources).groups
 any_group (_ ∷ sources) = any_group sources
 
 -- ---- the delay that counts
@@ -340,13 +341,13 @@ chosen : (agent name : List ℕ) (groups : List Group) (above : List Member) (fo
     (option_or (slice_get found 0) (cond is (last_or None lead) None))
 chosen agent name [] above found lead true same all leads named = absurd cc
 chosen agent name [] above found lead false same all leads named =
-    let first = first_as (filter is_delay above) found (rw append-nil at all) in
+    let first = first_as _ found (rw append-nil at all) in
     rw (option_or_none (slice_get found 0)) first
 chosen agent name (group ∷ groups) above found lead false same all leads named = absurd cc
 chosen agent name (group ∷ groups) above found lead true same all leads named =
-    or_as (slice_get (delays_for agent (group ∷ groups)) 0) (last_or None (filter is_delay above))
+    or_as _ _
     (slice_get found 0) (last_or None lead)
-    (first_as (delays_for agent (group ∷ groups)) found
+    (first_as _ found
     (subst (λ theirs. AllZip IsDelayOf (filter is_delay (members_in theirs)) found) named all))
     (last_as None None (filter is_delay above) lead refl leads)
 
@@ -363,8 +364,8 @@ delay_written agent sources all =
     let delays = subst (AllZip IsDelayOf (filter is_delay members)) (sym (delays_are agent lines)) found in
     let caught =
     subst (λ members. AllZip IsDelayOf (filter is_delay members) (captured_delays agent lines))
-    (captured_closed name (not is) parts.ungrouped parts.groups) delays in
-    chosen agent name parts.groups parts.ungrouped (captured_delays agent lines)
-    (filter_map delay_in (before_first is_agent lines)) is (any_group sources) caught
+    (captured_closed name (not is) parts.ungrouped _) delays in
+    chosen agent name parts.groups parts.ungrouped _
+    _ is (any_group sources) caught
     (subst (λ above. AllZip IsDelayOf (filter is_delay parts.ungrouped) (filter_map delay_in above))
     (sym (before_agents lines)) (above_found sources all)) (groups_with_name agent sources)

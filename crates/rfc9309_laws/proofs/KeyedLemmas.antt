@@ -1,5 +1,5 @@
--- What is known of a line of the grammar: it is content with a terminator, has its form with any other
--- terminator too, passes the test of its form, and is read as its source line. Lines with a field name, a
+-- What is known of a line of the grammar: it is content with a terminator, passes the test of its form, and
+-- is read as its source line. Lines with a field name, a
 -- colon and a value are such lines.
 use Rattle.std.proofs.Common.{◌≡◌, ◌≢◌, ◌⊎◌, inl, inr, ℕ, ◌<◌, ◌==◌, ◌||◌, Bool, true, false, List, [], ◌∷◌}
 use Rattle.std.proofs.Common.{◌++◌, append-nil, ap, arith, bytes_eq, drop, map, refl, subst, sym, ◌∙◌}
@@ -20,8 +20,9 @@ use Rattle.rfc9309_laws.proofs.{ReadLemmas.BeginsLow, ReadLemmas.IsBare, HasForm
 use Rattle.rfc9309_laws.specs.HasForm.{colon, has_byte, hash, is_blank, is_comment_byte, is_comment_text}
 use Rattle.rfc9309_laws.specs.HasForm.{is_value_byte, is_value_text, kept_before, name_in, stripped}
 use Rattle.rfc9309_laws.specs.HasForm.{text_after, text_before, text_from, without_leading, without_trailing}
-use Rattle.rfc9309_laws.specs.HasForm.{has_form, is_identifier_byte, is_keyed, lower, value_in}
-use Rattle.rfc9309_laws.specs.LineForms.{Form, IsLine, Agent, Rule}
+use Rattle.rfc9309_laws.specs.HasForm.{has_form, is_identifier_byte, is_keyed, is_number, is_pattern}
+use Rattle.rfc9309_laws.specs.HasForm.{is_product_token, lower, value_in}
+use Rattle.rfc9309_laws.specs.LineForms.{Form, Agent, Delay, Rule, Sitemap}
 use Rattle.std.specs.{Char.to_ascii_lowercase, Str.IsUtf8}
 use Rattle.std.proofs.lemmas.Bool.Decides.{nat_tests}
 use Rattle.std.proofs.lemmas.Slice.Eq.{bytes_eq-Decides}
@@ -37,7 +38,7 @@ abbrev pub IsValueByte : ℕ → Type 0
 IsValueByte byte = IsBare byte × (byte ≢ hash)
 
 blank_value : (b : ℕ) → IsBlank b → IsValueByte b
-blank_value b is = (grind arith, λ e. omega arith)
+blank_value b is = grind arith
 
 pub char_value : (b : ℕ) → IsCharByte b → IsValueByte b
 char_value b is = (inr (omega arith), is.1)
@@ -53,7 +54,7 @@ abbrev pub IsFrontByte : ℕ → Type 0
 IsFrontByte byte = IsBare byte × (byte < 128) × (byte ≢ colon)
 
 blank_front : (b : ℕ) → IsBlank b → IsFrontByte b
-blank_front b is = (grind arith, omega arith, λ e. omega arith)
+blank_front b is = grind arith
 
 pub blanks_low : (blanks : List ℕ) → Each IsBlank blanks → BeginsLow blanks
 blanks_low [] all = tt
@@ -292,7 +293,6 @@ pub record IsLineOf (form : Form) (sources : List Source) (text : List ℕ) : Ty
   pub nl : List ℕ
   pub whole : text ≡ body ++ nl
   pub is_nl : rfc.IsNl nl
-  pub again : (end : List ℕ) → rfc.IsNl end → IsLine form (body ++ end)
   pub tested : has_form form body ≡ true
   pub bare : Each IsBare body
   pub low : BeginsLow body
@@ -313,6 +313,21 @@ word_letters _ = refl
 word_written : (kind : Kind) → Contains (field_names kind) (word_of kind)
 word_written kind.UserAgent = (0, omega arith, refl)
 word_written _ = (0, omega arith, refl)
+
+-- the form of a line with the kind's field name, and the test of its value
+abbrev pub form_of : Kind → Form × (List ℕ → Bool)
+form_of kind.UserAgent = (Agent, is_product_token)
+form_of kind.CrawlDelay = (Delay, is_number)
+form_of kind.Sitemap = (Sitemap, is_value_text)
+form_of _ = (Rule, is_pattern)
+
+form_passes : (kind : Kind) (body : List ℕ) → is_keyed (word_of kind) body ≡ true
+    → (form_of kind).1 (value_in body) ≡ true → has_form (form_of kind).0 body ≡ true
+form_passes kind.Allow body key value =
+    and_from _ (is_pattern (value_in body)) (or_first (is_keyed (codes "allow") body) _ key) value
+form_passes kind.Disallow body key value =
+    and_from _ (is_pattern (value_in body)) (or_second (is_keyed (codes "allow") body) _ key) value
+form_passes kind body key value = and_from (is_keyed (word_of kind) body) _ key value
 
 -- a line with the kind's field name and a value of characters, whose trimmed value is `read`
 module _ (kind : Kind) (value read text : List ℕ) (line : rfc.IsKeyed (word_of kind) value text)
@@ -389,39 +404,14 @@ module _ (kind : Kind) (value read text : List ℕ) (line : rfc.IsKeyed (word_of
         (blanks_after eol.blanks value read eol.are_blanks chars.utf8 trim);
   }
 
-  again : (end : List ℕ) → rfc.IsNl end → rfc.IsKeyed (word_of kind) value (body ++ end)
-  again end is_nl = record {
-    margin = line.margin;
-    key = line.key;
-    blanks = line.blanks;
-    gap = line.gap;
-    eol = eol.blanks ++ (eol.comment ++ end);
-    whole = simp append_assoc;
-    margin_blank = line.margin_blank;
-    is_key = line.is_key;
-    blanks_blank = line.blanks_blank;
-    gap_blank = line.gap_blank;
-    is_eol = record {
-      blanks = eol.blanks;
-      comment = eol.comment;
-      nl = end;
-      whole = refl;
-      are_blanks = eol.are_blanks;
-      is_comment = eol.is_comment;
-      is_nl = is_nl;
-    };
-  }
-
-  -- the line is read as `found`; each line with this field name and value has the form, and passes its test
-  pub keyed_line : (form : Form) (found : LineValue)
+  -- the line is read as `found`
+  pub keyed_line : (found : LineValue)
       → ((body : List ℕ) → line_with kind read body ≡ found)
       → Each IsRead (filter is_not_raw ((found, value) ∷ []))
-      → IsCounted form (filter is_not_raw ((found, value) ∷ []))
-      → ((other : List ℕ) → rfc.IsKeyed (word_of kind) value other → IsLine form other)
-      → ((body : List ℕ) → is_keyed (word_of kind) body ≡ true → value_in body ≡ value
-      → has_form form body ≡ true)
-      → IsLineOf form (filter is_not_raw ((found, value) ∷ [])) text
-  keyed_line form found is is_read counted has passes =
+      → IsCounted (form_of kind).0 (filter is_not_raw ((found, value) ∷ []))
+      → (form_of kind).1 value ≡ true
+      → IsLineOf (form_of kind).0 (filter is_not_raw ((found, value) ∷ [])) text
+  keyed_line found is is_read counted passes =
       let source : ◌≡◌ {A = Source} (source_of body) (found, value) =
       ap (λ found. (found, written body))
       (line_stated body kind read (statement_found kind read body states) ∙ is body)
@@ -436,8 +426,7 @@ module _ (kind : Kind) (value read text : List ℕ) (line : rfc.IsKeyed (word_of
             eol.whole
             ∙ simp append_assoc;
         is_nl = eol.is_nl;
-        again = λ end is_nl. has (body ++ end) (again end is_nl);
-        tested = passes body keyed_passes value_is;
+        tested = form_passes kind body keyed_passes (ap (form_of kind).1 value_is ∙ passes);
         bare =
             named_key.bare
             (each_append IsBare region eol.comment (values_bare region are_values) comment.bare);

@@ -22,4 +22,3 @@ pub mod MatchLemmas
 pub mod NormalLemmas
 pub mod VerdictLemmas
 pub mod ExampleLemmas
-pub mod LongestLemmas

@@ -15,7 +15,8 @@ use Rattle.std.proofs.{lemmas.Bool.ne_eqb, lemmas.List.Elements.recursion_from_A
 use Rattle.texting_robots.specs.{Internal.Cut.bodies_of, Executable.file_bodies, Line.without_front}
 use Rattle.texting_robots.proofs.{CutFromFront.bodies_nil, CutLemmas.byte_cases}
 use Rattle.std.specs.{Prelude.Contains}
-use Rattle.rfc9309_laws.proofs.{ReadLemmas.nothing_replaced, KeyedLemmas.AreFree, OtherLemmas.line_ended}
+use Rattle.rfc9309_laws.proofs.{HasFormLemmas.form_passes, KeyedLemmas.AreFree}
+use Rattle.rfc9309_laws.proofs.{OtherLemmas.form_tested, ReadLemmas.nothing_replaced}
 use Rattle.rfc9309_laws.specs.Rfc9309 as rfc
 
 -- ---- the contents of a text, and the terminators after them
@@ -102,7 +103,7 @@ after_byte b [] text other (nl, is, are) =
     rw (ne_eqb b lf other.1, ne_eqb b cr other.0) (
       lf ∷ [],
       inr (inr (inl refl)),
-      rw (nothing text nl are)
+      rw (nothing _ nl are)
           (byte_before b [] [] (lf ∷ []) other (new_line lf [] [] (inr refl) refl)),
     )
   where
@@ -111,20 +112,20 @@ after_byte b [] text other (nl, is, are) =
     nothing (c ∷ text) nl e = cc
 after_byte b (body ∷ bodies) text other (nl, is, are) =
     rw (ne_eqb b lf other.1, ne_eqb b cr other.0)
-    (nl, is, byte_before b body bodies (text ++ nl) other are)
+    (nl, is, byte_before b _ _ _ other are)
 
 after_step : (b : ℕ) (bodies : List (List ℕ)) (text : List ℕ) → IsCompleted bodies text
     → IsCompleted (body_step b bodies) (b ∷ text)
 after_step b bodies text is = elim (byte_cases b) [
   | inl feed ↦ let (nl, last, are) = is in
-      rw feed (nl, last, new_line lf bodies (text ++ nl) (inr refl) are)
-  | inr (inl return) ↦ rw return (after_return bodies text is)
-  | inr (inr other) ↦ after_byte b bodies text other is
+      rw feed (nl, last, new_line lf bodies _ (inr refl) are)
+  | inr (inl return) ↦ rw return (after_return _ text is)
+  | inr (inr other) ↦ after_byte b _ _ other is
 ]
 
 completed : (text : List ℕ) → IsCompleted (bodies_of text) text
 completed [] = rw bodies_nil ([], inl refl, refl)
-completed (b ∷ text) = rw (step b text) (after_step b (bodies_of text) text (completed text))
+completed (b ∷ text) = rw (step b _) (after_step b _ text (completed _))
 
 -- ---- rules above the first user-agent line
 
@@ -142,7 +143,7 @@ are_free : (forms : List Form) → AreRulesBelowAgents forms → AreFree forms
 are_free [] are = tt
 are_free (Agent ∷ forms) are = tt
 are_free (Rule ∷ forms) are = let (k, within, is) = are [] forms refl in absurd (omega arith)
-are_free (form ∷ forms) are = are_free forms (later form forms (λ e. cc) are)
+are_free (form ∷ forms) are = are_free _ (later form forms (λ e. cc) are)
 
 -- ---- the end of a file
 
@@ -171,9 +172,9 @@ nothing = record {
   members = [];
   groups = [];
   whole = refl;
-  are_members = repeats_none (rfc.IsOneOr rfc.IsMemberLine rfc.IsSkipped);
+  are_members = repeats_none _;
   are_free = λ free. record { units = []; each = tt; whole = refl };
-  are_groups = repeats_none (rfc.IsOneOr rfc.IsWideGroup rfc.IsSkipped);
+  are_groups = repeats_none _;
 }
 
 unit_before : (unit text : List ℕ) → rfc.IsLeadUnit unit → rfc.IsMany rfc.IsLeadUnit text
@@ -210,7 +211,7 @@ module _ {Free : Type 0} (line text : List ℕ) (tail : IsTail Free text) where
   agent_before : (token : List ℕ) → rfc.IsStartGroupLine token line → IsTail (Unit {0}) (line ++ text)
   agent_before token is =
       let group : rfc.Group = record { tokens = token ∷ []; members = tail.members } in
-      let is_group : rfc.IsWideGroup group (line ++ tail.lead) = record {
+      let is_group : rfc.IsWideGroup group _ = record {
         token = token;
         tokens = [];
         start = line;
@@ -218,7 +219,7 @@ module _ {Free : Type 0} (line text : List ℕ) (tail : IsTail Free text) where
         lines = tail.lead;
         whole = refl;
         is_start = is;
-        are_agents = repeats_none (rfc.IsOneOr rfc.IsStartGroupLine rfc.IsSkipped);
+        are_agents = repeats_none _;
         written = refl;
         are_members = tail.are_members;
       } in
@@ -227,12 +228,12 @@ module _ {Free : Type 0} (line text : List ℕ) (tail : IsTail Free text) where
         rest = (line ++ tail.lead) ++ tail.rest;
         members = [];
         groups = group ∷ tail.groups;
-        whole = ap (λ t. line ++ t) tail.whole ∙ sym (append_assoc line tail.lead tail.rest);
-        are_members = repeats_none (rfc.IsOneOr rfc.IsMemberLine rfc.IsSkipped);
+        whole = ap (λ t. line ++ t) tail.whole ∙ sym (append_assoc line _ tail.rest);
+        are_members = repeats_none _;
         are_free = λ free. record { units = []; each = tt; whole = refl };
         are_groups =
             repeats_both (
-            repeats_one (rfc.IsOneOr rfc.IsWideGroup rfc.IsSkipped) (group ∷ []) (line ++ tail.lead)
+            repeats_one _ _ _
             (inl (group, is_group, refl))) tail.are_groups;
       }
 
@@ -245,7 +246,7 @@ form_before Rule forms line text (member, inl is) tail =
 form_before Rule forms line text (member, inr is) tail =
     line_before line text tail (member ∷ []) (inl (member, inr (inl is), refl)) (λ free. absurd free)
 form_before Delay forms line text (member, is) tail =
-    line_before line text tail (member ∷ []) (inl (member, inr (inr is), refl))
+    line_before line text tail _ (inl (member, inr (inr is), refl))
     (λ free. (inl (member, is), free))
 form_before Sitemap forms line text (address, is) tail =
     skipped_before line text tail (inr (inl (address, is)))
@@ -272,7 +273,7 @@ ends_before : {Free : Type 0} (ends text : List ℕ) → Each IsEndByte ends →
     → IsTail Free (ends ++ text)
 ends_before [] text are tail = tail
 ends_before (end ∷ ends) text are tail =
-    skipped_before (end ∷ []) (ends ++ text) (ends_before ends text are.1 tail) (inl (end_empty end are.0))
+    skipped_before (end ∷ []) (ends ++ text) (ends_before ends _ are.1 tail) (inl (end_empty end are.0))
 
 -- ---- the file
 
@@ -283,11 +284,12 @@ tail_of [] (body ∷ bodies) text all are = absurd all
 tail_of (form ∷ forms) [] text all are = absurd all
 tail_of (form ∷ forms) (body ∷ bodies) text (is, all) (bytes, line) =
     let tail = tail_of forms bodies line.rest all line.is_rest in
-    let ended = line_ended body bytes form is (line.end ∷ []) (is_nl line.end line.is_end) in
+    let ended =
+    form_passes form body (line.end ∷ []) (is_nl line.end line.is_end) (form_tested body bytes form is) in
     let after = ends_before line.ends line.rest line.are_ends tail in
     let whole : text ≡ (body ++ line.end ∷ []) ++ (line.ends ++ line.rest) =
     line.whole ∙ simp append_assoc in
-    rw whole (form_before form forms (body ++ line.end ∷ []) (line.ends ++ line.rest) ended after)
+    rw whole (form_before form forms _ _ ended after)
 
 pub forms_make_file : (text : List ℕ) (forms : List Form) → AreForms forms text
     → (groups : List rfc.Group) × rfc.IsFile groups text
@@ -298,8 +300,8 @@ forms_make_file text forms are =
     let no_nul = recursion_from_All (λ byte. byte ≢ 0) text are.no_nul in
     let bodies : file_bodies text ≡ bodies_of rest =
     ap (λ t. bodies_of (without_front t)) (nothing_replaced text no_nul) in
-    let each : AllZip HasForm forms (bodies_of rest) = subst (AllZip HasForm forms) bodies are.each in
-    let tail = tail_of forms (bodies_of rest) (rest ++ nl) each ended in (
+    let each : AllZip HasForm forms _ = subst (AllZip HasForm forms) bodies are.each in
+    let tail = tail_of forms _ (rest ++ nl) each ended in (
       tail.groups,
       record {
         bom = bom;

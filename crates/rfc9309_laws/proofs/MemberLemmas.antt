@@ -15,8 +15,8 @@ use Rattle.rfc9309_laws.proofs.KeyedLemmas.{passes, same_bytes, value_passes}
 use Rattle.rfc9309_laws.proofs.ValueLemmas.{IsVisible, trim_some, trim_utf8, visible_trim, visible_utf8}
 use Rattle.rfc9309_laws.proofs.Sources.{Parts, Source, allowed_in, with_address, with_member, with_source}
 use Rattle.rfc9309_laws.proofs.SyntaxLemmas.{each_weaker}
-use Rattle.rfc9309_laws.specs.HasForm.{are_some, has_byte, has_form, is_digit, is_identifier_byte, is_keyed}
-use Rattle.rfc9309_laws.specs.HasForm.{is_number, is_pattern, is_product_token, is_value_text, value_in}
+use Rattle.rfc9309_laws.specs.HasForm.{are_some, has_byte, is_digit, is_identifier_byte}
+use Rattle.rfc9309_laws.specs.HasForm.{is_number, is_pattern, is_product_token}
 use Rattle.rfc9309_laws.specs.LineForms.{Form, Agent, Rule, Delay, Sitemap}
 use Rattle.std.specs.List.{AllByRecursion as Each}
 use Rattle.std.specs.{Char.IsAsciiDigit, Str.is_utf8}
@@ -33,14 +33,14 @@ abbrev pub IsPlain : ℕ → Type 0
 IsPlain byte = IsVisible byte × (byte ≢ 35)
 
 identifier_plain : (b : ℕ) → rfc.IsIdentifierByte b → IsPlain b
-identifier_plain b is = ((omega arith, omega arith), λ e. omega arith)
+identifier_plain b is = grind arith
 
 pub token_plain : (token : List ℕ) → rfc.IsProductToken token → Each IsPlain token
 token_plain [] is = tt
 token_plain (b ∷ token) (inl is) =
     each_weaker rfc.IsIdentifierByte IsPlain identifier_plain (b ∷ token) is
 token_plain (b ∷ token) (inr is) =
-    subst (Each IsPlain) (sym is) (((omega arith, omega arith), λ e. omega arith), tt)
+    subst (Each IsPlain) (sym is) (grind arith)
 
 -- plain bytes are characters, and trimming leaves them unchanged
 pub plain_text : (bytes : List ℕ) → Each IsPlain bytes → IsCharText bytes × IsTrimOf bytes bytes
@@ -69,10 +69,8 @@ pub token_line : (token text : List ℕ) → rfc.IsStartGroupLine token text
     → IsLineOf Agent ((UserAgent token, token) ∷ []) text
 token_line token text (is, line) =
     let (chars, trim) = plain_text token (token_plain token is) in
-    keyed_line kind.UserAgent token token text line chars trim Agent (UserAgent token) (λ body. refl) (tt, tt)
-    (λ following forms more none. tt) (λ other line. (token, (is, line)))
-    (λ body key value. and_from (is_keyed (codes "user-agent") body) _ key
-    (ap is_product_token value ∙ token_passes token is))
+    keyed_line kind.UserAgent token token text line chars trim (UserAgent token) (λ body. refl) (tt, tt)
+    (λ following forms more none. tt) (token_passes token is)
 
 -- ---- rules
 
@@ -93,10 +91,10 @@ trim_is_utf8 text chars =
     is_utf8-from_IsUtf8 (trimmed text) (trim_utf8 text (trimmed text) chars.utf8 (trimmed_is_trim text))
 
 pub slash_plain : IsPlain 47
-slash_plain = ((omega arith, omega arith), λ e. omega arith)
+slash_plain = grind arith
 
 pub star_plain : IsPlain 42
-star_plain = ((omega arith, omega arith), λ e. omega arith)
+star_plain = grind arith
 
 -- a pattern as it stands in a line: nothing, or a plain byte and characters
 pub record IsRuleValue (value : List ℕ) : Type 0 where
@@ -131,128 +129,79 @@ emptied word value text all line = record {
   is_eol = line.is_eol;
 }
 
--- any line with this field name and this pattern is a line of the member
-abbrev IsMember : List ℕ → rfc.Member → List ℕ → Type 0
-IsMember word member pattern =
-    (other : List ℕ) → rfc.IsKeyed word pattern other → rfc.IsRule member other ⊎ rfc.IsStarRule member other
-
 -- an Allow or a Disallow, by its field name
-record IsRuleLine (word : List ℕ) (member : rfc.Member) (pattern text : List ℕ) : Type 0 where
-  value : IsRuleValue pattern
-  line : rfc.IsKeyed word pattern text
-  again : IsMember word member pattern
+abbrev IsRuleLine : (word pattern text : List ℕ) → Type 0
+IsRuleLine word pattern text = IsRuleValue pattern × rfc.IsKeyed word pattern text
 
-plain_rule : (word pattern text : List ℕ) (member : rfc.Member)
-    → ((other : List ℕ) → rfc.IsRuleWith word pattern other → rfc.IsRule member other)
-    → rfc.IsRuleWith word pattern text → IsRuleLine word member pattern text
-plain_rule word pattern text member is rule = elim rule.is_pattern [
-  | inl (path, same) ↦ rw same (record {
-    value = begun 47 rule.value slash_plain refl path;
-    line = rule.is_line;
-    again = λ other line.
-        inl (is other (record { value = rule.value; is_pattern = inl (path, same); is_line = line }));
-  })
-  | inr (blanks, none) ↦ rw none (record {
-    value = record {
-      chars = (plain_text [] tt).0;
-      passes = refl;
-      plain = λ b text e. cc;
-    };
-    line = emptied word rule.value text blanks rule.is_line;
-    again = λ other line. inl (is other (record { value = []; is_pattern = inr (tt, none); is_line = line }));
-  })
+plain_rule : (word pattern text : List ℕ) → rfc.IsRuleWith word pattern text → IsRuleLine word pattern text
+plain_rule word pattern text rule = elim rule.is_pattern [
+  | inl (path, same) ↦ rw same (begun 47 rule.value slash_plain refl path, rule.is_line)
+  | inr (blanks, none) ↦ rw none (
+    record { chars = (plain_text [] tt).0; passes = refl; plain = λ b text e. cc },
+    emptied word rule.value text blanks rule.is_line,
+  )
 ]
 
-star_rule : (word pattern text : List ℕ) (member : rfc.Member)
-    → ((other : List ℕ) → rfc.IsKeyed word pattern other → rfc.IsStarRule member other)
-    → rfc.IsStarPattern pattern → rfc.IsKeyed word pattern text → IsRuleLine word member pattern text
-star_rule word pattern text member star is line = record {
-  value = begun 42 pattern star_plain refl is;
-  line = line;
-  again = λ other line. inr (star other line);
-}
-
-rule_passes : (pattern body : List ℕ)
-    → (is_keyed (codes "allow") body || is_keyed (codes "disallow") body) ≡ true → value_in body ≡ pattern
-    → is_pattern pattern ≡ true → has_form Rule body ≡ true
-rule_passes pattern body key value is = and_from _ (is_pattern (value_in body)) key (ap is_pattern value ∙ is)
+star_rule : (word pattern text : List ℕ) → rfc.IsStarPattern pattern × rfc.IsKeyed word pattern text
+    → IsRuleLine word pattern text
+star_rule word pattern text (is, line) = (begun 42 pattern star_plain refl is, line)
 
 allow : (pattern read text : List ℕ) → IsTrimOf read pattern → allowed_in pattern read ≡ rfc.Allow pattern
-    → IsRuleLine (codes "allow") (rfc.Allow pattern) pattern text
-    → MemberRead Rule (rfc.Allow pattern) text
-allow pattern read text trim same rule =
-    let chars = rule.value.chars in
+    → IsRuleLine (codes "allow") pattern text → MemberRead Rule (rfc.Allow pattern) text
+allow pattern read text trim same (value, line) =
+    let chars = value.chars in
     let utf8 = is_utf8-from_IsUtf8 read (trim_utf8 pattern read chars.utf8 trim) in
     record {
       source = (Allow read, pattern);
       is_line =
-          keyed_line kind.Allow pattern read text rule.line chars trim Rule (Allow read) (λ body. refl)
+          keyed_line kind.Allow pattern read text line chars trim (Allow read) (λ body. refl)
           (rw (same, utf8) (read, trim, refl), tt)
-          (λ following forms more none. let some = rw same at none in cc)
-          (λ other line. (rfc.Allow pattern, rule.again other line))
-          (λ body key value.
-          rule_passes pattern body (or_first (is_keyed (codes "allow") body) _ key) value rule.value.passes);
+          (λ following forms more none. let some = rw same at none in cc) value.passes;
       written = λ parts. ap (λ member. with_member member parts) same;
       unlisted = λ following. refl;
     }
 
-allow_line : (pattern text : List ℕ) → IsRuleLine (codes "allow") (rfc.Allow pattern) pattern text
+allow_line : (pattern text : List ℕ) → IsRuleLine (codes "allow") pattern text
     → MemberRead Rule (rfc.Allow pattern) text
 allow_line [] text rule = allow [] [] text (visible_trim [] tt) refl rule
 allow_line (b ∷ pattern) text rule =
     allow (b ∷ pattern) (trimmed (b ∷ pattern)) text (trimmed_is_trim (b ∷ pattern)) refl rule
 
-disallow_passes : (pattern body : List ℕ) → is_pattern pattern ≡ true
-    → is_keyed (codes "disallow") body ≡ true → value_in body ≡ pattern → has_form Rule body ≡ true
-disallow_passes pattern body is key value =
-    rule_passes pattern body (or_second (is_keyed (codes "allow") body) _ key) value is
-
-disallow_line : (pattern text : List ℕ) → IsRuleLine (codes "disallow") (rfc.Disallow pattern) pattern text
+disallow_line : (pattern text : List ℕ) → IsRuleLine (codes "disallow") pattern text
     → MemberRead Rule (rfc.Disallow pattern) text
-disallow_line [] text rule =
+disallow_line [] text (_, line) =
     let slash = codes "/" in
     record {
       source = (Allow slash, []);
       is_line =
-          keyed_line kind.Disallow [] [] text rule.line rule.value.chars (visible_trim [] tt) Rule
+          keyed_line kind.Disallow [] [] text line (plain_text [] tt).0 (visible_trim [] tt)
           (Allow slash)
           (λ body. refl)
           (rw (is_utf8-from_IsUtf8 slash (plain_text slash (slash_plain, tt)).0.utf8) refl, tt)
-          (λ following forms more none. cc) (λ other line. (rfc.Disallow [], rule.again other line))
-          (λ body. disallow_passes [] body refl);
+          (λ following forms more none. cc) refl;
       written = λ parts. refl;
       unlisted = λ following. refl;
     }
-disallow_line (b ∷ pattern) text rule =
+disallow_line (b ∷ pattern) text (is, line) =
     let value : List ℕ = b ∷ pattern in
     let read = trimmed value in
     let trim = trimmed_is_trim value in
     record {
       source = (Disallow read, value);
       is_line =
-          keyed_line kind.Disallow value read text rule.line rule.value.chars trim Rule (Disallow read)
-          (λ body. disallowed read body (trim_some b pattern read (rule.value.plain b pattern refl) trim))
-          (rw (trim_is_utf8 value rule.value.chars) (read, trim, refl), tt) (λ following forms more none. cc)
-          (λ other line. (rfc.Disallow value, rule.again other line))
-          (λ body. disallow_passes value body rule.value.passes);
+          keyed_line kind.Disallow value read text line is.chars trim (Disallow read)
+          (λ body. disallowed read body (trim_some b pattern read (is.plain b pattern refl) trim))
+          (rw (trim_is_utf8 value is.chars) (read, trim, refl), tt) (λ following forms more none. cc) is.passes;
       written = λ parts. refl;
       unlisted = λ following. refl;
     }
 
 pub rule_line : (member : rfc.Member) (text : List ℕ) → rfc.IsRule member text ⊎ rfc.IsStarRule member text
     → MemberRead Rule member text
-rule_line (rfc.Allow pattern) text (inl is) =
-    allow_line pattern text
-    (plain_rule (codes "allow") pattern text (rfc.Allow pattern) (λ other line. line) is)
-rule_line (rfc.Allow pattern) text (inr (is, line)) =
-    allow_line pattern text
-    (star_rule (codes "allow") pattern text (rfc.Allow pattern) (λ other line. (is, line)) is line)
-rule_line (rfc.Disallow pattern) text (inl is) =
-    disallow_line pattern text
-    (plain_rule (codes "disallow") pattern text (rfc.Disallow pattern) (λ other line. line) is)
-rule_line (rfc.Disallow pattern) text (inr (is, line)) =
-    disallow_line pattern text
-    (star_rule (codes "disallow") pattern text (rfc.Disallow pattern) (λ other line. (is, line)) is line)
+rule_line (rfc.Allow pattern) text (inl is) = allow_line pattern text (plain_rule _ pattern text is)
+rule_line (rfc.Allow pattern) text (inr is) = allow_line pattern text (star_rule _ pattern text is)
+rule_line (rfc.Disallow pattern) text (inl is) = disallow_line pattern text (plain_rule _ pattern text is)
+rule_line (rfc.Disallow pattern) text (inr is) = disallow_line pattern text (star_rule _ pattern text is)
 rule_line (rfc.Delay number) text (inl is) = absurd is
 rule_line (rfc.Delay number) text (inr is) = absurd is
 
@@ -280,7 +229,7 @@ record Numbered (number : List ℕ) : Type 0 where
   passes : is_number number ≡ true
 
 digit_plain : (b : ℕ) → rfc.IsDigitByte b → IsPlain b
-digit_plain b is = ((omega arith, omega arith), λ e. omega arith)
+digit_plain b is = grind arith
 
 -- a number that begins with a digit has no sign, so it denotes a delay
 numbered_by : (d : ℕ) (rest units fraction : List ℕ) → rfc.IsDigitByte d
@@ -321,7 +270,7 @@ whole_numbered (d ∷ ds) is =
     }) digits.1 (or_first (are_some is_digit (d ∷ ds)) _ (digits_pass (d ∷ ds) is))
 
 point_plain : Each IsPlain (codes ".")
-point_plain = (((omega arith, omega arith), λ e. omega arith), tt)
+point_plain = grind arith
 
 parts_numbered : (units fraction : List ℕ) → rfc.IsDigits units → rfc.IsDigits fraction
     → Numbered (units ++ (codes "." ++ fraction))
@@ -362,12 +311,9 @@ delay_line (rfc.Delay number) text (is, line) =
     record {
       source = (CrawlDelay (Some n.delay), number);
       is_line =
-          keyed_line kind.CrawlDelay number number text line chars trim Delay (CrawlDelay (Some n.delay))
+          keyed_line kind.CrawlDelay number number text line chars trim (CrawlDelay (Some n.delay))
           (λ body. ap (λ delay. delay_or_raw delay body) n.is)
-          ((one_delay number (Some n.delay)).1 (sym n.is), tt) (λ following forms more none. more none)
-          (λ other line. (rfc.Delay number, (is, line)))
-          (λ body key value. and_from (is_keyed (codes "crawl-delay") body) _ key
-          (ap is_number value ∙ n.passes));
+          ((one_delay number (Some n.delay)).1 (sym n.is), tt) (λ following forms more none. more none) n.passes;
       written = λ parts. refl;
       unlisted = λ following. refl;
     }
@@ -387,8 +333,5 @@ sitemap_line address text (is, line) =
     let chars = chars_text address is in
     let value = trimmed address in
     let trim = trimmed_is_trim address in
-    keyed_line kind.Sitemap address value text line chars trim Sitemap (library.Sitemap value) (λ body. refl)
-    ((rw (trim_is_utf8 address chars) refl, trim), tt) (λ following forms more none. more none)
-    (λ other line. (address, (is, line)))
-    (λ body key value. and_from (is_keyed (codes "sitemap") body) _ key
-    (ap is_value_text value ∙ value_passes address chars))
+    keyed_line kind.Sitemap address value text line chars trim (library.Sitemap value) (λ body. refl)
+    ((rw (trim_is_utf8 address chars) refl, trim), tt) (λ following forms more none. more none) (value_passes address chars)

@@ -25,7 +25,8 @@ use Rattle.std.proofs.{lemmas.Bool.Decides.nat_tests, lemmas.List.map-append}
 use Rattle.std.proofs.{lemmas.Map.Views.Contains-from_any, lemmas.Slice.Eq.bytes_eq-Decides}
 use Rattle.texting_robots.specs.{declared.parser.statement.Kind.Kind}
 use Rattle.texting_robots.proofs.{TrimLemmas.each_append}
-use Rattle.rfc9309_laws.proofs.{SyntaxLemmas.each_weaker}
+use Rattle.rfc9309_laws.proofs.SyntaxLemmas.{each_back, each_weaker}
+use Rattle.std.proofs.lemmas.List.{append_cancel_right}
 use Rattle.rfc9309_laws.specs.Rfc9309 as rfc
 
 -- ---- empty lines and comments
@@ -49,15 +50,6 @@ empty_line text eol =
       nl = eol.nl;
       whole = eol.whole ∙ sym (append_assoc eol.blanks eol.comment eol.nl);
       is_nl = eol.is_nl;
-      again = λ end is_nl. record {
-        blanks = eol.blanks;
-        comment = eol.comment;
-        nl = end;
-        whole = append_assoc eol.blanks eol.comment end;
-        are_blanks = eol.are_blanks;
-        is_comment = eol.is_comment;
-        is_nl = is_nl;
-      };
       tested =
           and_from _ _
           (ap (list_all is_blank) parts.before
@@ -210,20 +202,6 @@ module _ (text : List ℕ) (o : rfc.IsOtherLine text) where
         nl = o.nl;
         whole = o.whole ∙ simp append_assoc;
         is_nl = o.is_nl;
-        again = λ end is_nl. record {
-          margin = o.margin;
-          name = o.name;
-          blanks = o.blanks;
-          value = o.value;
-          nl = end;
-          whole = simp append_assoc;
-          margin_blank = o.margin_blank;
-          is_name = o.is_name;
-          is_other = o.is_other;
-          blanks_blank = o.blanks_blank;
-          is_value = o.is_value;
-          is_nl = is_nl;
-        };
         tested =
             and_from _ _
             (and_from (has_byte colon body) _ line.has (ap is_other_name line.name ∙ other_passes))
@@ -249,28 +227,18 @@ line_of Other text is = ([], other_line text is)
 -- what precedes the terminator is the content
 before_end : (body front nl : List ℕ) → Each IsBodyByte body → rfc.IsNl nl
     → body ++ lf ∷ [] ≡ front ++ nl → front ≡ body
-before_end [] [] nl bytes is e = refl
-before_end [] (f ∷ front) nl bytes is e = absurd (none front nl is (ap rest e))
-  where
-    rest : List ℕ → List ℕ
-    rest [] = []
-    rest (b ∷ text) = text
+before_end body front nl bytes is e =
+    let no_cr = each_append (λ b. b ≢ cr) body (lf ∷ [])
+    (each_weaker IsBodyByte (λ b. b ≢ cr) (λ b byte. byte.0) body bytes) ((λ e. cc), tt) in
+    let last = each_back (λ b. b ≢ cr) front nl (subst (Each (λ b. b ≢ cr)) e no_cr) in
+    elim is [
+      | inl return ↦ absurd ((rw return at last).0 refl)
+      | inr (inl feed) ↦
+          sym (append_cancel_right body front (lf ∷ []) (e ∙ ap (λ end. front ++ end) feed))
+      | inr (inr two) ↦ absurd ((rw two at last).0 refl)
+    ]
 
-    none : (front nl : List ℕ) → rfc.IsNl nl → [] ≡ front ++ nl → ⊥
-    none [] nl (inl is) e = cc
-    none [] nl (inr (inl is)) e = cc
-    none [] nl (inr (inr is)) e = cc
-    none (b ∷ front) nl is e = cc
-before_end (b ∷ body) [] nl bytes (inl is) e = let same : b ≡ cr = cc in absurd (bytes.0.0 same)
-before_end (b ∷ body) [] nl bytes (inr (inl is)) e = let same : b ≡ lf = cc in absurd (bytes.0.1 same)
-before_end (b ∷ body) [] nl bytes (inr (inr is)) e = let same : b ≡ cr = cc in absurd (bytes.0.0 same)
-before_end (b ∷ body) (f ∷ front) nl bytes is e =
-    let same : f ≡ b = cc in
-    let later : body ++ lf ∷ [] ≡ front ++ nl = cc in
-    let others = before_end body front nl bytes.1 is later in
-    cc
-
--- what is known of a line with this content, whichever terminator follows it
+-- a content that has the form passes its test
 module _ (body : List ℕ) (bytes : Each IsBodyByte body) (form : Form) (is : HasForm form body) where
   abbrev line : (sources : List Source) × IsLineOf form sources (body ++ lf ∷ [])
   line = line_of form (body ++ lf ∷ []) is
@@ -280,9 +248,6 @@ module _ (body : List ℕ) (bytes : Each IsBodyByte body) (form : Form) (is : Ha
 
   pub form_tested : has_form form body ≡ true
   form_tested = subst (λ b. has_form form b ≡ true) content line.1.tested
-
-  pub line_ended : (end : List ℕ) → rfc.IsNl end → IsLine form (body ++ end)
-  line_ended end is_nl = subst (λ b. IsLine form (b ++ end)) content (line.1.again end is_nl)
 
 -- only an empty line has an empty content
 pub only_empty : (form : Form) → HasForm form [] → form ≡ Empty

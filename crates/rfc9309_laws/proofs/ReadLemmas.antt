@@ -46,7 +46,7 @@ low_append [] ys low more = more
 low_append (x ∷ xs) ys low more = low
 
 pub bare_no_nul : (body : List ℕ) → Each IsBare body → Each (λ byte. byte ≢ 0) body
-bare_no_nul = each_weaker IsBare (λ byte. byte ≢ 0) (λ byte is e. omega arith)
+bare_no_nul = each_weaker _ (λ byte. byte ≢ 0) (λ byte is e. omega arith)
 
 pub end_bytes : (nl : List ℕ) → IsNl nl → Each (λ byte. byte ≢ 0) nl × BeginsLow nl
 end_bytes nl (inl is) = rw is (((λ e. cc), tt), omega arith)
@@ -68,11 +68,11 @@ after_return ((b ∷ body) ∷ bodies) =
     record { later = (b ∷ body) ∷ bodies; whole = refl; same = inl refl }
 
 end_before : (nl rest : List ℕ) → IsNl nl → IsBefore [] (bodies_of (nl ++ rest)) (bodies_of rest)
-end_before nl rest (inl is) = rw (is, step cr rest) (after_return (bodies_of rest))
+end_before nl rest (inl is) = rw (is, step cr _) (after_return _)
 end_before nl rest (inr (inl is)) =
-    rw (is, step lf rest) (record { later = bodies_of rest; whole = refl; same = inl refl })
+    rw (is, step lf _) (record { later = bodies_of rest; whole = refl; same = inl refl })
 end_before nl rest (inr (inr is)) =
-    rw (is, step cr (lf ∷ rest), step lf rest)
+    rw (is, step cr _, step lf _)
     (record { later = bodies_of rest; whole = refl; same = inl refl })
 
 pub line_before : (body nl rest : List ℕ) → Each IsBare body → IsNl nl
@@ -84,7 +84,7 @@ line_before (b ∷ body) nl rest bare is =
     record {
       later = later.later;
       whole =
-          step b (body ++ (nl ++ rest)) ∙ ap (body_step b) later.whole
+          step b _ ∙ ap (body_step b) later.whole
           ∙ rw (ne_eqb b lf (λ e. omega arith), ne_eqb b cr (λ e. omega arith)) refl;
       same = later.same;
     }
@@ -118,7 +118,7 @@ byte_more : (b : ℕ) (bodies : List (List ℕ))
     → IsSameOrMore (body_step b (bodies ++ [] ∷ [])) (body_step b bodies)
 byte_more b bodies = elim (byte_cases b) [
   | inl feed ↦ rw feed (inr refl)
-  | inr (inl return) ↦ rw return (return_more bodies)
+  | inr (inl return) ↦ rw return (return_more _)
   | inr (inr other) ↦ rw (ne_eqb b lf other.1, ne_eqb b cr other.0) (at bodies)
 ]
   where
@@ -129,7 +129,7 @@ byte_more b bodies = elim (byte_cases b) [
 one_end : (nl : List ℕ) → IsNl nl → bodies_of nl ≡ [] ∷ []
 one_end nl (inl is) = rw (is, step cr [], bodies_nil) refl
 one_end nl (inr (inl is)) = rw (is, step lf [], bodies_nil) refl
-one_end nl (inr (inr is)) = rw (is, step cr (lf ∷ []), step lf [], bodies_nil) refl
+one_end nl (inr (inr is)) = rw (is, step cr _, step lf [], bodies_nil) refl
 
 pub end_more : (text nl : List ℕ) → IsLastNl nl
     → IsSameOrMore (bodies_of (text ++ nl)) (bodies_of text)
@@ -145,9 +145,9 @@ end_more text nl (inr is) = at text
 
 -- a terminator after the last line changes no source line
 pub last_end_adds_none : (text nl : List ℕ) → IsLastNl nl → sources_of (text ++ nl) ≡ sources_of text
-last_end_adds_none text nl is = elim (end_more text nl is) [
+last_end_adds_none text nl is = elim (end_more _ nl is) [
   | inl same ↦ ap sources_in same
-  | inr more ↦ ap sources_in more ∙ at (bodies_of text)
+  | inr more ↦ ap sources_in more ∙ at (bodies_of _)
 ]
   where
     at : (bodies : List (List ℕ)) → sources_in (bodies ++ [] ∷ []) ≡ sources_in bodies
@@ -203,4 +203,4 @@ lines_kept (body ∷ bodies) = elim (cases_Bool (is_kept (line_of body))) [
 pub file_same : (text agent : List ℕ)
     → Same agent (file_lines text) agent (lines_in (file_sources text))
 file_same text agent =
-    raw_changes_nothing agent (file_lines text) (lines_in (file_sources text)) (lines_kept (file_bodies text))
+    raw_changes_nothing agent (file_lines text) _ (lines_kept _)

@@ -30,7 +30,7 @@ repeats_weaker P Q weaker items text is = record {
   each =
       each_weaker (λ unit. rfc.IsOneOr P rfc.IsEmptyLine unit.items unit.bytes)
       (λ unit. rfc.IsOneOr Q rfc.IsSkipped unit.items unit.bytes)
-      (λ unit. one_or unit.items unit.bytes) is.units is.each;
+      (λ unit. one_or unit.items unit.bytes) _ is.each;
   written = is.written;
   whole = is.whole;
 }
@@ -49,11 +49,11 @@ group_is_wide group text is = record {
   whole = is.whole;
   is_start = is.is_start;
   are_agents =
-      repeats_weaker rfc.IsStartGroupLine rfc.IsStartGroupLine (λ token text is. is) is.tokens is.agents
+      repeats_weaker _ _ (λ token text is. is) _ _
       is.are_agents;
   written = is.written;
   are_members =
-      repeats_weaker rfc.IsRule rfc.IsMemberLine (λ member text is. inl is) group.members is.lines
+      repeats_weaker _ _ (λ member text is. inl is) _ _
       is.are_members;
 }
 
@@ -66,12 +66,12 @@ robotstxt_is_file text groups is = record {
   whole = refl;
   is_bom = inl refl;
   is_nl = inl refl;
-  is_content = subst (rfc.IsWideFile groups) (sym (append-nil text)) (record {
+  is_content = subst (rfc.IsWideFile _) (sym (append-nil _)) (record {
     front = [];
     rest = text;
     whole = refl;
     is_front = record { units = []; each = tt; whole = refl };
-    are_groups = repeats_weaker rfc.IsGroup rfc.IsWideGroup group_is_wide groups text is;
+    are_groups = repeats_weaker _ _ group_is_wide _ _ is;
   });
 }
 
@@ -81,10 +81,10 @@ pub rules_read : (text agent : List ℕ) (numbers : List (List ℕ)) (groups : L
     → AllZip IsReadAs (rfc.rules_for agent (rfc.merged groups)) (rules_for agent (file_lines text))
 rules_read text agent numbers groups is =
     rw (← groups_written text numbers groups is, (file_same text agent).0.rules) (
-    rules_written agent (file_sources text) is.none is.read)
+    rules_written agent _ is.none is.read)
 
 lines_are : (text : List ℕ) → AreFileLinesOf (file_lines text) text
-lines_are text = (each_text_has_its_lines (map nul_as_lf text) (file_lines text)).1 refl
+lines_are text = (each_text_has_its_lines _ _).1 refl
 
 all_delays : (numbers : List (List ℕ)) → filter is_delay (map rfc.Delay numbers) ≡ map rfc.Delay numbers
 all_delays [] = refl
@@ -129,7 +129,7 @@ rejected_as agent text groups file rejected =
       rules_for agent lines,
       rules_read text agent numbers groups read,
       (rejection_is_computed agent lines).0
-          (of_lines text (IsRejected agent) rejected lines (lines_are text)),
+          (of_lines text _ rejected lines (lines_are text)),
     )
 
 -- a file whose lines have the forms has groups, delays and sitemaps, and the robot is theirs

@@ -108,7 +108,7 @@ with_delay number parts = with_member (rfc.Delay number) parts
 members_put : (members : List rfc.Member) (parts : Parts)
     → onto with_member members parts ≡ parts_of (members ++ parts.ungrouped) parts.groups
 members_put [] parts = refl
-members_put (member ∷ members) parts = ap (with_member member) (members_put members parts)
+members_put (member ∷ members) parts = ap (with_member _) (members_put members _)
 
 -- adding tokens twice is the same as adding them at once
 pub put_both : (tokens more : List (List ℕ)) (members : List rfc.Member) (later : List rfc.Group)
@@ -122,26 +122,26 @@ tokens_put : (token : List ℕ) (tokens : List (List ℕ)) (parts : Parts)
     → onto with_token (token ∷ tokens) parts ≡ with_tokens (token ∷ tokens) parts
 tokens_put token [] parts = refl
 tokens_put token (next ∷ tokens) parts =
-    ap (with_token token) (tokens_put next tokens parts)
-    ∙ ap (parts_of []) (put_both (token ∷ []) (next ∷ tokens) parts.ungrouped parts.groups)
+    ap (with_token _) (tokens_put next tokens _)
+    ∙ ap (parts_of []) (put_both _ _ _ _)
 
 -- adding a group's tokens and members one by one is the same as adding the group at once
 pub group_put : (token : List ℕ) (tokens : List (List ℕ)) (group : rfc.Group) (parts : Parts)
     → group.tokens ≡ token ∷ tokens
     → onto with_token (token ∷ tokens) (onto with_member group.members parts) ≡ with_group group parts
 group_put token tokens group parts same =
-    rw (same, members_put group.members parts)
-    (tokens_put token tokens (parts_of (group.members ++ parts.ungrouped) parts.groups))
+    rw (same, members_put _ _)
+    (tokens_put _ _ _)
 
 pub groups_put : (groups : List rfc.Group)
     → onto with_group groups (parts_of [] []) ≡ parts_of [] (rfc.merged groups)
 groups_put [] = refl
 groups_put (group ∷ later) =
-    ap (with_group group) (groups_put later)
-    ∙ ap (λ m. with_tokens group.tokens (parts_of m (rfc.merged later))) (append-nil group.members)
+    ap (with_group _) (groups_put later)
+    ∙ ap (λ m. with_tokens group.tokens (parts_of m _)) (append-nil group.members)
 
 -- delays are added to the members before any token
 pub delays_put : (numbers : List (List ℕ)) (parts : Parts)
     → onto with_delay numbers parts ≡ parts_of (map rfc.Delay numbers ++ parts.ungrouped) parts.groups
 delays_put [] parts = refl
-delays_put (number ∷ numbers) parts = ap (with_delay number) (delays_put numbers parts)
+delays_put (number ∷ numbers) parts = ap (with_delay _) (delays_put numbers _)

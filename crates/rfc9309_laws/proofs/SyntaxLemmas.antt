@@ -14,6 +14,10 @@ pub each_front : {X : Type 0} (P : X → Type 0) (xs ys : List X) → Each P (xs
 each_front P [] ys all = tt
 each_front P (x ∷ xs) ys all = (all.0, each_front P xs ys all.1)
 
+pub each_back : {X : Type 0} (P : X → Type 0) (xs ys : List X) → Each P (xs ++ ys) → Each P ys
+each_back P [] ys all = all
+each_back P (x ∷ xs) ys all = each_back P xs ys all.1
+
 -- from a computed test of all items to a property of each item
 pub passing : {X : Type 0} (P : X → Type 0) (test : X → Bool) → ((x : X) → test x ≡ true → P x)
     → (xs : List X) → list_all test xs ≡ true

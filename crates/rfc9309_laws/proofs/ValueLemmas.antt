@@ -39,7 +39,7 @@ pub same_word : (word other rest more : List ℕ) → IsWordBefore word rest →
     → word ++ rest ≡ other ++ more → (word ≡ other) × (rest ≡ more)
 same_word [] [] rest more is also e = (refl, e)
 same_word (b ∷ word) (c ∷ other) rest more is also e =
-    let next = same_word word other rest more (is.0.1, is.1) (also.0.1, also.1) (cc) in
+    let next = same_word word _ _ _ (is.0.1, is.1) (also.0.1, also.1) (cc) in
     let first : b ≡ c = cc in
     let words = next.0 in
     (cc, next.1)
@@ -57,7 +57,7 @@ identifier_bounds b is = (omega arith, omega arith, λ e. omega arith)
 
 pub blank_no_letter : (b : ℕ) → rfc.IsWs b → rfc.IsIdentifierByte (to_ascii_lowercase b) → ⊥
 blank_no_letter b is letter =
-    let bounds = identifier_bounds (to_ascii_lowercase b) letter in grind (arith, nat_tests)
+    let bounds = identifier_bounds _ letter in grind (arith, nat_tests)
 
 -- ---- computed tests
 
@@ -66,7 +66,7 @@ identifier_byte b is = grind (arith, nat_tests)
 
 pub identifier : (word : List ℕ) → list_all is_identifier_byte word ≡ true
     → Each rfc.IsIdentifierByte word
-identifier = passing rfc.IsIdentifierByte is_identifier_byte identifier_byte
+identifier = passing _ is_identifier_byte identifier_byte
 
 -- ---- accepted field names
 
@@ -96,13 +96,13 @@ is_written spelling = is_one_word spelling || list_any (bytes_eq spelling) two_w
 
 listed : (names : List (List ℕ)) (name : List ℕ) → list_any (bytes_eq name) names ≡ true
     → Contains names name
-listed names name is = Contains-from_any (λ xs ys. (bytes_eq-Decides xs ys).0) name names is
+listed names name is = Contains-from_any (λ xs ys. (bytes_eq-Decides xs ys).0) name _ is
 
 one_word : (word : List ℕ) → is_one_word word ≡ true
     → rfc.IsIdentifier word × Contains rfc.names_read word
 one_word [] is = absurd (false≢true is)
 one_word (b ∷ word) is =
-    let both = and_parts (list_all is_identifier_byte (b ∷ word)) _ is in
+    let both = and_parts _ _ is in
     (identifier (b ∷ word) both.0, listed rfc.names_read (b ∷ word) both.1)
 
 two : (b : ℕ) (word : List ℕ) (c : ℕ) (back : List ℕ)
@@ -121,8 +121,8 @@ two b word c back is =
 
 are_two : Each IsTwoWords two_words
 are_two = (
-  two 117 (codes "ser") 97 (codes "gent") refl,
-  (two 115 (codes "ite") 109 (codes "ap") refl, (two 99 (codes "rawl") 100 (codes "elay") refl, tt)),
+  two 117 (codes "ser") 97 _ refl,
+  (two 115 (codes "ite") 109 _ refl, (two 99 (codes "rawl") 100 _ refl, tt)),
 )
 
 all_written : (kind : Kind) → list_all is_written (field_names kind) ≡ true
@@ -133,7 +133,7 @@ pub written : (kind : Kind) (s : List ℕ) → Contains (field_names kind) s →
 written kind s has =
     let all = AllPass-from_list_all is_written (field_names kind) (all_written kind) in
     let is = All-contains (λ s. is_written s ≡ true) (field_names kind) s all has in
-    elim (or_cases (is_one_word s) (list_any (bytes_eq s) two_words) is) [
+    elim (or_cases _ _ is) [
       | inl one ↦ inl (one_word s one)
       | inr other ↦ inr (All-contains IsTwoWords two_words s
           (All-from_recursion IsTwoWords two_words are_two) (listed two_words s other))
@@ -157,9 +157,9 @@ spaces_begin : (s rest text : List ℕ) (b : ℕ) → IsVisible b → IsSpaces s
 spaces_begin s rest text b visible ([], all, is) e = is
 spaces_begin s rest text b visible (c ∷ cs, all, is) e =
     let whole : b ∷ text ≡ encode_utf8 c ++ (encode_utf8_all cs ++ rest) =
-    e ∙ ap (λ t. t ++ rest) is ∙ append_assoc (encode_utf8 c) (encode_utf8_all cs) rest in
+    e ∙ ap (λ t. t ++ rest) is ∙ append_assoc _ _ rest in
     let same : c ≡ b =
-    char_from_byte (b ∷ text) (encode_utf8_all cs ++ rest) c whole (omega arith) (omega arith) in
+    char_from_byte _ _ c whole (omega arith) (omega arith) in
     let clash : true ≡ false = sym all.0 ∙ ap is_whitespace same ∙ (grind (arith, nat_tests)) in
     cc
 
@@ -168,7 +168,7 @@ scalar_spaces [] all = refl
 scalar_spaces (c ∷ cs) all = rw (white_scalar c all.0) (scalar_spaces cs all.1)
 
 spaces_utf8 : (s : List ℕ) → IsSpaces s → IsUtf8 s
-spaces_utf8 s (chars, all, is) = (chars, (scalar_spaces chars all, sym is))
+spaces_utf8 s (chars, all, is) = (chars, (scalar_spaces _ all, sym is))
 
 -- ---- trims
 
@@ -177,7 +177,7 @@ pub blanks_after : (blanks region value : List ℕ) → Each IsBlank blanks → 
     → IsTrimOf value region
     → IsTrimOf value (region ++ blanks)
 blanks_after blanks region value all utf8 =
-    same_trim (region ++ blanks) region value (trailing_blanks region blanks utf8 all)
+    same_trim _ _ _ (trailing_blanks _ _ utf8 all)
 
 -- trimming leaves visible bytes unchanged
 pub visible_trim : (bytes : List ℕ) → Each IsVisible bytes → IsTrimOf bytes bytes
@@ -185,31 +185,31 @@ visible_trim [] all = rw (drop-nil, take-nil) at (trimmed_is_trim [])
 visible_trim (b ∷ bytes) all =
     let last = All-from_recursion IsVisible (b ∷ bytes) all (length bytes) 0 (omega arith) in
     subst (λ v. IsTrimOf v (b ∷ bytes))
-    (graphic_trim b bytes (visible_graphic b all.0) (visible_graphic _ last)) (trimmed_is_trim (b ∷ bytes))
+    (graphic_trim b bytes (visible_graphic b all.0) (visible_graphic _ last)) (trimmed_is_trim _)
 
 -- visible bytes are UTF-8
 pub visible_utf8 : (bytes : List ℕ) → Each IsVisible bytes → IsUtf8 bytes
 visible_utf8 bytes all =
-    let each = All-from_recursion IsVisible bytes all in
-    IsUtf8-from_ascii bytes
-    (IsAscii-from_all bytes (λ i d within. let visible = each i d within in omega arith))
+    let each = All-from_recursion _ _ all in
+    IsUtf8-from_ascii _
+    (IsAscii-from_all _ (λ i d within. let visible = each i d within in omega arith))
 
 -- the rest of a UTF-8 string after leading characters is UTF-8
 after_spaces : (chars text rest : List ℕ) → IsUtf8 text → text ≡ encode_utf8_all chars ++ rest
     → IsUtf8 rest
 after_spaces [] text rest utf8 e = subst IsUtf8 e utf8
 after_spaces (c ∷ cs) text rest utf8 e =
-    let whole = e ∙ append_assoc (encode_utf8 c) (encode_utf8_all cs) rest in
-    after_spaces cs (encode_utf8_all cs ++ rest) rest
-    (IsUtf8-past_char text (encode_utf8_all cs ++ rest) c utf8 whole) refl
+    let whole = e ∙ append_assoc _ _ rest in
+    after_spaces cs _ rest
+    (IsUtf8-past_char text _ c utf8 whole) refl
 
 -- trimming UTF-8 gives UTF-8
 pub trim_utf8 : (region value : List ℕ) → IsUtf8 region → IsTrimOf value region → IsUtf8 value
 trim_utf8 region value utf8 t =
     let rest = value ++ t.back in
     let whole = t.whole ∙ ap (λ f. f ++ rest) t.front_spaces.2 in
-    subst IsUtf8 (take_at value t.back (length value) refl)
-    (IsUtf8-take rest (length value) (after_spaces t.front_spaces.0 region rest utf8 whole)
+    subst IsUtf8 (take_at value t.back _ refl)
+    (IsUtf8-take rest _ (after_spaces _ region rest utf8 whole)
     (IsCharBoundary-at_seam rest value t.back refl (spaces_utf8 t.back t.back_spaces)))
 
 -- trimming a string that begins with a visible byte leaves at least one byte
@@ -217,7 +217,7 @@ pub trim_some : (x : ℕ) (region value : List ℕ) → IsVisible x → IsTrimOf
     → value ≢ []
 trim_some x region value visible t e =
     let front : t.front ≡ [] =
-    spaces_begin t.front (value ++ t.back) region x visible t.front_spaces t.whole in
+    spaces_begin _ _ region x visible t.front_spaces t.whole in
     let whole : x ∷ region ≡ t.back ++ [] =
     t.whole ∙ ap (λ f. f ++ (value ++ t.back)) front ∙ ap (λ v. v ++ t.back) e
     ∙ sym (append-nil t.back) in

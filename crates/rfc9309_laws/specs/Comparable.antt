@@ -76,7 +76,7 @@ IsPathOf members path = Contains members (rfc.Allow path) ⊎ Contains members (
 -- - `fit`: the rules are in normal form, when escaped, or have a twin that is;
 -- - `counted`: the octets of a rule are counted in its normal form, or this count is the same;
 -- - `empty`: beside an empty Disallow, which this library reads as an Allow of `/`, each Disallow that isn't
---   empty has more than one octet, so that it isn't `/` or `*`; or there is an Allow of these.
+--   empty has more than one octet, so that it isn't `/` or `*`.
 pub record AreComparable (stays : Reading) (count : List ℕ → ℕ) (members : List rfc.Member) (uri : List ℕ)
     : Type 0 where
   pub normal : normal_uri stays uri ≡ uri
@@ -85,5 +85,4 @@ pub record AreComparable (stays : Reading) (count : List ℕ → ℕ) (members :
   pub fit : (member : rfc.Member) → Contains members member → IsFit stays members member
   pub counted : (path : List ℕ) → IsPathOf members path → count path ≡ octets stays path
   pub empty : Contains members (rfc.Disallow []) → (path : List ℕ) → Contains members (rfc.Disallow path)
-      → path ≢ [] → (1 < octets stays path) ⊎ ((octets stays path ≡ 1)
-      × (Contains members (rfc.Allow (codes "/")) ⊎ Contains members (rfc.Allow (codes "*"))))
+      → path ≢ [] → 1 < octets stays path

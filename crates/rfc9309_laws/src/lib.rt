@@ -1,5 +1,5 @@
-//! The grammar of RFC 9309, section 2.2, and what this library does with a file that follows it: theorems about the
-//! specification, each written as the contract of an empty function.
+//! The grammar of RFC 9309, section 2.2, and what this library does with a file that follows it: theorems
+//! about the specification, each written as the contract of an empty function.
 #![tactic(auto)]
 
 pub mod verdict;

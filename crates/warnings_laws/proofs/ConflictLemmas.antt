@@ -240,7 +240,7 @@ conflict_holds is_empty lines number other agent is =
 -- ---- patterns that are compared alike
 
 -- a pattern is compared as it is, unless it is `*`
-pub star_or_same : (pattern : List ℕ)
+star_or_same : (pattern : List ℕ)
     → (compared pattern ≡ pattern) ⊎ ((pattern ≡ codes "*") × (compared pattern ≡ codes "/"))
 star_or_same pattern = elim (cases_Bool (bytes_eq pattern (codes "*"))) [
   | inl is ↦ inr ((bytes_eq-Decides pattern (codes "*")).0 is, rw is refl)

@@ -201,7 +201,7 @@ empty_disallows name file labels number are = (
         labels_zip labels bodies
         (subst (λ lines. AllZip IsLineOf lines bodies) (sym are.lines_are) (zips file))
 
-abbrev root : List ℕ
+abbrev pub root : List ℕ
 root = codes "/"
 
 -- ---- the warning
@@ -305,7 +305,7 @@ module _ (agent file : List ℕ) (rules : List PlacedRule)
   value_of false value same = cc
 
   -- an empty Disallow gives the rule `/`, which allows
-  rule_there : (placed : PlacedRule) → Contains rules placed → IsEmptyDisallow bodies placed.line
+  pub rule_there : (placed : PlacedRule) → Contains rules placed → IsEmptyDisallow bodies placed.line
       → placed.rule ≡ (root, true)
   rule_there placed has (position, body, is, at, stated) =
       let (here, on, holds) = (are.held placed).0 has in
@@ -384,7 +384,7 @@ module _ (agent file : List ℕ) (rules : List PlacedRule)
         )
 
     -- beside an empty Disallow and a Disallow of everything, there is an Allow of everything
-    pub allow_beside : (allow deny : PlacedRule) → Contains rules allow → is_empty allow.line ≡ true
+    allow_beside : (allow deny : PlacedRule) → Contains rules allow → is_empty allow.line ≡ true
         → Contains rules deny → deny.rule.1 ≡ false → compared deny.rule.0 ≡ root
         → (one : PlacedRule) × Contains rules one × (one.rule.1 ≡ true) × (compared one.rule.0 ≡ root)
         × (is_empty one.line ≡ false)

@@ -9,7 +9,6 @@ pub mod SplitLemmas
 pub mod PathLemmas
 pub mod RuleLemmas
 pub mod TwinLemmas
-pub mod CaughtLemmas
 pub mod ConflictLemmas
 pub mod EmptyDisallowLemmas
 pub mod RepeatedLemmas

@@ -113,7 +113,8 @@ no_odd_octet : (value : List ℕ) → holds_otherwise value ≡ false → has_od
     → list_any stays_odd value ≡ false
 no_odd_octet value held odd =
     let before = (or_parts (has_any (codes "\t\\^{}") (before_byte 63 value)) _ held).0 in
-    let (anywhere, parts) = or_parts (has_any (codes "|\"<>`") value) _ odd in
+    let (first, parts) = or_parts (has_any (codes "|\"<>`") value || _) _ odd in
+    let (anywhere, percents) = or_parts (has_any (codes "|\"<>`") value) _ first in
     let after = (or_parts (has_any (codes "\\^{}'") (after_byte 63 value)) _ parts).0 in
     let one = λ (b : ℕ). has b (codes "\\^{}") in
     any_both one (λ b. has b (codes "|\"<>`")) stays_odd (λ b first second. grind (arith, nat_tests)) value

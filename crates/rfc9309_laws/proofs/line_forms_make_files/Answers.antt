@@ -1,3 +1,4 @@
+use Rattle.std.proofs.Common.{inl, inr, refl}
 use Rattle.std.proofs.{lemmas.List.Elements.recursion_from_All}
 use Rattle.texting_robots.specs.{Cut.IsBodyByte}
 use Rattle.rfc9309_laws.proofs.{OtherLemmas.form_tested, FormsOfFileLemmas.file_has_forms}
@@ -11,7 +12,7 @@ pub returns-clause-only : goal.returns-clause-only
 returns-clause-only c = file_has_forms
 
 pub returns-clause-test : goal.returns-clause-test
-returns-clause-test c = form_passes
+returns-clause-test c = λ form body. form_passes form body _ (inr (inl refl))
 
 pub returns-clause-exact : goal.returns-clause-exact
 returns-clause-exact c = λ form body bytes is.

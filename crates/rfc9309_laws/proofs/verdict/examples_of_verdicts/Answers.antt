@@ -1,4 +1,4 @@
-use Rattle.rfc9309_laws.proofs.LongestLemmas as lemma
+use Rattle.rfc9309_laws.proofs.ExampleLemmas as lemma
 use Rattle.rfc9309_laws.proofs.verdict.examples_of_verdicts.Goals as goal
 
 pub returns-clause-longest : goal.returns-clause-longest
