@@ -1,7 +1,7 @@
 -- Skipping delays changes no rules if the merged groups are unsplit (`is_unsplit`): each group with rules has
 -- all tokens of the groups without rules that come directly above it.
 use Rattle.std.proofs.Common.{◌≡◌, ℕ, Bool, true, false, not, ◌||◌, ◌&&◌, List, [], ◌∷◌, ◌++◌}
-use Rattle.std.proofs.Common.{ap, codes, cond, filter, flat_map, inl, inr, refl, subst, sym, ◌∙◌}
+use Rattle.std.proofs.Common.{ap, cond, filter, flat_map, inl, inr, refl, subst, sym, ◌∙◌}
 use Rattle.std.proofs.Common.{if◌then◌else◌}
 use Rattle.std.specs.{List.list_all, List.list_any, Str.str_to_ascii_lowercase}
 use Rattle.std.proofs.Math.Bool.{or_assoc}

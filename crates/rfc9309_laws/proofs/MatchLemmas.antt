@@ -1,8 +1,8 @@
 -- On normal forms the library's matching is that of the standard.
-use Rattle.std.proofs.Common.{◌≡◌, ◌↔◌, ℕ, ◌/◌, ◌%◌, ◌+◌, ◌==◌, ltb, Bool, true, false, inl, inr, List, [], ◌∷◌}
+use Rattle.std.proofs.Common.{◌≡◌, ◌↔◌, ℕ, ◌/◌, ◌%◌, ◌==◌, Bool, true, false, inl, inr, List, [], ◌∷◌}
 use Rattle.std.proofs.Common.{◌++◌, refl, sym, ap, ◌∙◌, append-nil, append_assoc, arith}
 use Rattle.std.specs.Fmt.{digit_glyph}
-use Rattle.std.proofs.lemmas.Bool.{cases_Bool, cond_both, eqb-true, false≢true, ne_eqb, or_parts}
+use Rattle.std.proofs.lemmas.Bool.{cases_Bool, eqb-true, false≢true, or_parts}
 use Rattle.std.proofs.lemmas.Bool.Decides.{nat_tests}
 use Rattle.texting_robots.specs.Pattern.{dollar, Matches, MatchesWith, star}
 use Rattle.texting_robots.specs.Escape.{escaped, escape_byte, is_escaped}

@@ -12,7 +12,7 @@ use Rattle.std.proofs.lemmas.List.{append-nil}
 use Rattle.texting_robots.specs.{Escape.escaped, Escape.escape_byte, Escape.is_escaped}
 use Rattle.texting_robots.specs.Pattern.{Consumes, IsSuffix, Matches, MatchesWith, dollar, star}
 use Rattle.texting_robots.proofs.PatternLemmas.{suffix_trans}
-use Rattle.rfc9309_laws.specs.Comparable.{begins_odd_escape, has_odd_escape, is_normal, is_uri_octet}
+use Rattle.rfc9309_laws.specs.Comparable.{has_odd_escape, is_normal, is_uri_octet}
 use Rattle.rfc9309_laws.specs.Matching.{Reading, all_stay, in_uri, is_escape, is_kept}
 use Rattle.rfc9309_laws.specs.Matching.{is_unreserved, normal_escape, normal_from, normal_octet, normal_uri}
 
