@@ -12,7 +12,7 @@ use Rattle.rfc9309_laws.specs.HasForm.{name_in, stripped, text_after, text_befor
 use Rattle.rfc9309_laws.specs.HasForm.{without_leading, without_trailing}
 use Rattle.rfc9309_laws.specs.LineForms.{Form, IsLine, Empty, Agent, Rule, Delay, Sitemap, Other}
 use Rattle.std.proofs.lemmas.Bool.Decides.{nat_tests}
-use Rattle.std.proofs.lemmas.Slice.Eq.{bytes_eq-Decides}
+use Rattle.std.proofs.lemmas.{List.Folds.list_any-from_Any, Slice.Eq.bytes_eq-Decides}
 use Rattle.rfc9309_laws.specs.Rfc9309 as rfc
 
 -- ---- a text and its parts
@@ -160,14 +160,9 @@ number value is = elim (or_cases _ _ is) [
 
 not_listed : (name : List ℕ) (names : List (List ℕ)) → list_any (bytes_eq name) names ≡ false
     → Contains names name → ⊥
-not_listed name [] none (k, within, is) = absurd (omega arith)
-not_listed name (first ∷ names) none (zero, within, is) =
-    let parts = or_parts (bytes_eq name _) _ none in
-    let same = (bytes_eq-Decides name _).1 (sym is) in
-    false≢true (sym parts.0 ∙ same)
-not_listed name (first ∷ names) none (suc k, within, is) =
-    let parts = or_parts _ _ none in
-    not_listed name names parts.1 (k, omega arith, is)
+not_listed name names none (k, within, is) =
+    let same = (bytes_eq-Decides name name).1 refl in
+    false≢true (sym none ∙ list_any-from_Any (bytes_eq name) names (k, name, within, is, same))
 
 -- ---- the forms
 

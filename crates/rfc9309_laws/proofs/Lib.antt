@@ -6,7 +6,6 @@ pub mod MemberLemmas
 pub mod OtherLemmas
 pub mod Sample
 pub mod HasFormLemmas
-pub mod FormsOfFileLemmas
 pub mod SyntaxLemmas
 pub mod CharLemmas
 pub mod ValueLemmas
