@@ -93,7 +93,7 @@ char_text bytes (inr (inr (inr is))) = four bytes is
 pub text_append : (text later : List ℕ) → IsCharText text → IsCharText later
     → IsCharText (text ++ later)
 text_append text later is also = record {
-  bytes = each_append IsCharByte text later is.bytes also.bytes;
+  bytes = each_append _ text later is.bytes also.bytes;
   utf8 = IsUtf8-append text later is.utf8 also.utf8;
 }
 
@@ -157,12 +157,12 @@ module _ (test : ℕ → Bool) (Part : List ℕ → Type 0)
 
   units_of : (text : List ℕ) → (is_utf8 text && list_all test text) ≡ true → rfc.IsMany Part text
   units_of text is =
-      let (utf8, all) = and_parts (is_utf8 text) (list_all test text) is in
+      let (utf8, all) = and_parts _ _ is in
       let (chars, (are, same)) = IsUtf8-from_is_utf8 text utf8 in
       subst (rfc.IsMany Part) same (units chars are (ap (list_all test) same ∙ all))
 
 pub value_text : (text : List ℕ) → is_value_text text ≡ true → rfc.IsMany rfc.IsUtf8CharNoctl text
-value_text = units_of is_value_byte rfc.IsUtf8CharNoctl value_unit
+value_text = units_of _ _ value_unit
 
 pub comment_text : (text : List ℕ) → is_comment_text text ≡ true → rfc.IsMany rfc.IsCommentUnit text
 comment_text = units_of is_comment_byte rfc.IsCommentUnit comment_unit

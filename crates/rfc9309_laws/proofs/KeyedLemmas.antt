@@ -47,7 +47,7 @@ pub blanks_value : (blanks : List ℕ) → Each IsBlank blanks → Each IsValueB
 blanks_value = each_weaker IsBlank IsValueByte blank_value
 
 pub values_bare : (bytes : List ℕ) → Each IsValueByte bytes → Each IsBare bytes
-values_bare = each_weaker IsValueByte IsBare (λ b is. is.0)
+values_bare = each_weaker _ _ (λ b is. is.0)
 
 -- a byte before the colon: a bare ASCII byte that isn't a colon
 abbrev pub IsFrontByte : ℕ → Type 0
@@ -65,7 +65,7 @@ blanks_low (b ∷ blanks) all = let is = all.0 in omega arith
 pub passes : (P : ℕ → Type 0) (test : ℕ → Bool) → ((b : ℕ) → P b → test b ≡ true) → (text : List ℕ)
     → Each P text → list_all test text ≡ true
 passes P test is [] all = refl
-passes P test is (b ∷ text) all = and_from (test b) _ (is b all.0) (passes P test is text all.1)
+passes P test is (b ∷ text) all = and_from _ _ (is b all.0) (passes P _ is text all.1)
 
 pub or_second : (x y : Bool) → y ≡ true → (x || y) ≡ true
 or_second true y is = refl
@@ -76,7 +76,7 @@ or_first true y is = refl
 or_first false y is = absurd cc
 
 pub same_bytes : (text other : List ℕ) → text ≡ other → bytes_eq text other ≡ true
-same_bytes text other = (bytes_eq-Decides text other).1
+same_bytes text other = (bytes_eq-Decides _ _).1
 
 -- ---- the parts before and after a byte
 
@@ -102,7 +102,7 @@ parts_none stop (b ∷ text) all =
 
 pub has_at : (stop : ℕ) (front rest : List ℕ) → has_byte stop (front ++ stop ∷ rest) ≡ true
 has_at stop [] rest = rw (eq-eqb stop stop refl) refl
-has_at stop (b ∷ front) rest = or_second (b == stop) _ (has_at stop front rest)
+has_at stop (b ∷ front) rest = or_second _ _ (has_at stop front _)
 
 -- ---- spaces and tabs at both ends
 
@@ -148,16 +148,16 @@ abbrev pub IsNameByte : ℕ → Type 0
 IsNameByte b = IsFrontByte b × IsSolid b
 
 pub identifier_name : (word : List ℕ) → Each rfc.IsIdentifierByte word → Each IsNameByte word
-identifier_name = each_weaker rfc.IsIdentifierByte IsNameByte (λ b is.
+identifier_name = each_weaker _ _ (λ b is.
     let bounds = identifier_bounds b is in
     ((inr (omega arith), omega arith, bounds.2), grind (arith, nat_tests)))
 
 -- a byte whose lower case is an identifier byte may occur in a name
 name_letter : (b : ℕ) → rfc.IsIdentifierByte (to_ascii_lowercase b) → IsNameByte b
 name_letter b is =
-    let bounds = identifier_bounds (to_ascii_lowercase b) is in (
+    let bounds = identifier_bounds _ is in (
       (inr (grind (arith, nat_tests)), grind (arith, nat_tests), λ e. bounds.2 (ap to_ascii_lowercase e)),
-      false_from_ne_true (is_blank b) (λ yes. blank_no_letter b (blank b yes) is),
+      false_from_ne_true _ (λ yes. blank_no_letter b (blank b yes) is),
     )
 
 pub name_letters : (key word : List ℕ) → map to_ascii_lowercase key ≡ word → Each rfc.IsIdentifierByte word
@@ -212,8 +212,8 @@ char_passes b is = grind (arith, nat_tests)
 
 pub value_passes : (text : List ℕ) → IsCharText text → is_value_text text ≡ true
 value_passes text is =
-    and_from _ (list_all is_value_byte text) (is_utf8-from_IsUtf8 text is.utf8)
-    (passes IsCharByte is_value_byte char_passes text is.bytes)
+    and_from _ _ (is_utf8-from_IsUtf8 text is.utf8)
+    (passes _ _ char_passes text is.bytes)
 
 ascii_utf8 : (b : ℕ) → b < 128 → IsUtf8 (b ∷ [])
 ascii_utf8 b small = subst IsUtf8 (encode_ascii b small) (IsUtf8-encode b (low_scalar b (omega arith)))
@@ -237,7 +237,7 @@ comment_text text is =
     (λ xs ys is also. (each_append IsBare xs ys is.0 also.0, IsUtf8-append xs ys is.1 also.1)) comment_unit
     text is in (
       bare,
-      and_from _ (list_all is_comment_byte text) (is_utf8-from_IsUtf8 text utf8)
+      and_from _ _ (is_utf8-from_IsUtf8 text utf8)
           (passes IsBare is_comment_byte bare_passes text bare),
     )
 
@@ -352,13 +352,13 @@ module _ (kind : Kind) (value read text : List ℕ) (line : rfc.IsKeyed (word_of
 
   are_values : Each IsValueByte region
   are_values =
-      each_append IsValueByte line.gap (value ++ eol.blanks) (blanks_value line.gap line.gap_blank)
+      each_append IsValueByte line.gap _ (blanks_value line.gap line.gap_blank)
       (each_append IsValueByte value eol.blanks
       (each_weaker IsCharByte IsValueByte char_value value chars.bytes)
       (blanks_value eol.blanks eol.are_blanks))
 
   no_hash : Each (λ b. b ≢ hash) region
-  no_hash = each_weaker IsValueByte (λ b. b ≢ hash) (λ b is. is.1) region are_values
+  no_hash = each_weaker _ (λ b. b ≢ hash) (λ b is. is.1) region are_values
 
   comment : IsRemark eol.comment
   comment = remark eol.comment eol.is_comment
@@ -400,7 +400,7 @@ module _ (kind : Kind) (value read text : List ℕ) (line : rfc.IsKeyed (word_of
     is_comment = comment.is;
     trimmed =
         same_trim region (value ++ eol.blanks) read
-        (blanks_skipped line.gap (value ++ eol.blanks) line.gap_blank)
+        (blanks_skipped line.gap _ line.gap_blank)
         (blanks_after eol.blanks value read eol.are_blanks chars.utf8 trim);
   }
 

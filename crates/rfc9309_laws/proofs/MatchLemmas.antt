@@ -19,19 +19,19 @@ filling : (q tail t : List ℕ) → has_dollar q ≡ false
 unfolding MatchesWith filled
 filling [] tail t free = (λ m. ([], t, refl, m), λ (strings, rest, e, m). rw e m)
 filling (b ∷ q) tail t free =
-    let (not_end, no_later) = or_parts (b == dollar) (has_dollar q) free in
+    let (not_end, no_later) = or_parts _ _ free in
     elim (cases_Bool (b == star)) [
       | inl is ↦ rw is (
         λ (s, (front, e), m).
             let (strings, rest, f, n) = (filling q tail s no_later).0 m in (
               front ∷ strings,
               rest,
-              e ∙ ap (λ x. front ++ x) f ∙ sym (append_assoc front (filled q strings) rest),
+              e ∙ ap (λ x. front ++ x) f ∙ sym (append_assoc front _ rest),
               n,
             ),
         λ (strings, rest, e, m). (
-          filled q (later_of strings) ++ rest,
-          (first_of strings, e ∙ append_assoc (first_of strings) (filled q (later_of strings)) rest),
+          filled q _ ++ rest,
+          (first_of strings, e ∙ append_assoc _ _ rest),
           (filling q tail _ no_later).1 (later_of strings, rest, refl, m),
         ),
       )
@@ -56,7 +56,7 @@ unfolding is_ended without_end
 escaped_parts [] = refl
 escaped_parts (b ∷ []) = elim (cases_Bool (b == dollar)) [
   | inl is ↦ rw is (ap (λ c. escaped (c ∷ [])) (eqb-true b dollar is))
-  | inr other ↦ rw other (sym (append-nil (escaped (b ∷ []))))
+  | inr other ↦ rw other (sym (append-nil _))
 ]
 escaped_parts (b ∷ c ∷ path) =
     ap (λ t. escape_byte b ++ t) (escaped_parts (c ∷ path)) ∙ sym (append_assoc (escape_byte b) _ _)
@@ -75,10 +75,10 @@ glyph_plain d = grind (arith, nat_tests)
 escaped_plain : (q : List ℕ) → has_dollar q ≡ false → has_dollar (escaped q) ≡ false
 escaped_plain [] free = refl
 escaped_plain (b ∷ q) free =
-    let (first, later) = or_parts (b == dollar) (has_dollar q) free in
+    let (first, later) = or_parts (b == dollar) _ free in
     let rest = escaped_plain q later in
     elim (cases_Bool (is_escaped b)) [
-      | inl is ↦ rw (is, glyph_plain (b / 16 % 16), glyph_plain (b % 16)) rest
+      | inl is ↦ rw (is, glyph_plain _, glyph_plain _) rest
       | inr other ↦ rw (other, first) rest
     ]
 
@@ -88,9 +88,9 @@ pub matches_so : (stays : Reading) (path spelling uri : List ℕ) → normal_uri
     → IsComparedAs stays path spelling → Matches (escaped spelling) uri ↔ IsMatch stays path uri
 matches_so stays path spelling uri same compared =
     let ended = is_ended spelling in
-    let both = filling (escaped (without_end spelling)) (end_of ended) uri
+    let both = filling _ (end_of ended) uri
     (escaped_plain (without_end spelling) compared.dollar) in
-    rw (escaped_parts spelling) (
+    rw (escaped_parts _) (
       λ m.
           let (strings, rest, e, n) = both.0 m in
           record {

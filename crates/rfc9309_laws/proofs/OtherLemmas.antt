@@ -89,7 +89,7 @@ written_begins : (spelling : List ℕ) → IsWritten spelling → Begins spellin
 written_begins spelling (inl (is, has)) =
     subst Begins (append-nil spelling) (word_begins spelling [] is)
 written_begins spelling (inr two) =
-    subst Begins (sym two.whole) (word_begins two.word (32 ∷ two.letter ∷ two.back) two.is_word)
+    subst Begins (sym two.whole) (word_begins two.word _ two.is_word)
 
 -- a string whose lower case begins with an identifier byte begins with neither a space nor a tab
 word_plain : (word rest : List ℕ) → Begins (lower word) → NoBlank (word ++ rest)
@@ -105,7 +105,7 @@ colon_stops (b ∷ blanks) text all = blank_no_letter b all.0
 tail_stops : (tail rest : List ℕ) → IsAfterColon tail rest ⊎ IsAfterBlanks tail rest
     → Stops (lower rest)
 tail_stops tail rest (inl (blanks, all, whole)) =
-    subst Stops (sym (ap lower whole)) (colon_stops blanks tail all)
+    subst Stops (sym (ap lower whole)) (colon_stops _ tail all)
 tail_stops tail rest (inr ([], all, some, whole, plain)) = absurd (some refl)
 tail_stops tail rest (inr (b ∷ blanks, all, some, whole, plain)) =
     subst Stops (sym (ap lower whole)) (blank_no_letter b all.0)
@@ -138,7 +138,7 @@ module _ (text : List ℕ) (o : rfc.IsOtherLine text) where
   body = o.margin ++ (o.name ++ after_name)
 
   low_name : Each rfc.IsIdentifierByte (lower o.name)
-  low_name = low_letters o.name (letters o.name o.is_name)
+  low_name = low_letters _ (letters _ o.is_name)
 
   -- after the leading spaces and tabs, the line begins with the record's name, and with the field name if the
   -- line is a directive

@@ -46,7 +46,7 @@ pub zip_right : (members : List rfc.Member) (rules : List Rule) (member : rfc.Me
     → AllZip IsReadAs members rules → Contains members member
     → (rule : Rule) × Contains rules rule × IsReadAs member rule
 zip_right members rules member zip =
-    zip_has (λ rule member. IsReadAs member rule) rules members member (zip_swap IsReadAs members rules zip)
+    zip_has (λ rule member. IsReadAs member rule) rules members member (zip_swap _ members rules zip)
 
 -- the rule as it is read, if it needn't be trimmed
 abbrev read : rfc.Member → Rule
@@ -72,7 +72,7 @@ each_contains P xs x all has = All-contains P xs x (All-from_recursion P xs all)
 pub octets_are : (stays : Reading) (path spelling : List ℕ) → IsComparedAs stays path spelling
     → length (escaped spelling) ≡ octets stays path
 octets_are stays path spelling is =
-    rw (is.ended, is.normal) (ap length (escaped_parts spelling) ∙ length-append (escaped (without_end spelling)) _
+    rw (is.ended, is.normal) (ap length (escaped_parts spelling) ∙ length-append _ _
     ∙ ap (λ n. length (escaped (without_end spelling)) + n) (size (is_ended spelling)))
   where
     size : (ended : Bool) → length (end_of ended) ≡ (if ended then 1 else 0)
@@ -82,7 +82,7 @@ octets_are stays path spelling is =
 pub octets_written : (stays : Reading) (path : List ℕ) → IsPlainPath stays path
     → list_any is_escaped path ≡ false → length path ≡ octets stays path
 octets_written stays path is plain =
-    ap (λ (p : List ℕ). length p) (sym (plain_stays path plain)) ∙ octets_are stays path path is
+    ap (λ (p : List ℕ). length p) (sym (plain_stays _ plain)) ∙ octets_are _ _ _ is
 
 -- ---- verdicts
 
@@ -115,7 +115,7 @@ module _ (stays : Reading) (count : List ℕ → ℕ) (members : List rfc.Member
 
   own : (path value : List ℕ) → IsPathOf members path → IsTrimOf value path → value ≡ path
   own path value listed trim =
-      sym (is_trimmed path value trim) ∙ is_trimmed path path (are.trimmed path listed)
+      sym (is_trimmed path _ trim) ∙ is_trimmed _ _ (are.trimmed _ listed)
 
   -- the rule of a member
   read_of : (member : rfc.Member) (rule : Rule) → Contains members member → IsReadAs member rule
