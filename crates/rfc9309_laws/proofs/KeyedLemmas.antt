@@ -1,33 +1,31 @@
 -- What is known of a line of the grammar: it is content with a terminator, passes the test of its form, and
 -- is read as its source line. Lines with a field name, a
 -- colon and a value are such lines.
-use Rattle.std.proofs.Common.{◌≡◌, ◌≢◌, ◌⊎◌, inl, inr, ℕ, ◌<◌, ◌==◌, ◌||◌, Bool, true, false, List, [], ◌∷◌}
+use Rattle.std.proofs.Common.{◌≡◌, ◌≢◌, ◌⊎◌, inl, inr, ℕ, ◌<◌, ◌||◌, Bool, true, false, List, [], ◌∷◌}
 use Rattle.std.proofs.Common.{◌++◌, append-nil, ap, arith, bytes_eq, drop, map, refl, subst, sym, ◌∙◌}
 use Rattle.std.proofs.Common.{append_assoc, codes, filter, get_or}
-use Rattle.std.specs.List.{AllByRecursion as Each, list_all, Contains}
+use Rattle.std.specs.{List.AllByRecursion as Each, List.list_all, List.Contains, Char.to_ascii_lowercase}
 use Rattle.std.proofs.lemmas.Bool.{and_from, eq-eqb, false_from_ne_true, ne_eqb}
 use Rattle.std.proofs.lemmas.Str.{IsUtf8-append, IsUtf8-encode, IsUtf8-nil, encode_ascii, is_utf8-from_IsUtf8}
 use lib.Utf8.{low_scalar}
 use Rattle.texting_robots.specs.Statement.{IsBlank, IsStatement, field_names}
-use Rattle.texting_robots.specs.{Line.LineValue, Trim.IsTrimOf}
+use Rattle.texting_robots.specs.{Line.LineValue, Trim.IsTrimOf, declared.parser.statement.Kind.Kind}
 use Rattle.texting_robots.proofs.TrimLemmas.{each_append, blanks_skipped, same_trim}
 use Rattle.texting_robots.proofs.{LineLemmas.line_stated, StatementLemmas.statement_found}
 use Rattle.rfc9309_laws.proofs.CharLemmas.{IsCharByte, IsCharText, char_text}
 use Rattle.rfc9309_laws.proofs.ValueLemmas.{blank_no_letter, identifier_bounds, blanks_after, identifier}
 use Rattle.rfc9309_laws.proofs.Sources.{IsRead, Source, is_not_raw, parts_in, source_of, written}
-use Rattle.rfc9309_laws.proofs.SyntaxLemmas.{each_weaker, many}
-use Rattle.rfc9309_laws.proofs.{ReadLemmas.BeginsLow, ReadLemmas.IsBare, HasFormLemmas.blank}
+use Rattle.rfc9309_laws.proofs.{SyntaxLemmas.each_weaker, SyntaxLemmas.many, HasFormLemmas.blank}
+use Rattle.rfc9309_laws.proofs.ReadLemmas.{BeginsLow, IsBare}
 use Rattle.rfc9309_laws.specs.HasForm.{colon, has_byte, hash, is_blank, is_comment_byte, is_comment_text}
 use Rattle.rfc9309_laws.specs.HasForm.{is_value_byte, is_value_text, kept_before, name_in, stripped}
 use Rattle.rfc9309_laws.specs.HasForm.{text_after, text_before, text_from, without_leading, without_trailing}
 use Rattle.rfc9309_laws.specs.HasForm.{has_form, is_identifier_byte, is_keyed, is_number, is_pattern}
 use Rattle.rfc9309_laws.specs.HasForm.{is_product_token, lower, value_in}
 use Rattle.rfc9309_laws.specs.LineForms.{Form, Agent, Delay, Rule, Sitemap}
-use Rattle.std.specs.{Char.to_ascii_lowercase, Str.IsUtf8}
-use Rattle.std.proofs.lemmas.Bool.Decides.{nat_tests}
-use Rattle.std.proofs.lemmas.Slice.Eq.{bytes_eq-Decides}
+use Rattle.std.specs.Str.{IsUtf8}
+use Rattle.std.proofs.lemmas.{Bool.Decides.nat_tests, Slice.Eq.bytes_eq-Decides}
 use Rattle.texting_robots.specs.Internal.{Statement.IsOptionalComment, Line.line_with}
-use Rattle.texting_robots.specs.declared.parser.statement.Kind.{Kind}
 use Rattle.rfc9309_laws.specs.Rfc9309 as rfc
 use Rattle.texting_robots.specs.declared.parser.statement.Kind.TheVariants as kind
 
@@ -84,21 +82,19 @@ pub record ArePartsAt (stop : ℕ) (front rest text : List ℕ) : Type 0 where
   pub before : text_before stop text ≡ front
   pub from : text_from stop text ≡ rest
 
-pub parts_at : (stop : ℕ) (front rest : List ℕ) → Each (λ b. b ≢ stop) front
-    → ArePartsAt stop front (stop ∷ rest) (front ++ stop ∷ rest)
-parts_at stop [] rest all =
-    let is = eq-eqb stop stop refl in record { before = rw is refl; from = rw is refl }
-parts_at stop (b ∷ front) rest all =
+parts : (stop : ℕ) (front rest : List ℕ) → Each (λ b. b ≢ stop) front
+    → ArePartsAt stop [] rest rest → ArePartsAt stop front rest (front ++ rest)
+parts stop [] rest all is = is
+parts stop (b ∷ front) rest all is =
     let other = ne_eqb b stop all.0 in
-    let later = parts_at stop front rest all.1 in
+    let later = parts stop front rest all.1 is in
     record { before = rw other (ap (λ t. b ∷ t) later.before); from = rw other later.from }
 
-parts_none : (stop : ℕ) (text : List ℕ) → Each (λ b. b ≢ stop) text → ArePartsAt stop text [] text
-parts_none stop [] all = record { before = refl; from = refl }
-parts_none stop (b ∷ text) all =
-    let other = ne_eqb b stop all.0 in
-    let later = parts_none stop text all.1 in
-    record { before = rw other (ap (λ t. b ∷ t) later.before); from = rw other later.from }
+pub parts_at : (stop : ℕ) (front rest : List ℕ) → Each (λ b. b ≢ stop) front
+    → ArePartsAt stop front (stop ∷ rest) (front ++ stop ∷ rest)
+parts_at stop front rest all =
+    let is = eq-eqb stop stop refl in
+    parts stop front (stop ∷ rest) all (record { before = rw is refl; from = rw is refl })
 
 pub has_at : (stop : ℕ) (front rest : List ℕ) → has_byte stop (front ++ stop ∷ rest) ≡ true
 has_at stop [] rest = rw (eq-eqb stop stop refl) refl
@@ -264,7 +260,8 @@ remark comment (inr is) =
 -- a text without `#`, and a comment or nothing
 pub parts_comment : (region comment : List ℕ) → Each (λ b. b ≢ hash) region → IsOptionalComment comment
     → ArePartsAt hash region comment (region ++ comment)
-parts_comment region comment all (inl none) = rw (none, append-nil) (parts_none hash region all)
+parts_comment region comment all (inl none) =
+    parts hash region comment all (rw none (record { before = refl; from = refl }))
 parts_comment region comment all (inr (text, is)) = rw is (parts_at hash region text all)
 
 -- ---- a line and what is known of it

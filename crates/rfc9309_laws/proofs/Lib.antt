@@ -17,7 +17,6 @@ pub mod DelayLemmas
 pub mod LineFormLemmas
 pub mod FileLemmas
 pub mod RobotLemmas
-pub mod MatchLemmas
 pub mod NormalLemmas
 pub mod VerdictLemmas
 pub mod ExampleLemmas

@@ -1,26 +1,23 @@
 -- The lines of product tokens, rules, delays and sitemaps.
 use Rattle.std.proofs.Common.{◌≡◌, ◌≢◌, ◌⊎◌, inl, inr, ℕ, ◌==◌, ◌||◌, true, List, [], ◌∷◌, ◌++◌, All, Some}
 use Rattle.std.proofs.Common.{append-nil, append_assoc, ap, arith, codes, drop, get_or, refl, subst, sym, ◌∙◌}
-use Rattle.std.proofs.lemmas.{Bool.and_from, Bool.ne_eqb, Str.is_utf8-from_IsUtf8}
+use Rattle.std.proofs.lemmas.{Bool.and_from, Bool.ne_eqb, Str.is_utf8-from_IsUtf8, Bool.Decides.nat_tests}
 use Rattle.std.proofs.lemmas.List.Elements.{All-from_recursion, All-nil}
-use Rattle.texting_robots.specs.Line.{UserAgent, Allow, CrawlDelay, Disallow}
-use Rattle.texting_robots.specs.{Delay.Decimal, Delay.NamesDelay, Delay.Writes, Trim.IsTrimOf}
-use Rattle.texting_robots.specs.Internal.Line.{line_with, delay_or_raw}
-use Rattle.texting_robots.specs.Internal.{Delay.delay_of, Delay.rounded, Statement.trimmed}
+use Rattle.texting_robots.specs.{Line.UserAgent, Line.Allow, Line.CrawlDelay, Line.Disallow, Delay.Decimal}
+use Rattle.texting_robots.specs.{Delay.NamesDelay, Delay.Writes, Trim.IsTrimOf, Internal.Statement.trimmed}
+use Rattle.texting_robots.specs.Internal.{Line.line_with, Line.delay_or_raw, Delay.delay_of, Delay.rounded}
 use Rattle.texting_robots.proofs.DelayLemmas.{is_delay_of, one_delay, rounded_rounds}
 use Rattle.texting_robots.proofs.TrimLemmas.{each_append, trimmed_is_trim}
-use Rattle.rfc9309_laws.proofs.CharLemmas.{IsCharByte, IsCharText, chars_text, text_append}
+use Rattle.rfc9309_laws.proofs.CharLemmas.{IsCharText, chars_text, text_append}
 use Rattle.rfc9309_laws.proofs.KeyedLemmas.{IsLineOf, keyed_line, has_at, or_first, or_second, parts_at}
 use Rattle.rfc9309_laws.proofs.KeyedLemmas.{passes, same_bytes, value_passes}
 use Rattle.rfc9309_laws.proofs.ValueLemmas.{IsVisible, trim_some, trim_utf8, visible_trim, visible_utf8}
 use Rattle.rfc9309_laws.proofs.Sources.{Parts, Source, allowed_in, with_address, with_member, with_source}
 use Rattle.rfc9309_laws.proofs.SyntaxLemmas.{each_weaker}
-use Rattle.rfc9309_laws.specs.HasForm.{are_some, has_byte, is_digit, is_identifier_byte}
-use Rattle.rfc9309_laws.specs.HasForm.{is_number, is_pattern, is_product_token}
+use Rattle.rfc9309_laws.specs.HasForm.{are_some, is_digit, is_identifier_byte, is_number}
+use Rattle.rfc9309_laws.specs.HasForm.{is_pattern, is_product_token}
 use Rattle.rfc9309_laws.specs.LineForms.{Form, Agent, Rule, Delay, Sitemap}
-use Rattle.std.specs.List.{AllByRecursion as Each}
-use Rattle.std.specs.{Char.IsAsciiDigit, Str.is_utf8}
-use Rattle.std.proofs.lemmas.Bool.Decides.{nat_tests}
+use Rattle.std.specs.{List.AllByRecursion as Each, Char.IsAsciiDigit, Str.is_utf8}
 use Rattle.std.proofs.lemmas.Str.Parse.{without_leading_plus_none}
 use Rattle.texting_robots.specs.Line as library
 use Rattle.texting_robots.specs.declared.parser.statement.Kind.TheVariants as kind
@@ -191,7 +188,8 @@ disallow_line (b ∷ pattern) text (is, line) =
       is_line =
           keyed_line kind.Disallow value read text line is.chars trim (Disallow read)
           (λ body. disallowed read body (trim_some b pattern read (is.plain b pattern refl) trim))
-          (rw (trim_is_utf8 value is.chars) (read, trim, refl), tt) (λ following forms more none. cc) is.passes;
+          (rw (trim_is_utf8 value is.chars) (read, trim, refl), tt)
+          (λ following forms more none. cc) is.passes;
       written = λ parts. refl;
       unlisted = λ following. refl;
     }
@@ -313,7 +311,8 @@ delay_line (rfc.Delay number) text (is, line) =
       is_line =
           keyed_line kind.CrawlDelay number number text line chars trim _
           (λ body. ap (λ delay. delay_or_raw delay body) n.is)
-          ((one_delay number (Some n.delay)).1 (sym n.is), tt) (λ following forms more none. more none) n.passes;
+          ((one_delay number (Some n.delay)).1 (sym n.is), tt)
+          (λ following forms more none. more none) n.passes;
       written = λ parts. refl;
       unlisted = λ following. refl;
     }
@@ -334,4 +333,5 @@ sitemap_line address text (is, line) =
     let value = trimmed address in
     let trim = trimmed_is_trim address in
     keyed_line kind.Sitemap address value text line chars trim _ (λ body. refl)
-    ((rw (trim_is_utf8 address chars) refl, trim), tt) (λ following forms more none. more none) (value_passes address chars)
+    ((rw (trim_is_utf8 address chars) refl, trim), tt)
+    (λ following forms more none. more none) (value_passes address chars)

@@ -1,27 +1,23 @@
 -- The verdict of rules that are read from rules of the grammar is that of the standard.
-use Rattle.std.proofs.Common.{◌≡◌, ◌≢◌, ◌↔◌, ◌⊎◌, ℕ, zero, suc, ◌<◌, Bool, true, false, inl, inr}
-use Rattle.std.proofs.Common.{List, [], ◌∷◌, refl, codes, length, length-append}
-use Rattle.std.proofs.Common.{◌+◌, if◌then◌else◌, sym, ap, ◌∙◌, arith, subst, take}
+use Rattle.std.proofs.Common.{◌≡◌, ◌≢◌, ◌↔◌, ◌⊎◌, ℕ, zero, suc, ◌<◌, Bool, true, false, inl, inr, List, []}
+use Rattle.std.proofs.Common.{◌∷◌, refl, codes, length, length-append, ◌+◌, if◌then◌else◌, sym, ap, ◌∙◌}
+use Rattle.std.proofs.Common.{arith, subst, take}
 use Rattle.std.specs.List.{AllByRecursion as Each, AllZip, Contains, list_any}
 use Rattle.std.proofs.lemmas.Bool.{both_ways, false≢true}
-use Rattle.std.proofs.lemmas.List.{Elements.All-contains, Elements.All-from_recursion}
+use Rattle.std.proofs.lemmas.List.Elements.{All-contains, All-from_recursion}
 use Rattle.texting_robots.specs.Callers.{IsDenied, IsRobotOfFile, IsVerdict, Matches, RobotValue, Rule}
-use Rattle.texting_robots.specs.Callers.{escaped}
-use Rattle.texting_robots.specs.Callers.{file_limit, unplaced}
-use Rattle.texting_robots.specs.{Escape.is_escaped, Pattern.MatchesWith}
-use Rattle.texting_robots.specs.{Trim.IsTrimOf}
+use Rattle.texting_robots.specs.Callers.{escaped, file_limit, unplaced}
+use Rattle.texting_robots.specs.{Escape.is_escaped, Pattern.MatchesWith, Trim.IsTrimOf}
 use Rattle.texting_robots.proofs.{EscapeLemmas.plain_stays, TrimLemmas.is_trimmed}
-use Rattle.texting_robots.proofs.{VerdictLemmas.same_verdicts}
-use Rattle.rfc9309_laws.specs.ReadAs.{IsReadAs}
-use Rattle.rfc9309_laws.specs.Rfc9309 as rfc
-use Rattle.rfc9309_laws.specs.StandardRobot.{IsFileWith}
+use Rattle.texting_robots.proofs.VerdictLemmas.{same_verdicts}
+use Rattle.rfc9309_laws.specs.{ReadAs.IsReadAs, StandardRobot.IsFileWith}
 use Rattle.rfc9309_laws.specs.Comparable.{AreComparable, HasTwin, IsComparedAs, IsPathOf, IsPlainPath}
 use Rattle.rfc9309_laws.specs.Comparable.{has_odd_escape}
-use Rattle.rfc9309_laws.specs.Matching.{IsDisallowed, IsMatch, IsRfcVerdict, Reading, is_ended}
-use Rattle.rfc9309_laws.specs.Matching.{normal_uri, octets, without_end}
+use Rattle.rfc9309_laws.specs.Matching.{IsDisallowed, IsMatch, IsRfcVerdict, Reading, is_ended, normal_uri}
+use Rattle.rfc9309_laws.specs.Matching.{octets, without_end}
 use Rattle.rfc9309_laws.proofs.{FileLemmas.file_with, RobotLemmas.robot_as}
-use Rattle.rfc9309_laws.proofs.MatchLemmas.{end_of, escaped_parts, matches_so}
-use Rattle.rfc9309_laws.proofs.NormalLemmas.{never_matches, no_odd_escape}
+use Rattle.rfc9309_laws.proofs.NormalLemmas.{end_of, escaped_parts, matches_so, never_matches, no_odd_escape}
+use Rattle.rfc9309_laws.specs.Rfc9309 as rfc
 
 -- ---- lists place by place
 
