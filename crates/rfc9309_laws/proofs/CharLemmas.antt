@@ -1,11 +1,10 @@
 -- The characters of the standard's grammar are UTF-8, and none of their bytes is `#`, a space or lower than
 -- that. UTF-8 consists of such characters, if its bytes are in order.
 use Rattle.std.proofs.Common.{◌≡◌, ◌≢◌, inl, inr, ℕ, ◌≤◌, true, List, [], ◌∷◌, ◌++◌, length, drop, sym, ap}
-use Rattle.std.proofs.Common.{◌∙◌, subst, append-nil, arith, ◌⊎◌, refl}
-use Rattle.std.specs.List.{AllByRecursion as Each, list_all}
+use Rattle.std.proofs.Common.{◌∙◌, subst, append-nil, arith, ◌⊎◌, refl, ◌&&◌, Bool}
+use Rattle.std.specs.{List.AllByRecursion as Each, List.list_all, Char.encode_utf8}
 use Rattle.std.specs.Str.{IsUtf8, encode_utf8_all, is_utf8}
-use Rattle.std.proofs.Common.{◌&&◌, Bool}
-use Rattle.std.proofs.lemmas.List.Folds.{list_all-append}
+use Rattle.std.proofs.lemmas.{List.Folds.list_all-append, Bool.Decides.nat_tests, List.drop_all}
 use Rattle.std.proofs.lemmas.Str.{IsUtf8-append, IsUtf8-encode, IsUtf8-nil, IsUtf8-from_is_utf8, encode_ascii}
 use Rattle.bstr.specs.Utf8.{code_of_2, code_of_3, code_of_4, continues, decoded, good, second}
 use Rattle.bstr.proofs.lemmas.PieceLemmas.{value-1, value-6, value-9, value-12}
@@ -13,10 +12,8 @@ use Rattle.rfc9309_laws.proofs.SyntaxLemmas.{many}
 use lib.Utf8.{scalar, scalar_cases, scalars}
 use Rattle.std.proofs.lemmas.Bool.{and_parts, cases_lt, le-ltb, lt-ltb}
 use Rattle.rfc9309_laws.specs.HasForm.{is_comment_byte, is_comment_text, is_value_byte, is_value_text}
-use Rattle.std.specs.{Char.encode_utf8}
-use Rattle.std.proofs.{lemmas.Bool.Decides.nat_tests, lemmas.List.drop_all}
-use Rattle.bstr.proofs.{lemmas.SoundLemmas.SpellsChar-decoded}
-use Rattle.texting_robots.proofs.{TrimLemmas.each_append}
+use Rattle.bstr.proofs.lemmas.SoundLemmas.{SpellsChar-decoded}
+use Rattle.texting_robots.proofs.TrimLemmas.{each_append}
 use Rattle.rfc9309_laws.specs.Rfc9309 as rfc
 
 -- above the space, and not `#`
@@ -93,7 +90,7 @@ char_text bytes (inr (inr (inr is))) = four bytes is
 pub text_append : (text later : List ℕ) → IsCharText text → IsCharText later
     → IsCharText (text ++ later)
 text_append text later is also = record {
-  bytes = each_append IsCharByte text later is.bytes also.bytes;
+  bytes = each_append _ text later is.bytes also.bytes;
   utf8 = IsUtf8-append text later is.utf8 also.utf8;
 }
 
@@ -157,12 +154,12 @@ module _ (test : ℕ → Bool) (Part : List ℕ → Type 0)
 
   units_of : (text : List ℕ) → (is_utf8 text && list_all test text) ≡ true → rfc.IsMany Part text
   units_of text is =
-      let (utf8, all) = and_parts (is_utf8 text) (list_all test text) is in
+      let (utf8, all) = and_parts _ _ is in
       let (chars, (are, same)) = IsUtf8-from_is_utf8 text utf8 in
       subst (rfc.IsMany Part) same (units chars are (ap (list_all test) same ∙ all))
 
 pub value_text : (text : List ℕ) → is_value_text text ≡ true → rfc.IsMany rfc.IsUtf8CharNoctl text
-value_text = units_of is_value_byte rfc.IsUtf8CharNoctl value_unit
+value_text = units_of _ _ value_unit
 
 pub comment_text : (text : List ℕ) → is_comment_text text ≡ true → rfc.IsMany rfc.IsCommentUnit text
 comment_text = units_of is_comment_byte rfc.IsCommentUnit comment_unit

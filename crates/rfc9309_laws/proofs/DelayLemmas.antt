@@ -1,16 +1,14 @@
 -- Skipping delays changes no rules if the merged groups are unsplit (`is_unsplit`): each group with rules has
 -- all tokens of the groups without rules that come directly above it.
-use Rattle.std.proofs.Common.{◌≡◌, ℕ, Bool, true, false, not, ◌||◌, ◌&&◌, List, [], ◌∷◌, ◌++◌}
-use Rattle.std.proofs.Common.{ap, codes, cond, filter, flat_map, inl, inr, refl, subst, sym, ◌∙◌}
-use Rattle.std.proofs.Common.{if◌then◌else◌}
+use Rattle.std.proofs.Common.{◌≡◌, ℕ, Bool, true, false, not, ◌||◌, ◌&&◌, List, [], ◌∷◌, ◌++◌, ap, cond}
+use Rattle.std.proofs.Common.{filter, flat_map, inl, inr, refl, subst, sym, ◌∙◌, if◌then◌else◌}
 use Rattle.std.specs.{List.list_all, List.list_any, Str.str_to_ascii_lowercase}
-use Rattle.std.proofs.Math.Bool.{or_assoc}
-use Rattle.std.proofs.lemmas.Bool.{and_parts, cases_Bool}
+use Rattle.std.proofs.{Math.Bool.or_assoc}
+use Rattle.std.proofs.lemmas.{Bool.and_parts, Bool.cases_Bool, Slice.Eq.bytes_eq-Decides}
 use Rattle.std.proofs.lemmas.List.{Elements.filter-append, Folds.list_any-append}
-use Rattle.std.proofs.lemmas.Slice.Eq.{bytes_eq-Decides}
 use Rattle.texting_robots.proofs.CapturedLemmas.{cond_same}
-use Rattle.rfc9309_laws.specs.Rfc9309.{Group, Member, has_token, is_rule, merged, put_before}
-use Rattle.rfc9309_laws.specs.Rfc9309.{Allow, Delay, Disallow, rules_for, standard_rules, without_delays}
+use Rattle.rfc9309_laws.specs.Rfc9309.{Group, Member, has_token, is_rule, merged, put_before, Allow, Delay}
+use Rattle.rfc9309_laws.specs.Rfc9309.{Disallow, rules_for, standard_rules, without_delays}
 use Rattle.rfc9309_laws.proofs.{GroupLemmas.has, GroupLemmas.is_named, GroupLemmas.theirs, Sources.put_both}
 
 -- ---- the condition

@@ -1,23 +1,23 @@
 -- Examples of matching and of verdicts. Where both verdicts agree, that of this library is computed.
-use Rattle.std.proofs.Common.{◌≡◌, ◌≢◌, ◌<◌, ◌++◌, ◌∷◌, ◌&&◌, Bool, true, false, inl, inr, List, [], ℕ}
-use Rattle.std.proofs.Common.{codes, get_or, length, map, nat_lt, refl, ap, arith, subst}
+use Rattle.std.proofs.Common.{◌≡◌, ◌≢◌, ◌<◌, ◌++◌, ◌∷◌, ◌&&◌, Bool, true, false, inl, inr, List, [], ℕ, codes}
+use Rattle.std.proofs.Common.{get_or, length, map, nat_lt, refl, ap, arith, subst}
 use Rattle.std.specs.List.{AllByRecursion as Each, AllZip, Contains, list_all}
 use Rattle.std.specs.{Char.is_ascii_graphic, Prelude.slice_index}
 use Rattle.std.proofs.lemmas.Bool.{and_parts, eqb-false, false≢true, ltb-true}
 use Rattle.texting_robots.specs.{Escape.escaped, Rules.PlacedRule, Rules.unplaced, Trim.IsTrimOf}
-use Rattle.texting_robots.specs.{Verdict.IsVerdict}
+use Rattle.texting_robots.specs.Verdict.{IsVerdict}
 use Rattle.texting_robots.proofs.BestLemmas.{allowed_by, answered, deciding_rule, matches}
-use Rattle.texting_robots.proofs.{ExampleLemmas.matching, ExampleLemmas.not_matching, TrimLemmas.graphic_trim}
-use Rattle.texting_robots.proofs.{TrimLemmas.trimmed_is_trim}
+use Rattle.texting_robots.proofs.ExampleLemmas.{matching, not_matching}
+use Rattle.texting_robots.proofs.TrimLemmas.{graphic_trim, trimmed_is_trim}
 use Rattle.rfc9309_laws.specs.Comparable.{AreComparable, HasTwin, IsFit, IsPathOf, IsPlainPath}
-use Rattle.rfc9309_laws.specs.Examples as example
-use Rattle.rfc9309_laws.specs.Examples.{mixed_rules, page_rules, tsu}
+use Rattle.rfc9309_laws.specs.{Examples.mixed_rules, Examples.page_rules, Examples.tsu, ReadAs.IsReadAs}
 use Rattle.rfc9309_laws.specs.Matching.{IsMatch, IsRfcVerdict, Reading, all_stay, as_in_table, filled}
 use Rattle.rfc9309_laws.specs.Matching.{has_dollar, is_ended, normal_from, normal_path, normal_uri, octets}
-use Rattle.rfc9309_laws.specs.{Matching.without_end, ReadAs.IsReadAs}
-use Rattle.rfc9309_laws.specs.Rfc9309 as rfc
+use Rattle.rfc9309_laws.specs.Matching.{without_end}
 use Rattle.rfc9309_laws.proofs.{SyntaxLemmas.passing, ValueLemmas.visible_trim}
 use Rattle.rfc9309_laws.proofs.VerdictLemmas.{each_contains, verdicts_agree}
+use Rattle.rfc9309_laws.specs.Examples as example
+use Rattle.rfc9309_laws.specs.Rfc9309 as rfc
 
 pub encoding : example.encoding
 unfolding normal_from without_end

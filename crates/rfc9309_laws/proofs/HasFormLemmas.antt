@@ -1,18 +1,16 @@
 -- A line that passes the test of a form has the form.
-use Rattle.std.proofs.Common.{◌≡◌, ◌⊎◌, inl, inr, ℕ, zero, suc, ◌==◌, ◌||◌, ◌&&◌, true, false, List, [], ◌∷◌}
-use Rattle.std.proofs.Common.{◌++◌, append_assoc, ap, arith, bytes_eq, codes, refl, subst, sym, ◌∙◌}
-use Rattle.std.specs.List.{AllByRecursion as Each, Contains, list_all, list_any}
-use Rattle.std.proofs.lemmas.Bool.{and_parts, cases_Bool, eqb-true, false≢true, not-true, or_cases, or_parts}
-use Rattle.rfc9309_laws.proofs.CharLemmas.{comment_text, value_text}
-use Rattle.rfc9309_laws.proofs.{SyntaxLemmas.passing, ValueLemmas.identifier_byte}
+use Rattle.std.proofs.Common.{◌≡◌, ◌⊎◌, inl, inr, ℕ, ◌==◌, true, false, List, [], ◌∷◌, ◌++◌}
+use Rattle.std.proofs.Common.{append_assoc, ap, arith, bytes_eq, codes, refl, subst, sym, ◌∙◌}
+use Rattle.std.specs.List.{AllByRecursion as Each, Contains, list_any}
+use Rattle.std.proofs.lemmas.Bool.{and_parts, cases_Bool, eqb-true, false≢true, not-true, or_cases}
+use Rattle.rfc9309_laws.proofs.{CharLemmas.comment_text, CharLemmas.value_text, SyntaxLemmas.passing}
+use Rattle.rfc9309_laws.proofs.ValueLemmas.{identifier_byte}
 use Rattle.rfc9309_laws.specs.HasForm.{are_some, colon, has_byte, has_form, hash, is_blank, is_comment_text}
-use Rattle.rfc9309_laws.specs.HasForm.{is_digit, is_identifier_byte, is_keyed, is_number, is_other_name}
-use Rattle.rfc9309_laws.specs.HasForm.{is_pattern, is_product_token, is_value_text, kept_before, lower}
-use Rattle.rfc9309_laws.specs.HasForm.{name_in, stripped, text_after, text_before, text_from, value_in}
-use Rattle.rfc9309_laws.specs.HasForm.{without_leading, without_trailing}
+use Rattle.rfc9309_laws.specs.HasForm.{is_digit, is_identifier_byte, is_keyed, is_number, is_pattern}
+use Rattle.rfc9309_laws.specs.HasForm.{is_product_token, kept_before, lower, name_in, stripped, text_after}
+use Rattle.rfc9309_laws.specs.HasForm.{text_before, text_from, value_in, without_leading, without_trailing}
 use Rattle.rfc9309_laws.specs.LineForms.{Form, IsLine, Empty, Agent, Rule, Delay, Sitemap, Other}
-use Rattle.std.proofs.lemmas.Bool.Decides.{nat_tests}
-use Rattle.std.proofs.lemmas.Slice.Eq.{bytes_eq-Decides}
+use Rattle.std.proofs.lemmas.{Bool.Decides.nat_tests, List.Folds.list_any-from_Any, Slice.Eq.bytes_eq-Decides}
 use Rattle.rfc9309_laws.specs.Rfc9309 as rfc
 
 -- ---- a text and its parts
@@ -160,14 +158,9 @@ number value is = elim (or_cases _ _ is) [
 
 not_listed : (name : List ℕ) (names : List (List ℕ)) → list_any (bytes_eq name) names ≡ false
     → Contains names name → ⊥
-not_listed name [] none (k, within, is) = absurd (omega arith)
-not_listed name (first ∷ names) none (zero, within, is) =
-    let parts = or_parts (bytes_eq name _) _ none in
-    let same = (bytes_eq-Decides name _).1 (sym is) in
-    false≢true (sym parts.0 ∙ same)
-not_listed name (first ∷ names) none (suc k, within, is) =
-    let parts = or_parts _ _ none in
-    not_listed name names parts.1 (k, omega arith, is)
+not_listed name names none (k, within, is) =
+    let same = (bytes_eq-Decides name name).1 refl in
+    false≢true (sym none ∙ list_any-from_Any (bytes_eq name) names (k, name, within, is, same))
 
 -- ---- the forms
 

@@ -1,33 +1,31 @@
 -- What is known of a line of the grammar: it is content with a terminator, passes the test of its form, and
 -- is read as its source line. Lines with a field name, a
 -- colon and a value are such lines.
-use Rattle.std.proofs.Common.{◌≡◌, ◌≢◌, ◌⊎◌, inl, inr, ℕ, ◌<◌, ◌==◌, ◌||◌, Bool, true, false, List, [], ◌∷◌}
+use Rattle.std.proofs.Common.{◌≡◌, ◌≢◌, ◌⊎◌, inl, inr, ℕ, ◌<◌, ◌||◌, Bool, true, false, List, [], ◌∷◌}
 use Rattle.std.proofs.Common.{◌++◌, append-nil, ap, arith, bytes_eq, drop, map, refl, subst, sym, ◌∙◌}
 use Rattle.std.proofs.Common.{append_assoc, codes, filter, get_or}
-use Rattle.std.specs.List.{AllByRecursion as Each, list_all, Contains}
+use Rattle.std.specs.{List.AllByRecursion as Each, List.list_all, List.Contains, Char.to_ascii_lowercase}
 use Rattle.std.proofs.lemmas.Bool.{and_from, eq-eqb, false_from_ne_true, ne_eqb}
 use Rattle.std.proofs.lemmas.Str.{IsUtf8-append, IsUtf8-encode, IsUtf8-nil, encode_ascii, is_utf8-from_IsUtf8}
 use lib.Utf8.{low_scalar}
 use Rattle.texting_robots.specs.Statement.{IsBlank, IsStatement, field_names}
-use Rattle.texting_robots.specs.{Line.LineValue, Trim.IsTrimOf}
+use Rattle.texting_robots.specs.{Line.LineValue, Trim.IsTrimOf, declared.parser.statement.Kind.Kind}
 use Rattle.texting_robots.proofs.TrimLemmas.{each_append, blanks_skipped, same_trim}
 use Rattle.texting_robots.proofs.{LineLemmas.line_stated, StatementLemmas.statement_found}
 use Rattle.rfc9309_laws.proofs.CharLemmas.{IsCharByte, IsCharText, char_text}
 use Rattle.rfc9309_laws.proofs.ValueLemmas.{blank_no_letter, identifier_bounds, blanks_after, identifier}
 use Rattle.rfc9309_laws.proofs.Sources.{IsRead, Source, is_not_raw, parts_in, source_of, written}
-use Rattle.rfc9309_laws.proofs.SyntaxLemmas.{each_weaker, many}
-use Rattle.rfc9309_laws.proofs.{ReadLemmas.BeginsLow, ReadLemmas.IsBare, HasFormLemmas.blank}
+use Rattle.rfc9309_laws.proofs.{SyntaxLemmas.each_weaker, SyntaxLemmas.many, HasFormLemmas.blank}
+use Rattle.rfc9309_laws.proofs.ReadLemmas.{BeginsLow, IsBare}
 use Rattle.rfc9309_laws.specs.HasForm.{colon, has_byte, hash, is_blank, is_comment_byte, is_comment_text}
 use Rattle.rfc9309_laws.specs.HasForm.{is_value_byte, is_value_text, kept_before, name_in, stripped}
 use Rattle.rfc9309_laws.specs.HasForm.{text_after, text_before, text_from, without_leading, without_trailing}
 use Rattle.rfc9309_laws.specs.HasForm.{has_form, is_identifier_byte, is_keyed, is_number, is_pattern}
 use Rattle.rfc9309_laws.specs.HasForm.{is_product_token, lower, value_in}
 use Rattle.rfc9309_laws.specs.LineForms.{Form, Agent, Delay, Rule, Sitemap}
-use Rattle.std.specs.{Char.to_ascii_lowercase, Str.IsUtf8}
-use Rattle.std.proofs.lemmas.Bool.Decides.{nat_tests}
-use Rattle.std.proofs.lemmas.Slice.Eq.{bytes_eq-Decides}
+use Rattle.std.specs.Str.{IsUtf8}
+use Rattle.std.proofs.lemmas.{Bool.Decides.nat_tests, Slice.Eq.bytes_eq-Decides}
 use Rattle.texting_robots.specs.Internal.{Statement.IsOptionalComment, Line.line_with}
-use Rattle.texting_robots.specs.declared.parser.statement.Kind.{Kind}
 use Rattle.rfc9309_laws.specs.Rfc9309 as rfc
 use Rattle.texting_robots.specs.declared.parser.statement.Kind.TheVariants as kind
 
@@ -47,7 +45,7 @@ pub blanks_value : (blanks : List ℕ) → Each IsBlank blanks → Each IsValueB
 blanks_value = each_weaker IsBlank IsValueByte blank_value
 
 pub values_bare : (bytes : List ℕ) → Each IsValueByte bytes → Each IsBare bytes
-values_bare = each_weaker IsValueByte IsBare (λ b is. is.0)
+values_bare = each_weaker _ _ (λ b is. is.0)
 
 -- a byte before the colon: a bare ASCII byte that isn't a colon
 abbrev pub IsFrontByte : ℕ → Type 0
@@ -65,7 +63,7 @@ blanks_low (b ∷ blanks) all = let is = all.0 in omega arith
 pub passes : (P : ℕ → Type 0) (test : ℕ → Bool) → ((b : ℕ) → P b → test b ≡ true) → (text : List ℕ)
     → Each P text → list_all test text ≡ true
 passes P test is [] all = refl
-passes P test is (b ∷ text) all = and_from (test b) _ (is b all.0) (passes P test is text all.1)
+passes P test is (b ∷ text) all = and_from _ _ (is b all.0) (passes P _ is text all.1)
 
 pub or_second : (x y : Bool) → y ≡ true → (x || y) ≡ true
 or_second true y is = refl
@@ -76,7 +74,7 @@ or_first true y is = refl
 or_first false y is = absurd cc
 
 pub same_bytes : (text other : List ℕ) → text ≡ other → bytes_eq text other ≡ true
-same_bytes text other = (bytes_eq-Decides text other).1
+same_bytes text other = (bytes_eq-Decides _ _).1
 
 -- ---- the parts before and after a byte
 
@@ -84,25 +82,23 @@ pub record ArePartsAt (stop : ℕ) (front rest text : List ℕ) : Type 0 where
   pub before : text_before stop text ≡ front
   pub from : text_from stop text ≡ rest
 
-pub parts_at : (stop : ℕ) (front rest : List ℕ) → Each (λ b. b ≢ stop) front
-    → ArePartsAt stop front (stop ∷ rest) (front ++ stop ∷ rest)
-parts_at stop [] rest all =
-    let is = eq-eqb stop stop refl in record { before = rw is refl; from = rw is refl }
-parts_at stop (b ∷ front) rest all =
+parts : (stop : ℕ) (front rest : List ℕ) → Each (λ b. b ≢ stop) front
+    → ArePartsAt stop [] rest rest → ArePartsAt stop front rest (front ++ rest)
+parts stop [] rest all is = is
+parts stop (b ∷ front) rest all is =
     let other = ne_eqb b stop all.0 in
-    let later = parts_at stop front rest all.1 in
+    let later = parts stop front rest all.1 is in
     record { before = rw other (ap (λ t. b ∷ t) later.before); from = rw other later.from }
 
-parts_none : (stop : ℕ) (text : List ℕ) → Each (λ b. b ≢ stop) text → ArePartsAt stop text [] text
-parts_none stop [] all = record { before = refl; from = refl }
-parts_none stop (b ∷ text) all =
-    let other = ne_eqb b stop all.0 in
-    let later = parts_none stop text all.1 in
-    record { before = rw other (ap (λ t. b ∷ t) later.before); from = rw other later.from }
+pub parts_at : (stop : ℕ) (front rest : List ℕ) → Each (λ b. b ≢ stop) front
+    → ArePartsAt stop front (stop ∷ rest) (front ++ stop ∷ rest)
+parts_at stop front rest all =
+    let is = eq-eqb stop stop refl in
+    parts stop front (stop ∷ rest) all (record { before = rw is refl; from = rw is refl })
 
 pub has_at : (stop : ℕ) (front rest : List ℕ) → has_byte stop (front ++ stop ∷ rest) ≡ true
 has_at stop [] rest = rw (eq-eqb stop stop refl) refl
-has_at stop (b ∷ front) rest = or_second (b == stop) _ (has_at stop front rest)
+has_at stop (b ∷ front) rest = or_second _ _ (has_at stop front _)
 
 -- ---- spaces and tabs at both ends
 
@@ -148,16 +144,16 @@ abbrev pub IsNameByte : ℕ → Type 0
 IsNameByte b = IsFrontByte b × IsSolid b
 
 pub identifier_name : (word : List ℕ) → Each rfc.IsIdentifierByte word → Each IsNameByte word
-identifier_name = each_weaker rfc.IsIdentifierByte IsNameByte (λ b is.
+identifier_name = each_weaker _ _ (λ b is.
     let bounds = identifier_bounds b is in
     ((inr (omega arith), omega arith, bounds.2), grind (arith, nat_tests)))
 
 -- a byte whose lower case is an identifier byte may occur in a name
 name_letter : (b : ℕ) → rfc.IsIdentifierByte (to_ascii_lowercase b) → IsNameByte b
 name_letter b is =
-    let bounds = identifier_bounds (to_ascii_lowercase b) is in (
+    let bounds = identifier_bounds _ is in (
       (inr (grind (arith, nat_tests)), grind (arith, nat_tests), λ e. bounds.2 (ap to_ascii_lowercase e)),
-      false_from_ne_true (is_blank b) (λ yes. blank_no_letter b (blank b yes) is),
+      false_from_ne_true _ (λ yes. blank_no_letter b (blank b yes) is),
     )
 
 pub name_letters : (key word : List ℕ) → map to_ascii_lowercase key ≡ word → Each rfc.IsIdentifierByte word
@@ -212,8 +208,8 @@ char_passes b is = grind (arith, nat_tests)
 
 pub value_passes : (text : List ℕ) → IsCharText text → is_value_text text ≡ true
 value_passes text is =
-    and_from _ (list_all is_value_byte text) (is_utf8-from_IsUtf8 text is.utf8)
-    (passes IsCharByte is_value_byte char_passes text is.bytes)
+    and_from _ _ (is_utf8-from_IsUtf8 text is.utf8)
+    (passes _ _ char_passes text is.bytes)
 
 ascii_utf8 : (b : ℕ) → b < 128 → IsUtf8 (b ∷ [])
 ascii_utf8 b small = subst IsUtf8 (encode_ascii b small) (IsUtf8-encode b (low_scalar b (omega arith)))
@@ -237,7 +233,7 @@ comment_text text is =
     (λ xs ys is also. (each_append IsBare xs ys is.0 also.0, IsUtf8-append xs ys is.1 also.1)) comment_unit
     text is in (
       bare,
-      and_from _ (list_all is_comment_byte text) (is_utf8-from_IsUtf8 text utf8)
+      and_from _ _ (is_utf8-from_IsUtf8 text utf8)
           (passes IsBare is_comment_byte bare_passes text bare),
     )
 
@@ -264,7 +260,8 @@ remark comment (inr is) =
 -- a text without `#`, and a comment or nothing
 pub parts_comment : (region comment : List ℕ) → Each (λ b. b ≢ hash) region → IsOptionalComment comment
     → ArePartsAt hash region comment (region ++ comment)
-parts_comment region comment all (inl none) = rw (none, append-nil) (parts_none hash region all)
+parts_comment region comment all (inl none) =
+    parts hash region comment all (rw none (record { before = refl; from = refl }))
 parts_comment region comment all (inr (text, is)) = rw is (parts_at hash region text all)
 
 -- ---- a line and what is known of it
@@ -352,13 +349,13 @@ module _ (kind : Kind) (value read text : List ℕ) (line : rfc.IsKeyed (word_of
 
   are_values : Each IsValueByte region
   are_values =
-      each_append IsValueByte line.gap (value ++ eol.blanks) (blanks_value line.gap line.gap_blank)
+      each_append IsValueByte line.gap _ (blanks_value line.gap line.gap_blank)
       (each_append IsValueByte value eol.blanks
       (each_weaker IsCharByte IsValueByte char_value value chars.bytes)
       (blanks_value eol.blanks eol.are_blanks))
 
   no_hash : Each (λ b. b ≢ hash) region
-  no_hash = each_weaker IsValueByte (λ b. b ≢ hash) (λ b is. is.1) region are_values
+  no_hash = each_weaker _ (λ b. b ≢ hash) (λ b is. is.1) region are_values
 
   comment : IsRemark eol.comment
   comment = remark eol.comment eol.is_comment
@@ -400,7 +397,7 @@ module _ (kind : Kind) (value read text : List ℕ) (line : rfc.IsKeyed (word_of
     is_comment = comment.is;
     trimmed =
         same_trim region (value ++ eol.blanks) read
-        (blanks_skipped line.gap (value ++ eol.blanks) line.gap_blank)
+        (blanks_skipped line.gap _ line.gap_blank)
         (blanks_after eol.blanks value read eol.are_blanks chars.utf8 trim);
   }
 

@@ -6,7 +6,6 @@ pub mod MemberLemmas
 pub mod OtherLemmas
 pub mod Sample
 pub mod HasFormLemmas
-pub mod FormsOfFileLemmas
 pub mod SyntaxLemmas
 pub mod CharLemmas
 pub mod ValueLemmas
@@ -18,7 +17,6 @@ pub mod DelayLemmas
 pub mod LineFormLemmas
 pub mod FileLemmas
 pub mod RobotLemmas
-pub mod MatchLemmas
 pub mod NormalLemmas
 pub mod VerdictLemmas
 pub mod ExampleLemmas

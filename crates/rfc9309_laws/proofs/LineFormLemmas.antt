@@ -1,41 +1,40 @@
 -- A text whose lines have the forms of the grammar's lines, with each rule below a user-agent line, is a file
 -- of the grammar. It consists of the contents of its lines, each with terminators after it. Each user-agent
 -- line begins a group of its own, whose members are those up to the next user-agent line. The text is built
--- from its last line on.
+-- from its last line on. And only such a text is a file of the grammar.
 use Rattle.std.proofs.Common.{◌≡◌, ◌⊎◌, inl, inr, ℕ, List, [], ◌∷◌, ◌++◌, sym, refl, ap, ◌∙◌, append_assoc}
 use Rattle.std.proofs.Common.{◌≢◌, zero, suc, arith, subst}
-use Rattle.std.specs.List.{AllByRecursion as Each, AllZip}
-use Rattle.texting_robots.specs.Cut.{IsBodyByte, cr, lf}
+use Rattle.std.specs.{List.AllByRecursion as Each, List.AllZip, Prelude.Contains, Prelude.All}
+use Rattle.texting_robots.specs.{Cut.IsBodyByte, Cut.cr, Cut.lf, Internal.Cut.bodies_of, Line.without_front}
 use Rattle.texting_robots.proofs.CrLfLemmas.{body_step, step}
-use Rattle.rfc9309_laws.specs.Rfc9309.{IsLastNl, IsNl}
+use Rattle.rfc9309_laws.specs.{Rfc9309.IsLastNl, Rfc9309.IsNl, StandardRobot.IsFileBelow}
 use Rattle.rfc9309_laws.specs.LineForms.{Form, IsLine, HasForm, Empty, Agent, Rule, Delay, Sitemap, Other}
 use Rattle.rfc9309_laws.specs.LineForms.{AreForms, AreRulesBelowAgents}
 use Rattle.rfc9309_laws.proofs.SyntaxLemmas.{repeats_both, repeats_none, repeats_one}
-use Rattle.std.proofs.{lemmas.Bool.ne_eqb, lemmas.List.Elements.recursion_from_All}
-use Rattle.texting_robots.specs.{Internal.Cut.bodies_of, Executable.file_bodies, Line.without_front}
-use Rattle.texting_robots.proofs.{CutFromFront.bodies_nil, CutLemmas.byte_cases}
-use Rattle.std.specs.{Prelude.Contains}
-use Rattle.rfc9309_laws.proofs.{HasFormLemmas.form_passes, KeyedLemmas.AreFree}
-use Rattle.rfc9309_laws.proofs.{OtherLemmas.form_tested, ReadLemmas.nothing_replaced}
+use Rattle.std.proofs.lemmas.{Bool.ne_eqb, List.Elements.recursion_from_All, List.Elements.All-from_recursion}
+use Rattle.texting_robots.specs.Executable.{file_bodies}
+use Rattle.texting_robots.proofs.{CutFromFront.bodies_nil, CutLemmas.byte_cases, TrimLemmas.each_append}
+use Rattle.rfc9309_laws.proofs.{HasFormLemmas.form_passes, KeyedLemmas.AreFree, KeyedLemmas.HasNoRule}
+use Rattle.rfc9309_laws.proofs.OtherLemmas.{form_tested, only_empty}
+use Rattle.rfc9309_laws.proofs.ReadLemmas.{nothing_replaced, end_more}
+use Rattle.rfc9309_laws.proofs.FileLemmas.{Line, after_front, bodies_are, file_made, file_with, forms_of}
+use Rattle.rfc9309_laws.proofs.FileLemmas.{has_delays, joined, line_bodies, lines_free, no_nul, sources_are}
+use Rattle.rfc9309_laws.proofs.FileLemmas.{sources_from}
 use Rattle.rfc9309_laws.specs.Rfc9309 as rfc
 
 -- ---- the contents of a text, and the terminators after them
 
-abbrev pub IsEndByte : ℕ → Type 0
+abbrev IsEndByte : ℕ → Type 0
 IsEndByte byte = (byte ≡ cr) ⊎ (byte ≡ lf)
 
 -- the content, one or more bytes of terminators, and the rest
-pub record IsEndedBefore (Rest : List ℕ → Type 0) (body text : List ℕ) : Type 0 where
-  pub end : ℕ
-  pub ends : List ℕ
-  pub rest : List ℕ
-  pub whole : text ≡ body ++ (end ∷ (ends ++ rest))
-  pub is_end : IsEndByte end
-  pub are_ends : Each IsEndByte ends
-  pub is_rest : Rest rest
+abbrev IsEndedBefore : (List ℕ → Type 0) → (body text : List ℕ) → Type 0
+IsEndedBefore Rest body text =
+    (end : ℕ) × (ends : List ℕ) × (rest : List ℕ) × (text ≡ body ++ (end ∷ (ends ++ rest)))
+    × IsEndByte end × Each IsEndByte ends × Rest rest
 
 -- the text consists of these contents, each with a terminator after it
-abbrev pub AreEnded : List (List ℕ) → List ℕ → Type 0
+abbrev AreEnded : List (List ℕ) → List ℕ → Type 0
 AreEnded [] text = text ≡ []
 AreEnded (body ∷ bodies) text = Each IsBodyByte body × IsEndedBefore (AreEnded bodies) body text
 
@@ -46,49 +45,18 @@ IsCompleted bodies text = (nl : List ℕ) × IsLastNl nl × AreEnded bodies (tex
 -- one more line with this terminator
 new_line : (end : ℕ) (bodies : List (List ℕ)) (text : List ℕ) → IsEndByte end → AreEnded bodies text
     → AreEnded ([] ∷ bodies) (end ∷ text)
-new_line end bodies text is are = (
-  tt,
-  record {
-    end = end;
-    ends = [];
-    rest = text;
-    whole = refl;
-    is_end = is;
-    are_ends = tt;
-    is_rest = are;
-  },
-)
+new_line end bodies text is are = (tt, (end, [], text, refl, is, tt, are))
 
 byte_before : (b : ℕ) (body : List ℕ) (bodies : List (List ℕ)) (text : List ℕ) → IsBodyByte b
     → AreEnded (body ∷ bodies) text → AreEnded ((b ∷ body) ∷ bodies) (b ∷ text)
-byte_before b body bodies text is (bytes, line) = (
-  (is, bytes),
-  record {
-    end = line.end;
-    ends = line.ends;
-    rest = line.rest;
-    whole = ap (λ t. b ∷ t) line.whole;
-    is_end = line.is_end;
-    are_ends = line.are_ends;
-    is_rest = line.is_rest;
-  },
-)
+byte_before b body bodies text is (bytes, (end, ends, rest, whole, is_end, are_ends, line)) =
+    ((is, bytes), (end, ends, rest, ap (λ t. b ∷ t) whole, is_end, are_ends, line))
 
 -- a CR before terminators is one more byte of them
 return_before : (bodies : List (List ℕ)) (text : List ℕ) → AreEnded ([] ∷ bodies) text
     → AreEnded ([] ∷ bodies) (cr ∷ text)
-return_before bodies text (bytes, line) = (
-  tt,
-  record {
-    end = cr;
-    ends = line.end ∷ line.ends;
-    rest = line.rest;
-    whole = ap (λ t. cr ∷ t) line.whole;
-    is_end = inl refl;
-    are_ends = (line.is_end, line.are_ends);
-    is_rest = line.is_rest;
-  },
-)
+return_before bodies text (bytes, (end, ends, rest, whole, is_end, are_ends, line)) =
+    (tt, (cr, end ∷ ends, rest, ap (λ t. cr ∷ t) whole, inl refl, (is_end, are_ends), line))
 
 after_return : (bodies : List (List ℕ)) (text : List ℕ) → IsCompleted bodies text
     → IsCompleted (body_step cr bodies) (cr ∷ text)
@@ -282,14 +250,13 @@ tail_of : (forms : List Form) (bodies : List (List ℕ)) (text : List ℕ) → A
 tail_of [] [] text all none = rw none nothing
 tail_of [] (body ∷ bodies) text all are = absurd all
 tail_of (form ∷ forms) [] text all are = absurd all
-tail_of (form ∷ forms) (body ∷ bodies) text (is, all) (bytes, line) =
-    let tail = tail_of forms bodies line.rest all line.is_rest in
+tail_of (form ∷ forms) (body ∷ bodies) text (is, all)
+    (bytes, (end, ends, rest, whole, is_end, are_ends, are)) =
     let ended =
-    form_passes form body (line.end ∷ []) (is_nl line.end line.is_end) (form_tested body bytes form is) in
-    let after = ends_before line.ends line.rest line.are_ends tail in
-    let whole : text ≡ (body ++ line.end ∷ []) ++ (line.ends ++ line.rest) =
-    line.whole ∙ simp append_assoc in
-    rw whole (form_before form forms _ _ ended after)
+    form_passes form body (end ∷ []) (is_nl end is_end) (form_tested body bytes form is) in
+    let after = ends_before ends rest are_ends (tail_of forms bodies rest all are) in
+    let joined : text ≡ (body ++ end ∷ []) ++ (ends ++ rest) = whole ∙ simp append_assoc in
+    rw joined (form_before form forms (body ++ end ∷ []) (ends ++ rest) ended after)
 
 pub forms_make_file : (text : List ℕ) (forms : List Form) → AreForms forms text
     → (groups : List rfc.Group) × rfc.IsFile groups text
@@ -317,5 +284,123 @@ forms_make_file text forms are =
           is_front = tail.are_free (are_free forms are.below);
           are_groups = tail.are_groups;
         };
+      },
+    )
+
+-- ---- the forms of the contents
+
+free_next : (form : Form) (forms others : List Form) → (AreFree forms → AreFree others)
+    → AreFree (form ∷ forms) → AreFree (form ∷ others)
+free_next Agent forms others more free = tt
+free_next Rule forms others more free = absurd free
+free_next form forms others more free = more free
+
+-- the contents have forms, in which no rule is above the first user-agent line if that is so in the others
+record AreFormed (others : List Form) (bodies : List (List ℕ)) : Type 0 where
+  forms : List Form
+  each : AllZip HasForm forms bodies
+  free : AreFree others → AreFree forms
+
+-- an empty content has only the form of an empty line
+without_empty : (others : List Form) (bodies : List (List ℕ)) → AreFormed others ([] ∷ bodies)
+    → AreFormed others bodies
+without_empty others bodies are = at are.forms are.each are.free
+  where
+    at : (forms : List Form) → AllZip HasForm forms ([] ∷ bodies) → (AreFree others → AreFree forms)
+        → AreFormed others bodies
+    at [] each free = absurd each
+    at (form ∷ forms) (is, each) free =
+        let same = only_empty form is in
+        record {
+          forms = forms;
+          each = each;
+          free = λ is_free. subst (λ f. AreFree (f ∷ forms)) same (free is_free);
+        }
+
+formed : (lines : List Line) → AreFormed (forms_of lines) (bodies_of (joined lines))
+formed [] = record { forms = []; each = rw bodies_nil tt; free = λ free. free }
+formed (line ∷ lines) =
+    let rest = formed lines in
+    let before = line_bodies line (joined lines) in
+    let later : AreFormed (forms_of lines) before.later = elim before.same [
+      | inl same ↦ rw same rest
+      | inr more ↦ without_empty _ before.later (rw more at rest)
+    ] in
+    rw before.whole (record {
+      forms = line.form ∷ later.forms;
+      each = (form_passes line.form line.is.body (lf ∷ []) (inr (inl refl)) line.is.tested, later.each);
+      free = free_next line.form _ later.forms later.free;
+    })
+
+-- the forms without that of the last content
+without_last : (forms : List Form) (bodies : List (List ℕ)) → AllZip HasForm forms (bodies ++ [] ∷ [])
+    → AreFormed forms bodies
+without_last [] [] each = absurd each
+without_last [] (body ∷ bodies) each = absurd each
+without_last (form ∷ forms) [] each = record { forms = []; each = tt; free = λ free. tt }
+without_last (form ∷ forms) (body ∷ bodies) (is, each) =
+    let rest = without_last forms _ each in
+    record {
+      forms = form ∷ rest.forms;
+      each = (is, rest.each);
+      free = free_next form _ _ rest.free;
+    }
+
+-- ---- rules are below user-agent lines
+
+contains_next : (form : Form) (above : List Form) → Contains above Agent → Contains (form ∷ above) Agent
+contains_next form above (k, within, is) = (suc k, omega arith, is)
+
+free_below : (forms above below : List Form) → AreFree forms → forms ≡ above ++ Rule ∷ below
+    → Contains above Agent
+free_below forms [] below free e = absurd (rw e at free)
+free_below forms (Agent ∷ above) below free e = (zero, omega arith, refl)
+free_below forms (Rule ∷ above) below free e = absurd (rw e at free)
+free_below forms (form ∷ above) below free e =
+    contains_next _ _ (free_below _ above _ (rw e at free) refl)
+
+-- ---- the file
+
+bom_no_nul : (bom : List ℕ) → rfc.IsBom bom → Each (λ b. b ≢ 0) bom
+bom_no_nul bom (inl none) = rw none tt
+bom_no_nul bom (inr is) = rw is ((λ e. cc), ((λ e. cc), ((λ e. cc), tt)))
+
+pub file_has_forms : (text : List ℕ) (groups : List rfc.Group) → rfc.IsFile groups text
+    → (forms : List Form) × AreForms forms text
+file_has_forms text groups wide =
+    let (numbers, file) = has_delays text groups wide in
+    let all = file_made numbers groups (file.rest ++ file.nl) file.is_content in
+    let lines = all.lines in
+    let Content = IsFileBelow numbers groups in
+    let every =
+    each_append (λ b. b ≢ 0) file.bom file.rest (bom_no_nul file.bom file.is_bom)
+    (no_nul Content text file lines all.whole) in
+    let front : without_front text ≡ file.rest =
+    ap without_front (file.whole ∙ sym (nothing_replaced (file.bom ++ file.rest) every))
+    ∙ after_front Content text file lines all.whole in
+    let none : HasNoRule (sources_from lines) =
+    subst HasNoRule (sources_are Content text file lines all.whole)
+    (file_with text numbers groups file).none in
+    let whole : AreFormed (forms_of lines) _ =
+    subst (λ t. AreFormed (forms_of lines) (bodies_of t)) (sym all.whole) (formed lines) in
+    let are : AreFormed (forms_of lines) (bodies_of file.rest) =
+    elim (end_more file.rest file.nl file.is_nl) [
+      | inl same ↦ record {
+        forms = whole.forms;
+        each = subst (AllZip HasForm whole.forms) same whole.each;
+        free = whole.free;
+      }
+      | inr more ↦ let last =
+          without_last whole.forms (bodies_of file.rest)
+          (subst (AllZip HasForm whole.forms) more whole.each) in
+          record { forms = last.forms; each = last.each; free = λ free. last.free (whole.free free) }
+    ] in (
+      are.forms,
+      record {
+        no_nul = subst (All (λ b. b ≢ 0)) (sym file.whole) (All-from_recursion (λ b. b ≢ 0) _ every);
+        bom = (file.bom, file.is_bom, file.whole ∙ ap (λ t. file.bom ++ t) (sym front));
+        each = rw (bodies_are Content text file lines all.whole) are.each;
+        below = λ above below e.
+            free_below are.forms above below (are.free (lines_free lines none)) e;
       },
     )

@@ -1,26 +1,23 @@
 -- The lines of product tokens, rules, delays and sitemaps.
 use Rattle.std.proofs.Common.{◌≡◌, ◌≢◌, ◌⊎◌, inl, inr, ℕ, ◌==◌, ◌||◌, true, List, [], ◌∷◌, ◌++◌, All, Some}
 use Rattle.std.proofs.Common.{append-nil, append_assoc, ap, arith, codes, drop, get_or, refl, subst, sym, ◌∙◌}
-use Rattle.std.proofs.lemmas.{Bool.and_from, Bool.ne_eqb, Str.is_utf8-from_IsUtf8}
+use Rattle.std.proofs.lemmas.{Bool.and_from, Bool.ne_eqb, Str.is_utf8-from_IsUtf8, Bool.Decides.nat_tests}
 use Rattle.std.proofs.lemmas.List.Elements.{All-from_recursion, All-nil}
-use Rattle.texting_robots.specs.Line.{UserAgent, Allow, CrawlDelay, Disallow}
-use Rattle.texting_robots.specs.{Delay.Decimal, Delay.NamesDelay, Delay.Writes, Trim.IsTrimOf}
-use Rattle.texting_robots.specs.Internal.Line.{line_with, delay_or_raw}
-use Rattle.texting_robots.specs.Internal.{Delay.delay_of, Delay.rounded, Statement.trimmed}
+use Rattle.texting_robots.specs.{Line.UserAgent, Line.Allow, Line.CrawlDelay, Line.Disallow, Delay.Decimal}
+use Rattle.texting_robots.specs.{Delay.NamesDelay, Delay.Writes, Trim.IsTrimOf, Internal.Statement.trimmed}
+use Rattle.texting_robots.specs.Internal.{Line.line_with, Line.delay_or_raw, Delay.delay_of, Delay.rounded}
 use Rattle.texting_robots.proofs.DelayLemmas.{is_delay_of, one_delay, rounded_rounds}
 use Rattle.texting_robots.proofs.TrimLemmas.{each_append, trimmed_is_trim}
-use Rattle.rfc9309_laws.proofs.CharLemmas.{IsCharByte, IsCharText, chars_text, text_append}
+use Rattle.rfc9309_laws.proofs.CharLemmas.{IsCharText, chars_text, text_append}
 use Rattle.rfc9309_laws.proofs.KeyedLemmas.{IsLineOf, keyed_line, has_at, or_first, or_second, parts_at}
 use Rattle.rfc9309_laws.proofs.KeyedLemmas.{passes, same_bytes, value_passes}
 use Rattle.rfc9309_laws.proofs.ValueLemmas.{IsVisible, trim_some, trim_utf8, visible_trim, visible_utf8}
 use Rattle.rfc9309_laws.proofs.Sources.{Parts, Source, allowed_in, with_address, with_member, with_source}
 use Rattle.rfc9309_laws.proofs.SyntaxLemmas.{each_weaker}
-use Rattle.rfc9309_laws.specs.HasForm.{are_some, has_byte, is_digit, is_identifier_byte}
-use Rattle.rfc9309_laws.specs.HasForm.{is_number, is_pattern, is_product_token}
+use Rattle.rfc9309_laws.specs.HasForm.{are_some, is_digit, is_identifier_byte, is_number}
+use Rattle.rfc9309_laws.specs.HasForm.{is_pattern, is_product_token}
 use Rattle.rfc9309_laws.specs.LineForms.{Form, Agent, Rule, Delay, Sitemap}
-use Rattle.std.specs.List.{AllByRecursion as Each}
-use Rattle.std.specs.{Char.IsAsciiDigit, Str.is_utf8}
-use Rattle.std.proofs.lemmas.Bool.Decides.{nat_tests}
+use Rattle.std.specs.{List.AllByRecursion as Each, Char.IsAsciiDigit, Str.is_utf8}
 use Rattle.std.proofs.lemmas.Str.Parse.{without_leading_plus_none}
 use Rattle.texting_robots.specs.Line as library
 use Rattle.texting_robots.specs.declared.parser.statement.Kind.TheVariants as kind
@@ -38,19 +35,19 @@ identifier_plain b is = grind arith
 pub token_plain : (token : List ℕ) → rfc.IsProductToken token → Each IsPlain token
 token_plain [] is = tt
 token_plain (b ∷ token) (inl is) =
-    each_weaker rfc.IsIdentifierByte IsPlain identifier_plain (b ∷ token) is
+    each_weaker _ _ identifier_plain (b ∷ token) is
 token_plain (b ∷ token) (inr is) =
-    subst (Each IsPlain) (sym is) (grind arith)
+    subst (Each _) (sym is) (grind arith)
 
 -- plain bytes are characters, and trimming leaves them unchanged
 pub plain_text : (bytes : List ℕ) → Each IsPlain bytes → IsCharText bytes × IsTrimOf bytes bytes
 plain_text bytes plain =
-    let visible = each_weaker IsPlain IsVisible (λ b is. is.0) bytes plain in (
+    let visible = each_weaker _ _ (λ b is. is.0) bytes plain in (
       record {
-        bytes = each_weaker IsPlain IsCharByte (λ b is. (is.0.0, is.1)) bytes plain;
+        bytes = each_weaker _ _ (λ b is. (is.0.0, is.1)) bytes plain;
         utf8 = visible_utf8 bytes visible;
       },
-      visible_trim bytes visible,
+      visible_trim _ visible,
     )
 
 identifier_passes : (b : ℕ) → rfc.IsIdentifierByte b → is_identifier_byte b ≡ true
@@ -58,18 +55,18 @@ identifier_passes b is = grind (arith, nat_tests)
 
 pub name_passes : (name : List ℕ) → rfc.IsIdentifier name → are_some is_identifier_byte name ≡ true
 name_passes [] is = absurd is
-name_passes (b ∷ name) is = passes rfc.IsIdentifierByte is_identifier_byte identifier_passes (b ∷ name) is
+name_passes (b ∷ name) is = passes _ _ identifier_passes (b ∷ name) is
 
 token_passes : (token : List ℕ) → rfc.IsProductToken token → is_product_token token ≡ true
-token_passes token (inl is) = rw (name_passes token is) refl
+token_passes token (inl is) = rw (name_passes _ is) refl
 token_passes token (inr is) =
-    or_second (are_some is_identifier_byte token) _ (same_bytes token (codes "*") is)
+    or_second _ _ (same_bytes _ _ is)
 
 pub token_line : (token text : List ℕ) → rfc.IsStartGroupLine token text
     → IsLineOf Agent ((UserAgent token, token) ∷ []) text
 token_line token text (is, line) =
     let (chars, trim) = plain_text token (token_plain token is) in
-    keyed_line kind.UserAgent token token text line chars trim (UserAgent token) (λ body. refl) (tt, tt)
+    keyed_line kind.UserAgent token token text line chars trim _ (λ body. refl) (tt, tt)
     (λ following forms more none. tt) (token_passes token is)
 
 -- ---- rules
@@ -88,7 +85,7 @@ disallowed (b ∷ read) body some = refl
 -- trimming characters gives UTF-8
 pub trim_is_utf8 : (text : List ℕ) → IsCharText text → is_utf8 (trimmed text) ≡ true
 trim_is_utf8 text chars =
-    is_utf8-from_IsUtf8 (trimmed text) (trim_utf8 text (trimmed text) chars.utf8 (trimmed_is_trim text))
+    is_utf8-from_IsUtf8 _ (trim_utf8 _ _ chars.utf8 (trimmed_is_trim _))
 
 pub slash_plain : IsPlain 47
 slash_plain = grind arith
@@ -108,7 +105,7 @@ begun b value plain first is =
     let text = chars_text is.text is.is_text in
     rw is.whole (record {
       chars = text_append (b ∷ []) is.text (plain_text (b ∷ []) (plain, tt)).0 text;
-      passes = and_from (b == 0x2F || b == 0x2A) _ first (value_passes is.text text);
+      passes = and_from _ _ first (value_passes is.text text);
       plain = λ c text e. subst IsVisible (ap (λ (t : List ℕ). get_or t 0 0) e) plain.0;
     })
 
@@ -125,7 +122,7 @@ emptied word value text all line = record {
   margin_blank = line.margin_blank;
   is_key = line.is_key;
   blanks_blank = line.blanks_blank;
-  gap_blank = each_append rfc.IsWs line.gap value line.gap_blank all;
+  gap_blank = each_append _ _ _ line.gap_blank all;
   is_eol = line.is_eol;
 }
 
@@ -191,7 +188,8 @@ disallow_line (b ∷ pattern) text (is, line) =
       is_line =
           keyed_line kind.Disallow value read text line is.chars trim (Disallow read)
           (λ body. disallowed read body (trim_some b pattern read (is.plain b pattern refl) trim))
-          (rw (trim_is_utf8 value is.chars) (read, trim, refl), tt) (λ following forms more none. cc) is.passes;
+          (rw (trim_is_utf8 value is.chars) (read, trim, refl), tt)
+          (λ following forms more none. cc) is.passes;
       written = λ parts. refl;
       unlisted = λ following. refl;
     }
@@ -215,12 +213,12 @@ digit_passes b is = grind (arith, nat_tests)
 
 digits_pass : (digits : List ℕ) → rfc.IsDigits digits → are_some is_digit digits ≡ true
 digits_pass [] is = absurd is
-digits_pass (b ∷ digits) is = passes rfc.IsDigitByte is_digit digit_passes (b ∷ digits) is
+digits_pass (b ∷ digits) is = passes _ _ digit_passes (b ∷ digits) is
 
 no_point : (digits : List ℕ) → rfc.IsDigits digits → Each (λ b. b ≢ 0x2E) digits
 no_point [] is = tt
 no_point (b ∷ digits) is =
-    each_weaker rfc.IsDigitByte (λ b. b ≢ 0x2E) (λ b digit e. omega arith) (b ∷ digits) is
+    each_weaker _ (λ b. b ≢ 0x2E) (λ b digit e. omega arith) (b ∷ digits) is
 
 record Numbered (number : List ℕ) : Type 0 where
   delay : ℕ
@@ -242,7 +240,7 @@ numbered_by d rest units fraction digit writes plain passes =
     rw (ne_eqb d 45 (λ e. omega arith), no_plus) (inr (n, writes, rounded_rounds n)) in
     record {
       delay = rounded n;
-      is = sym (is_delay_of (d ∷ rest) (Some (rounded n)) names);
+      is = sym (is_delay_of (d ∷ rest) _ names);
       plain = plain;
       passes = passes;
     }
@@ -250,8 +248,8 @@ numbered_by d rest units fraction digit writes plain passes =
 all_digits : (digits : List ℕ) → rfc.IsDigits digits → All IsAsciiDigit digits × Each IsPlain digits
 all_digits [] is = absurd is
 all_digits (d ∷ ds) is = (
-  All-from_recursion IsAsciiDigit (d ∷ ds) is,
-  each_weaker rfc.IsDigitByte IsPlain digit_plain (d ∷ ds) is,
+  All-from_recursion _ (d ∷ ds) is,
+  each_weaker _ IsPlain digit_plain (d ∷ ds) is,
 )
 
 whole_numbered : (digits : List ℕ) → rfc.IsDigits digits → Numbered digits
@@ -263,11 +261,11 @@ whole_numbered (d ∷ ds) is =
       tail = [];
       is_text = sym (append-nil (d ∷ ds));
       whole = digits.0;
-      fraction = All-nil IsAsciiDigit;
+      fraction = All-nil _;
       some = omega arith;
       is_point = inr (refl, refl);
       is_tail = inl (refl, refl);
-    }) digits.1 (or_first (are_some is_digit (d ∷ ds)) _ (digits_pass (d ∷ ds) is))
+    }) digits.1 (or_first _ _ (digits_pass (d ∷ ds) is))
 
 point_plain : Each IsPlain (codes ".")
 point_plain = grind arith
@@ -280,7 +278,7 @@ parts_numbered (d ∷ ds) fraction is following =
     let digits = all_digits fraction following in
     let number : List ℕ = (d ∷ ds) ++ 0x2E ∷ fraction in
     let parts = parts_at 0x2E (d ∷ ds) fraction (no_point (d ∷ ds) is) in
-    numbered_by d (ds ++ (codes "." ++ fraction)) (d ∷ ds) fraction is.0 (record {
+    numbered_by d _ (d ∷ ds) fraction is.0 (record {
       point = codes ".";
       tail = [];
       is_text = simp append-nil;
@@ -289,10 +287,10 @@ parts_numbered (d ∷ ds) fraction is following =
       some = omega arith;
       is_point = inl refl;
       is_tail = inl (refl, refl);
-    }) (each_append IsPlain (d ∷ ds) (codes "." ++ fraction) units.1
+    }) (each_append IsPlain (d ∷ ds) _ units.1
     (each_append IsPlain (codes ".") fraction point_plain digits.1))
-    (or_second (are_some is_digit number) _
-    (and_from (has_byte 0x2E number) _ (has_at 0x2E (d ∷ ds) fraction) (and_from _ _
+    (or_second _ _
+    (and_from _ _ (has_at 0x2E (d ∷ ds) fraction) (and_from _ _
     (ap (are_some is_digit) parts.before ∙ digits_pass (d ∷ ds) is)
     (ap (λ t. are_some is_digit (drop 1 t)) parts.from ∙ digits_pass fraction following))))
 
@@ -311,9 +309,10 @@ delay_line (rfc.Delay number) text (is, line) =
     record {
       source = (CrawlDelay (Some n.delay), number);
       is_line =
-          keyed_line kind.CrawlDelay number number text line chars trim (CrawlDelay (Some n.delay))
+          keyed_line kind.CrawlDelay number number text line chars trim _
           (λ body. ap (λ delay. delay_or_raw delay body) n.is)
-          ((one_delay number (Some n.delay)).1 (sym n.is), tt) (λ following forms more none. more none) n.passes;
+          ((one_delay number (Some n.delay)).1 (sym n.is), tt)
+          (λ following forms more none. more none) n.passes;
       written = λ parts. refl;
       unlisted = λ following. refl;
     }
@@ -333,5 +332,6 @@ sitemap_line address text (is, line) =
     let chars = chars_text address is in
     let value = trimmed address in
     let trim = trimmed_is_trim address in
-    keyed_line kind.Sitemap address value text line chars trim (library.Sitemap value) (λ body. refl)
-    ((rw (trim_is_utf8 address chars) refl, trim), tt) (λ following forms more none. more none) (value_passes address chars)
+    keyed_line kind.Sitemap address value text line chars trim _ (λ body. refl)
+    ((rw (trim_is_utf8 address chars) refl, trim), tt)
+    (λ following forms more none. more none) (value_passes address chars)

@@ -1,17 +1,18 @@
 -- Empty lines, comments, and records that the library ignores; and what all lines have in common.
 use Rattle.std.proofs.Common.{◌≡◌, ◌⊎◌, inl, inr, ℕ, true, false, not, List, [], ◌∷◌, ◌++◌, Option, Some}
-use Rattle.std.proofs.Common.{None, append-nil, append_assoc, ap, arith, bytes_eq, drop, filter, get_or}
-use Rattle.std.proofs.Common.{refl, subst, sym, ◌∙◌, ◌≢◌}
+use Rattle.std.proofs.Common.{None, append-nil, append_assoc, ap, arith, bytes_eq, drop, filter, get_or, refl}
+use Rattle.std.proofs.Common.{subst, sym, ◌∙◌, ◌≢◌}
 use Rattle.std.specs.List.{AllByRecursion as Each, Contains, list_all, list_any}
-use Rattle.std.proofs.lemmas.Bool.{and_from, false_from_ne_true, false≢true}
-use Rattle.texting_robots.specs.Cut.{IsBodyByte, cr, lf}
+use Rattle.std.proofs.lemmas.{Bool.and_from, Bool.false_from_ne_true, Bool.false≢true, Bool.Decides.nat_tests}
+use Rattle.std.proofs.lemmas.{List.map-append, List.append_cancel_right, Map.Views.Contains-from_any}
+use Rattle.texting_robots.specs.{Cut.IsBodyByte, Cut.cr, Cut.lf, declared.parser.statement.Kind.Kind}
 use Rattle.texting_robots.specs.Statement.{IsAfterBlanks, IsAfterColon, IsStatement}
 use Rattle.texting_robots.specs.Internal.Statement.{IsOptionalComment, kind_by, skip_blanks, statement_of}
-use Rattle.texting_robots.proofs.LineLemmas.{line_raw, line_without_kind}
+use Rattle.texting_robots.proofs.{LineLemmas.line_raw, LineLemmas.line_without_kind, TrimLemmas.each_append}
 use Rattle.texting_robots.proofs.StatementLemmas.{NoBlank, found_statement, kept, skip_front}
 use Rattle.rfc9309_laws.proofs.KeyedLemmas.{IsLineOf, IsNamed, IsValueByte, blank_passes, blanks_low}
-use Rattle.rfc9309_laws.proofs.KeyedLemmas.{blanks_value, comment_text, identifier_name, named}
-use Rattle.rfc9309_laws.proofs.KeyedLemmas.{parts_comment, passes, remark, values_bare}
+use Rattle.rfc9309_laws.proofs.KeyedLemmas.{blanks_value, comment_text, identifier_name, named, parts_comment}
+use Rattle.rfc9309_laws.proofs.KeyedLemmas.{passes, remark, values_bare}
 use Rattle.rfc9309_laws.proofs.MemberLemmas.{delay_line, name_passes, rule_line, sitemap_line, token_line}
 use Rattle.rfc9309_laws.proofs.ReadLemmas.{IsBare, low_append}
 use Rattle.rfc9309_laws.proofs.ValueLemmas.{IsWritten, Stops, blank_no_letter, identifier_bounds, same_word}
@@ -20,13 +21,9 @@ use Rattle.rfc9309_laws.proofs.Sources.{Source, is_not_raw, written}
 use Rattle.rfc9309_laws.specs.HasForm.{colon, has_byte, has_form, hash, is_blank, is_comment_text}
 use Rattle.rfc9309_laws.specs.HasForm.{is_other_name, lower}
 use Rattle.rfc9309_laws.specs.LineForms.{Form, HasForm, IsLine, Empty, Agent, Rule, Delay, Sitemap, Other}
-use Rattle.std.specs.{Char.to_ascii_lowercase}
-use Rattle.std.proofs.{lemmas.Bool.Decides.nat_tests, lemmas.List.map-append}
-use Rattle.std.proofs.{lemmas.Map.Views.Contains-from_any, lemmas.Slice.Eq.bytes_eq-Decides}
-use Rattle.texting_robots.specs.{declared.parser.statement.Kind.Kind}
-use Rattle.texting_robots.proofs.{TrimLemmas.each_append}
+use Rattle.std.specs.Char.{to_ascii_lowercase}
+use Rattle.std.proofs.lemmas.Slice.Eq.{bytes_eq-Decides}
 use Rattle.rfc9309_laws.proofs.SyntaxLemmas.{each_back, each_weaker}
-use Rattle.std.proofs.lemmas.List.{append_cancel_right}
 use Rattle.rfc9309_laws.specs.Rfc9309 as rfc
 
 -- ---- empty lines and comments
@@ -89,7 +86,7 @@ written_begins : (spelling : List ℕ) → IsWritten spelling → Begins spellin
 written_begins spelling (inl (is, has)) =
     subst Begins (append-nil spelling) (word_begins spelling [] is)
 written_begins spelling (inr two) =
-    subst Begins (sym two.whole) (word_begins two.word (32 ∷ two.letter ∷ two.back) two.is_word)
+    subst Begins (sym two.whole) (word_begins two.word _ two.is_word)
 
 -- a string whose lower case begins with an identifier byte begins with neither a space nor a tab
 word_plain : (word rest : List ℕ) → Begins (lower word) → NoBlank (word ++ rest)
@@ -105,7 +102,7 @@ colon_stops (b ∷ blanks) text all = blank_no_letter b all.0
 tail_stops : (tail rest : List ℕ) → IsAfterColon tail rest ⊎ IsAfterBlanks tail rest
     → Stops (lower rest)
 tail_stops tail rest (inl (blanks, all, whole)) =
-    subst Stops (sym (ap lower whole)) (colon_stops blanks tail all)
+    subst Stops (sym (ap lower whole)) (colon_stops _ tail all)
 tail_stops tail rest (inr ([], all, some, whole, plain)) = absurd (some refl)
 tail_stops tail rest (inr (b ∷ blanks, all, some, whole, plain)) =
     subst Stops (sym (ap lower whole)) (blank_no_letter b all.0)
@@ -138,7 +135,7 @@ module _ (text : List ℕ) (o : rfc.IsOtherLine text) where
   body = o.margin ++ (o.name ++ after_name)
 
   low_name : Each rfc.IsIdentifierByte (lower o.name)
-  low_name = low_letters o.name (letters o.name o.is_name)
+  low_name = low_letters _ (letters _ o.is_name)
 
   -- after the leading spaces and tabs, the line begins with the record's name, and with the field name if the
   -- line is a directive

@@ -4,7 +4,7 @@ use Rattle.std.proofs.Common.{inl, inr, ℕ, List, [], refl, sym, subst, append-
 use Rattle.std.proofs.Common.{◌∙◌}
 use Rattle.texting_robots.specs.Executable.{delay_for, file_lines, placed_rules, rules_for}
 use Rattle.texting_robots.specs.Robot.{IsFileRejected, IsRobotOf, IsRobotOfFile, RobotValue, file_limit}
-use Rattle.texting_robots.specs.{Line.AreFileLinesOf, Line.nul_as_lf, Rules.IsRejected, Trim.IsTrimOf}
+use Rattle.texting_robots.specs.{Line.AreFileLinesOf, Trim.IsTrimOf}
 use Rattle.texting_robots.proofs.GivenLemmas.{delay_is_computed, sitemaps_are_computed}
 use Rattle.texting_robots.proofs.HeldLemmas.{rejection_is_computed, rules_are_computed}
 use Rattle.texting_robots.proofs.{LineLemmas.each_text_has_its_lines, MainTheoremLemmas.of_lines}

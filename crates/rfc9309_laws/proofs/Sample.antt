@@ -6,15 +6,13 @@ use lib.Utf8.{encode}
 use Rattle.texting_robots.specs.Internal.{Cut.cut, Line.line_of, Statement.statement_of, Delay.delay_of}
 use Rattle.bstr.specs.{Trim.kept_end, Trim.kept_start, Utf8.pieces_from, Utf8.spans_from}
 use Rattle.rfc9309_laws.proofs.{CharLemmas.value_text, FileLemmas.addresses_are, FileLemmas.file_read}
-use Rattle.rfc9309_laws.proofs.{Sources.written}
+use Rattle.rfc9309_laws.proofs.{Sources.written, RobotLemmas.group_is_wide, RobotLemmas.repeats_weaker}
 use Rattle.rfc9309_laws.proofs.HasFormLemmas.{agent_passes, delay_passes, empty_passes, keyed_passes}
 use Rattle.rfc9309_laws.proofs.HasFormLemmas.{other_passes, sitemap_passes}
-use Rattle.rfc9309_laws.proofs.RobotLemmas.{group_is_wide, repeats_weaker}
 use Rattle.rfc9309_laws.proofs.SyntaxLemmas.{repeats_both, repeats_none, repeats_one}
-use Rattle.rfc9309_laws.specs.HasForm.{is_value_text}
+use Rattle.rfc9309_laws.specs.{HasForm.is_value_text, Sample.cr, Sample.cr_lf, Sample.lf, Sample.path}
 use Rattle.rfc9309_laws.specs.Rfc9309 as rfc
 use Rattle.rfc9309_laws.specs.Sample as sample
-use Rattle.rfc9309_laws.specs.Sample.{cr, cr_lf, lf, path}
 
 -- ---- lines one after another
 
@@ -41,9 +39,9 @@ module _ {X : Type 0} (P : X → List ℕ → Type 0) (Q : List ℕ → Type 0) 
   text_in rows = flat_map (λ row. row.text) rows
 
   repeats : (rows : List (Row P Q)) → rfc.Repeats (rfc.IsOneOr P Q) (items_in rows) (text_in rows)
-  repeats [] = repeats_none (rfc.IsOneOr P Q)
+  repeats [] = repeats_none _
   repeats (row ∷ rows) =
-      repeats_both (repeats_one (rfc.IsOneOr P Q) row.items row.text row.is) (repeats rows)
+      repeats_both (repeats_one _ _ row.text row.is) (repeats rows)
 
 module _ (Line : rfc.Member → List ℕ → Type 0) (Gap : List ℕ → Type 0) where
   group : (token start : List ℕ) → rfc.IsStartGroupLine token start
@@ -77,7 +75,7 @@ both = inr (inr refl)
 
 pattern : (first : ℕ) (text : List ℕ) → is_value_text text ≡ true
     → rfc.IsPatternWith (first ∷ []) (first ∷ text)
-pattern first text is = record { text = text; is_text = value_text text is; whole = refl }
+pattern first text is = record { text = text; is_text = value_text _ is; whole = refl }
 
 pub is_robotstxt : rfc.IsRobotstxt sample.bare_groups sample.bare_text
 unfolding is_utf8 chars encode
@@ -113,7 +111,7 @@ is_file =
     let wide =
     group rfc.IsMemberLine rfc.IsSkipped (codes "Bot") _ (agent_passes lf feed (codes "user-agent: Bot") refl)
     (gap _ (inr (inl (_, sitemap_passes lf feed (codes "Sitemap: https://a/s") refl))) ∷ [])
-    (item (rfc.Disallow (codes "*.gif$")) _ (inr (inl (
+    (item _ _ (inr (inl (
       pattern 42 (codes ".gif$") refl,
       keyed_passes cr (inl refl) (codes "disallow") (codes "Disallow: *.gif$") refl,
     )))

@@ -3,9 +3,8 @@
 use Rattle.std.proofs.Common.{◌≡◌, ℕ, Bool, false, not, List, [], ◌∷◌, Option, Some, None, ◌++◌, refl, ap}
 use Rattle.std.proofs.Common.{◌∙◌, append-nil, append_assoc, if◌then◌else◌, map}
 use Rattle.texting_robots.specs.Line.{LineValue, UserAgent, Allow, CrawlDelay, Disallow, Sitemap, is_raw}
-use Rattle.texting_robots.specs.Executable.{rule_in, sitemap_in}
-use Rattle.texting_robots.specs.{Delay.IsDelay, Group.is_group, Trim.IsTrimOf, Rules.Rule}
-use Rattle.texting_robots.specs.Internal.Line.{line_of}
+use Rattle.texting_robots.specs.{Executable.rule_in, Executable.sitemap_in, Delay.IsDelay, Group.is_group}
+use Rattle.texting_robots.specs.{Trim.IsTrimOf, Rules.Rule, Internal.Line.line_of}
 use Rattle.rfc9309_laws.specs.{HasForm.value_in, ReadAs.IsReadAs}
 use Rattle.rfc9309_laws.specs.Rfc9309 as rfc
 

@@ -24,7 +24,7 @@ pub passing : {X : Type 0} (P : X → Type 0) (test : X → Bool) → ((x : X) �
     → Each P xs
 passing P test is [] all = tt
 passing P test is (x ∷ xs) all =
-    let both = and_parts (test x) (list_all test xs) all in
+    let both = and_parts (test x) _ all in
     (is x both.0, passing P test is xs both.1)
 
 module _ {X : Type 0} (P : List X → List ℕ → Type 0) where
@@ -35,8 +35,8 @@ module _ {X : Type 0} (P : List X → List ℕ → Type 0) where
   repeats_one items text is = record {
     units = record { items = items; bytes = text } ∷ [];
     each = (is, tt);
-    written = sym (append-nil items);
-    whole = sym (append-nil text);
+    written = sym (append-nil _);
+    whole = sym (append-nil _);
   }
 
 pub repeats_both : {X : Type 0} {P : List X → List ℕ → Type 0} {items more : List X}
@@ -48,7 +48,7 @@ repeats_both {X} is also =
     let whole = flat_map-append (λ (unit : RepeatUnit X). unit.bytes) is.units also.units in
     record {
       units = is.units ++ also.units;
-      each = each_append _ is.units also.units is.each also.each;
+      each = each_append _ is.units _ is.each also.each;
       written = cc;
       whole = cc;
     }
@@ -58,7 +58,7 @@ pub many : {P Q : List ℕ → Type 0} → Q []
     → ((text later : List ℕ) → Q text → Q later → Q (text ++ later))
     → ((unit : List ℕ) → P unit → Q unit) → (text : List ℕ) → IsMany P text
     → Q text
-many {P} {Q} none both one text is = rw is.whole (joined is.units is.each)
+many {P} {Q} none both one text is = rw is.whole (joined _ is.each)
   where
     joined : (units : List (List ℕ)) → Each P units
         → Q (flat_map (λ (unit : List ℕ). unit) units)

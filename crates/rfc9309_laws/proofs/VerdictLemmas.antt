@@ -1,27 +1,23 @@
 -- The verdict of rules that are read from rules of the grammar is that of the standard.
-use Rattle.std.proofs.Common.{◌≡◌, ◌≢◌, ◌↔◌, ◌⊎◌, ℕ, zero, suc, ◌<◌, Bool, true, false, inl, inr}
-use Rattle.std.proofs.Common.{List, [], ◌∷◌, refl, codes, length, length-append}
-use Rattle.std.proofs.Common.{◌+◌, if◌then◌else◌, sym, ap, ◌∙◌, arith, subst, take}
+use Rattle.std.proofs.Common.{◌≡◌, ◌≢◌, ◌↔◌, ◌⊎◌, ℕ, zero, suc, ◌<◌, Bool, true, false, inl, inr, List, []}
+use Rattle.std.proofs.Common.{◌∷◌, refl, codes, length, length-append, ◌+◌, if◌then◌else◌, sym, ap, ◌∙◌}
+use Rattle.std.proofs.Common.{arith, subst, take}
 use Rattle.std.specs.List.{AllByRecursion as Each, AllZip, Contains, list_any}
 use Rattle.std.proofs.lemmas.Bool.{both_ways, false≢true}
-use Rattle.std.proofs.lemmas.List.{Elements.All-contains, Elements.All-from_recursion}
+use Rattle.std.proofs.lemmas.List.Elements.{All-contains, All-from_recursion}
 use Rattle.texting_robots.specs.Callers.{IsDenied, IsRobotOfFile, IsVerdict, Matches, RobotValue, Rule}
-use Rattle.texting_robots.specs.Callers.{escaped}
-use Rattle.texting_robots.specs.Callers.{file_limit, unplaced}
-use Rattle.texting_robots.specs.{Escape.is_escaped, Pattern.MatchesWith}
-use Rattle.texting_robots.specs.{Trim.IsTrimOf}
+use Rattle.texting_robots.specs.Callers.{escaped, file_limit, unplaced}
+use Rattle.texting_robots.specs.{Escape.is_escaped, Pattern.MatchesWith, Trim.IsTrimOf}
 use Rattle.texting_robots.proofs.{EscapeLemmas.plain_stays, TrimLemmas.is_trimmed}
-use Rattle.texting_robots.proofs.{VerdictLemmas.same_verdicts}
-use Rattle.rfc9309_laws.specs.ReadAs.{IsReadAs}
-use Rattle.rfc9309_laws.specs.Rfc9309 as rfc
-use Rattle.rfc9309_laws.specs.StandardRobot.{IsFileWith}
+use Rattle.texting_robots.proofs.VerdictLemmas.{same_verdicts}
+use Rattle.rfc9309_laws.specs.{ReadAs.IsReadAs, StandardRobot.IsFileWith}
 use Rattle.rfc9309_laws.specs.Comparable.{AreComparable, HasTwin, IsComparedAs, IsPathOf, IsPlainPath}
 use Rattle.rfc9309_laws.specs.Comparable.{has_odd_escape}
-use Rattle.rfc9309_laws.specs.Matching.{IsDisallowed, IsMatch, IsRfcVerdict, Reading, is_ended}
-use Rattle.rfc9309_laws.specs.Matching.{normal_uri, octets, without_end}
+use Rattle.rfc9309_laws.specs.Matching.{IsDisallowed, IsMatch, IsRfcVerdict, Reading, is_ended, normal_uri}
+use Rattle.rfc9309_laws.specs.Matching.{octets, without_end}
 use Rattle.rfc9309_laws.proofs.{FileLemmas.file_with, RobotLemmas.robot_as}
-use Rattle.rfc9309_laws.proofs.MatchLemmas.{end_of, escaped_parts, matches_so}
-use Rattle.rfc9309_laws.proofs.NormalLemmas.{never_matches, no_odd_escape}
+use Rattle.rfc9309_laws.proofs.NormalLemmas.{end_of, escaped_parts, matches_so, never_matches, no_odd_escape}
+use Rattle.rfc9309_laws.specs.Rfc9309 as rfc
 
 -- ---- lists place by place
 
@@ -46,7 +42,7 @@ pub zip_right : (members : List rfc.Member) (rules : List Rule) (member : rfc.Me
     → AllZip IsReadAs members rules → Contains members member
     → (rule : Rule) × Contains rules rule × IsReadAs member rule
 zip_right members rules member zip =
-    zip_has (λ rule member. IsReadAs member rule) rules members member (zip_swap IsReadAs members rules zip)
+    zip_has (λ rule member. IsReadAs member rule) rules members member (zip_swap _ members rules zip)
 
 -- the rule as it is read, if it needn't be trimmed
 abbrev read : rfc.Member → Rule
@@ -68,7 +64,7 @@ each_contains P xs x all has = All-contains P xs x (All-from_recursion P xs all)
 pub octets_are : (stays : Reading) (path spelling : List ℕ) → IsComparedAs stays path spelling
     → length (escaped spelling) ≡ octets stays path
 octets_are stays path spelling is =
-    rw (is.ended, is.normal) (ap length (escaped_parts spelling) ∙ length-append (escaped (without_end spelling)) _
+    rw (is.ended, is.normal) (ap length (escaped_parts spelling) ∙ length-append _ _
     ∙ ap (λ n. length (escaped (without_end spelling)) + n) (size (is_ended spelling)))
   where
     size : (ended : Bool) → length (end_of ended) ≡ (if ended then 1 else 0)
@@ -78,7 +74,7 @@ octets_are stays path spelling is =
 pub octets_written : (stays : Reading) (path : List ℕ) → IsPlainPath stays path
     → list_any is_escaped path ≡ false → length path ≡ octets stays path
 octets_written stays path is plain =
-    ap (λ (p : List ℕ). length p) (sym (plain_stays path plain)) ∙ octets_are stays path path is
+    ap (λ (p : List ℕ). length p) (sym (plain_stays _ plain)) ∙ octets_are _ _ _ is
 
 -- ---- verdicts
 
@@ -111,7 +107,7 @@ module _ (stays : Reading) (count : List ℕ → ℕ) (members : List rfc.Member
 
   own : (path value : List ℕ) → IsPathOf members path → IsTrimOf value path → value ≡ path
   own path value listed trim =
-      sym (is_trimmed path value trim) ∙ is_trimmed path path (are.trimmed path listed)
+      sym (is_trimmed path _ trim) ∙ is_trimmed _ _ (are.trimmed _ listed)
 
   -- the rule of a member
   read_of : (member : rfc.Member) (rule : Rule) → Contains members member → IsReadAs member rule

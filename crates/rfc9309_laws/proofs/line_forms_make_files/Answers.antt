@@ -1,8 +1,7 @@
-use Rattle.std.proofs.Common.{inl, inr, refl}
-use Rattle.std.proofs.{lemmas.List.Elements.recursion_from_All}
-use Rattle.texting_robots.specs.{Cut.IsBodyByte}
-use Rattle.rfc9309_laws.proofs.{OtherLemmas.form_tested, FormsOfFileLemmas.file_has_forms}
-use Rattle.rfc9309_laws.proofs.{HasFormLemmas.form_passes, LineFormLemmas.forms_make_file}
+use Rattle.std.proofs.{Common.inl, Common.inr, Common.refl, lemmas.List.Elements.recursion_from_All}
+use Rattle.texting_robots.specs.Cut.{IsBodyByte}
+use Rattle.rfc9309_laws.proofs.{OtherLemmas.form_tested, HasFormLemmas.form_passes}
+use Rattle.rfc9309_laws.proofs.LineFormLemmas.{file_has_forms, forms_make_file}
 use Rattle.rfc9309_laws.proofs.line_forms_make_files.Goals as goal
 
 pub returns-clause-file : goal.returns-clause-file

@@ -1,6 +1,5 @@
-use Rattle.rfc9309_laws.proofs.{MatchLemmas.matches_so, NormalLemmas.never_matches}
-use Rattle.rfc9309_laws.proofs.{NormalLemmas.no_odd_escape}
-use Rattle.rfc9309_laws.proofs.{VerdictLemmas.octets_are, VerdictLemmas.octets_written}
+use Rattle.rfc9309_laws.proofs.NormalLemmas.{matches_so, never_matches, no_odd_escape}
+use Rattle.rfc9309_laws.proofs.VerdictLemmas.{octets_are, octets_written}
 use Rattle.rfc9309_laws.proofs.verdict.normal_paths_match_so.Goals as goal
 
 pub returns-clause-matching : goal.returns-clause-matching
