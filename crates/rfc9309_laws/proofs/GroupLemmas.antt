@@ -229,8 +229,8 @@ module _ (agent : List ℕ) (sources : List Source)
   own_name = group_name agent (lines_in sources)
 
   -- the rules among the members that apply from the first line on are those of the crawler's groups
-  pub rules_captured : filter is_rule (captured own_name (start_of (lines_in sources)) (parts_in sources).ungrouped
-      (parts_in sources).groups)
+  pub rules_captured : filter is_rule
+      (captured own_name (start_of (lines_in sources)) (parts_in sources).ungrouped (parts_in sources).groups)
       ≡ rfc.rules_for agent (parts_in sources).groups
   rules_captured =
       let parts = parts_in sources in

@@ -8,7 +8,8 @@ use Rattle.std.proofs.lemmas.List.{Concat.flat_map-append, Elements.All-contains
 use Rattle.texting_robots.specs.Callers.{IsDenied, IsRobotOfFile, IsVerdict, Matches, RobotValue, Rule}
 use Rattle.texting_robots.specs.Callers.{escaped}
 use Rattle.texting_robots.specs.Callers.{file_limit, unplaced}
-use Rattle.texting_robots.specs.{Escape.escape_byte, Escape.is_escaped, Pattern.MatchesWith, Pattern.dollar, Trim.IsTrimOf}
+use Rattle.texting_robots.specs.{Escape.escape_byte, Escape.is_escaped, Pattern.MatchesWith, Pattern.dollar}
+use Rattle.texting_robots.specs.{Trim.IsTrimOf}
 use Rattle.texting_robots.proofs.{EscapeLemmas.plain_stays, TrimLemmas.is_trimmed}
 use Rattle.texting_robots.proofs.{VerdictLemmas.same_verdicts}
 use Rattle.rfc9309_laws.specs.ReadAs.{IsReadAs}
@@ -214,7 +215,8 @@ module _ (stays : Reading) (count : List ℕ → ℕ) (members : List rfc.Member
                 elim (are.empty empty is.path is.listed is.some) [
                   | inl longer ↦ omega arith
                   | inr (single, inl slash) ↦ let more = longer_than 47 slash refl here in omega arith
-                  | inr (single, inr star) ↦ let more = longer_than 42 star refl (star_matches uri) in omega arith
+                  | inr (single, inr star) ↦
+                      let more = longer_than 42 star refl (star_matches uri) in omega arith
                 ]
           ]
         where

@@ -1,10 +1,9 @@
--- Each rule that applies to a crawler is that of a source line, whose member is one of those that the crawler's
--- groups have.
-use Rattle.std.proofs.Common.{◌≡◌, ℕ, zero, suc, ◌+◌, Bool, true, false, List, [], ◌∷◌, ◌++◌, Option, Some, None}
-use Rattle.std.proofs.Common.{Contains, ap, arith, cond, filter, map, refl, slice_get, subst, sym, ◌∙◌, ◌⊎◌, inl}
-use Rattle.std.proofs.Common.{inr}
+-- Each rule that applies to a crawler is that of a source line, whose member is one of those that the
+-- crawler's groups have.
+use Rattle.std.proofs.Common.{◌≡◌, ℕ, zero, suc, ◌+◌, Bool, true, false, List, [], ◌∷◌, ◌++◌, Option, Some}
+use Rattle.std.proofs.Common.{None, Contains, ap, arith, cond, filter, refl, slice_get, subst, ◌⊎◌, inl, inr}
 use Rattle.std.specs.List.{cons_option}
-use Rattle.texting_robots.specs.Line.{Allow, CrawlDelay, Disallow, LineValue, Raw, Sitemap, UserAgent}
+use Rattle.texting_robots.specs.Line.{Allow, Disallow, LineValue, Raw, Sitemap, UserAgent}
 use Rattle.texting_robots.specs.Executable.{placed_in, placed_rules, rule_in}
 use Rattle.texting_robots.specs.Rules.{PlacedRule, Rule}
 use Rattle.texting_robots.specs.{Group.group_name, declared.groups.GroupTracker.GroupTracker}

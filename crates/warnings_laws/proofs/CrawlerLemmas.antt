@@ -1,11 +1,12 @@
--- A report for which no crawler is given is about all crawlers that the file names, and `*`. So each crawler has the
--- group of one of them.
-use Rattle.std.proofs.Common.{◌≡◌, ℕ, ◌<◌, ◌||◌, Bool, true, false, List, [], ◌∷◌, ◌++◌, ap, arith, bytes_eq, codes}
+-- A report for which no crawler is given is about all crawlers that the file names, and `*`. So each crawler
+-- has the group of one of them.
+use Rattle.std.proofs.Common.{◌≡◌, ℕ, ◌<◌, Bool, true, false, List, [], ◌∷◌, ◌++◌, ap, arith, bytes_eq, codes}
 use Rattle.std.proofs.Common.{if◌then◌else◌, inl, inr, map, refl, subst, sym, ◌∙◌}
 use Rattle.std.specs.List.{AllByRecursion as Each, list_any}
 use Rattle.std.specs.{Char.to_ascii_lowercase, Str.is_utf8, Str.str_to_ascii_lowercase}
 use Rattle.std.proofs.lemmas.Bool.{Decides.nat_tests, cases_Bool, false≢true, or_cases, or_left, or_right}
-use Rattle.std.proofs.lemmas.List.{Elements.All-from_recursion, Folds.Any-from_list_any, Folds.list_any-append}
+use Rattle.std.proofs.lemmas.List.{Elements.All-from_recursion, Folds.Any-from_list_any}
+use Rattle.std.proofs.lemmas.List.{Folds.list_any-append}
 use Rattle.std.proofs.lemmas.Slice.Eq.{bytes_eq-Decides}
 use Rattle.std.proofs.lemmas.Str.{Ascii.IsAscii-from_all, IsUtf8-from_ascii, is_utf8-from_IsUtf8}
 use Rattle.texting_robots.specs.Callers.{LineValue, UserAgent, is_named, lines_read}
@@ -83,13 +84,14 @@ pub everyone_reported : (file agent : List ℕ) → rfc.IsProductToken agent
 everyone_reported file agent token =
     let lines = lines_read file in
     let star = codes "*" in
+    let group = λ (key : List ℕ). if list_any (is_agent_named key) lines then key else star in
     elim (cases_Bool (is_named agent lines)) [
       | inl named ↦
           let (k, other, below, at, alike) =
           Any-from_list_any (λ other. bytes_eq (lower other) (lower agent)) (crawlers_in lines)
           (named_among agent utf8 lines (star ∷ []) named) in
           let same = (bytes_eq-Decides (lower other) (lower agent)).0 alike in
-          (k, other, below, at, ap (λ key. if list_any (is_agent_named key) lines then key else star) (sym same))
+          (k, other, below, at, ap group (sym same))
       | inr unnamed ↦
           let (k, other, below, at, alike) =
           Any-from_list_any (λ other. bytes_eq (lower other) (lower star)) (crawlers_in lines)
@@ -99,8 +101,7 @@ everyone_reported file agent token =
             other,
             below,
             at,
-            rw unnamed (sym (ap (λ key. if list_any (is_agent_named key) lines then key else star) same
-                ∙ cond_same {X = List ℕ} _ star)),
+            rw unnamed (sym (ap group same ∙ cond_same {X = List ℕ} _ star)),
           )
     ]
   where

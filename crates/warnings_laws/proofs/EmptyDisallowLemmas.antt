@@ -428,7 +428,8 @@ module _ (agent file : List ℕ) (rules : List PlacedRule)
           allow_beside allow deny there empty own (ap (λ (rule : Rule). rule.1) is) alike in
           let (matches, long) = root_wins one.rule.0 text like path in
           let less = longest one.rule.0
-          (subst (λ b. Contains (unplaced stated) (one.rule.0, b)) allows (kept one there_too stated_too)) matches in
+          (subst (λ b. Contains (unplaced stated) (one.rule.0, b)) allows (kept one there_too stated_too))
+          matches in
           omega arith
 
       longer : 1 < length p

@@ -1,20 +1,22 @@
--- Every file has an audit, and without `--needless` only one. Needless rules can be deleted together. What a report
--- tells about the syntax of a file and its verdicts is so.
+-- Every file has an audit, and without `--needless` only one. Needless rules can be deleted together. What a
+-- report tells about the syntax of a file and its verdicts is so.
 use Rattle.std.proofs.Common.{◌≡◌, ◌≢◌, ◌≤◌, ◌↔◌, ℕ, Bool, inl, inr, List, [], ◌∷◌, Contains, IsUtf8, arith}
 use Rattle.std.proofs.Common.{codes, length, ltb-false, refl, subst, subst₂, sym, take, take_all, ◌⊎◌, suc}
-use Rattle.std.proofs.Common.{false, true, ◌++◌, ap, ap₂, None, Option, Some, ◌∙◌}
-use Rattle.std.proofs.lemmas.Bool.{cases_Bool, false≢true}
+use Rattle.std.proofs.Common.{false, true, ◌++◌, ap, ap₂, None, Option, Some, ◌∙◌, if◌then◌else◌, is_none}
+use Rattle.std.proofs.Common.{map, not, ◌==◌}
+use Rattle.std.proofs.lemmas.Bool.{cases_Bool, false≢true, ne_eqb, not-false, or_parts}
 use Rattle.texting_robots.specs.Callers.{IsVerdict, LineValue, PlacedRule, agents_in, placed_rules}
 use Rattle.texting_robots.specs.Callers.{file_limit, rules_for, IsFirstOverlong, IsOverlong, IsRejected, Rule}
-use Rattle.texting_robots.specs.Callers.{delay_for, lines_read, unplaced}
+use Rattle.texting_robots.specs.Callers.{delay_for, lines_read, unplaced, IsRobotOfFile, RobotValue}
 use Rattle.texting_robots.specs.Decision.{IsDecisionOn}
 use Rattle.robots_needless.specs.Deleted.{AreFoundIn, HaveSameRobot, IsLeftOf}
 use Rattle.robots_needless.specs.Needless.{AreFound, AreNeedless, lines_without, numbers_of}
 use Rattle.robots_needless.proofs.{LeftLemmas.left_within, LeftLemmas.same_robot, SettledLemmas.nothing_found}
 use Rattle.audit_core.specs.Audit.{AuditValue, IsAuditOf, AgentValue, IsAgentAudit, IsRuling, IsVerdictOn}
 use Rattle.audit_core.specs.Audit.{VerdictValue, agents_requested, group_of, labels_requested, rejects_some}
-use Rattle.audit_core.specs.Audit.{warnings_found, warnings_requested}
+use Rattle.audit_core.specs.Audit.{warnings_found, warnings_requested, labeling_agent}
 use Rattle.audit_core.specs.{Request.RequestValue, Asked.asked_target, Syntax.syntax_of}
+use Rattle.audit_core.specs.{Needless.needless_warning}
 use Rattle.std.specs.List.{All, AllByRecursion as Each, AllZip}
 use Rattle.std.specs.Bool.{Decides}
 use Rattle.std.proofs.lemmas.List.Elements.{All-cons, All-nil, recursion_from_All}
@@ -25,22 +27,19 @@ use Rattle.texting_robots.proofs.{BestLemmas.each_text_answered, ExampleLemmas.o
 use Rattle.robots_needless.specs.declared.needless.NeedlessRule.{NeedlessRule}
 use Rattle.robots_warnings.specs.Facts.{is_too_large}
 use Rattle.texting_robots.specs.declared.decision.Decision.{Decision}
-use Rattle.std.proofs.Common.{if◌then◌else◌, is_none, map, not, ◌==◌, ◌||◌, ltb-false}
-use Rattle.std.proofs.lemmas.Bool.{ne_eqb, not-false, or_parts}
-use Rattle.texting_robots.specs.Callers.{IsRobotOfFile, RobotValue}
 use Rattle.rfc9309_laws.specs.Rfc9309.{Group, IsFile}
 use Rattle.rfc9309_laws.proofs.SyntaxLemmas.{each_front, passing}
-use Rattle.robots_warnings.specs.{Facts.facts_of, File.labels_for, Warnings.warnings, WarningValue.WarningValue}
+use Rattle.robots_warnings.specs.{Facts.facts_of, File.labels_for, Warnings.warnings}
+use Rattle.robots_warnings.specs.{WarningValue.WarningValue}
 use Rattle.robots_warnings.specs.Table.{is_not_about_syntax, keeps_verdicts}
 use Rattle.robots_warnings.specs.declared.table.Cause.{Cause}
-use Rattle.audit_core.specs.Audit.{labeling_agent}
 use Rattle.audit_core.specs.Syntax.{has_standard_verdicts, has_syntax_warning, is_about_syntax, is_standard}
 use Rattle.audit_core.specs.Syntax.{keep_verdicts}
-use Rattle.audit_core.specs.declared.syntax.Syntax.TheVariants.{Standard, StandardVerdicts, StandardWithoutWarnings}
-use Rattle.audit_core.specs.{Needless.needless_warning}
+use Rattle.audit_core.specs.declared.syntax.Syntax.TheVariants.{Standard, StandardVerdicts}
+use Rattle.audit_core.specs.declared.syntax.Syntax.TheVariants.{StandardWithoutWarnings}
 use Rattle.warnings_laws.proofs.SyntaxLemmas.{ArePassed, robot_stated, silence}
 use Rattle.warnings_laws.proofs.{VerdictLemmas.verdicts_stated}
-use Rattle.warnings_laws.specs.Syntax.{IsNotAboutSyntax, IsRobotStated, warnings_of}
+use Rattle.warnings_laws.specs.Syntax.{IsNotAboutSyntax, IsRobotStated, IsSilentOn, warnings_of}
 use Rattle.warnings_laws.specs.Verdict.{IsAsked, IsStandardVerdict}
 
 -- a crawler with this name decides each text as it does without the found lines
@@ -343,7 +342,8 @@ record IsKnown (test : Cause → Bool) (agent : Option (List ℕ)) (large : Bool
   passed : ArePassed test warnings
 
 known : (agent : Option (List ℕ)) (large rejected : Bool) (warnings : List WarningValue)
-    → is_standard (syntax_of agent large rejected warnings) ≡ true → IsKnown is_not_about_syntax agent large warnings
+    → is_standard (syntax_of agent large rejected warnings) ≡ true
+    → IsKnown is_not_about_syntax agent large warnings
 known (Some agent) large rejected warnings is = absurd (false≢true is)
 known None true rejected warnings is = absurd (false≢true is)
 known None false true warnings is = absurd (false≢true is)
@@ -384,8 +384,8 @@ warnings_for agent named agents urls file =
     warnings (is_none agent) named agents urls file (facts_of file labels) labels (lines_read file)
 
 -- if the request isn't about a single crawler, the warnings are those of all groups
-passed_on : (test : Cause → Bool) (agent : Option (List ℕ)) (named agents urls : List (List ℕ)) (file : List ℕ)
-    → agent ≡ None → ArePassed test (warnings_for agent named agents urls file)
+passed_on : (test : Cause → Bool) (agent : Option (List ℕ)) (named agents urls : List (List ℕ))
+    (file : List ℕ) → agent ≡ None → ArePassed test (warnings_for agent named agents urls file)
     → ArePassed test (warnings_of named agents urls file)
 passed_on test None named agents urls file everyone all = all
 passed_on test (Some agent) named agents urls file everyone all = absurd cc
@@ -412,20 +412,19 @@ module _ (requested : RequestValue) (file : List ℕ) (audit : AuditValue) (is :
           known requested.agent (is_too_large file) (rejects_some audit.agents) found
           (subst (λ syntax. is_standard syntax ≡ true) is.syntax_is standard)
 
+      silent : IsSilentOn requested.agents agents requested.urls file
+      silent = audited is_not_about_syntax is_known
+
       pub file_of_the_standard : (groups : List Group) × IsFile groups file
       file_of_the_standard =
-          let (groups, is) =
-          silence requested.agents agents requested.urls file (audited is_not_about_syntax is_known) in (
-            groups,
-            subst (IsFile groups) (take_all file_limit file (ltb-false file_limit (length file) is_known.whole))
-                is,
-          )
+          let whole = take_all file_limit file (ltb-false file_limit (length file) is_known.whole) in
+          let (groups, is) = silence requested.agents agents requested.urls file silent in
+          (groups, subst (IsFile groups) whole is)
 
       pub robot_of_the_standard : (agent : List ℕ) (robot : RobotValue)
           → IsRobotOfFile agent (take file_limit file) robot → IsRobotStated agent file robot
       robot_of_the_standard agent robot of =
-          robot_stated requested.agents agents requested.urls file (audited is_not_about_syntax is_known) agent robot
-          of
+          robot_stated requested.agents agents requested.urls file silent agent robot of
 
     pub verdicts_of_the_standard : has_standard_verdicts audit.syntax ≡ true → (agent uri : List ℕ)
         (groups : List Group) (robot : RobotValue) (answer : Bool) → IsAsked agents file agent uri
@@ -433,5 +432,6 @@ module _ (requested : RequestValue) (file : List ℕ) (audit : AuditValue) (is :
         → IsVerdict (unplaced robot.rules) uri answer ↔ IsStandardVerdict groups agent uri answer
     verdicts_of_the_standard standard agent uri groups robot answer =
         verdicts_stated requested.agents agents requested.urls file agent uri groups robot answer
-        (audited keeps_verdicts (known_verdicts requested.agent (is_too_large file) (rejects_some audit.agents) found
+        (audited keeps_verdicts
+        (known_verdicts requested.agent (is_too_large file) (rejects_some audit.agents) found
         (subst (λ syntax. has_standard_verdicts syntax ≡ true) is.syntax_is standard)))

@@ -1,18 +1,27 @@
--- The value of a rule without certain warnings is compared here as RFC 9309 compares its standard spelling, which
--- is the value itself unless it has a nonstandard escape.
+-- The value of a rule without certain warnings is compared here as RFC 9309 compares its standard spelling,
+-- which is the value itself unless it has a nonstandard escape.
 use Rattle.std.proofs.Common.{◌≡◌, ◌≢◌, ℕ, ◌+◌, ◌*◌, ◌<◌, ◌≤◌, ◌==◌, ◌&&◌, ◌||◌, Bool, true, false, inl, inr}
-use Rattle.std.proofs.Common.{List, [], ◌∷◌, ◌++◌, ap, ap₂, nat_lt, not, append-nil, append_assoc, arith, codes, refl, subst, sym}
-use Rattle.std.proofs.Common.{◌∙◌}
+use Rattle.std.proofs.Common.{List, [], ◌∷◌, ◌++◌, ap, ap₂, not, append-nil, append_assoc, arith, codes, refl}
+use Rattle.std.proofs.Common.{sym, ◌∙◌, None}
 use Rattle.std.specs.Char.{digit_value, is_ascii_hexdigit, is_ascii_lowercase, to_ascii_uppercase}
-use Rattle.std.specs.List.{AllByRecursion as Each, list_any}
+use Rattle.std.specs.List.{AllByRecursion as Each, list_any, list_all}
 use Rattle.std.proofs.lemmas.Bool.{Decides.nat_tests, agree_below_at, and_parts, and_right, cases_Bool}
 use Rattle.std.proofs.lemmas.Bool.{agree_below, cases_lt, eqb-true, le-ltb, ne_eqb, or_from, or_parts}
+use Rattle.std.proofs.lemmas.Bool.{and_from, not-false}
 use Rattle.std.proofs.lemmas.List.{Concat.flat_map-append, Folds.list_any-append}
 use Rattle.texting_robots.specs.Escape.{escape_byte, escaped, is_escaped}
 use Rattle.texting_robots.proofs.EscapeLemmas.{plain_stays}
-use Rattle.rfc9309_laws.specs.Matching.{is_kept, all_stay, has_dollar, in_rule, is_ended, is_escape, is_unreserved}
-use Rattle.rfc9309_laws.specs.Matching.{normal_escape, normal_from, normal_octet, normal_path, without_end}
+use Rattle.rfc9309_laws.specs.Matching.{is_kept, all_stay, has_dollar, in_rule, is_ended, is_escape}
+use Rattle.rfc9309_laws.specs.Matching.{is_unreserved, normal_escape, normal_from, normal_octet, without_end}
+use Rattle.rfc9309_laws.specs.Matching.{normal_uri}
 use Rattle.rfc9309_laws.specs.Comparable.{IsComparedAs, has_odd_escape}
+use Rattle.std.specs.Prelude.{Ok}
+use Rattle.rfc9309_laws.proofs.NormalLemmas.{normal_uris}
+use Rattle.texting_robots.specs.Prepared.{prepared}
+use Rattle.url.specs.{Parts.Parts, Parser.parse_url}
+use Rattle.robots_warnings.specs.Targets.{has_odd_target, is_normal, is_normal_byte, is_odd_url}
+use Rattle.robots_warnings.specs.Targets.{requested_target}
+use Rattle.robots_warnings.specs.Urls.{begins_as_url}
 use Rattle.robots_warnings.specs.declared.spellings.Spelling.TheVariants.{Standard}
 use Rattle.robots_warnings.specs.Rules.{after_byte, before_byte, begins_odd_escape, has, somewhere}
 use Rattle.robots_warnings.specs.Spellings.{spelled_escape, spelled}
@@ -104,7 +113,8 @@ module _ (high low : ℕ) (first : is_ascii_hexdigit high ≡ true) (second : is
   escape_clean =
       let value = digit_value high * 16 + digit_value low in
       elim (cases_Bool (is_unreserved value)) [
-        | inl plain ↦ rw (plain, at_once is_unreserved is_special value refl (unreserved_low value plain) plain) refl
+        | inl plain ↦
+            rw (plain, at_once is_unreserved is_special value refl (unreserved_low value plain) plain) refl
         | inr kept ↦ rw (kept, upper_clean high first, upper_clean low second) refl
       ]
 
@@ -139,7 +149,8 @@ normal_same in_query (b ∷ c ∷ []) odds dollars =
     let (odd, more) = or_parts (stays_odd b) (stays_odd c || false) odds in
     let (dollar, others) = or_parts (b == 36) ((c == 36) || false) dollars in
     ap₂ (λ x y. x ++ y) (same_octet in_query b odd dollar)
-    (same_octet (in_query || b == 63) c (or_parts (stays_odd c) false more).0 (or_parts (c == 36) false others).0
+    (same_octet (in_query || b == 63) c (or_parts (stays_odd c) false more).0
+    (or_parts (c == 36) false others).0
     ∙ sym (append-nil (escape_byte c)))
 normal_same in_query (b ∷ high ∷ low ∷ text) odds dollars =
     let (odd, more) = or_parts (stays_odd b) (list_any stays_odd (high ∷ low ∷ text)) odds in
@@ -203,12 +214,13 @@ spelled_same (b ∷ high ∷ low ∷ text) none =
       | inl is ↦
           let (_, after) = or_parts (begins_odd_escape (high ∷ low ∷ text))
           (somewhere begins_odd_escape (low ∷ text)) later in
-          let (_, last) = or_parts (begins_odd_escape (low ∷ text)) (somewhere begins_odd_escape text) after in
+          let last = (or_parts (begins_odd_escape (low ∷ text)) _ after).1 in
           rw is (ap₂ (λ x y. x ++ y) (stays b high low is (rw is at here)) (spelled_same text last))
       | inr isnt ↦ rw isnt (ap (λ t. b ∷ t) (spelled_same (high ∷ low ∷ text) later))
     ]
   where
-    upper_same : (b : ℕ) → is_ascii_hexdigit b ≡ true → is_ascii_lowercase b ≡ false → to_ascii_uppercase b ≡ b
+    upper_same : (b : ℕ) → is_ascii_hexdigit b ≡ true → is_ascii_lowercase b ≡ false
+        → to_ascii_uppercase b ≡ b
     upper_same b is upper = grind (arith, nat_tests)
 
     stays : (b high low : ℕ) → is_escape b high low ≡ true
@@ -279,3 +291,23 @@ compared_as path odds end = elim (split 36 path) [
         dollar = ap has_dollar kept ∙ spelled_no_dollar front plain;
       }
 ]
+
+-- ---- match targets
+
+normal_target : (target : List ℕ) → is_normal target ≡ true → normal_uri all_stay target ≡ target
+normal_target target is =
+    let (bytes, even) = and_parts (list_all is_normal_byte target) (not (somewhere begins_odd_escape target)) is in
+    (normal_uris target).1
+    (and_from (list_all is_normal_byte target) _ bytes (ap not (odd_escapes target) ∙ even))
+
+pub path_normal : (path : List ℕ) → has_odd_target (47 ∷ path) ≡ false
+    → normal_uri all_stay (prepared (47 ∷ path)) ≡ prepared (47 ∷ path)
+path_normal path quiet =
+    normal_target (prepared (47 ∷ path))
+    (not-false _ (or_parts (not (is_normal (prepared (47 ∷ path)))) (is_odd_url (47 ∷ path)) quiet).0)
+
+pub url_normal : (url : List ℕ) (parts : Parts) → begins_as_url url ≡ true → parse_url None url ≡ Ok parts
+    → has_odd_target url ≡ false → normal_uri all_stay (requested_target parts) ≡ requested_target parts
+url_normal url parts begins parses quiet =
+    let odd = (or_parts _ (is_odd_url url) quiet).1 in
+    normal_target (requested_target parts) (not-false _ (rw (begins, parses) at odd))

@@ -1,28 +1,31 @@
--- What a rule without warnings that are about verdicts has as its path: its value as read, which is compared as
--- RFC 9309 compares its standard spelling.
-use Rattle.std.proofs.Common.{◌≡◌, ◌≢◌, ◌⊎◌, inl, inr, ℕ, ◌<◌, ◌&&◌, ◌||◌, Bool, true, false, not, List, [], ◌∷◌}
-use Rattle.std.proofs.Common.{◌++◌, ap, append-nil, append_assoc, arith, codes, drop, length, length-append, nat_lt}
-use Rattle.std.proofs.Common.{refl, subst, sym, ◌∙◌}
+-- What a rule without warnings that are about verdicts has as its path: its value as read, which is compared
+-- as RFC 9309 compares its standard spelling.
+use Rattle.std.proofs.Common.{◌≡◌, ◌≢◌, ◌⊎◌, inl, inr, ℕ, ◌&&◌, ◌||◌, Bool, true, false, not, List, [], ◌∷◌}
+use Rattle.std.proofs.Common.{◌++◌, ap, arith, codes, drop, length, nat_lt, refl, subst, sym, ◌∙◌}
 use Rattle.std.specs.List.{AllByRecursion as Each, list_any}
-use Rattle.std.specs.{Char.is_whitespace, Prelude.IsTrue, Str.byte}
-use Rattle.std.proofs.lemmas.Bool.{Decides.nat_tests, false≢true, not-true, or_from, or_left, or_parts, or_right}
-use Rattle.std.proofs.lemmas.Str.{encodes-append}
-use Rattle.texting_robots.specs.Callers.{Allow, CrawlDelay, Disallow, IsLineOf, LineValue, Raw, Sitemap, UserAgent}
+use Rattle.std.specs.{Str.is_utf8}
+use Rattle.std.proofs.lemmas.Bool.{Decides.nat_tests, false≢true, not-true, or_left, or_parts, or_right}
+use Rattle.std.proofs.lemmas.Bool.{not-false}
+use Rattle.texting_robots.specs.Callers.{Allow, CrawlDelay, Disallow, IsLineOf, LineValue, Raw, Sitemap}
+use Rattle.texting_robots.specs.Callers.{UserAgent}
 use Rattle.texting_robots.specs.{Statement.IsStatement, declared.parser.statement.Kind.Kind}
-use Rattle.texting_robots.specs.Trim.{IsSpaces, IsTrimOf}
-use Rattle.texting_robots.proofs.TrimLemmas.{each_append}
+use Rattle.texting_robots.specs.Trim.{IsTrimOf}
 use Rattle.rfc9309_laws.proofs.{CharLemmas.IsCharByte, CharLemmas.chars_text, MemberLemmas.slash_plain}
-use Rattle.rfc9309_laws.proofs.KeyedLemmas.{IsSolid, parts_at, parts_comment, solid_char, stripped_is}
 use Rattle.rfc9309_laws.proofs.{Sources.written, SyntaxLemmas.each_front, SyntaxLemmas.each_weaker}
+use Rattle.rfc9309_laws.proofs.KeyedLemmas.{IsSolid, parts_at, parts_comment, solid_char, stripped_is}
 use Rattle.rfc9309_laws.proofs.ValueLemmas.{visible_trim}
 use Rattle.rfc9309_laws.specs.HasForm.{stripped, text_after, text_before}
 use Rattle.rfc9309_laws.specs.{Matching.all_stay}
 use Rattle.rfc9309_laws.specs.Comparable.{IsComparedAs}
 use Rattle.rfc9309_laws.specs.Rfc9309 as rfc
+use Rattle.texting_robots.specs.Internal.Statement.{trimmed}
+use Rattle.texting_robots.proofs.TrimLemmas.{blanks_skipped, same_trim, trailing_blanks}
+use Rattle.std.proofs.lemmas.Str.{IsUtf8-from_is_utf8}
 use Rattle.robots_warnings.specs.declared.spellings.Spelling.TheVariants.{Standard}
 use Rattle.robots_warnings.specs.Checks.{Check, directive_checks, line_checks, rule_checks, text_checks}
-use Rattle.robots_warnings.specs.Contents.{comment_of, has_odd_space, raw_value, tail_of}
-use Rattle.robots_warnings.specs.Rules.{has, has_any, has_odd_character, before_byte, after_byte, begins_oddly, has_dollar_inside, holds_otherwise, is_quoted}
+use Rattle.robots_warnings.specs.Contents.{comment_of, raw_value, tail_of}
+use Rattle.robots_warnings.specs.Rules.{has, has_any, has_odd_character, before_byte, after_byte}
+use Rattle.robots_warnings.specs.Rules.{begins_oddly, has_dollar_inside, holds_otherwise, is_quoted}
 use Rattle.robots_warnings.specs.Spellings.{spelled}
 use Rattle.robots_warnings.specs.Table.{is_meaning, is_not_about_syntax, is_syntax, keeps_verdicts, topic_of}
 use Rattle.robots_warnings.specs.declared.table.{Cause.Cause, Topic.Topic}
@@ -30,8 +33,8 @@ use Rattle.robots_warnings.specs.declared.table.Topic.TheVariants.{Meaning, Synt
 use Rattle.warnings_laws.proofs.ColonLemmas.{HasColon, IsPlainByte, around, has_colon, plain, tail_is}
 use Rattle.warnings_laws.proofs.FormLemmas.{raw_is, value_plain}
 use Rattle.warnings_laws.proofs.PathLemmas.{any_around, any_both, any_less, compared_as, stays_odd}
-use Rattle.warnings_laws.proofs.QuietLemmas.{Empty, IsRuleValue, Path, Star, each_back, quiet, raw_cases, rule_value}
-use Rattle.warnings_laws.proofs.QuietLemmas.{started}
+use Rattle.warnings_laws.proofs.QuietLemmas.{Empty, IsRuleValue, Path, Star, each_back, quiet, raw_cases}
+use Rattle.warnings_laws.proofs.QuietLemmas.{rule_value, started}
 use Rattle.warnings_laws.proofs.{SyntaxLemmas.AreQuietBy, WarningLemmas.is_stated}
 use Rattle.warnings_laws.specs.Syntax.{AreQuiet, is_quiet}
 use Rattle.texting_robots.specs.declared.parser.statement.Kind.TheVariants as kind
@@ -52,49 +55,22 @@ IsKept check = (keeps_verdicts check.0 || not check.1) ≡ true
 checks_quiet : (checks : List Check) → AreQuietBy keeps_verdicts checks → AreQuiet checks
 checks_quiet =
     each_weaker IsKept (λ check. is_quiet check ≡ true)
-    (λ check. by (keeps_verdicts check.0) (is_not_about_syntax check.0) (not check.1) (kept_not_syntax check.0))
+    (λ check.
+    by (keeps_verdicts check.0) (is_not_about_syntax check.0) (not check.1) (kept_not_syntax check.0))
   where
     by : (one other rest : Bool) → (one ≡ true → other ≡ true) → (one || rest) ≡ true
         → (other || rest) ≡ true
     by true other rest weaker is = or_left other rest (weaker refl)
     by false other rest weaker is = or_right other rest is
 
--- ---- a trimmed value is its own trim
-
-spaces_both : (s t : List ℕ) → IsSpaces s → IsSpaces t → IsSpaces (s ++ t)
-spaces_both s t (cs, all, is) (ds, more, also) = (
-  cs ++ ds,
-  each_append (λ char. IsTrue (is_whitespace char)) cs ds all more,
-  rw (is, also) (sym (encodes-append cs ds)),
-)
-
-own_trim : (value region : List ℕ) → IsTrimOf value region → IsTrimOf value value
-own_trim value region is = record {
-  front = [];
-  back = [];
-  whole = sym (append-nil value);
-  front_spaces = ([], tt, refl);
-  front_longest = λ spaces rest e are.
-      let whole : region ≡ (is.front ++ spaces) ++ (rest ++ is.back) =
-      is.whole ∙ ap (λ v. is.front ++ (v ++ is.back)) e ∙ simp append_assoc in
-      let longest =
-      is.front_longest (is.front ++ spaces) (rest ++ is.back) whole
-      (spaces_both is.front spaces is.front_spaces are) in
-      omega (arith, longest, length-append is.front spaces);
-  back_spaces = ([], tt, refl);
-  back_longest = λ rest spaces e are.
-      let whole : value ++ is.back ≡ rest ++ (spaces ++ is.back) =
-      ap (λ v. v ++ is.back) (sym (append-nil value) ∙ e) ∙ append_assoc rest spaces is.back in
-      let longest =
-      is.back_longest rest (spaces ++ is.back) whole (spaces_both spaces is.back are is.back_spaces) in
-      omega (arith, longest, length-append spaces is.back);
-}
-
 -- ---- the value as written
 
 solid_after : (b : ℕ) (value : List ℕ) → IsSolid b → rfc.IsPatternWith (b ∷ []) value → Each IsSolid value
 solid_after b value solid is =
-    rw is.whole (solid, each_weaker IsCharByte IsSolid solid_char is.text (chars_text is.text is.is_text).bytes)
+    rw is.whole (
+      solid,
+      each_weaker IsCharByte IsSolid solid_char is.text (chars_text is.text is.is_text).bytes,
+    )
 
 solid_value : (value : List ℕ) → IsRuleValue value → Each IsSolid value
 solid_value value (Empty none) = rw none tt
@@ -130,7 +106,8 @@ pub record IsGoodPath (value : List ℕ) : Type 0 where
 nothing_more : (text : List ℕ) (inside : Bool) → (nat_lt 0 (length text) && not inside) ≡ false
     → inside ≡ false → text ≡ []
 nothing_more [] inside more not_inside = refl
-nothing_more (b ∷ text) inside more not_inside = absurd (false≢true (sym more ∙ rw not_inside (grind (arith, nat_tests))))
+nothing_more (b ∷ text) inside more not_inside =
+    absurd (false≢true (sym more ∙ rw not_inside (grind (arith, nat_tests))))
 
 no_odd_octet : (value : List ℕ) → holds_otherwise value ≡ false → has_odd_character value ≡ false
     → list_any stays_odd value ≡ false
@@ -141,8 +118,10 @@ no_odd_octet value held odd =
     let one = λ (b : ℕ). has b (codes "\\^{}") in
     any_both one (λ b. has b (codes "|\"<>`")) stays_odd (λ b first second. grind (arith, nat_tests)) value
     (any_around one 63 value refl
-    (any_less (λ b. has b (codes "\t\\^{}")) one (λ b no. grind (arith, nat_tests)) (before_byte 63 value) before)
-    (any_less (λ b. has b (codes "\\^{}'")) one (λ b no. grind (arith, nat_tests)) (after_byte 63 value) after))
+    (any_less (λ b. has b (codes "\t\\^{}")) one (λ b no. grind (arith, nat_tests)) (before_byte 63 value)
+    before)
+    (any_less (λ b. has b (codes "\\^{}'")) one (λ b no. grind (arith, nat_tests)) (after_byte 63 value)
+    after))
     anywhere
 
 odd_off : (odd held quoted : Bool) → (odd && not (held || quoted)) ≡ false → held ≡ false → quoted ≡ false
@@ -152,33 +131,48 @@ odd_off true held quoted none one two = rw (one, two) at none
 
 -- what the warnings about a rule leave of its value
 path_kept : (value : List ℕ) → AreQuietBy keeps_verdicts (rule_checks value)
-    → (begins_oddly value ≡ false) × IsComparedAs all_stay value (spelled Standard value)
+    → (is_utf8 value ≡ true) × (begins_oddly value ≡ false)
+    × IsComparedAs all_stay value (spelled Standard value)
 unfolding topic_of
 path_kept value (
   utf8,
   (starts, (url, (odd, (held, (quoted, (regex, (more, (dollar, (wild, (dots, (several, end))))))))))),
 ) = (
+  not-false _ (not-true _ utf8),
   started value starts url quoted,
-  compared_as value (no_odd_octet value (not-true _ held) (odd_off (has_odd_character value) (holds_otherwise value)
-      (is_quoted value) (not-true _ odd) (not-true _ held) (not-true _ quoted)))
+  compared_as value
+      (no_odd_octet value (not-true _ held)
+      (odd_off (has_odd_character value) (holds_otherwise value) (is_quoted value) (not-true _ odd)
+      (not-true _ held) (not-true _ quoted)))
       (nothing_more (after_byte 36 value) (has_dollar_inside value) (not-true _ more) (not-true _ dollar)),
 )
 
 module _ (kind : Kind) (read value body : List ℕ) (is : IsStatement kind read body)
     (checks : AreQuietBy keeps_verdicts (rule_checks value)) (line : HasColon kind read body) where
-  good_path : (read ≡ value) ⊎ (value ≡ codes "/") → IsGoodPath value
-  good_path same =
-      let (begins, compared) = path_kept value checks in
-      record { trimmed = by same; begins = begins; compared = compared }
+  -- the value is as written, without spaces and tabs at both ends, or it is `/`
+  good_path : ((read ≡ value) × (raw_value (tail_of body) ≡ value)) ⊎ (value ≡ codes "/") → IsGoodPath value
+  good_path stated =
+      let (utf8, begins, compared) = path_kept value checks in
+      record { trimmed = by utf8 stated; begins = begins; compared = compared }
     where
-      by : (read ≡ value) ⊎ (value ≡ codes "/") → IsTrimOf value value
-      by (inl same) = subst (λ v. IsTrimOf v v) same (own_trim read line.region line.trimmed)
-      by (inr slash) = rw slash (visible_trim (codes "/") (slash_plain.0, tt))
+      by : is_utf8 value ≡ true → ((read ≡ value) × (raw_value (tail_of body) ≡ value)) ⊎ (value ≡ codes "/")
+          → IsTrimOf value value
+      by utf8 (inl (same, raw)) =
+          let parts = around line.region in
+          let whole : line.region ≡ parts.front ++ (value ++ parts.back) =
+          parts.whole
+          ∙ ap (λ v. parts.front ++ (v ++ parts.back)) (ap raw_value (sym (tail_is kind read body line)) ∙ raw) in
+          same_trim value line.region value
+          (sym (ap trimmed whole ∙ blanks_skipped parts.front (value ++ parts.back) parts.front_blank
+          ∙ trailing_blanks value parts.back (IsUtf8-from_is_utf8 value utf8) parts.back_blank))
+          (subst (λ v. IsTrimOf v line.region) same line.trimmed)
+      by utf8 (inr slash) = rw slash (visible_trim (codes "/") (slash_plain.0, tt))
 
   written_is : raw_value (tail_of body) ≡ value → written body ≡ value
   written_is same =
       let solid = solid_value value
-      (rule_value value (checks_quiet (rule_checks value) checks) (value_plain kind read value body line same)) in
+      (rule_value value (checks_quiet (rule_checks value) checks)
+      (value_plain kind read value body line same)) in
       written_raw kind read body line (rw same solid) ∙ same
 
 -- ---- lines
@@ -209,10 +203,10 @@ unfolding topic_of
 allow_written value body is (of, all) =
     let quiets = quiet (Allow value) body (checks_quiet (line_checks true (Allow value) body) all) in
     let line = has_colon kind.Allow value body is quiets.with_colon in
-    let kept = value_kept (Allow value) value body all in (
-      good_path kind.Allow value value body is kept line (inl refl),
-      written_is kind.Allow value value body is kept line
-          (raw_is kind.Allow value body line (not-true _ quiets.raw.0)),
+    let kept = value_kept (Allow value) value body all in
+    let raw = raw_is kind.Allow value body line (not-true _ quiets.raw.0) in (
+      good_path kind.Allow value value body is kept line (inl (refl, raw)),
+      written_is kind.Allow value value body is kept line raw,
     )
 
 pub good_line : (line : LineValue) (body : List ℕ) → IsKeptLine line body → IsGoodLine line (written body)
@@ -234,10 +228,10 @@ good_line (Disallow value) body (of, all) =
     let is = (is_stated (Disallow value) body of).0 in
     let quiets = quiet (Disallow value) body (checks_quiet (line_checks true (Disallow value) body) all) in
     let line = has_colon kind.Disallow value body is quiets.with_colon in
-    let kept = value_kept (Disallow value) value body all in (
-      good_path kind.Disallow value value body is kept line (inl refl),
-      written_is kind.Disallow value value body is kept line
-          (raw_is kind.Disallow value body line (not-true _ quiets.raw.0)),
+    let kept = value_kept (Disallow value) value body all in
+    let raw = raw_is kind.Disallow value body line (not-true _ quiets.raw.0) in (
+      good_path kind.Disallow value value body is kept line (inl (refl, raw)),
+      written_is kind.Disallow value value body is kept line raw,
     )
 good_line (UserAgent value) body is = tt
 good_line (CrawlDelay delay) body is = tt

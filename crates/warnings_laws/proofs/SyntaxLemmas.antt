@@ -3,13 +3,11 @@
 use Rattle.std.proofs.Common.{◌≡◌, ◌≢◌, inl, inr, ℕ, suc, ◌==◌, ◌&&◌, Bool, true, false, List, [], ◌∷◌, ◌++◌}
 use Rattle.std.proofs.Common.{All, nat_eq, not, refl, sym, take, zero, ◌<◌, Some, ap, arith, length, map}
 use Rattle.std.proofs.Common.{slice_get, subst, ◌∙◌, ◌||◌, None, Option, codes, flat_map, if◌then◌else◌}
-use Rattle.std.proofs.Common.{is_none}
 use Rattle.std.specs.List.{AllByRecursion as Each, list_any, starts_with, Contains, AllZip}
 use Rattle.std.proofs.lemmas.Bool.{and_parts, cases_Bool, eqb-false, eqb-true, false≢true, ne_eqb, or_parts}
-use Rattle.std.proofs.lemmas.Bool.{not-true, ltb-false, not-false, or_from}
-use Rattle.std.proofs.lemmas.{List.map-append, List.take_all, Option.slice_get-map}
+use Rattle.std.proofs.lemmas.Bool.{not-true, not-false, or_from}
+use Rattle.std.proofs.lemmas.{List.map-append, Option.slice_get-map}
 use Rattle.robots_warnings.specs.Facts.{has_damaged_mark, mark, is_rule, suppresses_line_warnings, facts_of}
-use Rattle.robots_warnings.specs.Facts.{is_too_large}
 use Rattle.robots_warnings.specs.Positions.{is_above_agents, is_outside, first_delay, preceding_with}
 use Rattle.robots_warnings.specs.Positions.{sole_name, last_group}
 use Rattle.robots_warnings.specs.Checks.{Check, file_checks, line_checks, position_checks}
@@ -358,7 +356,8 @@ module _ (file : List ℕ) where
 
     pub facts_quiet : AreQuietBy test (file_checks facts)
     facts_quiet =
-        warned_quiet test None None (file_checks facts) (each_front Passes (warned None None (file_checks facts))
+        warned_quiet test None None (file_checks facts)
+        (each_front Passes (warned None None (file_checks facts))
         (flat_map (agent_warnings true) named ++ flat_map url_warnings urls)
         (each_front Passes general (of_lines ++ (of_positions ++ (past_limit ++ of_groups))) all))
 

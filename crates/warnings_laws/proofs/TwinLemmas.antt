@@ -1,28 +1,28 @@
--- The members of the groups of a file are those of the lines between user-agent lines. So beside a rule with a
--- nonstandard escape that isn't warned of, its group has the standard spelling.
-use Rattle.std.proofs.Common.{◌≡◌, ◌≢◌, ◌⊎◌, inl, inr, ℕ, ◌<◌, ◌≤◌, ◌&&◌, ◌==◌, Bool, true, false, not, List, []}
-use Rattle.std.proofs.Common.{◌∷◌, ◌++◌, Contains, ◌+◌, ◌*◌, bytes_eq, ap, arith, codes, cond, filter, flat_map, if◌then◌else◌, length}
-use Rattle.std.proofs.Common.{length-append, map, refl, subst, sym, ◌∙◌}
+-- The members of the groups of a file are those of the lines between user-agent lines. So beside a rule with
+-- a nonstandard escape that isn't warned of, its group has the standard spelling.
+use Rattle.std.proofs.Common.{◌≡◌, ◌≢◌, ◌⊎◌, inl, inr, ℕ, ◌<◌, ◌≤◌, ◌&&◌, ◌==◌, Bool, true, false, not, List}
+use Rattle.std.proofs.Common.{[], ◌∷◌, ◌++◌, Contains, ◌+◌, ◌*◌, bytes_eq, ap, arith, codes, filter, flat_map}
+use Rattle.std.proofs.Common.{if◌then◌else◌, length, map, refl, subst, sym, ◌∙◌}
 use Rattle.std.specs.List.{AllByRecursion as Each, list_any, onto_first, slice_split}
 use Rattle.std.specs.Char.{digit_value}
-use Rattle.std.proofs.lemmas.Bool.{and_cases, and_parts, cases_Bool, false≢true, not-false, not-true, or_cases}
-use Rattle.std.proofs.lemmas.Bool.{or_parts}
-use Rattle.std.proofs.lemmas.List.Elements.{All-contains, All-from_recursion}
+use Rattle.std.proofs.lemmas.Bool.{and_parts, cases_Bool, not-false, not-true, or_cases}
 use Rattle.std.proofs.lemmas.List.Elements.{Contains-append_left, Contains-append_right}
 use Rattle.std.proofs.lemmas.Slice.Eq.{bytes_eq-Decides}
-use Rattle.texting_robots.specs.Callers.{Allow, CrawlDelay, Disallow, Label, LineValue, Raw, Sitemap, UserAgent}
-use Rattle.texting_robots.specs.{Group.is_agent, Group.is_group, Trim.IsTrimOf}
+use Rattle.texting_robots.specs.Callers.{Allow, CrawlDelay, Disallow, Label, LineValue, Raw, Sitemap}
+use Rattle.texting_robots.specs.Callers.{UserAgent}
+use Rattle.texting_robots.specs.{Group.is_agent, Group.is_group}
 use Rattle.texting_robots.proofs.TrimLemmas.{each_append}
 use Rattle.robots_needless.proofs.DistinctLemmas.{in_cons, to_filter}
-use Rattle.rfc9309_laws.proofs.{GroupLemmas.members_in, ReadLemmas.lines_in, SyntaxLemmas.each_front, SyntaxLemmas.each_weaker}
+use Rattle.rfc9309_laws.proofs.{GroupLemmas.members_in, ReadLemmas.lines_in, SyntaxLemmas.each_front}
+use Rattle.rfc9309_laws.proofs.{SyntaxLemmas.each_weaker}
 use Rattle.rfc9309_laws.proofs.Sources.{Parts, Source, allowed_in, member_in, parts_in}
 use Rattle.rfc9309_laws.proofs.ValueLemmas.{visible_trim}
-use Rattle.rfc9309_laws.specs.Comparable.{HasTwin, IsComparedAs, IsFit, IsPlainPath, has_odd_escape}
+use Rattle.rfc9309_laws.specs.Comparable.{HasTwin, IsComparedAs, IsFit, IsPlainPath}
 use Rattle.rfc9309_laws.specs.Matching.{all_stay, is_ended, normal_from, without_end}
 use Rattle.robots_warnings.specs.declared.spellings.Spelling.TheVariants.{Standard}
 use Rattle.robots_warnings.specs.Rules.{begins_odd_escape, begins_oddly, needs_no_escape, somewhere}
-use Rattle.robots_warnings.specs.Spellings.{unpaired, is_agent_line, is_rule_with, is_unpaired, is_unpaired_at}
-use Rattle.robots_warnings.specs.Spellings.{is_unpaired_line, is_escape, spelled, unpaired_in}
+use Rattle.robots_warnings.specs.Spellings.{unpaired, is_agent_line, is_rule_with, is_unpaired}
+use Rattle.robots_warnings.specs.Spellings.{is_unpaired_at, is_unpaired_line, is_escape, spelled, unpaired_in}
 use Rattle.robots_warnings.specs.{File.lines_of}
 use Rattle.warnings_laws.proofs.PathLemmas.{odd_escapes, spelled_same}
 use Rattle.warnings_laws.proofs.RuleLemmas.{IsGoodLine, IsGoodPath}
@@ -90,13 +90,14 @@ members_of (source ∷ sources) =
     if is_group source.0 then member_in source.0 source.1 ∷ members_of sources else members_of sources
 
 module _ (P : List rfc.Member → Type 0) (none : P []) where
-  -- the members above the first group are those of the first part; if those of each later part have the property,
-  -- so have those of each group
+  -- the members above the first group are those of the first part; if those of each later part have the
+  -- property, so have those of each group
   abbrev IsParted : Parts → List (List Source) → Type 0
   IsParted parts [] = ⊥
   IsParted parts (first ∷ later) =
       (parts.ungrouped ≡ members_of first)
-      × (Each (λ part. P (members_of part)) later → Each (λ (group : rfc.Group). P group.members) parts.groups)
+      × (Each (λ part. P (members_of part)) later
+      → Each (λ (group : rfc.Group). P group.members) parts.groups)
 
   put_has : (tokens : List (List ℕ)) (members : List rfc.Member) (groups : List rfc.Group) → P members
       → Each (λ (group : rfc.Group). P group.members) groups
@@ -131,7 +132,8 @@ module _ (P : List rfc.Member → Type 0) (none : P []) where
   parted ((UserAgent token, text) ∷ sources) =
       (refl, after_agent token (parts_in sources) (slice_split begins_part sources) (parted sources))
   parted ((Sitemap value, text) ∷ sources) =
-      after_other (Sitemap value) text (parts_in sources) (slice_split begins_part sources) refl (parted sources)
+      after_other (Sitemap value) text (parts_in sources) (slice_split begins_part sources) refl
+      (parted sources)
   parted ((Raw body, text) ∷ sources) =
       after_other (Raw body) text (parts_in sources) (slice_split begins_part sources) refl (parted sources)
   parted ((line, text) ∷ sources) =
@@ -209,10 +211,10 @@ allowed_same (b ∷ value) = refl
 abbrev pub AreGood : List Source → Type 0
 AreGood sources = Each (λ (source : Source). IsGoodLine source.0 source.1) sources
 
--- if the lines have a rule of this kind with this value, so have their members, unless the value is `/`, which
--- an empty Disallow has too
-twin_listed : (is_allow : Bool) (value : List ℕ) → value ≢ codes "/" → (sources : List Source) → AreGood sources
-    → list_any (is_rule_with is_allow value) (lines_in sources) ≡ true
+-- if the lines have a rule of this kind with this value, so have their members, unless the value is `/`,
+-- which an empty Disallow has too
+twin_listed : (is_allow : Bool) (value : List ℕ) → value ≢ codes "/" → (sources : List Source)
+    → AreGood sources → list_any (is_rule_with is_allow value) (lines_in sources) ≡ true
     → Contains (members_of sources) (rule_of is_allow value)
 twin_listed is_allow value other [] good is = cc
 twin_listed is_allow value other ((Allow own, text) ∷ sources) ((path, stated), all) is =
@@ -224,7 +226,8 @@ twin_listed is_allow value other ((Allow own, text) ∷ sources) ((path, stated)
       | inr later ↦ in_cons _ _ _ (twin_listed is_allow value other sources all later)
     ]
   where
-    by : own ≡ value → (text ≡ own) ⊎ ((own ≡ codes "/") × (text ≡ [])) → allowed_in text own ≡ rfc.Allow value
+    by : own ≡ value → (text ≡ own) ⊎ ((own ≡ codes "/") × (text ≡ []))
+        → allowed_in text own ≡ rfc.Allow value
     by same (inl written) = ap (λ t. allowed_in t own) written ∙ allowed_same own ∙ ap rfc.Allow same
     by same (inr (slash, none)) = absurd (other (sym same ∙ slash))
 twin_listed is_allow value other ((Disallow own, text) ∷ sources) ((path, written), all) is =
@@ -269,7 +272,8 @@ module _ (part : List Source) (good : AreGood part) where
         inr (record {
           odd = odd_escapes value ∙ odd;
           twin = spelled Standard value;
-          listed = twin_listed is_allow (spelled Standard value) (not_root value path.begins odd) part good twin;
+          listed =
+              twin_listed is_allow (spelled Standard value) (not_root value path.begins odd) part good twin;
           same = path.compared;
         })
   ]
@@ -322,10 +326,12 @@ members_fine (group ∷ groups) (here, later) =
     let rest = members_in groups in
     each_append (IsFine (group.members ++ rest)) group.members rest
     (each_weaker (IsFine group.members) (IsFine (group.members ++ rest))
-    (fine_wider group.members (group.members ++ rest) (λ member _. Contains-append_left group.members rest member))
+    (fine_wider group.members (group.members ++ rest)
+    (λ member _. Contains-append_left group.members rest member))
     group.members here)
     (each_weaker (IsFine rest) (IsFine (group.members ++ rest))
-    (fine_wider rest (group.members ++ rest) (λ member _. Contains-append_right group.members rest member)) rest
+    (fine_wider rest (group.members ++ rest) (λ member _. Contains-append_right group.members rest member))
+    rest
     (members_fine groups later))
 
 groups_fine : (agent : List ℕ) (groups : List rfc.Group) → AreFineGroups groups
@@ -364,8 +370,10 @@ parts_paired : (sources : List Source) (labels : List Label) → lines_of labels
 parts_paired sources labels same none =
     let chunks = slice_split is_agent_line labels in
     let paired : Each (λ chunk. ArePaired (lines_of chunk)) chunks =
-    each_weaker (λ chunk. Each (λ number. ⊥) (unpaired_in Standard true chunk)) (λ chunk. ArePaired (lines_of chunk))
-    (λ chunk none. map_each _ _ chunk (none_left (is_unpaired_at Standard true (lines_of chunk)) chunk none)) chunks
+    each_weaker (λ chunk. Each (λ number. ⊥) (unpaired_in Standard true chunk))
+    (λ chunk. ArePaired (lines_of chunk))
+    (λ chunk none. map_each _ _ chunk (none_left (is_unpaired_at Standard true (lines_of chunk)) chunk none))
+    chunks
     (each_flat (λ number. ⊥) (unpaired_in Standard true) chunks none) in
     each_map ArePaired lines_in (slice_split begins_part sources)
     (subst (Each ArePaired)
@@ -373,8 +381,8 @@ parts_paired sources labels same none =
     ∙ split_map (λ (source : Source). source.0) is_agent sources)
     (map_each ArePaired lines_of chunks paired))
 
--- the members of all groups of a file whose lines are good and beside whose nonstandard escapes are the standard
--- spellings
+-- the members of all groups of a file whose lines are good and beside whose nonstandard escapes are the
+-- standard spellings
 pub sources_fine : (sources : List Source) (labels : List Label) → lines_of labels ≡ lines_in sources
     → Each (λ number. ⊥) (unpaired Standard true labels) → AreGood sources
     → AreFineGroups (parts_in sources).groups

@@ -1,22 +1,21 @@
--- If no warning is about syntax or verdicts, the verdicts are those of the standard: the rules of a crawler are fine
--- (`TwinLemmas`), and beside an empty Disallow there is no Disallow of everything, or an Allow of everything too.
-use Rattle.std.proofs.Common.{◌≡◌, ◌≢◌, ◌↔◌, ◌⊎◌, inl, inr, ℕ, zero, suc, ◌<◌, ◌≤◌, ◌==◌, ◌||◌, Bool, true, false}
-use Rattle.std.proofs.Common.{not, List, [], ◌∷◌, ◌++◌, Option, None, Some, Any, Contains, ap, arith, codes, filter}
-use Rattle.std.proofs.Common.{flat_map, if◌then◌else◌, length, map, refl, slice_get, subst, sym, take, ◌∙◌}
+-- If no warning is about syntax or verdicts, the verdicts are those of the standard: the rules of a crawler
+-- are fine (`TwinLemmas`), and beside an empty Disallow there is no Disallow of everything, or an Allow of
+-- everything too.
+use Rattle.std.proofs.Common.{◌≡◌, ◌≢◌, ◌↔◌, ◌⊎◌, inl, inr, ℕ, zero, suc, ◌<◌, ◌≤◌, Bool, true, false, List}
+use Rattle.std.proofs.Common.{[], ◌∷◌, Option, None, Some, Contains, ap, arith, codes, if◌then◌else◌, length}
+use Rattle.std.proofs.Common.{map, refl, slice_get, subst, sym, take, ◌∙◌}
 use Rattle.std.specs.List.{AllByRecursion as Each, AllZip, filter_map}
 use Rattle.std.specs.{Prelude.is_some, Str.is_utf8}
 use Rattle.std.proofs.lemmas.Bool.{cases_Bool, cases_lt, false≢true, ltb-false, not-true}
 use Rattle.std.proofs.lemmas.{List.take_all, Option.same_Some, Simd.map-map}
-use Rattle.texting_robots.specs.Callers.{Allow, AreLabelsOf, CrawlDelay, Disallow, IsLineOf, IsRobotOfFile}
-use Rattle.texting_robots.specs.Callers.{IsVerdict, Label, LineValue, PlacedRule, Raw, RobotValue, Rule, Sitemap}
-use Rattle.texting_robots.specs.Callers.{UserAgent, escaped, file_bodies, file_limit, group_name, lines_read}
-use Rattle.texting_robots.specs.Callers.{placed_rules, unplaced}
-use Rattle.texting_robots.specs.Escape.{escape_byte, is_escaped}
+use Rattle.texting_robots.specs.Callers.{Allow, Disallow, IsLineOf, IsRobotOfFile, IsVerdict, Label}
+use Rattle.texting_robots.specs.Callers.{LineValue, PlacedRule, RobotValue, Rule, escaped, file_limit}
+use Rattle.texting_robots.specs.Callers.{lines_read, placed_rules, unplaced}
+use Rattle.texting_robots.specs.Escape.{is_escaped}
 use Rattle.texting_robots.specs.Executable.{captured_lines, placed_in, rule_in, rule_with, rules_for}
 use Rattle.texting_robots.specs.Internal.Line.{line_of}
 use Rattle.texting_robots.specs.Statement.{IsStatement}
-use Rattle.texting_robots.proofs.{BestLemmas.placed_of, HeldLemmas.computed_are, LabelLemmas.each_line_has_its_label}
-use Rattle.texting_robots.proofs.{LineLemmas.lines_of_file_bodies, TrimLemmas.is_trimmed}
+use Rattle.texting_robots.proofs.{BestLemmas.placed_of, HeldLemmas.computed_are, TrimLemmas.is_trimmed}
 use Rattle.rfc9309_laws.proofs.FileLemmas.{FileRead, file_with, groups_written, has_delays}
 use Rattle.rfc9309_laws.proofs.{ReadLemmas.file_sources, ReadLemmas.lines_in, RobotLemmas.rules_read}
 use Rattle.rfc9309_laws.proofs.Sources.{Source, member_in, parts_in, source_of, written}
@@ -24,34 +23,31 @@ use Rattle.rfc9309_laws.proofs.SyntaxLemmas.{each_front, each_weaker}
 use Rattle.rfc9309_laws.proofs.VerdictLemmas.{each_contains, octets_are, robot_agrees, zip_right}
 use Rattle.rfc9309_laws.specs.Comparable.{AreComparable, IsFit}
 use Rattle.rfc9309_laws.specs.Matching.{IsRfcVerdict, all_stay, normal_from, normal_uri, octets}
-use Rattle.rfc9309_laws.specs.{ReadAs.IsReadAs, StandardRobot.IsFileWith}
 use Rattle.robots_warnings.specs.declared.spellings.Spelling.TheVariants.{Plain, Standard}
 use Rattle.robots_warnings.specs.Checks.{file_checks, line_checks}
 use Rattle.robots_warnings.specs.Conflicts.{at_line, compared, conflict, first_of, overruled, overruled_by}
 use Rattle.robots_warnings.specs.Conflicts.{overruled_for}
 use Rattle.robots_warnings.specs.EmptyDisallows.{IsEmptyDisallow, is_empty_at}
-use Rattle.robots_warnings.specs.Facts.{facts_of, suppresses_line_warnings}
-use Rattle.robots_warnings.specs.{Closed.is_closed, File.labels_for, File.lines_of, Rules.begins_oddly}
+use Rattle.robots_warnings.specs.{Closed.is_closed, File.lines_of, Rules.begins_oddly}
 use Rattle.robots_warnings.specs.Spellings.{unpaired, spelled}
 use Rattle.robots_warnings.specs.Table.{keeps_verdicts, topic_of}
-use Rattle.robots_warnings.specs.Warnings.{agent_warnings, crawler_warnings, file_lines_warnings, general_warnings}
-use Rattle.robots_warnings.specs.Warnings.{google_warnings, group_warnings, lines_warnings, past_limit_warnings}
-use Rattle.robots_warnings.specs.Warnings.{position_warnings, rule_warnings, url_warnings, warned, warned_at}
-use Rattle.robots_warnings.specs.Warnings.{warned_beside}
+use Rattle.robots_warnings.specs.Warnings.{crawler_warnings, group_warnings, position_warnings, rule_warnings}
+use Rattle.robots_warnings.specs.Warnings.{warned_at, warned_beside}
 use Rattle.robots_warnings.specs.WarningValue.{WarningValue}
 use Rattle.robots_warnings.specs.declared.facts.FileFacts.{FileFacts}
 use Rattle.robots_warnings.specs.declared.table.Cause.TheVariants as cause
-use Rattle.warnings_laws.proofs.{CaughtLemmas.rule_caught}
+use Rattle.warnings_laws.proofs.{CaughtLemmas.rule_caught, SplitLemmas.raw_parts, SplitLemmas.rules_not_split}
+use Rattle.warnings_laws.proofs.{WarningLemmas.is_stated}
 use Rattle.warnings_laws.proofs.ConflictLemmas.{first_some, star_or_same}
 use Rattle.warnings_laws.proofs.EmptyDisallowLemmas.{allow_beside, empty_disallows}
 use Rattle.warnings_laws.proofs.QuietLemmas.{each_back, first_byte}
-use Rattle.warnings_laws.proofs.RuleLemmas.{IsGoodLine, IsGoodPath, IsKeptLine, allow_written, good_line, kept_not_syntax}
-use Rattle.warnings_laws.proofs.{SplitLemmas.raw_parts, SplitLemmas.rules_not_split, WarningLemmas.is_stated}
+use Rattle.warnings_laws.proofs.RuleLemmas.{IsGoodLine, IsGoodPath, IsKeptLine, allow_written, good_line}
+use Rattle.warnings_laws.proofs.RuleLemmas.{kept_not_syntax}
 use Rattle.warnings_laws.proofs.SyntaxLemmas.{ArePassed, AreQuietBy, bodies, bodies_quiet, facts, facts_quiet}
-use Rattle.warnings_laws.proofs.SyntaxLemmas.{labels, labels_are, name, passed_groups, passed_positions, quiets}
-use Rattle.warnings_laws.proofs.SyntaxLemmas.{reads, silence}
+use Rattle.warnings_laws.proofs.SyntaxLemmas.{labels, labels_are, name, passed_groups, passed_positions}
+use Rattle.warnings_laws.proofs.SyntaxLemmas.{quiets, reads, silence}
 use Rattle.warnings_laws.proofs.TwinLemmas.{AreFine, AreFineGroups, AreGood, IsFine, allowed_same, each_flat}
-use Rattle.warnings_laws.proofs.TwinLemmas.{each_map, map_each, not_percent, rules_fine, sources_fine, spelled_short}
+use Rattle.warnings_laws.proofs.TwinLemmas.{map_each, not_percent, rules_fine, sources_fine, spelled_short}
 use Rattle.warnings_laws.specs.Syntax.{AreGroupsWhole, IsNoSplit, IsNotAboutSyntax, IsSilentOn, warnings_of}
 use Rattle.warnings_laws.specs.Verdict.{AreVerdictsKept, IsAsOneOf, IsAsked, IsStandardVerdict, KeepsVerdicts}
 use Rattle.rfc9309_laws.specs.Rfc9309 as rfc
@@ -88,7 +84,8 @@ kept_lines [] reads all = tt
 kept_lines (body ∷ bodies) reads all = ((reads.0, all.0), kept_lines bodies reads.1 all.1)
 
 body_at : (bodies : List (List ℕ)) (place : ℕ) (source : Source)
-    → Each (λ body. IsKeptLine (line_of body) body) bodies → slice_get (map source_of bodies) place ≡ Some source
+    → Each (λ body. IsKeptLine (line_of body) body) bodies
+    → slice_get (map source_of bodies) place ≡ Some source
     → (body : List ℕ) × (slice_get bodies place ≡ Some body) × (source_of body ≡ source)
     × IsKeptLine (line_of body) body
 body_at [] place source all at = cc
@@ -113,35 +110,31 @@ none_for f xs x has none = by (f x) (first_some f xs x has)
 
 -- ---- patterns of one byte
 
-escaped_none : (text : List ℕ) → escaped text ≡ [] → text ≡ []
-escaped_none [] none = refl
-escaped_none (b ∷ text) none = elim (cases_Bool (is_escaped b)) [
-  | inl is ↦ let wrong = rw is at none in cc
-  | inr isnt ↦ let wrong = rw isnt at none in cc
-]
-
-escaped_one : (value : List ℕ) (c : ℕ) → begins_oddly value ≡ false → escaped value ≡ c ∷ [] → value ≡ c ∷ []
-escaped_one [] c begins e = cc
-escaped_one (b ∷ text) c begins e =
-    let plain : is_escaped b ≡ false =
-    elim (first_byte b text begins) [ inl is ↦ rw is refl | inr is ↦ rw is refl ] in
-    let same : b ∷ escaped text ≡ c ∷ [] = rw plain at e in
-    let none = escaped_none text (cc) in
-    let first : b ≡ c = cc in
-    cc
-
 -- the members have an Allow of everything
 abbrev AllowAll : List rfc.Member → Type 0
 AllowAll members = Contains members (rfc.Allow (codes "/")) ⊎ Contains members (rfc.Allow (codes "*"))
 
+escaped_longer : (text : List ℕ) → length text ≤ length (escaped text)
+escaped_longer [] = omega arith
+escaped_longer (b ∷ text) =
+    let later = escaped_longer text in
+    elim (cases_Bool (is_escaped b)) [ inl is ↦ rw is (omega arith) | inr isnt ↦ rw isnt (omega arith) ]
+
 root_or_star : (members : List rfc.Member) (value : List ℕ) → begins_oddly value ≡ false
     → compared (escaped value) ≡ codes "/" → Contains members (rfc.Allow value) → AllowAll members
-root_or_star members value begins alike listed = elim (star_or_same (escaped value)) [
-  | inl plain ↦ inl (subst (λ v. Contains members (rfc.Allow v))
-      (escaped_one value 47 begins (sym plain ∙ alike)) listed)
-  | inr (star, slash) ↦
-      inr (subst (λ v. Contains members (rfc.Allow v)) (escaped_one value 42 begins star) listed)
+root_or_star members [] begins alike listed = cc
+root_or_star members (b ∷ []) begins alike listed = elim (first_byte b [] begins) [
+  | inl slash ↦ inl (subst (λ c. Contains members (rfc.Allow (c ∷ []))) slash listed)
+  | inr star ↦ inr (subst (λ c. Contains members (rfc.Allow (c ∷ []))) star listed)
 ]
+root_or_star members (b ∷ c ∷ text) begins alike listed =
+    let value : List ℕ = b ∷ c ∷ text in
+    let longer = escaped_longer value in
+    let short : length (escaped value) ≡ 1 = elim (star_or_same (escaped value)) [
+      | inl plain ↦ ap (λ (v : List ℕ). length v) (sym plain ∙ alike)
+      | inr (star, slash) ↦ ap (λ (v : List ℕ). length v) star
+    ] in
+    absurd (omega arith)
 
 pattern_read : (value : List ℕ) (is_allow : Bool) (rule : Rule) → rule_with value is_allow ≡ Some rule
     → (escaped value ≡ rule.0) × (is_allow ≡ rule.1)
@@ -153,8 +146,8 @@ pattern_read value is_allow rule reads = by (is_utf8 value) reads
     by false is = cc
 
 -- the line of an Allow of everything that isn't an empty Disallow
-line_allows : (members : List rfc.Member) (line : LineValue) (body : List ℕ) (rule : Rule) → IsKeptLine line body
-    → ¬ IsStatement kind.Disallow [] body → rule_in line ≡ Some rule → rule.1 ≡ true
+line_allows : (members : List rfc.Member) (line : LineValue) (body : List ℕ) (rule : Rule)
+    → IsKeptLine line body → ¬ IsStatement kind.Disallow [] body → rule_in line ≡ Some rule → rule.1 ≡ true
     → compared rule.0 ≡ codes "/" → Contains members (member_in line (written body)) → AllowAll members
 line_allows members (Allow value) body rule kept stated reads allows alike listed =
     elim (is_stated (Allow value) body kept.0) [
@@ -163,19 +156,14 @@ line_allows members (Allow value) body rule kept stated reads allows alike liste
           let (path, same) = allow_written value body is kept in
           let pattern = (pattern_read value true rule reads).0 in
           root_or_star members value path.begins (ap compared pattern ∙ alike)
-          (subst (Contains members) (ap (λ text. member_in (Allow value) text) same ∙ allowed_same value) listed)
+          (subst (Contains members) (ap (λ text. member_in (Allow value) text) same ∙ allowed_same value)
+          listed)
     ]
 line_allows members (Disallow value) body rule kept stated reads allows alike listed =
     absurd (false≢true ((pattern_read value false rule reads).1 ∙ allows))
 line_allows members line body rule kept stated reads allows alike listed = cc
 
 -- ---- octets
-
-escaped_longer : (text : List ℕ) → length text ≤ length (escaped text)
-escaped_longer [] = omega arith
-escaped_longer (b ∷ text) =
-    let later = escaped_longer text in
-    elim (cases_Bool (is_escaped b)) [ inl is ↦ rw is (omega arith) | inr isnt ↦ rw isnt (omega arith) ]
 
 -- a path of more than one byte has more than one octet
 long_path : (b c : ℕ) (text : List ℕ) → IsGoodPath (b ∷ c ∷ text) → 1 < octets all_stay (b ∷ c ∷ text)
@@ -207,6 +195,9 @@ module _ (named agents urls : List (List ℕ)) (file : List ℕ)
     (kept : AreVerdictsKept named agents urls file) where
   abbrev lines : List LineValue
   lines = lines_read file
+
+  abbrev text : List ℕ
+  text = take file_limit file
 
   pub silent : IsSilentOn named agents urls file
   silent =
@@ -243,6 +234,9 @@ module _ (named agents urls : List (List ℕ)) (file : List ℕ)
   abbrev is_empty : ℕ → Bool
   is_empty = is_empty_at (bodies file) (labels file)
 
+  empty_is : (number : ℕ) → (is_empty number ≡ true) ↔ IsEmptyDisallow (bodies file) number
+  empty_is number = empty_disallows (name file) file (labels file) number (labels_are file)
+
   abbrev about : Label → List WarningValue
   about label = rule_warnings (conflict is_empty agents lines) (overruled is_empty agents lines)
       (is_closed agents lines) label.number
@@ -257,7 +251,8 @@ module _ (named agents urls : List (List ℕ)) (file : List ℕ)
       (each_front KeepsVerdicts
       (warned_beside cause.EmptyDisallow label.number (overruled is_empty agents lines label.number)) _
       (each_back KeepsVerdicts
-      (warned_beside cause.AllowedAndDisallowed label.number (conflict is_empty agents lines label.number)) _ all)))
+      (warned_beside cause.AllowedAndDisallowed label.number (conflict is_empty agents lines label.number)) _
+      all)))
       (labels file)
       (each_flat KeepsVerdicts about (labels file)
       (each_front KeepsVerdicts (crawler_warnings is_empty agents lines (labels file)) _
@@ -272,12 +267,12 @@ module _ (named agents urls : List (List ℕ)) (file : List ℕ)
       (each_weaker (λ body. IsKeptLine (line_of body) body) (λ body. IsGoodLine (line_of body) (written body))
       (λ body. good_line (line_of body) body) (bodies file) all_kept)
 
-  module _ (agent : List ℕ) (groups : List rfc.Group) (written : rfc.IsFile groups (take file_limit file)) where
+  module _ (agent : List ℕ) (groups : List rfc.Group) (written : rfc.IsFile groups text) where
     abbrev numbers : List (List ℕ)
-    numbers = (has_delays (take file_limit file) groups written).0
+    numbers = (has_delays text groups written).0
 
-    abbrev read : FileRead numbers groups (take file_limit file)
-    read = file_with (take file_limit file) numbers groups (has_delays (take file_limit file) groups written).1
+    abbrev read : FileRead numbers groups text
+    read = file_with text numbers groups (has_delays text groups written).1
 
     abbrev members : List rfc.Member
     members = rfc.rules_for agent (rfc.merged groups)
@@ -285,15 +280,17 @@ module _ (named agents urls : List (List ℕ)) (file : List ℕ)
     abbrev rules : List PlacedRule
     rules = placed_rules agent lines
 
-    parts : parts_in (file_sources (take file_limit file)) ≡ parts_in (sources file)
+    parts : parts_in (file_sources text) ≡ parts_in (sources file)
     parts = raw_parts (sources file)
 
     groups_are : (parts_in (sources file)).groups ≡ rfc.merged groups
-    groups_are = ap (λ parts. parts.groups) (sym parts) ∙ groups_written (take file_limit file) numbers groups read
+    groups_are =
+        ap (λ parts. parts.groups) (sym parts) ∙ groups_written text numbers groups read
 
     fine : AreFine members
     fine = rules_fine agent (rfc.merged groups) (subst AreFineGroups groups_are
-        (sources_fine (sources file) (labels file) ((labels_are file).lines_are ∙ sym lines_same) no_escapes good))
+        (sources_fine (sources file) (labels file) ((labels_are file).lines_are ∙ sym lines_same) no_escapes
+        good))
 
     good_path : (path : List ℕ) → Contains members (rfc.Disallow path) → IsGoodPath path
     good_path path listed = (each_contains (IsFine members) members (rfc.Disallow path) fine listed).0
@@ -306,12 +303,12 @@ module _ (named agents urls : List (List ℕ)) (file : List ℕ)
         (subst (λ lines. Contains (placed_rules agent lines) found) (sym lines_same) has) in
         let (body, at, same, line_kept) = body_at (bodies file) is.place is.source all_kept is.at in
         line_allows members (line_of body) body found.rule line_kept
-        (λ stated. false≢true (sym isnt ∙ (empty_disallows (name file) file (labels file) found.line (labels_are file)).1
-        (is.place, body, (let line = is.line in omega arith), at, stated)))
+        (λ stated. false≢true (sym isnt
+        ∙ (empty_is found.line).1 (is.place, body, (let line = is.line in omega arith), at, stated)))
         (ap (λ (source : Source). rule_in source.0) same ∙ is.rule) allows alike
         (subst (Contains members) (ap (λ (source : Source). member_in source.0 source.1) (sym same))
-        (subst (λ groups. Contains (rfc.rules_for agent groups) (member_in is.source.0 is.source.1)) groups_are
-        is.listed))
+        (subst (λ groups. Contains (rfc.rules_for agent groups) (member_in is.source.0 is.source.1))
+        groups_are is.listed))
 
     module _ (reported : IsAsOneOf agents file agent) where
       none_found : (found : PlacedRule) → Contains rules found
@@ -333,9 +330,10 @@ module _ (named agents urls : List (List ℕ)) (file : List ℕ)
           → Contains members (rfc.Disallow path) → path ≢ []
           → (1 < octets all_stay path) ⊎ ((octets all_stay path ≡ 1) × AllowAll members)
       empty_beside empty [] listed some = absurd (some refl)
-      empty_beside empty (b ∷ c ∷ path) listed some = inl (long_path b c path (good_path (b ∷ c ∷ path) listed))
+      empty_beside empty (b ∷ c ∷ path) listed some =
+          inl (long_path b c path (good_path (b ∷ c ∷ path) listed))
       empty_beside empty (b ∷ []) listed some =
-          let zip = rules_read (take file_limit file) agent numbers groups read in
+          let zip = rules_read text agent numbers groups read in
           let good = good_path (b ∷ []) listed in
           let (single, alike) = one_octet b good in
           let (rule, has_rule, same) = zip_right members (rules_for agent lines) (rfc.Disallow []) zip empty in
@@ -354,7 +352,7 @@ module _ (named agents urls : List (List ℕ)) (file : List ℕ)
               | inl at_empty ↦
                   let (one, has, allows_too, like, stated) =
                   allow_beside agent file rules (computed_are agent lines) is_empty
-                  (λ number. (empty_disallows (name file) file (labels file) number (labels_are file)).0) none_found
+                  (λ number. (empty_is number).0) none_found
                   allow deny there at_empty own (ap (λ (rule : Rule). rule.1) denies)
                   (ap (λ (rule : Rule). compared rule.0) denies ∙ alike) in
                   allows_all one has allows_too like stated
@@ -362,7 +360,7 @@ module _ (named agents urls : List (List ℕ)) (file : List ℕ)
           )
 
       pub verdict_stated : (uri : List ℕ) (robot : RobotValue) (answer : Bool) → normal_uri all_stay uri ≡ uri
-          → IsRobotOfFile agent (take file_limit file) robot
+          → IsRobotOfFile agent text robot
           → IsVerdict (unplaced robot.rules) uri answer ↔ IsStandardVerdict groups agent uri answer
       unfolding normal_from
       verdict_stated uri robot answer normal of =
@@ -378,7 +376,7 @@ module _ (named agents urls : List (List ℕ)) (file : List ℕ)
             empty = empty_beside;
           } in
           let agree = robot_agrees all_stay (octets all_stay) agent file uri groups numbers robot answer
-          (has_delays (take file_limit file) groups written).1 of comparable in
+          (has_delays text groups written).1 of comparable in
           subst (λ rules. IsVerdict (unplaced robot.rules) uri answer
           ↔ IsRfcVerdict all_stay (octets all_stay) rules uri answer)
           (rules_not_split file agent groups written whole_groups) agree
@@ -390,20 +388,21 @@ module _ (named agents urls : List (List ℕ)) (file : List ℕ)
 
 -- ---- the theorem
 
-pub groups_stated : (named agents urls : List (List ℕ)) (file : List ℕ) → AreVerdictsKept named agents urls file
-    → (groups : List rfc.Group) × rfc.IsFile groups file
+pub groups_stated : (named agents urls : List (List ℕ)) (file : List ℕ)
+    → AreVerdictsKept named agents urls file → (groups : List rfc.Group) × rfc.IsFile groups file
 groups_stated named agents urls file kept =
     let (groups, written) = silence named agents urls file (silent named agents urls file kept) in
     (groups, subst (rfc.IsFile groups) (all_read named agents urls file kept) written)
 
 pub verdicts_stated : (named agents urls : List (List ℕ)) (file agent uri : List ℕ) (groups : List rfc.Group)
-    (robot : RobotValue) (answer : Bool) → AreVerdictsKept named agents urls file → IsAsked agents file agent uri
+    (robot : RobotValue) (answer : Bool) → AreVerdictsKept named agents urls file
+    → IsAsked agents file agent uri
     → rfc.IsFile groups file → IsRobotOfFile agent (take file_limit file) robot
     → IsVerdict (unplaced robot.rules) uri answer ↔ IsStandardVerdict groups agent uri answer
 verdicts_stated named agents urls file agent uri groups robot answer kept asked written of =
     verdict_stated named agents urls file kept agent groups
-    (subst (rfc.IsFile groups) (sym (all_read named agents urls file kept)) written) asked.reported uri robot answer
-    asked.normal of
+    (subst (rfc.IsFile groups) (sym (all_read named agents urls file kept)) written) asked.reported uri robot
+    answer asked.normal of
 
 -- the same from what a robot's contracts say
 pub standard_answer : (file agent uri : List ℕ) (robot : RobotValue) (answer : Bool)

@@ -19,8 +19,8 @@ warned_file = codes "User-agent: *" ++ lf ++ codes "Disallow: a" ++ lf
 abbrev pub warned : Type 0
 warned = ¬ IsSilentOn [] [] [] warned_file
 
--- a file without warnings about syntax or verdicts: with a star, a `$` at the end, a path that isn't ASCII, and an
--- empty Disallow
+-- a file without warnings about syntax or verdicts: with a star, a `$` at the end, a path that isn't ASCII,
+-- and an empty Disallow
 abbrev pub kept_file : List ℕ
 kept_file =
     codes "User-agent: *" ++ lf ++ codes "Disallow: /" ++ (0xC3 ∷ 0xA9 ∷ []) ++ codes "*.gif$" ++ lf

@@ -7,8 +7,8 @@ use Rattle.rfc9309_laws.specs.Rfc9309 as rfc
 use Rattle.robots_warnings.specs.{Table.keeps_verdicts, WarningValue.WarningValue}
 use Rattle.warnings_laws.specs.Syntax.{warnings_of}
 
--- the warning is neither about the syntax of the file nor about its verdicts (topic `Meaning` in `table.rt` of
--- robots_warnings)
+-- the warning is neither about the syntax of the file nor about its verdicts (topic `Meaning` in `table.rt`
+-- of robots_warnings)
 abbrev pub KeepsVerdicts : WarningValue → Type 0
 KeepsVerdicts warning = keeps_verdicts warning.cause ≡ true
 
@@ -30,9 +30,9 @@ pub record IsAsked (agents : List (List ℕ)) (file agent uri : List ℕ) : Type
   pub reported : IsAsOneOf agents file agent
   pub normal : normal_uri all_stay uri ≡ uri
 
--- The answer of the standard for a crawler and a path and query, if the file has these groups. A Crawl-delay is
--- skipped; a reserved character and its escape differ, as by RFC 3986; and the octets of a rule are counted in its
--- normal form.
+-- The answer of the standard for a crawler and a path and query, if the file has these groups. A Crawl-delay
+-- is skipped; a reserved character and its escape differ, as by RFC 3986; and the octets of a rule are
+-- counted in its normal form.
 abbrev pub IsStandardVerdict : List rfc.Group → (agent uri : List ℕ) → Bool → Type 0
 IsStandardVerdict groups agent uri answer =
     IsRfcVerdict all_stay (octets all_stay) (rfc.standard_rules agent groups) uri answer

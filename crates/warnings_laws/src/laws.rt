@@ -1,6 +1,6 @@
 //! Theorems about the specification, each written as the contract of an empty function.
 ghost use Rattle.std.specs.Prelude.{[], All, Any, Bool, codes, Contains, false, if◌then◌else◌, IsSome, IsTrue};
-ghost use Rattle.std.specs.Prelude.{List, not, slice_get, Some, take, true, ℕ, ◌+◌, ◌↔◌, ◌∷◌, ◌≡◌, ◌≢◌};
+ghost use Rattle.std.specs.Prelude.{List, None, Ok, not, slice_get, Some, take, true, ℕ, ◌+◌, ◌↔◌, ◌∷◌, ◌≡◌, ◌≢◌};
 ghost use Rattle.std.specs.{List.count_by, Str.byte, Str.is_utf8, Str.IsUtf8, Str.str_to_ascii_lowercase};
 ghost use Rattle.texting_robots.specs.Callers.{Allow, AreLabelsOf, AreRulesFor, Disallow, escaped, file_limit};
 ghost use Rattle.texting_robots.specs.Callers.{file_lines, HoldsRule, is_named, IsDecidingLine, IsDenied};
@@ -11,6 +11,9 @@ ghost use Rattle.texting_robots.specs.{Labels.IsInOwnGroup, Verdict.robots_file}
 ghost use Rattle.robots_needless.specs.Deleted.{HaveSameRobot, IsLeftOf};
 ghost use Rattle.robots_needless.specs.Needless.{lines_without, numbers_of};
 ghost use Rattle.rfc9309_laws.specs.Rfc9309.{Group, IsFile, IsProductToken};
+ghost use Rattle.rfc9309_laws.specs.Matching.{all_stay, normal_uri};
+ghost use Rattle.texting_robots.specs.Prepared.{prepared};
+ghost use Rattle.url.specs.{Parts.Parts, Parser.parse_url};
 ghost use Rattle.warnings_laws.specs.{Syntax.IsRobotStated, Verdict.IsAsOneOf, Verdict.IsAsked, Verdict.IsStandardVerdict};
 ghost use Rattle.robots_warnings.specs.Conflicts.{IsConflict, IsOverruled, conflict, overruled, overruled_for};
 ghost use Rattle.robots_warnings.specs.EmptyDisallows.{IsEmptyDisallow, is_empty_at, stated_rules};
@@ -18,7 +21,8 @@ ghost use Rattle.robots_warnings.specs.{Closed.is_closed_for, Contents.is_cut_to
 ghost use Rattle.robots_warnings.specs.{NamesPastLimit.names_past_limit, Positions.is_above_agents};
 ghost use Rattle.robots_warnings.specs.{Repeated.repeated, Replaced.replacing, Replaced.star_count};
 ghost use Rattle.robots_warnings.specs.{Rules.begins_oddly, Rules.has_dollar_inside, Tokens.has_space_around};
-ghost use Rattle.robots_warnings.specs.{Urls.is_invalid_url, Warnings.position_warnings, Warnings.warned_at};
+ghost use Rattle.robots_warnings.specs.Targets.{has_odd_target, requested_target};
+ghost use Rattle.robots_warnings.specs.{Urls.begins_as_url, Urls.is_invalid_url, Warnings.position_warnings, Warnings.warned_at};
 ghost use Rattle.robots_warnings.specs.declared.table.Cause.TheVariants.{TwoDelays};
 ghost use Rattle.audit_core.specs.Audit.{AuditValue, IsAuditOf, agents_requested};
 ghost use Rattle.audit_core.specs.{Asked.asked_target, Request.RequestValue, Syntax.has_standard_verdicts, Syntax.is_standard};
@@ -228,6 +232,15 @@ pub fn missing_slash()
 /// A URL with `invalid-url` is matched as the escaped string.
 pub fn invalid_url()
     ensures { (url : List ℕ) → is_invalid_url url ≡ true → asked_target url ≡ escaped url }
+{}
+
+/// The match target of a path or an http(s) URL without `url-not-normal` is in normal form, so that
+/// `verdicts_are_those_of_the_standard` applies to it.
+pub fn url_not_normal()
+    ensures path { (path : List ℕ) → has_odd_target (byte "/" ∷ path) ≡ false
+        → normal_uri all_stay (prepared (byte "/" ∷ path)) ≡ prepared (byte "/" ∷ path) }
+    ensures url { (url : List ℕ) (parts : Parts) → begins_as_url url ≡ true → parse_url None url ≡ Ok parts
+        → has_odd_target url ≡ false → normal_uri all_stay (requested_target parts) ≡ requested_target parts }
 {}
 
 /// A crawler's name with `space-around-agent` matches no user-agent line, in any file.

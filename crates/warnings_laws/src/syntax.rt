@@ -42,8 +42,8 @@ pub fn delays_change_no_rules()
         → AreGroupsWhole file → rfc.rules_for agent (rfc.merged groups) ≡ rfc.standard_rules agent groups }
 {}
 
-/// Worked examples: a file without warnings about its syntax, and one with such a warning; and a file without warnings about
-/// verdicts either.
+/// Worked examples: a file without warnings about its syntax, and one with such a warning; and a file without
+/// warnings about verdicts either.
 pub fn examples()
     ensures silent { example.silent }
     ensures warned { example.warned }

@@ -1,5 +1,5 @@
-//! What the silence of an audit means for verdicts: they are those of RFC 9309, sections 2.2.2 and 2.2.3, in the reading
-//! that `IsStandardVerdict` names.
+//! What the silence of an audit means for verdicts: they are those of RFC 9309, sections 2.2.2 and 2.2.3, in
+//! the reading that `IsStandardVerdict` names.
 ghost use Rattle.std.specs.Prelude.{◌≡◌, ◌↔◌, ℕ, Bool, IfOk, List, take};
 ghost use Rattle.texting_robots.specs.Callers.{IsRobotOfFile, IsVerdict, RobotValue, file_limit, unplaced};
 ghost use Rattle.rfc9309_laws.specs.Rfc9309.{Group, IsFile};
@@ -8,18 +8,19 @@ ghost use Rattle.warnings_laws.specs.Verdict.{AreVerdictsKept, IsAsked, IsStanda
 use std::alloc::Global;
 use texting_robots::{Error, Robot};
 
-/// What the silence of an audit of all groups means for the verdicts on a crawler for which the file isn't rejected, used by
-/// owners who want a file with one meaning. All warnings count, whichever a report leaves out.
+/// What the silence of an audit of all groups means for the verdicts on a crawler for which the file isn't
+/// rejected, used by owners who want a file with one meaning. All warnings count, whichever a report leaves
+/// out.
 ///
-/// - `groups`: if no warning is about the syntax of the file or about verdicts, the file has groups by the standard's
-///   grammar, extended as `rfc9309_laws` says.
+/// - `groups`: if no warning is about the syntax of the file or about verdicts, the file has groups by the
+///   standard's grammar, extended as `rfc9309_laws` says.
 /// - `verdicts`: then the verdict on each path and query in normal form is the standard's.
 pub fn silence_means_verdicts()
-    ensures groups { (named agents urls : List (List ℕ)) (file : List ℕ) → AreVerdictsKept named agents urls file
-        → (groups : List Group) × IsFile groups file }
+    ensures groups { (named agents urls : List (List ℕ)) (file : List ℕ)
+        → AreVerdictsKept named agents urls file → (groups : List Group) × IsFile groups file }
     ensures verdicts { (named agents urls : List (List ℕ)) (file agent uri : List ℕ) (groups : List Group)
-        (robot : RobotValue) (answer : Bool) → AreVerdictsKept named agents urls file → IsAsked agents file agent uri
-        → IsFile groups file → IsRobotOfFile agent (take file_limit file) robot
+        (robot : RobotValue) (answer : Bool) → AreVerdictsKept named agents urls file
+        → IsAsked agents file agent uri → IsFile groups file → IsRobotOfFile agent (take file_limit file) robot
         → IsVerdict (unplaced robot.rules) uri answer ↔ IsStandardVerdict groups agent uri answer }
 {}
 
