@@ -6,7 +6,9 @@ use Rattle.std.proofs.Common.{slice_get, subst, ◌∙◌, ◌||◌, None, Optio
 use Rattle.std.specs.List.{AllByRecursion as Each, list_any, starts_with, Contains, AllZip}
 use Rattle.std.proofs.lemmas.Bool.{and_parts, cases_Bool, eqb-false, eqb-true, false≢true, ne_eqb, or_parts}
 use Rattle.std.proofs.lemmas.Bool.{not-true, not-false, or_from}
-use Rattle.std.proofs.lemmas.{List.map-append, Option.slice_get-map}
+use Rattle.std.proofs.lemmas.{Option.slice_get-map, Option.slice_get_within, Option.same_Some}
+use Rattle.std.proofs.lemmas.Option.{get_or_from_slice_get}
+use Rattle.std.specs.Option.{option_map, option_map_or}
 use Rattle.robots_warnings.specs.Facts.{has_damaged_mark, mark, is_rule, suppresses_line_warnings, facts_of}
 use Rattle.robots_warnings.specs.Positions.{is_above_agents, is_outside, first_delay, preceding_with}
 use Rattle.robots_warnings.specs.Positions.{sole_name, last_group}
@@ -107,100 +109,54 @@ marked n (a ∷ file) no_damage =
     whole true is = refl
     whole false is = sym is
 
--- ---- a list of labels, split at a rule
+-- ---- rules below a user-agent line
 
-record IsSplit (labels : List Label) (above below : List Form) : Type 0 where
-  front : List Label
-  label : Label
-  back : List Label
-  whole : labels ≡ front ++ label ∷ back
-  forms : map form_of (lines_of front) ≡ above
-  rule : is_rule label.line ≡ true
-
-rule_form : (line : LineValue) → form_of line ≡ form.Rule → is_rule line ≡ true
-rule_form (Allow value) e = refl
-rule_form (Disallow value) e = refl
+rule_form : (line : LineValue) → form_of line ≡ form.Rule → (is_rule line ≡ true) × (is_agent line ≡ false)
+rule_form (Allow value) e = (refl, refl)
+rule_form (Disallow value) e = (refl, refl)
 rule_form line e = absurd cc
 
-split : (labels : List Label) (above below : List Form)
-    → map form_of (lines_of labels) ≡ above ++ form.Rule ∷ below → IsSplit labels above below
-split [] [] below e = absurd cc
-split [] (x ∷ above) below e = absurd cc
-split (label ∷ labels) [] below e = record {
-  front = [];
-  label = label;
-  back = labels;
-  whole = refl;
-  forms = refl;
-  rule = rule_form label.line (cc);
-}
-split (label ∷ labels) (x ∷ above) below e =
-    let same : form_of label.line ≡ x = cc in
-    let later = split labels above below (cc) in
-    record {
-      front = label ∷ later.front;
-      label = later.label;
-      back = later.back;
-      whole = ap (λ t. label ∷ t) later.whole;
-      forms = ap (λ f. f ∷ map form_of (lines_of later.front)) same ∙ ap (λ t. x ∷ t) later.forms;
-      rule = later.rule;
-    }
-
-pub at_seam : (front back : List Label) (label : Label)
-    → slice_get (front ++ label ∷ back) (length front) ≡ Some label
-at_seam [] back label = refl
-at_seam (x ∷ front) back label = at_seam front back label
-
--- ---- a user-agent line above a position
-
-agent_form : (line : LineValue) → is_agent line ≡ true → form_of line ≡ form.Agent
-agent_form (UserAgent value) is = refl
+agent_form : (line : Option LineValue) → option_map_or is_agent line false ≡ true
+    → option_map form_of line ≡ Some form.Agent
+agent_form (Some (UserAgent value)) is = refl
 agent_form line is = absurd (false≢true is)
 
-contains_more : (x y : Form) (xs : List Form) → Contains xs y → Contains (x ∷ xs) y
-contains_more x y xs (k, below, is) = (suc k, omega arith, is)
+mapped : {X Y : Type 0} (f : X → Y) (x : Option X) (y : Y) → option_map f x ≡ Some y
+    → (z : X) × (x ≡ Some z) × (f z ≡ y)
+mapped f None y is = cc
+mapped f (Some x) y is = (x, refl, same_Some _ _ is)
 
-agent_above : (front : List Label) (lines : List LineValue) (j : ℕ) → j < length front
-    → passes_at is_agent (lines_of front ++ lines) j ≡ true
-    → Contains (map form_of (lines_of front)) form.Agent
-agent_above [] lines j below is = absurd (omega arith)
-agent_above (label ∷ front) lines zero below is = (0, omega arith, agent_form label.line is)
-agent_above (label ∷ front) lines (suc j) below is =
-    contains_more (form_of label.line) form.Agent (map form_of (lines_of front))
-    (agent_above front lines j (omega arith) is)
+at_seam : (front back : List Form) (x : Form) → slice_get (front ++ x ∷ back) (length front) ≡ Some x
+at_seam [] back x = refl
+at_seam (y ∷ front) back x = at_seam front back x
 
-rule_no_agent : (line : LineValue) → is_rule line ≡ true → is_agent line ≡ false
-rule_no_agent (Allow value) is = refl
-rule_no_agent (Disallow value) is = refl
-rule_no_agent line is = absurd (false≢true is)
+in_front : (front back : List Form) (x : Form) (j : ℕ) → j < length front
+    → slice_get (front ++ back) j ≡ Some x → Contains front x
+in_front [] back x j below at = absurd (omega arith)
+in_front (y ∷ front) back x zero below at = (0, omega arith, same_Some _ _ at)
+in_front (y ∷ front) back x (suc j) below at =
+    let (k, less, is) = in_front front back x j (omega arith) at in (suc k, omega arith, is)
 
 pub rules_below : (name : List ℕ) (labels : List Label) → AreLabelsOf name (lines_of labels) labels
     → (list_any is_rule (lines_of labels) && not (list_any is_agent (lines_of labels))) ≡ false
     → Each (λ label. is_above_agents label ≡ false) labels
     → AreRulesBelowAgents (map form_of (lines_of labels))
 rules_below name labels are kinds each above below e =
-    let s = split labels above below e in
-    let i = length s.front in
-    let at : slice_get labels i ≡ Some s.label =
-    subst (λ l. slice_get l i ≡ Some s.label) (sym s.whole) (at_seam s.front s.back s.label) in
-    let quiet : is_above_agents s.label ≡ false =
-    (each_back (λ label. is_above_agents label ≡ false) s.front (s.label ∷ s.back)
-    (subst (Each (λ label. is_above_agents label ≡ false)) s.whole each)).0 in
-    let outside = second (is_rule s.label.line) (is_outside s.label.membership) s.rule quiet in
-    let here : slice_get (lines_of labels) i ≡ Some s.label.line =
-    rw (slice_get-map (λ (label : Label). label.line) labels i, at) refl in
-    let has_rule = (some_passes is_rule (lines_of labels)).1 (i, rw here s.rule) in
-    let some =
-    not-false (list_any is_agent (lines_of labels))
-    (second (list_any is_rule (lines_of labels)) _ has_rule kinds) in
-    let (j, less, is) =
-    below_agent name (lines_of labels) i s.label.membership (are.each i s.label at).1 outside
-    (rw here (rule_no_agent s.label.line s.rule)) some in
-    let parts : lines_of labels ≡ lines_of s.front ++ lines_of (s.label ∷ s.back) =
-    ap lines_of s.whole ∙ map-append (λ (label : Label). label.line) s.front (s.label ∷ s.back) in
-    subst (λ f. Contains f form.Agent) s.forms
-    (agent_above s.front (lines_of (s.label ∷ s.back)) j less
-    (subst (λ l. passes_at is_agent l j ≡ true) parts is))
+    let lines = lines_of labels in
+    let i = length above in
+    let formed = λ (k : ℕ). sym (slice_get-map form_of lines k) ∙ ap (λ forms. slice_get forms k) e in
+    let (line, here, is) = mapped form_of _ _ (formed i ∙ at_seam above below form.Rule) in
+    let (label, at, same) =
+    mapped (λ (label : Label). label.line) _ _ (sym (slice_get-map _ labels i) ∙ here) in
+    let (rule, isnt) = rule_form line is in
+    let quiet = subst (λ label. is_above_agents label ≡ false) (get_or_from_slice_get labels i label label at)
+    (All-from_recursion _ labels each i label (slice_get_within labels i label at)) in
+    let outside = second (is_rule label.line) _ (rw same rule) quiet in
+    let has_rule = (some_passes is_rule lines).1 (i, rw here rule) in
+    let some = not-false _ (second (list_any is_rule lines) _ has_rule kinds) in
+    let (j, less, agent) =
+    below_agent name lines i label.membership (are.each i label at).1 outside (rw here isnt) some in
+    in_front above (form.Rule ∷ below) form.Agent j less (sym (formed j) ∙ agent_form _ agent)
 
 -- ---- checks
 
