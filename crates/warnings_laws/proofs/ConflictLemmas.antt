@@ -1,5 +1,6 @@
 -- What `closes-everything`, `hash-cuts-rule` and `allowed-and-disallowed` imply; and about first lines, which
 -- `empty-disallow` has, too.
+use Rattle.std.proofs.lemmas.Bool.{and_parts, not-true}
 use Rattle.std.proofs.Common.{◌≡◌, ◌≢◌, ℕ, ◌<◌, ◌==◌, ◌&&◌, ◌||◌, Bool, true, false, List, [], ◌∷◌, Contains}
 use Rattle.std.proofs.Common.{ap, arith, inl, inr, length, not, refl, subst, suc, sym, ◌⊎◌, Any, None, Option}
 use Rattle.std.proofs.Common.{Some, ap₂, bytes_eq, codes, if◌then◌else◌, ◌∙◌}
@@ -13,7 +14,7 @@ use Rattle.robots_warnings.specs.Closed.{is_closed_for, is_closing_at, is_openin
 use Rattle.robots_warnings.specs.Conflicts.{IsConflict, allow_beside, at_line, compared, conflict_for}
 use Rattle.robots_warnings.specs.Conflicts.{first_line, first_of, is_like, line_if}
 use Rattle.robots_warnings.specs.Contents.{is_cut_to_root}
-use Rattle.warnings_laws.proofs.WarningLemmas.{both, none, one_value}
+use Rattle.warnings_laws.proofs.WarningLemmas.{one_value}
 use Rattle.texting_robots.proofs.{HeldLemmas.computed_are, BestLemmas.placed_of}
 use Rattle.std.proofs.lemmas.Bool.Decides.{nat_tests}
 use Rattle.std.proofs.lemmas.Slice.Eq.{bytes_eq-Decides}
@@ -25,7 +26,7 @@ stars_match : (pattern text : List ℕ) → list_all (λ c. c == byte "*") patte
 unfolding MatchesWith
 stars_match [] text stars = tt
 stars_match (b ∷ pattern) text stars =
-    let (first, later) = both (b == star) _ stars in
+    let (first, later) = and_parts (b == star) _ stars in
     subst (λ b. Matches (b ∷ pattern) text) (sym (eqb-true b star first))
     (text, ([], refl), stars_match pattern text later)
 
@@ -34,7 +35,7 @@ pub whole_site_matches : (pattern text : List ℕ) → is_whole_site pattern ≡
 unfolding MatchesWith
 whole_site_matches [] text whole = cc
 whole_site_matches (b ∷ pattern) text whole =
-    let (first, stars) = both (b == byte "/" || b == star) _ whole in
+    let (first, stars) = and_parts (b == byte "/" || b == star) _ whole in
     elim (or_cases (b == byte "/") (b == star) first) [
       | inl is ↦
           subst (λ b. Matches (b ∷ pattern) (byte "/" ∷ text)) (sym (eqb-true b (byte "/") is))
@@ -48,13 +49,13 @@ whole_site_matches (b ∷ pattern) text whole =
 stars_stay : (pattern : List ℕ) → list_all (λ c. c == byte "*") pattern ≡ true → escaped pattern ≡ pattern
 stars_stay [] stars = refl
 stars_stay (b ∷ pattern) stars =
-    let (first, later) = both (b == star) _ stars in
+    let (first, later) = and_parts (b == star) _ stars in
     rw (eqb-true b star first, stars_stay pattern later) refl
 
 whole_site_stays : (pattern : List ℕ) → is_whole_site pattern ≡ true → escaped pattern ≡ pattern
 whole_site_stays [] whole = refl
 whole_site_stays (b ∷ pattern) whole =
-    let (first, stars) = both (b == byte "/" || b == star) _ whole in
+    let (first, stars) = and_parts (b == byte "/" || b == star) _ whole in
     elim (or_cases (b == byte "/") (b == star) first) [
       | inl is ↦ rw (eqb-true b (byte "/") is, stars_stay pattern stars) refl
       | inr is ↦ rw (eqb-true b star is, stars_stay pattern stars) refl
@@ -63,7 +64,7 @@ whole_site_stays (b ∷ pattern) whole =
 pub cut_to_root_matches : (value tail comment path : List ℕ) → is_cut_to_root value tail comment ≡ true
     → Matches (escaped value) (byte "/" ∷ path)
 cut_to_root_matches value tail comment path is =
-    let whole = (both _ _ is).1 in
+    let whole = (and_parts _ _ is).1 in
     rw (whole_site_stays value whole) (whole_site_matches value path whole)
 
 some_bytes : (pattern : List ℕ) → is_whole_site pattern ≡ true → 0 < length pattern
@@ -100,19 +101,19 @@ pub closes_everything : (agent : List ℕ) (lines : List LineValue) (rules : Lis
     → byte "/" ∷ text ≢ robots_file → IsDenied (unplaced rules) (byte "/" ∷ text)
 closes_everything agent lines rules number text is are differs =
     let all = placed_rules agent lines in
-    let (shut, closing) = both _ _ is in
+    let (shut, closing) = and_parts _ _ is in
     let (k, placed, below, at, passes) = Any-from_list_any (is_closing_at number) all closing in
-    let (closes, here) = both _ _ passes in
-    let (denies, whole) = both _ _ closes in
+    let (closes, here) = and_parts _ _ passes in
+    let (denies, whole) = and_parts _ _ closes in
     let own = computed_are agent lines in (
       differs,
       placed.rule.0,
-      subst (λ (b : Bool). Contains (unplaced rules) (placed.rule.0, b)) (none _ denies)
+      subst (λ (b : Bool). Contains (unplaced rules) (placed.rule.0, b)) (not-true _ denies)
           (unplaced_of rules placed (also_listed own are placed (k, below, at))),
       whole_site_matches placed.rule.0 text whole,
       λ pattern has matches.
           let (allow, listed, same) = placed_of rules (pattern, true) has in
-          let opens = none_opens all allow (none _ shut) (also_listed are own allow listed) in
+          let opens = none_opens all allow (not-true _ shut) (also_listed are own allow listed) in
           let empty = no_bytes pattern
           (subst (λ (rule : Rule). (rule.1 && not (length rule.0 == 0)) ≡ false) same opens) in
           let some = some_bytes placed.rule.0 whole in
@@ -160,7 +161,7 @@ unless_found false x n is = (refl, is)
 
 kind_is : (is_allow kind : Bool) → (if is_allow then kind else not kind) ≡ true → kind ≡ is_allow
 kind_is true kind is = is
-kind_is false kind is = none kind is
+kind_is false kind is = not-true kind is
 
 -- the rule in the first line that has one like this
 pub like_found : (is_empty : ℕ → Bool) (rules : List PlacedRule) (is_allow : Bool) (pattern : List ℕ)
@@ -172,13 +173,13 @@ like_found is_empty rules is_allow pattern other found =
     first_found (line_if (is_like is_empty is_allow pattern)) rules other found in
     let (is, same_line) = if_found _ (Some one.line) other gives in
     let line = same_Some _ _ same_line in
-    let (stated, like) = both _ _ is in
-    let (kind, same) = both _ _ like in (
+    let (stated, like) = and_parts _ _ is in
+    let (kind, same) = and_parts _ _ like in (
       one,
       (k, below, at),
       kind_is is_allow one.rule.1 kind,
       (bytes_eq-Decides (compared one.rule.0) pattern).0 same,
-      subst (λ n. is_empty n ≡ false) line (none _ stated),
+      subst (λ n. is_empty n ≡ false) line (not-true _ stated),
       line,
     )
 

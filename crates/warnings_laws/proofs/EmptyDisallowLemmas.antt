@@ -1,4 +1,5 @@
 -- Which lines are empty Disallows, what `empty-disallow` says of rules, and what it means if no line has it.
+use Rattle.std.proofs.lemmas.Bool.{and_parts, not-true}
 use Rattle.std.proofs.Common.{◌≡◌, ◌↔◌, ◌==◌, ◌&&◌, ◌||◌, ◌+◌, ℕ, Bool, true, false, List, [], ◌∷◌, None}
 use Rattle.std.proofs.Common.{Some, ap, arith, codes, cond, if◌then◌else◌, inl, inr, map, refl, slice_get}
 use Rattle.std.proofs.Common.{subst, suc, sym, take, zero, ◌∙◌, ◌<◌, Contains, Option, length, not}
@@ -16,7 +17,7 @@ use Rattle.texting_robots.proofs.StatementLemmas.{one_statement, statement_found
 use Rattle.robots_warnings.specs.EmptyDisallows.{IsEmptyDisallow, begins_with_d, is_empty_at}
 use Rattle.robots_warnings.specs.EmptyDisallows.{is_empty_disallow, stated_rules}
 use Rattle.robots_warnings.specs.FieldNames.{is_space_or_tab, without_front}
-use Rattle.warnings_laws.proofs.WarningLemmas.{both, is_stated, none}
+use Rattle.warnings_laws.proofs.WarningLemmas.{is_stated}
 use Rattle.texting_robots.specs.Pattern.{MatchesWith, dollar, star}
 use Rattle.robots_needless.proofs.DistinctLemmas.{in_filter, to_filter}
 use Rattle.robots_warnings.specs.Conflicts.{IsOverruled, at_line, compared, first_line, is_like}
@@ -144,7 +145,7 @@ found_at (label ∷ labels) (body ∷ bodies) number is =
     let here = is_empty_disallow label.line body && label.number == number in
     elim (or_cases here (is_empty_at bodies labels number) is) [
       | inl first ↦
-          let (empty, same) = both _ _ first in
+          let (empty, same) = and_parts _ _ first in
           (0, label, body, refl, refl, eqb-true label.number number same, empty)
       | inr later ↦
           let (i, one, own, at, beside, same, empty) = found_at labels bodies number later in
@@ -214,7 +215,7 @@ overruled_is is_empty lines number other agent holds =
     first_found (at_line number (overruled_by is_empty rules)) rules other holds in
     let (here, by) = if_found (placed.line == number) _ other gives in
     let (both_hold, found) = if_found (placed.rule.1 && is_empty placed.line) _ other by in
-    let (allows, empty) = both _ _ both_hold in
+    let (allows, empty) = and_parts _ _ both_hold in
     let (no_allow, first) =
     unless_found (is_some (first_line (is_like is_empty true root) rules)) _ other found in
     let (one, has, denies, same, stated, line) = like_found is_empty rules false root other first in
@@ -359,7 +360,7 @@ module _ (agent file : List ℕ) (rules : List PlacedRule)
     from rule has =
         let (placed, listed, is) = placed_of stated rule has in
         let (own, passes) = in_filter (λ (one : PlacedRule). not (is_empty one.line)) rules placed listed in
-        (placed, own, none (is_empty placed.line) passes, is)
+        (placed, own, not-true (is_empty placed.line) passes, is)
 
     -- a Disallow isn't empty
     denies_stated : (placed : PlacedRule) (p : List ℕ) → Contains rules placed → placed.rule ≡ (p, false)

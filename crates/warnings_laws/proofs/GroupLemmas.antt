@@ -20,7 +20,7 @@ use Rattle.robots_warnings.specs.Positions.{preceding_with, sole_name, begin_wit
 use Rattle.robots_warnings.specs.Warnings.{position_warnings, positions_from, warned, warned_at}
 use Rattle.warnings_laws.proofs.RepeatedLemmas.{among, holds_among, AreFrom, IsFrom, all_labels}
 use Rattle.warnings_laws.proofs.RepeatedLemmas.{first_or_later, here, labels_next}
-use Rattle.warnings_laws.proofs.WarningLemmas.{below_agent, both, none}
+use Rattle.warnings_laws.proofs.WarningLemmas.{below_agent}
 use Rattle.std.proofs.lemmas.List.Folds.{Any-from_list_any, list_any-from_Any}
 use Rattle.texting_robots.specs.Labels.{AreOneRun, IsInOwnGroup}
 use Rattle.texting_robots.proofs.HeldLemmas.{computed_are, one_list}
@@ -172,7 +172,7 @@ module _ (gone : ℕ → Bool) where
     differs_here : gone (position + 1) ≡ true → are_different first (delay_in label.line) ≡ true
     differs_here goes =
         let is = others.each 0 (subst (λ n. gone n ≡ true) (omega arith) goes) in
-        (both _ _ (subst (λ here. is_other_delay first here ≡ true) (sym (same_Some _ _ is.at)) is.other)).1
+        (and_parts _ _ (subst (λ here. is_other_delay first here ≡ true) (sym (same_Some _ _ is.at)) is.other)).1
 
   -- user-agent lines stay
   any_left : (test : LineValue → Bool) → ((line : LineValue) → is_agent line ≡ false → test line ≡ false)
@@ -276,11 +276,11 @@ module _ {name : List ℕ} {labels : List Label} (labeled : AreLabelsOf name (li
   below : list_any is_agent all_lines ≡ true → AreBelow gone 0 all_lines
   below some place goes =
       let is = other_at place goes in
-      let (inside, differs) = both _ _ is.other in
+      let (inside, differs) = and_parts _ _ is.other in
       let here : slice_get all_lines place ≡ Some is.label.line =
       rw (slice_get-map (λ (label : Label). label.line) labels place, is.at) refl in
       (taken_decides is_agent all_lines place).1 (below_agent name all_lines place is.label.membership
-      (labeled.each place is.label is.at).1 (none _ inside) (rw here (no_agent _ is.label.line differs)) some)
+      (labeled.each place is.label is.at).1 (not-true _ inside) (rw here (no_agent _ is.label.line differs)) some)
 
   any_stays : (test : LineValue → Bool) → ((line : LineValue) → is_agent line ≡ false → test line ≡ false)
       → list_any test (lines_without numbers all_lines) ≡ list_any test all_lines
@@ -330,7 +330,7 @@ has_none agent lines lacks star other pattern starred holds =
     let (k, below, at) = computed agent lines other _ holds in
     let same = (bytes_eq-Decides pattern pattern).1 refl in
     let denied = list_any-from_Any (denies pattern) (star_rules lines) (i, _, within, there, same) in
-    false≢true (sym (none _ lacks) ∙ list_any-from_Any (is_kept (star_rules lines)) (placed_rules agent lines)
+    false≢true (sym (not-true _ lacks) ∙ list_any-from_Any (is_kept (star_rules lines)) (placed_rules agent lines)
     (k, _, below, at, or_right (is_whole_site pattern) _ denied))
 
 -- ---- the names of the group
@@ -442,11 +442,11 @@ pub replaces_star : (agents : List (List ℕ)) (name : List ℕ) (lines : List L
 replaces_star agents name lines labels number labeled has =
     let listed = if_any (list_any is_partial (star_rules lines)) _ number has in
     let found = found_from agents lines Other 0 labels number (all_labels labeled) listed in
-    let (first, names) = both _ _ found.passes in
-    let (value, is) = first_agent found.before found.line (both _ _ first).0 in
-    let by = named _ (found.line ∷ found.rest) (both _ _ names).0 in
+    let (first, names) = and_parts _ _ found.passes in
+    let (value, is) = first_agent found.before found.line (and_parts _ _ first).0 in
+    let by = named _ (found.line ∷ found.rest) (and_parts _ _ names).0 in
     let (k, agent, below, at, passes) = Any-from_list_any _ agents by.passes in
-    let (lacks, same) = both _ _ passes in
+    let (lacks, same) = and_parts _ _ passes in
     let spelling = str_to_ascii_lowercase by.value in
     let spelled = (bytes_eq-Decides (str_to_ascii_lowercase agent) spelling).0 same in
     let on = here found.from ∙ ap Some is in (

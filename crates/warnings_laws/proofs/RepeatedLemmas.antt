@@ -1,4 +1,5 @@
 -- A rule with `repeated-rule` decides no verdict, and can be deleted.
+use Rattle.std.proofs.lemmas.Bool.{and_parts}
 use Rattle.std.proofs.Common.{◌≡◌, ◌+◌, ◌⊎◌, ℕ, suc, zero, Bool, true, false, List, [], ◌∷◌, ◌++◌, Contains}
 use Rattle.std.proofs.Common.{Some, arith, if◌then◌else◌, inl, inr, refl, slice_get, subst, sym, ◌≢◌, ◌<◌}
 use Rattle.std.proofs.Common.{◌≤◌, ◌↔◌, All, Option, ◌&&◌, ◌==◌, ap, ◌∙◌}
@@ -14,7 +15,7 @@ use Rattle.robots_needless.proofs.TogetherLemmas.{unplaced_of, verdicts}
 use Rattle.robots_needless.proofs.{DistinctLemmas.in_filter, DistinctLemmas.to_filter, BlockLemmas.deleted}
 use Rattle.robots_warnings.specs.Repeated.{above_next, is_checked, is_repeated, repeated, repeated_from}
 use Rattle.robots_warnings.specs.{File.lines_of, Spellings.is_rule_with}
-use Rattle.warnings_laws.proofs.WarningLemmas.{both, named_agent}
+use Rattle.warnings_laws.proofs.WarningLemmas.{named_agent}
 use Rattle.std.specs.List.{list_any}
 use Rattle.std.proofs.lemmas.List.{Elements.Contains-push_cases, Folds.Any-from_list_any}
 use Rattle.std.proofs.lemmas.Slice.Eq.{bytes_eq-Decides}
@@ -171,7 +172,7 @@ repeat_from everywhere lines position above (label ∷ labels) number reached ha
     let group = above_next above label.line in
     elim (first_or_later (is_checked everywhere label.membership && is_repeated above label.line)
     label.number number (repeated_from everywhere group labels) has) [
-      | inl (is, same) ↦ subst (IsRepeat lines) same (first_repeat reached (both _ _ is).1)
+      | inl (is, same) ↦ subst (IsRepeat lines) same (first_repeat reached (and_parts _ _ is).1)
       | inr later ↦
           repeat_from everywhere lines (position + 1) group labels number (next reached) later
     ]

@@ -29,7 +29,7 @@ use Rattle.robots_warnings.specs.Warnings.{positions_from, warned, warning_of}
 use Rattle.robots_warnings.specs.{Checks.Check, Checks.position_checks, File.labels_for, File.lines_of}
 use Rattle.robots_warnings.specs.{WarningValue.WarningValue}
 use Rattle.warnings_laws.specs.Syntax.{AreGroupsWhole, IsNoSplit}
-use Rattle.warnings_laws.proofs.QuietLemmas.{each_back}
+use Rattle.warnings_laws.proofs.{QuietLemmas.each_back, SyntaxLemmas.each_given}
 
 -- ---- from warnings to lines
 
@@ -40,17 +40,6 @@ are_unsplit preceding above (line ∷ lines) =
     not ((is_agent line && is_delay preceding)
     && (begin_with_rules false (line ∷ lines) && not (name_again above (line ∷ lines))))
     && are_unsplit (preceding_with preceding line) (sole_name preceding above line) lines
-
--- what each warning has, the warning has whose check holds
-each_given : (P : WarningValue → Type 0) (line : Option ℕ) (about : Option (List ℕ)) (checks : List Check)
-    → Each P (warned line about checks) → Each (λ check. check.1 ≡ true
-    → P (record { line = line; cause = check.0; about = about; detail = None })) checks
-each_given P line about [] all = tt
-each_given P line about (check ∷ checks) all =
-    let first : List WarningValue = warning_of line about check in
-    let rest : List WarningValue = warned line about checks in
-    let one = each_front P first rest all in
-    (λ holds. (rw holds at one).0, each_given P line about checks (each_back P first rest all))
 
 neither : (split star : Bool) → ((split && not star) ≡ true → ⊥) → ((split && star) ≡ true → ⊥)
     → split ≡ false

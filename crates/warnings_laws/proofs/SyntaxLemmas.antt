@@ -33,7 +33,7 @@ use Rattle.std.proofs.lemmas.List.Elements.{All-from_recursion}
 use Rattle.texting_robots.proofs.LabelLemmas.{each_line_has_its_label}
 use Rattle.texting_robots.proofs.{CapturedLemmas.some_passes, LineLemmas.lines_of_file_bodies}
 use Rattle.rfc9309_laws.proofs.LineFormLemmas.{forms_make_file}
-use Rattle.rfc9309_laws.proofs.{SyntaxLemmas.each_front, RobotLemmas.forms_robot}
+use Rattle.rfc9309_laws.proofs.{SyntaxLemmas.each_front, SyntaxLemmas.each_weaker, RobotLemmas.forms_robot}
 use Rattle.robots_warnings.specs.declared.facts.FileFacts.{FileFacts}
 use Rattle.robots_warnings.specs.declared.table.Cause.{Cause}
 use Rattle.texting_robots.specs.Internal.Line.{line_of}
@@ -173,20 +173,23 @@ ArePassed test warnings = Each (λ warning. test warning.cause ≡ true) warning
 abbrev pub AreQuietBy : (Cause → Bool) → List Check → Type 0
 AreQuietBy test checks = Each (λ check. (test check.0 || not check.1) ≡ true) checks
 
-module _ (test : Cause → Bool) where
-  one : (line : Option ℕ) (about : Option (List ℕ)) (check : Check)
-      → ArePassed test (warning_of line about check) → (test check.0 || not check.1) ≡ true
-  one line about check all = quiet_by (test check.0) check.1 (λ holds. (rw holds at all).0)
+-- what each warning has, the warning has whose check holds
+pub each_given : (P : WarningValue → Type 0) (line : Option ℕ) (about : Option (List ℕ)) (checks : List Check)
+    → Each P (warned line about checks) → Each (λ check. check.1 ≡ true
+    → P (record { line = line; cause = check.0; about = about; detail = None })) checks
+each_given P line about [] all = tt
+each_given P line about (check ∷ checks) all =
+    let first : List WarningValue = warning_of line about check in
+    let rest : List WarningValue = warned line about checks in
+    let one = each_front P first rest all in
+    (λ holds. (rw holds at one).0, each_given P line about checks (each_back P first rest all))
 
+module _ (test : Cause → Bool) where
   pub warned_quiet : (line : Option ℕ) (about : Option (List ℕ)) (checks : List Check)
       → ArePassed test (warned line about checks) → AreQuietBy test checks
-  warned_quiet line about [] all = tt
-  warned_quiet line about (check ∷ checks) all =
-      let first : List WarningValue = warning_of line about check in
-      let rest : List WarningValue = warned line about checks in (
-        one line about check (each_front _ first rest all),
-        warned_quiet line about checks (each_back _ first rest all),
-      )
+  warned_quiet line about checks all =
+      each_weaker _ _ (λ check given. quiet_by (test check.0) check.1 given) checks
+      (each_given (λ warning. test warning.cause ≡ true) line about checks all)
 
   -- the same, line by line
   pub lines_quiet : (bodies : List (List ℕ)) (labels : List Label) → lines_of labels ≡ map line_of bodies

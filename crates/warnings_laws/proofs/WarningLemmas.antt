@@ -1,4 +1,5 @@
 -- Theorems about warnings: what the conditions of some warnings imply for rules, names and URLs.
+use Rattle.std.proofs.lemmas.Bool.{not-true}
 use Rattle.std.proofs.Common.{◌≡◌, ◌≢◌, ◌⊎◌, ◌<◌, ℕ, Bool, true, false, List, [], ◌∷◌, ◌++◌, Contains, codes}
 use Rattle.std.proofs.Common.{◌&&◌, ◌||◌, ◌==◌, ap, arith, cond, get_or, if◌then◌else◌, inl, inr, drop, suc}
 use Rattle.std.proofs.Common.{filter, map, None, not, Option, refl, slice_get, Some, subst, sym, take, ◌+◌}
@@ -38,15 +39,6 @@ use Rattle.audit_core.proofs.{AskedLemmas.unparsed_asked}
 use Rattle.texting_robots.specs.declared.parser.statement.Kind.TheVariants as kind
 
 -- ---- conditions and lines
-
-pub both : (a b : Bool) → (a && b) ≡ true → (a ≡ true) × (b ≡ true)
-both true true is = (refl, refl)
-both true false is = cc
-both false b is = cc
-
-pub none : (a : Bool) → not a ≡ true → a ≡ false
-none true is = cc
-none false is = refl
 
 -- two rules given by one line have the same kind and the same value
 pub one_value : (a b : Bool) (value other : List ℕ)
@@ -138,7 +130,7 @@ new_name read more (UserAgent value) is =
       value,
       refl,
       (or_parts (list_any test read) (list_any test more)
-          (none _ (ap not (sym (list_any-append test read more)) ∙ is))).0,
+          (not-true _ (ap not (sym (list_any-append test read more)) ∙ is))).0,
     )
 new_name read more other is = cc
 
@@ -178,7 +170,7 @@ pub above_agents_applies_to_none : (name agent : List ℕ) (lines : List LineVal
     (label : Label) (rule : Rule) → AreLabelsOf name lines labels → slice_get labels place ≡ Some label
     → is_above_agents label ≡ true → ¬ HoldsRule agent lines place rule
 above_agents_applies_to_none name agent lines labels place label rule are at is holds =
-    let (not_own, not_in) = subst (HasMembership name lines place) (outside _ (both _ _ is).1)
+    let (not_own, not_in) = subst (HasMembership name lines place) (outside _ (and_parts _ _ is).1)
     (are.each place label at).1 in
     let group : passes_at is_group lines place
     ≡ true = rw holds.line.0 (in_group rule.1 holds.value) in
@@ -241,7 +233,7 @@ pub odd_start_matches_no_path : (value text : List ℕ) → begins_oddly value �
 unfolding MatchesWith
 odd_start_matches_no_path [] text odd m = cc
 odd_start_matches_no_path (b ∷ value) text odd m =
-    let (not_slash, not_star) = or_parts (b == byte "/") (b == star) (none _ odd) in
+    let (not_slash, not_star) = or_parts (b == byte "/") (b == star) (not-true _ odd) in
     let first : List ℕ → ℕ = λ text. get_or text 0 0 in
     elim (cases_Bool (is_escaped b)) [
       | inl bad ↦
@@ -261,7 +253,7 @@ odd_start_matches_no_path (b ∷ value) text odd m =
 pub invalid_url_is_escaped : (url : List ℕ) → is_invalid_url url ≡ true → asked_target url ≡ escaped url
 invalid_url_is_escaped [] is = cc
 invalid_url_is_escaped (b ∷ url) is =
-    let unparsable = (both _ _ is).1 in
+    let unparsable = (and_parts _ _ is).1 in
     unparsed_asked (b ∷ url) unparsable ∙ unparsed_prepared b url unparsable
 
 -- ---- bytes that no other byte equals in lowercase
