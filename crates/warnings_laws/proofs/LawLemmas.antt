@@ -36,7 +36,9 @@ use Rattle.robots_warnings.specs.declared.table.Cause.{Cause}
 use Rattle.audit_core.specs.Syntax.{has_standard_verdicts, has_syntax_warning, is_about_syntax, is_standard}
 use Rattle.audit_core.specs.Syntax.{keep_verdicts}
 use Rattle.audit_core.specs.declared.syntax.Syntax.TheVariants.{Standard, StandardVerdicts}
-use Rattle.audit_core.specs.declared.syntax.Syntax.TheVariants.{StandardWithoutWarnings}
+use Rattle.audit_core.specs.declared.syntax.Syntax.TheVariants.{StandardWithoutWarnings, Unstated}
+use Rattle.audit_core.specs.declared.syntax.Syntax.{Syntax}
+use Rattle.std.specs.Prelude.{is_some, ◌||◌}
 use Rattle.warnings_laws.proofs.SyntaxLemmas.{ArePassed, robot_stated, silence}
 use Rattle.warnings_laws.proofs.{VerdictLemmas.verdicts_stated}
 use Rattle.warnings_laws.specs.Syntax.{IsNotAboutSyntax, IsRobotStated, IsSilentOn, warnings_of}
@@ -334,48 +336,29 @@ each_not (warning ∷ warnings) none =
     let parts = or_parts (not (is_not_about_syntax warning.cause)) (has_syntax_warning warnings) none in
     (not-false (is_not_about_syntax warning.cause) parts.0, each_not warnings parts.1)
 
--- all groups are checked and the whole file is read, and the warnings pass the test
-record IsKnown (test : Cause → Bool) (agent : Option (List ℕ)) (large : Bool) (warnings : List WarningValue)
-    : Type 0 where
-  everyone : agent ≡ None
-  whole : large ≡ false
-  passed : ArePassed test warnings
+stated : (unstated : Bool) (syntax : Syntax) → is_standard (if unstated then Unstated else syntax) ≡ true
+    → unstated ≡ false
+stated true syntax is = cc
+stated false syntax is = refl
 
-known : (agent : Option (List ℕ)) (large rejected : Bool) (warnings : List WarningValue)
-    → is_standard (syntax_of agent large rejected warnings) ≡ true
-    → IsKnown is_not_about_syntax agent large warnings
-known (Some agent) large rejected warnings is = absurd (false≢true is)
-known None true rejected warnings is = absurd (false≢true is)
-known None false true warnings is = absurd (false≢true is)
-known None false false warnings is = elim (cases_Bool (has_syntax_warning warnings)) [
-  | inl some ↦ absurd (false≢true (rw some at is))
-  | inr none ↦ record { everyone = refl; whole = refl; passed = each_not warnings none }
+verdicts_stated_too : (syntax : Syntax) → has_standard_verdicts syntax ≡ true → is_standard syntax ≡ true
+verdicts_stated_too Unstated is = is
+verdicts_stated_too _ is = refl
+
+kept : (unstated : Bool) (warnings : List WarningValue)
+    → has_standard_verdicts (if unstated then Unstated
+    else (if length warnings == 0 then StandardWithoutWarnings
+    else (if keep_verdicts warnings then StandardVerdicts else Standard))) ≡ true
+    → ArePassed keeps_verdicts warnings
+kept true warnings is = absurd (false≢true is)
+kept false [] is = tt
+kept false (warning ∷ warnings) is = elim (cases_Bool (keep_verdicts (warning ∷ warnings))) [
+  | inl all ↦ passing _ (λ (warning : WarningValue). keeps_verdicts warning.cause) (λ _ is. is)
+      (warning ∷ warnings) all
+  | inr other ↦
+      let some : (length (warning ∷ warnings) == 0) ≡ false = ne_eqb _ 0 (λ e. omega arith) in
+      absurd (false≢true (rw (some, other) at is))
 ]
-
-known_verdicts : (agent : Option (List ℕ)) (large rejected : Bool) (warnings : List WarningValue)
-    → has_standard_verdicts (syntax_of agent large rejected warnings) ≡ true
-    → IsKnown keeps_verdicts agent large warnings
-known_verdicts (Some agent) large rejected warnings is = absurd (false≢true is)
-known_verdicts None true rejected warnings is = absurd (false≢true is)
-known_verdicts None false true warnings is = absurd (false≢true is)
-known_verdicts None false false warnings is =
-    elim (cases_Bool (has_syntax_warning warnings)) [
-      | inl some ↦ absurd (false≢true (rw some at is))
-      | inr none ↦ record { everyone = refl; whole = refl; passed = by warnings (rw none at is) }
-    ]
-  where
-    by : (warnings : List WarningValue)
-        → has_standard_verdicts (if length warnings == 0 then StandardWithoutWarnings
-        else (if keep_verdicts warnings then StandardVerdicts else Standard)) ≡ true
-        → ArePassed keeps_verdicts warnings
-    by [] is = tt
-    by (warning ∷ warnings) is = elim (cases_Bool (keep_verdicts (warning ∷ warnings))) [
-      | inl all ↦ passing _ (λ (warning : WarningValue). keeps_verdicts warning.cause) (λ _ is. is)
-          (warning ∷ warnings) all
-      | inr other ↦
-          let some : (length (warning ∷ warnings) == 0) ≡ false = ne_eqb _ 0 (λ e. omega arith) in
-          absurd (false≢true (rw (some, other) at is))
-    ]
 
 -- all warnings but those about needless rules, as `warnings_found` has them
 abbrev warnings_for : Option (List ℕ) → (named agents urls : List (List ℕ)) → List ℕ → List WarningValue
@@ -385,7 +368,7 @@ warnings_for agent named agents urls file =
 
 -- if the request isn't about a single crawler, the warnings are those of all groups
 passed_on : (test : Cause → Bool) (agent : Option (List ℕ)) (named agents urls : List (List ℕ))
-    (file : List ℕ) → agent ≡ None → ArePassed test (warnings_for agent named agents urls file)
+    (file : List ℕ) → is_some agent ≡ false → ArePassed test (warnings_for agent named agents urls file)
     → ArePassed test (warnings_of named agents urls file)
 passed_on test None named agents urls file everyone all = all
 passed_on test (Some agent) named agents urls file everyone all = absurd cc
@@ -398,26 +381,33 @@ module _ (requested : RequestValue) (file : List ℕ) (audit : AuditValue) (is :
     abbrev agents : List (List ℕ)
     agents = agents_requested requested.agents (lines_read file)
 
-    audited : (test : Cause → Bool) → IsKnown test requested.agent (is_too_large file) found
-        → ArePassed test (warnings_of requested.agents agents requested.urls file)
-    audited test known =
-        passed_on test requested.agent requested.agents agents requested.urls file known.everyone
-        (each_front (λ warning. test warning.cause ≡ true)
-        (warnings_for requested.agent requested.agents agents requested.urls file)
-        (map needless_warning is.needless) known.passed)
+    abbrev unstated : Bool
+    unstated = ((is_some requested.agent || is_too_large file) || rejects_some audit.agents)
+        || has_syntax_warning found
 
     module _ (standard : is_standard audit.syntax ≡ true) where
-      is_known : IsKnown is_not_about_syntax requested.agent (is_too_large file) found
-      is_known =
-          known requested.agent (is_too_large file) (rejects_some audit.agents) found
-          (subst (λ syntax. is_standard syntax ≡ true) is.syntax_is standard)
+      -- all groups are checked, the whole file is read, and no warning is about syntax
+      known : ((is_some requested.agent ≡ false) × (is_too_large file ≡ false))
+          × (has_syntax_warning found ≡ false)
+      known =
+          let (other, none) =
+          or_parts _ _ (stated unstated _ (subst (λ s. is_standard s ≡ true) is.syntax_is standard)) in
+          (or_parts _ _ (or_parts _ _ other).0, none)
+
+      audited : (test : Cause → Bool) → ArePassed test found
+          → ArePassed test (warnings_of requested.agents agents requested.urls file)
+      audited test passed =
+          passed_on test requested.agent requested.agents agents requested.urls file known.0.0
+          (each_front (λ warning. test warning.cause ≡ true)
+          (warnings_for requested.agent requested.agents agents requested.urls file)
+          (map needless_warning is.needless) passed)
 
       silent : IsSilentOn requested.agents agents requested.urls file
-      silent = audited is_not_about_syntax is_known
+      silent = audited is_not_about_syntax (each_not found known.1)
 
       pub file_of_the_standard : (groups : List Group) × IsFile groups file
       file_of_the_standard =
-          let whole = take_all file_limit file (ltb-false file_limit (length file) is_known.whole) in
+          let whole = take_all file_limit file (ltb-false file_limit (length file) known.0.1) in
           let (groups, is) = silence requested.agents agents requested.urls file silent in
           (groups, subst (IsFile groups) whole is)
 
@@ -432,6 +422,5 @@ module _ (requested : RequestValue) (file : List ℕ) (audit : AuditValue) (is :
         → IsVerdict (unplaced robot.rules) uri answer ↔ IsStandardVerdict groups agent uri answer
     verdicts_of_the_standard standard agent uri groups robot answer =
         verdicts_stated requested.agents agents requested.urls file agent uri groups robot answer
-        (audited keeps_verdicts
-        (known_verdicts requested.agent (is_too_large file) (rejects_some audit.agents) found
-        (subst (λ syntax. has_standard_verdicts syntax ≡ true) is.syntax_is standard)))
+        (audited (verdicts_stated_too audit.syntax standard) keeps_verdicts (kept unstated found
+        (subst (λ s. has_standard_verdicts s ≡ true) is.syntax_is standard)))
