@@ -1,5 +1,7 @@
 -- What `closes-everything`, `hash-cuts-rule` and `allowed-and-disallowed` imply; and about first lines, which
 -- `empty-disallow` has, too.
+use Rattle.std.proofs.lemmas.Grind.{common_steps}
+use Rattle.std.proofs.Common.{rules}
 use Rattle.std.proofs.lemmas.Bool.{and_parts, not-true}
 use Rattle.std.proofs.Common.{◌≡◌, ◌≢◌, ℕ, ◌<◌, ◌==◌, ◌&&◌, ◌||◌, Bool, true, false, List, [], ◌∷◌, Contains}
 use Rattle.std.proofs.Common.{ap, arith, inl, inr, length, not, refl, subst, suc, sym, ◌⊎◌, Any, None, Option}
@@ -14,7 +16,6 @@ use Rattle.robots_warnings.specs.Closed.{is_closed_for, is_closing_at, is_openin
 use Rattle.robots_warnings.specs.Conflicts.{IsConflict, allow_beside, at_line, compared, conflict_for}
 use Rattle.robots_warnings.specs.Conflicts.{first_line, first_of, is_like, line_if}
 use Rattle.robots_warnings.specs.Contents.{is_cut_to_root}
-use Rattle.warnings_laws.proofs.WarningLemmas.{one_value}
 use Rattle.texting_robots.proofs.{HeldLemmas.computed_are, BestLemmas.placed_of}
 use Rattle.std.proofs.lemmas.Bool.Decides.{nat_tests}
 use Rattle.std.proofs.lemmas.Slice.Eq.{bytes_eq-Decides}
@@ -54,18 +55,12 @@ stars_stay (b ∷ pattern) stars =
 
 whole_site_stays : (pattern : List ℕ) → is_whole_site pattern ≡ true → escaped pattern ≡ pattern
 whole_site_stays [] whole = refl
-whole_site_stays (b ∷ pattern) whole =
-    let (first, stars) = and_parts (b == byte "/" || b == star) _ whole in
-    elim (or_cases (b == byte "/") (b == star) first) [
-      | inl is ↦ rw (eqb-true b (byte "/") is, stars_stay pattern stars) refl
-      | inr is ↦ rw (eqb-true b star is, stars_stay pattern stars) refl
-    ]
+whole_site_stays (b ∷ pattern) whole = search (rules, and_parts, eqb-true, stars_stay)
 
 pub cut_to_root_matches : (value tail comment path : List ℕ) → is_cut_to_root value tail comment ≡ true
     → Matches (escaped value) (byte "/" ∷ path)
 cut_to_root_matches value tail comment path is =
-    let whole = (and_parts _ _ is).1 in
-    rw (whole_site_stays value whole) (whole_site_matches value path whole)
+    search (rules, and_parts, whole_site_stays, whole_site_matches)
 
 some_bytes : (pattern : List ℕ) → is_whole_site pattern ≡ true → 0 < length pattern
 some_bytes [] whole = cc
@@ -81,20 +76,12 @@ also_listed are also placed has = (also.held placed).1 ((are.held placed).0 has)
 
 none_opens : (rules : List PlacedRule) (placed : PlacedRule) → list_any is_opening rules ≡ false
     → Contains rules placed → is_opening placed ≡ false
-none_opens rules placed shut (k, below, at) = elim (cases_Bool (is_opening placed)) [
-  | inl opens ↦
-      let some = list_any-from_Any is_opening rules (k, placed, below, at, opens) in
-      cc
-  | inr isnt ↦ isnt
-]
-
-not_none : (n : ℕ) → (suc n == 0) ≡ false
-not_none n = grind (arith, nat_tests)
+none_opens rules placed shut (k, below, at) = grind (arith, common_steps)
 
 -- an Allow that doesn't open has no bytes
 no_bytes : (pattern : List ℕ) → (true && not (length pattern == 0)) ≡ false → length pattern ≡ 0
 no_bytes [] shut = refl
-no_bytes (b ∷ pattern) shut = let never = rw (not_none (length pattern)) at shut in cc
+no_bytes (b ∷ pattern) shut = grind (arith, common_steps)
 
 pub closes_everything : (agent : List ℕ) (lines : List LineValue) (rules : List PlacedRule) (number : ℕ)
     (text : List ℕ) → is_closed_for lines number agent ≡ true → AreRulesFor agent lines rules
@@ -169,19 +156,7 @@ pub like_found : (is_empty : ℕ → Bool) (rules : List PlacedRule) (is_allow :
     → (one : PlacedRule) × Contains rules one × (one.rule.1 ≡ is_allow) × (compared one.rule.0 ≡ pattern)
     × (is_empty other ≡ false) × (one.line ≡ other)
 like_found is_empty rules is_allow pattern other found =
-    let (k, one, below, at, gives) =
-    first_found (line_if (is_like is_empty is_allow pattern)) rules other found in
-    let (is, same_line) = if_found _ (Some one.line) other gives in
-    let line = same_Some _ _ same_line in
-    let (stated, like) = and_parts _ _ is in
-    let (kind, same) = and_parts _ _ like in (
-      one,
-      (k, below, at),
-      kind_is is_allow one.rule.1 kind,
-      (bytes_eq-Decides (compared one.rule.0) pattern).0 same,
-      subst (λ n. is_empty n ≡ false) line (not-true _ stated),
-      line,
-    )
+    grind (arith, first_found, if_found, same_Some, and_parts, kind_is, bytes_eq-Decides, not-true)
 
 pub like_holds : (is_empty : ℕ → Bool) (rules : List PlacedRule) (is_allow : Bool) (pattern : List ℕ)
     (other : ℕ) (own : List ℕ) → compared own ≡ pattern → is_empty other ≡ false
@@ -202,9 +177,7 @@ like_holds is_empty rules is_allow pattern other own same stated has =
 pub listed : (rules : List PlacedRule) (placed : PlacedRule) (is_allow : Bool) (number : ℕ)
     → Contains rules placed → placed.rule.1 ≡ is_allow → placed.line ≡ number
     → Contains rules (record { rule = (placed.rule.0, is_allow); line = number })
-listed rules placed is_allow number has kind at =
-    subst (λ (b : Bool). Contains rules (record { rule = (placed.rule.0, b); line = number })) kind
-    (subst (λ (n : ℕ). Contains rules (record { rule = placed.rule; line = n })) at has)
+listed rules placed is_allow number has kind at = grind (arith, common_steps)
 
 pub conflict_is : (is_empty : ℕ → Bool) (lines : List LineValue) (number other : ℕ) (agent : List ℕ)
     → conflict_for is_empty lines number agent ≡ Some other → IsConflict is_empty agent lines number other
@@ -243,10 +216,7 @@ conflict_holds is_empty lines number other agent is =
 -- a pattern is compared as it is, unless it is `*`
 pub star_or_same : (pattern : List ℕ)
     → (compared pattern ≡ pattern) ⊎ ((pattern ≡ codes "*") × (compared pattern ≡ codes "/"))
-star_or_same pattern = elim (cases_Bool (bytes_eq pattern (codes "*"))) [
-  | inl is ↦ inr ((bytes_eq-Decides pattern (codes "*")).0 is, rw is refl)
-  | inr isnt ↦ inl (rw isnt refl)
-]
+star_or_same pattern = grind (arith, bytes_eq, bytes_eq-Decides)
 
 -- the second pattern matches what the first one matches, and is as long
 pub Wins : (pattern other text : List ℕ) → Type 0
@@ -254,8 +224,7 @@ Wins pattern other text = (Matches pattern text → Matches other text) × (leng
 
 pub same_wins : (pattern other text : List ℕ) → other ≡ pattern → Wins pattern other text
 unfolding Wins
-same_wins pattern other text same =
-    (subst (λ p. Matches p text) (sym same), sym (ap (λ (p : List ℕ). length p) same))
+same_wins pattern other text same = grind (arith, common_steps)
 
 root_wins : (pattern other path : List ℕ) → is_whole_site other ≡ true → length pattern ≡ length other
     → Wins pattern other (byte "/" ∷ path)
@@ -264,21 +233,7 @@ root_wins pattern other path whole long = (λ matches. whole_site_matches other 
 
 pub wins_on_paths : (pattern other path : List ℕ) → compared other ≡ compared pattern
     → Wins pattern other (byte "/" ∷ path)
-wins_on_paths pattern other path same = elim (star_or_same pattern) [
-  | inl plain ↦ elim (star_or_same other) [
-    | inl other_plain ↦ same_wins pattern other (byte "/" ∷ path) (sym other_plain ∙ same ∙ plain)
-    | inr (star, slash) ↦
-        let is : pattern ≡ codes "/" = sym plain ∙ sym same ∙ slash in
-        root_wins pattern other path (rw star refl) (rw (is, star) refl)
-  ]
-  | inr (star, slash) ↦ elim (star_or_same other) [
-    | inl other_plain ↦
-        let is : other ≡ codes "/" = sym other_plain ∙ same ∙ slash in
-        root_wins pattern other path (rw is refl) (rw (star, is) refl)
-    | inr (other_star, other_slash) ↦
-        same_wins pattern other (byte "/" ∷ path) (other_star ∙ sym star)
-  ]
-]
+wins_on_paths pattern other path same = search (rules, star_or_same, same_wins, root_wins)
 
 -- the same, without its name
 pub path_wins : (pattern other path : List ℕ) → compared other ≡ compared pattern
@@ -291,10 +246,7 @@ path_wins pattern other path same = wins_on_paths pattern other path same
 -- a line holds at most one rule
 one_rule : (agent : List ℕ) (lines : List LineValue) (place : ℕ) (rule other : Rule)
     → HoldsRule agent lines place rule → HoldsRule agent lines place other → rule ≡ other
-one_rule agent lines place rule other one two =
-    let (kind, value) = one_value rule.1 other.1 one.value two.value (sym one.line.0 ∙ two.line.0) in
-    ap₂ (λ (pattern : List ℕ) (is_allow : Bool). (pattern, is_allow))
-    (one.pattern ∙ ap escaped value ∙ sym two.pattern) kind
+one_rule agent lines place rule other one two = grind (arith, common_steps)
 
 pub conflict_never_decides : (is_empty : ℕ → Bool) (agent : List ℕ) (lines : List LineValue)
     (rules : List PlacedRule) (number other : ℕ) (text : List ℕ)

@@ -1,5 +1,7 @@
 -- Warnings about groups. Lines with `two-delays` can be deleted: the delay of every crawler stays the same. A
 -- line with `replaces-star` is in the group of a crawler that has no Disallow of `*`.
+use Rattle.std.proofs.lemmas.Grind.{common_steps}
+use Rattle.std.proofs.Common.{rules}
 use Rattle.std.proofs.Common.{◌≡◌, ◌+◌, ◌∙◌, ◌||◌, ℕ, suc, zero, Bool, true, false, not, List, [], ◌∷◌, All}
 use Rattle.std.proofs.Common.{Contains, Option, None, Some, filter, map, slice_get, take, ap, ap₂, arith}
 use Rattle.std.proofs.Common.{codes, if◌then◌else◌, inl, inr, refl, subst, sym, ◌≤◌, ◌-◌}
@@ -57,10 +59,7 @@ condition_holds : (line : Option ℕ) (about : Option (List ℕ)) (checks : List
     → Contains (warned line about checks) warning
     → (warning.line ≡ line) × Contains checks (warning.cause, true)
 condition_holds line about [] warning (k, below, at) = absurd (omega arith)
-condition_holds line about ((cause, true) ∷ checks) warning (zero, below, at) = (
-  ap (λ (one : WarningValue). one.line) (sym at),
-  (0, omega arith, ap (λ (one : WarningValue). (one.cause, true)) at),
-)
+condition_holds line about ((cause, true) ∷ checks) warning (zero, below, at) = grind (arith, common_steps)
 condition_holds line about ((cause, true) ∷ checks) warning (suc k, below, at) =
     let (same, has) = condition_holds line about checks warning (k, omega arith, at) in
     (same, (suc has.0, omega (arith, has.1), has.2))
@@ -77,8 +76,7 @@ other_here last preceding above first label lines (suc (suc (suc (suc zero))), b
     ap (λ (check : Check). check.1) at
 other_here last preceding above first label lines (suc (suc (suc (suc (suc k)))), below, at) =
     absurd (omega arith)
-other_here last preceding above first label lines (place, below, at) =
-    let same = ap (λ (check : Check). check.0) at in cc
+other_here last preceding above first label lines (place, below, at) = grind (arith, common_steps)
 
 is_other : (last : Option ℕ) (preceding : Preceding) (above : Option (List ℕ)) (first : Option ℕ)
     (labels : List Label) (number : ℕ)
@@ -128,20 +126,12 @@ abbrev first_found : List ℕ → Option ℕ → GroupTracker → List LineValue
 first_found name found tracker lines =
     option_or found (slice_get (given_captured delay_in name tracker lines) 0)
 
-already_found : (found : Option ℕ) (captured : Bool) (delay : ℕ) (other : Option ℕ)
-    → option_or (option_or found (if captured then Some delay else None)) (if captured then other else None)
-    ≡ option_or found (if captured then Some delay else None)
-already_found (Some one) captured delay other = refl
-already_found None true delay other = refl
-already_found None false delay other = refl
-
 module _ (name : List ℕ) where
   settled_next : (first found : Option ℕ) (tracker : GroupTracker) (line : LineValue)
       → IsSettled first found tracker
       → IsSettled (first_delay first line) (found_next found tracker line) (step name tracker line)
   settled_next first found tracker (UserAgent value) is = tt
-  settled_next None found tracker (CrawlDelay (Some delay)) is =
-      (already_found found tracker.captured delay, refl)
+  settled_next None found tracker (CrawlDelay (Some delay)) is = grind (arith, common_steps)
   settled_next None found tracker line is = tt
   settled_next (Some one) found tracker line (same, closed) = (rw (same (delay_in line)) same, cc)
 
@@ -149,10 +139,8 @@ module _ (name : List ℕ) where
   nothing_lost : (first found : Option ℕ) (tracker : GroupTracker) (line : LineValue)
       → are_different first (delay_in line) ≡ true → IsSettled first found tracker
       → (found_next found tracker line ≡ found) × ◌≡◌ {A = GroupTracker} (step name tracker line) tracker
-  nothing_lost (Some one) found tracker (CrawlDelay delay) differs (same, closed) = (
-    same delay,
-    ap (λ named. record { captured = tracker.captured; named = named }) (sym closed),
-  )
+  nothing_lost (Some one) found tracker (CrawlDelay delay) differs (same, closed) =
+      grind (arith, common_steps)
   nothing_lost first found tracker line differs is = cc
 
 -- each line that goes is such a delay
@@ -234,16 +222,7 @@ early_left : (gone : ℕ → Bool) (lines : List LineValue)
     → list_any is_agent (left_from gone 0 lines) ≡ list_any is_agent lines
     → (list_any is_agent lines ≡ true → AreBelow gone 0 lines)
     → delay_before_agents (left_from gone 0 lines) ≡ delay_before_agents lines
-early_left gone lines same below = elim (cases_Bool (list_any is_agent lines)) [
-  | inl some ↦ rw (
-    same,
-    some,
-    before_agents (left_from gone 0 lines),
-    before_agents lines,
-    before_left gone 0 lines (below some),
-  ) refl
-  | inr none ↦ rw (same, none) refl
-]
+early_left gone lines same below = search (rules, before_agents, before_left)
 
 -- ---- all lines of a file
 
@@ -345,13 +324,7 @@ record IsNamed (test : List ℕ → Bool) (lines : List LineValue) : Type 0 wher
 
 named_next : {test : List ℕ → Bool} {lines : List LineValue} (line : LineValue) → is_group line ≡ false
     → IsNamed test lines → IsNamed test (line ∷ lines)
-named_next {lines} line isnt is = record {
-  position = suc is.position;
-  value = is.value;
-  at = is.at;
-  passes = is.passes;
-  no_group = up_to;
-}
+named_next {lines} line isnt is = grind (arith, up_to)
   where
     up_to : (k : ℕ) → k ≤ suc is.position → passes_at is_group (line ∷ lines) k ≡ false
     up_to zero most = isnt
@@ -469,6 +442,4 @@ replaces_star agents name lines labels number labeled has =
 
 pub star_disallows : (lines : List LineValue) (rules : List PlacedRule) → AreRulesFor (codes "*") lines rules
     → star_count lines ≡ count_by (λ (placed : PlacedRule). not placed.rule.1) rules
-star_disallows lines rules are =
-    let moved = one_list (codes "*") lines rules (star_rules lines) are (computed_are (codes "*") lines) in
-    length-filter _ (star_rules lines) ∙ sum_by-IsPermutation _ rules (star_rules lines) moved
+star_disallows lines rules are = search (rules, one_list, computed_are, length-filter, sum_by-IsPermutation)

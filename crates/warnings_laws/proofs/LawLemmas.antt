@@ -1,5 +1,7 @@
 -- Every file has an audit, and without `--needless` only one. Needless rules can be deleted together. What a
 -- report tells about the syntax of a file and its verdicts is so.
+use Rattle.std.proofs.lemmas.Grind.{common_steps}
+use Rattle.std.proofs.Common.{rules}
 use Rattle.std.proofs.Common.{◌≡◌, ◌≢◌, ◌≤◌, ◌↔◌, ℕ, Bool, inl, inr, List, [], ◌∷◌, Contains, IsUtf8, arith}
 use Rattle.std.proofs.Common.{codes, length, ltb-false, refl, subst, subst₂, sym, take, take_all, ◌⊎◌, suc}
 use Rattle.std.proofs.Common.{false, true, ◌++◌, ap, ap₂, None, Option, Some, ◌∙◌, if◌then◌else◌, is_none}
@@ -66,10 +68,7 @@ alike lines found agent other are has same =
 all_read : (requested : RequestValue) (file : List ℕ) (audit : AuditValue)
     (is : IsAuditOf requested file audit)
     → is.needless ≢ [] → length file ≤ file_limit
-all_read requested file audit is some = elim (cases_Bool (is_too_large file)) [
-  | inl large ↦ absurd (some (is.too_large large))
-  | inr small ↦ ltb-false file_limit (length file) small
-]
+all_read requested file audit is some = grind (arith, common_steps)
 
 pub robot_stays : (requested : RequestValue) (file left : List ℕ) (audit : AuditValue) (agent : List ℕ)
     → (is : IsAuditOf requested file audit) → is.needless ≢ [] → IsLeftOf (numbers_of is.needless) file left
@@ -99,16 +98,11 @@ zip_once R once (x ∷ xs) (y ∷ ys) (z ∷ zs) (one, more) (two, rest) =
 
 decided_once : (rules : List PlacedRule) (text : List ℕ) (one two : Decision)
     → IsDecisionOn rules text one → IsDecisionOn rules text two → one ≡ two
-decided_once rules text one two is too =
-    ap₂ (λ allowed line. record { allowed = allowed; line = line })
-    (one_verdict (unplaced rules) text one.allowed two.allowed is.verdict too.verdict)
-    (one_line_decides rules text one.line two.line is.deciding too.deciding)
+decided_once rules text one two is too = grind (arith, one_verdict, one_line_decides)
 
 verdict_once : (rules : List PlacedRule) (url : List ℕ) (one two : VerdictValue)
     → IsVerdictOn rules url one → IsVerdictOn rules url two → one ≡ two
-verdict_once rules url one two is too =
-    ap₂ (λ url decision. record { url = url; decision = decision }) (is.url_is ∙ sym too.url_is)
-    (decided_once rules (asked_target url) one.decision two.decision is.decided too.decided)
+verdict_once rules url one two is too = grind (arith, decided_once)
 
 abbrev IsShort : PlacedRule → Type 0
 IsShort placed = ¬ IsOverlong placed.rule.0
@@ -118,22 +112,14 @@ cut_once : (front others : List PlacedRule) (one two : PlacedRule) (back after :
     → front ++ one ∷ back ≡ others ++ two ∷ after → Each IsShort front → Each IsShort others
     → IsOverlong one.rule.0 → IsOverlong two.rule.0 → one ≡ two
 cut_once [] [] one two back after same first second here there = cc
-cut_once [] (rule ∷ others) one two back after same first second here there =
-    let is : one ≡ rule = cc in
-    absurd (second.0 (subst (λ (rule : PlacedRule). IsOverlong rule.rule.0) is here))
-cut_once (rule ∷ front) [] one two back after same first second here there =
-    let is : two ≡ rule = cc in
-    absurd (first.0 (subst (λ (rule : PlacedRule). IsOverlong rule.rule.0) is there))
+cut_once [] (rule ∷ others) one two back after same first second here there = grind (arith, common_steps)
+cut_once (rule ∷ front) [] one two back after same first second here there = grind (arith, common_steps)
 cut_once (rule ∷ front) (other ∷ others) one two back after same first second here there =
     cut_once front others one two back after (cc) first.1 second.1 here there
 
 line_once : (rules : List PlacedRule) (one two : ℕ) → IsFirstOverlong rules one → IsFirstOverlong rules two
     → one ≡ two
-line_once rules one two is too =
-    let same = cut_once is.front too.front is.placed too.placed is.back too.back (sym is.whole ∙ too.whole)
-    (recursion_from_All IsShort is.front is.accepted) (recursion_from_All IsShort too.front too.accepted)
-    is.overlong too.overlong in
-    sym is.line ∙ ap (λ (placed : PlacedRule). placed.line) same ∙ too.line
+line_once rules one two is too = grind (arith, cut_once, recursion_from_All)
 
 not_both : (lines : List LineValue) (agent : List ℕ) (line : ℕ) → ¬ IsRejected agent lines
     → IsFirstOverlong (placed_rules agent lines) line → ⊥
@@ -148,56 +134,20 @@ ruling_once urls lines agent None None verdicts others (accepted, is) (also, too
     let rules = placed_rules agent lines in
     (refl, zip_once (IsVerdictOn rules) (verdict_once rules) urls verdicts others is too)
 ruling_once urls lines agent None (Some line) verdicts others (accepted, is) (first, too) =
-    absurd (not_both lines agent line accepted first)
+    search (rules, not_both)
 ruling_once urls lines agent (Some line) None verdicts others (first, is) (accepted, too) =
-    absurd (not_both lines agent line accepted first)
+    search (rules, not_both)
 ruling_once urls lines agent (Some line) (Some other) verdicts others (first, is) (also, too) =
-    (ap Some (line_once (placed_rules agent lines) line other first also), is ∙ sym too)
+    search (rules, line_once)
 
 agent_once : (urls : List (List ℕ)) (lines : List LineValue) (agent : List ℕ) (one two : AgentValue)
     → IsAgentAudit urls lines agent one → IsAgentAudit urls lines agent two → one ≡ two
-agent_once urls lines agent one two is too =
-    let (line, verdicts) =
-    ruling_once urls lines agent one.rejected two.rejected one.verdicts two.verdicts is.ruling too.ruling in
-    let same : ◌≡◌ {A = AgentValue} (record {
-      agent = one.agent;
-      group = one.group;
-      delay = one.delay;
-      rejected = one.rejected;
-      verdicts = one.verdicts;
-    }) (record {
-      agent = two.agent;
-      group = two.group;
-      delay = two.delay;
-      rejected = two.rejected;
-      verdicts = two.verdicts;
-    }) = cc in
-    same
+agent_once urls lines agent one two is too = grind (arith, ruling_once)
 
 pub same_audit : (requested : RequestValue) (file : List ℕ) (audit other : AuditValue)
     → (is : IsAuditOf requested file audit) → (too : IsAuditOf requested file other)
     → is.needless ≡ too.needless → audit ≡ other
-same_audit requested file audit other is too same =
-    let lines = lines_read file in
-    let labels = labels_requested requested file in
-    let agents = zip_once (IsAgentAudit requested.urls lines) (agent_once requested.urls lines)
-    (agents_requested requested.agents lines) audit.agents other.agents is.agents_are too.agents_are in
-    let warnings =
-    is.warnings_are ∙ ap (warnings_requested requested file labels) same ∙ sym too.warnings_are in
-    let syntax = is.syntax_is ∙ ap₂ (λ agents needless. syntax_of requested.agent (is_too_large file)
-    (rejects_some agents) (warnings_found requested file labels needless)) agents same ∙ sym too.syntax_is in
-    let equal : ◌≡◌ {A = AuditValue} (record {
-      labels = audit.labels;
-      agents = audit.agents;
-      warnings = audit.warnings;
-      syntax = audit.syntax;
-    }) (record {
-      labels = other.labels;
-      agents = other.agents;
-      warnings = other.warnings;
-      syntax = other.syntax;
-    }) = cc in
-    equal
+same_audit requested file audit other is too same = grind (arith, zip_once, agent_once)
 
 -- ---- existence
 
@@ -243,9 +193,7 @@ first_overlong (rule ∷ rules) = by _ (overlong_decides rule.rule.0) (first_ove
         line = refl;
       },
     )
-    by false decides (inl none) =
-        inl (All-cons IsShort rule rules
-        (λ overlong. absurd (false≢true (decides.1 overlong))) none)
+    by false decides (inl none) = grind (arith, common_steps)
     by false decides (inr (line, is)) = inr (
       line,
       record {

@@ -1,6 +1,7 @@
 -- Without a warning about a delay that splits a group, the merged groups of a file are unsplit
 -- (`is_unsplit`), so each crawler's rules are those of the standard. The proof walks through the source lines
 -- (`Sources`), as the warnings do: they keep one name above a line, which is enough to check the next group.
+use Rattle.std.proofs.Common.{rules}
 use Rattle.std.proofs.Common.{◌≡◌, ◌⊎◌, inl, inr, ℕ, Bool, true, false, not, ◌||◌, ◌&&◌, List, [], ◌∷◌}
 use Rattle.std.proofs.Common.{◌++◌, ◌∙◌, Option, Some, None, ap, codes, filter, if◌then◌else◌, map, refl}
 use Rattle.std.proofs.Common.{subst, sym, take}
@@ -96,8 +97,7 @@ below tokens sources = put_before tokens (parts_in sources).ungrouped (parts_in 
 
 below_token : (tokens : List (List ℕ)) (token text : List ℕ) (sources : List Source)
     → below tokens ((UserAgent token, text) ∷ sources) ≡ below (tokens ++ token ∷ []) sources
-below_token tokens token text sources =
-    put_both tokens (token ∷ []) (parts_in sources).ungrouped (parts_in sources).groups
+below_token tokens token text sources = search (rules, put_both, parts_in)
 
 first_rules : (tokens : List (List ℕ)) (sources : List Source)
     → begin_with_rules false (lines_in sources) ≡ first has_a_rule (below tokens sources)
@@ -152,11 +152,7 @@ first_passes : (name : Option (List ℕ)) (tokens : List (List ℕ)) (token text
     && not (name_again name (UserAgent token ∷ lines_in sources))) ≡ true
     → (first has_a_rule (below (token ∷ []) sources) ≡ false)
     ⊎ (list_all (λ name. first (has_token name) (below (token ∷ []) sources)) tokens ≡ true)
-first_passes name tokens token text sources sole is =
-    elim (cases_Bool (begin_with_rules false (lines_in sources))) [
-      | inl some ↦ inr (named name sole (rw some at is))
-      | inr none ↦ inl (sym (first_rules (token ∷ []) sources) ∙ none)
-    ]
+first_passes name tokens token text sources sole is = search (rules, lines_in, named, first_rules)
   where
     named : (name : Option (List ℕ)) → IsSole name tokens
         → not (not (name_again name (UserAgent token ∷ lines_in sources))) ≡ true

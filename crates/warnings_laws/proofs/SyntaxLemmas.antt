@@ -1,5 +1,7 @@
 -- A file without warnings about its syntax follows the grammar: its start is in order, each line has a form,
 -- and each rule is below a user-agent line.
+use Rattle.std.proofs.lemmas.Grind.{common_steps}
+use Rattle.std.proofs.Common.{rules}
 use Rattle.std.proofs.Common.{◌≡◌, ◌≢◌, inl, inr, ℕ, suc, ◌==◌, ◌&&◌, Bool, true, false, List, [], ◌∷◌, ◌++◌}
 use Rattle.std.proofs.Common.{All, nat_eq, not, refl, sym, take, zero, ◌<◌, Some, ap, arith, length, map}
 use Rattle.std.proofs.Common.{slice_get, subst, ◌∙◌, ◌||◌, None, Option, codes, flat_map, if◌then◌else◌}
@@ -44,14 +46,8 @@ use Rattle.rfc9309_laws.specs.LineForms as form
 
 -- ---- NUL
 
-each_other : (text : List ℕ) → list_any (λ b. b == 0) text ≡ false → Each (λ b. b ≢ 0) text
-each_other [] none = tt
-each_other (b ∷ text) none =
-    let parts = or_parts (b == 0) (list_any (λ b. b == 0) text) none in
-    (eqb-false b 0 parts.0, each_other text parts.1)
-
 pub no_nul : (text : List ℕ) → list_any (λ b. b == 0) text ≡ false → All (λ b. b ≢ 0) text
-no_nul text none = All-from_recursion (λ b. b ≢ 0) text (each_other text none)
+no_nul text none = grind (arith, common_steps)
 
 -- ---- the byte order mark
 
@@ -66,15 +62,7 @@ differs b c isnt = ne_eqb b c (λ e. eqb-false c b isnt (sym e))
 unmarked : (a : ℕ) (text others : List ℕ)
     → list_any (λ b. starts_with nat_eq (a ∷ others) (b ∷ [])) mark ≡ false
     → without_front (a ∷ text) ≡ a ∷ text
-unmarked a text others none =
-    let first = or_parts ((0xEF == a) && true) _ none in
-    let second = or_parts ((0xBB == a) && true) _ first.1 in
-    let third = or_parts ((0xBF == a) && true) _ second.1 in
-    rw (
-      differs a 0xEF (alone (0xEF == a) first.0),
-      differs a 0xBB (alone (0xBB == a) second.0),
-      differs a 0xBF (alone (0xBF == a) third.0),
-    ) refl
+unmarked a text others none = grind (arith, common_steps)
   where
     alone : (b : Bool) → (b && true) ≡ false → b ≡ false
     alone true is = is
@@ -83,10 +71,8 @@ unmarked a text others none =
 complete : (n : ℕ) (file : List ℕ) → starts_with nat_eq file mark ≡ true
     → HasMark (take (suc (suc (suc n))) file)
 complete n [] is = absurd (false≢true is)
-complete n (a ∷ []) is = absurd (false≢true (and_parts (0xEF == a) _ is).1)
-complete n (a ∷ b ∷ []) is =
-    let first = and_parts (0xEF == a) _ is in
-    absurd (false≢true (and_parts (0xBB == b) _ first.1).1)
+complete n (a ∷ []) is = grind (arith, common_steps)
+complete n (a ∷ b ∷ []) is = grind (arith, common_steps)
 complete n (a ∷ b ∷ c ∷ file) is =
     let first = and_parts (0xEF == a) _ is in
     let second = and_parts (0xBB == b) _ first.1 in
@@ -187,9 +173,7 @@ each_given P line about (check ∷ checks) all =
 module _ (test : Cause → Bool) where
   pub warned_quiet : (line : Option ℕ) (about : Option (List ℕ)) (checks : List Check)
       → ArePassed test (warned line about checks) → AreQuietBy test checks
-  warned_quiet line about checks all =
-      each_weaker _ _ (λ check given. quiet_by (test check.0) check.1 given) checks
-      (each_given (λ warning. test warning.cause ≡ true) line about checks all)
+  warned_quiet line about checks all = grind (arith, each_weaker, quiet_by, each_given)
 
   -- the same, line by line
   pub lines_quiet : (bodies : List (List ℕ)) (labels : List Label) → lines_of labels ≡ map line_of bodies
@@ -220,19 +204,10 @@ pub record IsQuietFile (facts : FileFacts) : Type 0 where
   pub mark : facts.has_damaged_mark ≡ false
   pub nul : facts.has_nul ≡ false
 
-nul_off : (nul utf_16 : Bool) → not (nul && not utf_16) ≡ true → not utf_16 ≡ true → nul ≡ false
-nul_off false utf_16 one two = refl
-nul_off true true one two = absurd (false≢true two)
-nul_off true false one two = absurd (false≢true one)
-
 pub quiet_file : (facts : FileFacts) → AreQuiet (file_checks facts) → IsQuietFile facts
 unfolding topic_of
-quiet_file facts (html, (utf_16, (other, (empty, (large, (agent, (mark, (nul, end)))))))) = record {
-  shown = or_from facts.is_html facts.is_utf_16 (not-true _ html) (not-true _ utf_16);
-  with_agent = not-true _ agent;
-  mark = not-true _ mark;
-  nul = nul_off facts.has_nul facts.is_utf_16 nul utf_16;
-}
+quiet_file facts (html, (utf_16, (other, (empty, (large, (agent, (mark, (nul, end)))))))) =
+    grind (arith, common_steps)
 
 -- ---- the lines
 
@@ -285,7 +260,7 @@ module _ (file : List ℕ) where
   labels_are = (each_line_has_its_label name (lines_read file) labels).1 refl
 
   pub reads : AllZip IsLineOf (lines_read file) bodies
-  reads = lines_of_file_bodies (take file_limit file) bodies refl
+  reads = search (rules, lines_of_file_bodies)
 
   module _ (test : Cause → Bool) (named agents urls : List (List ℕ))
       (all : ArePassed test (warnings_of named agents urls file)) where
@@ -308,10 +283,10 @@ module _ (file : List ℕ) where
     of_groups = group_warnings true agents bodies (lines_read file) labels
 
     passed_later : Each Passes (of_lines ++ (of_positions ++ (past_limit ++ of_groups)))
-    passed_later = each_back Passes general (of_lines ++ (of_positions ++ (past_limit ++ of_groups))) all
+    passed_later = grind (arith, each_back)
 
     passed_after : Each Passes (of_positions ++ (past_limit ++ of_groups))
-    passed_after = each_back Passes of_lines (of_positions ++ (past_limit ++ of_groups)) passed_later
+    passed_after = grind (arith, each_back, passed_later)
 
     pub facts_quiet : AreQuietBy test (file_checks facts)
     facts_quiet =
@@ -323,17 +298,13 @@ module _ (file : List ℕ) where
     pub bodies_quiet : suppresses_line_warnings facts ≡ false
         → Each (λ body. AreQuietBy test (line_checks true (line_of body) body)) bodies
     bodies_quiet are_shown =
-        lines_quiet test bodies labels labels_are.lines_are
-        (shown test (suppresses_line_warnings facts) (lines_warnings true bodies labels) are_shown
-        (each_front Passes of_lines (of_positions ++ (past_limit ++ of_groups)) passed_later))
+        grind (arith, lines_quiet, bodies, labels, labels_are, shown, facts, each_front, passed_later)
 
     pub passed_positions : ArePassed test of_positions
-    passed_positions = each_front Passes of_positions (past_limit ++ of_groups) passed_after
+    passed_positions = grind (arith, each_front, passed_after)
 
     pub passed_groups : ArePassed test of_groups
-    passed_groups =
-        each_back Passes past_limit of_groups
-        (each_back Passes of_positions (past_limit ++ of_groups) passed_after)
+    passed_groups = grind (arith, each_back, passed_after)
 
 module _ (named agents urls : List (List ℕ)) (file : List ℕ)
     (silent : IsSilentOn named agents urls file) where
