@@ -190,18 +190,10 @@ usual_key kind key rest is begins =
 abbrev kinds : List Kind
 kinds = kind.UserAgent ∷ kind.Allow ∷ kind.Disallow ∷ kind.Sitemap ∷ kind.CrawlDelay ∷ []
 
--- the text, which is in lower case, is an accepted name
-abbrev is_accepted_as : List ℕ → Bool
-is_accepted_as text = list_any (λ (k : Kind). list_any (bytes_eq text) (field_names k)) kinds
-
 pub not_continued : (kind : Kind) (key more : List ℕ) (b : ℕ)
     → Contains (field_names kind) (str_to_ascii_lowercase key)
     → is_any_accepted (key ++ b ∷ more) ≡ false
 not_continued kind key more b is = grind (arith, common_steps)
-  where
-    lowered : (text after : List ℕ) → str_to_ascii_lowercase (text ++ after)
-        ≡ map to_ascii_lowercase text ++ map to_ascii_lowercase after
-    lowered text after = map-append to_ascii_lowercase text after
 
 -- ---- the first byte of a name
 

@@ -195,13 +195,6 @@ pub data IsRuleValue (value : List ℕ) : Type 0 where
 pub started : (value : List ℕ) → not (has_odd_start value) ≡ true → not (begins_as_url value) ≡ true
     → not (is_quoted value) ≡ true → begins_oddly value ≡ false
 started value starts url quoted = grind (arith, common_steps)
-  where
-    by : (odd url quoted : Bool) → not (odd && not (url || quoted)) ≡ true → not url ≡ true
-        → not quoted ≡ true → odd ≡ false
-    by false url quoted one two three = refl
-    by true true quoted one two three = absurd (false≢true two)
-    by true false true one two three = absurd (false≢true three)
-    by true false false one two three = absurd (false≢true one)
 
 pub first_byte : (b : ℕ) (text : List ℕ) → begins_oddly (b ∷ text) ≡ false → (b ≡ 0x2F) ⊎ (b ≡ 0x2A)
 first_byte b text is = grind (arith, common_steps)
@@ -270,7 +263,3 @@ meant body = search (rules, delay_or, unwrap_or, either, first_one)
 
 pub not_quiet : (body : List ℕ) → is_quiet (meant_by body, true) ≡ true → ⊥
 not_quiet body is = grind (arith, false≢true, not-true, meant)
-  where
-    none : (b : Bool) → b ≡ false → (b || not true) ≡ false
-    none true is = is
-    none false is = refl

@@ -63,10 +63,6 @@ unmarked : (a : ℕ) (text others : List ℕ)
     → list_any (λ b. starts_with nat_eq (a ∷ others) (b ∷ [])) mark ≡ false
     → without_front (a ∷ text) ≡ a ∷ text
 unmarked a text others none = grind (arith, common_steps)
-  where
-    alone : (b : Bool) → (b && true) ≡ false → b ≡ false
-    alone true is = is
-    alone false is = refl
 
 complete : (n : ℕ) (file : List ℕ) → starts_with nat_eq file mark ≡ true
     → HasMark (take (suc (suc (suc n))) file)

@@ -231,15 +231,6 @@ only_itself a b is same = grind (arith, nat_tests)
 white_bytes : (c : ℕ) → is_whitespace c ≡ true → Each IsNoLetter (encode_utf8 c)
 unfolding encode_utf8
 white_bytes c white = grind (arith, common_steps)
-  where
-    at : (one two three : Bool) → nat_lt c 128 ≡ one
-        → Each IsNoLetter (cond one (c ∷ []) (cond two ((192 + c / 64) ∷ next c ∷ [])
-        (cond three ((224 + c / 4096) ∷ next (c / 64) ∷ next c ∷ [])
-        ((240 + c / 262144) ∷ next (c / 4096) ∷ next (c / 64) ∷ next c ∷ []))))
-    at true two three low = (inl (grind (arith, nat_tests)), tt)
-    at false true three high = (inr (omega arith), (inr (omega arith), tt))
-    at false false true high = grind (arith, common_steps)
-    at false false false high = grind (arith, common_steps)
 
 same_bytes : (value text : List ℕ) → Each IsNoLetter text
     → str_to_ascii_lowercase value ≡ str_to_ascii_lowercase text → value ≡ text
