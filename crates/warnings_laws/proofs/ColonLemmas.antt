@@ -182,8 +182,9 @@ pub usual_key : (kind : Kind) (key rest : List ℕ) → Contains (field_names ki
     → map to_ascii_lowercase key ≡ word_of kind
 unfolding begins_with
 usual_key kind key rest is begins =
-    of_name (IsUsualOnly kind) kind (map to_ascii_lowercase key) (all_usual kind) is
-    (map to_ascii_lowercase rest) (rw (← map-append, take-map, take-map, take-map, take-map, take-map) begins)
+    let usual : begins_usual (map to_ascii_lowercase key ++ map to_ascii_lowercase rest) ≡ true =
+    rw (← map-append, take-map, take-map, take-map, take-map, take-map) begins in
+    grind (arith, common_steps)
 
 -- ---- no accepted name continues another one
 

@@ -45,17 +45,7 @@ d_selects [] is = cc
 d_selects (b ∷ text) is = grind (arith, common_steps)
 
 lower_d : (b : ℕ) → to_ascii_lowercase b ≡ 100 → (b == byte "d" || b == byte "D") ≡ true
-lower_d b is = by (nat_lt b 65) (nat_lt b 91) is
-  where
-    letter : (d : ℕ) → (d == byte "d" || d == byte "D") ≡ true → b ≡ d
-        → (b == byte "d" || b == byte "D") ≡ true
-    letter d holds same = grind (arith, common_steps)
-
-    by : (below within : Bool) → cond below b (cond within (b + 32) b) ≡ 100
-        → (b == byte "d" || b == byte "D") ≡ true
-    by true within is = letter 100 refl is
-    by false true is = letter 68 refl (omega (is, arith))
-    by false false is = letter 100 refl is
+lower_d b is = grind (arith, common_steps)
 
 only_d : (letter : ℕ) → kind_with letter ≡ Some kind.Disallow → letter ≡ 100
 only_d letter is = grind (arith, common_steps)

@@ -106,9 +106,7 @@ left_from gone position lines =
 
 no_agent : (first : Option ℕ) (line : LineValue) → are_different first (delay_in line) ≡ true
     → is_agent line ≡ false
-no_agent first (CrawlDelay delay) differs = refl
-no_agent (Some one) line differs = cc
-no_agent None line differs = cc
+no_agent first line differs = grind (arith, common_steps)
 
 -- if the group has a delay above the next line, crawlers that get this group have found their delay, and a
 -- user-agent line begins another group

@@ -116,9 +116,7 @@ token (b ∷ value) is = search (rules, or_cases, bytes_eq, bytes_eq-Decides, an
 
 -- a value that is neither an invalid nor an unusual name is a product token
 pub named : (is usual : Bool) → not (not is && not usual) ≡ true → not (not is && usual) ≡ true → is ≡ true
-named true usual one two = refl
-named false true one two = absurd (false≢true two)
-named false false one two = absurd (false≢true one)
+named is usual one two = grind (arith, common_steps)
 
 -- ---- the checks
 
@@ -167,10 +165,7 @@ raw_plain tail all =
 -- ---- values of rules and sitemaps
 
 value_byte : (b : ℕ) → nat_le b 32 ≡ false → b ≢ 35 → is_value_byte b ≡ true
-value_byte b low other = rw (ne_eqb b 35 other) (above b low)
-  where
-    above : (b : ℕ) → nat_le b 32 ≡ false → (nat_lt 0x20 b && not false) ≡ true
-    above b low = grind (arith, nat_tests)
+value_byte b low other = grind (arith, nat_tests)
 
 pub value_bytes : (text : List ℕ) → somewhere begins_next_value text ≡ false → Each (λ b. b ≢ 35) text
     → list_all is_value_byte text ≡ true

@@ -1,6 +1,8 @@
 -- Without a warning about a delay that splits a group, the merged groups of a file are unsplit
 -- (`is_unsplit`), so each crawler's rules are those of the standard. The proof walks through the source lines
 -- (`Sources`), as the warnings do: they keep one name above a line, which is enough to check the next group.
+use Rattle.std.proofs.lemmas.Grind.{common_steps}
+use Rattle.std.proofs.Common.{arith}
 use Rattle.std.proofs.Common.{rules}
 use Rattle.std.proofs.Common.{◌≡◌, ◌⊎◌, inl, inr, ℕ, Bool, true, false, not, ◌||◌, ◌&&◌, List, [], ◌∷◌}
 use Rattle.std.proofs.Common.{◌++◌, ◌∙◌, Option, Some, None, ap, codes, filter, if◌then◌else◌, map, refl}
@@ -44,9 +46,7 @@ are_unsplit preceding above (line ∷ lines) =
 
 neither : (split star : Bool) → ((split && not star) ≡ true → ⊥) → ((split && star) ≡ true → ⊥)
     → split ≡ false
-neither false star one other = refl
-neither true false one other = absurd (one refl)
-neither true true one other = absurd (other refl)
+neither split star one other = grind (arith, common_steps)
 
 lines_unsplit : (last : Option ℕ) (preceding : Preceding) (above : Option (List ℕ)) (delay : Option ℕ)
     (labels : List Label) → Each IsNoSplit (positions_from last preceding above delay labels)

@@ -143,9 +143,7 @@ rules_below name labels are kinds each above below e =
 -- ---- checks
 
 quiet_by : (meaning holds : Bool) → (holds ≡ true → meaning ≡ true) → (meaning || not holds) ≡ true
-quiet_by true holds is = refl
-quiet_by false true is = is refl
-quiet_by false false is = refl
+quiet_by meaning holds given = grind (arith, common_steps)
 
 -- the warnings have causes that pass the test
 abbrev pub ArePassed : (Cause → Bool) → List WarningValue → Type 0

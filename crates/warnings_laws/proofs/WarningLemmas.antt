@@ -44,9 +44,7 @@ use Rattle.texting_robots.specs.declared.parser.statement.Kind.TheVariants as ki
 
 pub named_agent : (name : List ℕ) (line : Option LineValue)
     → option_map_or (is_agent_named name) line false ≡ true → option_map_or is_agent line false ≡ true
-named_agent name None is = cc
-named_agent name (Some (UserAgent value)) is = refl
-named_agent name (Some line) is = cc
+named_agent name line is = grind (arith, common_steps)
 
 -- what the content of a line states that is read so
 abbrev pub IsStated : LineValue → List ℕ → Type 0
@@ -147,9 +145,7 @@ pub not_utf8_applies_to_none : (value agent : List ℕ) (lines : List LineValue)
 not_utf8_applies_to_none value agent lines place is_allow rule isnt at holds = grind (arith, common_steps)
 
 outside : (membership : Membership) → is_outside membership ≡ true → membership ≡ Ungrouped
-outside Own is = cc
-outside Other is = cc
-outside Ungrouped is = refl
+outside membership is = grind (arith, common_steps)
 
 pub above_agents_applies_to_none : (name agent : List ℕ) (lines : List LineValue) (labels : List Label)
     (place : ℕ)
