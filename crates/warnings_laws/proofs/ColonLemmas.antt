@@ -31,19 +31,14 @@ use Rattle.texting_robots.specs.declared.parser.statement.Kind.TheVariants as ki
 
 pub at_front : (stop : ℕ) (front rest : List ℕ) → Each (λ b. b ≢ stop) front
     → position_or_len (λ b. b == stop) (front ++ stop ∷ rest) ≡ length front
-at_front stop [] rest all = let is = eq-eqb stop stop refl in rw is refl
+at_front stop [] rest all = rw (eq-eqb stop stop refl) refl
 at_front stop (b ∷ front) rest all =
-    let other = ne_eqb b stop all.0 in
-    let later = at_front stop front rest all.1 in
-    rw (other, later) (omega arith)
+    rw (ne_eqb b stop all.0, at_front stop front rest all.1) (omega arith)
 
 pub nowhere : (stop : ℕ) (text : List ℕ) → Each (λ b. b ≢ stop) text
     → position_or_len (λ b. b == stop) text ≡ length text
 nowhere stop [] all = refl
-nowhere stop (b ∷ text) all =
-    let other = ne_eqb b stop all.0 in
-    let later = nowhere stop text all.1 in
-    rw (other, later) (omega arith)
+nowhere stop (b ∷ text) all = rw (ne_eqb b stop all.0, nowhere stop text all.1) (omega arith)
 
 pub before_is : (stop : ℕ) (front rest : List ℕ) → Each (λ b. b ≢ stop) front
     → before_byte stop (front ++ stop ∷ rest) ≡ front
@@ -111,11 +106,6 @@ around text =
 
 -- ---- accepted names
 
--- a property of all accepted names of the kind holds for this one
-pub of_name : (P : List ℕ → Type 0) (kind : Kind) (name : List ℕ) → Each P (field_names kind)
-    → Contains (field_names kind) name → P name
-of_name P kind name all is = grind (arith, common_steps)
-
 -- ---- bytes of a name
 
 -- neither a colon nor `#`
@@ -161,20 +151,6 @@ usual_names =
 abbrev begins_usual : List ℕ → Bool
 begins_usual text =
     list_any (λ (name : List ℕ). bytes_eq (take (length name) text) (map to_ascii_lowercase name)) usual_names
-
--- if a text that starts with this name starts with a usual one, this name is the standard's
-abbrev IsUsualOnly : Kind → List ℕ → Type 0
-IsUsualOnly kind name = (more : List ℕ) → begins_usual (name ++ more) ≡ true → name ≡ word_of kind
-
-other : {name word : List ℕ} → (false ≡ true) → name ≡ word
-other is = absurd (false≢true is)
-
-all_usual : (kind : Kind) → Each (IsUsualOnly kind) (field_names kind)
-all_usual kind.UserAgent = grind (arith, common_steps)
-all_usual kind.Disallow = grind (arith, common_steps)
-all_usual kind.Sitemap = grind (arith, common_steps)
-all_usual kind.CrawlDelay = grind (arith, common_steps)
-all_usual _ = (λ more is. refl, tt)
 
 -- the field name of a line that starts with a usual one is the standard's
 pub usual_key : (kind : Kind) (key rest : List ℕ) → Contains (field_names kind) (str_to_ascii_lowercase key)

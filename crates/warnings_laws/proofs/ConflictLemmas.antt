@@ -123,13 +123,7 @@ first_found f (x ∷ xs) n is = by (f x) refl (first_found f xs n) is
 any_some : {X : Type 0} (f : X → Option ℕ) (xs : List X)
     → list_any (λ x. is_some (f x)) xs ≡ is_some (first_of f xs)
 any_some f [] = refl
-any_some f (x ∷ xs) = by (f x) (any_some f xs)
-  where
-    by : (a : Option ℕ) → list_any (λ x. is_some (f x)) xs ≡ is_some (first_of f xs)
-        → (is_some a || list_any (λ x. is_some (f x)) xs)
-        ≡ is_some (option_or a (first_of f xs))
-    by None later = later
-    by (Some m) later = refl
+any_some f (x ∷ xs) = grind (arith, common_steps, any_some f xs)
 
 pub first_some : {X : Type 0} (f : X → Option ℕ) (xs : List X) (x : X) → Contains xs x → is_some (f x) ≡ true
     → is_some (first_of f xs) ≡ true

@@ -1,4 +1,5 @@
 -- Which lines are empty Disallows, what `empty-disallow` says of rules, and what it means if no line has it.
+use Rattle.std.proofs.lemmas.Bool.{or_right}
 use Rattle.std.proofs.Common.{rules}
 use Rattle.std.proofs.lemmas.Bool.{and_parts, not-true}
 use Rattle.std.proofs.Common.{◌≡◌, ◌↔◌, ◌==◌, ◌&&◌, ◌||◌, ◌+◌, ℕ, Bool, true, false, List, [], ◌∷◌, None}
@@ -140,10 +141,6 @@ found_at (label ∷ labels) (body ∷ bodies) number is =
           (suc i, one, own, at, beside, same, empty)
     ]
 
-or_true : (a b : Bool) → b ≡ true → (a || b) ≡ true
-or_true true b is = refl
-or_true false b is = is
-
 at_found : (labels : List Label) (bodies : List (List ℕ)) (number i : ℕ) (label : Label) (body : List ℕ)
     → slice_get labels i ≡ Some label → slice_get bodies i ≡ Some body → label.number ≡ number
     → is_empty_disallow label.line body ≡ true → is_empty_at bodies labels number ≡ true
@@ -152,7 +149,7 @@ at_found (first ∷ labels) [] number i label body at beside same empty = cc
 at_found (first ∷ labels) (own ∷ bodies) number zero label body at beside same empty =
     grind (arith, common_steps)
 at_found (first ∷ labels) (own ∷ bodies) number (suc i) label body at beside same empty =
-    or_true (is_empty_disallow first.line own && first.number == number) (is_empty_at bodies labels number)
+    or_right (is_empty_disallow first.line own && first.number == number) (is_empty_at bodies labels number)
     (at_found labels bodies number i label body at beside same empty)
 
 pub zips : (file : List ℕ) → AllZip IsLineOf (lines_read file) (bodies_read file)

@@ -182,9 +182,6 @@ captured_above : {lines : List LineValue} {position : ℕ} {line : Option LineVa
     (is : IsAbove lines position line) → IsCaptured name lines position → IsCaptured name lines is.other
 captured_above name is (inl none) = inl none
 captured_above {lines} name is (inr (j, below, named, alone)) = grind (arith, common_steps)
-  where
-    first : j < is.other
-    first = grind (arith, common_steps)
 
 -- a crawler that has a repeated rule has the same rule in a line above
 rule_above : {agent : List ℕ} {lines : List LineValue} {rules : List PlacedRule}

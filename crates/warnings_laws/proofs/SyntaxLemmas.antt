@@ -55,9 +55,6 @@ no_nul text none = grind (arith, common_steps)
 abbrev pub HasMark : List ℕ → Type 0
 HasMark text = (bom : List ℕ) × rfc.IsBom bom × (text ≡ bom ++ without_front text)
 
-differs : (b c : ℕ) → (c == b) ≡ false → (b == c) ≡ false
-differs b c isnt = ne_eqb b c (λ e. eqb-false c b isnt (sym e))
-
 -- nothing is skipped of a text whose first byte isn't one of the mark's
 unmarked : (a : ℕ) (text others : List ℕ)
     → list_any (λ b. starts_with nat_eq (a ∷ others) (b ∷ [])) mark ≡ false

@@ -144,9 +144,6 @@ pub not_utf8_applies_to_none : (value agent : List ℕ) (lines : List LineValue)
     → ¬ HoldsRule agent lines place rule
 not_utf8_applies_to_none value agent lines place is_allow rule isnt at holds = grind (arith, common_steps)
 
-outside : (membership : Membership) → is_outside membership ≡ true → membership ≡ Ungrouped
-outside membership is = grind (arith, common_steps)
-
 pub above_agents_applies_to_none : (name agent : List ℕ) (lines : List LineValue) (labels : List Label)
     (place : ℕ)
     (label : Label) (rule : Rule) → AreLabelsOf name lines labels → slice_get labels place ≡ Some label
