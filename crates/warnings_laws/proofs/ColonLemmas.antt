@@ -1,5 +1,7 @@
 -- The parts of a directive that has a colon after its field name: what is before and after a byte, what is
 -- between spaces and tabs, and the field name, which is one of the usual names.
+use Rattle.std.proofs.lemmas.Grind.{common_steps}
+use Rattle.std.proofs.Common.{rules}
 use Rattle.std.proofs.Common.{◌≡◌, ◌≢◌, inl, inr, ℕ, ◌==◌, true, List, [], ◌∷◌, ◌++◌, ap, arith, drop, length}
 use Rattle.std.proofs.Common.{not, refl, subst, sym, ◌∙◌, reverse, ◌&&◌, Bool, false, bytes_eq, codes, map}
 use Rattle.std.proofs.Common.{take, append-nil, append_assoc}
@@ -29,40 +31,33 @@ use Rattle.texting_robots.specs.declared.parser.statement.Kind.TheVariants as ki
 
 pub at_front : (stop : ℕ) (front rest : List ℕ) → Each (λ b. b ≢ stop) front
     → position_or_len (λ b. b == stop) (front ++ stop ∷ rest) ≡ length front
-at_front stop [] rest all = let is = eq-eqb stop stop refl in rw is refl
+at_front stop [] rest all = rw (eq-eqb stop stop refl) refl
 at_front stop (b ∷ front) rest all =
-    let other = ne_eqb b stop all.0 in
-    let later = at_front stop front rest all.1 in
-    rw (other, later) (omega arith)
+    rw (ne_eqb b stop all.0, at_front stop front rest all.1) (omega arith)
 
 pub nowhere : (stop : ℕ) (text : List ℕ) → Each (λ b. b ≢ stop) text
     → position_or_len (λ b. b == stop) text ≡ length text
 nowhere stop [] all = refl
-nowhere stop (b ∷ text) all =
-    let other = ne_eqb b stop all.0 in
-    let later = nowhere stop text all.1 in
-    rw (other, later) (omega arith)
+nowhere stop (b ∷ text) all = rw (ne_eqb b stop all.0, nowhere stop text all.1) (omega arith)
 
 pub before_is : (stop : ℕ) (front rest : List ℕ) → Each (λ b. b ≢ stop) front
     → before_byte stop (front ++ stop ∷ rest) ≡ front
-before_is stop front rest all =
-    rw (at_front stop front rest all) (take-append_seam front (stop ∷ rest))
+before_is stop front rest all = grind (arith, at_front, take-append_seam)
 
 pub before_all : (stop : ℕ) (text : List ℕ) → Each (λ b. b ≢ stop) text → before_byte stop text ≡ text
-before_all stop text all = rw (nowhere stop text all) (take_all (length text) text (omega arith))
+before_all stop text all = grind (arith, nowhere, take_all)
 
 pub from_is : (stop : ℕ) (front rest : List ℕ) → Each (λ b. b ≢ stop) front
     → drop (position_or_len (λ b. b == stop) (front ++ stop ∷ rest)) (front ++ stop ∷ rest) ≡ stop ∷ rest
-from_is stop front rest all = rw (at_front stop front rest all) (drop-append_seam front (stop ∷ rest))
+from_is stop front rest all = grind (arith, at_front, drop-append_seam)
 
 pub from_none : (stop : ℕ) (text : List ℕ) → Each (λ b. b ≢ stop) text
     → drop (position_or_len (λ b. b == stop) text) text ≡ []
-from_none stop text all = rw (nowhere stop text all) (drop_all (length text) text (omega arith))
+from_none stop text all = grind (arith, nowhere, drop_all)
 
 pub after_is : (stop : ℕ) (front rest : List ℕ) → Each (λ b. b ≢ stop) front
     → after_byte stop (front ++ stop ∷ rest) ≡ rest
-after_is stop front rest all =
-    rw (at_front stop front rest all, drop-append-add front (stop ∷ rest) 1) refl
+after_is stop front rest all = grind (arith, at_front, drop-append-add)
 
 -- the first bytes aren't the one that is looked for
 pub before_front : (stop : ℕ) (front rest : List ℕ) → Each (λ b. b ≢ stop) front
@@ -111,12 +106,6 @@ around text =
 
 -- ---- accepted names
 
--- a property of all accepted names of the kind holds for this one
-pub of_name : (P : List ℕ → Type 0) (kind : Kind) (name : List ℕ) → Each P (field_names kind)
-    → Contains (field_names kind) name → P name
-of_name P kind name all is =
-    All-contains P (field_names kind) name (All-from_recursion P (field_names kind) all) is
-
 -- ---- bytes of a name
 
 -- neither a colon nor `#`
@@ -127,11 +116,7 @@ abbrev is_plain_byte : ℕ → Bool
 is_plain_byte b = not (b == 58) && not (b == 35)
 
 plain_byte : (b : ℕ) → is_plain_byte (to_ascii_lowercase b) ≡ true → IsPlainByte b
-plain_byte b is =
-    let both = and_parts (not (to_ascii_lowercase b == 58)) _ is in (
-      λ e. eqb-false (to_ascii_lowercase b) 58 (not-true _ both.0) (ap to_ascii_lowercase e),
-      λ e. eqb-false (to_ascii_lowercase b) 35 (not-true _ both.1) (ap to_ascii_lowercase e),
-    )
+plain_byte b is = grind (arith, common_steps)
 
 plain_bytes : (key word : List ℕ) → map to_ascii_lowercase key ≡ word → list_all is_plain_byte word ≡ true
     → Each IsPlainByte key
@@ -147,25 +132,14 @@ abbrev pub begins_solid : List ℕ → Bool
 begins_solid [] = false
 begins_solid (b ∷ text) = not (is_space_or_tab b)
 
-abbrev is_in_order : List ℕ → Bool
-is_in_order name = list_all is_plain_byte name && begins_solid name
-
-all_in_order : (kind : Kind) → list_all is_in_order (field_names kind) ≡ true
-all_in_order kind.UserAgent = refl
-all_in_order _ = refl
-
 in_order : (kind : Kind) (name : List ℕ) → Contains (field_names kind) name
     → (list_all is_plain_byte name ≡ true) × (begins_solid name ≡ true)
-in_order kind name is =
-    let all = AllPass-from_list_all is_in_order (field_names kind) (all_in_order kind) in
-    and_parts (list_all is_plain_byte name) _
-    (All-contains (λ name. is_in_order name ≡ true) (field_names kind) name all is)
+in_order kind name is = grind (arith, common_steps)
 
 -- a name has neither a colon nor `#`
 pub plain_key : (kind : Kind) (key : List ℕ) → Contains (field_names kind) (str_to_ascii_lowercase key)
     → Each IsPlainByte key
-plain_key kind key is =
-    plain_bytes key (map to_ascii_lowercase key) refl (in_order kind (map to_ascii_lowercase key) is).0
+plain_key kind key is = grind (arith, plain_bytes, in_order)
 
 -- ---- the usual names
 
@@ -178,84 +152,31 @@ abbrev begins_usual : List ℕ → Bool
 begins_usual text =
     list_any (λ (name : List ℕ). bytes_eq (take (length name) text) (map to_ascii_lowercase name)) usual_names
 
--- if a text that starts with this name starts with a usual one, this name is the standard's
-abbrev IsUsualOnly : Kind → List ℕ → Type 0
-IsUsualOnly kind name = (more : List ℕ) → begins_usual (name ++ more) ≡ true → name ≡ word_of kind
-
-other : {name word : List ℕ} → (false ≡ true) → name ≡ word
-other is = absurd (false≢true is)
-
-all_usual : (kind : Kind) → Each (IsUsualOnly kind) (field_names kind)
-all_usual kind.UserAgent = (λ more is. refl, (λ more is. other is, (λ more is. other is, tt)))
-all_usual kind.Disallow = (
-  λ more is. refl,
-  (
-    λ more is. other is,
-    (λ more is. other is, (λ more is. other is, (λ more is. other is, (λ more is. other is, tt)))),
-  ),
-)
-all_usual kind.Sitemap = (λ more is. refl, (λ more is. other is, (λ more is. other is, tt)))
-all_usual kind.CrawlDelay = (λ more is. refl, (λ more is. other is, (λ more is. other is, tt)))
-all_usual _ = (λ more is. refl, tt)
-
 -- the field name of a line that starts with a usual one is the standard's
 pub usual_key : (kind : Kind) (key rest : List ℕ) → Contains (field_names kind) (str_to_ascii_lowercase key)
     → list_any (λ (name : List ℕ). begins_with name (key ++ rest)) usual_names ≡ true
     → map to_ascii_lowercase key ≡ word_of kind
 unfolding begins_with
 usual_key kind key rest is begins =
-    of_name (IsUsualOnly kind) kind (map to_ascii_lowercase key) (all_usual kind) is
-    (map to_ascii_lowercase rest) (rw (← map-append, take-map, take-map, take-map, take-map, take-map) begins)
+    let usual : begins_usual (map to_ascii_lowercase key ++ map to_ascii_lowercase rest) ≡ true =
+    rw (← map-append, take-map, take-map, take-map, take-map, take-map) begins in
+    grind (arith, common_steps)
 
 -- ---- no accepted name continues another one
 
 abbrev kinds : List Kind
 kinds = kind.UserAgent ∷ kind.Allow ∷ kind.Disallow ∷ kind.Sitemap ∷ kind.CrawlDelay ∷ []
 
--- the text, which is in lower case, is an accepted name
-abbrev is_accepted_as : List ℕ → Bool
-is_accepted_as text = list_any (λ (k : Kind). list_any (bytes_eq text) (field_names k)) kinds
-
--- no accepted name is this one, a byte and more
-abbrev IsNotContinued : List ℕ → Type 0
-IsNotContinued name = (b : ℕ) (more : List ℕ) → is_accepted_as (name ++ b ∷ more) ≡ false
-
-all_ended : (kind : Kind) → Each IsNotContinued (field_names kind)
-all_ended kind.UserAgent = (λ b more. refl, (λ b more. refl, (λ b more. refl, tt)))
-all_ended kind.Disallow = (
-  λ b more. refl,
-  (λ b more. refl, (λ b more. refl, (λ b more. refl, (λ b more. refl, (λ b more. refl, tt))))),
-)
-all_ended kind.Sitemap = (λ b more. refl, (λ b more. refl, (λ b more. refl, tt)))
-all_ended kind.CrawlDelay = (λ b more. refl, (λ b more. refl, (λ b more. refl, tt)))
-all_ended _ = (λ b more. refl, tt)
-
 pub not_continued : (kind : Kind) (key more : List ℕ) (b : ℕ)
     → Contains (field_names kind) (str_to_ascii_lowercase key)
     → is_any_accepted (key ++ b ∷ more) ≡ false
-not_continued kind key more b is =
-    rw (lowered key (b ∷ more))
-    (of_name IsNotContinued kind (map to_ascii_lowercase key) (all_ended kind) is (to_ascii_lowercase b)
-    (map to_ascii_lowercase more))
-  where
-    lowered : (text after : List ℕ) → str_to_ascii_lowercase (text ++ after)
-        ≡ map to_ascii_lowercase text ++ map to_ascii_lowercase after
-    lowered text after = map-append to_ascii_lowercase text after
+not_continued kind key more b is = grind (arith, common_steps)
 
 -- ---- the first byte of a name
 
-solid_byte : (b : ℕ) → not (is_space_or_tab (to_ascii_lowercase b)) ≡ true
-    → not (is_space_or_tab b) ≡ true
-solid_byte b is = grind (arith, nat_tests)
-
-solid_text : (key : List ℕ) → begins_solid (map to_ascii_lowercase key) ≡ true → begins_solid key ≡ true
-solid_text [] is = is
-solid_text (b ∷ key) is = solid_byte b is
-
 pub solid_key : (kind : Kind) (key : List ℕ) → Contains (field_names kind) (str_to_ascii_lowercase key)
     → begins_solid key ≡ true
-solid_key kind key is =
-    solid_text key (in_order kind (map to_ascii_lowercase key) is).1
+solid_key kind key is = grind (arith, common_steps)
 
 -- ---- the parts
 
@@ -282,9 +203,7 @@ pub plain_front : (kind : Kind) (margin key blanks : List ℕ) → Each IsBlank 
     → Contains (field_names kind) (str_to_ascii_lowercase key) → Each IsBlank blanks
     → Each IsPlainByte (margin ++ (key ++ blanks))
 plain_front kind margin key blanks before is after =
-    each_append IsPlainByte margin (key ++ blanks) (each_weaker IsBlank IsPlainByte blank_plain margin before)
-    (each_append IsPlainByte key blanks (plain_key kind key is)
-    (each_weaker IsBlank IsPlainByte blank_plain blanks after))
+    search (rules, each_append, each_weaker, blank_plain, plain_key)
 
 module _ (kind : Kind) (value body : List ℕ) (line : HasColon kind value body) where
   abbrev front : List ℕ
@@ -294,13 +213,10 @@ module _ (kind : Kind) (value body : List ℕ) (line : HasColon kind value body)
   kept = front ++ 58 ∷ line.region
 
   pub plain : Each IsPlainByte front
-  plain =
-      plain_front kind line.margin line.key line.blanks line.margin_blank line.is_key line.blanks_blank
+  plain = search (rules, plain_front)
 
   no_hash : Each (λ b. b ≢ 35) kept
-  no_hash =
-      each_append (λ b. b ≢ 35) front (58 ∷ line.region)
-      (each_weaker IsPlainByte (λ b. b ≢ 35) (λ b is. is.1) front plain) (λ e. omega arith, line.no_hash)
+  no_hash = search (rules, each_append, each_weaker, plain)
 
   parted : body ≡ kept ++ line.comment
   parted = line.whole ∙ simp append_assoc
@@ -312,9 +228,7 @@ module _ (kind : Kind) (value body : List ℕ) (line : HasColon kind value body)
 
   -- the tail of the line, as the warnings see it
   pub tail_is : tail_of body ≡ line.region
-  tail_is =
-      rw (parted, before_comment line.comment line.is_comment)
-      (after_is 58 front line.region (each_weaker IsPlainByte (λ b. b ≢ 58) (λ b is. is.0) front plain))
+  tail_is = search (rules, parted, before_comment, after_is, each_weaker, plain)
 
   from_comment : (comment : List ℕ) → IsOptionalComment comment → comment_of (kept ++ comment) ≡ comment
   from_comment comment (inl none) = rw (none, append-nil) (from_none 35 kept no_hash)
@@ -336,8 +250,7 @@ last_of (x ∷ xs) ys c all = last_of xs ys c all.1
 -- if only spaces and tabs are left out at the end, what is before a solid byte stays
 stays : (xs ys kept back : List ℕ) (c : ℕ) → not (is_space_or_tab c) ≡ true → Each rfc.IsWs back
     → xs ++ c ∷ ys ≡ kept ++ back → (more : List ℕ) × (kept ≡ xs ++ c ∷ more)
-stays xs ys [] back c solid all e =
-    absurd (solid_absurd c solid (last_of xs ys c (subst (Each rfc.IsWs) (sym e) all)))
+stays xs ys [] back c solid all e = search (rules, solid_absurd, last_of)
 stays [] ys (d ∷ kept) back c solid all e =
     let same : c ≡ d = cc in (kept, ap (λ x. x ∷ kept) (sym same))
 stays (x ∷ xs) ys (d ∷ kept) back c solid all e =
@@ -421,8 +334,4 @@ module _ (kind : Kind) (value body : List ℕ) (is : IsStatement kind value body
       solid c isnt = grind (arith, nat_tests)
 
   pub has_colon : HasColon kind value body
-  has_colon = elim is.separated [
-    | inl colon ↦ after_colon colon
-    | inr (blanks, all, some, rest, starts) ↦ absurd
-        (spaced is.tail blanks all some starts (is.whole ∙ ap (λ t. is.margin ++ (is.key ++ t)) rest))
-  ]
+  has_colon = grind (arith, after_colon, spaced)

@@ -1,5 +1,8 @@
 -- What `closes-everything`, `hash-cuts-rule` and `allowed-and-disallowed` imply; and about first lines, which
 -- `empty-disallow` has, too.
+use Rattle.std.proofs.lemmas.Grind.{common_steps}
+use Rattle.std.proofs.Common.{rules}
+use Rattle.std.proofs.lemmas.Bool.{and_parts, not-true}
 use Rattle.std.proofs.Common.{◌≡◌, ◌≢◌, ℕ, ◌<◌, ◌==◌, ◌&&◌, ◌||◌, Bool, true, false, List, [], ◌∷◌, Contains}
 use Rattle.std.proofs.Common.{ap, arith, inl, inr, length, not, refl, subst, suc, sym, ◌⊎◌, Any, None, Option}
 use Rattle.std.proofs.Common.{Some, ap₂, bytes_eq, codes, if◌then◌else◌, ◌∙◌}
@@ -13,7 +16,6 @@ use Rattle.robots_warnings.specs.Closed.{is_closed_for, is_closing_at, is_openin
 use Rattle.robots_warnings.specs.Conflicts.{IsConflict, allow_beside, at_line, compared, conflict_for}
 use Rattle.robots_warnings.specs.Conflicts.{first_line, first_of, is_like, line_if}
 use Rattle.robots_warnings.specs.Contents.{is_cut_to_root}
-use Rattle.warnings_laws.proofs.WarningLemmas.{both, none, one_value}
 use Rattle.texting_robots.proofs.{HeldLemmas.computed_are, BestLemmas.placed_of}
 use Rattle.std.proofs.lemmas.Bool.Decides.{nat_tests}
 use Rattle.std.proofs.lemmas.Slice.Eq.{bytes_eq-Decides}
@@ -25,7 +27,7 @@ stars_match : (pattern text : List ℕ) → list_all (λ c. c == byte "*") patte
 unfolding MatchesWith
 stars_match [] text stars = tt
 stars_match (b ∷ pattern) text stars =
-    let (first, later) = both (b == star) _ stars in
+    let (first, later) = and_parts (b == star) _ stars in
     subst (λ b. Matches (b ∷ pattern) text) (sym (eqb-true b star first))
     (text, ([], refl), stars_match pattern text later)
 
@@ -34,7 +36,7 @@ pub whole_site_matches : (pattern text : List ℕ) → is_whole_site pattern ≡
 unfolding MatchesWith
 whole_site_matches [] text whole = cc
 whole_site_matches (b ∷ pattern) text whole =
-    let (first, stars) = both (b == byte "/" || b == star) _ whole in
+    let (first, stars) = and_parts (b == byte "/" || b == star) _ whole in
     elim (or_cases (b == byte "/") (b == star) first) [
       | inl is ↦
           subst (λ b. Matches (b ∷ pattern) (byte "/" ∷ text)) (sym (eqb-true b (byte "/") is))
@@ -48,23 +50,17 @@ whole_site_matches (b ∷ pattern) text whole =
 stars_stay : (pattern : List ℕ) → list_all (λ c. c == byte "*") pattern ≡ true → escaped pattern ≡ pattern
 stars_stay [] stars = refl
 stars_stay (b ∷ pattern) stars =
-    let (first, later) = both (b == star) _ stars in
+    let (first, later) = and_parts (b == star) _ stars in
     rw (eqb-true b star first, stars_stay pattern later) refl
 
 whole_site_stays : (pattern : List ℕ) → is_whole_site pattern ≡ true → escaped pattern ≡ pattern
 whole_site_stays [] whole = refl
-whole_site_stays (b ∷ pattern) whole =
-    let (first, stars) = both (b == byte "/" || b == star) _ whole in
-    elim (or_cases (b == byte "/") (b == star) first) [
-      | inl is ↦ rw (eqb-true b (byte "/") is, stars_stay pattern stars) refl
-      | inr is ↦ rw (eqb-true b star is, stars_stay pattern stars) refl
-    ]
+whole_site_stays (b ∷ pattern) whole = search (rules, and_parts, eqb-true, stars_stay)
 
 pub cut_to_root_matches : (value tail comment path : List ℕ) → is_cut_to_root value tail comment ≡ true
     → Matches (escaped value) (byte "/" ∷ path)
 cut_to_root_matches value tail comment path is =
-    let whole = (both _ _ is).1 in
-    rw (whole_site_stays value whole) (whole_site_matches value path whole)
+    search (rules, and_parts, whole_site_stays, whole_site_matches)
 
 some_bytes : (pattern : List ℕ) → is_whole_site pattern ≡ true → 0 < length pattern
 some_bytes [] whole = cc
@@ -80,39 +76,31 @@ also_listed are also placed has = (also.held placed).1 ((are.held placed).0 has)
 
 none_opens : (rules : List PlacedRule) (placed : PlacedRule) → list_any is_opening rules ≡ false
     → Contains rules placed → is_opening placed ≡ false
-none_opens rules placed shut (k, below, at) = elim (cases_Bool (is_opening placed)) [
-  | inl opens ↦
-      let some = list_any-from_Any is_opening rules (k, placed, below, at, opens) in
-      cc
-  | inr isnt ↦ isnt
-]
-
-not_none : (n : ℕ) → (suc n == 0) ≡ false
-not_none n = grind (arith, nat_tests)
+none_opens rules placed shut (k, below, at) = grind (arith, common_steps)
 
 -- an Allow that doesn't open has no bytes
 no_bytes : (pattern : List ℕ) → (true && not (length pattern == 0)) ≡ false → length pattern ≡ 0
 no_bytes [] shut = refl
-no_bytes (b ∷ pattern) shut = let never = rw (not_none (length pattern)) at shut in cc
+no_bytes (b ∷ pattern) shut = grind (arith, common_steps)
 
 pub closes_everything : (agent : List ℕ) (lines : List LineValue) (rules : List PlacedRule) (number : ℕ)
     (text : List ℕ) → is_closed_for lines number agent ≡ true → AreRulesFor agent lines rules
     → byte "/" ∷ text ≢ robots_file → IsDenied (unplaced rules) (byte "/" ∷ text)
 closes_everything agent lines rules number text is are differs =
     let all = placed_rules agent lines in
-    let (shut, closing) = both _ _ is in
+    let (shut, closing) = and_parts _ _ is in
     let (k, placed, below, at, passes) = Any-from_list_any (is_closing_at number) all closing in
-    let (closes, here) = both _ _ passes in
-    let (denies, whole) = both _ _ closes in
+    let (closes, here) = and_parts _ _ passes in
+    let (denies, whole) = and_parts _ _ closes in
     let own = computed_are agent lines in (
       differs,
       placed.rule.0,
-      subst (λ (b : Bool). Contains (unplaced rules) (placed.rule.0, b)) (none _ denies)
+      subst (λ (b : Bool). Contains (unplaced rules) (placed.rule.0, b)) (not-true _ denies)
           (unplaced_of rules placed (also_listed own are placed (k, below, at))),
       whole_site_matches placed.rule.0 text whole,
       λ pattern has matches.
           let (allow, listed, same) = placed_of rules (pattern, true) has in
-          let opens = none_opens all allow (none _ shut) (also_listed are own allow listed) in
+          let opens = none_opens all allow (not-true _ shut) (also_listed are own allow listed) in
           let empty = no_bytes pattern
           (subst (λ (rule : Rule). (rule.1 && not (length rule.0 == 0)) ≡ false) same opens) in
           let some = some_bytes placed.rule.0 whole in
@@ -135,13 +123,7 @@ first_found f (x ∷ xs) n is = by (f x) refl (first_found f xs n) is
 any_some : {X : Type 0} (f : X → Option ℕ) (xs : List X)
     → list_any (λ x. is_some (f x)) xs ≡ is_some (first_of f xs)
 any_some f [] = refl
-any_some f (x ∷ xs) = by (f x) (any_some f xs)
-  where
-    by : (a : Option ℕ) → list_any (λ x. is_some (f x)) xs ≡ is_some (first_of f xs)
-        → (is_some a || list_any (λ x. is_some (f x)) xs)
-        ≡ is_some (option_or a (first_of f xs))
-    by None later = later
-    by (Some m) later = refl
+any_some f (x ∷ xs) = grind (arith, common_steps, any_some f xs)
 
 pub first_some : {X : Type 0} (f : X → Option ℕ) (xs : List X) (x : X) → Contains xs x → is_some (f x) ≡ true
     → is_some (first_of f xs) ≡ true
@@ -160,7 +142,7 @@ unless_found false x n is = (refl, is)
 
 kind_is : (is_allow kind : Bool) → (if is_allow then kind else not kind) ≡ true → kind ≡ is_allow
 kind_is true kind is = is
-kind_is false kind is = none kind is
+kind_is false kind is = not-true kind is
 
 -- the rule in the first line that has one like this
 pub like_found : (is_empty : ℕ → Bool) (rules : List PlacedRule) (is_allow : Bool) (pattern : List ℕ)
@@ -168,19 +150,7 @@ pub like_found : (is_empty : ℕ → Bool) (rules : List PlacedRule) (is_allow :
     → (one : PlacedRule) × Contains rules one × (one.rule.1 ≡ is_allow) × (compared one.rule.0 ≡ pattern)
     × (is_empty other ≡ false) × (one.line ≡ other)
 like_found is_empty rules is_allow pattern other found =
-    let (k, one, below, at, gives) =
-    first_found (line_if (is_like is_empty is_allow pattern)) rules other found in
-    let (is, same_line) = if_found _ (Some one.line) other gives in
-    let line = same_Some _ _ same_line in
-    let (stated, like) = both _ _ is in
-    let (kind, same) = both _ _ like in (
-      one,
-      (k, below, at),
-      kind_is is_allow one.rule.1 kind,
-      (bytes_eq-Decides (compared one.rule.0) pattern).0 same,
-      subst (λ n. is_empty n ≡ false) line (none _ stated),
-      line,
-    )
+    grind (arith, first_found, if_found, same_Some, and_parts, kind_is, bytes_eq-Decides, not-true)
 
 pub like_holds : (is_empty : ℕ → Bool) (rules : List PlacedRule) (is_allow : Bool) (pattern : List ℕ)
     (other : ℕ) (own : List ℕ) → compared own ≡ pattern → is_empty other ≡ false
@@ -201,9 +171,7 @@ like_holds is_empty rules is_allow pattern other own same stated has =
 pub listed : (rules : List PlacedRule) (placed : PlacedRule) (is_allow : Bool) (number : ℕ)
     → Contains rules placed → placed.rule.1 ≡ is_allow → placed.line ≡ number
     → Contains rules (record { rule = (placed.rule.0, is_allow); line = number })
-listed rules placed is_allow number has kind at =
-    subst (λ (b : Bool). Contains rules (record { rule = (placed.rule.0, b); line = number })) kind
-    (subst (λ (n : ℕ). Contains rules (record { rule = placed.rule; line = n })) at has)
+listed rules placed is_allow number has kind at = grind (arith, common_steps)
 
 pub conflict_is : (is_empty : ℕ → Bool) (lines : List LineValue) (number other : ℕ) (agent : List ℕ)
     → conflict_for is_empty lines number agent ≡ Some other → IsConflict is_empty agent lines number other
@@ -242,10 +210,7 @@ conflict_holds is_empty lines number other agent is =
 -- a pattern is compared as it is, unless it is `*`
 star_or_same : (pattern : List ℕ)
     → (compared pattern ≡ pattern) ⊎ ((pattern ≡ codes "*") × (compared pattern ≡ codes "/"))
-star_or_same pattern = elim (cases_Bool (bytes_eq pattern (codes "*"))) [
-  | inl is ↦ inr ((bytes_eq-Decides pattern (codes "*")).0 is, rw is refl)
-  | inr isnt ↦ inl (rw isnt refl)
-]
+star_or_same pattern = grind (arith, bytes_eq, bytes_eq-Decides)
 
 -- the second pattern matches what the first one matches, and is as long
 pub Wins : (pattern other text : List ℕ) → Type 0
@@ -253,8 +218,7 @@ Wins pattern other text = (Matches pattern text → Matches other text) × (leng
 
 pub same_wins : (pattern other text : List ℕ) → other ≡ pattern → Wins pattern other text
 unfolding Wins
-same_wins pattern other text same =
-    (subst (λ p. Matches p text) (sym same), sym (ap (λ (p : List ℕ). length p) same))
+same_wins pattern other text same = grind (arith, common_steps)
 
 root_wins : (pattern other path : List ℕ) → is_whole_site other ≡ true → length pattern ≡ length other
     → Wins pattern other (byte "/" ∷ path)
@@ -263,21 +227,7 @@ root_wins pattern other path whole long = (λ matches. whole_site_matches other 
 
 pub wins_on_paths : (pattern other path : List ℕ) → compared other ≡ compared pattern
     → Wins pattern other (byte "/" ∷ path)
-wins_on_paths pattern other path same = elim (star_or_same pattern) [
-  | inl plain ↦ elim (star_or_same other) [
-    | inl other_plain ↦ same_wins pattern other (byte "/" ∷ path) (sym other_plain ∙ same ∙ plain)
-    | inr (star, slash) ↦
-        let is : pattern ≡ codes "/" = sym plain ∙ sym same ∙ slash in
-        root_wins pattern other path (rw star refl) (rw (is, star) refl)
-  ]
-  | inr (star, slash) ↦ elim (star_or_same other) [
-    | inl other_plain ↦
-        let is : other ≡ codes "/" = sym other_plain ∙ same ∙ slash in
-        root_wins pattern other path (rw is refl) (rw (star, is) refl)
-    | inr (other_star, other_slash) ↦
-        same_wins pattern other (byte "/" ∷ path) (other_star ∙ sym star)
-  ]
-]
+wins_on_paths pattern other path same = search (rules, star_or_same, same_wins, root_wins)
 
 -- the same, without its name
 pub path_wins : (pattern other path : List ℕ) → compared other ≡ compared pattern
@@ -290,10 +240,7 @@ path_wins pattern other path same = wins_on_paths pattern other path same
 -- a line holds at most one rule
 one_rule : (agent : List ℕ) (lines : List LineValue) (place : ℕ) (rule other : Rule)
     → HoldsRule agent lines place rule → HoldsRule agent lines place other → rule ≡ other
-one_rule agent lines place rule other one two =
-    let (kind, value) = one_value rule.1 other.1 one.value two.value (sym one.line.0 ∙ two.line.0) in
-    ap₂ (λ (pattern : List ℕ) (is_allow : Bool). (pattern, is_allow))
-    (one.pattern ∙ ap escaped value ∙ sym two.pattern) kind
+one_rule agent lines place rule other one two = grind (arith, common_steps)
 
 pub conflict_never_decides : (is_empty : ℕ → Bool) (agent : List ℕ) (lines : List LineValue)
     (rules : List PlacedRule) (number other : ℕ) (text : List ℕ)

@@ -1,4 +1,7 @@
 -- Which lines are empty Disallows, what `empty-disallow` says of rules, and what it means if no line has it.
+use Rattle.std.proofs.lemmas.Bool.{or_right}
+use Rattle.std.proofs.Common.{rules}
+use Rattle.std.proofs.lemmas.Bool.{and_parts, not-true}
 use Rattle.std.proofs.Common.{◌≡◌, ◌↔◌, ◌==◌, ◌&&◌, ◌||◌, ◌+◌, ℕ, Bool, true, false, List, [], ◌∷◌, None}
 use Rattle.std.proofs.Common.{Some, ap, arith, codes, cond, if◌then◌else◌, inl, inr, map, refl, slice_get}
 use Rattle.std.proofs.Common.{subst, suc, sym, take, zero, ◌∙◌, ◌<◌, Contains, Option, length, not}
@@ -16,7 +19,7 @@ use Rattle.texting_robots.proofs.StatementLemmas.{one_statement, statement_found
 use Rattle.robots_warnings.specs.EmptyDisallows.{IsEmptyDisallow, begins_with_d, is_empty_at}
 use Rattle.robots_warnings.specs.EmptyDisallows.{is_empty_disallow, stated_rules}
 use Rattle.robots_warnings.specs.FieldNames.{is_space_or_tab, without_front}
-use Rattle.warnings_laws.proofs.WarningLemmas.{both, is_stated, none}
+use Rattle.warnings_laws.proofs.WarningLemmas.{is_stated}
 use Rattle.texting_robots.specs.Pattern.{MatchesWith, dollar, star}
 use Rattle.robots_needless.proofs.DistinctLemmas.{in_filter, to_filter}
 use Rattle.robots_warnings.specs.Conflicts.{IsOverruled, at_line, compared, first_line, is_like}
@@ -35,28 +38,15 @@ use Rattle.texting_robots.specs.declared.parser.statement.Kind.TheVariants as ki
 
 skipped : (body : List ℕ) → without_front body ≡ skip_blanks body
 skipped [] = refl
-skipped (b ∷ body) = ap (λ rest. if is_space_or_tab b then rest else b ∷ body) (skipped body)
+skipped (b ∷ body) = grind (arith, common_steps)
 
 -- the first letter tells whether it can be a Disallow
 d_selects : (text : List ℕ) → begins_with_d text ≡ true → kind_by text ≡ Some kind.Disallow
 d_selects [] is = cc
-d_selects (b ∷ text) is = elim (or_cases (b == byte "d") (b == byte "D") is) [
-  | inl small ↦ rw (eqb-true b (byte "d") small) refl
-  | inr large ↦ rw (eqb-true b (byte "D") large) refl
-]
+d_selects (b ∷ text) is = grind (arith, common_steps)
 
 lower_d : (b : ℕ) → to_ascii_lowercase b ≡ 100 → (b == byte "d" || b == byte "D") ≡ true
-lower_d b is = by (nat_lt b 65) (nat_lt b 91) is
-  where
-    letter : (d : ℕ) → (d == byte "d" || d == byte "D") ≡ true → b ≡ d
-        → (b == byte "d" || b == byte "D") ≡ true
-    letter d holds same = subst (λ b. (b == byte "d" || b == byte "D") ≡ true) (sym same) holds
-
-    by : (below within : Bool) → cond below b (cond within (b + 32) b) ≡ 100
-        → (b == byte "d" || b == byte "D") ≡ true
-    by true within is = letter 100 refl is
-    by false true is = letter 68 refl (omega (is, arith))
-    by false false is = letter 100 refl is
+lower_d b is = grind (arith, common_steps)
 
 only_d : (letter : ℕ) → kind_with letter ≡ Some kind.Disallow → letter ≡ 100
 only_d letter is = grind (arith, common_steps)
@@ -144,16 +134,12 @@ found_at (label ∷ labels) (body ∷ bodies) number is =
     let here = is_empty_disallow label.line body && label.number == number in
     elim (or_cases here (is_empty_at bodies labels number) is) [
       | inl first ↦
-          let (empty, same) = both _ _ first in
+          let (empty, same) = and_parts _ _ first in
           (0, label, body, refl, refl, eqb-true label.number number same, empty)
       | inr later ↦
           let (i, one, own, at, beside, same, empty) = found_at labels bodies number later in
           (suc i, one, own, at, beside, same, empty)
     ]
-
-or_true : (a b : Bool) → b ≡ true → (a || b) ≡ true
-or_true true b is = refl
-or_true false b is = is
 
 at_found : (labels : List Label) (bodies : List (List ℕ)) (number i : ℕ) (label : Label) (body : List ℕ)
     → slice_get labels i ≡ Some label → slice_get bodies i ≡ Some body → label.number ≡ number
@@ -161,17 +147,13 @@ at_found : (labels : List Label) (bodies : List (List ℕ)) (number i : ℕ) (la
 at_found [] bodies number i label body at beside same empty = cc
 at_found (first ∷ labels) [] number i label body at beside same empty = cc
 at_found (first ∷ labels) (own ∷ bodies) number zero label body at beside same empty =
-    let one : is_empty_disallow first.line own ≡ true =
-    rw (same_Some _ _ at, same_Some _ _ beside) empty in
-    let number_same : (first.number == number) ≡ true =
-    eq-eqb first.number number (ap (λ (l : Label). l.number) (same_Some _ _ at) ∙ same) in
-    rw (one, number_same) refl
+    grind (arith, common_steps)
 at_found (first ∷ labels) (own ∷ bodies) number (suc i) label body at beside same empty =
-    or_true (is_empty_disallow first.line own && first.number == number) (is_empty_at bodies labels number)
+    or_right (is_empty_disallow first.line own && first.number == number) (is_empty_at bodies labels number)
     (at_found labels bodies number i label body at beside same empty)
 
 pub zips : (file : List ℕ) → AllZip IsLineOf (lines_read file) (bodies_read file)
-zips file = lines_of_file_bodies (take file_limit file) (bodies_read file) refl
+zips file = search (rules, lines_of_file_bodies)
 
 pub empty_disallows : (name file : List ℕ) (labels : List Label) (number : ℕ)
     → AreLabelsOf name (lines_read file) labels
@@ -214,7 +196,7 @@ overruled_is is_empty lines number other agent holds =
     first_found (at_line number (overruled_by is_empty rules)) rules other holds in
     let (here, by) = if_found (placed.line == number) _ other gives in
     let (both_hold, found) = if_found (placed.rule.1 && is_empty placed.line) _ other by in
-    let (allows, empty) = both _ _ both_hold in
+    let (allows, empty) = and_parts _ _ both_hold in
     let (no_allow, first) =
     unless_found (is_some (first_line (is_like is_empty true root) rules)) _ other found in
     let (one, has, denies, same, stated, line) = like_found is_empty rules false root other first in
@@ -272,17 +254,7 @@ one_byte : (pattern text : List ℕ) → length pattern ≡ 1 → Matches patter
 unfolding MatchesWith
 one_byte [] text long matches path = absurd (omega arith)
 one_byte (b ∷ c ∷ pattern) text long matches path = absurd (omega arith)
-one_byte (b ∷ []) text long (s, takes, end) (rest, begins, more) = elim (cases_Bool (b == star)) [
-  | inl is ↦ rw (eqb-true b star is) refl
-  | inr other ↦ elim (cases_Bool (b == dollar)) [
-    | inl ends ↦ let (gone, left) = rw (other, ends) at takes in let never = sym gone ∙ begins in cc
-    | inr plain ↦
-        let same : text ≡ b ∷ s = rw (other, plain) at takes in
-        let first : b ∷ s ≡ byte "/" ∷ rest = sym same ∙ begins in
-        let slash : b ≡ byte "/" = cc in
-        rw slash refl
-  ]
-]
+one_byte (b ∷ []) text long (s, takes, end) (rest, begins, more) = grind (arith, common_steps)
 
 -- such a pattern matches each path, and is as long as `/`
 root_wins : (pattern text : List ℕ) → compared pattern ≡ root → Matches root text
@@ -319,10 +291,7 @@ module _ (agent file : List ℕ) (rules : List PlacedRule)
       ∙ ap (λ b. (root, b)) kind_is
 
   some_escaped : (b : ℕ) (value : List ℕ) → 0 < length (escaped (b ∷ value))
-  some_escaped b value = elim (cases_Bool (is_escaped b)) [
-    | inl bad ↦ rw bad (omega arith)
-    | inr good ↦ rw good (omega arith)
-  ]
+  some_escaped b value = grind (arith, common_steps)
 
   -- the pattern of a Disallow isn't empty
   some_bytes : (pattern : List ℕ) (line : ℕ)
@@ -334,7 +303,7 @@ module _ (agent file : List ℕ) (rules : List PlacedRule)
       rw holds.pattern (by holds.value own of_body)
     where
       by : (value body : List ℕ) → IsLineOf (Disallow value) body → 0 < length (escaped value)
-      by [] body is = absurd ((is_stated (Disallow []) body is).1 refl)
+      by [] body is = grind (arith, is_stated)
       by (b ∷ value) body is = some_escaped b value
 
   module _ (is_empty : ℕ → Bool)
@@ -349,9 +318,7 @@ module _ (agent file : List ℕ) (rules : List PlacedRule)
 
     kept : (placed : PlacedRule) → Contains rules placed → is_empty placed.line ≡ false
         → Contains (unplaced stated) placed.rule
-    kept placed has isnt =
-        unplaced_of stated placed
-        (to_filter (λ (one : PlacedRule). not (is_empty one.line)) rules placed has (rw isnt refl))
+    kept placed has isnt = grind (arith, unplaced_of, to_filter)
 
     from : (rule : Rule) → Contains (unplaced stated) rule
         → (placed : PlacedRule) × Contains rules placed × (is_empty placed.line ≡ false)
@@ -359,7 +326,7 @@ module _ (agent file : List ℕ) (rules : List PlacedRule)
     from rule has =
         let (placed, listed, is) = placed_of stated rule has in
         let (own, passes) = in_filter (λ (one : PlacedRule). not (is_empty one.line)) rules placed listed in
-        (placed, own, none (is_empty placed.line) passes, is)
+        (placed, own, not-true (is_empty placed.line) passes, is)
 
     -- a Disallow isn't empty
     denies_stated : (placed : PlacedRule) (p : List ℕ) → Contains rules placed → placed.rule ≡ (p, false)

@@ -1,4 +1,6 @@
 -- A line without a warning about its syntax has the form of its kind.
+use Rattle.std.proofs.lemmas.Grind.{common_steps}
+use Rattle.std.proofs.Common.{rules}
 use Rattle.std.proofs.Common.{◌≡◌, ◌≢◌, ◌⊎◌, inl, inr, ℕ, false, List, [], ◌∷◌, ◌++◌, ap, append-nil, codes}
 use Rattle.std.proofs.Common.{refl, subst, sym, ◌∙◌, ◌==◌, ◌||◌, true, Option, append_assoc, arith, length}
 use Rattle.std.proofs.Common.{not}
@@ -34,13 +36,8 @@ use Rattle.rfc9309_laws.specs.Rfc9309 as rfc
 
 -- ---- values
 
-inner_nil : (xs ys zs : List ℕ) → [] ≡ xs ++ (ys ++ zs) → ys ≡ []
-inner_nil [] [] zs e = refl
-inner_nil [] (y ∷ ys) zs e = absurd cc
-inner_nil (x ∷ xs) ys zs e = absurd cc
-
 nothing_trimmed : trimmed [] ≡ []
-nothing_trimmed = let is = trimmed_is_trim [] in inner_nil is.front (trimmed []) is.back is.whole
+nothing_trimmed = grind (arith, common_steps)
 
 -- a raw value of spaces and tabs is read as nothing
 blank_read : (region value : List ℕ) → raw_value region ≡ [] → IsTrimOf value region → value ≡ []
@@ -94,7 +91,7 @@ IsRuleLine word body = (pattern : List ℕ) × (rfc.IsRuleWith word pattern (bod
     ⊎ (rfc.IsStarPattern pattern × rfc.IsKeyed word pattern (body ++ lf ∷ [])))
 
 empty_rule : (word body : List ℕ) → rfc.IsKeyed word [] (body ++ lf ∷ []) → IsRuleLine word body
-empty_rule word body line = ([], inl (record { value = []; is_pattern = inr (tt, refl); is_line = line }))
+empty_rule word body line = grind (arith, common_steps)
 
 -- `read` is what is read, and `value` what is checked: `/` for an empty Disallow
 rule_line : (kind : Kind) (read value body : List ℕ) → IsStatement kind read body
@@ -145,13 +142,11 @@ disallow_form value body of all =
 -- ---- delays
 
 digit : (b : ℕ) → is_ascii_digit b ≡ true → rfc.IsDigitByte b
-digit b is = (grind (arith, nat_tests), grind (arith, nat_tests))
+digit b is = grind (arith, common_steps)
 
 digits : (text : List ℕ) → are_digits text ≡ true → rfc.IsDigits text
 digits [] is = absurd (false≢true is)
-digits (b ∷ text) is =
-    let both = and_parts (not (length (b ∷ text) == 0)) _ is in
-    passing rfc.IsDigitByte is_ascii_digit digit (b ∷ text) both.1
+digits (b ∷ text) is = grind (arith, and_parts, passing, digit)
 
 -- the text before a byte, that byte, and the text after it; or a text without the byte
 pub record IsSplitAt (stop : ℕ) (text : List ℕ) : Type 0 where
@@ -181,26 +176,11 @@ split stop (b ∷ text) = elim (cases_Bool (b == stop)) [
 ]
 
 number : (text : List ℕ) → is_plain_number text ≡ true → rfc.IsNumber text
-number text is =
-    let both = and_parts (are_digits (before_byte 46 text)) _ is in
-    elim (split 46 text) [
-      | inl none ↦ inl (digits text (rw (before_all 46 text none) at both.0))
-      | inr some ↦ inr (point text some both.0 both.1)
-    ]
+number text is = grind (arith, and_parts, split, digits, before_all, point)
   where
     point : (text : List ℕ) (some : IsSplitAt 46 text) → are_digits (before_byte 46 text) ≡ true
         → (not (has 46 text) || are_digits (after_byte 46 text)) ≡ true → rfc.IsFraction text
-    point text some units fraction = record {
-      units = some.front;
-      fraction = some.rest;
-      are_units = digits some.front (rw (some.whole, before_is 46 some.front some.rest some.before) at units);
-      is_fraction = digits some.rest (rw (
-        some.whole,
-        after_is 46 some.front some.rest some.before,
-        has_at 46 some.front some.rest,
-      ) at fraction);
-      whole = some.whole;
-    }
+    point text some units fraction = grind (arith, digits, before_is, after_is, has_at)
 
 delay_form : (delay : Option ℕ) (body : List ℕ) → IsLineOf (CrawlDelay delay) body
     → IsQuietDirective (CrawlDelay delay) body → HasForm form.Delay body
@@ -245,7 +225,7 @@ record IsBlankLine (body : List ℕ) : Type 0 where
   is_comment : IsOptionalComment comment
 
 blank_line : (body : List ℕ) → is_blank body ≡ true → IsBlankLine body
-blank_line [] is = record { blanks = []; comment = []; whole = refl; are_blank = tt; is_comment = inl refl }
+blank_line [] is = grind (arith, common_steps)
 blank_line (b ∷ body) is = elim (or_cases (b == 35) _ is) [
   | inl hash ↦ record {
     blanks = [];
@@ -293,12 +273,7 @@ blank_form body is odd =
 -- an ignored line is blank, since otherwise there is a warning
 raw_form : (content body : List ℕ) → content ≡ body → IsQuietLine (Raw content) body → HasForm form.Empty body
 unfolding topic_of
-raw_form content body same all = elim (cases_Bool (is_blank content)) [
-  | inl is ↦
-      let texts = rw is at all in
-      blank_form body (rw same at is) (not-true _ texts.1.0)
-  | inr isnt ↦ let texts = rw isnt at all in absurd (not_quiet content texts.0)
-]
+raw_form content body same all = grind (arith, blank_form, not-true, not_quiet)
 
 -- ---- all kinds
 

@@ -1,5 +1,7 @@
 -- Warnings about groups. Lines with `two-delays` can be deleted: the delay of every crawler stays the same. A
 -- line with `replaces-star` is in the group of a crawler that has no Disallow of `*`.
+use Rattle.std.proofs.lemmas.Grind.{common_steps}
+use Rattle.std.proofs.Common.{rules}
 use Rattle.std.proofs.Common.{◌≡◌, ◌+◌, ◌∙◌, ◌||◌, ℕ, suc, zero, Bool, true, false, not, List, [], ◌∷◌, All}
 use Rattle.std.proofs.Common.{Contains, Option, None, Some, filter, map, slice_get, take, ap, ap₂, arith}
 use Rattle.std.proofs.Common.{codes, if◌then◌else◌, inl, inr, refl, subst, sym, ◌≤◌, ◌-◌}
@@ -20,7 +22,7 @@ use Rattle.robots_warnings.specs.Positions.{preceding_with, sole_name, begin_wit
 use Rattle.robots_warnings.specs.Warnings.{position_warnings, positions_from, warned, warned_at}
 use Rattle.warnings_laws.proofs.RepeatedLemmas.{among, holds_among, AreFrom, IsFrom, all_labels}
 use Rattle.warnings_laws.proofs.RepeatedLemmas.{first_or_later, here, labels_next}
-use Rattle.warnings_laws.proofs.WarningLemmas.{below_agent, both, none}
+use Rattle.warnings_laws.proofs.WarningLemmas.{below_agent}
 use Rattle.std.proofs.lemmas.List.Folds.{Any-from_list_any, list_any-from_Any}
 use Rattle.texting_robots.specs.Labels.{AreOneRun, IsInOwnGroup}
 use Rattle.texting_robots.proofs.HeldLemmas.{computed_are, one_list}
@@ -57,10 +59,7 @@ condition_holds : (line : Option ℕ) (about : Option (List ℕ)) (checks : List
     → Contains (warned line about checks) warning
     → (warning.line ≡ line) × Contains checks (warning.cause, true)
 condition_holds line about [] warning (k, below, at) = absurd (omega arith)
-condition_holds line about ((cause, true) ∷ checks) warning (zero, below, at) = (
-  ap (λ (one : WarningValue). one.line) (sym at),
-  (0, omega arith, ap (λ (one : WarningValue). (one.cause, true)) at),
-)
+condition_holds line about ((cause, true) ∷ checks) warning (zero, below, at) = grind (arith, common_steps)
 condition_holds line about ((cause, true) ∷ checks) warning (suc k, below, at) =
     let (same, has) = condition_holds line about checks warning (k, omega arith, at) in
     (same, (suc has.0, omega (arith, has.1), has.2))
@@ -77,8 +76,7 @@ other_here last preceding above first label lines (suc (suc (suc (suc zero))), b
     ap (λ (check : Check). check.1) at
 other_here last preceding above first label lines (suc (suc (suc (suc (suc k)))), below, at) =
     absurd (omega arith)
-other_here last preceding above first label lines (place, below, at) =
-    let same = ap (λ (check : Check). check.0) at in cc
+other_here last preceding above first label lines (place, below, at) = grind (arith, common_steps)
 
 is_other : (last : Option ℕ) (preceding : Preceding) (above : Option (List ℕ)) (first : Option ℕ)
     (labels : List Label) (number : ℕ)
@@ -108,9 +106,7 @@ left_from gone position lines =
 
 no_agent : (first : Option ℕ) (line : LineValue) → are_different first (delay_in line) ≡ true
     → is_agent line ≡ false
-no_agent first (CrawlDelay delay) differs = refl
-no_agent (Some one) line differs = cc
-no_agent None line differs = cc
+no_agent first line differs = grind (arith, common_steps)
 
 -- if the group has a delay above the next line, crawlers that get this group have found their delay, and a
 -- user-agent line begins another group
@@ -128,20 +124,12 @@ abbrev first_found : List ℕ → Option ℕ → GroupTracker → List LineValue
 first_found name found tracker lines =
     option_or found (slice_get (given_captured delay_in name tracker lines) 0)
 
-already_found : (found : Option ℕ) (captured : Bool) (delay : ℕ) (other : Option ℕ)
-    → option_or (option_or found (if captured then Some delay else None)) (if captured then other else None)
-    ≡ option_or found (if captured then Some delay else None)
-already_found (Some one) captured delay other = refl
-already_found None true delay other = refl
-already_found None false delay other = refl
-
 module _ (name : List ℕ) where
   settled_next : (first found : Option ℕ) (tracker : GroupTracker) (line : LineValue)
       → IsSettled first found tracker
       → IsSettled (first_delay first line) (found_next found tracker line) (step name tracker line)
   settled_next first found tracker (UserAgent value) is = tt
-  settled_next None found tracker (CrawlDelay (Some delay)) is =
-      (already_found found tracker.captured delay, refl)
+  settled_next None found tracker (CrawlDelay (Some delay)) is = grind (arith, common_steps)
   settled_next None found tracker line is = tt
   settled_next (Some one) found tracker line (same, closed) = (rw (same (delay_in line)) same, cc)
 
@@ -149,10 +137,8 @@ module _ (name : List ℕ) where
   nothing_lost : (first found : Option ℕ) (tracker : GroupTracker) (line : LineValue)
       → are_different first (delay_in line) ≡ true → IsSettled first found tracker
       → (found_next found tracker line ≡ found) × ◌≡◌ {A = GroupTracker} (step name tracker line) tracker
-  nothing_lost (Some one) found tracker (CrawlDelay delay) differs (same, closed) = (
-    same delay,
-    ap (λ named. record { captured = tracker.captured; named = named }) (sym closed),
-  )
+  nothing_lost (Some one) found tracker (CrawlDelay delay) differs (same, closed) =
+      grind (arith, common_steps)
   nothing_lost first found tracker line differs is = cc
 
 -- each line that goes is such a delay
@@ -172,7 +158,7 @@ module _ (gone : ℕ → Bool) where
     differs_here : gone (position + 1) ≡ true → are_different first (delay_in label.line) ≡ true
     differs_here goes =
         let is = others.each 0 (subst (λ n. gone n ≡ true) (omega arith) goes) in
-        (both _ _ (subst (λ here. is_other_delay first here ≡ true) (sym (same_Some _ _ is.at)) is.other)).1
+        (and_parts _ _ (subst (λ here. is_other_delay first here ≡ true) (sym (same_Some _ _ is.at)) is.other)).1
 
   -- user-agent lines stay
   any_left : (test : LineValue → Bool) → ((line : LineValue) → is_agent line ≡ false → test line ≡ false)
@@ -234,16 +220,7 @@ early_left : (gone : ℕ → Bool) (lines : List LineValue)
     → list_any is_agent (left_from gone 0 lines) ≡ list_any is_agent lines
     → (list_any is_agent lines ≡ true → AreBelow gone 0 lines)
     → delay_before_agents (left_from gone 0 lines) ≡ delay_before_agents lines
-early_left gone lines same below = elim (cases_Bool (list_any is_agent lines)) [
-  | inl some ↦ rw (
-    same,
-    some,
-    before_agents (left_from gone 0 lines),
-    before_agents lines,
-    before_left gone 0 lines (below some),
-  ) refl
-  | inr none ↦ rw (same, none) refl
-]
+early_left gone lines same below = search (rules, before_agents, before_left)
 
 -- ---- all lines of a file
 
@@ -276,11 +253,11 @@ module _ {name : List ℕ} {labels : List Label} (labeled : AreLabelsOf name (li
   below : list_any is_agent all_lines ≡ true → AreBelow gone 0 all_lines
   below some place goes =
       let is = other_at place goes in
-      let (inside, differs) = both _ _ is.other in
+      let (inside, differs) = and_parts _ _ is.other in
       let here : slice_get all_lines place ≡ Some is.label.line =
       rw (slice_get-map (λ (label : Label). label.line) labels place, is.at) refl in
       (taken_decides is_agent all_lines place).1 (below_agent name all_lines place is.label.membership
-      (labeled.each place is.label is.at).1 (none _ inside) (rw here (no_agent _ is.label.line differs)) some)
+      (labeled.each place is.label is.at).1 (not-true _ inside) (rw here (no_agent _ is.label.line differs)) some)
 
   any_stays : (test : LineValue → Bool) → ((line : LineValue) → is_agent line ≡ false → test line ≡ false)
       → list_any test (lines_without numbers all_lines) ≡ list_any test all_lines
@@ -330,7 +307,7 @@ has_none agent lines lacks star other pattern starred holds =
     let (k, below, at) = computed agent lines other _ holds in
     let same = (bytes_eq-Decides pattern pattern).1 refl in
     let denied = list_any-from_Any (denies pattern) (star_rules lines) (i, _, within, there, same) in
-    false≢true (sym (none _ lacks) ∙ list_any-from_Any (is_kept (star_rules lines)) (placed_rules agent lines)
+    false≢true (sym (not-true _ lacks) ∙ list_any-from_Any (is_kept (star_rules lines)) (placed_rules agent lines)
     (k, _, below, at, or_right (is_whole_site pattern) _ denied))
 
 -- ---- the names of the group
@@ -345,13 +322,7 @@ record IsNamed (test : List ℕ → Bool) (lines : List LineValue) : Type 0 wher
 
 named_next : {test : List ℕ → Bool} {lines : List LineValue} (line : LineValue) → is_group line ≡ false
     → IsNamed test lines → IsNamed test (line ∷ lines)
-named_next {lines} line isnt is = record {
-  position = suc is.position;
-  value = is.value;
-  at = is.at;
-  passes = is.passes;
-  no_group = up_to;
-}
+named_next {lines} line isnt is = grind (arith, up_to)
   where
     up_to : (k : ℕ) → k ≤ suc is.position → passes_at is_group (line ∷ lines) k ≡ false
     up_to zero most = isnt
@@ -442,11 +413,11 @@ pub replaces_star : (agents : List (List ℕ)) (name : List ℕ) (lines : List L
 replaces_star agents name lines labels number labeled has =
     let listed = if_any (list_any is_partial (star_rules lines)) _ number has in
     let found = found_from agents lines Other 0 labels number (all_labels labeled) listed in
-    let (first, names) = both _ _ found.passes in
-    let (value, is) = first_agent found.before found.line (both _ _ first).0 in
-    let by = named _ (found.line ∷ found.rest) (both _ _ names).0 in
+    let (first, names) = and_parts _ _ found.passes in
+    let (value, is) = first_agent found.before found.line (and_parts _ _ first).0 in
+    let by = named _ (found.line ∷ found.rest) (and_parts _ _ names).0 in
     let (k, agent, below, at, passes) = Any-from_list_any _ agents by.passes in
-    let (lacks, same) = both _ _ passes in
+    let (lacks, same) = and_parts _ _ passes in
     let spelling = str_to_ascii_lowercase by.value in
     let spelled = (bytes_eq-Decides (str_to_ascii_lowercase agent) spelling).0 same in
     let on = here found.from ∙ ap Some is in (
@@ -469,6 +440,4 @@ replaces_star agents name lines labels number labeled has =
 
 pub star_disallows : (lines : List LineValue) (rules : List PlacedRule) → AreRulesFor (codes "*") lines rules
     → star_count lines ≡ count_by (λ (placed : PlacedRule). not placed.rule.1) rules
-star_disallows lines rules are =
-    let moved = one_list (codes "*") lines rules (star_rules lines) are (computed_are (codes "*") lines) in
-    length-filter _ (star_rules lines) ∙ sum_by-IsPermutation _ rules (star_rules lines) moved
+star_disallows lines rules are = search (rules, one_list, computed_are, length-filter, sum_by-IsPermutation)

@@ -1,5 +1,7 @@
 -- Every file has an audit, and without `--needless` only one. Needless rules can be deleted together. What a
 -- report tells about the syntax of a file and its verdicts is so.
+use Rattle.std.proofs.lemmas.Grind.{common_steps}
+use Rattle.std.proofs.Common.{rules}
 use Rattle.std.proofs.Common.{◌≡◌, ◌≢◌, ◌≤◌, ◌↔◌, ℕ, Bool, inl, inr, List, [], ◌∷◌, Contains, IsUtf8, arith}
 use Rattle.std.proofs.Common.{codes, length, ltb-false, refl, subst, subst₂, sym, take, take_all, ◌⊎◌, suc}
 use Rattle.std.proofs.Common.{false, true, ◌++◌, ap, ap₂, None, Option, Some, ◌∙◌, if◌then◌else◌, is_none}
@@ -36,7 +38,9 @@ use Rattle.robots_warnings.specs.declared.table.Cause.{Cause}
 use Rattle.audit_core.specs.Syntax.{has_standard_verdicts, has_syntax_warning, is_about_syntax, is_standard}
 use Rattle.audit_core.specs.Syntax.{keep_verdicts}
 use Rattle.audit_core.specs.declared.syntax.Syntax.TheVariants.{Standard, StandardVerdicts}
-use Rattle.audit_core.specs.declared.syntax.Syntax.TheVariants.{StandardWithoutWarnings}
+use Rattle.audit_core.specs.declared.syntax.Syntax.TheVariants.{StandardWithoutWarnings, Unstated}
+use Rattle.audit_core.specs.declared.syntax.Syntax.{Syntax}
+use Rattle.std.specs.Prelude.{is_some, ◌||◌}
 use Rattle.warnings_laws.proofs.SyntaxLemmas.{ArePassed, robot_stated, silence}
 use Rattle.warnings_laws.proofs.{VerdictLemmas.verdicts_stated}
 use Rattle.warnings_laws.specs.Syntax.{IsNotAboutSyntax, IsRobotStated, IsSilentOn, warnings_of}
@@ -64,10 +68,7 @@ alike lines found agent other are has same =
 all_read : (requested : RequestValue) (file : List ℕ) (audit : AuditValue)
     (is : IsAuditOf requested file audit)
     → is.needless ≢ [] → length file ≤ file_limit
-all_read requested file audit is some = elim (cases_Bool (is_too_large file)) [
-  | inl large ↦ absurd (some (is.too_large large))
-  | inr small ↦ ltb-false file_limit (length file) small
-]
+all_read requested file audit is some = grind (arith, common_steps)
 
 pub robot_stays : (requested : RequestValue) (file left : List ℕ) (audit : AuditValue) (agent : List ℕ)
     → (is : IsAuditOf requested file audit) → is.needless ≢ [] → IsLeftOf (numbers_of is.needless) file left
@@ -97,16 +98,11 @@ zip_once R once (x ∷ xs) (y ∷ ys) (z ∷ zs) (one, more) (two, rest) =
 
 decided_once : (rules : List PlacedRule) (text : List ℕ) (one two : Decision)
     → IsDecisionOn rules text one → IsDecisionOn rules text two → one ≡ two
-decided_once rules text one two is too =
-    ap₂ (λ allowed line. record { allowed = allowed; line = line })
-    (one_verdict (unplaced rules) text one.allowed two.allowed is.verdict too.verdict)
-    (one_line_decides rules text one.line two.line is.deciding too.deciding)
+decided_once rules text one two is too = grind (arith, one_verdict, one_line_decides)
 
 verdict_once : (rules : List PlacedRule) (url : List ℕ) (one two : VerdictValue)
     → IsVerdictOn rules url one → IsVerdictOn rules url two → one ≡ two
-verdict_once rules url one two is too =
-    ap₂ (λ url decision. record { url = url; decision = decision }) (is.url_is ∙ sym too.url_is)
-    (decided_once rules (asked_target url) one.decision two.decision is.decided too.decided)
+verdict_once rules url one two is too = grind (arith, decided_once)
 
 abbrev IsShort : PlacedRule → Type 0
 IsShort placed = ¬ IsOverlong placed.rule.0
@@ -116,22 +112,14 @@ cut_once : (front others : List PlacedRule) (one two : PlacedRule) (back after :
     → front ++ one ∷ back ≡ others ++ two ∷ after → Each IsShort front → Each IsShort others
     → IsOverlong one.rule.0 → IsOverlong two.rule.0 → one ≡ two
 cut_once [] [] one two back after same first second here there = cc
-cut_once [] (rule ∷ others) one two back after same first second here there =
-    let is : one ≡ rule = cc in
-    absurd (second.0 (subst (λ (rule : PlacedRule). IsOverlong rule.rule.0) is here))
-cut_once (rule ∷ front) [] one two back after same first second here there =
-    let is : two ≡ rule = cc in
-    absurd (first.0 (subst (λ (rule : PlacedRule). IsOverlong rule.rule.0) is there))
+cut_once [] (rule ∷ others) one two back after same first second here there = grind (arith, common_steps)
+cut_once (rule ∷ front) [] one two back after same first second here there = grind (arith, common_steps)
 cut_once (rule ∷ front) (other ∷ others) one two back after same first second here there =
     cut_once front others one two back after (cc) first.1 second.1 here there
 
 line_once : (rules : List PlacedRule) (one two : ℕ) → IsFirstOverlong rules one → IsFirstOverlong rules two
     → one ≡ two
-line_once rules one two is too =
-    let same = cut_once is.front too.front is.placed too.placed is.back too.back (sym is.whole ∙ too.whole)
-    (recursion_from_All IsShort is.front is.accepted) (recursion_from_All IsShort too.front too.accepted)
-    is.overlong too.overlong in
-    sym is.line ∙ ap (λ (placed : PlacedRule). placed.line) same ∙ too.line
+line_once rules one two is too = grind (arith, cut_once, recursion_from_All)
 
 not_both : (lines : List LineValue) (agent : List ℕ) (line : ℕ) → ¬ IsRejected agent lines
     → IsFirstOverlong (placed_rules agent lines) line → ⊥
@@ -146,56 +134,20 @@ ruling_once urls lines agent None None verdicts others (accepted, is) (also, too
     let rules = placed_rules agent lines in
     (refl, zip_once (IsVerdictOn rules) (verdict_once rules) urls verdicts others is too)
 ruling_once urls lines agent None (Some line) verdicts others (accepted, is) (first, too) =
-    absurd (not_both lines agent line accepted first)
+    search (rules, not_both)
 ruling_once urls lines agent (Some line) None verdicts others (first, is) (accepted, too) =
-    absurd (not_both lines agent line accepted first)
+    search (rules, not_both)
 ruling_once urls lines agent (Some line) (Some other) verdicts others (first, is) (also, too) =
-    (ap Some (line_once (placed_rules agent lines) line other first also), is ∙ sym too)
+    search (rules, line_once)
 
 agent_once : (urls : List (List ℕ)) (lines : List LineValue) (agent : List ℕ) (one two : AgentValue)
     → IsAgentAudit urls lines agent one → IsAgentAudit urls lines agent two → one ≡ two
-agent_once urls lines agent one two is too =
-    let (line, verdicts) =
-    ruling_once urls lines agent one.rejected two.rejected one.verdicts two.verdicts is.ruling too.ruling in
-    let same : ◌≡◌ {A = AgentValue} (record {
-      agent = one.agent;
-      group = one.group;
-      delay = one.delay;
-      rejected = one.rejected;
-      verdicts = one.verdicts;
-    }) (record {
-      agent = two.agent;
-      group = two.group;
-      delay = two.delay;
-      rejected = two.rejected;
-      verdicts = two.verdicts;
-    }) = cc in
-    same
+agent_once urls lines agent one two is too = grind (arith, ruling_once)
 
 pub same_audit : (requested : RequestValue) (file : List ℕ) (audit other : AuditValue)
     → (is : IsAuditOf requested file audit) → (too : IsAuditOf requested file other)
     → is.needless ≡ too.needless → audit ≡ other
-same_audit requested file audit other is too same =
-    let lines = lines_read file in
-    let labels = labels_requested requested file in
-    let agents = zip_once (IsAgentAudit requested.urls lines) (agent_once requested.urls lines)
-    (agents_requested requested.agents lines) audit.agents other.agents is.agents_are too.agents_are in
-    let warnings =
-    is.warnings_are ∙ ap (warnings_requested requested file labels) same ∙ sym too.warnings_are in
-    let syntax = is.syntax_is ∙ ap₂ (λ agents needless. syntax_of requested.agent (is_too_large file)
-    (rejects_some agents) (warnings_found requested file labels needless)) agents same ∙ sym too.syntax_is in
-    let equal : ◌≡◌ {A = AuditValue} (record {
-      labels = audit.labels;
-      agents = audit.agents;
-      warnings = audit.warnings;
-      syntax = audit.syntax;
-    }) (record {
-      labels = other.labels;
-      agents = other.agents;
-      warnings = other.warnings;
-      syntax = other.syntax;
-    }) = cc in
-    equal
+same_audit requested file audit other is too same = grind (arith, zip_once, agent_once)
 
 -- ---- existence
 
@@ -241,9 +193,7 @@ first_overlong (rule ∷ rules) = by _ (overlong_decides rule.rule.0) (first_ove
         line = refl;
       },
     )
-    by false decides (inl none) =
-        inl (All-cons IsShort rule rules
-        (λ overlong. absurd (false≢true (decides.1 overlong))) none)
+    by false decides (inl none) = grind (arith, common_steps)
     by false decides (inr (line, is)) = inr (
       line,
       record {
@@ -334,48 +284,29 @@ each_not (warning ∷ warnings) none =
     let parts = or_parts (not (is_not_about_syntax warning.cause)) (has_syntax_warning warnings) none in
     (not-false (is_not_about_syntax warning.cause) parts.0, each_not warnings parts.1)
 
--- all groups are checked and the whole file is read, and the warnings pass the test
-record IsKnown (test : Cause → Bool) (agent : Option (List ℕ)) (large : Bool) (warnings : List WarningValue)
-    : Type 0 where
-  everyone : agent ≡ None
-  whole : large ≡ false
-  passed : ArePassed test warnings
+stated : (unstated : Bool) (syntax : Syntax) → is_standard (if unstated then Unstated else syntax) ≡ true
+    → unstated ≡ false
+stated true syntax is = cc
+stated false syntax is = refl
 
-known : (agent : Option (List ℕ)) (large rejected : Bool) (warnings : List WarningValue)
-    → is_standard (syntax_of agent large rejected warnings) ≡ true
-    → IsKnown is_not_about_syntax agent large warnings
-known (Some agent) large rejected warnings is = absurd (false≢true is)
-known None true rejected warnings is = absurd (false≢true is)
-known None false true warnings is = absurd (false≢true is)
-known None false false warnings is = elim (cases_Bool (has_syntax_warning warnings)) [
-  | inl some ↦ absurd (false≢true (rw some at is))
-  | inr none ↦ record { everyone = refl; whole = refl; passed = each_not warnings none }
+verdicts_stated_too : (syntax : Syntax) → has_standard_verdicts syntax ≡ true → is_standard syntax ≡ true
+verdicts_stated_too Unstated is = is
+verdicts_stated_too _ is = refl
+
+kept : (unstated : Bool) (warnings : List WarningValue)
+    → has_standard_verdicts (if unstated then Unstated
+    else (if length warnings == 0 then StandardWithoutWarnings
+    else (if keep_verdicts warnings then StandardVerdicts else Standard))) ≡ true
+    → ArePassed keeps_verdicts warnings
+kept true warnings is = absurd (false≢true is)
+kept false [] is = tt
+kept false (warning ∷ warnings) is = elim (cases_Bool (keep_verdicts (warning ∷ warnings))) [
+  | inl all ↦ passing _ (λ (warning : WarningValue). keeps_verdicts warning.cause) (λ _ is. is)
+      (warning ∷ warnings) all
+  | inr other ↦
+      let some : (length (warning ∷ warnings) == 0) ≡ false = ne_eqb _ 0 (λ e. omega arith) in
+      absurd (false≢true (rw (some, other) at is))
 ]
-
-known_verdicts : (agent : Option (List ℕ)) (large rejected : Bool) (warnings : List WarningValue)
-    → has_standard_verdicts (syntax_of agent large rejected warnings) ≡ true
-    → IsKnown keeps_verdicts agent large warnings
-known_verdicts (Some agent) large rejected warnings is = absurd (false≢true is)
-known_verdicts None true rejected warnings is = absurd (false≢true is)
-known_verdicts None false true warnings is = absurd (false≢true is)
-known_verdicts None false false warnings is =
-    elim (cases_Bool (has_syntax_warning warnings)) [
-      | inl some ↦ absurd (false≢true (rw some at is))
-      | inr none ↦ record { everyone = refl; whole = refl; passed = by warnings (rw none at is) }
-    ]
-  where
-    by : (warnings : List WarningValue)
-        → has_standard_verdicts (if length warnings == 0 then StandardWithoutWarnings
-        else (if keep_verdicts warnings then StandardVerdicts else Standard)) ≡ true
-        → ArePassed keeps_verdicts warnings
-    by [] is = tt
-    by (warning ∷ warnings) is = elim (cases_Bool (keep_verdicts (warning ∷ warnings))) [
-      | inl all ↦ passing _ (λ (warning : WarningValue). keeps_verdicts warning.cause) (λ _ is. is)
-          (warning ∷ warnings) all
-      | inr other ↦
-          let some : (length (warning ∷ warnings) == 0) ≡ false = ne_eqb _ 0 (λ e. omega arith) in
-          absurd (false≢true (rw (some, other) at is))
-    ]
 
 -- all warnings but those about needless rules, as `warnings_found` has them
 abbrev warnings_for : Option (List ℕ) → (named agents urls : List (List ℕ)) → List ℕ → List WarningValue
@@ -385,7 +316,7 @@ warnings_for agent named agents urls file =
 
 -- if the request isn't about a single crawler, the warnings are those of all groups
 passed_on : (test : Cause → Bool) (agent : Option (List ℕ)) (named agents urls : List (List ℕ))
-    (file : List ℕ) → agent ≡ None → ArePassed test (warnings_for agent named agents urls file)
+    (file : List ℕ) → is_some agent ≡ false → ArePassed test (warnings_for agent named agents urls file)
     → ArePassed test (warnings_of named agents urls file)
 passed_on test None named agents urls file everyone all = all
 passed_on test (Some agent) named agents urls file everyone all = absurd cc
@@ -398,26 +329,33 @@ module _ (requested : RequestValue) (file : List ℕ) (audit : AuditValue) (is :
     abbrev agents : List (List ℕ)
     agents = agents_requested requested.agents (lines_read file)
 
-    audited : (test : Cause → Bool) → IsKnown test requested.agent (is_too_large file) found
-        → ArePassed test (warnings_of requested.agents agents requested.urls file)
-    audited test known =
-        passed_on test requested.agent requested.agents agents requested.urls file known.everyone
-        (each_front (λ warning. test warning.cause ≡ true)
-        (warnings_for requested.agent requested.agents agents requested.urls file)
-        (map needless_warning is.needless) known.passed)
+    abbrev unstated : Bool
+    unstated = ((is_some requested.agent || is_too_large file) || rejects_some audit.agents)
+        || has_syntax_warning found
 
     module _ (standard : is_standard audit.syntax ≡ true) where
-      is_known : IsKnown is_not_about_syntax requested.agent (is_too_large file) found
-      is_known =
-          known requested.agent (is_too_large file) (rejects_some audit.agents) found
-          (subst (λ syntax. is_standard syntax ≡ true) is.syntax_is standard)
+      -- all groups are checked, the whole file is read, and no warning is about syntax
+      known : ((is_some requested.agent ≡ false) × (is_too_large file ≡ false))
+          × (has_syntax_warning found ≡ false)
+      known =
+          let (other, none) =
+          or_parts _ _ (stated unstated _ (subst (λ s. is_standard s ≡ true) is.syntax_is standard)) in
+          (or_parts _ _ (or_parts _ _ other).0, none)
+
+      audited : (test : Cause → Bool) → ArePassed test found
+          → ArePassed test (warnings_of requested.agents agents requested.urls file)
+      audited test passed =
+          passed_on test requested.agent requested.agents agents requested.urls file known.0.0
+          (each_front (λ warning. test warning.cause ≡ true)
+          (warnings_for requested.agent requested.agents agents requested.urls file)
+          (map needless_warning is.needless) passed)
 
       silent : IsSilentOn requested.agents agents requested.urls file
-      silent = audited is_not_about_syntax is_known
+      silent = audited is_not_about_syntax (each_not found known.1)
 
       pub file_of_the_standard : (groups : List Group) × IsFile groups file
       file_of_the_standard =
-          let whole = take_all file_limit file (ltb-false file_limit (length file) is_known.whole) in
+          let whole = take_all file_limit file (ltb-false file_limit (length file) known.0.1) in
           let (groups, is) = silence requested.agents agents requested.urls file silent in
           (groups, subst (IsFile groups) whole is)
 
@@ -432,6 +370,5 @@ module _ (requested : RequestValue) (file : List ℕ) (audit : AuditValue) (is :
         → IsVerdict (unplaced robot.rules) uri answer ↔ IsStandardVerdict groups agent uri answer
     verdicts_of_the_standard standard agent uri groups robot answer =
         verdicts_stated requested.agents agents requested.urls file agent uri groups robot answer
-        (audited keeps_verdicts
-        (known_verdicts requested.agent (is_too_large file) (rejects_some audit.agents) found
-        (subst (λ syntax. has_standard_verdicts syntax ≡ true) is.syntax_is standard)))
+        (audited (verdicts_stated_too audit.syntax standard) keeps_verdicts (kept unstated found
+        (subst (λ s. has_standard_verdicts s ≡ true) is.syntax_is standard)))

@@ -1,5 +1,7 @@
 -- What the silence about a line says of its parts. An ignored line that isn't blank has a warning about its
 -- syntax.
+use Rattle.std.proofs.lemmas.Grind.{common_steps}
+use Rattle.std.proofs.Common.{rules}
 use Rattle.std.proofs.Common.{◌≡◌, ◌⊎◌, inl, inr, ℕ, ◌==◌, ◌&&◌, Bool, true, false, List, [], ◌∷◌, ◌++◌, ap}
 use Rattle.std.proofs.Common.{append_assoc, arith, bytes_eq, codes, length, not, refl, sym, ◌∙◌, nat_lt}
 use Rattle.std.proofs.Common.{◌≢◌, ◌||◌, if◌then◌else◌, subst, nat_le, None, Option, Some, unwrap_or}
@@ -60,13 +62,7 @@ pub in_order : (comment : List ℕ) → IsOptionalComment comment → has_odd_co
     → (comment ≡ []) ⊎ rfc.IsComment comment
 in_order comment (inl none) is = inl none
 in_order comment (inr (text, whole)) is =
-    let parts = or_parts (list_any is_control (35 ∷ text)) (not (is_utf8 (35 ∷ text))) (rw whole at is) in
-    inr (record {
-      text = text;
-      is_text = comment_text text (and_from (is_utf8 text) _
-          (utf8_after 35 text (not-false _ parts.1) refl) (comment_bytes text parts.0));
-      whole = whole;
-    })
+    search (rules, or_parts, comment_text, and_from, utf8_after, not-false, comment_bytes)
 
 -- ---- a line with a field name, a colon and a value
 
@@ -116,18 +112,11 @@ token_byte b is = grind (arith, nat_tests)
 
 pub token : (value : List ℕ) → is_product_token value ≡ true → rfc.IsProductToken value
 token [] is = absurd (false≢true is)
-token (b ∷ value) is = elim (or_cases (bytes_eq (b ∷ value) (codes "*")) _ is) [
-  | inl star ↦ inr ((bytes_eq-Decides (b ∷ value) (codes "*")).0 star)
-  | inr word ↦
-      let both = and_parts (not (length (b ∷ value) == 0)) _ word in
-      inl (passing rfc.IsIdentifierByte is_token_byte token_byte (b ∷ value) both.1)
-]
+token (b ∷ value) is = search (rules, or_cases, bytes_eq, bytes_eq-Decides, and_parts, passing, token_byte)
 
 -- a value that is neither an invalid nor an unusual name is a product token
 pub named : (is usual : Bool) → not (not is && not usual) ≡ true → not (not is && usual) ≡ true → is ≡ true
-named true usual one two = refl
-named false true one two = absurd (false≢true two)
-named false false one two = absurd (false≢true one)
+named is usual one two = grind (arith, common_steps)
 
 -- ---- the checks
 
@@ -152,38 +141,18 @@ pub quiet : (line : LineValue) (body : List ℕ)
     ++ (value_checks true line ++ text_checks (tail_of body) (comment_of body)))
     → IsQuietDirective line body
 unfolding topic_of
-quiet line body all =
-    let with_colon = not-true (is_without_colon body) all.1.0 in
-    let raw : List Check = raw_checks true line (tail_of body) (comment_of body) in
-    let texts : List Check = text_checks (tail_of body) (comment_of body) in
-    let more : List Check = value_checks true line ++ texts in
-    let rest = chosen (is_without_colon body) raw more with_colon all.1.1 in
-    let values = each_back (λ check. is_quiet check ≡ true) raw more rest in
-    let comments = each_back (λ check. is_quiet check ≡ true) (value_checks true line) texts values in
-    record {
-      spelled = not-true (is_misspelled body) all.0;
-      with_colon = with_colon;
-      raw = each_front (λ check. is_quiet check ≡ true) raw more rest;
-      value = each_front (λ check. is_quiet check ≡ true) (value_checks true line) texts values;
-      comment = not-true (has_odd_comment (comment_of body)) comments.1.0;
-    }
+quiet line body all = grind (arith, not-true, chosen, each_back, each_front)
 
 -- ---- the raw value
 
 empty : (text : List ℕ) → (length text == 0) ≡ true → text ≡ []
 empty [] is = refl
-empty (b ∷ text) is = absurd (omega (arith, eqb-true (length (b ∷ text)) 0 is))
+empty (b ∷ text) is = grind (arith, common_steps)
 
 -- the raw value is empty, or it is the value
 pub raw_cases : (value tail : List ℕ) → has_odd_space value tail ≡ false
     → (raw_value tail ≡ []) ⊎ (raw_value tail ≡ value)
-raw_cases value tail is = elim (cases_Bool (length (raw_value tail) == 0)) [
-  | inl none ↦ inl (empty (raw_value tail) none)
-  | inr some ↦ elim (cases_Bool (bytes_eq (raw_value tail) value)) [
-    | inl same ↦ inr ((bytes_eq-Decides (raw_value tail) value).0 same)
-    | inr differs ↦ absurd (false≢true (sym (rw (some, differs) at is)))
-  ]
-]
+raw_cases value tail is = search (rules, empty, bytes_eq, bytes_eq-Decides, false≢true)
 
 -- it has no `#`, if the tail has none
 pub raw_plain : (tail : List ℕ) → Each (λ b. b ≢ 35) tail → Each (λ b. b ≢ 35) (raw_value tail)
@@ -196,10 +165,7 @@ raw_plain tail all =
 -- ---- values of rules and sitemaps
 
 value_byte : (b : ℕ) → nat_le b 32 ≡ false → b ≢ 35 → is_value_byte b ≡ true
-value_byte b low other = rw (ne_eqb b 35 other) (above b low)
-  where
-    above : (b : ℕ) → nat_le b 32 ≡ false → (nat_lt 0x20 b && not false) ≡ true
-    above b low = grind (arith, nat_tests)
+value_byte b low other = grind (arith, nat_tests)
 
 pub value_bytes : (text : List ℕ) → somewhere begins_next_value text ≡ false → Each (λ b. b ≢ 35) text
     → list_all is_value_byte text ≡ true
@@ -211,8 +177,7 @@ value_bytes (b ∷ text) none all =
 
 pub value_units : (text : List ℕ) → is_utf8 text ≡ true → somewhere begins_next_value text ≡ false
     → Each (λ b. b ≢ 35) text → rfc.IsMany rfc.IsUtf8CharNoctl text
-value_units text utf8 none all =
-    value_text text (and_from (is_utf8 text) _ utf8 (value_bytes text none all))
+value_units text utf8 none all = search (rules, value_text, and_from, value_bytes)
 
 -- ---- rules
 
@@ -224,21 +189,10 @@ pub data IsRuleValue (value : List ℕ) : Type 0 where
 
 pub started : (value : List ℕ) → not (has_odd_start value) ≡ true → not (begins_as_url value) ≡ true
     → not (is_quoted value) ≡ true → begins_oddly value ≡ false
-started value starts url quoted =
-    by (begins_oddly value) (begins_as_url value) (is_quoted value) starts url quoted
-  where
-    by : (odd url quoted : Bool) → not (odd && not (url || quoted)) ≡ true → not url ≡ true
-        → not quoted ≡ true → odd ≡ false
-    by false url quoted one two three = refl
-    by true true quoted one two three = absurd (false≢true two)
-    by true false true one two three = absurd (false≢true three)
-    by true false false one two three = absurd (false≢true one)
+started value starts url quoted = grind (arith, common_steps)
 
 pub first_byte : (b : ℕ) (text : List ℕ) → begins_oddly (b ∷ text) ≡ false → (b ≡ 0x2F) ⊎ (b ≡ 0x2A)
-first_byte b text is = elim (or_cases (b == 0x2F) (b == 0x2A) (not-false _ is)) [
-  | inl slash ↦ inl (eqb-true b 0x2F slash)
-  | inr star ↦ inr (eqb-true b 0x2A star)
-]
+first_byte b text is = grind (arith, common_steps)
 
 small : (b : ℕ) → (b ≡ 0x2F) ⊎ (b ≡ 0x2A) → nat_lt b 128 ≡ true
 small b (inl is) = rw is refl
@@ -246,7 +200,7 @@ small b (inr is) = rw is refl
 
 later : (b : ℕ) (text : List ℕ) → somewhere begins_next_value (b ∷ text) ≡ false
     → somewhere begins_next_value text ≡ false
-later b text none = (or_parts (begins_next_value (b ∷ text)) (somewhere begins_next_value text) none).1
+later b text none = search (rules, or_parts)
 
 pub second : (x y : Bool) → x ≡ true → (x && y) ≡ false → y ≡ false
 second true y is both = both
@@ -300,19 +254,7 @@ delay_or false other is = is
 
 meant : (body : List ℕ) → is_not_about_syntax (meant_by body) ≡ false
 unfolding topic_of
-meant body =
-    let name = name_in body in
-    let word = first_word body in
-    let one = unsupported_in name word in
-    let other = directive_in name word in
-    delay_or (is_accepted kind.CrawlDelay name || is_accepted kind.CrawlDelay word)
-    (unwrap_or (option_or one other) cause.UnrecognizedLine)
-    (either one other (first_one (is_either name word) unsupported refl)
-    (first_one (may_either_mean name word) directives refl))
+meant body = search (rules, delay_or, unwrap_or, either, first_one)
 
 pub not_quiet : (body : List ℕ) → is_quiet (meant_by body, true) ≡ true → ⊥
-not_quiet body is = false≢true (sym (none (is_not_about_syntax (meant_by body)) (meant body)) ∙ is)
-  where
-    none : (b : Bool) → b ≡ false → (b || not true) ≡ false
-    none true is = is
-    none false is = refl
+not_quiet body is = grind (arith, false≢true, not-true, meant)

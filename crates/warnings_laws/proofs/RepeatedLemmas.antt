@@ -1,4 +1,6 @@
 -- A rule with `repeated-rule` decides no verdict, and can be deleted.
+use Rattle.std.proofs.lemmas.Grind.{common_steps}
+use Rattle.std.proofs.lemmas.Bool.{and_parts}
 use Rattle.std.proofs.Common.{◌≡◌, ◌+◌, ◌⊎◌, ℕ, suc, zero, Bool, true, false, List, [], ◌∷◌, ◌++◌, Contains}
 use Rattle.std.proofs.Common.{Some, arith, if◌then◌else◌, inl, inr, refl, slice_get, subst, sym, ◌≢◌, ◌<◌}
 use Rattle.std.proofs.Common.{◌≤◌, ◌↔◌, All, Option, ◌&&◌, ◌==◌, ap, ◌∙◌}
@@ -14,7 +16,7 @@ use Rattle.robots_needless.proofs.TogetherLemmas.{unplaced_of, verdicts}
 use Rattle.robots_needless.proofs.{DistinctLemmas.in_filter, DistinctLemmas.to_filter, BlockLemmas.deleted}
 use Rattle.robots_warnings.specs.Repeated.{above_next, is_checked, is_repeated, repeated, repeated_from}
 use Rattle.robots_warnings.specs.{File.lines_of, Spellings.is_rule_with}
-use Rattle.warnings_laws.proofs.WarningLemmas.{both, named_agent}
+use Rattle.warnings_laws.proofs.WarningLemmas.{named_agent}
 use Rattle.std.specs.List.{list_any}
 use Rattle.std.proofs.lemmas.List.{Elements.Contains-push_cases, Folds.Any-from_list_any}
 use Rattle.std.proofs.lemmas.Slice.Eq.{bytes_eq-Decides}
@@ -25,7 +27,7 @@ pub record IsFrom (lines : List LineValue) (position : ℕ) (rest : List LineVal
   pub each : (i : ℕ) → slice_get lines (position + i) ≡ slice_get rest i
 
 pub all_from : (lines : List LineValue) → IsFrom lines 0 lines
-all_from lines = record { each = λ i. let same : 0 + i ≡ i = omega arith in rw same refl }
+all_from lines = grind (arith, common_steps)
 
 module _ {lines : List LineValue} {position : ℕ} {line : LineValue} {rest : List LineValue}
     (from : IsFrom lines position (line ∷ rest)) where
@@ -44,10 +46,7 @@ pub record AreFrom (lines : List LineValue) (position : ℕ) (labels : List Labe
 
 pub all_labels : {name : List ℕ} {lines : List LineValue} {labels : List Label}
     → AreLabelsOf name lines labels → AreFrom lines 0 labels
-all_labels {lines} are = record {
-  numbers = λ i label at. omega (arith, (are.each i label at).0);
-  from = subst (IsFrom lines 0) (sym are.lines_are) (all_from lines);
-}
+all_labels {lines} are = grind (arith, common_steps)
 
 pub labels_next : {lines : List LineValue} {position : ℕ} {label : Label} {labels : List Label}
     → AreFrom lines position (label ∷ labels) → AreFrom lines (position + 1) labels
@@ -130,14 +129,7 @@ module _ {lines : List LineValue} {position : ℕ} {line : LineValue} {rest : Li
   -- a line above the next position is above this one, unless it equals the line here
   above_this : (other : LineValue) → ◌≢◌ {A = LineValue} line other
       → IsAbove lines (position + 1) (Some other) → IsAbove lines position (Some other)
-  above_this other differs is =
-      let apart : is.other ≢ position =
-      λ same. differs (same_Some line other (sym (here from) ∙ rw same at is.is)) in record {
-        other = is.other;
-        above = omega arith;
-        is = is.is;
-        no_agent = λ k from below. is.no_agent k from (omega arith);
-      }
+  above_this other differs is = grind (arith, same_Some, here)
 
 -- what `repeated_from` is given at a position: the labels of the lines from there on, and the lines above it
 -- in its group
@@ -171,7 +163,7 @@ repeat_from everywhere lines position above (label ∷ labels) number reached ha
     let group = above_next above label.line in
     elim (first_or_later (is_checked everywhere label.membership && is_repeated above label.line)
     label.number number (repeated_from everywhere group labels) has) [
-      | inl (is, same) ↦ subst (IsRepeat lines) same (first_repeat reached (both _ _ is).1)
+      | inl (is, same) ↦ subst (IsRepeat lines) same (first_repeat reached (and_parts _ _ is).1)
       | inr later ↦
           repeat_from everywhere lines (position + 1) group labels number (next reached) later
     ]
@@ -189,21 +181,7 @@ is_repeat {lines} {labels} are everywhere number = repeat_from everywhere lines 
 captured_above : {lines : List LineValue} {position : ℕ} {line : Option LineValue} (name : List ℕ)
     (is : IsAbove lines position line) → IsCaptured name lines position → IsCaptured name lines is.other
 captured_above name is (inl none) = inl none
-captured_above {lines} name is (inr (j, below, named, alone)) =
-    inr (
-      j,
-      first,
-      named,
-      λ (k, l, after, later, before, group, agent).
-          alone (k, l, after, later, omega arith, group, agent),
-    )
-  where
-    first : j < is.other
-    first = elim (cases_lt j is.other) [
-      | inl less ↦ less
-      | inr from ↦
-          absurd (false≢true (sym (is.no_agent j from below) ∙ named_agent name (slice_get lines j) named))
-    ]
+captured_above {lines} name is (inr (j, below, named, alone)) = grind (arith, common_steps)
 
 -- a crawler that has a repeated rule has the same rule in a line above
 rule_above : {agent : List ℕ} {lines : List LineValue} {rules : List PlacedRule}

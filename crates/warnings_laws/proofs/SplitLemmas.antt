@@ -1,6 +1,9 @@
 -- Without a warning about a delay that splits a group, the merged groups of a file are unsplit
 -- (`is_unsplit`), so each crawler's rules are those of the standard. The proof walks through the source lines
 -- (`Sources`), as the warnings do: they keep one name above a line, which is enough to check the next group.
+use Rattle.std.proofs.lemmas.Grind.{common_steps}
+use Rattle.std.proofs.Common.{arith}
+use Rattle.std.proofs.Common.{rules}
 use Rattle.std.proofs.Common.{◌≡◌, ◌⊎◌, inl, inr, ℕ, Bool, true, false, not, ◌||◌, ◌&&◌, List, [], ◌∷◌}
 use Rattle.std.proofs.Common.{◌++◌, ◌∙◌, Option, Some, None, ap, codes, filter, if◌then◌else◌, map, refl}
 use Rattle.std.proofs.Common.{subst, sym, take}
@@ -29,7 +32,7 @@ use Rattle.robots_warnings.specs.Warnings.{positions_from, warned, warning_of}
 use Rattle.robots_warnings.specs.{Checks.Check, Checks.position_checks, File.labels_for, File.lines_of}
 use Rattle.robots_warnings.specs.{WarningValue.WarningValue}
 use Rattle.warnings_laws.specs.Syntax.{AreGroupsWhole, IsNoSplit}
-use Rattle.warnings_laws.proofs.QuietLemmas.{each_back}
+use Rattle.warnings_laws.proofs.{QuietLemmas.each_back, SyntaxLemmas.each_given}
 
 -- ---- from warnings to lines
 
@@ -41,22 +44,9 @@ are_unsplit preceding above (line ∷ lines) =
     && (begin_with_rules false (line ∷ lines) && not (name_again above (line ∷ lines))))
     && are_unsplit (preceding_with preceding line) (sole_name preceding above line) lines
 
--- what each warning has, the warning has whose check holds
-each_given : (P : WarningValue → Type 0) (line : Option ℕ) (about : Option (List ℕ)) (checks : List Check)
-    → Each P (warned line about checks) → Each (λ check. check.1 ≡ true
-    → P (record { line = line; cause = check.0; about = about; detail = None })) checks
-each_given P line about [] all = tt
-each_given P line about (check ∷ checks) all =
-    let first : List WarningValue = warning_of line about check in
-    let rest : List WarningValue = warned line about checks in
-    let one = each_front P first rest all in
-    (λ holds. (rw holds at one).0, each_given P line about checks (each_back P first rest all))
-
 neither : (split star : Bool) → ((split && not star) ≡ true → ⊥) → ((split && star) ≡ true → ⊥)
     → split ≡ false
-neither false star one other = refl
-neither true false one other = absurd (one refl)
-neither true true one other = absurd (other refl)
+neither split star one other = grind (arith, common_steps)
 
 lines_unsplit : (last : Option ℕ) (preceding : Preceding) (above : Option (List ℕ)) (delay : Option ℕ)
     (labels : List Label) → Each IsNoSplit (positions_from last preceding above delay labels)
@@ -107,8 +97,7 @@ below tokens sources = put_before tokens (parts_in sources).ungrouped (parts_in 
 
 below_token : (tokens : List (List ℕ)) (token text : List ℕ) (sources : List Source)
     → below tokens ((UserAgent token, text) ∷ sources) ≡ below (tokens ++ token ∷ []) sources
-below_token tokens token text sources =
-    put_both tokens (token ∷ []) (parts_in sources).ungrouped (parts_in sources).groups
+below_token tokens token text sources = search (rules, put_both, parts_in)
 
 first_rules : (tokens : List (List ℕ)) (sources : List Source)
     → begin_with_rules false (lines_in sources) ≡ first has_a_rule (below tokens sources)
@@ -163,11 +152,7 @@ first_passes : (name : Option (List ℕ)) (tokens : List (List ℕ)) (token text
     && not (name_again name (UserAgent token ∷ lines_in sources))) ≡ true
     → (first has_a_rule (below (token ∷ []) sources) ≡ false)
     ⊎ (list_all (λ name. first (has_token name) (below (token ∷ []) sources)) tokens ≡ true)
-first_passes name tokens token text sources sole is =
-    elim (cases_Bool (begin_with_rules false (lines_in sources))) [
-      | inl some ↦ inr (named name sole (rw some at is))
-      | inr none ↦ inl (sym (first_rules (token ∷ []) sources) ∙ none)
-    ]
+first_passes name tokens token text sources sole is = search (rules, lines_in, named, first_rules)
   where
     named : (name : Option (List ℕ)) → IsSole name tokens
         → not (not (name_again name (UserAgent token ∷ lines_in sources))) ≡ true

@@ -1,12 +1,16 @@
 -- A file without warnings about its syntax follows the grammar: its start is in order, each line has a form,
 -- and each rule is below a user-agent line.
+use Rattle.std.proofs.lemmas.Grind.{common_steps}
+use Rattle.std.proofs.Common.{rules}
 use Rattle.std.proofs.Common.{◌≡◌, ◌≢◌, inl, inr, ℕ, suc, ◌==◌, ◌&&◌, Bool, true, false, List, [], ◌∷◌, ◌++◌}
 use Rattle.std.proofs.Common.{All, nat_eq, not, refl, sym, take, zero, ◌<◌, Some, ap, arith, length, map}
 use Rattle.std.proofs.Common.{slice_get, subst, ◌∙◌, ◌||◌, None, Option, codes, flat_map, if◌then◌else◌}
 use Rattle.std.specs.List.{AllByRecursion as Each, list_any, starts_with, Contains, AllZip}
 use Rattle.std.proofs.lemmas.Bool.{and_parts, cases_Bool, eqb-false, eqb-true, false≢true, ne_eqb, or_parts}
 use Rattle.std.proofs.lemmas.Bool.{not-true, not-false, or_from}
-use Rattle.std.proofs.lemmas.{List.map-append, Option.slice_get-map}
+use Rattle.std.proofs.lemmas.{Option.slice_get-map, Option.slice_get_within, Option.same_Some}
+use Rattle.std.proofs.lemmas.Option.{get_or_from_slice_get}
+use Rattle.std.specs.Option.{option_map, option_map_or}
 use Rattle.robots_warnings.specs.Facts.{has_damaged_mark, mark, is_rule, suppresses_line_warnings, facts_of}
 use Rattle.robots_warnings.specs.Positions.{is_above_agents, is_outside, first_delay, preceding_with}
 use Rattle.robots_warnings.specs.Positions.{sole_name, last_group}
@@ -31,7 +35,7 @@ use Rattle.std.proofs.lemmas.List.Elements.{All-from_recursion}
 use Rattle.texting_robots.proofs.LabelLemmas.{each_line_has_its_label}
 use Rattle.texting_robots.proofs.{CapturedLemmas.some_passes, LineLemmas.lines_of_file_bodies}
 use Rattle.rfc9309_laws.proofs.LineFormLemmas.{forms_make_file}
-use Rattle.rfc9309_laws.proofs.{SyntaxLemmas.each_front, RobotLemmas.forms_robot}
+use Rattle.rfc9309_laws.proofs.{SyntaxLemmas.each_front, SyntaxLemmas.each_weaker, RobotLemmas.forms_robot}
 use Rattle.robots_warnings.specs.declared.facts.FileFacts.{FileFacts}
 use Rattle.robots_warnings.specs.declared.table.Cause.{Cause}
 use Rattle.texting_robots.specs.Internal.Line.{line_of}
@@ -42,14 +46,8 @@ use Rattle.rfc9309_laws.specs.LineForms as form
 
 -- ---- NUL
 
-each_other : (text : List ℕ) → list_any (λ b. b == 0) text ≡ false → Each (λ b. b ≢ 0) text
-each_other [] none = tt
-each_other (b ∷ text) none =
-    let parts = or_parts (b == 0) (list_any (λ b. b == 0) text) none in
-    (eqb-false b 0 parts.0, each_other text parts.1)
-
 pub no_nul : (text : List ℕ) → list_any (λ b. b == 0) text ≡ false → All (λ b. b ≢ 0) text
-no_nul text none = All-from_recursion (λ b. b ≢ 0) text (each_other text none)
+no_nul text none = grind (arith, common_steps)
 
 -- ---- the byte order mark
 
@@ -57,34 +55,17 @@ no_nul text none = All-from_recursion (λ b. b ≢ 0) text (each_other text none
 abbrev pub HasMark : List ℕ → Type 0
 HasMark text = (bom : List ℕ) × rfc.IsBom bom × (text ≡ bom ++ without_front text)
 
-differs : (b c : ℕ) → (c == b) ≡ false → (b == c) ≡ false
-differs b c isnt = ne_eqb b c (λ e. eqb-false c b isnt (sym e))
-
 -- nothing is skipped of a text whose first byte isn't one of the mark's
 unmarked : (a : ℕ) (text others : List ℕ)
     → list_any (λ b. starts_with nat_eq (a ∷ others) (b ∷ [])) mark ≡ false
     → without_front (a ∷ text) ≡ a ∷ text
-unmarked a text others none =
-    let first = or_parts ((0xEF == a) && true) _ none in
-    let second = or_parts ((0xBB == a) && true) _ first.1 in
-    let third = or_parts ((0xBF == a) && true) _ second.1 in
-    rw (
-      differs a 0xEF (alone (0xEF == a) first.0),
-      differs a 0xBB (alone (0xBB == a) second.0),
-      differs a 0xBF (alone (0xBF == a) third.0),
-    ) refl
-  where
-    alone : (b : Bool) → (b && true) ≡ false → b ≡ false
-    alone true is = is
-    alone false is = refl
+unmarked a text others none = grind (arith, common_steps)
 
 complete : (n : ℕ) (file : List ℕ) → starts_with nat_eq file mark ≡ true
     → HasMark (take (suc (suc (suc n))) file)
 complete n [] is = absurd (false≢true is)
-complete n (a ∷ []) is = absurd (false≢true (and_parts (0xEF == a) _ is).1)
-complete n (a ∷ b ∷ []) is =
-    let first = and_parts (0xEF == a) _ is in
-    absurd (false≢true (and_parts (0xBB == b) _ first.1).1)
+complete n (a ∷ []) is = grind (arith, common_steps)
+complete n (a ∷ b ∷ []) is = grind (arith, common_steps)
 complete n (a ∷ b ∷ c ∷ file) is =
     let first = and_parts (0xEF == a) _ is in
     let second = and_parts (0xBB == b) _ first.1 in
@@ -107,107 +88,59 @@ marked n (a ∷ file) no_damage =
     whole true is = refl
     whole false is = sym is
 
--- ---- a list of labels, split at a rule
+-- ---- rules below a user-agent line
 
-record IsSplit (labels : List Label) (above below : List Form) : Type 0 where
-  front : List Label
-  label : Label
-  back : List Label
-  whole : labels ≡ front ++ label ∷ back
-  forms : map form_of (lines_of front) ≡ above
-  rule : is_rule label.line ≡ true
-
-rule_form : (line : LineValue) → form_of line ≡ form.Rule → is_rule line ≡ true
-rule_form (Allow value) e = refl
-rule_form (Disallow value) e = refl
+rule_form : (line : LineValue) → form_of line ≡ form.Rule → (is_rule line ≡ true) × (is_agent line ≡ false)
+rule_form (Allow value) e = (refl, refl)
+rule_form (Disallow value) e = (refl, refl)
 rule_form line e = absurd cc
 
-split : (labels : List Label) (above below : List Form)
-    → map form_of (lines_of labels) ≡ above ++ form.Rule ∷ below → IsSplit labels above below
-split [] [] below e = absurd cc
-split [] (x ∷ above) below e = absurd cc
-split (label ∷ labels) [] below e = record {
-  front = [];
-  label = label;
-  back = labels;
-  whole = refl;
-  forms = refl;
-  rule = rule_form label.line (cc);
-}
-split (label ∷ labels) (x ∷ above) below e =
-    let same : form_of label.line ≡ x = cc in
-    let later = split labels above below (cc) in
-    record {
-      front = label ∷ later.front;
-      label = later.label;
-      back = later.back;
-      whole = ap (λ t. label ∷ t) later.whole;
-      forms = ap (λ f. f ∷ map form_of (lines_of later.front)) same ∙ ap (λ t. x ∷ t) later.forms;
-      rule = later.rule;
-    }
-
-pub at_seam : (front back : List Label) (label : Label)
-    → slice_get (front ++ label ∷ back) (length front) ≡ Some label
-at_seam [] back label = refl
-at_seam (x ∷ front) back label = at_seam front back label
-
--- ---- a user-agent line above a position
-
-agent_form : (line : LineValue) → is_agent line ≡ true → form_of line ≡ form.Agent
-agent_form (UserAgent value) is = refl
+agent_form : (line : Option LineValue) → option_map_or is_agent line false ≡ true
+    → option_map form_of line ≡ Some form.Agent
+agent_form (Some (UserAgent value)) is = refl
 agent_form line is = absurd (false≢true is)
 
-contains_more : (x y : Form) (xs : List Form) → Contains xs y → Contains (x ∷ xs) y
-contains_more x y xs (k, below, is) = (suc k, omega arith, is)
+mapped : {X Y : Type 0} (f : X → Y) (x : Option X) (y : Y) → option_map f x ≡ Some y
+    → (z : X) × (x ≡ Some z) × (f z ≡ y)
+mapped f None y is = cc
+mapped f (Some x) y is = (x, refl, same_Some _ _ is)
 
-agent_above : (front : List Label) (lines : List LineValue) (j : ℕ) → j < length front
-    → passes_at is_agent (lines_of front ++ lines) j ≡ true
-    → Contains (map form_of (lines_of front)) form.Agent
-agent_above [] lines j below is = absurd (omega arith)
-agent_above (label ∷ front) lines zero below is = (0, omega arith, agent_form label.line is)
-agent_above (label ∷ front) lines (suc j) below is =
-    contains_more (form_of label.line) form.Agent (map form_of (lines_of front))
-    (agent_above front lines j (omega arith) is)
+at_seam : (front back : List Form) (x : Form) → slice_get (front ++ x ∷ back) (length front) ≡ Some x
+at_seam [] back x = refl
+at_seam (y ∷ front) back x = at_seam front back x
 
-rule_no_agent : (line : LineValue) → is_rule line ≡ true → is_agent line ≡ false
-rule_no_agent (Allow value) is = refl
-rule_no_agent (Disallow value) is = refl
-rule_no_agent line is = absurd (false≢true is)
+in_front : (front back : List Form) (x : Form) (j : ℕ) → j < length front
+    → slice_get (front ++ back) j ≡ Some x → Contains front x
+in_front [] back x j below at = absurd (omega arith)
+in_front (y ∷ front) back x zero below at = (0, omega arith, same_Some _ _ at)
+in_front (y ∷ front) back x (suc j) below at =
+    let (k, less, is) = in_front front back x j (omega arith) at in (suc k, omega arith, is)
 
 pub rules_below : (name : List ℕ) (labels : List Label) → AreLabelsOf name (lines_of labels) labels
     → (list_any is_rule (lines_of labels) && not (list_any is_agent (lines_of labels))) ≡ false
     → Each (λ label. is_above_agents label ≡ false) labels
     → AreRulesBelowAgents (map form_of (lines_of labels))
 rules_below name labels are kinds each above below e =
-    let s = split labels above below e in
-    let i = length s.front in
-    let at : slice_get labels i ≡ Some s.label =
-    subst (λ l. slice_get l i ≡ Some s.label) (sym s.whole) (at_seam s.front s.back s.label) in
-    let quiet : is_above_agents s.label ≡ false =
-    (each_back (λ label. is_above_agents label ≡ false) s.front (s.label ∷ s.back)
-    (subst (Each (λ label. is_above_agents label ≡ false)) s.whole each)).0 in
-    let outside = second (is_rule s.label.line) (is_outside s.label.membership) s.rule quiet in
-    let here : slice_get (lines_of labels) i ≡ Some s.label.line =
-    rw (slice_get-map (λ (label : Label). label.line) labels i, at) refl in
-    let has_rule = (some_passes is_rule (lines_of labels)).1 (i, rw here s.rule) in
-    let some =
-    not-false (list_any is_agent (lines_of labels))
-    (second (list_any is_rule (lines_of labels)) _ has_rule kinds) in
-    let (j, less, is) =
-    below_agent name (lines_of labels) i s.label.membership (are.each i s.label at).1 outside
-    (rw here (rule_no_agent s.label.line s.rule)) some in
-    let parts : lines_of labels ≡ lines_of s.front ++ lines_of (s.label ∷ s.back) =
-    ap lines_of s.whole ∙ map-append (λ (label : Label). label.line) s.front (s.label ∷ s.back) in
-    subst (λ f. Contains f form.Agent) s.forms
-    (agent_above s.front (lines_of (s.label ∷ s.back)) j less
-    (subst (λ l. passes_at is_agent l j ≡ true) parts is))
+    let lines = lines_of labels in
+    let i = length above in
+    let formed = λ (k : ℕ). sym (slice_get-map form_of lines k) ∙ ap (λ forms. slice_get forms k) e in
+    let (line, here, is) = mapped form_of _ _ (formed i ∙ at_seam above below form.Rule) in
+    let (label, at, same) =
+    mapped (λ (label : Label). label.line) _ _ (sym (slice_get-map _ labels i) ∙ here) in
+    let (rule, isnt) = rule_form line is in
+    let quiet = subst (λ label. is_above_agents label ≡ false) (get_or_from_slice_get labels i label label at)
+    (All-from_recursion _ labels each i label (slice_get_within labels i label at)) in
+    let outside = second (is_rule label.line) _ (rw same rule) quiet in
+    let has_rule = (some_passes is_rule lines).1 (i, rw here rule) in
+    let some = not-false _ (second (list_any is_rule lines) _ has_rule kinds) in
+    let (j, less, agent) =
+    below_agent name lines i label.membership (are.each i label at).1 outside (rw here isnt) some in
+    in_front above (form.Rule ∷ below) form.Agent j less (sym (formed j) ∙ agent_form _ agent)
 
 -- ---- checks
 
 quiet_by : (meaning holds : Bool) → (holds ≡ true → meaning ≡ true) → (meaning || not holds) ≡ true
-quiet_by true holds is = refl
-quiet_by false true is = is refl
-quiet_by false false is = refl
+quiet_by meaning holds given = grind (arith, common_steps)
 
 -- the warnings have causes that pass the test
 abbrev pub ArePassed : (Cause → Bool) → List WarningValue → Type 0
@@ -217,20 +150,21 @@ ArePassed test warnings = Each (λ warning. test warning.cause ≡ true) warning
 abbrev pub AreQuietBy : (Cause → Bool) → List Check → Type 0
 AreQuietBy test checks = Each (λ check. (test check.0 || not check.1) ≡ true) checks
 
-module _ (test : Cause → Bool) where
-  one : (line : Option ℕ) (about : Option (List ℕ)) (check : Check)
-      → ArePassed test (warning_of line about check) → (test check.0 || not check.1) ≡ true
-  one line about check all = quiet_by (test check.0) check.1 (λ holds. (rw holds at all).0)
+-- what each warning has, the warning has whose check holds
+pub each_given : (P : WarningValue → Type 0) (line : Option ℕ) (about : Option (List ℕ)) (checks : List Check)
+    → Each P (warned line about checks) → Each (λ check. check.1 ≡ true
+    → P (record { line = line; cause = check.0; about = about; detail = None })) checks
+each_given P line about [] all = tt
+each_given P line about (check ∷ checks) all =
+    let first : List WarningValue = warning_of line about check in
+    let rest : List WarningValue = warned line about checks in
+    let one = each_front P first rest all in
+    (λ holds. (rw holds at one).0, each_given P line about checks (each_back P first rest all))
 
+module _ (test : Cause → Bool) where
   pub warned_quiet : (line : Option ℕ) (about : Option (List ℕ)) (checks : List Check)
       → ArePassed test (warned line about checks) → AreQuietBy test checks
-  warned_quiet line about [] all = tt
-  warned_quiet line about (check ∷ checks) all =
-      let first : List WarningValue = warning_of line about check in
-      let rest : List WarningValue = warned line about checks in (
-        one line about check (each_front _ first rest all),
-        warned_quiet line about checks (each_back _ first rest all),
-      )
+  warned_quiet line about checks all = grind (arith, each_weaker, quiet_by, each_given)
 
   -- the same, line by line
   pub lines_quiet : (bodies : List (List ℕ)) (labels : List Label) → lines_of labels ≡ map line_of bodies
@@ -261,19 +195,10 @@ pub record IsQuietFile (facts : FileFacts) : Type 0 where
   pub mark : facts.has_damaged_mark ≡ false
   pub nul : facts.has_nul ≡ false
 
-nul_off : (nul utf_16 : Bool) → not (nul && not utf_16) ≡ true → not utf_16 ≡ true → nul ≡ false
-nul_off false utf_16 one two = refl
-nul_off true true one two = absurd (false≢true two)
-nul_off true false one two = absurd (false≢true one)
-
 pub quiet_file : (facts : FileFacts) → AreQuiet (file_checks facts) → IsQuietFile facts
 unfolding topic_of
-quiet_file facts (html, (utf_16, (other, (empty, (large, (agent, (mark, (nul, end)))))))) = record {
-  shown = or_from facts.is_html facts.is_utf_16 (not-true _ html) (not-true _ utf_16);
-  with_agent = not-true _ agent;
-  mark = not-true _ mark;
-  nul = nul_off facts.has_nul facts.is_utf_16 nul utf_16;
-}
+quiet_file facts (html, (utf_16, (other, (empty, (large, (agent, (mark, (nul, end)))))))) =
+    grind (arith, common_steps)
 
 -- ---- the lines
 
@@ -326,7 +251,7 @@ module _ (file : List ℕ) where
   labels_are = (each_line_has_its_label name (lines_read file) labels).1 refl
 
   pub reads : AllZip IsLineOf (lines_read file) bodies
-  reads = lines_of_file_bodies (take file_limit file) bodies refl
+  reads = search (rules, lines_of_file_bodies)
 
   module _ (test : Cause → Bool) (named agents urls : List (List ℕ))
       (all : ArePassed test (warnings_of named agents urls file)) where
@@ -349,10 +274,10 @@ module _ (file : List ℕ) where
     of_groups = group_warnings true agents bodies (lines_read file) labels
 
     passed_later : Each Passes (of_lines ++ (of_positions ++ (past_limit ++ of_groups)))
-    passed_later = each_back Passes general (of_lines ++ (of_positions ++ (past_limit ++ of_groups))) all
+    passed_later = grind (arith, each_back)
 
     passed_after : Each Passes (of_positions ++ (past_limit ++ of_groups))
-    passed_after = each_back Passes of_lines (of_positions ++ (past_limit ++ of_groups)) passed_later
+    passed_after = grind (arith, each_back, passed_later)
 
     pub facts_quiet : AreQuietBy test (file_checks facts)
     facts_quiet =
@@ -364,17 +289,13 @@ module _ (file : List ℕ) where
     pub bodies_quiet : suppresses_line_warnings facts ≡ false
         → Each (λ body. AreQuietBy test (line_checks true (line_of body) body)) bodies
     bodies_quiet are_shown =
-        lines_quiet test bodies labels labels_are.lines_are
-        (shown test (suppresses_line_warnings facts) (lines_warnings true bodies labels) are_shown
-        (each_front Passes of_lines (of_positions ++ (past_limit ++ of_groups)) passed_later))
+        grind (arith, lines_quiet, bodies, labels, labels_are, shown, facts, each_front, passed_later)
 
     pub passed_positions : ArePassed test of_positions
-    passed_positions = each_front Passes of_positions (past_limit ++ of_groups) passed_after
+    passed_positions = grind (arith, each_front, passed_after)
 
     pub passed_groups : ArePassed test of_groups
-    passed_groups =
-        each_back Passes past_limit of_groups
-        (each_back Passes of_positions (past_limit ++ of_groups) passed_after)
+    passed_groups = grind (arith, each_back, passed_after)
 
 module _ (named agents urls : List (List ℕ)) (file : List ℕ)
     (silent : IsSilentOn named agents urls file) where

@@ -1,4 +1,7 @@
 -- Theorems about warnings: what the conditions of some warnings imply for rules, names and URLs.
+use Rattle.std.proofs.lemmas.Grind.{common_steps}
+use Rattle.std.proofs.Common.{rules}
+use Rattle.std.proofs.lemmas.Bool.{not-true}
 use Rattle.std.proofs.Common.{◌≡◌, ◌≢◌, ◌⊎◌, ◌<◌, ℕ, Bool, true, false, List, [], ◌∷◌, ◌++◌, Contains, codes}
 use Rattle.std.proofs.Common.{◌&&◌, ◌||◌, ◌==◌, ap, arith, cond, get_or, if◌then◌else◌, inl, inr, drop, suc}
 use Rattle.std.proofs.Common.{filter, map, None, not, Option, refl, slice_get, Some, subst, sym, take, ◌+◌}
@@ -39,29 +42,9 @@ use Rattle.texting_robots.specs.declared.parser.statement.Kind.TheVariants as ki
 
 -- ---- conditions and lines
 
-pub both : (a b : Bool) → (a && b) ≡ true → (a ≡ true) × (b ≡ true)
-both true true is = (refl, refl)
-both true false is = cc
-both false b is = cc
-
-pub none : (a : Bool) → not a ≡ true → a ≡ false
-none true is = cc
-none false is = refl
-
--- two rules given by one line have the same kind and the same value
-pub one_value : (a b : Bool) (value other : List ℕ)
-    → ◌≡◌ {A = Option LineValue} (Some (cond a (Allow value) (Disallow value)))
-    (Some (cond b (Allow other) (Disallow other))) → (a ≡ b) × (value ≡ other)
-one_value true true value other same = (refl, cc)
-one_value true false value other same = cc
-one_value false true value other same = cc
-one_value false false value other same = (refl, cc)
-
 pub named_agent : (name : List ℕ) (line : Option LineValue)
     → option_map_or (is_agent_named name) line false ≡ true → option_map_or is_agent line false ≡ true
-named_agent name None is = cc
-named_agent name (Some (UserAgent value)) is = refl
-named_agent name (Some line) is = cc
+named_agent name line is = grind (arith, common_steps)
 
 -- what the content of a line states that is read so
 abbrev pub IsStated : LineValue → List ℕ → Type 0
@@ -88,10 +71,9 @@ pub below_agent : (name : List ℕ) (lines : List LineValue) (place : ℕ) (memb
     → HasMembership name lines place membership → is_outside membership ≡ false
     → passes_at is_agent lines place ≡ false → list_any is_agent lines ≡ true
     → (j : ℕ) × (j < place) × (passes_at is_agent lines j ≡ true)
-below_agent name lines place Own (inl (group, inl alone)) inside isnt some =
-    let (k, passes) = (some_passes is_agent lines).0 some in absurd (alone k passes)
+below_agent name lines place Own (inl (group, inl alone)) inside isnt some = search (rules, some_passes)
 below_agent name lines place Own (inl (group, inr (j, below, named, alone))) inside isnt some =
-    (j, below, named_agent name (slice_get lines j) named)
+    search (rules, named_agent)
 below_agent name lines place Own (inr run) inside isnt some = absurd (false≢true (sym isnt ∙ run.0))
 below_agent name lines place Other (other, inl agent) inside isnt some =
     absurd (false≢true (sym isnt ∙ agent))
@@ -138,7 +120,7 @@ new_name read more (UserAgent value) is =
       value,
       refl,
       (or_parts (list_any test read) (list_any test more)
-          (none _ (ap not (sym (list_any-append test read more)) ∙ is))).0,
+          (not-true _ (ap not (sym (list_any-append test read more)) ∙ is))).0,
     )
 new_name read more other is = cc
 
@@ -160,33 +142,14 @@ pub not_utf8_applies_to_none : (value agent : List ℕ) (lines : List LineValue)
     (rule : Rule) → is_utf8 value ≡ false
     → slice_get lines place ≡ Some (if is_allow then Allow value else Disallow value)
     → ¬ HoldsRule agent lines place rule
-not_utf8_applies_to_none value agent lines place is_allow rule isnt at holds =
-    let same = one_value rule.1 is_allow holds.value value (sym holds.line.0 ∙ at) in
-    false≢true (sym isnt ∙ ap is_utf8 (sym same.1) ∙ holds.utf8)
-
-outside : (membership : Membership) → is_outside membership ≡ true → membership ≡ Ungrouped
-outside Own is = cc
-outside Other is = cc
-outside Ungrouped is = refl
-
-in_group : (kind : Bool) (value : List ℕ) → is_group (cond kind (Allow value) (Disallow value)) ≡ true
-in_group true value = refl
-in_group false value = refl
+not_utf8_applies_to_none value agent lines place is_allow rule isnt at holds = grind (arith, common_steps)
 
 pub above_agents_applies_to_none : (name agent : List ℕ) (lines : List LineValue) (labels : List Label)
     (place : ℕ)
     (label : Label) (rule : Rule) → AreLabelsOf name lines labels → slice_get labels place ≡ Some label
     → is_above_agents label ≡ true → ¬ HoldsRule agent lines place rule
 above_agents_applies_to_none name agent lines labels place label rule are at is holds =
-    let (not_own, not_in) = subst (HasMembership name lines place) (outside _ (both _ _ is).1)
-    (are.each place label at).1 in
-    let group : passes_at is_group lines place
-    ≡ true = rw holds.line.0 (in_group rule.1 holds.value) in
-    elim holds.line.1 [
-      | inl none ↦ not_own (inl (group, inl none))
-      | inr (j, below, named, alone) ↦
-          not_in (inr (group, j, below, named_agent (group_name agent lines) (slice_get lines j) named))
-    ]
+    grind (arith, common_steps)
 
 -- ---- patterns that match nothing
 
@@ -240,29 +203,13 @@ pub odd_start_matches_no_path : (value text : List ℕ) → begins_oddly value �
     → ¬ Matches (escaped value) (byte "/" ∷ text)
 unfolding MatchesWith
 odd_start_matches_no_path [] text odd m = cc
-odd_start_matches_no_path (b ∷ value) text odd m =
-    let (not_slash, not_star) = or_parts (b == byte "/") (b == star) (none _ odd) in
-    let first : List ℕ → ℕ = λ text. get_or text 0 0 in
-    elim (cases_Bool (is_escaped b)) [
-      | inl bad ↦
-          let (s, e, later) = rw bad at m in
-          let same : byte "/" ≡ byte "%" = ap first e in
-          absurd (omega arith)
-      | inr good ↦ elim (cases_Bool (b == dollar)) [
-        | inl end ↦ let (s, (e, gone), later) = rw (good, not_star, end) at m in cc
-        | inr plain ↦
-            let (s, e, later) = rw (good, not_star, plain) at m in
-            false≢true (sym not_slash ∙ eq-eqb b (byte "/") (sym (ap first e)))
-      ]
-    ]
+odd_start_matches_no_path (b ∷ value) text odd m = grind (arith, common_steps)
 
 -- ---- URLs that can't be parsed
 
 pub invalid_url_is_escaped : (url : List ℕ) → is_invalid_url url ≡ true → asked_target url ≡ escaped url
 invalid_url_is_escaped [] is = cc
-invalid_url_is_escaped (b ∷ url) is =
-    let unparsable = (both _ _ is).1 in
-    unparsed_asked (b ∷ url) unparsable ∙ unparsed_prepared b url unparsable
+invalid_url_is_escaped (b ∷ url) is = grind (arith, and_parts, unparsed_asked, unparsed_prepared)
 
 -- ---- bytes that no other byte equals in lowercase
 
@@ -276,17 +223,7 @@ only_itself a b is same = grind (arith, nat_tests)
 -- no byte of a White_Space character is a letter
 white_bytes : (c : ℕ) → is_whitespace c ≡ true → Each IsNoLetter (encode_utf8 c)
 unfolding encode_utf8
-white_bytes c white = at (nat_lt c 128) (nat_lt c 2048) (nat_lt c 65536) refl
-  where
-    at : (one two three : Bool) → nat_lt c 128 ≡ one
-        → Each IsNoLetter (cond one (c ∷ []) (cond two ((192 + c / 64) ∷ next c ∷ [])
-        (cond three ((224 + c / 4096) ∷ next (c / 64) ∷ next c ∷ [])
-        ((240 + c / 262144) ∷ next (c / 4096) ∷ next (c / 64) ∷ next c ∷ []))))
-    at true two three low = (inl (grind (arith, nat_tests)), tt)
-    at false true three high = (inr (omega arith), (inr (omega arith), tt))
-    at false false true high = (inr (omega arith), (inr (omega arith), (inr (omega arith), tt)))
-    at false false false high =
-        (inr (omega arith), (inr (omega arith), (inr (omega arith), (inr (omega arith), tt))))
+white_bytes c white = grind (arith, common_steps)
 
 same_bytes : (value text : List ℕ) → Each IsNoLetter text
     → str_to_ascii_lowercase value ≡ str_to_ascii_lowercase text → value ≡ text
@@ -317,8 +254,7 @@ some_bytes c = omega (arith, length-encode c, (len_utf8_bounds c).0)
 
 encodes_last : (chars : List ℕ) (c : ℕ)
     → encode_utf8_all (chars ++ c ∷ []) ≡ encode_utf8_all chars ++ encode_utf8 c
-encodes_last chars c = encodes-append chars (c ∷ [])
-    ∙ ap (λ t. encode_utf8_all chars ++ t) (append-nil (encode_utf8 c))
+encodes_last chars c = grind (arith, encodes-append, append-nil)
 
 trimmed_start : (value region more : List ℕ) (c : ℕ) → IsTrimOf value region → is_whitespace c ≡ true
     → ¬ (value ≡ encode_utf8 c ++ more)
@@ -382,9 +318,7 @@ kept_or_white (c ∷ chars) = elim (kept_or_white chars) [
 same_or_space : (chars : List ℕ) → all_scalars chars ≡ true
     → (trim (encode_utf8_all chars) ≡ encode_utf8_all chars) ⊎ HasSpaceAround (encode_utf8_all chars)
 unfolding trim_start trim_end
-same_or_space [] is =
-    inl (ap (λ l. trim_end (encode_utf8_all (skip_leading_whitespace l))) chars-nil
-    ∙ ap (λ l. encode_utf8_all (drop_trailing_whitespace l)) chars-nil)
+same_or_space [] is = grind (arith, chars-nil)
 same_or_space (c ∷ chars) is = elim (cases_Bool (is_whitespace c)) [
   | inl white ↦ inr (c, encode_utf8_all chars, white, inl refl)
   | inr dark ↦ elim (kept_or_white (c ∷ chars)) [
