@@ -1,10 +1,9 @@
 -- The parts of a directive that has a colon after its field name: what is before and after a byte, what is
 -- between spaces and tabs, and the field name, which is one of the usual names.
 use Rattle.std.proofs.lemmas.Grind.{common_steps}
-use Rattle.std.proofs.Common.{rules}
+use Rattle.std.proofs.Common.{rules, take, append-nil, append_assoc}
 use Rattle.std.proofs.Common.{◌≡◌, ◌≢◌, inl, inr, ℕ, ◌==◌, true, List, [], ◌∷◌, ◌++◌, ap, arith, drop, length}
 use Rattle.std.proofs.Common.{not, refl, subst, sym, ◌∙◌, reverse, ◌&&◌, Bool, false, bytes_eq, codes, map}
-use Rattle.std.proofs.Common.{take, append-nil, append_assoc}
 use Rattle.std.specs.List.{AllByRecursion as Each, position_or_len, Contains, list_all, list_any}
 use Rattle.std.specs.{Char.to_ascii_lowercase, Str.str_to_ascii_lowercase}
 use Rattle.std.proofs.Math.Seq.{drop-append-add, drop-append_seam, take-append_seam}

@@ -1,11 +1,10 @@
 -- What `closes-everything`, `hash-cuts-rule` and `allowed-and-disallowed` imply; and about first lines, which
 -- `empty-disallow` has, too.
 use Rattle.std.proofs.lemmas.Grind.{common_steps}
-use Rattle.std.proofs.Common.{rules}
+use Rattle.std.proofs.Common.{rules, Some, bytes_eq, codes, if◌then◌else◌, ◌∙◌}
 use Rattle.std.proofs.lemmas.Bool.{and_parts, not-true}
 use Rattle.std.proofs.Common.{◌≡◌, ◌≢◌, ℕ, ◌<◌, ◌==◌, ◌&&◌, ◌||◌, Bool, true, false, List, [], ◌∷◌, Contains}
 use Rattle.std.proofs.Common.{ap, arith, inl, inr, length, not, refl, subst, suc, sym, ◌⊎◌, Any, None, Option}
-use Rattle.std.proofs.Common.{Some, bytes_eq, codes, if◌then◌else◌, ◌∙◌}
 use Rattle.std.specs.{List.list_all, List.list_any, Str.byte, Option.option_or, Prelude.is_some}
 use Rattle.std.proofs.lemmas.{Bool.eqb-true, Bool.or_cases, Bool.eq-eqb, Option.same_Some}
 use Rattle.std.proofs.lemmas.List.Folds.{Any-from_list_any, list_any-from_Any}

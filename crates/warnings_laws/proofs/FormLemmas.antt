@@ -1,8 +1,7 @@
 -- A line without a warning about its syntax has the form of its kind.
 use Rattle.std.proofs.lemmas.Grind.{common_steps}
 use Rattle.std.proofs.Common.{◌≡◌, ◌≢◌, ◌⊎◌, inl, inr, ℕ, false, List, [], ◌∷◌, ◌++◌, ap, append-nil, codes}
-use Rattle.std.proofs.Common.{refl, subst, sym, ◌∙◌, ◌==◌, ◌||◌, true, Option, append_assoc, arith}
-use Rattle.std.proofs.Common.{not}
+use Rattle.std.proofs.Common.{refl, subst, sym, ◌∙◌, ◌==◌, ◌||◌, true, Option, append_assoc, arith, not}
 use Rattle.std.proofs.lemmas.Bool.{not-true, and_parts, cases_Bool, eqb-true, eqb-false, false≢true}
 use Rattle.std.proofs.lemmas.Bool.{not-false, or_cases}
 use Rattle.texting_robots.specs.Callers.{Allow, Disallow, IsLineOf, UserAgent, CrawlDelay, LineValue, Raw}

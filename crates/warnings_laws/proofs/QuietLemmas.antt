@@ -1,9 +1,8 @@
 -- What the silence about a line says of its parts. An ignored line that isn't blank has a warning about its
 -- syntax.
 use Rattle.std.proofs.lemmas.Grind.{common_steps}
-use Rattle.std.proofs.Common.{rules}
+use Rattle.std.proofs.Common.{rules, append_assoc, arith, bytes_eq, length, not, refl, sym, ◌∙◌, nat_lt}
 use Rattle.std.proofs.Common.{◌≡◌, ◌⊎◌, inl, inr, ℕ, ◌==◌, ◌&&◌, Bool, true, false, List, [], ◌∷◌, ◌++◌, ap}
-use Rattle.std.proofs.Common.{append_assoc, arith, bytes_eq, length, not, refl, sym, ◌∙◌, nat_lt}
 use Rattle.std.proofs.Common.{◌≢◌, if◌then◌else◌, subst, nat_le, None, Option, Some, unwrap_or}
 use Rattle.std.specs.List.{list_all, list_any, AllByRecursion as Each}
 use Rattle.std.proofs.lemmas.Bool.{and_from, and_parts, false≢true, not-false, or_cases, or_parts}
@@ -15,8 +14,7 @@ use Rattle.rfc9309_laws.proofs.CharLemmas.{comment_text, value_text}
 use Rattle.rfc9309_laws.specs.HasForm.{is_comment_byte, is_value_byte}
 use Rattle.robots_warnings.specs.Contents.{comment_of, has_odd_comment, is_control, raw_value, tail_of}
 use Rattle.robots_warnings.specs.Contents.{has_odd_space}
-use Rattle.robots_warnings.specs.FieldNames.{is_misspelled, without_front, is_without_colon, Row}
-use Rattle.robots_warnings.specs.FieldNames.{first_that}
+use Rattle.robots_warnings.specs.FieldNames.{is_misspelled, without_front, is_without_colon, Row, first_that}
 use Rattle.robots_warnings.specs.FieldNames.{meant_by}
 use Rattle.robots_warnings.specs.Tokens.{is_product_token, is_token_byte}
 use Rattle.warnings_laws.proofs.ColonLemmas.{HasColon, comment_is, front_kept, tail_is}

@@ -2,11 +2,9 @@
 -- (`is_unsplit`), so each crawler's rules are those of the standard. The proof walks through the source lines
 -- (`Sources`), as the warnings do: they keep one name above a line, which is enough to check the next group.
 use Rattle.std.proofs.lemmas.Grind.{common_steps}
-use Rattle.std.proofs.Common.{arith}
-use Rattle.std.proofs.Common.{rules}
+use Rattle.std.proofs.Common.{arith, rules, subst, sym, take}
 use Rattle.std.proofs.Common.{◌≡◌, ◌⊎◌, inl, inr, ℕ, Bool, true, false, not, ◌||◌, ◌&&◌, List, [], ◌∷◌}
 use Rattle.std.proofs.Common.{◌++◌, ◌∙◌, Option, Some, None, ap, codes, filter, if◌then◌else◌, map, refl}
-use Rattle.std.proofs.Common.{subst, sym, take}
 use Rattle.std.specs.List.{AllByRecursion as Each, list_all, list_any}
 use Rattle.std.proofs.Math.Bool.{or-false, or-true, or_assoc}
 use Rattle.std.proofs.lemmas.Bool.{and_from, and_parts, not-false, not-true}

@@ -1,15 +1,13 @@
 -- Theorems about warnings: what the conditions of some warnings imply for rules, names and URLs.
 use Rattle.std.proofs.lemmas.Grind.{common_steps}
-use Rattle.std.proofs.Common.{rules}
+use Rattle.std.proofs.Common.{rules, ◌&&◌, ◌||◌, ◌==◌, ap, arith, get_or, if◌then◌else◌, inl, inr, drop, suc}
 use Rattle.std.proofs.lemmas.Bool.{not-true}
 use Rattle.std.proofs.Common.{◌≡◌, ◌≢◌, ◌⊎◌, ◌<◌, ℕ, Bool, true, false, List, [], ◌∷◌, ◌++◌, Contains, codes}
-use Rattle.std.proofs.Common.{◌&&◌, ◌||◌, ◌==◌, ap, arith, get_or, if◌then◌else◌, inl, inr, drop, suc}
 use Rattle.std.proofs.Common.{filter, map, not, Option, refl, slice_get, Some, subst, sym, take, ◌+◌}
 use Rattle.std.proofs.Common.{◌∙◌, ap₂, append_assoc, append-nil, IsTrue, length, length-append}
 use Rattle.std.specs.List.{enumerate_from, list_all, list_any, prefix_len, AllByRecursion as Each, AllZip}
-use Rattle.std.specs.Str.{byte, is_utf8, str_to_ascii_lowercase, IsUtf8, all_scalars}
+use Rattle.std.specs.Str.{byte, is_utf8, str_to_ascii_lowercase, IsUtf8, all_scalars, trim_start}
 use Rattle.std.specs.Str.{drop_trailing_whitespace, encode_utf8_all, skip_leading_whitespace, trim, trim_end}
-use Rattle.std.specs.Str.{trim_start}
 use Rattle.std.specs.Char.{encode_utf8, is_whitespace, to_ascii_lowercase}
 use Rattle.std.proofs.lemmas.Bool.{or_parts, cases_Bool, eqb-true, false≢true, and_parts, cond-false}
 use Rattle.std.proofs.lemmas.List.{drop_all, drop_at, drop-map, length-map, map-append, take-append-drop}
