@@ -1,21 +1,19 @@
 -- The parts of a directive that has a colon after its field name: what is before and after a byte, what is
 -- between spaces and tabs, and the field name, which is one of the usual names.
 use Rattle.std.proofs.lemmas.Grind.{common_steps}
-use Rattle.std.proofs.Common.{rules}
+use Rattle.std.proofs.Common.{rules, take, append-nil, append_assoc}
 use Rattle.std.proofs.Common.{◌≡◌, ◌≢◌, inl, inr, ℕ, ◌==◌, true, List, [], ◌∷◌, ◌++◌, ap, arith, drop, length}
 use Rattle.std.proofs.Common.{not, refl, subst, sym, ◌∙◌, reverse, ◌&&◌, Bool, false, bytes_eq, codes, map}
-use Rattle.std.proofs.Common.{take, append-nil, append_assoc}
 use Rattle.std.specs.List.{AllByRecursion as Each, position_or_len, Contains, list_all, list_any}
 use Rattle.std.specs.{Char.to_ascii_lowercase, Str.str_to_ascii_lowercase}
 use Rattle.std.proofs.Math.Seq.{drop-append-add, drop-append_seam, take-append_seam}
-use Rattle.std.proofs.lemmas.Bool.{eq-eqb, ne_eqb, and_parts, eqb-false, false≢true, not-true, not-false}
+use Rattle.std.proofs.lemmas.Bool.{eq-eqb, ne_eqb, and_parts, false≢true, not-true, not-false}
 use Rattle.std.proofs.lemmas.List.{drop_all, reverse-append, reverse-reverse, take_all, map-append, take-map}
 use Rattle.robots_warnings.specs.FieldNames.{is_space_or_tab, without_end, without_front, begins_with}
 use Rattle.robots_warnings.specs.FieldNames.{is_any_accepted, is_without_colon, name_in}
 use Rattle.robots_warnings.specs.Contents.{raw_value, comment_of, tail_of}
 use Rattle.robots_warnings.specs.Rules.{after_byte, before_byte}
-use Rattle.std.proofs.lemmas.List.Elements.{All-contains, All-from_recursion}
-use Rattle.std.proofs.lemmas.List.Sums.{AllPass-from_list_all, take_while-cons}
+use Rattle.std.proofs.lemmas.List.Sums.{take_while-cons}
 use Rattle.texting_robots.specs.Statement.{field_names, IsAfterColon, IsBlank, IsStatement, StartsValue}
 use Rattle.texting_robots.specs.Trim.{IsTrimOf}
 use Rattle.rfc9309_laws.proofs.KeyedLemmas.{leading_gone, word_of}
@@ -25,7 +23,6 @@ use Rattle.texting_robots.proofs.TrimLemmas.{each_append}
 use Rattle.texting_robots.specs.declared.parser.statement.Kind.{Kind}
 use Rattle.texting_robots.specs.Internal.Statement.{IsOptionalComment}
 use Rattle.rfc9309_laws.specs.Rfc9309 as rfc
-use Rattle.texting_robots.specs.declared.parser.statement.Kind.TheVariants as kind
 
 -- ---- the first occurrence of a byte
 
@@ -104,8 +101,6 @@ around text =
       back_blank = after;
     }
 
--- ---- accepted names
-
 -- ---- bytes of a name
 
 -- neither a colon nor `#`
@@ -163,9 +158,6 @@ usual_key kind key rest is begins =
     grind (arith, common_steps)
 
 -- ---- no accepted name continues another one
-
-abbrev kinds : List Kind
-kinds = kind.UserAgent ∷ kind.Allow ∷ kind.Disallow ∷ kind.Sitemap ∷ kind.CrawlDelay ∷ []
 
 pub not_continued : (kind : Kind) (key more : List ℕ) (b : ℕ)
     → Contains (field_names kind) (str_to_ascii_lowercase key)

@@ -1,13 +1,12 @@
 -- What `closes-everything`, `hash-cuts-rule` and `allowed-and-disallowed` imply; and about first lines, which
 -- `empty-disallow` has, too.
 use Rattle.std.proofs.lemmas.Grind.{common_steps}
-use Rattle.std.proofs.Common.{rules}
+use Rattle.std.proofs.Common.{rules, Some, bytes_eq, codes, if◌then◌else◌, ◌∙◌}
 use Rattle.std.proofs.lemmas.Bool.{and_parts, not-true}
 use Rattle.std.proofs.Common.{◌≡◌, ◌≢◌, ℕ, ◌<◌, ◌==◌, ◌&&◌, ◌||◌, Bool, true, false, List, [], ◌∷◌, Contains}
 use Rattle.std.proofs.Common.{ap, arith, inl, inr, length, not, refl, subst, suc, sym, ◌⊎◌, Any, None, Option}
-use Rattle.std.proofs.Common.{Some, ap₂, bytes_eq, codes, if◌then◌else◌, ◌∙◌}
 use Rattle.std.specs.{List.list_all, List.list_any, Str.byte, Option.option_or, Prelude.is_some}
-use Rattle.std.proofs.lemmas.{Bool.cases_Bool, Bool.eqb-true, Bool.or_cases, Bool.eq-eqb, Option.same_Some}
+use Rattle.std.proofs.lemmas.{Bool.eqb-true, Bool.or_cases, Bool.eq-eqb, Option.same_Some}
 use Rattle.std.proofs.lemmas.List.Folds.{Any-from_list_any, list_any-from_Any}
 use Rattle.texting_robots.specs.Callers.{AreRulesFor, IsDenied, LineValue, Matches, PlacedRule, Rule, escaped}
 use Rattle.texting_robots.specs.Callers.{placed_rules, unplaced, HoldsRule, IsDecidingLine}
@@ -17,7 +16,6 @@ use Rattle.robots_warnings.specs.Conflicts.{IsConflict, allow_beside, at_line, c
 use Rattle.robots_warnings.specs.Conflicts.{first_line, first_of, is_like, line_if}
 use Rattle.robots_warnings.specs.Contents.{is_cut_to_root}
 use Rattle.texting_robots.proofs.{HeldLemmas.computed_are, BestLemmas.placed_of}
-use Rattle.std.proofs.lemmas.Bool.Decides.{nat_tests}
 use Rattle.std.proofs.lemmas.Slice.Eq.{bytes_eq-Decides}
 use Rattle.robots_needless.proofs.TogetherLemmas.{unplaced_of}
 

@@ -1,16 +1,14 @@
 -- A line without a warning about its syntax has the form of its kind.
 use Rattle.std.proofs.lemmas.Grind.{common_steps}
-use Rattle.std.proofs.Common.{rules}
 use Rattle.std.proofs.Common.{◌≡◌, ◌≢◌, ◌⊎◌, inl, inr, ℕ, false, List, [], ◌∷◌, ◌++◌, ap, append-nil, codes}
-use Rattle.std.proofs.Common.{refl, subst, sym, ◌∙◌, ◌==◌, ◌||◌, true, Option, append_assoc, arith, length}
-use Rattle.std.proofs.Common.{not}
+use Rattle.std.proofs.Common.{refl, subst, sym, ◌∙◌, ◌==◌, ◌||◌, true, Option, append_assoc, arith, not}
 use Rattle.std.proofs.lemmas.Bool.{not-true, and_parts, cases_Bool, eqb-true, eqb-false, false≢true}
 use Rattle.std.proofs.lemmas.Bool.{not-false, or_cases}
 use Rattle.texting_robots.specs.Callers.{Allow, Disallow, IsLineOf, UserAgent, CrawlDelay, LineValue, Raw}
 use Rattle.texting_robots.specs.Callers.{Sitemap}
 use Rattle.texting_robots.specs.Internal.Statement.{trimmed, IsOptionalComment}
 use Rattle.texting_robots.specs.Statement.{IsBlank, IsStatement}
-use Rattle.texting_robots.proofs.TrimLemmas.{blanks_skipped, each_append, is_trimmed, trimmed_is_trim}
+use Rattle.texting_robots.proofs.TrimLemmas.{blanks_skipped, each_append, is_trimmed}
 use Rattle.robots_warnings.specs.Contents.{comment_of, has_odd_comment, has_odd_space, raw_value, tail_of}
 use Rattle.robots_warnings.specs.Contents.{are_digits, is_plain_number}
 use Rattle.robots_warnings.specs.FieldNames.{is_misspelled, is_without_colon}
@@ -29,7 +27,6 @@ use Rattle.rfc9309_laws.proofs.{HasFormLemmas.blank, SyntaxLemmas.passing}
 use Rattle.rfc9309_laws.specs.{LineForms.HasForm}
 use Rattle.robots_warnings.specs.{Checks.rule_checks, Table.topic_of, File.is_blank}
 use Rattle.warnings_laws.proofs.{WarningLemmas.is_stated}
-use Rattle.std.proofs.{lemmas.Bool.Decides.nat_tests}
 use Rattle.texting_robots.specs.declared.parser.statement.Kind.TheVariants as kind
 use Rattle.rfc9309_laws.specs.LineForms as form
 use Rattle.rfc9309_laws.specs.Rfc9309 as rfc

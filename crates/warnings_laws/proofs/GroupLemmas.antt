@@ -1,10 +1,9 @@
 -- Warnings about groups. Lines with `two-delays` can be deleted: the delay of every crawler stays the same. A
 -- line with `replaces-star` is in the group of a crawler that has no Disallow of `*`.
 use Rattle.std.proofs.lemmas.Grind.{common_steps}
-use Rattle.std.proofs.Common.{rules}
+use Rattle.std.proofs.Common.{rules, codes, if◌then◌else◌, inl, inr, refl, subst, sym, ◌≤◌, ◌-◌}
 use Rattle.std.proofs.Common.{◌≡◌, ◌+◌, ◌∙◌, ◌||◌, ℕ, suc, zero, Bool, true, false, not, List, [], ◌∷◌, All}
 use Rattle.std.proofs.Common.{Contains, Option, None, Some, filter, map, slice_get, take, ap, ap₂, arith}
-use Rattle.std.proofs.Common.{codes, if◌then◌else◌, inl, inr, refl, subst, sym, ◌≤◌, ◌-◌}
 use Rattle.std.specs.List.{enumerate_from, fold, list_any, count_by}
 use Rattle.std.proofs.lemmas.Bool.{and_parts, cases_Bool, false≢true, cases_lt, not-true, or_cases, or_right}
 use Rattle.std.proofs.lemmas.List.{get_or-map, length-map}
@@ -158,7 +157,8 @@ module _ (gone : ℕ → Bool) where
     differs_here : gone (position + 1) ≡ true → are_different first (delay_in label.line) ≡ true
     differs_here goes =
         let is = others.each 0 (subst (λ n. gone n ≡ true) (omega arith) goes) in
-        (and_parts _ _ (subst (λ here. is_other_delay first here ≡ true) (sym (same_Some _ _ is.at)) is.other)).1
+        (and_parts _ _
+        (subst (λ here. is_other_delay first here ≡ true) (sym (same_Some _ _ is.at)) is.other)).1
 
   -- user-agent lines stay
   any_left : (test : LineValue → Bool) → ((line : LineValue) → is_agent line ≡ false → test line ≡ false)
@@ -257,7 +257,8 @@ module _ {name : List ℕ} {labels : List Label} (labeled : AreLabelsOf name (li
       let here : slice_get all_lines place ≡ Some is.label.line =
       rw (slice_get-map (λ (label : Label). label.line) labels place, is.at) refl in
       (taken_decides is_agent all_lines place).1 (below_agent name all_lines place is.label.membership
-      (labeled.each place is.label is.at).1 (not-true _ inside) (rw here (no_agent _ is.label.line differs)) some)
+      (labeled.each place is.label is.at).1 (not-true _ inside) (rw here (no_agent _ is.label.line differs))
+      some)
 
   any_stays : (test : LineValue → Bool) → ((line : LineValue) → is_agent line ≡ false → test line ≡ false)
       → list_any test (lines_without numbers all_lines) ≡ list_any test all_lines
@@ -307,8 +308,9 @@ has_none agent lines lacks star other pattern starred holds =
     let (k, below, at) = computed agent lines other _ holds in
     let same = (bytes_eq-Decides pattern pattern).1 refl in
     let denied = list_any-from_Any (denies pattern) (star_rules lines) (i, _, within, there, same) in
-    false≢true (sym (not-true _ lacks) ∙ list_any-from_Any (is_kept (star_rules lines)) (placed_rules agent lines)
-    (k, _, below, at, or_right (is_whole_site pattern) _ denied))
+    let kept = or_right (is_whole_site pattern) _ denied in
+    false≢true (sym (not-true _ lacks)
+    ∙ list_any-from_Any (is_kept (star_rules lines)) (placed_rules agent lines) (k, _, below, at, kept))
 
 -- ---- the names of the group
 

@@ -1,10 +1,9 @@
 -- Every file has an audit, and without `--needless` only one. Needless rules can be deleted together. What a
 -- report tells about the syntax of a file and its verdicts is so.
 use Rattle.std.proofs.lemmas.Grind.{common_steps}
-use Rattle.std.proofs.Common.{rules}
+use Rattle.std.proofs.Common.{rules, false, true, ◌++◌, ap, None, Option, Some, if◌then◌else◌, is_none}
 use Rattle.std.proofs.Common.{◌≡◌, ◌≢◌, ◌≤◌, ◌↔◌, ℕ, Bool, inl, inr, List, [], ◌∷◌, Contains, IsUtf8, arith}
 use Rattle.std.proofs.Common.{codes, length, ltb-false, refl, subst, subst₂, sym, take, take_all, ◌⊎◌, suc}
-use Rattle.std.proofs.Common.{false, true, ◌++◌, ap, ap₂, None, Option, Some, ◌∙◌, if◌then◌else◌, is_none}
 use Rattle.std.proofs.Common.{map, not, ◌==◌}
 use Rattle.std.proofs.lemmas.Bool.{cases_Bool, false≢true, ne_eqb, not-false, or_parts}
 use Rattle.texting_robots.specs.Callers.{IsVerdict, LineValue, PlacedRule, agents_in, placed_rules}

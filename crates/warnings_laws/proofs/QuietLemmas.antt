@@ -1,13 +1,12 @@
 -- What the silence about a line says of its parts. An ignored line that isn't blank has a warning about its
 -- syntax.
 use Rattle.std.proofs.lemmas.Grind.{common_steps}
-use Rattle.std.proofs.Common.{rules}
+use Rattle.std.proofs.Common.{rules, append_assoc, arith, bytes_eq, length, not, refl, sym, ◌∙◌, nat_lt}
 use Rattle.std.proofs.Common.{◌≡◌, ◌⊎◌, inl, inr, ℕ, ◌==◌, ◌&&◌, Bool, true, false, List, [], ◌∷◌, ◌++◌, ap}
-use Rattle.std.proofs.Common.{append_assoc, arith, bytes_eq, codes, length, not, refl, sym, ◌∙◌, nat_lt}
-use Rattle.std.proofs.Common.{◌≢◌, ◌||◌, if◌then◌else◌, subst, nat_le, None, Option, Some, unwrap_or}
+use Rattle.std.proofs.Common.{◌≢◌, if◌then◌else◌, subst, nat_le, None, Option, Some, unwrap_or}
 use Rattle.std.specs.List.{list_all, list_any, AllByRecursion as Each}
 use Rattle.std.proofs.lemmas.Bool.{and_from, and_parts, false≢true, not-false, or_cases, or_parts}
-use Rattle.std.proofs.lemmas.Bool.{cases_Bool, eqb-true, ne_eqb, not-true}
+use Rattle.std.proofs.lemmas.Bool.{cases_Bool, not-true}
 use Rattle.std.proofs.lemmas.Str.{IsCharBoundary-after_ascii, IsUtf8-drop, IsUtf8-from_is_utf8}
 use Rattle.std.proofs.lemmas.Str.{is_utf8-from_IsUtf8}
 use Rattle.rfc9309_laws.proofs.SyntaxLemmas.{passing, each_front}
@@ -15,10 +14,8 @@ use Rattle.rfc9309_laws.proofs.CharLemmas.{comment_text, value_text}
 use Rattle.rfc9309_laws.specs.HasForm.{is_comment_byte, is_value_byte}
 use Rattle.robots_warnings.specs.Contents.{comment_of, has_odd_comment, is_control, raw_value, tail_of}
 use Rattle.robots_warnings.specs.Contents.{has_odd_space}
-use Rattle.robots_warnings.specs.FieldNames.{is_misspelled, without_front, is_without_colon, Row}
-use Rattle.robots_warnings.specs.FieldNames.{directive_in, directives, first_that, first_word, is_accepted}
-use Rattle.robots_warnings.specs.FieldNames.{is_either, may_either_mean, meant_by, name_in, unsupported}
-use Rattle.robots_warnings.specs.FieldNames.{unsupported_in}
+use Rattle.robots_warnings.specs.FieldNames.{is_misspelled, without_front, is_without_colon, Row, first_that}
+use Rattle.robots_warnings.specs.FieldNames.{meant_by}
 use Rattle.robots_warnings.specs.Tokens.{is_product_token, is_token_byte}
 use Rattle.warnings_laws.proofs.ColonLemmas.{HasColon, comment_is, front_kept, tail_is}
 use Rattle.warnings_laws.proofs.ColonLemmas.{solid_key, usual_key, around}
@@ -35,7 +32,6 @@ use Rattle.texting_robots.specs.{declared.parser.statement.Kind.Kind, Callers.Li
 use Rattle.rfc9309_laws.proofs.KeyedLemmas.{leading_gone, word_of}
 use Rattle.robots_warnings.specs.{Urls.begins_as_url, declared.table.Cause.Cause}
 use Rattle.rfc9309_laws.specs.Rfc9309 as rfc
-use Rattle.texting_robots.specs.declared.parser.statement.Kind.TheVariants as kind
 use Rattle.robots_warnings.specs.declared.table.Cause.TheVariants as cause
 
 -- ---- UTF-8

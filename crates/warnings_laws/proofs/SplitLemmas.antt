@@ -2,14 +2,12 @@
 -- (`is_unsplit`), so each crawler's rules are those of the standard. The proof walks through the source lines
 -- (`Sources`), as the warnings do: they keep one name above a line, which is enough to check the next group.
 use Rattle.std.proofs.lemmas.Grind.{common_steps}
-use Rattle.std.proofs.Common.{arith}
-use Rattle.std.proofs.Common.{rules}
+use Rattle.std.proofs.Common.{arith, rules, subst, sym, take}
 use Rattle.std.proofs.Common.{◌≡◌, ◌⊎◌, inl, inr, ℕ, Bool, true, false, not, ◌||◌, ◌&&◌, List, [], ◌∷◌}
 use Rattle.std.proofs.Common.{◌++◌, ◌∙◌, Option, Some, None, ap, codes, filter, if◌then◌else◌, map, refl}
-use Rattle.std.proofs.Common.{subst, sym, take}
 use Rattle.std.specs.List.{AllByRecursion as Each, list_all, list_any}
 use Rattle.std.proofs.Math.Bool.{or-false, or-true, or_assoc}
-use Rattle.std.proofs.lemmas.Bool.{and_from, and_parts, cases_Bool, not-false, not-true}
+use Rattle.std.proofs.lemmas.Bool.{and_from, and_parts, not-false, not-true}
 use Rattle.std.proofs.lemmas.{List.Folds.list_any-append, Simd.map-map}
 use Rattle.texting_robots.specs.Callers.{Allow, CrawlDelay, Disallow, Label, LineValue, Raw, Sitemap}
 use Rattle.texting_robots.specs.Callers.{UserAgent, file_bodies, file_limit, group_name, lines_read}
@@ -28,7 +26,7 @@ use Rattle.robots_warnings.specs.declared.positions.Preceding.TheVariants.{Agent
 use Rattle.robots_warnings.specs.Positions.{begin_with_name, begin_with_rules, first_delay, is_delay}
 use Rattle.robots_warnings.specs.Positions.{is_split, last_group, name_again, name_star, preceding_with}
 use Rattle.robots_warnings.specs.Positions.{sole_name}
-use Rattle.robots_warnings.specs.Warnings.{positions_from, warned, warning_of}
+use Rattle.robots_warnings.specs.Warnings.{positions_from, warned}
 use Rattle.robots_warnings.specs.{Checks.Check, Checks.position_checks, File.labels_for, File.lines_of}
 use Rattle.robots_warnings.specs.{WarningValue.WarningValue}
 use Rattle.warnings_laws.specs.Syntax.{AreGroupsWhole, IsNoSplit}

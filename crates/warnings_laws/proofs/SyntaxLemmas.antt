@@ -6,13 +6,12 @@ use Rattle.std.proofs.Common.{◌≡◌, ◌≢◌, inl, inr, ℕ, suc, ◌==◌
 use Rattle.std.proofs.Common.{All, nat_eq, not, refl, sym, take, zero, ◌<◌, Some, ap, arith, length, map}
 use Rattle.std.proofs.Common.{slice_get, subst, ◌∙◌, ◌||◌, None, Option, codes, flat_map, if◌then◌else◌}
 use Rattle.std.specs.List.{AllByRecursion as Each, list_any, starts_with, Contains, AllZip}
-use Rattle.std.proofs.lemmas.Bool.{and_parts, cases_Bool, eqb-false, eqb-true, false≢true, ne_eqb, or_parts}
-use Rattle.std.proofs.lemmas.Bool.{not-true, not-false, or_from}
+use Rattle.std.proofs.lemmas.Bool.{and_parts, cases_Bool, eqb-true, false≢true, not-true, not-false}
 use Rattle.std.proofs.lemmas.{Option.slice_get-map, Option.slice_get_within, Option.same_Some}
 use Rattle.std.proofs.lemmas.Option.{get_or_from_slice_get}
 use Rattle.std.specs.Option.{option_map, option_map_or}
 use Rattle.robots_warnings.specs.Facts.{has_damaged_mark, mark, is_rule, suppresses_line_warnings, facts_of}
-use Rattle.robots_warnings.specs.Positions.{is_above_agents, is_outside, first_delay, preceding_with}
+use Rattle.robots_warnings.specs.Positions.{is_above_agents, first_delay, preceding_with}
 use Rattle.robots_warnings.specs.Positions.{sole_name, last_group}
 use Rattle.robots_warnings.specs.Checks.{Check, file_checks, line_checks, position_checks}
 use Rattle.robots_warnings.specs.Table.{is_not_about_syntax, topic_of}
@@ -21,10 +20,9 @@ use Rattle.robots_warnings.specs.Warnings.{agent_warnings, file_lines_warnings, 
 use Rattle.robots_warnings.specs.Warnings.{group_warnings, past_limit_warnings, position_warnings}
 use Rattle.robots_warnings.specs.Warnings.{url_warnings, warnings}
 use Rattle.robots_warnings.specs.{File.lines_of, File.labels_for, WarningValue.WarningValue}
-use Rattle.texting_robots.specs.Callers.{Allow, Disallow, Label, LineValue, UserAgent, IsLineOf}
+use Rattle.texting_robots.specs.Callers.{Allow, Disallow, Label, LineValue, UserAgent, IsLineOf, lines_read}
 use Rattle.texting_robots.specs.Callers.{IsRobotOfFile, RobotValue, file_bodies, file_limit, group_name}
-use Rattle.texting_robots.specs.Callers.{lines_read}
-use Rattle.texting_robots.specs.{Group.is_agent, Group.passes_at, Line.without_front, Labels.AreLabelsOf}
+use Rattle.texting_robots.specs.{Group.is_agent, Line.without_front, Labels.AreLabelsOf}
 use Rattle.rfc9309_laws.specs.LineForms.{AreRulesBelowAgents, Form, HasForm, AreForms}
 use Rattle.rfc9309_laws.specs.Rfc9309.{Group, IsFile}
 use Rattle.warnings_laws.specs.Syntax.{form_of, AreQuiet, IsNotAboutSyntax, IsQuietLine, HasSyntax}

@@ -1,32 +1,29 @@
 -- Theorems about warnings: what the conditions of some warnings imply for rules, names and URLs.
 use Rattle.std.proofs.lemmas.Grind.{common_steps}
-use Rattle.std.proofs.Common.{rules}
+use Rattle.std.proofs.Common.{rules, ◌&&◌, ◌||◌, ◌==◌, ap, arith, get_or, if◌then◌else◌, inl, inr, drop, suc}
 use Rattle.std.proofs.lemmas.Bool.{not-true}
 use Rattle.std.proofs.Common.{◌≡◌, ◌≢◌, ◌⊎◌, ◌<◌, ℕ, Bool, true, false, List, [], ◌∷◌, ◌++◌, Contains, codes}
-use Rattle.std.proofs.Common.{◌&&◌, ◌||◌, ◌==◌, ap, arith, cond, get_or, if◌then◌else◌, inl, inr, drop, suc}
-use Rattle.std.proofs.Common.{filter, map, None, not, Option, refl, slice_get, Some, subst, sym, take, ◌+◌}
-use Rattle.std.proofs.Common.{◌∙◌, ◌/◌, ap₂, append_assoc, append-nil, IsTrue, length, length-append, nat_lt}
+use Rattle.std.proofs.Common.{filter, map, not, Option, refl, slice_get, Some, subst, sym, take, ◌+◌}
+use Rattle.std.proofs.Common.{◌∙◌, ap₂, append_assoc, append-nil, IsTrue, length, length-append}
 use Rattle.std.specs.List.{enumerate_from, list_all, list_any, prefix_len, AllByRecursion as Each, AllZip}
-use Rattle.std.specs.Str.{byte, is_utf8, str_to_ascii_lowercase, IsUtf8, all_scalars}
+use Rattle.std.specs.Str.{byte, is_utf8, str_to_ascii_lowercase, IsUtf8, all_scalars, trim_start}
 use Rattle.std.specs.Str.{drop_trailing_whitespace, encode_utf8_all, skip_leading_whitespace, trim, trim_end}
-use Rattle.std.specs.Str.{trim_start}
 use Rattle.std.specs.Char.{encode_utf8, is_whitespace, to_ascii_lowercase}
-use Rattle.std.proofs.lemmas.Bool.{or_parts, cases_Bool, eq-eqb, eqb-true, false≢true, and_parts, cond-false}
+use Rattle.std.proofs.lemmas.Bool.{or_parts, cases_Bool, eqb-true, false≢true, and_parts, cond-false}
 use Rattle.std.proofs.lemmas.List.{drop_all, drop_at, drop-map, length-map, map-append, take-append-drop}
 use Rattle.std.proofs.lemmas.List.{take_at, take-map}
 use Rattle.std.proofs.lemmas.Str.{chars-encodes, chars-nil, encodes-append, len_utf8_bounds, length-encode}
 use Rattle.texting_robots.specs.Callers.{Allow, AreLabelsOf, CrawlDelay, Disallow, HoldsRule, IsLineOf}
 use Rattle.texting_robots.specs.Callers.{LineValue, Label, Matches, Raw, Rule, Sitemap, HasMembership}
-use Rattle.texting_robots.specs.Callers.{UserAgent, escaped, group_name, file_lines, is_agent_named, is_named}
+use Rattle.texting_robots.specs.Callers.{UserAgent, escaped, file_lines, is_agent_named, is_named}
 use Rattle.texting_robots.specs.Callers.{file_bodies}
 use Rattle.texting_robots.specs.Escape.{escape_byte, is_escaped}
-use Rattle.texting_robots.specs.Group.{is_agent, is_group, passes_at}
+use Rattle.texting_robots.specs.Group.{is_agent, passes_at}
 use Rattle.texting_robots.specs.Pattern.{MatchesWith, dollar, star}
 use Rattle.texting_robots.specs.declared.labels.Membership.TheVariants.{Other, Ungrouped, Own}
 use Rattle.robots_warnings.specs.NamesPastLimit.{has_new_name, is_past_limit, names_past_limit}
 use Rattle.robots_warnings.specs.Positions.{is_above_agents, is_outside}
 use Rattle.robots_warnings.specs.Rules.{begins_oddly, has_dollar_inside}
-use lib.Utf8.{next}
 use Rattle.std.specs.{Option.option_map_or}
 use Rattle.std.proofs.{lemmas.List.Folds.list_any-append, lemmas.List.Elements.Contains-append_cases}
 use Rattle.std.proofs.{lemmas.Bool.Decides.nat_tests, lemmas.Slice.Eq.bytes_eq-Decides}
