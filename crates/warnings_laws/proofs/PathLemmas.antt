@@ -1,26 +1,27 @@
 -- The value of a rule without certain warnings is compared here as RFC 9309 compares its standard spelling,
 -- which is the value itself unless it has a nonstandard escape.
-use Rattle.std.proofs.Common.{◌≡◌, ◌≢◌, ℕ, ◌+◌, ◌*◌, ◌<◌, ◌≤◌, ◌==◌, ◌&&◌, ◌||◌, Bool, true, false, inl, inr}
-use Rattle.std.proofs.Common.{List, [], ◌∷◌, ◌++◌, ap, ap₂, not, append-nil, append_assoc, arith, codes, refl}
+use Rattle.std.proofs.Common.{◌≡◌, ℕ, ◌+◌, ◌*◌, ◌<◌, ◌≤◌, ◌==◌, ◌&&◌, ◌||◌, Bool, true, false, inl, inr}
+use Rattle.std.proofs.Common.{List, [], ◌∷◌, ◌++◌, ap, ap₂, not, arith, codes, drop, length, refl, subst, suc}
 use Rattle.std.proofs.Common.{sym, ◌∙◌, nat_eq}
-use Rattle.std.specs.Char.{digit_value, is_ascii_hexdigit, is_ascii_lowercase, to_ascii_uppercase}
-use Rattle.std.specs.List.{AllByRecursion as Each, list_any, list_all, starts_with}
+use Rattle.std.specs.Char.{digit_value, is_ascii_hexdigit, to_ascii_uppercase}
+use Rattle.std.specs.List.{list_any, list_all, position_or_len, starts_with}
 use Rattle.std.proofs.lemmas.Bool.{Decides.nat_tests, agree_below_at, and_parts, and_right, cases_Bool}
-use Rattle.std.proofs.lemmas.Bool.{agree_below, cases_lt, eqb-true, le-ltb, ne_eqb, or_from, or_parts}
+use Rattle.std.proofs.lemmas.Bool.{cases_lt, eqb-true, le-ltb, or_from, or_parts}
 use Rattle.std.proofs.lemmas.Bool.{and_from, not-false}
 use Rattle.std.proofs.lemmas.List.{Concat.flat_map-append, Folds.list_any-append}
 use Rattle.texting_robots.specs.Escape.{escape_byte, escaped, is_escaped}
 use Rattle.texting_robots.proofs.EscapeLemmas.{plain_stays}
-use Rattle.rfc9309_laws.specs.Matching.{is_kept, all_stay, has_dollar, in_rule, is_ended, is_escape}
+use Rattle.rfc9309_laws.specs.Matching.{is_kept, all_stay, has_dollar, in_rule, is_ended}
 use Rattle.rfc9309_laws.specs.Matching.{is_unreserved, normal_escape, normal_from, normal_octet, without_end}
 use Rattle.rfc9309_laws.specs.Matching.{normal_uri}
 use Rattle.rfc9309_laws.specs.Comparable.{IsComparedAs, has_odd_escape}
-use Rattle.rfc9309_laws.proofs.NormalLemmas.{normal_uris}
+use Rattle.rfc9309_laws.proofs.NormalLemmas.{begins_escape, by_escapes, escape_first, escape_odd, escape_same}
+use Rattle.rfc9309_laws.proofs.NormalLemmas.{hex_not, normal_uris, octet_first}
 use Rattle.robots_warnings.specs.Targets.{asked_target, has_odd_target, is_normal, is_normal_byte}
 use Rattle.robots_warnings.specs.Urls.{begins_as_url, is_unparsable}
 use Rattle.robots_warnings.specs.declared.spellings.Spelling.TheVariants.{Standard}
 use Rattle.robots_warnings.specs.Rules.{after_byte, before_byte, begins_odd_escape, has, somewhere}
-use Rattle.robots_warnings.specs.Spellings.{spelled_escape, spelled}
+use Rattle.robots_warnings.specs.Spellings.{spelled}
 use Rattle.warnings_laws.proofs.{ColonLemmas.after_is, ColonLemmas.before_all, ColonLemmas.before_is}
 use Rattle.warnings_laws.proofs.FormLemmas.{split}
 
@@ -51,10 +52,6 @@ any_around test stop text here before after = elim (split stop text) [
       ap (list_any test) some.whole ∙ parts
       ∙ or_from (list_any test some.front) _ front (or_from (test stop) _ here rest)
 ]
-
-no_dollars : (text : List ℕ) → Each (λ b. b ≢ 36) text → has_dollar text ≡ false
-no_dollars [] all = refl
-no_dollars (b ∷ text) all = or_from (b == 36) (has_dollar text) (ne_eqb b 36 all.0) (no_dollars text all.1)
 
 -- ---- octets
 
@@ -88,146 +85,78 @@ same_octet in_query b odd dollar = elim (cases_lt b 128) [
 abbrev is_special : ℕ → Bool
 is_special b = is_escaped b || b == 36
 
-hex_low : (b : ℕ) → is_ascii_hexdigit b ≡ true → b < 128
-hex_low b is = grind (arith, nat_tests)
-
-unreserved_low : (b : ℕ) → is_unreserved b ≡ true → b < 128
-unreserved_low b is = grind (arith, nat_tests)
-
-at_once : (test other : ℕ → Bool) (b : ℕ) → agree_below (λ b. test b && other b) (λ b. false) 128 ≡ true
-    → b < 128 → test b ≡ true → other b ≡ false
-at_once test other b all low is =
-    let e = agree_below_at (λ b. test b && other b) (λ b. false) 128 b all low in
+unreserved_clean : (b : ℕ) → is_unreserved b ≡ true → is_special b ≡ false
+unreserved_clean b is =
+    let low : b < 128 = grind (arith, nat_tests) in
+    let e : (is_unreserved b && is_special b) ≡ false =
+    agree_below_at (λ b. is_unreserved b && is_special b) (λ b. false) 128 b refl low in
     rw is at e
 
-module _ (high low : ℕ) (first : is_ascii_hexdigit high ≡ true) (second : is_ascii_hexdigit low ≡ true) where
-  upper_clean : (b : ℕ) → is_ascii_hexdigit b ≡ true → is_special (to_ascii_uppercase b) ≡ false
-  upper_clean b is =
-      at_once is_ascii_hexdigit (λ b. is_special (to_ascii_uppercase b)) b refl (hex_low b is) is
+-- the standard spelling of an escape isn't escaped, and has no dollar
+escape_clean : (high low : ℕ) → is_ascii_hexdigit high ≡ true → is_ascii_hexdigit low ≡ true
+    → (normal_escape high low ≡ escaped (normal_escape high low)) × (has_dollar (normal_escape high low) ≡ false)
+escape_clean high low one two = (
+  sym (plain_stays (normal_escape high low)
+      (any_less is_special is_escaped (λ b is. (or_parts (is_escaped b) _ is).0) (normal_escape high low) clean)),
+  any_less is_special (λ b. b == 36) (λ b is. (or_parts (is_escaped b) _ is).1) (normal_escape high low) clean,
+)
+  where
+    upper : (b : ℕ) → is_ascii_hexdigit b ≡ true → is_special (to_ascii_uppercase b) ≡ false
+    upper b is = hex_not (λ b. is_special (to_ascii_uppercase b)) b refl is
 
-  escape_clean : list_any is_special (spelled_escape Standard high low) ≡ false
-  escape_clean =
-      let value = digit_value high * 16 + digit_value low in
-      elim (cases_Bool (is_unreserved value)) [
-        | inl plain ↦
-            rw (plain, at_once is_unreserved is_special value refl (unreserved_low value plain) plain) refl
-        | inr kept ↦ rw (kept, upper_clean high first, upper_clean low second) refl
-      ]
-
-  escape_same : normal_escape high low ≡ escaped (spelled_escape Standard high low)
-  escape_same = sym (plain_stays (spelled_escape Standard high low)
-      (any_less is_special is_escaped (λ b is. (or_parts (is_escaped b) (b == 36) is).0)
-      (spelled_escape Standard high low) escape_clean))
-
-  escape_no_dollar : has_dollar (spelled_escape Standard high low) ≡ false
-  escape_no_dollar =
-      any_less is_special (λ b. b == 36) (λ b is. (or_parts (is_escaped b) (b == 36) is).1)
-      (spelled_escape Standard high low) escape_clean
-
-digits : (b high low : ℕ) → is_escape b high low ≡ true
-    → (b ≡ 37) × (is_ascii_hexdigit high ≡ true) × (is_ascii_hexdigit low ≡ true)
-digits b high low is =
-    let (sign, both) = and_parts (b == 37) (is_ascii_hexdigit high && is_ascii_hexdigit low) is in
-    let (first, second) = and_parts (is_ascii_hexdigit high) (is_ascii_hexdigit low) both in
-    (eqb-true b 37 sign, first, second)
+    clean : list_any is_special (normal_escape high low) ≡ false
+    clean = elim (cases_Bool (is_unreserved (digit_value high * 16 + digit_value low))) [
+      | inl is ↦ rw (is, unreserved_clean _ is) refl
+      | inr isnt ↦ rw (isnt, upper high one, upper low two) refl
+    ]
 
 -- ---- the standard spelling
 
--- its normal form is that of the text
-normal_same : (in_query : Bool) (text : List ℕ) → list_any stays_odd text ≡ false → has_dollar text ≡ false
-    → normal_from (in_rule all_stay) in_query text ≡ escaped (spelled Standard text)
-unfolding normal_from spelled
-normal_same in_query [] odds dollars = refl
-normal_same in_query (b ∷ []) odds dollars =
-    same_octet in_query b (or_parts (stays_odd b) false odds).0 (or_parts (b == 36) false dollars).0
-    ∙ sym (append-nil (escape_byte b))
-normal_same in_query (b ∷ c ∷ []) odds dollars =
-    let (odd, more) = or_parts (stays_odd b) (stays_odd c || false) odds in
-    let (dollar, others) = or_parts (b == 36) ((c == 36) || false) dollars in
-    ap₂ (λ x y. x ++ y) (same_octet in_query b odd dollar)
-    (same_octet (in_query || b == 63) c (or_parts (stays_odd c) false more).0
-    (or_parts (c == 36) false others).0
-    ∙ sym (append-nil (escape_byte c)))
-normal_same in_query (b ∷ high ∷ low ∷ text) odds dollars =
-    let (odd, more) = or_parts (stays_odd b) (list_any stays_odd (high ∷ low ∷ text)) odds in
-    let (dollar, others) = or_parts (b == 36) (has_dollar (high ∷ low ∷ text)) dollars in
-    elim (cases_Bool (is_escape b high low)) [
-      | inl is ↦
-          let (_, first, second) = digits b high low is in
-          let (_, odds_after) = or_parts (stays_odd high) (list_any stays_odd (low ∷ text)) more in
-          let (_, dollars_after) = or_parts (high == 36) (has_dollar (low ∷ text)) others in
-          let rest =
-          normal_same in_query text (or_parts (stays_odd low) (list_any stays_odd text) odds_after).1
-          (or_parts (low == 36) (has_dollar text) dollars_after).1 in
-          rw is (ap₂ (λ x y. x ++ y) (escape_same high low first second) rest
-          ∙ sym (flat_map-append escape_byte (spelled_escape Standard high low) (spelled Standard text)))
-      | inr isnt ↦ rw isnt (ap₂ (λ x y. x ++ y) (same_octet in_query b odd dollar)
-          (normal_same (in_query || b == 63) (high ∷ low ∷ text) more others))
-    ]
-
--- it has a dollar only if the text has one
-spelled_no_dollar : (text : List ℕ) → has_dollar text ≡ false → has_dollar (spelled Standard text) ≡ false
+octet_spelled : (b : ℕ) (text : List ℕ) → begins_escape (b ∷ text) ≡ false
+    → spelled Standard (b ∷ text) ≡ b ∷ spelled Standard text
 unfolding spelled
-spelled_no_dollar [] none = refl
-spelled_no_dollar (b ∷ []) none = none
-spelled_no_dollar (b ∷ c ∷ []) none = none
-spelled_no_dollar (b ∷ high ∷ low ∷ text) none =
-    let (here, later) = or_parts (b == 36) (has_dollar (high ∷ low ∷ text)) none in
-    elim (cases_Bool (is_escape b high low)) [
-      | inl is ↦
-          let (_, first, second) = digits b high low is in
-          let (_, after) = or_parts (high == 36) (has_dollar (low ∷ text)) later in
-          let rest = spelled_no_dollar text (or_parts (low == 36) (has_dollar text) after).1 in
-          rw is (list_any-append (λ b. b == 36) (spelled_escape Standard high low) (spelled Standard text)
-          ∙ or_from _ _ (escape_no_dollar high low first second) rest)
-      | inr isnt ↦
-          rw isnt (or_from (b == 36) _ here (spelled_no_dollar (high ∷ low ∷ text) later))
-    ]
+octet_spelled b [] isnt = refl
+octet_spelled b (c ∷ []) isnt = refl
+octet_spelled b (high ∷ low ∷ text) isnt = rw isnt refl
 
--- a dollar at the end stays there
-spelled_end : (text : List ℕ) → spelled Standard (text ++ 36 ∷ []) ≡ spelled Standard text ++ 36 ∷ []
+escape_spelled : (high low : ℕ) (text : List ℕ) → is_ascii_hexdigit high ≡ true → is_ascii_hexdigit low ≡ true
+    → spelled Standard (37 ∷ high ∷ low ∷ text) ≡ normal_escape high low ++ spelled Standard text
 unfolding spelled
-spelled_end [] = refl
-spelled_end (b ∷ []) = refl
-spelled_end (b ∷ c ∷ []) = rw (and_right (b == 37) _ (and_right (is_ascii_hexdigit c) false refl)) refl
-spelled_end (b ∷ high ∷ low ∷ text) = elim (cases_Bool (is_escape b high low)) [
-  | inl is ↦
-      rw is (ap (λ t. spelled_escape Standard high low ++ t) (spelled_end text)
-      ∙ sym (append_assoc (spelled_escape Standard high low) (spelled Standard text) (36 ∷ [])))
-  | inr isnt ↦ rw isnt (ap (λ t. b ∷ t) (spelled_end (high ∷ low ∷ text)))
-]
+escape_spelled high low text one two = rw (one, two) refl
 
 -- without a nonstandard escape it is the text
-pub spelled_same : (text : List ℕ) → somewhere begins_odd_escape text ≡ false → spelled Standard text ≡ text
+pub spelled_same : (text : List ℕ) → has_odd_escape text ≡ false → spelled Standard text ≡ text
 unfolding spelled
-spelled_same [] none = refl
-spelled_same (b ∷ []) none = refl
-spelled_same (b ∷ c ∷ []) none = refl
-spelled_same (b ∷ high ∷ low ∷ text) none =
-    let (here, later) = or_parts (begins_odd_escape (b ∷ high ∷ low ∷ text))
-    (somewhere begins_odd_escape (high ∷ low ∷ text)) none in
-    elim (cases_Bool (is_escape b high low)) [
-      | inl is ↦
-          let (_, after) = or_parts (begins_odd_escape (high ∷ low ∷ text))
-          (somewhere begins_odd_escape (low ∷ text)) later in
-          let last = (or_parts (begins_odd_escape (low ∷ text)) _ after).1 in
-          rw is (ap₂ (λ x y. x ++ y) (stays b high low is (rw is at here)) (spelled_same text last))
-      | inr isnt ↦ rw isnt (ap (λ t. b ∷ t) (spelled_same (high ∷ low ∷ text) later))
-    ]
-  where
-    upper_same : (b : ℕ) → is_ascii_hexdigit b ≡ true → is_ascii_lowercase b ≡ false
-        → to_ascii_uppercase b ≡ b
-    upper_same b is upper = grind (arith, nat_tests)
+spelled_same =
+    by_escapes (λ _ text. has_odd_escape text ≡ false → spelled Standard text ≡ text) (λ _ even. refl)
+    (λ _ b text isnt later even.
+    octet_spelled b text isnt ∙ ap (λ t. b ∷ t) (later (or_parts _ (has_odd_escape text) even).1))
+    (λ _ high low text one two later even.
+    let (digits, rest) = or_parts _ _ (sym (escape_odd high low text one two) ∙ even) in
+    escape_spelled high low text one two
+    ∙ ap₂ (λ x y. x ++ y) (escape_same high low digits) (later rest)) false
 
-    stays : (b high low : ℕ) → is_escape b high low ≡ true
-        → ((is_ascii_lowercase high || is_ascii_lowercase low)
-        || is_unreserved (digit_value high * 16 + digit_value low)) ≡ false
-        → spelled_escape Standard high low ≡ b ∷ high ∷ low ∷ []
-    stays b high low is usual =
-        let (sign, first, second) = digits b high low is in
-        let (upper, kept) = or_parts (is_ascii_lowercase high || is_ascii_lowercase low) _ usual in
-        let (one, two) = or_parts (is_ascii_lowercase high) (is_ascii_lowercase low) upper in
-        rw (kept, upper_same high first one, upper_same low second two, sign) refl
+-- it isn't empty
+pub spelled_some : (b : ℕ) (text : List ℕ) → 0 < length (spelled Standard (b ∷ text))
+spelled_some b text =
+    by_escapes (λ _ text. 0 < length text → 0 < length (spelled Standard text)) (λ _ some. absurd (omega arith))
+    (λ _ c rest isnt later some. rw (octet_spelled c rest isnt) (omega arith))
+    (λ _ high low rest one two later some. rw (escape_spelled high low rest one two)
+    (elim (cases_Bool (is_unreserved (digit_value high * 16 + digit_value low))) [
+      | inl is ↦ rw is (omega arith)
+      | inr isnt ↦ rw isnt (omega arith)
+    ]))
+    false (b ∷ text) (omega arith)
+
+-- a spelling of one byte is that of one byte
+pub spelled_short : (b : ℕ) (text : List ℕ) → (b == 37) ≡ false → length (spelled Standard (b ∷ text)) ≤ 1
+    → text ≡ []
+spelled_short b [] other short = refl
+spelled_short b (c ∷ text) other short =
+    let isnt : begins_escape (b ∷ c ∷ text) ≡ false = rw other refl in
+    let size = ap (λ (t : List ℕ). length t) (octet_spelled b (c ∷ text) isnt) in
+    let some = spelled_some c text in
+    absurd (omega arith)
 
 -- both libraries of specifications find the same escapes
 pub odd_escapes : (text : List ℕ) → has_odd_escape text ≡ somewhere begins_odd_escape text
@@ -236,57 +165,120 @@ odd_escapes (b ∷ text) = ap (λ later. begins_odd_escape (b ∷ text) || later
 
 -- ---- a dollar at the end
 
-ended : (text : List ℕ) → (is_ended (text ++ 36 ∷ []) ≡ true) × (without_end (text ++ 36 ∷ []) ≡ text)
+octet_first_of : (b : ℕ) (text : List ℕ) → (b == 36) ≡ false
+    → (without_end (b ∷ text) ≡ b ∷ without_end text) × (is_ended (b ∷ text) ≡ is_ended text)
 unfolding is_ended without_end
-ended [] = (refl, refl)
-ended (b ∷ []) = (refl, refl)
-ended (b ∷ c ∷ text) = let later = ended (c ∷ text) in (later.0, ap (λ t. b ∷ t) later.1)
+octet_first_of b [] other = (rw other refl, other)
+octet_first_of b (c ∷ text) other = (refl, refl)
 
-not_ended : (text : List ℕ) → has_dollar text ≡ false
-    → (is_ended text ≡ false) × (without_end text ≡ text)
-unfolding is_ended without_end
-not_ended [] none = (refl, refl)
-not_ended (b ∷ []) none = let here = (or_parts (b == 36) false none).0 in (here, rw here refl)
-not_ended (b ∷ c ∷ text) none =
-    let later = not_ended (c ∷ text) (or_parts (b == 36) (has_dollar (c ∷ text)) none).1 in
-    (later.0, ap (λ t. b ∷ t) later.1)
+front_of : (front text : List ℕ) → has_dollar front ≡ false
+    → (without_end (front ++ text) ≡ front ++ without_end text) × (is_ended (front ++ text) ≡ is_ended text)
+front_of [] text none = (refl, refl)
+front_of (b ∷ front) text none =
+    let (here, later) = or_parts (b == 36) (has_dollar front) none in
+    let (first, ended) = octet_first_of b (front ++ text) here in
+    let (rest, also) = front_of front text later in
+    (first ∙ ap (λ t. b ∷ t) rest, ended ∙ also)
+
+still_no_escape : (b : ℕ) (text : List ℕ) → begins_escape (b ∷ text) ≡ false
+    → begins_escape (b ∷ without_end text) ≡ false
+unfolding without_end
+still_no_escape b [] isnt = isnt
+still_no_escape b (c ∷ []) isnt = elim (cases_Bool (c == 36)) [
+  | inl is ↦ rw is (and_right (b == 37) _ refl)
+  | inr other ↦ rw other isnt
+]
+still_no_escape b (c ∷ d ∷ []) isnt = elim (cases_Bool (d == 36)) [
+  | inl is ↦ rw is (and_right (b == 37) _ (and_right (is_ascii_hexdigit c) false refl))
+  | inr other ↦ rw other isnt
+]
+still_no_escape b (c ∷ d ∷ e ∷ text) isnt = isnt
+
+-- nothing is after the first dollar
+ends_there : (path : List ℕ) → after_byte 36 path ≡ [] → has_dollar (without_end path) ≡ false
+unfolding without_end
+ends_there [] end = refl
+ends_there (b ∷ text) end = elim (cases_Bool (b == 36)) [
+  | inl is ↦ let none : text ≡ [] = rw is at end in rw (none, is) refl
+  | inr other ↦
+      let place = position_or_len (λ c. c == 36) text in
+      let next : 1 + place + 1 ≡ suc (place + 1) = omega arith in
+      let later = subst (λ (k : ℕ). drop k (b ∷ text) ≡ []) next (rw other at end) in
+      rw (octet_first_of b text other).0 (or_from (b == 36) _ other (ends_there text later))
+]
+
+-- ---- how a path is compared
+
+-- the rest of a path is compared as its standard spelling is
+abbrev IsSameFrom : Bool → List ℕ → Type 0
+IsSameFrom in_query path =
+    (normal_from (in_rule all_stay) in_query (without_end path) ≡ escaped (without_end (spelled Standard path)))
+    × (is_ended path ≡ is_ended (spelled Standard path))
+    × (has_dollar (without_end (spelled Standard path)) ≡ false)
+
+nothing_more : (in_query : Bool) → IsSameFrom in_query []
+unfolding normal_from is_ended without_end spelled
+nothing_more in_query = (refl, refl, refl)
+
+only_dollar : (in_query : Bool) (b : ℕ) (text : List ℕ) → (b == 36) ≡ true
+    → has_dollar (without_end (b ∷ text)) ≡ false → IsSameFrom in_query (b ∷ text)
+unfolding normal_from is_ended without_end spelled
+only_dollar in_query b [] is end = rw (eqb-true b 36 is) (refl, refl, refl)
+only_dollar in_query b (c ∷ text) is end = let wrong = rw is at end in cc
+
+same_from : (in_query : Bool) (path : List ℕ) → list_any stays_odd path ≡ false
+    → has_dollar (without_end path) ≡ false → IsSameFrom in_query path
+same_from =
+    by_escapes (λ in_query path. list_any stays_odd path ≡ false → has_dollar (without_end path) ≡ false
+    → IsSameFrom in_query path) (λ in_query odds end. nothing_more in_query)
+    (λ in_query b text isnt later odds end. elim (cases_Bool (b == 36)) [
+      | inl is ↦ only_dollar in_query b text is end
+      | inr other ↦
+          let (odd, more) = or_parts (stays_odd b) (list_any stays_odd text) odds in
+          let (first, ended) = octet_first_of b text other in
+          let (_, end_after) = or_parts (b == 36) (has_dollar (without_end text))
+          (ap has_dollar (sym first) ∙ end) in
+          let (normal, same_end, dollar) = later more end_after in
+          let spelling = octet_spelled b text isnt in
+          let (spelled_first, spelled_end) = octet_first_of b (spelled Standard text) other in (
+            ap (normal_from (in_rule all_stay) in_query) first
+                ∙ octet_first (in_rule all_stay) in_query b (without_end text) (still_no_escape b text isnt)
+                ∙ ap₂ (λ x y. x ++ y) (same_octet in_query b odd other) normal
+                ∙ ap escaped (sym (ap without_end spelling ∙ spelled_first)),
+            ended ∙ same_end ∙ sym (ap is_ended spelling ∙ spelled_end),
+            ap has_dollar (ap without_end spelling ∙ spelled_first)
+                ∙ or_from (b == 36) (has_dollar (without_end (spelled Standard text))) other dollar,
+          )
+    ])
+    (λ in_query high low text one two later odds end.
+    let (clean, no_dollar) = escape_clean high low one two in
+    let front : List ℕ = 37 ∷ high ∷ low ∷ [] in
+    let spelling : List ℕ = normal_escape high low in
+    let last = without_end (spelled Standard text) in
+    let (first, ended) = front_of front text
+    (rw (hex_not (λ c. c == 36) high refl one, hex_not (λ c. c == 36) low refl two) refl) in
+    let (_, more) = or_parts (stays_odd low) (list_any stays_odd text)
+    (or_parts (stays_odd high) (list_any stays_odd (low ∷ text)) odds).1 in
+    let (_, end_after) = or_parts (low == 36) (has_dollar (without_end text))
+    (or_parts (high == 36) (has_dollar (low ∷ without_end text)) (ap has_dollar (sym first) ∙ end)).1 in
+    let (normal, same_end, dollar) = later more end_after in
+    let whole = escape_spelled high low text one two in
+    let (spelled_first, spelled_end) = front_of spelling (spelled Standard text) no_dollar in (
+      ap (normal_from (in_rule all_stay) in_query) first
+          ∙ escape_first high low (without_end text) one two (in_rule all_stay) in_query
+          ∙ ap₂ (λ x y. x ++ y) clean normal ∙ sym (flat_map-append escape_byte spelling last)
+          ∙ ap escaped (sym (ap without_end whole ∙ spelled_first)),
+      ended ∙ same_end ∙ sym (ap is_ended whole ∙ spelled_end),
+      ap has_dollar (ap without_end whole ∙ spelled_first) ∙ list_any-append (λ b. b == 36) spelling last
+          ∙ or_from _ _ no_dollar dollar,
+    ))
 
 -- a path with nothing after its first dollar is compared as its standard spelling is
 pub compared_as : (path : List ℕ) → list_any stays_odd path ≡ false → after_byte 36 path ≡ []
     → IsComparedAs all_stay path (spelled Standard path)
-compared_as path odds end = elim (split 36 path) [
-  | inl none ↦
-      let plain = no_dollars path none in
-      let own = not_ended path plain in
-      let other = not_ended (spelled Standard path) (spelled_no_dollar path plain) in
-      record {
-        normal =
-            ap (normal_from (in_rule all_stay) false) own.1 ∙ normal_same false path odds plain
-            ∙ ap escaped (sym other.1);
-        ended = own.0 ∙ sym other.0;
-        dollar = ap has_dollar other.1 ∙ spelled_no_dollar path plain;
-      }
-  | inr some ↦
-      let front = some.front in
-      let plain = no_dollars front some.before in
-      let nothing : some.rest ≡ [] =
-      sym (after_is 36 front some.rest some.before) ∙ ap (after_byte 36) (sym some.whole) ∙ end in
-      let whole : path ≡ front ++ 36 ∷ [] = some.whole ∙ ap (λ t. front ++ 36 ∷ t) nothing in
-      let odd = (or_parts (list_any stays_odd front) _
-      (sym (list_any-append stays_odd front (36 ∷ [])) ∙ ap (list_any stays_odd) (sym whole) ∙ odds)).0 in
-      let other : spelled Standard path ≡ spelled Standard front ++ 36 ∷ [] =
-      ap (spelled Standard) whole ∙ spelled_end front in
-      let own = ended front in
-      let also = ended (spelled Standard front) in
-      let kept = ap without_end other ∙ also.1 in
-      record {
-        normal =
-            ap (normal_from (in_rule all_stay) false) (ap without_end whole ∙ own.1)
-            ∙ normal_same false front odd plain ∙ ap escaped (sym kept);
-        ended = ap is_ended whole ∙ own.0 ∙ sym (ap is_ended other ∙ also.0);
-        dollar = ap has_dollar kept ∙ spelled_no_dollar front plain;
-      }
-]
+compared_as path odds end =
+    let (normal, ended, dollar) = same_from false path odds (ends_there path end) in
+    record { normal = normal; ended = ended; dollar = dollar }
 
 -- ---- match targets
 

@@ -82,7 +82,7 @@ rule_is true value (Allow other) is = ap Allow ((bytes_eq-Decides other value).0
 rule_is false value (Disallow other) is = ap Disallow ((bytes_eq-Decides other value).0 is)
 rule_is is_allow value line is = cc
 
-is_listed : (is_allow : Bool) (value : List ℕ) (above : List LineValue)
+pub is_listed : (is_allow : Bool) (value : List ℕ) (above : List LineValue)
     → list_any (is_rule_with is_allow value) above ≡ true
     → Contains above (if is_allow then Allow value else Disallow value)
 is_listed is_allow value above is =

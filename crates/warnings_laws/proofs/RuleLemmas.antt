@@ -1,17 +1,17 @@
 -- What a rule without warnings that are about verdicts has as its path: its value as read, which is compared
 -- as RFC 9309 compares its standard spelling.
 use Rattle.std.proofs.Common.{◌≡◌, ◌≢◌, ◌⊎◌, inl, inr, ℕ, ◌&&◌, ◌||◌, Bool, true, false, not, List, [], ◌∷◌}
-use Rattle.std.proofs.Common.{◌++◌, ap, arith, codes, drop, length, nat_lt, refl, subst, sym, ◌∙◌}
+use Rattle.std.proofs.Common.{◌++◌, ap, arith, codes, drop, if◌then◌else◌, length, nat_lt, refl, subst, sym, ◌∙◌}
 use Rattle.std.specs.List.{AllByRecursion as Each, list_any}
 use Rattle.std.specs.{Str.is_utf8}
 use Rattle.std.proofs.lemmas.Bool.{Decides.nat_tests, false≢true, not-true, or_left, or_parts, or_right}
 use Rattle.std.proofs.lemmas.Bool.{not-false}
-use Rattle.texting_robots.specs.Callers.{Allow, CrawlDelay, Disallow, IsLineOf, LineValue, Raw, Sitemap}
-use Rattle.texting_robots.specs.Callers.{UserAgent}
+use Rattle.texting_robots.specs.Callers.{Allow, Disallow, IsLineOf, LineValue}
 use Rattle.texting_robots.specs.{Statement.IsStatement, declared.parser.statement.Kind.Kind}
 use Rattle.texting_robots.specs.Trim.{IsTrimOf}
 use Rattle.rfc9309_laws.proofs.{CharLemmas.IsCharByte, CharLemmas.chars_text, MemberLemmas.slash_plain}
-use Rattle.rfc9309_laws.proofs.{Sources.written, SyntaxLemmas.each_front, SyntaxLemmas.each_weaker}
+use Rattle.rfc9309_laws.proofs.{Sources.allowed_in, Sources.member_in, Sources.written}
+use Rattle.rfc9309_laws.proofs.{SyntaxLemmas.each_front, SyntaxLemmas.each_weaker}
 use Rattle.rfc9309_laws.proofs.KeyedLemmas.{IsSolid, parts_at, parts_comment, solid_char, stripped_is}
 use Rattle.rfc9309_laws.proofs.ValueLemmas.{visible_trim}
 use Rattle.rfc9309_laws.specs.HasForm.{stripped, text_after, text_before}
@@ -182,11 +182,23 @@ module _ (kind : Kind) (read value body : List ℕ) (is : IsStatement kind read 
 abbrev pub IsKeptLine : LineValue → List ℕ → Type 0
 IsKeptLine line body = IsLineOf line body × AreQuietBy keeps_verdicts (line_checks true line body)
 
--- the rule has such a path, and is written so; nothing is written in an empty Disallow
-abbrev pub IsGoodLine : LineValue → List ℕ → Type 0
-IsGoodLine (Allow value) text = IsGoodPath value × ((text ≡ value) ⊎ ((value ≡ codes "/") × (text ≡ [])))
-IsGoodLine (Disallow value) text = IsGoodPath value × (text ≡ value)
-IsGoodLine _ text = Unit {0}
+abbrev pub rule_of : Bool → List ℕ → rfc.Member
+rule_of is_allow path = if is_allow then rfc.Allow path else rfc.Disallow path
+
+-- the rule has such a path, which is that of its member, unless it is `/` because of an empty Disallow
+abbrev pub IsGoodRule : Bool → List ℕ → rfc.Member → Type 0
+IsGoodRule is_allow value member =
+    IsGoodPath value
+    × ((member ≡ rule_of is_allow value) ⊎ ((value ≡ codes "/") × (member ≡ rfc.Disallow [])))
+
+abbrev pub IsGoodLine : LineValue → rfc.Member → Type 0
+IsGoodLine (Allow value) member = IsGoodRule true value member
+IsGoodLine (Disallow value) member = IsGoodRule false value member
+IsGoodLine _ member = Unit {0}
+
+allowed_same : (value : List ℕ) → allowed_in value value ≡ rfc.Allow value
+allowed_same [] = refl
+allowed_same (b ∷ value) = refl
 
 value_kept : (line : LineValue) (value body : List ℕ)
     → AreQuietBy keeps_verdicts (directive_checks true line body
@@ -197,34 +209,33 @@ value_kept line value body all =
     each_front IsKept (rule_checks value) texts
     (each_back IsKept (directive_checks true line body) (rule_checks value ++ texts) all)
 
--- an Allow that isn't an empty Disallow
-pub allow_written : (value body : List ℕ) → IsStatement kind.Allow value body → IsKeptLine (Allow value) body
-    → IsGoodPath value × (written body ≡ value)
+pub good_line : (line : LineValue) (body : List ℕ) → IsKeptLine line body
+    → IsGoodLine line (member_in line (written body))
 unfolding topic_of
-allow_written value body is (of, all) =
+good_line (Allow value) body (of, all) =
     let quiets = quiet (Allow value) body (checks_quiet (line_checks true (Allow value) body) all) in
-    let line = has_colon kind.Allow value body is quiets.with_colon in
     let kept = value_kept (Allow value) value body all in
-    let raw = raw_is kind.Allow value body line (not-true _ quiets.raw.0) in (
-      good_path kind.Allow value value body is kept line (inl (refl, raw)),
-      written_is kind.Allow value value body is kept line raw,
-    )
-
-pub good_line : (line : LineValue) (body : List ℕ) → IsKeptLine line body → IsGoodLine line (written body)
-unfolding topic_of
-good_line (Allow value) body (of, all) = elim (is_stated (Allow value) body of) [
-  | inl is ↦ let (good, same) = allow_written value body is (of, all) in (good, inl same)
-  | inr (slash, is) ↦
-      let quiets = quiet (Allow value) body (checks_quiet (line_checks true (Allow value) body) all) in
-      let line = has_colon kind.Disallow [] body is quiets.with_colon in
-      let kept = value_kept (Allow value) value body all in (
-        good_path kind.Disallow [] value body is kept line (inr slash),
-        elim (raw_cases value (tail_of body) (not-true _ quiets.raw.0)) [
-          | inl none ↦ inr (slash, written_raw kind.Disallow [] body line (rw none tt) ∙ none)
-          | inr same ↦ inl (written_is kind.Disallow [] value body is kept line same)
-        ],
-      )
-]
+    elim (is_stated (Allow value) body of) [
+      | inl is ↦
+          let line = has_colon kind.Allow value body is quiets.with_colon in
+          let raw = raw_is kind.Allow value body line (not-true _ quiets.raw.0) in (
+            good_path kind.Allow value value body is kept line (inl (refl, raw)),
+            inl (as_written (written_is kind.Allow value value body is kept line raw)),
+          )
+      | inr (slash, is) ↦
+          let line = has_colon kind.Disallow [] body is quiets.with_colon in (
+            good_path kind.Disallow [] value body is kept line (inr slash),
+            elim (raw_cases value (tail_of body) (not-true _ quiets.raw.0)) [
+              | inl none ↦
+                  let nothing = written_raw kind.Disallow [] body line (rw none tt) ∙ none in
+                  inr (slash, rw (nothing, slash) refl)
+              | inr same ↦ inl (as_written (written_is kind.Disallow [] value body is kept line same))
+            ],
+          )
+    ]
+  where
+    as_written : written body ≡ value → allowed_in (written body) value ≡ rfc.Allow value
+    as_written same = ap (λ text. allowed_in text value) same ∙ allowed_same value
 good_line (Disallow value) body (of, all) =
     let is = (is_stated (Disallow value) body of).0 in
     let quiets = quiet (Disallow value) body (checks_quiet (line_checks true (Disallow value) body) all) in
@@ -232,9 +243,6 @@ good_line (Disallow value) body (of, all) =
     let kept = value_kept (Disallow value) value body all in
     let raw = raw_is kind.Disallow value body line (not-true _ quiets.raw.0) in (
       good_path kind.Disallow value value body is kept line (inl (refl, raw)),
-      written_is kind.Disallow value value body is kept line raw,
+      inl (ap rfc.Disallow (written_is kind.Disallow value value body is kept line raw)),
     )
-good_line (UserAgent value) body is = tt
-good_line (CrawlDelay delay) body is = tt
-good_line (Sitemap value) body is = tt
-good_line (Raw content) body is = tt
+good_line _ body is = tt

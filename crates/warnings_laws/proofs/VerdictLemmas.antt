@@ -19,7 +19,7 @@ use Rattle.rfc9309_laws.proofs.{ReadLemmas.file_sources, ReadLemmas.lines_in, Ro
 use Rattle.rfc9309_laws.proofs.Sources.{Source, parts_in, source_of, written}
 use Rattle.rfc9309_laws.proofs.SyntaxLemmas.{each_front, each_weaker}
 use Rattle.rfc9309_laws.proofs.VerdictLemmas.{each_contains, octets_are, robot_agrees, zip_right}
-use Rattle.rfc9309_laws.specs.Comparable.{AreComparable, IsFit}
+use Rattle.rfc9309_laws.specs.Comparable.{AreComparable}
 use Rattle.rfc9309_laws.specs.Matching.{IsRfcVerdict, all_stay, normal_from, normal_uri, octets}
 use Rattle.robots_warnings.specs.declared.spellings.Spelling.TheVariants.{Plain, Standard}
 use Rattle.robots_warnings.specs.Checks.{file_checks, line_checks}
@@ -38,13 +38,15 @@ use Rattle.warnings_laws.proofs.{SplitLemmas.raw_parts, SplitLemmas.rules_not_sp
 use Rattle.warnings_laws.proofs.ConflictLemmas.{conflict_holds, first_some}
 use Rattle.warnings_laws.proofs.EmptyDisallowLemmas.{empty_disallows, overruled_holds, root, rule_there}
 use Rattle.warnings_laws.proofs.QuietLemmas.{each_back, first_byte}
-use Rattle.warnings_laws.proofs.RuleLemmas.{IsGoodLine, IsGoodPath, IsKeptLine, good_line}
+use Rattle.warnings_laws.proofs.RuleLemmas.{IsGoodPath, IsKeptLine, good_line}
 use Rattle.warnings_laws.proofs.RuleLemmas.{kept_not_syntax}
 use Rattle.warnings_laws.proofs.SyntaxLemmas.{ArePassed, AreQuietBy, bodies, bodies_quiet, facts, facts_quiet}
 use Rattle.warnings_laws.proofs.SyntaxLemmas.{labels, labels_are, name, passed_groups, passed_positions}
 use Rattle.warnings_laws.proofs.SyntaxLemmas.{quiets, reads, silence}
-use Rattle.warnings_laws.proofs.TwinLemmas.{AreFine, AreFineGroups, AreGood, IsFine, each_flat}
-use Rattle.warnings_laws.proofs.TwinLemmas.{map_each, not_percent, rules_fine, sources_fine, spelled_short}
+use Rattle.warnings_laws.proofs.PathLemmas.{spelled_short}
+use Rattle.warnings_laws.proofs.TwinLemmas.{AreFineGroups, IsFine, IsGood, each_flat, each_from, not_percent}
+use Rattle.warnings_laws.proofs.TwinLemmas.{rules_fine, sources_fine}
+use Rattle.robots_needless.proofs.DistinctLemmas.{of_map}
 use Rattle.warnings_laws.specs.Syntax.{AreGroupsWhole, IsNoSplit, IsNotAboutSyntax, IsSilentOn, warnings_of}
 use Rattle.warnings_laws.specs.Verdict.{AreVerdictsKept, IsAsOneOf, IsAsked, IsStandardVerdict, KeepsVerdicts}
 use Rattle.rfc9309_laws.specs.Rfc9309 as rfc
@@ -244,11 +246,12 @@ module _ (named agents urls : List (List ℕ)) (file : List ℕ)
   lines_same : lines_in (sources file) ≡ lines
   lines_same = map-map (λ (source : Source). source.0) source_of (bodies file)
 
-  good : AreGood (sources file)
+  good : Each IsGood (sources file)
   good =
-      map_each (λ (source : Source). IsGoodLine source.0 source.1) source_of (bodies file)
-      (each_weaker (λ body. IsKeptLine (line_of body) body) (λ body. IsGoodLine (line_of body) (written body))
-      (λ body. good_line (line_of body) body) (bodies file) all_kept)
+      each_from IsGood (sources file) (λ source has.
+      let (body, there, same) = of_map source_of (bodies file) source has in
+      subst IsGood same (good_line (line_of body) body
+      (each_contains (λ body. IsKeptLine (line_of body) body) (bodies file) body all_kept there)))
 
   module _ (agent : List ℕ) (groups : List rfc.Group) (written : rfc.IsFile groups text) where
     abbrev numbers : List (List ℕ)
@@ -267,23 +270,20 @@ module _ (named agents urls : List (List ℕ)) (file : List ℕ)
     groups_are =
         ap (λ parts. parts.groups) (sym parts) ∙ groups_written text numbers groups read
 
-    fine : AreFine members
+    fine : (member : rfc.Member) → Contains members member → IsFine members member
     fine = rules_fine agent (rfc.merged groups) (subst AreFineGroups groups_are
         (sources_fine (sources file) (labels file) ((labels_are file).lines_are ∙ sym lines_same) no_escapes
         good))
-
-    good_path : (path : List ℕ) → Contains members (rfc.Disallow path) → IsGoodPath path
-    good_path path listed = (each_contains (IsFine members) members (rfc.Disallow path) fine listed).0
 
     module _ (reported : IsAsOneOf agents file agent) where
       empty_beside : Contains members (rfc.Disallow []) → (path : List ℕ)
           → Contains members (rfc.Disallow path) → path ≢ [] → 1 < octets all_stay path
       empty_beside empty [] listed some = absurd (some refl)
       empty_beside empty (b ∷ c ∷ path) listed some =
-          long_path b c path (good_path (b ∷ c ∷ path) listed)
+          long_path b c path (fine (rfc.Disallow (b ∷ c ∷ path)) listed).0
       empty_beside empty (b ∷ []) listed some =
           let (k, other, below, at, group) = reported in
-          let good = good_path (b ∷ []) listed in
+          let good = (fine (rfc.Disallow (b ∷ [])) listed).0 in
           let zip = rules_read text agent numbers groups read in
           let (allow, there, is) = zip_right members (rules_for agent lines) (rfc.Disallow []) zip empty in
           let (deny, own, (value, trim, e)) =
@@ -322,10 +322,10 @@ module _ (named agents urls : List (List ℕ)) (file : List ℕ)
             normal = normal;
             robots = refl;
             trimmed = λ path listed. elim listed [
-              | inl has ↦ (each_contains (IsFine members) members (rfc.Allow path) fine has).0.trimmed
-              | inr has ↦ (good_path path has).trimmed
+              | inl has ↦ (fine (rfc.Allow path) has).0.trimmed
+              | inr has ↦ (fine (rfc.Disallow path) has).0.trimmed
             ];
-            fit = λ member has. fit member (each_contains (IsFine members) members member fine has);
+            fit = λ member has. (fine member has).1;
             counted = λ path listed. refl;
             empty = empty_beside;
           } in
@@ -334,11 +334,6 @@ module _ (named agents urls : List (List ℕ)) (file : List ℕ)
           subst (λ rules. IsVerdict (unplaced robot.rules) uri answer
           ↔ IsRfcVerdict all_stay (octets all_stay) rules uri answer)
           (rules_not_split file agent groups written whole_groups) agree
-        where
-          fit : (member : rfc.Member) → IsFine members member → IsFit all_stay members member
-          fit (rfc.Allow path) is = is.1
-          fit (rfc.Disallow path) is = is.1
-          fit (rfc.Delay number) is = tt
 
 -- ---- the theorem
 
