@@ -94,11 +94,14 @@ unreserved_clean b is =
 
 -- the standard spelling of an escape isn't escaped, and has no dollar
 escape_clean : (high low : ℕ) → is_ascii_hexdigit high ≡ true → is_ascii_hexdigit low ≡ true
-    → (normal_escape high low ≡ escaped (normal_escape high low)) × (has_dollar (normal_escape high low) ≡ false)
+    → (normal_escape high low ≡ escaped (normal_escape high low))
+    × (has_dollar (normal_escape high low) ≡ false)
 escape_clean high low one two = (
   sym (plain_stays (normal_escape high low)
-      (any_less is_special is_escaped (λ b is. (or_parts (is_escaped b) _ is).0) (normal_escape high low) clean)),
-  any_less is_special (λ b. b == 36) (λ b is. (or_parts (is_escaped b) _ is).1) (normal_escape high low) clean,
+      (any_less is_special is_escaped (λ b is. (or_parts (is_escaped b) _ is).0)
+      (normal_escape high low) clean)),
+  any_less is_special (λ b. b == 36) (λ b is. (or_parts (is_escaped b) _ is).1)
+      (normal_escape high low) clean,
 )
   where
     upper : (b : ℕ) → is_ascii_hexdigit b ≡ true → is_special (to_ascii_uppercase b) ≡ false
@@ -139,7 +142,8 @@ spelled_same =
 -- it isn't empty
 pub spelled_some : (b : ℕ) (text : List ℕ) → 0 < length (spelled Standard (b ∷ text))
 spelled_some b text =
-    by_escapes (λ _ text. 0 < length text → 0 < length (spelled Standard text)) (λ _ some. absurd (omega arith))
+    by_escapes (λ _ text. 0 < length text → 0 < length (spelled Standard text))
+    (λ _ some. absurd (omega arith))
     (λ _ c rest isnt later some. rw (octet_spelled c rest isnt) (omega arith))
     (λ _ high low rest one two later some. rw (escape_spelled high low rest one two)
     (elim (cases_Bool (is_unreserved (digit_value high * 16 + digit_value low))) [
@@ -165,34 +169,34 @@ odd_escapes (b ∷ text) = ap (λ later. begins_odd_escape (b ∷ text) || later
 
 -- ---- a dollar at the end
 
-octet_first_of : (b : ℕ) (text : List ℕ) → (b == 36) ≡ false
+past_octet : (b : ℕ) (text : List ℕ) → (b == 36) ≡ false
     → (without_end (b ∷ text) ≡ b ∷ without_end text) × (is_ended (b ∷ text) ≡ is_ended text)
 unfolding is_ended without_end
-octet_first_of b [] other = (rw other refl, other)
-octet_first_of b (c ∷ text) other = (refl, refl)
+past_octet b [] other = (rw other refl, other)
+past_octet b (c ∷ text) other = (refl, refl)
 
-front_of : (front text : List ℕ) → has_dollar front ≡ false
+past_front : (front text : List ℕ) → has_dollar front ≡ false
     → (without_end (front ++ text) ≡ front ++ without_end text) × (is_ended (front ++ text) ≡ is_ended text)
-front_of [] text none = (refl, refl)
-front_of (b ∷ front) text none =
+past_front [] text none = (refl, refl)
+past_front (b ∷ front) text none =
     let (here, later) = or_parts (b == 36) (has_dollar front) none in
-    let (first, ended) = octet_first_of b (front ++ text) here in
-    let (rest, also) = front_of front text later in
+    let (first, ended) = past_octet b (front ++ text) here in
+    let (rest, also) = past_front front text later in
     (first ∙ ap (λ t. b ∷ t) rest, ended ∙ also)
 
-still_no_escape : (b : ℕ) (text : List ℕ) → begins_escape (b ∷ text) ≡ false
+no_escape_left : (b : ℕ) (text : List ℕ) → begins_escape (b ∷ text) ≡ false
     → begins_escape (b ∷ without_end text) ≡ false
 unfolding without_end
-still_no_escape b [] isnt = isnt
-still_no_escape b (c ∷ []) isnt = elim (cases_Bool (c == 36)) [
+no_escape_left b [] isnt = isnt
+no_escape_left b (c ∷ []) isnt = elim (cases_Bool (c == 36)) [
   | inl is ↦ rw is (and_right (b == 37) _ refl)
   | inr other ↦ rw other isnt
 ]
-still_no_escape b (c ∷ d ∷ []) isnt = elim (cases_Bool (d == 36)) [
+no_escape_left b (c ∷ d ∷ []) isnt = elim (cases_Bool (d == 36)) [
   | inl is ↦ rw is (and_right (b == 37) _ (and_right (is_ascii_hexdigit c) false refl))
   | inr other ↦ rw other isnt
 ]
-still_no_escape b (c ∷ d ∷ e ∷ text) isnt = isnt
+no_escape_left b (c ∷ d ∷ e ∷ text) isnt = isnt
 
 -- nothing is after the first dollar
 ends_there : (path : List ℕ) → after_byte 36 path ≡ [] → has_dollar (without_end path) ≡ false
@@ -204,7 +208,7 @@ ends_there (b ∷ text) end = elim (cases_Bool (b == 36)) [
       let place = position_or_len (λ c. c == 36) text in
       let next : 1 + place + 1 ≡ suc (place + 1) = omega arith in
       let later = subst (λ (k : ℕ). drop k (b ∷ text) ≡ []) next (rw other at end) in
-      rw (octet_first_of b text other).0 (or_from (b == 36) _ other (ends_there text later))
+      rw (past_octet b text other).0 (or_from (b == 36) _ other (ends_there text later))
 ]
 
 -- ---- how a path is compared
@@ -212,7 +216,8 @@ ends_there (b ∷ text) end = elim (cases_Bool (b == 36)) [
 -- the rest of a path is compared as its standard spelling is
 abbrev IsSameFrom : Bool → List ℕ → Type 0
 IsSameFrom in_query path =
-    (normal_from (in_rule all_stay) in_query (without_end path) ≡ escaped (without_end (spelled Standard path)))
+    (normal_from (in_rule all_stay) in_query (without_end path)
+    ≡ escaped (without_end (spelled Standard path)))
     × (is_ended path ≡ is_ended (spelled Standard path))
     × (has_dollar (without_end (spelled Standard path)) ≡ false)
 
@@ -235,14 +240,14 @@ same_from =
       | inl is ↦ only_dollar in_query b text is end
       | inr other ↦
           let (odd, more) = or_parts (stays_odd b) (list_any stays_odd text) odds in
-          let (first, ended) = octet_first_of b text other in
+          let (first, ended) = past_octet b text other in
           let (_, end_after) = or_parts (b == 36) (has_dollar (without_end text))
           (ap has_dollar (sym first) ∙ end) in
           let (normal, same_end, dollar) = later more end_after in
           let spelling = octet_spelled b text isnt in
-          let (spelled_first, spelled_end) = octet_first_of b (spelled Standard text) other in (
+          let (spelled_first, spelled_end) = past_octet b (spelled Standard text) other in (
             ap (normal_from (in_rule all_stay) in_query) first
-                ∙ octet_first (in_rule all_stay) in_query b (without_end text) (still_no_escape b text isnt)
+                ∙ octet_first (in_rule all_stay) in_query b (without_end text) (no_escape_left b text isnt)
                 ∙ ap₂ (λ x y. x ++ y) (same_octet in_query b odd other) normal
                 ∙ ap escaped (sym (ap without_end spelling ∙ spelled_first)),
             ended ∙ same_end ∙ sym (ap is_ended spelling ∙ spelled_end),
@@ -255,7 +260,7 @@ same_from =
     let front : List ℕ = 37 ∷ high ∷ low ∷ [] in
     let spelling : List ℕ = normal_escape high low in
     let last = without_end (spelled Standard text) in
-    let (first, ended) = front_of front text
+    let (first, ended) = past_front front text
     (rw (hex_not (λ c. c == 36) high refl one, hex_not (λ c. c == 36) low refl two) refl) in
     let (_, more) = or_parts (stays_odd low) (list_any stays_odd text)
     (or_parts (stays_odd high) (list_any stays_odd (low ∷ text)) odds).1 in
@@ -263,7 +268,7 @@ same_from =
     (or_parts (high == 36) (has_dollar (low ∷ without_end text)) (ap has_dollar (sym first) ∙ end)).1 in
     let (normal, same_end, dollar) = later more end_after in
     let whole = escape_spelled high low text one two in
-    let (spelled_first, spelled_end) = front_of spelling (spelled Standard text) no_dollar in (
+    let (spelled_first, spelled_end) = past_front spelling (spelled Standard text) no_dollar in (
       ap (normal_from (in_rule all_stay) in_query) first
           ∙ escape_first high low (without_end text) one two (in_rule all_stay) in_query
           ∙ ap₂ (λ x y. x ++ y) clean normal ∙ sym (flat_map-append escape_byte spelling last)

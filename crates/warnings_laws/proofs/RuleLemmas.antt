@@ -1,7 +1,8 @@
 -- What a rule without warnings that are about verdicts has as its path: its value as read, which is compared
 -- as RFC 9309 compares its standard spelling.
 use Rattle.std.proofs.Common.{◌≡◌, ◌≢◌, ◌⊎◌, inl, inr, ℕ, ◌&&◌, ◌||◌, Bool, true, false, not, List, [], ◌∷◌}
-use Rattle.std.proofs.Common.{◌++◌, ap, arith, codes, drop, if◌then◌else◌, length, nat_lt, refl, subst, sym, ◌∙◌}
+use Rattle.std.proofs.Common.{◌++◌, ap, arith, codes, drop, if◌then◌else◌, length, nat_lt, refl, subst, sym}
+use Rattle.std.proofs.Common.{◌∙◌}
 use Rattle.std.specs.List.{AllByRecursion as Each, list_any}
 use Rattle.std.specs.{Str.is_utf8}
 use Rattle.std.proofs.lemmas.Bool.{Decides.nat_tests, false≢true, not-true, or_left, or_parts, or_right}
@@ -162,7 +163,8 @@ module _ (kind : Kind) (read value body : List ℕ) (is : IsStatement kind read 
           let parts = around line.region in
           let whole : line.region ≡ parts.front ++ (value ++ parts.back) =
           parts.whole
-          ∙ ap (λ v. parts.front ++ (v ++ parts.back)) (ap raw_value (sym (tail_is kind read body line)) ∙ raw) in
+          ∙ ap (λ v. parts.front ++ (v ++ parts.back))
+          (ap raw_value (sym (tail_is kind read body line)) ∙ raw) in
           same_trim value line.region value
           (sym (ap trimmed whole ∙ blanks_skipped parts.front (value ++ parts.back) parts.front_blank
           ∙ trailing_blanks value parts.back (IsUtf8-from_is_utf8 value utf8) parts.back_blank))

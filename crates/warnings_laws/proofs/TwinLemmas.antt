@@ -198,8 +198,8 @@ module _ (part : List Source) (good : Each IsGood part)
   is_rule_of true value = refl
   is_rule_of false value = refl
 
-  -- if the lines have a rule of this kind with this value, so have the members, unless the value is `/`, which
-  -- an empty Disallow has too
+  -- if the lines have a rule of this kind with this value, so have the members, unless the value is `/`,
+  -- which an empty Disallow has too
   twin_listed : (is_allow : Bool) (value : List ℕ) → value ≢ codes "/"
       → list_any (is_rule_with is_allow value) (lines_in part) ≡ true
       → Contains all (rule_of is_allow value)
@@ -274,7 +274,8 @@ members_fine (group ∷ groups) (here, later) all have member has =
           member own
       | inr more ↦
           members_fine groups later all
-          (λ other is listed. have other is (Contains-append_right group.members rest other listed)) member more
+          (λ other is listed. have other is (Contains-append_right group.members rest other listed))
+          member more
     ]
 
 pub rules_fine : (agent : List ℕ) (groups : List rfc.Group) → AreFineGroups groups → (member : rfc.Member)
@@ -288,7 +289,8 @@ rules_fine agent groups fine member has =
     each_filter : (test : rfc.Group → Bool) → AreFineGroups (filter test groups)
     each_filter test =
         let P = λ (group : rfc.Group). AreFine group.members in
-        recursion_from_All P (filter test groups) (All-filter test P groups (All-from_recursion P groups fine))
+        recursion_from_All P (filter test groups)
+        (All-filter test P groups (All-from_recursion P groups fine))
 
     by : (named : Bool)
         → AreFineGroups (if named then filter (rfc.has_token agent) groups
@@ -334,7 +336,8 @@ sources_fine sources labels same none good =
         (each_flat (λ number. ⊥) (unpaired_in Standard true) (slice_split is_agent_line labels) none) there in
         false_from_ne_true _ (λ is.
         each_contains (λ number. ⊥) (unpaired_in Standard true chunk) label.number given
-        (to_map (λ (label : Label). label.number) (filter (is_unpaired_at Standard true (lines_of chunk)) chunk)
+        (to_map (λ (label : Label). label.number)
+        (filter (is_unpaired_at Standard true (lines_of chunk)) chunk)
         label (to_filter (is_unpaired_at Standard true (lines_of chunk)) chunk label at
         (subst (λ line. is_unpaired_line Standard (lines_of chunk) line ≡ true) (sym line)
         (subst (λ lines. is_unpaired_line Standard lines source.0 ≡ true) (sym alike) is)))))

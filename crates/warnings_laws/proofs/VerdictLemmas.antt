@@ -188,8 +188,7 @@ module _ (named agents urls : List (List ℕ)) (file : List ℕ)
       (each_front KeepsVerdicts (crawler_warnings is_empty agents lines (labels file)) _
       (each_back KeepsVerdicts delimiters _ (each_back KeepsVerdicts escapes _ kept_groups))))
 
-  -- a crawler of the report has no Disallow of everything beside an Allow of `/`, as which an empty Disallow is
-  -- read
+  -- a crawler of the report has no Disallow of everything beside an Allow of `/`, as an empty Disallow is read
   module _ (other : List ℕ) (reported : Contains agents other) where
     abbrev own_rules : List PlacedRule
     own_rules = placed_rules other lines
