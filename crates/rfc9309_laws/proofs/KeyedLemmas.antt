@@ -146,7 +146,7 @@ IsNameByte b = IsFrontByte b × IsSolid b
 pub identifier_name : (word : List ℕ) → Each rfc.IsIdentifierByte word → Each IsNameByte word
 identifier_name = each_weaker _ _ (λ b is.
     let bounds = identifier_bounds b is in
-    ((inr (omega arith), omega arith, bounds.2), grind (arith, nat_tests)))
+    (grind arith, grind (arith, nat_tests)))
 
 -- a byte whose lower case is an identifier byte may occur in a name
 name_letter : (b : ℕ) → rfc.IsIdentifierByte (to_ascii_lowercase b) → IsNameByte b
@@ -223,7 +223,7 @@ comment_unit bytes (inl is) =
     (each_weaker IsCharByte IsBare (λ b is. (char_value b is).0) bytes text.bytes, text.utf8)
 comment_unit bytes (inr (inl (b, is, whole))) =
     rw whole (((blank_value b is).0, tt), ascii_utf8 b (omega arith))
-comment_unit bytes (inr (inr is)) = rw is ((inr (omega arith), tt), ascii_utf8 hash (omega arith))
+comment_unit bytes (inr (inr is)) = rw is (grind arith, ascii_utf8 hash (omega arith))
 
 pub comment_text : (text : List ℕ) → rfc.IsMany rfc.IsCommentUnit text
     → Each IsBare text × (is_comment_text text ≡ true)

@@ -363,7 +363,7 @@ free_below forms (form ∷ above) below free e =
 
 bom_no_nul : (bom : List ℕ) → rfc.IsBom bom → Each (λ b. b ≢ 0) bom
 bom_no_nul bom (inl none) = rw none tt
-bom_no_nul bom (inr is) = rw is ((λ e. cc), ((λ e. cc), ((λ e. cc), tt)))
+bom_no_nul bom (inr is) = rw is (grind arith)
 
 pub file_has_forms : (text : List ℕ) (groups : List rfc.Group) → rfc.IsFile groups text
     → (forms : List Form) × AreForms forms text

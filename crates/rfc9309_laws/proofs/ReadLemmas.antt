@@ -48,9 +48,9 @@ pub bare_no_nul : (body : List ℕ) → Each IsBare body → Each (λ byte. byte
 bare_no_nul = each_weaker _ (λ byte. byte ≢ 0) (λ byte is e. omega arith)
 
 pub end_bytes : (nl : List ℕ) → IsNl nl → Each (λ byte. byte ≢ 0) nl × BeginsLow nl
-end_bytes nl (inl is) = rw is (((λ e. cc), tt), omega arith)
-end_bytes nl (inr (inl is)) = rw is (((λ e. cc), tt), omega arith)
-end_bytes nl (inr (inr is)) = rw is (((λ e. cc), ((λ e. cc), tt)), omega arith)
+end_bytes nl (inl is) = rw is (grind arith)
+end_bytes nl (inr (inl is)) = rw is (grind arith)
+end_bytes nl (inr (inr is)) = rw is (grind arith)
 
 -- ---- the contents of a text after one more line
 

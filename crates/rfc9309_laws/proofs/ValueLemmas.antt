@@ -51,7 +51,7 @@ same_word (b ∷ word) [] rest (d ∷ more) is also e =
     absurd (also.1 (subst rfc.IsIdentifierByte first is.0.0))
 
 pub identifier_bounds : (b : ℕ) → rfc.IsIdentifierByte b → (44 < b) × (b < 123) × (b ≢ 58)
-identifier_bounds b is = (omega arith, omega arith, λ e. omega arith)
+identifier_bounds b is = grind arith
 
 pub blank_no_letter : (b : ℕ) → rfc.IsWs b → rfc.IsIdentifierByte (to_ascii_lowercase b) → ⊥
 blank_no_letter b is letter =

@@ -81,6 +81,9 @@ octets_written stays path is plain =
 module _ (stays : Reading) (count : List ℕ → ℕ) (members : List rfc.Member) (rules : List Rule)
     (uri : List ℕ) (zip : AllZip IsReadAs members rules)
     (are : AreComparable stays count members uri) where
+  abbrev IsFitBy : (List ℕ → rfc.Member) → List ℕ → Type 0
+  IsFitBy kind path = IsPlainPath stays path ⊎ HasTwin stays (λ twin. Contains members (kind twin)) path
+
   matching : (path spelling : List ℕ) → IsComparedAs stays path spelling
       → Matches (escaped spelling) uri ↔ IsMatch stays path uri
   matching path spelling is = matches_so stays path spelling uri are.normal is
@@ -91,14 +94,14 @@ module _ (stays : Reading) (count : List ℕ → ℕ) (members : List rfc.Member
 
   -- this library compares a path of the same kind of rule
   compared : (kind : List ℕ → rfc.Member) (path : List ℕ) → Contains members (kind path)
-      → IsPlainPath stays path ⊎ HasTwin stays (λ twin. Contains members (kind twin)) path
+      → IsFitBy kind path
       → (spelling : List ℕ) × Contains members (kind spelling) × IsComparedAs stays path spelling
   compared kind path listed (inl plain) = (path, listed, plain)
   compared kind path listed (inr twin) = (twin.twin, twin.listed, twin.same)
 
   -- a path that matches here is plain
   plain : (kind : List ℕ → rfc.Member) (path : List ℕ) → Matches (escaped path) uri
-      → IsPlainPath stays path ⊎ HasTwin stays (λ twin. Contains members (kind twin)) path
+      → IsFitBy kind path
       → IsPlainPath stays path
   plain kind path matches (inl is) = is
   plain kind path matches (inr twin) =
