@@ -48,7 +48,7 @@ def test_the_limit_of_the_header():
 
 
 def test_the_numbers_of_listed_warnings():
-    assert [int(it) for it in re.findall(r"the first (\d+) warnings", PROGRAMS)] == [constant("LISTED_WARNINGS")]
+    assert [int(it) for it in re.findall(r"the first (\d+) warnings", joined(PROGRAMS))] == [constant("LISTED_WARNINGS")]
     assert constant("MOST") == 20
     for text in (PROGRAMS, DOCUMENTS["CHANGELOG.md"]):
         assert re.findall(r"more than (twenty|\d+) (?:more|warnings)|(?:they are )more than (twenty|\d+)", joined(text)) or "first twenty" in joined(text)

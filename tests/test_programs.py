@@ -100,7 +100,8 @@ def test_golden_cases_have_each_warning():
 
 @pytest.mark.parametrize("start, misses", [("/a", "\t\\^{}"), ("/a?x", "\t'`")], ids=["path", "query"])
 def test_a_rule_with_a_byte_that_urls_escape_is_warned_about(start, misses):
-    """Each ASCII byte that means itself in a rule: the warning comes exactly if the rule misses the very URL that it spells."""
+    """Each ASCII byte that means itself in a rule: the warning comes exactly if the rule misses the very URL that it spells; else there may be
+    the note of this name."""
     warned = ""
     for byte in map(chr, range(1, 128)):
         if byte in "\n\r#$*":
@@ -112,7 +113,7 @@ def test_a_rule_with_a_byte_that_urls_escape_is_warned_about(start, misses):
             assert result.err == warning_line("2 unencoded-character")
             warned += byte
         else:
-            assert (result.status, result.err) == (1, "")
+            assert result.status == 1 and result.err in ("", warning_line("2 unencoded-character note"))
     assert warned == misses
 
 
