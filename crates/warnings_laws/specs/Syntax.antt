@@ -15,8 +15,8 @@ use Rattle.robots_warnings.specs.{WarningValue.WarningValue}
 
 -- ---- warnings about syntax
 
--- the warning isn't about syntax (`NOT_ABOUT_SYNTAX` in `table.rt` of
--- robots_warnings); all others are, notes included
+-- the warning isn't about syntax (by its topic in `table.rt` of robots_warnings); all others are, notes
+-- included
 abbrev pub IsNotAboutSyntax : WarningValue → Type 0
 IsNotAboutSyntax warning = is_not_about_syntax warning.cause ≡ true
 
