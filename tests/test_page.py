@@ -199,7 +199,7 @@ def test_page_has_the_lines_and_warnings_of_the_json():
 
 
 SYNTAX = "the file has RFC 9309 syntax"
-VERDICTS = "verdicts are those of RFC 9309 for URLs in normal form (reserved characters as in RFC 3986, octets counted in the rule)"
+VERDICTS = "verdicts are those of RFC 9309 for URLs in normal form (reserved characters as in RFC 3986, octets counted in normal form)"
 
 
 @pytest.mark.parametrize("rule, syntax, verdicts", [("/a", f"no warnings: {SYNTAX}", VERDICTS), ("/", f"no warnings about syntax: {SYNTAX}", VERDICTS), ("/a$b", f"no warnings about syntax: {SYNTAX}", None), ("a", None, None)])

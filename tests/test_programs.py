@@ -156,7 +156,7 @@ def test_many_agents():
     for n in range(1, 101, 2):
         text += f"User-agent: {'A' * n}_\nAllow: /none/{n}\n"
     out += "no warnings: the file has RFC 9309 syntax\n"
-    out += "verdicts are those of RFC 9309 for URLs in normal form (reserved characters as in RFC 3986, octets counted in the rule)\n"
+    out += "verdicts are those of RFC 9309 for URLs in normal form (reserved characters as in RFC 3986, octets counted in normal form)\n"
     assert run("robots_audit", ["-a", *urls], text.encode()) == Result(1, out, "")
 
 

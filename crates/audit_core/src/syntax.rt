@@ -6,7 +6,7 @@ use robots_warnings::warning::Warning;
 
 /// The sentence about the verdicts of a file, where they are stated to be those of RFC 9309.
 pub const VERDICTS_SENTENCE: &str =
-    "verdicts are those of RFC 9309 for URLs in normal form (reserved characters as in RFC 3986, octets counted in the rule)";
+    "verdicts are those of RFC 9309 for URLs in normal form (reserved characters as in RFC 3986, octets counted in normal form)";
 
 /// What all warnings about a file, reported or not, tell about its syntax and its verdicts. That it is the standard's
 /// syntax is the theorem `syntax_is_that_of_the_standard` of `warnings_laws`.

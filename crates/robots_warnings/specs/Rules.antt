@@ -56,7 +56,7 @@ begins_lone_percent text =
 -- after the first `?`, or after the first star, which may match a `?`
 abbrev pub has_odd_character : List ℕ → Bool
 has_odd_character value =
-    (has_any (codes "|\"<>`") value || somewhere begins_lone_percent value)
+    (has_any (codes "|\"<>`\x7F") value || somewhere begins_lone_percent value)
     || (has_any (codes "\\^{}'") (after_byte (byte "?") value)
     || has_any (codes "\\^{}'") (after_byte (byte "*") value))
 
@@ -116,9 +116,9 @@ abbrev pub needs_no_escape : ℕ → Bool
 needs_no_escape b = is_ascii_alphanumeric b || has b (codes "-._~")
 
 -- a reserved character of RFC 3986, but not `*` or `$`, which are special in a rule, nor `#`, which no path or
--- query has
+-- query has, nor `'`, which is written `%27` in the query of a URL
 abbrev pub is_delimiter : ℕ → Bool
-is_delimiter b = has b (codes ":/?[]@!&'()+,;=")
+is_delimiter b = has b (codes ":/?[]@!&()+,;=")
 
 -- the text starts with a percent escape one of whose digits is lowercase, or which means a byte that needs no
 -- escape

@@ -4,17 +4,20 @@ use Rattle.std.specs.Prelude.{if◌then◌else◌, nat_eq}
 use Rattle.std.specs.{List.list_all, List.starts_with, Str.byte}
 use Rattle.url.specs.{Parts.Parts, Parser.parse_url}
 use Rattle.texting_robots.specs.{Address.is_web, Prepared.prepared, Prepared.with_delimiter}
-use Rattle.robots_warnings.specs.Rules.{begins_odd_escape, is_delimiter, needs_no_escape, somewhere}
+use Rattle.robots_warnings.specs.Rules.{begins_lone_percent, begins_odd_escape, has, is_delimiter}
+use Rattle.robots_warnings.specs.Rules.{needs_no_escape, somewhere}
 use Rattle.robots_warnings.specs.Urls.{begins_as_url, is_unparsable}
 
 -- a byte that the normal form of a path and a query may have: one that needs no escape, a delimiter, or `%`
 abbrev pub is_normal_byte : ℕ → Bool
-is_normal_byte b = needs_no_escape b || (is_delimiter b || b == byte "%")
+is_normal_byte b = needs_no_escape b || (is_delimiter b || has b (codes "%'"))
 
 -- a path and a query are in normal form: they have only such bytes, and each escape has uppercase digits and
 -- means a byte that needs one
 abbrev pub is_normal : List ℕ → Bool
-is_normal target = list_all is_normal_byte target && not (somewhere begins_odd_escape target)
+is_normal target =
+    list_all is_normal_byte target
+    && not (somewhere begins_odd_escape target || somewhere begins_lone_percent target)
 
 -- what a crawler sends to a site for a URL: the path, `?` and the query, but not the fragment
 abbrev pub requested_target : Parts → List ℕ

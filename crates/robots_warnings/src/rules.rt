@@ -108,7 +108,7 @@ pub(crate) fn begins_lone_percent(text: &[u8]) -> bool
 pub(crate) fn has_odd_character(value: &[u8]) -> bool
     ensures { result ≡ has_odd_character value.now }
 {
-    has_any(b"|\"<>`", value)
+    has_any(b"|\"<>`\x7F", value)
         || somewhere(value, begins_lone_percent)
         || has_any(b"\\^{}'", after_byte(b'?', value))
         || has_any(b"\\^{}'", after_byte(b'*', value))
@@ -183,11 +183,11 @@ pub(crate) fn needs_no_escape(byte: u8) -> bool
     byte.is_ascii_alphanumeric() || has(byte, b"-._~")
 }
 
-/// Whether a byte is a reserved character of RFC 3986, but not special in a rule, and a path or a query may have it.
+/// Whether a byte is a reserved character of RFC 3986, but not special in a rule, and has one form in paths and queries.
 pub(crate) fn is_delimiter(byte: u8) -> bool
     ensures { result ≡ is_delimiter byte }
 {
-    has(byte, b":/?[]@!&'()+,;=")
+    has(byte, b":/?[]@!&()+,;=")
 }
 
 /// The value of a hexadecimal digit.

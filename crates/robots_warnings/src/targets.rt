@@ -5,7 +5,9 @@ ghost use Rattle.texting_robots.specs.{Address.is_web, Callers.prepared};
 ghost use Rattle.robots_warnings.specs.Targets.{asked_target, has_odd_target, is_normal, is_normal_byte};
 ghost use Rattle.robots_warnings.specs.Targets.{requested_target};
 
-use crate::rules::{begins_odd_escape, is_delimiter, needs_no_escape, somewhere};
+use crate::rules::{
+    begins_lone_percent, begins_odd_escape, has, is_delimiter, needs_no_escape, somewhere,
+};
 use crate::urls::is_parsable_url;
 use std::alloc::{AllocError, Global};
 use texting_robots::{Error, Robot};
@@ -15,7 +17,7 @@ use url::{ParseError, Position, Url};
 fn is_normal_byte(byte: u8) -> bool
     ensures { result ≡ is_normal_byte byte }
 {
-    needs_no_escape(byte) || is_delimiter(byte) || byte == b'%'
+    needs_no_escape(byte) || is_delimiter(byte) || has(byte, b"%'")
 }
 
 /// Whether it may have all of these bytes.
@@ -29,7 +31,8 @@ fn are_normal_bytes(target: &[u8]) -> bool
 pub fn is_normal(target: &[u8]) -> bool
     ensures { result ≡ is_normal target.now }
 {
-    are_normal_bytes(target) && !somewhere(target, begins_odd_escape)
+    are_normal_bytes(target)
+        && !(somewhere(target, begins_odd_escape) || somewhere(target, begins_lone_percent))
 }
 
 /// Whether the scheme is `http` or `https`.
