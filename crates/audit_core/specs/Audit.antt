@@ -99,7 +99,7 @@ labels_requested requested file = labels_for (labeling_agent requested.agent) (l
 -- all warnings about the file and the request, and then those about the needless rules that were found
 abbrev pub warnings_found : RequestValue → List ℕ → List Label → List NeedlessRule → List WarningValue
 warnings_found requested file labels needless =
-    warnings (is_none requested.agent) requested.agents (agents_requested requested.agents (lines_read file))
+    warnings (is_none requested.agent) (agents_requested requested.agents (lines_read file))
     requested.urls file (facts_of file labels) labels (lines_read file) ++ map needless_warning needless
 
 -- the warnings that the request doesn't exclude

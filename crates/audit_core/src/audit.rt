@@ -210,19 +210,18 @@ fn warnings_of<'a>(
     needless: &[NeedlessRule],
 ) -> Result<Vec<Warning<'a>>, AllocError>
     ensures { IfOk result (λ found. found.items
-        ≡ warnings (is_none (requested_by request.now).agent) (requested_by request.now).agents
-        (map string_bytes agents.now) (requested_by request.now).urls file.now facts (map label_by_value labels.now)
-        (file_lines site.now) ++ map needless_warning needless.now) }
+        ≡ warnings (is_none (requested_by request.now).agent) (map string_bytes agents.now)
+        (requested_by request.now).urls file.now facts (map label_by_value labels.now) (file_lines site.now)
+        ++ map needless_warning needless.now) }
 {
     let everywhere = request.agent.is_none();
-    let (named, urls) = (&request.agents, &request.urls);
     let read = FileRead {
         bytes: file,
         facts,
         labels,
         site,
     };
-    let mut found = warnings(alloc, everywhere, named, agents, urls, &read)?;
+    let mut found = warnings(alloc, everywhere, agents, &request.urls, &read)?;
     add_needless(&mut found, needless)?;
     Ok(found)
 }

@@ -1,8 +1,8 @@
 -- The conditions of warnings about a file, a request, a line and its position, grouped by what they inspect,
 -- in the order of output. Warnings.antt names those of the others.
 use Rattle.std.specs.Prelude.{ℕ, ◌==◌, Bool, true, false, List, [], ◌∷◌, ◌++◌, ◌||◌, Option, None, Some}
-use Rattle.std.specs.Prelude.{codes, if◌then◌else◌, length, nat_eq, nat_lt, not, ◌&&◌}
-use Rattle.std.specs.{List.starts_with, Str.byte, Str.is_utf8}
+use Rattle.std.specs.Prelude.{if◌then◌else◌, nat_lt, not, ◌&&◌}
+use Rattle.std.specs.{Str.byte, Str.is_utf8}
 use Rattle.texting_robots.specs.Callers.{Allow, CrawlDelay, Disallow, LineValue, Label, Raw, Sitemap}
 use Rattle.texting_robots.specs.Callers.{UserAgent, is_own}
 use Rattle.texting_robots.specs.declared.labels.Membership.{Membership}
@@ -18,8 +18,8 @@ use Rattle.robots_warnings.specs.Positions.{name_star}
 use Rattle.robots_warnings.specs.Rules.{before_byte, begins_dot_segment, begins_wildcard, has, has_dollar_inside}
 use Rattle.robots_warnings.specs.Rules.{has_more_after_dollar, has_odd_character, has_odd_start, holds_otherwise, is_expression, is_quoted, somewhere}
 use Rattle.robots_warnings.specs.Targets.{has_odd_target}
-use Rattle.robots_warnings.specs.Tokens.{has_space_around, is_product_token, is_usual_name}
-use Rattle.robots_warnings.specs.Urls.{begins_as_url, is_absolute_url, is_invalid_url}
+use Rattle.robots_warnings.specs.Tokens.{is_product_token, is_usual_name}
+use Rattle.robots_warnings.specs.Urls.{begins_as_url, is_absolute_url}
 use Rattle.robots_warnings.specs.{File.is_blank, SeveralValues.has_several_values}
 
 -- a warning, and whether its condition holds
@@ -38,21 +38,9 @@ file_checks facts =
     ∷ (cause.NulEndsLine, facts.has_nul && not facts.is_utf_16)
     ∷ []
 
--- a product token that the user passed
-abbrev pub agent_checks : List ℕ → List Check
-agent_checks agent =
-    (cause.EmptyAgent, length agent == 0)
-    ∷ (cause.SpaceAroundAgent, has_space_around agent)
-    ∷ (cause.VersionInAgent, has (byte "/") agent)
-    ∷ []
-
 -- a URL that the user passed
 abbrev pub url_checks : List ℕ → List Check
-url_checks url =
-    (cause.NotAUrlOrPath, not (starts_with nat_eq url (codes "/") || begins_as_url url))
-    ∷ (cause.InvalidUrl, is_invalid_url url)
-    ∷ (cause.UrlNotNormal, has_odd_target url)
-    ∷ []
+url_checks url = (cause.UrlNotNormal, has_odd_target url) ∷ []
 
 -- the field name in the content of a directive
 abbrev pub field_checks : List ℕ → List Check

@@ -9,9 +9,7 @@ use Rattle.printable_text.specs.Text.{Absent, Fixed, Label, Number, Only, Part, 
 use Rattle.printable_text.specs.Text.{is_fixed, label, only, parts_text}
 use Rattle.robots_warnings.specs.contracts.table.Cause.{the_type}
 use Rattle.robots_warnings.specs.declared.table.Cause.{Cause}
-use Rattle.robots_warnings.specs.declared.table.Cause.TheVariants.{EmptyAgent, GoogleIgnoresStar}
-use Rattle.robots_warnings.specs.declared.table.Cause.TheVariants.{GooglebotGroup, SpaceAroundAgent}
-use Rattle.robots_warnings.specs.declared.table.Cause.TheVariants.{VersionInAgent}
+use Rattle.robots_warnings.specs.declared.table.Cause.TheVariants.{GoogleIgnoresStar, GooglebotGroup}
 use Rattle.robots_warnings.specs.declared.warning.Detail.{Detail}
 use Rattle.robots_warnings.specs.declared.warning.Detail.TheVariants.{Line, Rules}
 use Rattle.robots_warnings.specs.Table.{all_names, all_texts, name_of, number_of, text_of}
@@ -46,9 +44,6 @@ fixed_text cause = record { text = text_of cause; safe = text_safe cause }
 
 -- the reason is about a crawler's name
 abbrev pub is_about_crawler : Cause → Bool
-is_about_crawler EmptyAgent = true
-is_about_crawler SpaceAroundAgent = true
-is_about_crawler VersionInAgent = true
 is_about_crawler GooglebotGroup = true
 is_about_crawler GoogleIgnoresStar = true
 is_about_crawler _ = false

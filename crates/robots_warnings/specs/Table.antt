@@ -5,7 +5,8 @@ use denote.Enum.Declared.{tag_of}
 use Rattle.robots_warnings.specs.contracts.table.Cause.{the_type}
 use Rattle.printable_text.specs.declared.level.Level.{Level}
 use Rattle.printable_text.specs.declared.level.Level.TheVariants as level
-use Rattle.robots_warnings.specs.declared.table.TheConstants.{EXAMPLES, MESSAGES, WARNINGS}
+use Rattle.robots_warnings.specs.declared.{table.TheConstants.WARNINGS, texts.TheConstants.EXAMPLES}
+use Rattle.robots_warnings.specs.declared.texts.TheConstants.{MESSAGES}
 use Rattle.robots_warnings.specs.declared.table.{Cause.Cause, Topic.Topic}
 use Rattle.robots_warnings.specs.declared.table.Topic.TheVariants.{Meaning, Syntax}
 

@@ -16,10 +16,6 @@ begins_as_url text =
 abbrev pub is_unparsable : List ℕ → Bool
 is_unparsable text = is_err (parse_url None text)
 
--- the text starts like an http(s) URL, but can't be parsed
-abbrev pub is_invalid_url : List ℕ → Bool
-is_invalid_url text = begins_as_url text && is_unparsable text
-
 -- the value is an absolute http(s) URL, which can be parsed
 abbrev pub is_absolute_url : List ℕ → Bool
 is_absolute_url value = is_utf8 value && (begins_as_url value && not (is_unparsable value))

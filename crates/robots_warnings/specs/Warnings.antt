@@ -16,7 +16,7 @@ use Rattle.robots_warnings.specs.declared.warning.Detail.{Detail}
 use Rattle.robots_warnings.specs.declared.warning.Detail.TheVariants.{Line, Rules}
 use Rattle.robots_warnings.specs.Google.{is_given, is_named_at_google}
 use Rattle.robots_warnings.specs.declared.google.TheConstants.{IGNORING_STAR, LIKE_GOOGLEBOT}
-use Rattle.robots_warnings.specs.Checks.{Check, agent_checks, file_checks, line_checks, position_checks}
+use Rattle.robots_warnings.specs.Checks.{Check, file_checks, line_checks, position_checks}
 use Rattle.robots_warnings.specs.Checks.{is_in_scope_of, url_checks}
 use Rattle.robots_warnings.specs.Positions.{first_delay, last_group, preceding_with, sole_name}
 use Rattle.robots_warnings.specs.Replaced.{replacing, star_count}
@@ -53,10 +53,6 @@ warned_beside cause number (Some other) =
 -- the name of a crawler in a warning about it: none if the report is about a single crawler
 abbrev pub crawler_shown : (everywhere : Bool) → List ℕ → Option (List ℕ)
 crawler_shown everywhere agent = if everywhere then Some agent else None
-
--- warnings about a crawler that the user named
-abbrev pub agent_warnings : (everywhere : Bool) → List ℕ → List WarningValue
-agent_warnings everywhere agent = warned None (crawler_shown everywhere agent) (agent_checks agent)
 
 abbrev pub url_warnings : List ℕ → List WarningValue
 url_warnings url = warned None (Some url) (url_checks url)
@@ -144,18 +140,16 @@ group_warnings everywhere agents bodies lines labels =
 
 -- ---- all
 
--- warnings about the file, the crawlers that the user named, and the URLs
-abbrev pub general_warnings : FileFacts → Bool → List (List ℕ) → List (List ℕ) → List WarningValue
-general_warnings facts everywhere named urls =
-    warned None None (file_checks facts)
-    ++ (flat_map (agent_warnings everywhere) named ++ flat_map url_warnings urls)
+-- warnings about the file and the URLs
+abbrev pub general_warnings : FileFacts → List (List ℕ) → List WarningValue
+general_warnings facts urls = warned None None (file_checks facts) ++ flat_map url_warnings urls
 
 -- all warnings. `everywhere` is false for a report on a single crawler, and else the rules of all groups are
--- checked; `named` are the crawlers that the user named, `agents` those reported on, and `lines` the file's
-abbrev pub warnings : (everywhere : Bool) → (named agents urls : List (List ℕ)) → List ℕ → FileFacts
+-- checked; `agents` are the crawlers reported on, and `lines` the file's
+abbrev pub warnings : (everywhere : Bool) → (agents urls : List (List ℕ)) → List ℕ → FileFacts
     → List Label → List LineValue → List WarningValue
-warnings everywhere named agents urls file facts labels lines =
-    general_warnings facts everywhere named urls
+warnings everywhere agents urls file facts labels lines =
+    general_warnings facts urls
     ++ (file_lines_warnings facts everywhere labels (bodies_read file)
     ++ (position_warnings labels
     ++ (past_limit_warnings facts file labels

@@ -2,7 +2,7 @@
 ghost use Rattle.std.specs.Prelude.{◌≡◌, IfOk, map, option_map};
 ghost use Rattle.texting_robots.specs.Callers.{label_by_value};
 ghost use Rattle.robots_warnings.specs.FieldNames.{is_without_colon};
-ghost use Rattle.robots_warnings.specs.Checks.{agent_checks, field_checks, file_checks, is_in_scope_of, position_checks, raw_rule_checks, rule_checks, sitemap_checks, text_checks, url_checks, user_agent_checks};
+ghost use Rattle.robots_warnings.specs.Checks.{field_checks, file_checks, is_in_scope_of, position_checks, raw_rule_checks, rule_checks, sitemap_checks, text_checks, url_checks, user_agent_checks};
 ghost use Rattle.robots_warnings.specs.File.{lines_of};
 
 use crate::contents::{has_odd_comment, has_odd_space, is_cut_short, is_cut_to_root};
@@ -17,8 +17,8 @@ use crate::rules::{
 use crate::several_values::has_several_values;
 use crate::table::Cause;
 use crate::targets::has_odd_target;
-use crate::tokens::{has_space_around, is_product_token, is_usual_name};
-use crate::urls::{begins_as_url, is_absolute_url, is_invalid_url};
+use crate::tokens::{is_product_token, is_usual_name};
+use crate::urls::{begins_as_url, is_absolute_url};
 use std::alloc::{AllocError, Global};
 use texting_robots::labels::{LabeledLine, Membership};
 use texting_robots::parser::Line;
@@ -45,27 +45,11 @@ pub(crate) fn file_checks(facts: FileFacts) -> [Check; 8]
     ]
 }
 
-/// Checks of a product token that the user passed.
-pub(crate) fn agent_checks(agent: &str) -> [Check; 3]
-    ensures { result ≡ agent_checks agent.now }
-{
-    [
-        (Cause::EmptyAgent, agent.is_empty()),
-        (Cause::SpaceAroundAgent, has_space_around(agent)),
-        (Cause::VersionInAgent, has(b'/', agent.as_bytes())),
-    ]
-}
-
 /// Checks of a URL that the user passed.
-pub(crate) fn url_checks(alloc: Global, url: &str) -> Result<[Check; 3], AllocError>
+pub(crate) fn url_checks(alloc: Global, url: &str) -> Result<[Check; 1], AllocError>
     ensures { IfOk result (λ checks. checks ≡ url_checks url.now) }
 {
-    let begins = url.starts_with("/") || begins_as_url(url.as_bytes());
-    Ok([
-        (Cause::NotAUrlOrPath, !begins),
-        (Cause::InvalidUrl, is_invalid_url(alloc, url)?),
-        (Cause::UrlNotNormal, has_odd_target(alloc, url)?),
-    ])
+    Ok([(Cause::UrlNotNormal, has_odd_target(alloc, url)?)])
 }
 
 /// Checks of the field name in the content of a directive, which has no colon after it if `lacks_colon` is true.

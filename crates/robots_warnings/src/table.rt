@@ -9,6 +9,7 @@ ghost use Rattle.robots_warnings.specs.Table.{all_causes, all_levels, all_names,
 ghost use Rattle.robots_warnings.specs.Table.{example_of, is_not_about_syntax, is_name, keeps_verdicts, level_of, name_of, text_of, topic_of};
 ghost use Rattle.robots_warnings.specs.declared.table.TheConstants.{WARNINGS};
 
+use crate::texts::{EXAMPLES, MESSAGES};
 use printable_text::level::Level;
 use std::alloc::{AllocError, Global};
 
@@ -25,13 +26,7 @@ pub enum Cause {
     NoUserAgent,
     DamagedByteOrderMark,
     NulEndsLine,
-    // the crawler
-    EmptyAgent,
-    SpaceAroundAgent,
-    VersionInAgent,
     // a URL
-    NotAUrlOrPath,
-    InvalidUrl,
     UrlNotNormal,
     // an ignored line
     InvalidDelay,
@@ -119,7 +114,7 @@ pub enum Topic {
 
 /// The warnings with their levels, topics and names.
 #[rattlefmt::skip]
-pub static WARNINGS: [(Cause, Level, Topic, &str); 74] = [
+pub static WARNINGS: [(Cause, Level, Topic, &str); 69] = [
     // the file
     (Cause::LooksLikeHtml, Level::Error, Topic::Syntax, "looks-like-html"),
     (Cause::LooksLikeUtf16, Level::Error, Topic::Syntax, "looks-like-utf-16"),
@@ -129,13 +124,7 @@ pub static WARNINGS: [(Cause, Level, Topic, &str); 74] = [
     (Cause::NoUserAgent, Level::Warning, Topic::Syntax, "no-user-agent"),
     (Cause::DamagedByteOrderMark, Level::Warning, Topic::Syntax, "damaged-byte-order-mark"),
     (Cause::NulEndsLine, Level::Warning, Topic::Syntax, "nul-ends-line"),
-    // the crawler
-    (Cause::EmptyAgent, Level::Warning, Topic::Meaning, "empty-agent"),
-    (Cause::SpaceAroundAgent, Level::Warning, Topic::Meaning, "space-around-agent"),
-    (Cause::VersionInAgent, Level::Warning, Topic::Meaning, "version-in-agent"),
     // a URL
-    (Cause::NotAUrlOrPath, Level::Warning, Topic::Meaning, "not-a-url-or-path"),
-    (Cause::InvalidUrl, Level::Warning, Topic::Meaning, "invalid-url"),
     (Cause::UrlNotNormal, Level::Note, Topic::Meaning, "url-not-normal"),
     // an ignored line
     (Cause::InvalidDelay, Level::Warning, Topic::Syntax, "invalid-delay"),
@@ -208,267 +197,6 @@ pub static WARNINGS: [(Cause, Level, Topic, &str); 74] = [
     (Cause::MatchesNothing, Level::Note, Topic::Meaning, "needless-rule"),
     (Cause::AllowedAnyway, Level::Note, Topic::Meaning, "needless-rule"),
     (Cause::NotNeeded, Level::Note, Topic::Meaning, "needless-rule"),
-];
-
-/// For each warning, in the order of [`WARNINGS`], its message.
-#[rattlefmt::skip]
-static MESSAGES: [(Cause, &str); 74] = [
-    // the file
-    (Cause::LooksLikeHtml,
-        "no usable line found; the text starts with <, so it may be an HTML page; serve a plain-text robots.txt instead"),
-    (Cause::LooksLikeUtf16,
-        "no usable line found; the file looks like UTF-16; save it as UTF-8"),
-    (Cause::NoDirectives,
-        "no usable User-agent, Allow, Disallow, Crawl-delay or Sitemap line found, so everything is allowed; write one directive per line, for example: Disallow: /search"),
-    (Cause::EmptyFile,
-        "the file is empty, so every URL may be fetched; name the right file with --file, or, if that is meant, write User-agent: * and an empty Disallow"),
-    (Cause::FileTooLarge,
-        "the file is larger than 512,000 bytes (500 KiB); the rest is ignored; shorten it or move important groups to the top"),
-    (Cause::NoUserAgent,
-        "there are rules but no User-agent line; valid rules are applied here, but Google ignores them; add User-agent: * above them"),
-    (Cause::DamagedByteOrderMark,
-        "the file starts with the byte EF, BB or BF, as a damaged byte order mark does; it is skipped here, but other crawlers may not recognize the first line; delete it, and save the file as UTF-8"),
-    (Cause::NulEndsLine,
-        "the file contains a NUL byte, which ends a line here, but may not in other crawlers; put a line end in its place, or delete it at the end of a line"),
-    // the crawler
-    (Cause::EmptyAgent,
-        "AGENT is empty, as an unset variable is, so the report is about no real crawler; pass a product token, such as FerrisBot"),
-    (Cause::SpaceAroundAgent,
-        "AGENT has leading or trailing white space, so it matches no User-agent line; remove the spaces"),
-    (Cause::VersionInAgent,
-        "AGENT contains /; names are compared in full, so pass only the product token: FerrisBot, not FerrisBot/1.0"),
-    // a URL
-    (Cause::NotAUrlOrPath,
-        "neither an http(s) URL nor a path, so it may be matched literally, and the verdict may not be the one you want; write https://host/path or /path"),
-    (Cause::InvalidUrl,
-        "invalid URL; it is matched as a plain string and will usually be reported as allowed; correct the URL"),
-    (Cause::UrlNotNormal,
-        "its path and query aren't in normal form (only needed escapes, in uppercase; * $ ^ { } and others escaped), which RFC 9309 compares, so crawlers may decide otherwise; check that form too"),
-    // an ignored line
-    (Cause::InvalidDelay,
-        "the delay is ignored: its value is missing, negative or not a number of seconds; write, for example: Crawl-delay: 1.5"),
-    (Cause::NoindexLine,
-        "Noindex isn't supported in robots.txt and is ignored; use a robots meta tag or an X-Robots-Tag header, and keep the page crawlable so that crawlers see it"),
-    (Cause::NofollowLine,
-        "Nofollow isn't supported in robots.txt and is ignored; use a robots meta tag or rel=\"nofollow\" on the links"),
-    (Cause::HostLine,
-        "Host isn't supported here and is ignored; redirect the other host names to the preferred one"),
-    (Cause::RequestRateLine,
-        "Request-rate isn't supported here and is ignored; use Crawl-delay with the seconds between requests, for example: Crawl-delay: 10"),
-    (Cause::VisitTimeLine,
-        "Visit-time isn't supported here and is ignored; use Crawl-delay, or return HTTP 429 or 503 when the server is busy"),
-    (Cause::CleanParamLine,
-        "Clean-param isn't supported here and is ignored; use rel=\"canonical\", or block the parameter, for example: Disallow: /*?ref="),
-    (Cause::ContentSignalLine,
-        "Content-Signal states how content may be used and doesn't affect crawling; to block a crawler, add a Disallow rule to its group"),
-    (Cause::ContentUsageLine,
-        "Content-Usage states how content may be used and doesn't affect crawling; to block a crawler, add a Disallow rule to its group"),
-    (Cause::RobotVersionLine,
-        "Robot-version isn't supported here and is ignored; delete the line"),
-    (Cause::CommentLine,
-        "Comment isn't a directive and is ignored; start comments with #"),
-    (Cause::LikeUserAgent,
-        "the line is ignored; did you mean \"User-agent:\"?"),
-    (Cause::LikeAllow,
-        "the line is ignored; did you mean \"Allow:\"?"),
-    (Cause::LikeDisallow,
-        "the line is ignored; did you mean \"Disallow:\"?"),
-    (Cause::LikeSitemap,
-        "the line is ignored; did you mean \"Sitemap:\"?"),
-    (Cause::LikeCrawlDelay,
-        "the line is ignored; did you mean \"Crawl-delay:\"?"),
-    (Cause::UnrecognizedLine,
-        "the line isn't a known directive and is ignored; write, for example, \"Disallow: /path\", or start a comment with #"),
-    // the field name of a line
-    (Cause::NonstandardField,
-        "nonstandard spelling of the field name; accepted here, but other crawlers may ignore the line; write User-agent, Allow, Disallow, Sitemap or Crawl-delay"),
-    (Cause::MissingColon,
-        "no colon after the field name; accepted here, but other crawlers may ignore the line; add the colon"),
-    (Cause::SpaceAroundValue,
-        "white space other than spaces and tabs, such as a no-break space, is dropped around the value here, but other crawlers may keep it; delete it"),
-    // the value of a user-agent line
-    (Cause::InvalidProductToken,
-        "not a valid product token (ASCII letters, _ and - only, or a single *); crawlers disagree on how to match it; write one name per User-agent line, without version, quotes or *"),
-    (Cause::UnusualProductToken,
-        "not a valid product token (ASCII letters, _ and - only), although some crawlers have such names; here the whole name is compared, but others, such as Google, read only the letters, _ and - at its start; check the crawler's documentation"),
-    // a rule
-    (Cause::HashLeavesRoot,
-        "everything from # on is a comment, so what is left of the rule is the whole site, or an empty Disallow, which allows it; rules can't be about the part of a URL after #; write %23 if a path has one, or a space before a comment"),
-    (Cause::HashCutsRule,
-        "everything from # on is a comment, so the rule is shorter and matches more paths; write %23 for a # in a path, or a space before a comment"),
-    (Cause::RuleNotUtf8,
-        "the rule isn't valid UTF-8 and is ignored; save the file as UTF-8"),
-    (Cause::MissingSlash,
-        "the rule doesn't start with / or *, so it matches no path; add a leading /, or /* if it may come later in the path"),
-    (Cause::UrlAsRule,
-        "the rule starts like a URL, but rules apply to paths, so it matches none; keep only the part after the host, for example: /search"),
-    (Cause::OddCharacter,
-        "the rule contains a character that crawlers encode differently (a vertical bar, \", <, >, a backquote or a lone %; after a ? or *, also \\ ^ { } or '), so it may not match; use * in its place"),
-    (Cause::UnencodedCharacter,
-        "the rule contains a character that usually has another form in URLs (^ { } \\ in a path, ' or a backquote in a query, or a tab); use * in its place"),
-    (Cause::QuotedRule,
-        "the quotes are treated as part of the path, so the rule won't match; remove them"),
-    (Cause::RegexSyntax,
-        "this looks like a regular expression, which robots.txt doesn't support; use * for any characters, and a final $ for the end of the URL"),
-    (Cause::StarAfterDollar,
-        "only stars or more $ follow the first $, so it is the end of the path here; by RFC 9309 a $ is special only at the end of a rule, and this one is literal; delete what follows it"),
-    (Cause::DollarNotAtEnd,
-        "the rule has a $ before its end, so it matches nothing here (some crawlers match $ literally); use $ only at the end, or * in place of a literal $"),
-    (Cause::NonstandardEscape,
-        "the rule has a lowercase or unnecessary percent escape; here it can match only URLs written that way; use uppercase (%C3), and don't encode letters, digits, - . _ ~"),
-    (Cause::EscapedWildcard,
-        "by RFC 9309, %2A and %24 also match a raw * or $ in a URL; here they match only URLs with the escape, and browsers write the raw character; use * in its place"),
-    (Cause::EscapedDelimiter,
-        "the rule has an escaped delimiter, such as %2F or %3A; here it doesn't match URLs with the plain character, but in some crawlers it may; if these are meant too, add a rule for them"),
-    (Cause::DotSegment,
-        "the rule contains a . or .. segment, which crawlers resolve in a URL's path before matching; write the resolved path"),
-    // a rule or a sitemap
-    (Cause::SeveralValues,
-        "all of this is read as one value, with its space, comma, tag or invisible character; write one value per line, %20 for a space, and comments after #"),
-    // a delay
-    (Cause::DelayNotation,
-        "the delay is read here, but other crawlers may ignore it; write only digits, possibly with a point and more digits, and no invisible characters, for example: Crawl-delay: 1.5"),
-    (Cause::DelayOverADay,
-        "the delay is longer than a day; the value is in seconds between requests, for example: Crawl-delay: 10"),
-    // a sitemap
-    (Cause::SitemapNotAbsolute,
-        "the sitemap isn't a valid URL that starts with http:// or https://; write, for example, https://example.com/sitemap.xml"),
-    // any line
-    (Cause::OneLine,
-        "another field name follows in the same line, where it isn't recognized; write each User-agent, Allow, Disallow, Crawl-delay and Sitemap on a line of its own"),
-    (Cause::ControlInComment,
-        "the comment contains a control character or isn't valid UTF-8, which RFC 9309 doesn't allow; it has no effect here; delete the character, or save the file as UTF-8"),
-    // the position of a line
-    (Cause::RuleBeforeUserAgent,
-        "the rule comes before the first User-agent line, so it belongs to no group and is ignored; move it below the User-agent line it is meant for"),
-    (Cause::EmptyGroup,
-        "no rule that is read follows this User-agent line, so its group is empty: if the name has no other group, it may fetch everything; add rules or delete the line"),
-    (Cause::DelayAboveStar,
-        "only a Crawl-delay ends the group above, so it has none of the rules of * below; crawlers that ignore the delay, such as Google's, apply these to that group too; add to it those meant for it, or, if its names have no other group, an empty Disallow"),
-    (Cause::DelaySplitsGroup,
-        "only a Crawl-delay ends the group above; crawlers that ignore it, such as Google's, apply the rules below to that group too; add to that group the rules meant for it, or move the Crawl-delay down to join the two"),
-    (Cause::GroupPastSizeLimit,
-        "this name isn't in the first 512,000 bytes, so its group is ignored; move the group up or shorten the file"),
-    (Cause::AllowedAndDisallowed,
-        "a crawler that gets this Disallow also gets an Allow with the same path, and the Allow wins here; delete the one you don't want"),
-    (Cause::EmptyDisallow,
-        "here an empty Disallow is an Allow of /, which wins over a Disallow of / or * for the same crawler; for RFC 9309 and Google it is no rule, and that Disallow applies; delete the one you don't want"),
-    // the groups
-    (Cause::TwoDelays,
-        "the delay differs from one above it in the same group, so it isn't used here, but other crawlers may use it; delete all but one"),
-    (Cause::ClosesEverything,
-        "at least one crawler that gets this rule may fetch nothing but /robots.txt; if that isn't meant, delete the rule or add an Allow"),
-    (Cause::ReplacesStar,
-        "the group has none of the Disallow rules of *, and a crawler with a group of its own doesn't get them; repeat in this group those that should apply to it"),
-    (Cause::RepeatedRule,
-        "the same rule is above in the same group, so this one changes no verdict; delete it, or correct it if another path is meant"),
-    (Cause::GooglebotGroup,
-        "AGENT has no group of its own, so Google applies the group of Googlebot to it, and that may not be the one that is reported here; pass Googlebot as AGENT, or add a group"),
-    (Cause::GoogleIgnoresStar,
-        "AGENT has no group of its own, and Google doesn't apply the group of * to this crawler, so it may fetch everything; add a group for it"),
-    // a rule that can be deleted
-    (Cause::NeverDecides,
-        "this rule never decides, since another one matches everything that it matches and takes precedence; correct it if it should decide, or delete it together with all other needless rules"),
-    (Cause::MatchesNothing,
-        "this rule matches nothing, except perhaps /robots.txt, which is always allowed; correct it, or delete it together with all other needless rules"),
-    (Cause::AllowedAnyway,
-        "this rule isn't needed: if all needless rules are deleted, what it allows stays allowed; delete it together with the others, or correct it"),
-    (Cause::NotNeeded,
-        "this rule isn't needed: if all needless rules are deleted, the verdicts stay the same, since another one of its kind matches everything that it matches; delete it together with the others, or correct it"),
-];
-
-/// For each warning, in the order of [`WARNINGS`], a file that triggers it for FerrisBot, or with
-/// the arguments in its first line, or a command. In a file, `\xFF` is a byte, and `\{512000 a}` is 512,000 times an `a`.
-#[rattlefmt::skip]
-static EXAMPLES: [(Cause, &str); 74] = [
-    // the file
-    (Cause::LooksLikeHtml, "<html>\n</html>"),
-    (Cause::LooksLikeUtf16, "\\xFF\\xFED\\x00"),
-    (Cause::NoDirectives, "hello\nworld"),
-    (Cause::EmptyFile, "robots_audit FerrisBot < /dev/null"),
-    (Cause::FileTooLarge, "Disallow: /\\{512000 a}"),
-    (Cause::NoUserAgent, "Disallow: /a\nDisallow: /b"),
-    (Cause::DamagedByteOrderMark, "\\xEF\\xBBAllow: /"),
-    (Cause::NulEndsLine, "Allow: /\\x00"),
-    // the crawler
-    (Cause::EmptyAgent, "robots_audit ''"),
-    (Cause::SpaceAroundAgent, "robots_audit 'FerrisBot '"),
-    (Cause::VersionInAgent, "robots_audit FerrisBot/1.0"),
-    // a URL
-    (Cause::NotAUrlOrPath, "robots_audit FerrisBot example.com/a"),
-    (Cause::InvalidUrl, "robots_audit FerrisBot https://a:b/"),
-    (Cause::UrlNotNormal, "robots_audit FerrisBot /%c3"),
-    // an ignored line
-    (Cause::InvalidDelay, "User-agent: *\nCrawl-delay: ten"),
-    (Cause::NoindexLine, "User-agent: *\nNoindex: /a"),
-    (Cause::NofollowLine, "User-agent: *\nNofollow: /a"),
-    (Cause::HostLine, "User-agent: *\nHost: example.com"),
-    (Cause::RequestRateLine, "User-agent: *\nRequest-rate: 1/10"),
-    (Cause::VisitTimeLine, "User-agent: *\nVisit-time: 0100-0500"),
-    (Cause::CleanParamLine, "User-agent: *\nClean-param: ref /"),
-    (Cause::ContentSignalLine, "User-agent: *\nContent-Signal: ai-train=no"),
-    (Cause::ContentUsageLine, "User-agent: *\nContent-Usage: ai=n"),
-    (Cause::RobotVersionLine, "User-agent: *\nRobot-version: 2.0"),
-    (Cause::CommentLine, "User-agent: *\nComment: hello"),
-    (Cause::LikeUserAgent, "User-agent: *\nUser-agnet: a"),
-    (Cause::LikeAllow, "User-agent: *\nAlow: /a"),
-    (Cause::LikeDisallow, "User-agent: *\nDisalow; /a"),
-    (Cause::LikeSitemap, "User-agent: *\nSitemaps: https://example.com/s.xml"),
-    (Cause::LikeCrawlDelay, "User-agent: *\nCrawl-dely: 1"),
-    (Cause::UnrecognizedLine, "User-agent: *\nhello"),
-    // the field name of a line
-    (Cause::NonstandardField, "User-agent: *\nUseragent: *\nDisallow: /a"),
-    (Cause::MissingColon, "User-agent: *\nDisallow /a"),
-    (Cause::SpaceAroundValue, "User-agent: *\nDisallow: /a\\xC2\\xA0"),
-    // the value of a user-agent line
-    (Cause::InvalidProductToken, "User-agent: *\nUser-agent: Bot/1.0\nDisallow: /a"),
-    (Cause::UnusualProductToken, "User-agent: MJ12bot\nDisallow: /a"),
-    // a rule
-    (Cause::HashLeavesRoot, "User-agent: *\nDisallow: /#/admin"),
-    (Cause::HashCutsRule, "User-agent: *\nDisallow: /a#b"),
-    (Cause::RuleNotUtf8, "User-agent: *\nDisallow: /\\xE9"),
-    (Cause::MissingSlash, "User-agent: *\nDisallow: search"),
-    (Cause::UrlAsRule, "User-agent: *\nDisallow: https://example.com/a"),
-    (Cause::OddCharacter, "User-agent: *\nDisallow: /?{id}"),
-    (Cause::UnencodedCharacter, "User-agent: *\nDisallow: /{id}"),
-    (Cause::QuotedRule, "User-agent: *\nDisallow: \"/a\""),
-    (Cause::RegexSyntax, "User-agent: *\nDisallow: /.*"),
-    (Cause::StarAfterDollar, "User-agent: *\nDisallow: /a$*"),
-    (Cause::DollarNotAtEnd, "User-agent: *\nDisallow: /$a"),
-    (Cause::NonstandardEscape, "User-agent: *\nDisallow: /%c3"),
-    (Cause::EscapedWildcard, "User-agent: *\nDisallow: /a%2Ab"),
-    (Cause::EscapedDelimiter, "User-agent: *\nDisallow: /a%2Fb"),
-    (Cause::DotSegment, "User-agent: *\nDisallow: /../a"),
-    // a rule or a sitemap
-    (Cause::SeveralValues, "User-agent: *\nDisallow: /a/ /b/"),
-    // a delay
-    (Cause::DelayNotation, "User-agent: *\nCrawl-delay: 1e3"),
-    (Cause::DelayOverADay, "User-agent: *\nCrawl-delay: 100000"),
-    // a sitemap
-    (Cause::SitemapNotAbsolute, "User-agent: *\nSitemap: /s.xml"),
-    // any line
-    (Cause::OneLine, "User-agent: * Disallow: /"),
-    (Cause::ControlInComment, "# \\x01"),
-    // the position of a line
-    (Cause::RuleBeforeUserAgent, "Disallow: /a\nUser-agent: *"),
-    (Cause::EmptyGroup, "Disallow: /a\nUser-agent: *"),
-    (Cause::DelayAboveStar, "User-agent: a\nCrawl-delay: 1\nUser-agent: *\nDisallow: /b"),
-    (Cause::DelaySplitsGroup, "User-agent: a\nCrawl-delay: 1\nUser-agent: b\nDisallow: /"),
-    (Cause::GroupPastSizeLimit, "\\{512000 #}\nUser-agent: a"),
-    (Cause::AllowedAndDisallowed, "Allow: /a\nDisallow: /a"),
-    (Cause::EmptyDisallow, "User-agent: *\nDisallow: /\nDisallow:"),
-    // the groups
-    (Cause::TwoDelays, "User-agent: *\nCrawl-delay: 1\nCrawl-delay: 2"),
-    (Cause::ClosesEverything, "User-agent: *\nDisallow: /"),
-    (Cause::ReplacesStar, "User-agent: *\nDisallow: /a\nUser-agent: FerrisBot\nDisallow: /b"),
-    (Cause::RepeatedRule, "User-agent: *\nDisallow: /a\nDisallow: /a"),
-    (Cause::GooglebotGroup, "# robots_audit Googlebot-News\nUser-agent: Googlebot\nDisallow: /a"),
-    (Cause::GoogleIgnoresStar, "# robots_audit AdsBot-Google\nUser-agent: *\nDisallow: /a"),
-    // a rule that can be deleted
-    (Cause::NeverDecides, "# robots_audit --needless FerrisBot\nUser-agent: *\nDisallow: /*b\nDisallow: /b"),
-    (Cause::MatchesNothing, "# robots_audit --needless FerrisBot\nUser-agent: *\nDisallow: /a\nDisallow: /$b"),
-    (Cause::AllowedAnyway, "# robots_audit --needless FerrisBot\nUser-agent: *\nDisallow: /a\nAllow: /b"),
-    (Cause::NotNeeded, "# robots_audit --needless FerrisBot\nUser-agent: *\nDisallow: /a\nDisallow: /ab"),
 ];
 
 /// A row of [`WARNINGS`].

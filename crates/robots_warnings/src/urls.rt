@@ -1,6 +1,6 @@
 //! Conditions on URLs and paths.
 ghost use Rattle.std.specs.Prelude.{◌≡◌, ◌&&◌, IfOk, not};
-ghost use Rattle.robots_warnings.specs.Urls.{begins_as_url, begins_in_any_case, is_absolute_url, is_invalid_url};
+ghost use Rattle.robots_warnings.specs.Urls.{begins_as_url, begins_in_any_case, is_absolute_url};
 ghost use Rattle.robots_warnings.specs.Urls.{is_unparsable};
 
 use crate::file::first;
@@ -30,13 +30,6 @@ fn is_unparsable(alloc: Global, text: &str) -> Result<bool, AllocError>
         Err(ParseError::OutOfMemory | ParseError::Overflow) => Err(AllocError),
         Err(_) => Ok(true),
     }
-}
-
-/// Whether the text starts like an http(s) URL, but can't be parsed.
-pub(crate) fn is_invalid_url(alloc: Global, text: &str) -> Result<bool, AllocError>
-    ensures { IfOk result (λ answer. answer ≡ is_invalid_url text.now) }
-{
-    Ok(begins_as_url(text.as_bytes()) && is_unparsable(alloc, text)?)
 }
 
 /// Whether the text starts like an http(s) URL, and can be parsed.

@@ -63,11 +63,7 @@ fn about_part<'a>(cause: Cause, about: Option<&'a str>) -> Part<'a>
     };
     let name = Value::Untrusted(name.as_bytes());
     match cause {
-        Cause::EmptyAgent
-        | Cause::SpaceAroundAgent
-        | Cause::VersionInAgent
-        | Cause::GooglebotGroup
-        | Cause::GoogleIgnoresStar => Part("crawler '", name),
+        Cause::GooglebotGroup | Cause::GoogleIgnoresStar => Part("crawler '", name),
         _ => Part("URL '", name),
     }
 }

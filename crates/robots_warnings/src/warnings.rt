@@ -7,13 +7,13 @@ ghost use Rattle.robots_warnings.specs.EmptyDisallows.{is_empty_at};
 ghost use Rattle.robots_warnings.specs.Internal.{Adds};
 ghost use Rattle.robots_warnings.specs.Internal.Rules.{warnings_at};
 ghost use Rattle.robots_warnings.specs.Spellings.{unpaired};
-ghost use Rattle.robots_warnings.specs.Warnings.{agent_warnings, crawler_warnings, file_lines_warnings, general_warnings};
+ghost use Rattle.robots_warnings.specs.Warnings.{crawler_warnings, file_lines_warnings, general_warnings};
 ghost use Rattle.robots_warnings.specs.Warnings.{google_warning, google_warnings, group_warnings, line_warnings};
 ghost use Rattle.robots_warnings.specs.Warnings.{past_limit_warnings, position_warnings, url_warnings, warned, warned_at, warned_beside, warnings};
 
 use crate::checks::{
-    Check, agent_checks, field_checks, file_checks, is_in_scope_of, position_checks,
-    raw_rule_checks, rule_checks, sitemap_checks, text_checks, url_checks, user_agent_checks,
+    Check, field_checks, file_checks, is_in_scope_of, position_checks, raw_rule_checks, rule_checks,
+    sitemap_checks, text_checks, url_checks, user_agent_checks,
 };
 use crate::conflicts::{RuleLines, rule_lines};
 use crate::contents::{has_odd_delay, has_odd_space, split_content};
@@ -93,22 +93,6 @@ fn warn_at(
     Ok(())
 }
 
-/// Appends the warnings about the crawlers that the user named.
-fn warn_of_agents<'a>(
-    found: &mut Found<'a>,
-    everywhere: bool,
-    named: &[&'a str],
-) -> Result<(), AllocError>
-    ensures { OnOk result (Adds found.old.items found.new.items
-        (flat_map (agent_warnings everywhere) (map (λ name. name.now) named.now))) }
-{
-    for name in named {
-        let shown = if everywhere { Some(*name) } else { None };
-        warn(found, None, shown, &agent_checks(name))?;
-    }
-    Ok(())
-}
-
 /// Appends the warnings about the URLs.
 fn warn_of_urls<'a>(
     alloc: Global,
@@ -124,20 +108,17 @@ fn warn_of_urls<'a>(
     Ok(())
 }
 
-/// Appends the warnings about the file, the crawlers that the user named, and the URLs.
+/// Appends the warnings about the file and the URLs.
 fn warn_in_general<'a>(
     alloc: Global,
     found: &mut Found<'a>,
     facts: FileFacts,
-    everywhere: bool,
-    named: &[&'a str],
     urls: &[&'a str],
 ) -> Result<(), AllocError>
     ensures { OnOk result (Adds found.old.items found.new.items
-        (general_warnings facts everywhere (map (λ name. name.now) named.now) (map (λ url. url.now) urls.now))) }
+        (general_warnings facts (map (λ url. url.now) urls.now))) }
 {
     warn(found, None, None, &file_checks(facts))?;
-    warn_of_agents(found, everywhere, named)?;
     warn_of_urls(alloc, found, urls)
 }
 
@@ -470,23 +451,20 @@ fn warn_of_groups(
 }
 
 /// All warnings about a file and a request, in the order of output. `everywhere` is false for a report on a single
-/// crawler, and else the rules of all groups are checked. `named` are the crawlers that the user named, and `agents`
-/// those reported on.
+/// crawler, and else the rules of all groups are checked. `agents` are the crawlers reported on.
 pub fn warnings<'a>(
     alloc: Global,
     everywhere: bool,
-    named: &[&'a str],
     agents: &[String],
     urls: &[&'a str],
     read: &FileRead<'_, '_>,
 ) -> Result<Vec<Warning<'a>>, AllocError>
     ensures { IfOk result (λ found. found.items
-        ≡ warnings everywhere (map (λ name. name.now) named.now) (map string_bytes agents.now)
-        (map (λ url. url.now) urls.now) read.now.bytes.now read.now.facts
-        (map label_by_value read.now.labels.now) (file_lines read.now.site.now)) }
+        ≡ warnings everywhere (map string_bytes agents.now) (map (λ url. url.now) urls.now)
+        read.now.bytes.now read.now.facts (map label_by_value read.now.labels.now) (file_lines read.now.site.now)) }
 {
     let mut found = Vec::new(alloc);
-    warn_in_general(alloc, &mut found, read.facts, everywhere, named, urls)?;
+    warn_in_general(alloc, &mut found, read.facts, urls)?;
     warn_of_lines(alloc, &mut found, everywhere, read)?;
     warn_of_positions(&mut found, read.labels)?;
     warn_past_limit(alloc, &mut found, read)?;

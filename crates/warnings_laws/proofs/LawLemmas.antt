@@ -308,17 +308,17 @@ kept false (warning ∷ warnings) is = elim (cases_Bool (keep_verdicts (warning 
 ]
 
 -- all warnings but those about needless rules, as `warnings_found` has them
-abbrev warnings_for : Option (List ℕ) → (named agents urls : List (List ℕ)) → List ℕ → List WarningValue
-warnings_for agent named agents urls file =
+abbrev warnings_for : Option (List ℕ) → (agents urls : List (List ℕ)) → List ℕ → List WarningValue
+warnings_for agent agents urls file =
     let labels = labels_for (labeling_agent agent) (lines_read file) in
-    warnings (is_none agent) named agents urls file (facts_of file labels) labels (lines_read file)
+    warnings (is_none agent) agents urls file (facts_of file labels) labels (lines_read file)
 
 -- if the request isn't about a single crawler, the warnings are those of all groups
-passed_on : (test : Cause → Bool) (agent : Option (List ℕ)) (named agents urls : List (List ℕ))
-    (file : List ℕ) → is_some agent ≡ false → ArePassed test (warnings_for agent named agents urls file)
-    → ArePassed test (warnings_of named agents urls file)
-passed_on test None named agents urls file everyone all = all
-passed_on test (Some agent) named agents urls file everyone all = absurd cc
+passed_on : (test : Cause → Bool) (agent : Option (List ℕ)) (agents urls : List (List ℕ))
+    (file : List ℕ) → is_some agent ≡ false → ArePassed test (warnings_for agent agents urls file)
+    → ArePassed test (warnings_of agents urls file)
+passed_on test None agents urls file everyone all = all
+passed_on test (Some agent) agents urls file everyone all = absurd cc
 
 module _ (requested : RequestValue) (file : List ℕ) (audit : AuditValue) (is : IsAuditOf requested file audit)
   where
@@ -342,7 +342,7 @@ module _ (requested : RequestValue) (file : List ℕ) (audit : AuditValue) (is :
           (or_parts _ _ (or_parts _ _ other).0, none)
 
       audited : (test : Cause → Bool) → ArePassed test found
-          → ArePassed test (warnings_of requested.agents agents requested.urls file)
+          → ArePassed test (warnings_of agents requested.urls file)
       audited test passed =
           passed_on test requested.agent requested.agents agents requested.urls file known.0.0
           (each_front (λ warning. test warning.cause ≡ true)

@@ -16,7 +16,7 @@ use Rattle.robots_warnings.specs.Positions.{sole_name, last_group}
 use Rattle.robots_warnings.specs.Checks.{Check, file_checks, line_checks, position_checks}
 use Rattle.robots_warnings.specs.Table.{is_not_about_syntax, topic_of}
 use Rattle.robots_warnings.specs.Warnings.{line_warnings, lines_warnings, positions_from, warned, warning_of}
-use Rattle.robots_warnings.specs.Warnings.{agent_warnings, file_lines_warnings, general_warnings}
+use Rattle.robots_warnings.specs.Warnings.{file_lines_warnings, general_warnings}
 use Rattle.robots_warnings.specs.Warnings.{group_warnings, past_limit_warnings, position_warnings}
 use Rattle.robots_warnings.specs.Warnings.{url_warnings, warnings}
 use Rattle.robots_warnings.specs.{File.lines_of, File.labels_for, WarningValue.WarningValue}
@@ -251,8 +251,8 @@ module _ (file : List ℕ) where
   pub reads : AllZip IsLineOf (lines_read file) bodies
   reads = search (rules, lines_of_file_bodies)
 
-  module _ (test : Cause → Bool) (named agents urls : List (List ℕ))
-      (all : ArePassed test (warnings_of named agents urls file)) where
+  module _ (test : Cause → Bool) (agents urls : List (List ℕ))
+      (all : ArePassed test (warnings_of agents urls file)) where
     abbrev Passes : WarningValue → Type 0
     Passes warning = test warning.cause ≡ true
 
@@ -281,7 +281,7 @@ module _ (file : List ℕ) where
     facts_quiet =
         warned_quiet test None None (file_checks facts)
         (each_front Passes (warned None None (file_checks facts))
-        (flat_map (agent_warnings true) named ++ flat_map url_warnings urls)
+        (flat_map url_warnings urls)
         (each_front Passes general (of_lines ++ (of_positions ++ (past_limit ++ of_groups))) all))
 
     pub bodies_quiet : suppresses_line_warnings facts ≡ false
@@ -295,13 +295,13 @@ module _ (file : List ℕ) where
     pub passed_groups : ArePassed test of_groups
     passed_groups = grind (arith, each_back, passed_after)
 
-module _ (named agents urls : List (List ℕ)) (file : List ℕ)
-    (silent : IsSilentOn named agents urls file) where
+module _ (agents urls : List (List ℕ)) (file : List ℕ)
+    (silent : IsSilentOn agents urls file) where
   abbrev text : List ℕ
   text = take file_limit file
 
   pub quiets : IsQuietFile (facts file)
-  quiets = quiet_file (facts file) (facts_quiet file is_not_about_syntax named agents urls silent)
+  quiets = quiet_file (facts file) (facts_quiet file is_not_about_syntax agents urls silent)
 
   abbrev forms : List Form
   forms = map form_of (lines_read file)
@@ -313,12 +313,12 @@ module _ (named agents urls : List (List ℕ)) (file : List ℕ)
         no_nul = no_nul text quiets.nul;
         bom = marked 511997 file quiets.mark;
         each = lines_forms (bodies file) (reads file)
-            (bodies_quiet file is_not_about_syntax named agents urls silent quiets.shown);
+            (bodies_quiet file is_not_about_syntax agents urls silent quiets.shown);
         below = subst (λ lines. AreRulesBelowAgents (map form_of lines)) are.lines_are
             (rules_below (name file) (labels file)
             (subst (λ l. AreLabelsOf (name file) l (labels file)) (sym are.lines_are) are) quiets.with_agent
             (none_above (last_group (labels file)) Other None None (labels file)
-            (passed_positions file is_not_about_syntax named agents urls silent)));
+            (passed_positions file is_not_about_syntax agents urls silent)));
       }
 
   pub silence : HasSyntax file
@@ -329,7 +329,7 @@ module _ (named agents urls : List (List ℕ)) (file : List ℕ)
   robot_stated agent robot is = forms_robot agent file forms robot are_forms is
 
 -- no warnings at all
-pub no_warnings : (named agents urls : List (List ℕ)) (file : List ℕ)
-    → warnings_of named agents urls file ≡ [] → HasSyntax file
-no_warnings named agents urls file none =
-    silence named agents urls file (subst (Each IsNotAboutSyntax) (sym none) tt)
+pub no_warnings : (agents urls : List (List ℕ)) (file : List ℕ)
+    → warnings_of agents urls file ≡ [] → HasSyntax file
+no_warnings agents urls file none =
+    silence agents urls file (subst (Each IsNotAboutSyntax) (sym none) tt)

@@ -115,36 +115,36 @@ one_byte b begins = elim (first_byte b [] begins) [ inl is ↦ rw is refl | inr 
 abbrev sources : List ℕ → List Source
 sources file = map source_of (bodies file)
 
-module _ (named agents urls : List (List ℕ)) (file : List ℕ)
-    (kept : AreVerdictsKept named agents urls file) where
+module _ (agents urls : List (List ℕ)) (file : List ℕ)
+    (kept : AreVerdictsKept agents urls file) where
   abbrev lines : List LineValue
   lines = lines_read file
 
   abbrev text : List ℕ
   text = take file_limit file
 
-  pub silent : IsSilentOn named agents urls file
+  pub silent : IsSilentOn agents urls file
   silent =
       each_weaker KeepsVerdicts IsNotAboutSyntax (λ warning. kept_not_syntax warning.cause)
-      (warnings_of named agents urls file) kept
+      (warnings_of agents urls file) kept
 
   pub all_read : take file_limit file ≡ file
   all_read =
       take_all file_limit file (ltb-false file_limit (length file)
-      (small_file (facts file) (facts_quiet file keeps_verdicts named agents urls kept)))
+      (small_file (facts file) (facts_quiet file keeps_verdicts agents urls kept)))
 
   whole_groups : AreGroupsWhole file
   whole_groups =
       each_weaker KeepsVerdicts IsNoSplit no_split (position_warnings (labels file))
-      (passed_positions file keeps_verdicts named agents urls kept)
+      (passed_positions file keeps_verdicts agents urls kept)
 
   all_kept : Each (λ body. IsKeptLine (line_of body) body) (bodies file)
   all_kept =
       kept_lines (bodies file) (reads file)
-      (bodies_quiet file keeps_verdicts named agents urls kept (quiets named agents urls file silent).shown)
+      (bodies_quiet file keeps_verdicts agents urls kept (quiets agents urls file silent).shown)
 
   kept_groups : Each KeepsVerdicts (group_warnings true agents (bodies file) lines (labels file))
-  kept_groups = passed_groups file keeps_verdicts named agents urls kept
+  kept_groups = passed_groups file keeps_verdicts agents urls kept
 
   abbrev escapes : List WarningValue
   escapes = warned_at cause.NonstandardEscape None (unpaired Standard true (labels file))
@@ -336,26 +336,26 @@ module _ (named agents urls : List (List ℕ)) (file : List ℕ)
 
 -- ---- the theorem
 
-pub groups_stated : (named agents urls : List (List ℕ)) (file : List ℕ)
-    → AreVerdictsKept named agents urls file → (groups : List rfc.Group) × rfc.IsFile groups file
-groups_stated named agents urls file kept =
-    let (groups, written) = silence named agents urls file (silent named agents urls file kept) in
-    (groups, subst (rfc.IsFile groups) (all_read named agents urls file kept) written)
+pub groups_stated : (agents urls : List (List ℕ)) (file : List ℕ)
+    → AreVerdictsKept agents urls file → (groups : List rfc.Group) × rfc.IsFile groups file
+groups_stated agents urls file kept =
+    let (groups, written) = silence agents urls file (silent agents urls file kept) in
+    (groups, subst (rfc.IsFile groups) (all_read agents urls file kept) written)
 
-pub verdicts_stated : (named agents urls : List (List ℕ)) (file agent uri : List ℕ) (groups : List rfc.Group)
-    (robot : RobotValue) (answer : Bool) → AreVerdictsKept named agents urls file
+pub verdicts_stated : (agents urls : List (List ℕ)) (file agent uri : List ℕ) (groups : List rfc.Group)
+    (robot : RobotValue) (answer : Bool) → AreVerdictsKept agents urls file
     → IsAsked agents file agent uri
     → rfc.IsFile groups file → IsRobotOfFile agent (take file_limit file) robot
     → IsVerdict (unplaced robot.rules) uri answer ↔ IsStandardVerdict groups agent uri answer
-verdicts_stated named agents urls file agent uri groups robot answer kept asked written of =
-    verdict_stated named agents urls file kept agent groups
-    (subst (rfc.IsFile groups) (sym (all_read named agents urls file kept)) written) asked.reported uri robot
+verdicts_stated agents urls file agent uri groups robot answer kept asked written of =
+    verdict_stated agents urls file kept agent groups
+    (subst (rfc.IsFile groups) (sym (all_read agents urls file kept)) written) asked.reported uri robot
     answer asked.normal of
 
 -- the same from what a robot's contracts say
 pub standard_answer : (file agent uri : List ℕ) (robot : RobotValue) (answer : Bool)
     → IsRobotOfFile agent (take file_limit file) robot → IsVerdict (unplaced robot.rules) uri answer
-    → (named agents urls : List (List ℕ)) (groups : List rfc.Group) → AreVerdictsKept named agents urls file
+    → (agents urls : List (List ℕ)) (groups : List rfc.Group) → AreVerdictsKept agents urls file
     → IsAsked agents file agent uri → rfc.IsFile groups file → IsStandardVerdict groups agent uri answer
-standard_answer file agent uri robot answer of given named agents urls groups kept asked written =
-    (verdicts_stated named agents urls file agent uri groups robot answer kept asked written of).0 given
+standard_answer file agent uri robot answer of given agents urls groups kept asked written =
+    (verdicts_stated agents urls file agent uri groups robot answer kept asked written of).0 given

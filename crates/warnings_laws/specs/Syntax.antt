@@ -22,15 +22,15 @@ IsNotAboutSyntax warning = is_not_about_syntax warning.cause ≡ true
 
 -- the warnings about a file if all groups are checked, as with `--agents` or more than one `--agent`; `named`
 -- are the crawlers that the user named, and `agents` those reported on
-abbrev pub warnings_of : (named agents urls : List (List ℕ)) → List ℕ → List WarningValue
-warnings_of named agents urls file =
+abbrev pub warnings_of : (agents urls : List (List ℕ)) → List ℕ → List WarningValue
+warnings_of agents urls file =
     let lines = lines_read file in
     let labels = labels_for (codes "*") lines in
-    warnings true named agents urls file (facts_of file labels) labels lines
+    warnings true agents urls file (facts_of file labels) labels lines
 
 -- none of these warnings is about the syntax of the file
-abbrev pub IsSilentOn : (named agents urls : List (List ℕ)) → List ℕ → Type 0
-IsSilentOn named agents urls file = Each IsNotAboutSyntax (warnings_of named agents urls file)
+abbrev pub IsSilentOn : (agents urls : List (List ℕ)) → List ℕ → Type 0
+IsSilentOn agents urls file = Each IsNotAboutSyntax (warnings_of agents urls file)
 
 -- the first 512,000 bytes of the file, which are those that are read, follow the extended grammar
 abbrev pub HasSyntax : List ℕ → Type 0

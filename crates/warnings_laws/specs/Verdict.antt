@@ -13,8 +13,8 @@ abbrev pub KeepsVerdicts : WarningValue → Type 0
 KeepsVerdicts warning = keeps_verdicts warning.cause ≡ true
 
 -- no warning about the file is, if all groups are checked
-abbrev pub AreVerdictsKept : (named agents urls : List (List ℕ)) → List ℕ → Type 0
-AreVerdictsKept named agents urls file = Each KeepsVerdicts (warnings_of named agents urls file)
+abbrev pub AreVerdictsKept : (agents urls : List (List ℕ)) → List ℕ → Type 0
+AreVerdictsKept agents urls file = Each KeepsVerdicts (warnings_of agents urls file)
 
 -- the lines that apply to the crawler are those that apply to one of these
 abbrev pub IsAsOneOf : List (List ℕ) → (file agent : List ℕ) → Type 0

@@ -19,9 +19,9 @@ ghost use Rattle.robots_warnings.specs.EmptyDisallows.{IsEmptyDisallow, is_empty
 ghost use Rattle.robots_warnings.specs.{Closed.is_closed_for, Contents.is_cut_to_root};
 ghost use Rattle.robots_warnings.specs.{NamesPastLimit.names_past_limit, Positions.is_above_agents};
 ghost use Rattle.robots_warnings.specs.{Repeated.repeated, Replaced.replacing, Replaced.star_count};
-ghost use Rattle.robots_warnings.specs.{Rules.begins_oddly, Rules.has_dollar_inside, Tokens.has_space_around};
+ghost use Rattle.robots_warnings.specs.Rules.{begins_oddly, has_dollar_inside};
 ghost use Rattle.robots_warnings.specs.{Targets.has_odd_target, Urls.is_unparsable};
-ghost use Rattle.robots_warnings.specs.{Urls.begins_as_url, Urls.is_invalid_url, Warnings.position_warnings, Warnings.warned_at};
+ghost use Rattle.robots_warnings.specs.{Urls.begins_as_url, Warnings.position_warnings, Warnings.warned_at};
 ghost use Rattle.robots_warnings.specs.declared.table.Cause.TheVariants.{TwoDelays};
 ghost use Rattle.audit_core.specs.Audit.{AuditValue, IsAuditOf, agents_requested};
 ghost use Rattle.audit_core.specs.{Asked.asked_target, Request.RequestValue, Syntax.has_standard_verdicts, Syntax.is_standard};
@@ -228,22 +228,10 @@ pub fn missing_slash()
     ensures { (value text : List ℕ) → begins_oddly value ≡ true → ¬ Matches (escaped value) (byte "/" ∷ text) }
 {}
 
-/// A URL with `invalid-url` is matched as the escaped string.
-pub fn invalid_url()
-    ensures { (url : List ℕ) → is_invalid_url url ≡ true → asked_target url ≡ escaped url }
-{}
-
 /// The match target of a path, or of an http(s) URL that can be parsed, is in normal form if there is no `url-not-normal`.
 /// So `verdicts_are_those_of_the_standard` applies to it.
 pub fn url_not_normal()
     ensures { (text : List ℕ)
         → (starts_with nat_eq text (codes "/") || (begins_as_url text && not (is_unparsable text))) ≡ true
         → has_odd_target text ≡ false → normal_uri all_stay (asked_target text) ≡ asked_target text }
-{}
-
-/// A crawler's name with `space-around-agent` matches no user-agent line, in any file.
-#[tactic(auto, using(crate::proofs::WarningLemmas::space_around_agent))]
-pub fn space_around_agent()
-    ensures { (agent file : List ℕ) → IsUtf8 agent → has_space_around agent ≡ true
-        → is_named agent (file_lines file) ≡ false }
 {}

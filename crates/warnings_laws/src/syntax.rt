@@ -25,12 +25,12 @@ pub fn quiet_lines_have_forms()
 /// - `robot`: `Robot::new` then has the rules, the delay and the sitemaps that
 ///   the file states for the crawler.
 pub fn silence_means_syntax()
-    ensures syntax { (named agents urls : List (List ℕ)) (file : List ℕ) → IsSilentOn named agents urls file
+    ensures syntax { (agents urls : List (List ℕ)) (file : List ℕ) → IsSilentOn agents urls file
         → HasSyntax file }
-    ensures none { (named agents urls : List (List ℕ)) (file : List ℕ)
-        → warnings_of named agents urls file ≡ [] → HasSyntax file }
-    ensures robot { (named agents urls : List (List ℕ)) (file agent : List ℕ) (robot : RobotValue)
-        → IsSilentOn named agents urls file → IsRobotOfFile agent (take file_limit file) robot
+    ensures none { (agents urls : List (List ℕ)) (file : List ℕ)
+        → warnings_of agents urls file ≡ [] → HasSyntax file }
+    ensures robot { (agents urls : List (List ℕ)) (file agent : List ℕ) (robot : RobotValue)
+        → IsSilentOn agents urls file → IsRobotOfFile agent (take file_limit file) robot
         → IsRobotStated agent file robot }
 {}
 

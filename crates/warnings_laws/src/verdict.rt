@@ -16,10 +16,10 @@ use texting_robots::{Error, Robot};
 ///   standard's grammar, extended as `rfc9309_laws` says.
 /// - `verdicts`: then the verdict on each path and query in normal form is the standard's.
 pub fn silence_means_verdicts()
-    ensures groups { (named agents urls : List (List ℕ)) (file : List ℕ)
-        → AreVerdictsKept named agents urls file → (groups : List Group) × IsFile groups file }
-    ensures verdicts { (named agents urls : List (List ℕ)) (file agent uri : List ℕ) (groups : List Group)
-        (robot : RobotValue) (answer : Bool) → AreVerdictsKept named agents urls file
+    ensures groups { (agents urls : List (List ℕ)) (file : List ℕ)
+        → AreVerdictsKept agents urls file → (groups : List Group) × IsFile groups file }
+    ensures verdicts { (agents urls : List (List ℕ)) (file agent uri : List ℕ) (groups : List Group)
+        (robot : RobotValue) (answer : Bool) → AreVerdictsKept agents urls file
         → IsAsked agents file agent uri → IsFile groups file → IsRobotOfFile agent (take file_limit file) robot
         → IsVerdict (unplaced robot.rules) uri answer ↔ IsStandardVerdict groups agent uri answer }
 {}
@@ -31,8 +31,8 @@ pub fn allowed_by_the_standard(
     file: &[u8],
     uri: &str,
 ) -> Result<bool, Error>
-    ensures { IfOk result (λ answer. (named agents urls : List (List ℕ)) (groups : List Group)
-        → AreVerdictsKept named agents urls file.now → IsAsked agents file.now agent.now uri.now
+    ensures { IfOk result (λ answer. (agents urls : List (List ℕ)) (groups : List Group)
+        → AreVerdictsKept agents urls file.now → IsAsked agents file.now agent.now uri.now
         → IsFile groups file.now → IsStandardVerdict groups agent.now uri.now answer) }
 {
     let robot = Robot::new(alloc, agent, file)?;

@@ -8,5 +8,5 @@ pub returns-clause-none : goal.returns-clause-none
 returns-clause-none c = no_warnings
 
 pub returns-clause-robot : goal.returns-clause-robot
-returns-clause-robot c = λ named agents urls file agent robot silent is.
-    robot_stated named agents urls file silent agent robot is
+returns-clause-robot c = λ agents urls file agent robot silent is.
+    robot_stated agents urls file silent agent robot is
