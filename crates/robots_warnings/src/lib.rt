@@ -22,6 +22,7 @@ pub mod several_values;
 pub mod spellings;
 pub mod table;
 pub mod targets;
+pub mod texts;
 pub mod tokens;
 pub mod urls;
 mod values;
