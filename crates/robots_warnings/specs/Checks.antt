@@ -31,7 +31,7 @@ file_checks facts =
     (cause.LooksLikeHtml, facts.is_html)
     ∷ (cause.LooksLikeUtf16, facts.is_utf_16)
     ∷ (cause.NoDirectives, facts.is_other_text)
-    ∷ (cause.EmptyFile, facts.is_empty)
+    ∷ (cause.EmptyFile, not facts.kinds.text)
     ∷ (cause.FileTooLarge, facts.is_too_large)
     ∷ (cause.NoUserAgent, facts.kinds.rule && not facts.kinds.user_agent)
     ∷ (cause.DamagedByteOrderMark, facts.has_damaged_mark)

@@ -1,6 +1,6 @@
 -- What the warnings have to know about a file as a whole.
 use Rattle.std.specs.Prelude.{ℕ, ◌==◌, Bool, true, false, nat_eq, nat_le, nat_lt, not, ◌||◌, ◌&&◌, List, []}
-use Rattle.std.specs.Prelude.{◌∷◌, codes, drop, if◌then◌else◌, length, take}
+use Rattle.std.specs.Prelude.{◌∷◌, codes, drop, if◌then◌else◌, length, slice_index, take}
 use Rattle.std.specs.List.{list_any, starts_with}
 use Rattle.texting_robots.specs.Callers.{Allow, Disallow, LineValue, Label, Raw, UserAgent, file_limit}
 use Rattle.texting_robots.specs.{Cut.cr, Cut.lf, Group.is_agent}
@@ -92,6 +92,16 @@ is_unknown kinds = kinds.text && not (kinds.user_agent || kinds.rule || kinds.ex
 abbrev pub is_too_large : List ℕ → Bool
 is_too_large file = nat_lt file_limit (length file)
 
+-- a robot reads this byte as the end of a line, or as a part of it
+abbrev pub ends_line : ℕ → Bool
+ends_line b = b == cr || (b == lf || b == 0)
+
+-- the size limit is within a line
+abbrev pub has_cut_line : List ℕ → Bool
+has_cut_line file =
+    is_too_large file
+    && not (ends_line (slice_index file 511999) || ends_line (slice_index file file_limit))
+
 -- the facts about a file with these lines
 abbrev pub facts_of : List ℕ → List Label → FileFacts
 facts_of file labels =
@@ -101,8 +111,8 @@ facts_of file labels =
       is_html = is_unknown kinds && seems_html file;
       is_utf_16 = is_unknown kinds && (not (seems_html file) && seems_utf_16 file);
       is_other_text = is_unknown kinds && not (seems_html file || seems_utf_16 file);
-      is_empty = length file == 0;
       is_too_large = is_too_large file;
+      has_cut_line = has_cut_line file;
       has_damaged_mark = has_damaged_mark file;
       has_nul = has_nul file;
     }
@@ -110,4 +120,4 @@ facts_of file labels =
 -- the file seems to be something else than a robots.txt file, so that each of its lines would cause a
 -- warning
 abbrev pub suppresses_line_warnings : FileFacts → Bool
-suppresses_line_warnings facts = facts.is_html || facts.is_utf_16
+suppresses_line_warnings facts = facts.is_html || (facts.is_utf_16 || facts.is_other_text)

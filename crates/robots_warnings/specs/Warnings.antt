@@ -1,13 +1,13 @@
 -- All warnings about a file and a request, in the order of output.
-use Rattle.std.specs.Prelude.{ℕ, Bool, List, [], ◌∷◌, ◌++◌, ◌&&◌, Option, Some, None, codes, flat_map}
-use Rattle.std.specs.Prelude.{if◌then◌else◌, map, not, ◌||◌}
+use Rattle.std.specs.Prelude.{ℕ, ◌==◌, Bool, true, List, [], ◌∷◌, ◌++◌, ◌&&◌, Option, Some, None, codes}
+use Rattle.std.specs.Prelude.{flat_map, if◌then◌else◌, length, map, not, ◌||◌}
 use Rattle.texting_robots.specs.Callers.{LineValue, Label, bodies_read, is_named}
 use Rattle.robots_warnings.specs.declared.facts.FileFacts.{FileFacts}
 use Rattle.robots_warnings.specs.declared.positions.Preceding.{Preceding}
 use Rattle.robots_warnings.specs.declared.positions.Preceding.TheVariants.{Other}
 use Rattle.robots_warnings.specs.declared.table.Cause.{Cause}
 use Rattle.robots_warnings.specs.declared.table.Cause.TheVariants.{AllowedAndDisallowed, ClosesEverything}
-use Rattle.robots_warnings.specs.declared.table.Cause.TheVariants.{EmptyDisallow, EscapedDelimiter}
+use Rattle.robots_warnings.specs.declared.table.Cause.TheVariants.{CutLine, EmptyDisallow, EscapedDelimiter}
 use Rattle.robots_warnings.specs.declared.table.Cause.TheVariants.{GoogleIgnoresStar}
 use Rattle.robots_warnings.specs.declared.table.Cause.TheVariants.{GooglebotGroup, GroupPastSizeLimit}
 use Rattle.robots_warnings.specs.declared.table.Cause.TheVariants.{NonstandardEscape, RepeatedRule}
@@ -57,22 +57,25 @@ crawler_shown everywhere agent = if everywhere then Some agent else None
 abbrev pub url_warnings : List ℕ → List WarningValue
 url_warnings url = warned None (Some url) (url_checks url)
 
--- warnings about a line with this content
-abbrev pub line_warnings : Bool → Label → List ℕ → List WarningValue
-line_warnings everywhere label body =
-    warned (Some label.number) None (line_checks (is_in_scope_of everywhere label.membership) label.line body)
+-- warnings about a line with this content: if the size limit cuts it, only that
+abbrev pub line_warnings : (is_cut everywhere : Bool) → Label → List ℕ → List WarningValue
+line_warnings is_cut everywhere label body =
+    warned (Some label.number) None (if is_cut then (CutLine, true) ∷ []
+    else line_checks (is_in_scope_of everywhere label.membership) label.line body)
 
--- warnings about lines, each with its content
-abbrev pub lines_warnings : Bool → List (List ℕ) → List Label → List WarningValue
-lines_warnings everywhere [] labels = []
-lines_warnings everywhere (body ∷ bodies) [] = []
-lines_warnings everywhere (body ∷ bodies) (label ∷ labels) =
-    line_warnings everywhere label body ++ lines_warnings everywhere bodies labels
+-- warnings about lines, each with its content; if `cuts_last`, the size limit cuts the last one
+abbrev pub lines_warnings : (cuts_last everywhere : Bool) → List (List ℕ) → List Label → List WarningValue
+lines_warnings cuts_last everywhere [] labels = []
+lines_warnings cuts_last everywhere (body ∷ bodies) [] = []
+lines_warnings cuts_last everywhere (body ∷ bodies) (label ∷ labels) =
+    line_warnings (cuts_last && length labels == 0) everywhere label body
+    ++ lines_warnings cuts_last everywhere bodies labels
 
 -- warnings about each line of a file, unless it seems to be something else than a robots.txt file
 abbrev pub file_lines_warnings : FileFacts → Bool → List Label → List (List ℕ) → List WarningValue
 file_lines_warnings facts everywhere labels bodies =
-    if suppresses_line_warnings facts then [] else lines_warnings everywhere bodies labels
+    if suppresses_line_warnings facts then []
+    else lines_warnings facts.has_cut_line everywhere bodies labels
 
 -- warnings about the positions of these lines; `last` is the number of the last rule or delay, `preceding` is
 -- what precedes the first of them, and `above` and `delay` are the only name and the first delay of the group

@@ -34,7 +34,7 @@ pub(crate) fn file_checks(facts: FileFacts) -> [Check; 8]
         (Cause::LooksLikeHtml, facts.is_html),
         (Cause::LooksLikeUtf16, facts.is_utf_16),
         (Cause::NoDirectives, facts.is_other_text),
-        (Cause::EmptyFile, facts.is_empty),
+        (Cause::EmptyFile, !facts.kinds.text),
         (Cause::FileTooLarge, facts.is_too_large),
         (
             Cause::NoUserAgent,

@@ -2,8 +2,8 @@
 ghost use Rattle.std.specs.Prelude.{◌≡◌, ◌==◌, ◌||◌, map, not};
 ghost use Rattle.std.specs.List.{list_any};
 ghost use Rattle.texting_robots.specs.Callers.{by_value, label_by_value};
-ghost use Rattle.robots_warnings.specs.Facts.{facts_of, has_damaged_mark, has_nul, has_text, is_extra, is_too_large};
-ghost use Rattle.robots_warnings.specs.Facts.{is_unknown, kinds_of, mark, nul_at_every_other, seems_html, seems_utf_16};
+ghost use Rattle.robots_warnings.specs.Facts.{ends_line, facts_of, has_cut_line, has_damaged_mark, has_nul, has_text, is_extra};
+ghost use Rattle.robots_warnings.specs.Facts.{is_too_large, is_unknown, kinds_of, mark, nul_at_every_other, seems_html, seems_utf_16};
 ghost use Rattle.robots_warnings.specs.Facts.{suppresses_line_warnings, without_start, without_white};
 ghost use Rattle.robots_warnings.specs.File.{lines_of};
 ghost use Rattle.robots_warnings.specs.Internal.{kinds_with};
@@ -36,10 +36,10 @@ pub struct FileFacts {
     pub is_utf_16: bool,
     /// The same, but it looks like neither.
     pub is_other_text: bool,
-    /// The file has no bytes.
-    pub is_empty: bool,
     /// The file is larger than the size limit.
     pub is_too_large: bool,
+    /// The size limit is within a line.
+    pub has_cut_line: bool,
     /// The file starts with a part of a byte order mark.
     pub has_damaged_mark: bool,
     /// A NUL is within the size limit.
@@ -192,6 +192,20 @@ pub(crate) fn is_too_large(file: &[u8]) -> bool
     file.len() > FILE_LIMIT
 }
 
+/// Whether the byte is read as the end of a line, or as a part of it.
+fn ends_line(byte: u8) -> bool
+    ensures { result ≡ ends_line byte }
+{
+    matches!(byte, b'\r' | b'\n' | 0)
+}
+
+/// Whether the size limit is within a line.
+fn has_cut_line(file: &[u8]) -> bool
+    ensures { result ≡ has_cut_line file.now }
+{
+    is_too_large(file) && !(ends_line(file[FILE_LIMIT - 1]) || ends_line(file[FILE_LIMIT]))
+}
+
 /// The facts about a file with these lines.
 pub fn facts_of(file: &[u8], labels: &[LabeledLine<'_>]) -> FileFacts
     ensures { result ≡ facts_of file.now (map label_by_value labels.now) }
@@ -205,8 +219,8 @@ pub fn facts_of(file: &[u8], labels: &[LabeledLine<'_>]) -> FileFacts
         is_html,
         is_utf_16,
         is_other_text: is_unknown && !is_html && !is_utf_16,
-        is_empty: file.is_empty(),
         is_too_large: is_too_large(file),
+        has_cut_line: has_cut_line(file),
         has_damaged_mark: has_damaged_mark(file),
         has_nul: has_nul(file),
     }
@@ -216,5 +230,5 @@ pub fn facts_of(file: &[u8], labels: &[LabeledLine<'_>]) -> FileFacts
 pub(crate) fn suppresses_line_warnings(facts: FileFacts) -> bool
     ensures { result ≡ suppresses_line_warnings facts }
 {
-    facts.is_html || facts.is_utf_16
+    facts.is_html || facts.is_utf_16 || facts.is_other_text
 }

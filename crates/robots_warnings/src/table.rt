@@ -79,6 +79,7 @@ pub enum Cause {
     // any line
     OneLine,
     ControlInComment,
+    CutLine,
     // the position of a line
     RuleBeforeUserAgent,
     EmptyGroup,
@@ -114,7 +115,7 @@ pub enum Topic {
 
 /// The warnings with their levels, topics and names.
 #[rattlefmt::skip]
-pub static WARNINGS: [(Cause, Level, Topic, &str); 69] = [
+pub static WARNINGS: [(Cause, Level, Topic, &str); 70] = [
     // the file
     (Cause::LooksLikeHtml, Level::Error, Topic::Syntax, "looks-like-html"),
     (Cause::LooksLikeUtf16, Level::Error, Topic::Syntax, "looks-like-utf-16"),
@@ -177,6 +178,7 @@ pub static WARNINGS: [(Cause, Level, Topic, &str); 69] = [
     // any line
     (Cause::OneLine, Level::Error, Topic::Meaning, "one-line"),
     (Cause::ControlInComment, Level::Note, Topic::Syntax, "control-in-comment"),
+    (Cause::CutLine, Level::Warning, Topic::Syntax, "cut-line"),
     // the position of a line
     (Cause::RuleBeforeUserAgent, Level::Error, Topic::Syntax, "rule-before-user-agent"),
     (Cause::EmptyGroup, Level::Warning, Topic::Meaning, "empty-group"),

@@ -3,7 +3,7 @@ use crate::table::Cause;
 
 /// For each warning, in the order of [`WARNINGS`](crate::table::WARNINGS), its message.
 #[rattlefmt::skip]
-pub(crate) static MESSAGES: [(Cause, &str); 69] = [
+pub(crate) static MESSAGES: [(Cause, &str); 70] = [
     // the file
     (Cause::LooksLikeHtml,
         "no usable line found; the text starts with <, so it may be an HTML page; serve a plain-text robots.txt instead"),
@@ -12,7 +12,7 @@ pub(crate) static MESSAGES: [(Cause, &str); 69] = [
     (Cause::NoDirectives,
         "no usable User-agent, Allow, Disallow, Crawl-delay or Sitemap line found, so everything is allowed; write one directive per line, for example: Disallow: /search"),
     (Cause::EmptyFile,
-        "the file is empty, so every URL may be fetched; name the right file with --file, or, if that is meant, write User-agent: * and an empty Disallow"),
+        "the file has nothing but, at most, blank lines and comments, so every URL may be fetched; pass the right file, or, if that is meant, write User-agent: * and an empty Disallow"),
     (Cause::FileTooLarge,
         "the file is larger than 512,000 bytes (500 KiB); the rest is ignored; shorten it or move important groups to the top"),
     (Cause::NoUserAgent,
@@ -118,6 +118,8 @@ pub(crate) static MESSAGES: [(Cause, &str); 69] = [
         "another field name follows in the same line, where it isn't recognized; write each User-agent, Allow, Disallow, Crawl-delay and Sitemap on a line of its own"),
     (Cause::ControlInComment,
         "the comment contains a control character or isn't valid UTF-8, which RFC 9309 doesn't allow; it has no effect here; delete the character, or save the file as UTF-8"),
+    (Cause::CutLine,
+        "the line goes beyond the first 512,000 bytes, so only its first part is read; shorten the file, or move the line up"),
     // the position of a line
     (Cause::RuleBeforeUserAgent,
         "the rule comes before the first User-agent line, so it belongs to no group and is ignored; move it below the User-agent line it is meant for"),
@@ -160,12 +162,12 @@ pub(crate) static MESSAGES: [(Cause, &str); 69] = [
 /// For each warning, in the order of [`WARNINGS`](crate::table::WARNINGS), a file that triggers it for FerrisBot, or with
 /// the arguments in its first line, or a command. In a file, `\xFF` is a byte, and `\{512000 a}` is 512,000 times an `a`.
 #[rattlefmt::skip]
-pub(crate) static EXAMPLES: [(Cause, &str); 69] = [
+pub(crate) static EXAMPLES: [(Cause, &str); 70] = [
     // the file
     (Cause::LooksLikeHtml, "<html>\n</html>"),
     (Cause::LooksLikeUtf16, "\\xFF\\xFED\\x00"),
     (Cause::NoDirectives, "hello\nworld"),
-    (Cause::EmptyFile, "robots_audit FerrisBot < /dev/null"),
+    (Cause::EmptyFile, "# no rules"),
     (Cause::FileTooLarge, "Disallow: /\\{512000 a}"),
     (Cause::NoUserAgent, "Disallow: /a\nDisallow: /b"),
     (Cause::DamagedByteOrderMark, "\\xEF\\xBBAllow: /"),
@@ -223,6 +225,7 @@ pub(crate) static EXAMPLES: [(Cause, &str); 69] = [
     // any line
     (Cause::OneLine, "User-agent: * Disallow: /"),
     (Cause::ControlInComment, "# \\x01"),
+    (Cause::CutLine, "User-agent: *\nDisallow: /\\{512000 a}"),
     // the position of a line
     (Cause::RuleBeforeUserAgent, "Disallow: /a\nUser-agent: *"),
     (Cause::EmptyGroup, "Disallow: /a\nUser-agent: *"),

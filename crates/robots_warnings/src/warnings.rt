@@ -205,16 +205,21 @@ fn warn_of_content(
     warn_of_raw_value(found, is_in_scope, number, labeled.line, parts)
 }
 
-/// Appends the warnings about a line with this content.
+/// Appends the warnings about a line with this content, which the size limit cuts if `is_cut` is true.
 fn warn_of_line(
     alloc: Global,
     found: &mut Found<'_>,
+    is_cut: bool,
     everywhere: bool,
     labeled: &LabeledLine<'_>,
     body: &[u8],
 ) -> Result<(), AllocError>
-    ensures { OnOk result (Adds found.old.items found.new.items (line_warnings everywhere (label_by_value labeled.now) body.now)) }
+    ensures { OnOk result (Adds found.old.items found.new.items
+        (line_warnings is_cut everywhere (label_by_value labeled.now) body.now)) }
 {
+    if is_cut {
+        return warn(found, Some(labeled.number), None, &[(Cause::CutLine, true)]);
+    }
     let is_in_scope = is_in_scope_of(everywhere, labeled.membership);
     let (tail, comment) = split_content(body);
     warn_of_content(found, is_in_scope, labeled, body, (tail, comment))?;
@@ -242,7 +247,8 @@ fn warn_of_lines(
         let [labeled, after @ ..] = rest else {
             return Ok(());
         };
-        warn_of_line(alloc, found, everywhere, labeled, body)?;
+        let is_cut = read.facts.has_cut_line && after.is_empty();
+        warn_of_line(alloc, found, is_cut, everywhere, labeled, body)?;
         rest = after;
     }
     Ok(())

@@ -6,7 +6,6 @@ use Rattle.robots_warnings.proofs.warnings.warn_of_lines.Given as goal
 -- those found and those of the remaining lines are all warnings
 abbrev pub invariant-loop-body : goal.invariant-loop-body
 invariant-loop-body l =
-    l.found.items
-    ++ lines_warnings l.everywhere l.body-iterator (map label_by_value l.rest)
-    ≡ l.fn.found.items
-    ++ lines_warnings l.everywhere (bodies_read l.read.bytes.now) (map label_by_value l.read.labels.now)
+    let warnings = lines_warnings l.read.facts.has_cut_line l.everywhere in
+    l.found.items ++ warnings l.body-iterator (map label_by_value l.rest)
+    ≡ l.fn.found.items ++ warnings (bodies_read l.read.bytes.now) (map label_by_value l.read.labels.now)
