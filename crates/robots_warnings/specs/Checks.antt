@@ -1,6 +1,6 @@
 -- The conditions of warnings about a file, a request, a line and its position, grouped by what they inspect,
 -- in the order of output. Warnings.antt names those of the others.
-use Rattle.std.specs.Prelude.{ℕ, ◌==◌, Bool, true, false, List, [], ◌∷◌, ◌++◌, ◌||◌, Option, None, Some}
+use Rattle.std.specs.Prelude.{ℕ, Bool, true, false, List, [], ◌∷◌, ◌++◌, ◌||◌, Option, None, Some}
 use Rattle.std.specs.Prelude.{if◌then◌else◌, nat_lt, not, ◌&&◌}
 use Rattle.std.specs.{Str.byte, Str.is_utf8}
 use Rattle.texting_robots.specs.Callers.{Allow, CrawlDelay, Disallow, LineValue, Label, Raw, Sitemap}
@@ -13,8 +13,8 @@ use Rattle.robots_warnings.specs.declared.table.Cause.TheVariants as cause
 use Rattle.robots_warnings.specs.Contents.{comment_of, has_odd_comment, has_odd_delay, has_odd_space}
 use Rattle.robots_warnings.specs.Contents.{is_cut_short, is_cut_to_root, tail_of}
 use Rattle.robots_warnings.specs.FieldNames.{begins_inner_field, is_misspelled, is_without_colon, meant_by}
-use Rattle.robots_warnings.specs.Positions.{is_above_agents, is_empty_group, is_other_delay, is_split}
-use Rattle.robots_warnings.specs.Positions.{name_star}
+use Rattle.robots_warnings.specs.Positions.{are_joined, is_above_agents, is_empty_group, is_other_delay}
+use Rattle.robots_warnings.specs.Positions.{is_split, name_star}
 use Rattle.robots_warnings.specs.Rules.{before_byte, begins_dot_segment, begins_wildcard, has, has_dollar_inside}
 use Rattle.robots_warnings.specs.Rules.{has_more_after_dollar, has_odd_character, has_odd_start, holds_otherwise, is_expression, is_quoted, somewhere}
 use Rattle.robots_warnings.specs.Targets.{has_odd_target}
@@ -31,7 +31,7 @@ file_checks facts =
     (cause.LooksLikeHtml, facts.is_html)
     ∷ (cause.LooksLikeUtf16, facts.is_utf_16)
     ∷ (cause.NoDirectives, facts.is_other_text)
-    ∷ (cause.EmptyFile, not facts.kinds.text)
+    ∷ (cause.EmptyFile, not (facts.kinds.text || facts.is_too_large))
     ∷ (cause.FileTooLarge, facts.is_too_large)
     ∷ (cause.NoUserAgent, facts.kinds.rule && not facts.kinds.user_agent)
     ∷ (cause.DamagedByteOrderMark, facts.has_damaged_mark)
@@ -111,6 +111,7 @@ position_checks last preceding above delay label lines =
     ∷ (cause.EmptyGroup, is_empty_group last label)
     ∷ (cause.DelaySplitsGroup, is_split preceding above label lines && not (name_star lines))
     ∷ (cause.DelayAboveStar, is_split preceding above label lines && name_star lines)
+    ∷ (cause.JoinedGroups, are_joined lines)
     ∷ (cause.TwoDelays, is_other_delay delay label)
     ∷ []
 

@@ -1,18 +1,20 @@
 -- Field names: which one was probably intended in an ignored line, and what is unusual about that of a
 -- directive.
-use Rattle.std.specs.Prelude.{ℕ, ◌+◌, ◌==◌, nat_eq, nat_le, Bool, not, ◌||◌, ◌&&◌, List, [], ◌∷◌, Option}
-use Rattle.std.specs.Prelude.{bytes_eq, find, if◌then◌else◌, length, map, option_map, drop, reverse}
-use Rattle.std.specs.Prelude.{slice_index, take, unwrap_or}
+use Rattle.std.specs.Prelude.{ℕ, ◌+◌, ◌-◌, ◌==◌, nat_eq, nat_le, nat_lt, Bool, not, ◌||◌, ◌&&◌, List, []}
+use Rattle.std.specs.Prelude.{◌∷◌, Option, bytes_eq, codes, drop, find, if◌then◌else◌, length, map}
+use Rattle.std.specs.Prelude.{option_map, reverse, slice_index, take, unwrap_or}
+use Rattle.std.specs.Char.{is_ascii_alphabetic, is_ascii_alphanumeric, is_ascii_uppercase}
 use Rattle.std.specs.Str.{byte, str_to_ascii_lowercase}
-use Rattle.std.specs.{List.before_first, List.list_any, Option.option_or}
+use Rattle.std.specs.{List.before_first, List.list_all, List.list_any, Option.option_or}
 use Rattle.strsim.specs.Edits.{levenshtein_row}
 use Rattle.texting_robots.specs.Statement.{field_names}
 use Rattle.texting_robots.specs.declared.parser.statement.Kind.{Kind}
 use Rattle.texting_robots.specs.declared.parser.statement.Kind.TheVariants as kind
-use Rattle.robots_warnings.specs.{File.space, File.tab, Rules.before_byte}
+use Rattle.robots_warnings.specs.{File.hash, File.space, File.tab, Rules.after_byte, Rules.before_byte}
+use Rattle.robots_warnings.specs.Urls.{begins_as_url}
 use Rattle.robots_warnings.specs.declared.field_names.TheConstants.{DIRECTIVES, KINDS, UNSUPPORTED}
 use Rattle.robots_warnings.specs.declared.table.Cause.{Cause}
-use Rattle.robots_warnings.specs.declared.table.Cause.TheVariants.{InvalidDelay, UnrecognizedLine}
+use Rattle.robots_warnings.specs.declared.table.Cause.TheVariants.{HostName, InvalidDelay, UnrecognizedLine}
 
 -- ---- the tokens of a line
 
@@ -50,13 +52,17 @@ begins_with name word = is_name name (take (length name) word)
 abbrev pub is_accepted : Kind → List ℕ → Bool
 is_accepted kind word = list_any (bytes_eq (str_to_ascii_lowercase word)) (field_names kind)
 
--- the token starts with the name, or is similar to it: the lengths differ by at most 2, and in lower case, it
--- has an edit distance of at most 2 from it
+-- two or more bytes follow so many bytes of the token, and the first of them is a letter
+abbrev pub goes_on : ℕ → List ℕ → Bool
+goes_on count word = is_ascii_alphabetic (slice_index word count) && nat_lt 1 (length word - count)
+
+-- the token starts with the name, and doesn't go on, as `DisallowAITraining` does; or it is similar to the
+-- name: the lengths differ by at most 2, and in lower case, it has an edit distance of at most 2 from it
 abbrev pub may_mean : List ℕ → List ℕ → Bool
 may_mean name word =
-    begins_with name word
-    || ((nat_le (length word) (length name + 2) && nat_le (length name) (length word + 2))
-    && nat_le (levenshtein_row nat_eq (str_to_ascii_lowercase word) name (length name)) 2)
+    if begins_with name word then not (goes_on (length name) word)
+    else (nat_le (length word) (length name + 2) && nat_le (length name) (length word + 2))
+    && nat_le (levenshtein_row nat_eq (str_to_ascii_lowercase word) name (length name)) 2
 
 -- ---- what an ignored line probably intends, by its field name and its first token
 
@@ -86,19 +92,29 @@ may_either_mean name word known = may_mean known name || may_mean known word
 abbrev pub unsupported_in : List ℕ → List ℕ → Option Cause
 unsupported_in name word = first_that (is_either name word) unsupported
 
--- the warning for a directive, if one of the tokens starts with a usual field name or is similar to it
+-- the warning for a directive, if one of the tokens seems to mean its usual field name
 abbrev pub directive_in : List ℕ → List ℕ → Option Cause
 directive_in name word = first_that (may_either_mean name word) directives
 
--- the warning for an ignored line with this content: for an invalid delay, for a name that other crawlers
--- support
--- or supported, for a directive, or else for an unrecognized line
+-- the byte can occur in a host name with a port: ASCII letters, digits, `-`, `.` and `:`
+abbrev pub is_host_byte : ℕ → Bool
+is_host_byte b = is_ascii_alphanumeric b || (b == byte "-" || (b == byte "." || b == byte ":"))
+
+-- what is between the colon and a comment seems to be a host name or an http(s) URL
+abbrev pub has_host : List ℕ → Bool
+has_host body =
+    let value = without_end (without_front (after_byte (byte ":") (before_byte hash body))) in
+    begins_as_url value || (not (length value == 0) && list_all is_host_byte value)
+
+-- the warning for an ignored line with this content: for an invalid delay, for the name of a host, for a name
+-- that other crawlers support or supported, for a directive, or else for an unrecognized line
 abbrev pub meant_by : List ℕ → Cause
 meant_by body =
     let name = name_in body in
     let word = first_word body in
     if is_accepted kind.CrawlDelay name || is_accepted kind.CrawlDelay word then InvalidDelay
-    else unwrap_or (option_or (unsupported_in name word) (directive_in name word)) UnrecognizedLine
+    else (if (is_name (codes "host") name || is_name (codes "host") word) && has_host body then HostName
+    else unwrap_or (option_or (unsupported_in name word) (directive_in name word)) UnrecognizedLine)
 
 -- ---- what is unusual in a directive
 
@@ -114,12 +130,25 @@ is_any_accepted word = list_any (λ kind. is_accepted kind word) KINDS
 abbrev pub begins_field : List ℕ → List ℕ → Bool
 begins_field name text = begins_with name text && slice_index text (length name) == byte ":"
 
--- the text starts with a byte that may be the last one of a line before another one was joined to it,
--- which is a space, a tab, or the star of `User-agent: *`, and then with one of the usual names and a colon
+-- the text starts with one of the usual names and a colon
+abbrev pub begins_any_field : List ℕ → Bool
+begins_any_field text = list_any (λ row. begins_field row.0.now text) DIRECTIVES
+
+-- the text without what may be the end of a line before another one was joined to it: a space, a tab, the
+-- star of `User-agent: *`, a letter or digit before a capital letter, or a literal `\n` or `\r`; empty if it
+-- starts with none of these
+abbrev pub after_seam : List ℕ → List ℕ
+after_seam text =
+    let first = slice_index text 0 in
+    let second = slice_index text 1 in
+    if (is_space_or_tab first || first == byte "*")
+    || (is_ascii_alphanumeric first && is_ascii_uppercase second) then drop 1 text
+    else (if first == byte "\\" && (second == byte "n" || second == byte "r") then drop 2 text else [])
+
+-- another line seems to begin: with `User-agent` and a colon, or, after one of these, with any of the usual
+-- names and a colon
 abbrev pub begins_inner_field : List ℕ → Bool
-begins_inner_field text =
-    let b = slice_index text 0 in
-    (is_space_or_tab b || b == byte "*") && list_any (λ row. begins_field row.0.now (drop 1 text)) DIRECTIVES
+begins_inner_field text = begins_field (codes "user-agent") text || begins_any_field (after_seam text)
 
 -- there is no colon after the field name
 abbrev pub is_without_colon : List ℕ → Bool

@@ -2,13 +2,14 @@
 use Rattle.std.specs.Prelude.{ℕ, Bool, true, false, nat_lt, not, ◌||◌, ◌&&◌, List, [], ◌∷◌, Option, None}
 use Rattle.std.specs.Prelude.{Some, ◌==◌, bytes_eq, codes, if◌then◌else◌}
 use Rattle.std.specs.{Option.option_or, Str.str_eq_ignore_ascii_case}
-use Rattle.texting_robots.specs.Callers.{CrawlDelay, LineValue, Label, UserAgent}
+use Rattle.texting_robots.specs.Callers.{CrawlDelay, LineValue, Label, Raw, UserAgent}
 use Rattle.texting_robots.specs.{Group.is_agent, Group.is_group, Line.delay_in}
 use Rattle.texting_robots.specs.declared.labels.Membership.{Membership}
 use Rattle.texting_robots.specs.declared.labels.Membership.TheVariants.{Ungrouped}
 use Rattle.robots_warnings.specs.declared.positions.Preceding.{Preceding}
 use Rattle.robots_warnings.specs.declared.positions.Preceding.TheVariants.{Agent, Delay, Other}
-use Rattle.robots_warnings.specs.Facts.{is_rule}
+use Rattle.robots_warnings.specs.Facts.{has_text, is_rule}
+use Rattle.robots_warnings.specs.{File.hash, File.is_blank, Rules.has}
 
 -- ---- what precedes a line
 
@@ -85,6 +86,29 @@ abbrev pub name_star : List LineValue → Bool
 name_star [] = false
 name_star (UserAgent value ∷ lines) = bytes_eq value (codes "*") || name_star lines
 name_star (line ∷ lines) = not (is_rule line) && name_star lines
+
+-- the line has nothing but white space
+abbrev pub is_bare : LineValue → Bool
+is_bare (Raw body) = is_blank body && not (has hash body)
+is_bare _ = false
+
+abbrev pub begin_bare : List LineValue → Bool
+begin_bare [] = false
+begin_bare (line ∷ lines) = is_bare line
+
+-- a user-agent line follows, with neither a rule nor a delay above it, but with other lines than comments: a
+-- sitemap, an ignored line, or a bare line, unless another one follows, as where all lines are apart. `other`
+-- and `bare`: there was such a line
+abbrev pub reach_name : (other bare : Bool) → List LineValue → Bool
+reach_name other bare [] = false
+reach_name other bare (UserAgent value ∷ lines) = other || (bare && not (begin_bare lines))
+reach_name other bare (line ∷ lines) =
+    not (is_group line) && reach_name (other || has_text line) (bare || is_bare line) lines
+
+-- these lines begin with a user-agent line, and such a line follows, which belongs to the same group
+abbrev pub are_joined : List LineValue → Bool
+are_joined (UserAgent value ∷ lines) = reach_name false false lines
+are_joined _ = false
 
 -- ---- conditions on a line
 

@@ -8,7 +8,9 @@ ghost use Rattle.robots_warnings.specs.File.{lines_of};
 use crate::contents::{has_odd_comment, has_odd_space, is_cut_short, is_cut_to_root};
 use crate::facts::FileFacts;
 use crate::field_names::{begins_inner_field, is_misspelled};
-use crate::positions::{Preceding, is_empty_group, is_other_delay, is_split, name_star};
+use crate::positions::{
+    Preceding, are_joined, is_empty_group, is_other_delay, is_split, name_star,
+};
 use crate::rules::{
     before_byte, begins_dot_segment, begins_wildcard, has, has_dollar_inside,
     has_more_after_dollar, has_odd_start, holds_otherwise, is_expression, is_only_odd, is_quoted,
@@ -34,7 +36,7 @@ pub(crate) fn file_checks(facts: FileFacts) -> [Check; 8]
         (Cause::LooksLikeHtml, facts.is_html),
         (Cause::LooksLikeUtf16, facts.is_utf_16),
         (Cause::NoDirectives, facts.is_other_text),
-        (Cause::EmptyFile, !facts.kinds.text),
+        (Cause::EmptyFile, !(facts.kinds.text || facts.is_too_large)),
         (Cause::FileTooLarge, facts.is_too_large),
         (
             Cause::NoUserAgent,
@@ -157,7 +159,7 @@ pub(crate) fn position_checks(
     delay: Option<u64>,
     labeled: &LabeledLine<'_>,
     from_here: &[LabeledLine<'_>],
-) -> [Check; 5]
+) -> [Check; 6]
     ensures { result ≡ position_checks last preceding (option_map (λ name. name.now) above.entry) delay
         (label_by_value labeled.now) (lines_of (map label_by_value from_here.now)) }
 {
@@ -170,6 +172,7 @@ pub(crate) fn position_checks(
         (Cause::EmptyGroup, is_empty_group(last, labeled)),
         (Cause::DelaySplitsGroup, is_split && !is_star),
         (Cause::DelayAboveStar, is_star),
+        (Cause::JoinedGroups, are_joined(from_here)),
         (Cause::TwoDelays, is_other_delay(delay, labeled)),
     ]
 }

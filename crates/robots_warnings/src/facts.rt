@@ -47,7 +47,7 @@ pub struct FileFacts {
 }
 
 /// Whether a line is neither empty nor a comment.
-fn has_text(line: Line<'_>) -> bool
+pub(crate) fn has_text(line: Line<'_>) -> bool
     ensures { result ≡ has_text (by_value line.entry) }
 {
     match line {

@@ -1,15 +1,19 @@
 //! Field names: which one was probably intended in an ignored line, and what is unusual about that of a directive.
 ghost use Rattle.std.specs.Prelude.{◌≡◌, ◌≤◌, IfOk, length, map};
-ghost use Rattle.std.specs.List.{list_any, position_or_len};
-ghost use Rattle.robots_warnings.specs.FieldNames.{begins_field, begins_inner_field, begins_with, directive_in};
-ghost use Rattle.robots_warnings.specs.FieldNames.{first_that, first_word, is_accepted, is_any_accepted, is_either, is_misspelled, is_name};
-ghost use Rattle.robots_warnings.specs.FieldNames.{is_space_or_tab, is_without_colon, may_either_mean, may_mean, meant_by, name_in};
-ghost use Rattle.robots_warnings.specs.FieldNames.{without_end, without_front};
+ghost use Rattle.std.specs.List.{list_all, list_any, position_or_len};
+ghost use Rattle.robots_warnings.specs.FieldNames.{after_seam, begins_field};
+ghost use Rattle.robots_warnings.specs.FieldNames.{begins_inner_field, begins_with, directive_in, first_that};
+ghost use Rattle.robots_warnings.specs.FieldNames.{first_word, goes_on, has_host, is_accepted};
+ghost use Rattle.robots_warnings.specs.FieldNames.{is_any_accepted, is_either, is_host_byte, is_misspelled};
+ghost use Rattle.robots_warnings.specs.FieldNames.{is_name, is_space_or_tab, is_without_colon};
+ghost use Rattle.robots_warnings.specs.FieldNames.{may_either_mean, may_mean, meant_by, name_in, without_end};
+ghost use Rattle.robots_warnings.specs.FieldNames.{without_front};
 ghost use Rattle.robots_warnings.specs.Internal.{name_value};
 
 use crate::file::first;
-use crate::rules::before_byte;
+use crate::rules::{after_byte, before_byte};
 use crate::table::Cause;
+use crate::urls::begins_as_url;
 use std::alloc::{AllocError, Global};
 use strsim::generic_levenshtein;
 use texting_robots::parser::{Kind, field_names};
@@ -120,13 +124,23 @@ fn is_accepted(kind: Kind, word: &[u8]) -> bool
     false
 }
 
-/// Whether the token starts with the name or is similar to it: in lower case, it has an edit distance of at most 2 from
-/// it.
+/// Whether two or more bytes follow so many bytes of the token, and the first of them is a letter.
+fn goes_on(count: usize, word: &[u8]) -> bool
+    ensures { result ≡ goes_on count word.now }
+{
+    match word.get(count) {
+        Some(byte) => byte.is_ascii_alphabetic() && word.len() - count > 1,
+        None => false,
+    }
+}
+
+/// Whether the token starts with the name and doesn't go on, or is similar to it: in lower case, it has an
+/// edit distance of at most 2 from it.
 fn may_mean(alloc: Global, name: &str, word: &[u8]) -> Result<bool, AllocError>
     ensures { IfOk result (λ answer. answer ≡ may_mean name.now word.now) }
 {
     if begins_with(name, word) {
-        return Ok(true);
+        return Ok(!goes_on(name.len(), word));
     }
     if name.len().abs_diff(word.len()) > 2 {
         return Ok(false);
@@ -148,7 +162,7 @@ fn first_in(names: &[(&str, Cause)], name: &[u8], word: &[u8]) -> Option<Cause>
     None
 }
 
-/// Whether a line's field name `name`, or its first token `word`, starts with the known name or is similar to it.
+/// Whether a line's field name `name`, or its first token `word`, may mean the known name.
 #[tactic(auto, unfolding(crate::specs::FieldNames::may_either_mean))]
 fn may_either_mean(alloc: Global, name: &[u8], word: &[u8], known: &str) -> Result<bool, AllocError>
     ensures { IfOk result (λ answer. answer ≡ may_either_mean name.now word.now known.now) }
@@ -156,7 +170,7 @@ fn may_either_mean(alloc: Global, name: &[u8], word: &[u8], known: &str) -> Resu
     Ok(may_mean(alloc, known, name)? || may_mean(alloc, known, word)?)
 }
 
-/// The warning for the first directive with which one of the two starts or to which it is similar.
+/// The warning for the first directive that one of the two may mean.
 fn directive_in(alloc: Global, name: &[u8], word: &[u8]) -> Result<Option<Cause>, AllocError>
     ensures { IfOk result (λ cause. cause ≡ directive_in name.now word.now) }
 {
@@ -168,6 +182,28 @@ fn directive_in(alloc: Global, name: &[u8], word: &[u8]) -> Result<Option<Cause>
     Ok(None)
 }
 
+/// Whether the byte can occur in a host name with a port.
+fn is_host_byte(byte: u8) -> bool
+    ensures { result ≡ is_host_byte byte }
+{
+    byte.is_ascii_alphanumeric() || matches!(byte, b'-' | b'.' | b':')
+}
+
+/// Whether each byte can.
+fn are_host_bytes(text: &[u8]) -> bool
+    ensures { result ≡ list_all is_host_byte text.now }
+{
+    text.iter().all(|byte| is_host_byte(*byte))
+}
+
+/// Whether what is between the colon and a comment seems to be a host name or an http(s) URL.
+fn has_host(body: &[u8]) -> bool
+    ensures { result ≡ has_host body.now }
+{
+    let value = without_end(without_front(after_byte(b':', before_byte(b'#', body))));
+    begins_as_url(value) || (!value.is_empty() && are_host_bytes(value))
+}
+
 /// The warning for an ignored line with this content.
 pub(crate) fn meant_by(alloc: Global, body: &[u8]) -> Result<Cause, AllocError>
     ensures { IfOk result (λ cause. cause ≡ meant_by body.now) }
@@ -175,6 +211,9 @@ pub(crate) fn meant_by(alloc: Global, body: &[u8]) -> Result<Cause, AllocError>
     let (name, word) = (name_in(body), first_word(body));
     if is_accepted(Kind::CrawlDelay, name) || is_accepted(Kind::CrawlDelay, word) {
         return Ok(Cause::InvalidDelay);
+    }
+    if (is_name("host", name) || is_name("host", word)) && has_host(body) {
+        return Ok(Cause::HostName);
     }
     if let Some(cause) = first_in(&UNSUPPORTED, name, word) {
         return Ok(cause);
@@ -199,21 +238,40 @@ pub(crate) fn is_misspelled(body: &[u8]) -> bool
     !begins_with_any(&DIRECTIVES, without_front(body))
 }
 
-/// Whether the text starts with one of these names and a colon.
-fn begins_field(names: &[(&str, Cause)], text: &[u8]) -> bool
-    ensures { result ≡ list_any (λ row. begins_field row.0.now text.now) names.now }
+/// Whether the text starts with the name and a colon.
+fn begins_field(name: &str, text: &[u8]) -> bool
+    ensures { result ≡ begins_field name.now text.now }
 {
-    names.iter().any(|(name, _)| begins_with(name, text) && text.get(name.len()) == Some(&b':'))
+    begins_with(name, text) && text.get(name.len()) == Some(&b':')
 }
 
-/// Whether the text starts with a space, a tab or a star, one of the usual names and a colon.
+/// Whether the text starts with one of these names and a colon.
+fn begins_one_field(names: &[(&str, Cause)], text: &[u8]) -> bool
+    ensures { result ≡ list_any (λ row. begins_field row.0.now text.now) names.now }
+{
+    names.iter().any(|row| begins_field(row.0, text))
+}
+
+/// The text without what may be the end of a line before another one was joined to it; empty if it starts
+/// with nothing that may.
+fn after_seam<'a>(text: &'a [u8]) -> &'a [u8]
+    ensures { result.now ≡ after_seam text.now }
+{
+    match text {
+        [b' ' | b'\t' | b'*', after @ ..] => after,
+        [b'\\', b'n' | b'r', after @ ..] => after,
+        [last, first, ..] if last.is_ascii_alphanumeric() && first.is_ascii_uppercase() =>
+            &text[1..],
+        _ => &[],
+    }
+}
+
+/// Whether another line seems to begin: with `User-agent` and a colon, or after such an end, with any of the
+/// usual names and a colon.
 pub(crate) fn begins_inner_field(text: &[u8]) -> bool
     ensures { result ≡ begins_inner_field text.now }
 {
-    match text {
-        [b' ' | b'\t' | b'*', after @ ..] => begins_field(&DIRECTIVES, after),
-        _ => false,
-    }
+    begins_field("user-agent", text) || begins_one_field(&DIRECTIVES, after_seam(text))
 }
 
 /// Whether the token is an accepted name of a directive.

@@ -3,9 +3,14 @@ ghost use Rattle.std.specs.Prelude.{◌≡◌, false, map, option_map};
 ghost use Rattle.std.specs.Str.{str_eq_ignore_ascii_case};
 ghost use Rattle.texting_robots.specs.Callers.{by_value, label_by_value};
 ghost use Rattle.robots_warnings.specs.File.{lines_of};
-ghost use Rattle.robots_warnings.specs.Positions.{begin_with_name, begin_with_rules, first_delay, is_empty_group};
-ghost use Rattle.robots_warnings.specs.Positions.{is_other_delay, is_split, last_group, name_star, preceding_with, sole_name};
+ghost use Rattle.robots_warnings.specs.Positions.{are_joined, begin_bare, begin_with_name, begin_with_rules};
+ghost use Rattle.robots_warnings.specs.Positions.{first_delay, is_bare, is_empty_group, is_other_delay};
+ghost use Rattle.robots_warnings.specs.Positions.{is_split, last_group, name_star, preceding_with};
+ghost use Rattle.robots_warnings.specs.Positions.{reach_name, sole_name};
 
+use crate::facts::has_text;
+use crate::file::is_blank;
+use crate::rules::has;
 use texting_robots::labels::{LabeledLine, Membership};
 use texting_robots::parser::Line;
 
@@ -143,6 +148,56 @@ pub(crate) fn name_star(labels: &[LabeledLine<'_>]) -> bool
         }
     }
     false
+}
+
+/// Whether the line has nothing but white space.
+fn is_bare(line: Line<'_>) -> bool
+    ensures { result ≡ is_bare (by_value line.entry) }
+{
+    match line {
+        Line::Raw(body) => is_blank(body) && !has(b'#', body),
+        _ => false,
+    }
+}
+
+/// Whether the first of these lines has.
+fn begin_bare(labels: &[LabeledLine<'_>]) -> bool
+    ensures { result ≡ begin_bare (lines_of (map label_by_value labels.now)) }
+{
+    match labels {
+        [labeled, ..] => is_bare(labeled.line),
+        [] => false,
+    }
+}
+
+/// Whether a user-agent line follows, with neither a rule nor a delay above it, but with a sitemap, an
+/// ignored line, or a bare line, unless another one follows.
+fn reach_name(labels: &[LabeledLine<'_>]) -> bool
+    ensures { result ≡ reach_name false false (lines_of (map label_by_value labels.now)) }
+{
+    let (mut other, mut bare, mut rest) = (false, false, labels);
+    while let [labeled, after @ ..] = rest {
+        match labeled.line {
+            Line::UserAgent(_) => return other || (bare && !begin_bare(after)),
+            Line::Allow(_) | Line::Disallow(_) | Line::CrawlDelay(_) => return false,
+            _ => {}
+        }
+        other |= has_text(labeled.line);
+        bare |= is_bare(labeled.line);
+        rest = after;
+    }
+    false
+}
+
+/// Whether these lines begin with a user-agent line, and such a line follows, which belongs to the same
+/// group.
+pub(crate) fn are_joined(labels: &[LabeledLine<'_>]) -> bool
+    ensures { result ≡ are_joined (lines_of (map label_by_value labels.now)) }
+{
+    match labels {
+        [labeled, after @ ..] => matches!(labeled.line, Line::UserAgent(_)) && reach_name(after),
+        [] => false,
+    }
 }
 
 /// Whether the line is a user-agent line that only delays separate from one above it, and its group has rules, but

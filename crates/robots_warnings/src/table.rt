@@ -32,6 +32,7 @@ pub enum Cause {
     InvalidDelay,
     NoindexLine,
     NofollowLine,
+    HostName,
     HostLine,
     RequestRateLine,
     VisitTimeLine,
@@ -85,6 +86,7 @@ pub enum Cause {
     EmptyGroup,
     DelayAboveStar,
     DelaySplitsGroup,
+    JoinedGroups,
     GroupPastSizeLimit,
     AllowedAndDisallowed,
     EmptyDisallow,
@@ -115,7 +117,7 @@ pub enum Topic {
 
 /// The warnings with their levels, topics and names.
 #[rattlefmt::skip]
-pub static WARNINGS: [(Cause, Level, Topic, &str); 70] = [
+pub static WARNINGS: [(Cause, Level, Topic, &str); 72] = [
     // the file
     (Cause::LooksLikeHtml, Level::Error, Topic::Syntax, "looks-like-html"),
     (Cause::LooksLikeUtf16, Level::Error, Topic::Syntax, "looks-like-utf-16"),
@@ -131,6 +133,7 @@ pub static WARNINGS: [(Cause, Level, Topic, &str); 70] = [
     (Cause::InvalidDelay, Level::Warning, Topic::Syntax, "invalid-delay"),
     (Cause::NoindexLine, Level::Warning, Topic::Syntax, "noindex-line"),
     (Cause::NofollowLine, Level::Warning, Topic::Syntax, "nofollow-line"),
+    (Cause::HostName, Level::Note, Topic::Syntax, "host-line"),
     (Cause::HostLine, Level::Warning, Topic::Syntax, "host-line"),
     (Cause::RequestRateLine, Level::Warning, Topic::Syntax, "request-rate-line"),
     (Cause::VisitTimeLine, Level::Warning, Topic::Syntax, "visit-time-line"),
@@ -184,6 +187,7 @@ pub static WARNINGS: [(Cause, Level, Topic, &str); 70] = [
     (Cause::EmptyGroup, Level::Warning, Topic::Meaning, "empty-group"),
     (Cause::DelayAboveStar, Level::Note, Topic::Verdict, "delay-splits-group"),
     (Cause::DelaySplitsGroup, Level::Warning, Topic::Verdict, "delay-splits-group"),
+    (Cause::JoinedGroups, Level::Warning, Topic::Meaning, "joined-groups"),
     (Cause::GroupPastSizeLimit, Level::Warning, Topic::Meaning, "group-past-size-limit"),
     (Cause::AllowedAndDisallowed, Level::Warning, Topic::Verdict, "allowed-and-disallowed"),
     (Cause::EmptyDisallow, Level::Warning, Topic::Verdict, "empty-disallow"),

@@ -3,7 +3,7 @@ use crate::table::Cause;
 
 /// For each warning, in the order of [`WARNINGS`](crate::table::WARNINGS), its message.
 #[rattlefmt::skip]
-pub(crate) static MESSAGES: [(Cause, &str); 70] = [
+pub(crate) static MESSAGES: [(Cause, &str); 72] = [
     // the file
     (Cause::LooksLikeHtml,
         "no usable line found; the text starts with <, so it may be an HTML page; serve a plain-text robots.txt instead"),
@@ -31,8 +31,10 @@ pub(crate) static MESSAGES: [(Cause, &str); 70] = [
         "Noindex isn't supported in robots.txt and is ignored; use a robots meta tag or an X-Robots-Tag header, and keep the page crawlable so that crawlers see it"),
     (Cause::NofollowLine,
         "Nofollow isn't supported in robots.txt and is ignored; use a robots meta tag or rel=\"nofollow\" on the links"),
+    (Cause::HostName,
+        "Host isn't supported here and is ignored; redirect the other host names to this one"),
     (Cause::HostLine,
-        "Host isn't supported here and is ignored; redirect the other host names to the preferred one"),
+        "Host isn't supported here and is ignored, and there is no host name or URL in the line; delete it"),
     (Cause::RequestRateLine,
         "Request-rate isn't supported here and is ignored; use Crawl-delay with the seconds between requests, for example: Crawl-delay: 10"),
     (Cause::VisitTimeLine,
@@ -129,6 +131,8 @@ pub(crate) static MESSAGES: [(Cause, &str); 70] = [
         "only a Crawl-delay ends the group above, so it has none of the rules of * below; crawlers that ignore the delay, such as Google's, apply these to that group too; add to it those meant for it, or, if its names have no other group, an empty Disallow"),
     (Cause::DelaySplitsGroup,
         "only a Crawl-delay ends the group above; crawlers that ignore it, such as Google's, apply the rules below to that group too; add to that group the rules meant for it, or move the Crawl-delay down to join the two"),
+    (Cause::JoinedGroups,
+        "the next User-agent line belongs to the same group, since no rule is between the two, and the rules below it are for both names; if that isn't meant, add rules here, or an empty Disallow; if it is, delete what is between"),
     (Cause::GroupPastSizeLimit,
         "this name isn't in the first 512,000 bytes, so its group is ignored; move the group up or shorten the file"),
     (Cause::AllowedAndDisallowed,
@@ -162,7 +166,7 @@ pub(crate) static MESSAGES: [(Cause, &str); 70] = [
 /// For each warning, in the order of [`WARNINGS`](crate::table::WARNINGS), a file that triggers it for FerrisBot, or with
 /// the arguments in its first line, or a command. In a file, `\xFF` is a byte, and `\{512000 a}` is 512,000 times an `a`.
 #[rattlefmt::skip]
-pub(crate) static EXAMPLES: [(Cause, &str); 70] = [
+pub(crate) static EXAMPLES: [(Cause, &str); 72] = [
     // the file
     (Cause::LooksLikeHtml, "<html>\n</html>"),
     (Cause::LooksLikeUtf16, "\\xFF\\xFED\\x00"),
@@ -178,7 +182,8 @@ pub(crate) static EXAMPLES: [(Cause, &str); 70] = [
     (Cause::InvalidDelay, "User-agent: *\nCrawl-delay: ten"),
     (Cause::NoindexLine, "User-agent: *\nNoindex: /a"),
     (Cause::NofollowLine, "User-agent: *\nNofollow: /a"),
-    (Cause::HostLine, "User-agent: *\nHost: example.com"),
+    (Cause::HostName, "User-agent: *\nHost: example.com"),
+    (Cause::HostLine, "User-agent: *\nHost: /a"),
     (Cause::RequestRateLine, "User-agent: *\nRequest-rate: 1/10"),
     (Cause::VisitTimeLine, "User-agent: *\nVisit-time: 0100-0500"),
     (Cause::CleanParamLine, "User-agent: *\nClean-param: ref /"),
@@ -231,6 +236,7 @@ pub(crate) static EXAMPLES: [(Cause, &str); 70] = [
     (Cause::EmptyGroup, "Disallow: /a\nUser-agent: *"),
     (Cause::DelayAboveStar, "User-agent: a\nCrawl-delay: 1\nUser-agent: *\nDisallow: /b"),
     (Cause::DelaySplitsGroup, "User-agent: a\nCrawl-delay: 1\nUser-agent: b\nDisallow: /"),
+    (Cause::JoinedGroups, "User-agent: a\n\nUser-agent: b\nDisallow: /c"),
     (Cause::GroupPastSizeLimit, "\\{512000 #}\nUser-agent: a"),
     (Cause::AllowedAndDisallowed, "Allow: /a\nDisallow: /a"),
     (Cause::EmptyDisallow, "User-agent: *\nDisallow: /\nDisallow:"),
