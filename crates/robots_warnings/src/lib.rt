@@ -3,7 +3,7 @@
 #![tactic(auto)]
 
 pub mod checks;
-mod closed;
+pub mod closed;
 mod conflicts;
 pub mod contents;
 pub mod empty_disallows;
@@ -22,6 +22,7 @@ pub mod several_values;
 pub mod spellings;
 pub mod table;
 pub mod targets;
+pub mod texts;
 pub mod tokens;
 pub mod urls;
 mod values;
