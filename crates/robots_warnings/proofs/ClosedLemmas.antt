@@ -1,7 +1,7 @@
 -- Rules that leave nothing, or nearly nothing, of a site to a crawler.
-use Rattle.std.proofs.Common.{◌≡◌, ℕ, ◌+◌, ◌==◌, Bool, false, true, List, [], ◌∷◌, ap, arith, inl, inr, length}
-use Rattle.std.proofs.Common.{refl, rules, suc, sym, ◌∙◌, ◌&&◌, ◌||◌, nat_le, nat_lt, not}
-use Rattle.std.proofs.lemmas.Bool.{and_parts, cases_Bool, eqb-true, false≢true, ne_eqb}
+use Rattle.std.proofs.Common.{◌≡◌, ℕ, ◌==◌, Bool, false, true, List, [], ◌∷◌, ap, arith, inl, inr, length}
+use Rattle.std.proofs.Common.{refl, rules, suc, sym, ◌∙◌, ◌&&◌, nat_le, nat_lt, not}
+use Rattle.std.proofs.lemmas.Bool.{and_parts, cases_Bool, false≢true, ne_eqb}
 use Rattle.std.proofs.lemmas.Bool.Decides.{nat_tests}
 use Rattle.std.specs.{List.list_all, List.list_any, Str.byte}
 use Rattle.texting_robots.specs.Callers.{PlacedRule, escaped}

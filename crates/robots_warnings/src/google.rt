@@ -30,9 +30,7 @@ pub(crate) const IGNORING_STAR: [&str; 4] = [
 pub(crate) fn is_given(agents: &[&str], name: &str) -> bool
     ensures { result ≡ is_given (map (λ agent. agent.now) agents.now) name.now }
 {
-    agents
-        .iter()
-        .any(|agent| name.eq_ignore_ascii_case(agent))
+    agents.iter().any(|agent| name.eq_ignore_ascii_case(agent))
 }
 
 /// Whether the line is a user-agent line in which Google reads the name of this crawler.

@@ -12,8 +12,8 @@ ghost use Rattle.robots_warnings.specs.Warnings.{google_warning, google_warnings
 ghost use Rattle.robots_warnings.specs.Warnings.{past_limit_warnings, position_warnings, url_warnings, warned, warned_at, warned_beside, warnings};
 
 use crate::checks::{
-    Check, field_checks, file_checks, is_in_scope_of, position_checks, raw_rule_checks, rule_checks,
-    sitemap_checks, text_checks, url_checks, user_agent_checks,
+    Check, field_checks, file_checks, is_in_scope_of, position_checks, raw_rule_checks,
+    rule_checks, sitemap_checks, text_checks, url_checks, user_agent_checks,
 };
 use crate::conflicts::{RuleLines, rule_lines};
 use crate::contents::{has_odd_delay, has_odd_space, split_content};
