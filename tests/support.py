@@ -103,18 +103,21 @@ OF_A_CRAWLER = {"empty-agent", "space-around-agent", "version-in-agent", "google
 OF_RULES = {"replaces-star"}
 OF_A_LINE = {"allowed-and-disallowed", "empty-disallow"}
 NEEDLESS = ["never", "nothing", "allowed", "covered"]  # in the order of the messages of `needless-rule`
+WORDS = {"space", "comma", "tag", "invisible", "="}  # each in one message of a name, or in an earlier one than in others
 
 
 def level_and_text(name, detail=""):
-    """The documented level and message of a warning. Its detail is the field name that may be meant; the level of one before the last; how
-    many rules it is about; the line of another rule; the kind of a needless rule, possibly with such a line; the name of one of several
-    crawlers, in quotes; or else the URL that the warning is about."""
+    """The documented level and message of a warning. Its detail is the field name that may be meant; the level of one before the last; a
+    word of its message; how many rules it is about; the line of another rule; the kind of a needless rule, possibly with such a line; the
+    name of one of several crawlers, in quotes; or else the URL that the warning is about."""
     if name == "needless-rule":
         kind, _, other = detail.partition(" ")
         level, text = WARNINGS[name][NEEDLESS.index(kind)]
         return level, f"{text} (see line {other})" if other else text
     for level, text in WARNINGS[name]:
-        if detail == level or detail and "KEY" in text:
+        if detail == level or detail in WORDS and f" {detail} " in text:
+            return level, text
+        if "KEY" in text and detail not in {"", *WORDS}:
             return level, text.replace("KEY", detail)
     level, text = WARNINGS[name][-1]
     if name in OF_RULES:

@@ -1,13 +1,15 @@
 -- Steps of loops over bytes and over lines.
 use Rattle.std.proofs.Common.{◌≡◌, ℕ, ◌+◌, ◌<◌, ◌==◌, ◌||◌, ◌&&◌, List, drop, length, refl, slice_index_or}
 use Rattle.std.proofs.Common.{Bool, map, not, take, ◌∷◌, [], arith, codes, false, nat_eq, ◌++◌, ap}
-use Rattle.std.proofs.Common.{append-nil, append_assoc, flat_map, sym, ◌∙◌, cond, true, if◌then◌else◌}
+use Rattle.std.proofs.Common.{inl, inr, append-nil, append_assoc, flat_map, sym, ◌∙◌, cond, true, if◌then◌else◌}
 use Rattle.std.proofs.lemmas.List.{drop_more, map-append, take_more}
 use Rattle.robots_warnings.specs.File.{hash, is_blank, space, tab, lines_of}
 use Rattle.robots_warnings.specs.Positions.{group_number, last_group}
 use Rattle.robots_warnings.specs.{Facts.kinds_of, Facts.nul_at_every_other, Internal.kinds_with}
-use Rattle.robots_warnings.specs.{Rules.begins_dot_segment, Rules.somewhere, WarningValue.WarningValue}
+use Rattle.robots_warnings.specs.Rules.{begins_dot_segment, from_first, somewhere}
+use Rattle.robots_warnings.specs.WarningValue.{WarningValue}
 use Rattle.std.proofs.Math.Bool.{or-false}
+use Rattle.std.proofs.lemmas.Bool.{cases_Bool}
 use Rattle.std.proofs.lemmas.List.{Folds.list_any-append, Concat.flat_map-append}
 use Rattle.texting_robots.specs.declared.labels.LabeledLine.{LabeledLine}
 use Rattle.texting_robots.specs.Callers.{by_value, label_by_value, Label}
@@ -52,12 +54,19 @@ last_from labels at labeled below = rw (drop_more labels at labeled below) refl
 
 -- ---- the value of a rule
 
--- whether a test holds at some suffix of a string: at the string itself, or at a suffix of all but its first
--- byte
-pub somewhere_next : (test : List ℕ → Bool) (text : List ℕ) → 0 < length text
-    → somewhere test text ≡ (test text || somewhere test (drop 1 text))
-somewhere_next test [] some = absurd (omega arith)
-somewhere_next test (b ∷ text) some = refl
+-- the rest of a text from the first byte on at which a test holds: all of it, or that of all but its first byte
+pub from_first_next : (test : List ℕ → Bool) (text : List ℕ) → 0 < length text
+    → from_first test text ≡ (if test text then text else from_first test (drop 1 text))
+from_first_next test [] some = absurd (omega arith)
+from_first_next test (b ∷ text) some = refl
+
+pub somewhere_first : (test : List ℕ → Bool) (text : List ℕ)
+    → somewhere test text ≡ not (length (from_first test text) == 0)
+somewhere_first test [] = refl
+somewhere_first test (b ∷ text) = elim (cases_Bool (test (b ∷ text))) [
+  | inl is ↦ rw is (grind (arith, nat_tests))
+  | inr isnt ↦ rw isnt (somewhere_first test text)
+]
 
 -- a text that doesn't start with `/.` doesn't start with a dot segment
 pub no_segment : (text : List ℕ) → starts_with nat_eq text (codes "/.") ≡ false

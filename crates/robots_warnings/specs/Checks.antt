@@ -16,11 +16,13 @@ use Rattle.robots_warnings.specs.FieldNames.{begins_inner_field, is_misspelled, 
 use Rattle.robots_warnings.specs.Positions.{are_joined, is_above_agents, is_empty_group, is_other_delay}
 use Rattle.robots_warnings.specs.Positions.{is_split, name_star}
 use Rattle.robots_warnings.specs.Rules.{before_byte, begins_dot_segment, begins_wildcard, has, has_dollar_inside}
-use Rattle.robots_warnings.specs.Rules.{has_more_after_dollar, has_odd_character, has_odd_start, holds_otherwise, is_expression, is_quoted, somewhere}
+use Rattle.robots_warnings.specs.Rules.{has_more_after_dollar, has_odd_character, has_odd_start, has_quote_at_end}
+use Rattle.robots_warnings.specs.Rules.{holds_otherwise, is_expression, is_quoted, is_url_in_path, somewhere}
 use Rattle.robots_warnings.specs.Targets.{has_odd_target}
 use Rattle.robots_warnings.specs.Tokens.{is_product_token, is_usual_name}
-use Rattle.robots_warnings.specs.Urls.{begins_as_url, is_absolute_url}
-use Rattle.robots_warnings.specs.{File.is_blank, SeveralValues.has_several_values}
+use Rattle.robots_warnings.specs.Urls.{begins_as_url, has_odd_host, is_absolute_url}
+use Rattle.robots_warnings.specs.SeveralValues.{has_several_values, several_values}
+use Rattle.robots_warnings.specs.{File.is_blank}
 
 -- a warning, and whether its condition holds
 abbrev pub Check : Type 0
@@ -65,22 +67,33 @@ user_agent_checks value =
     ∷ (cause.UnusualProductToken, not (is_product_token value) && is_usual_name value)
     ∷ []
 
--- the value of an Allow or a Disallow
-abbrev pub rule_checks : List ℕ → List Check
-rule_checks value =
+-- the value of an Allow or a Disallow: its start, its characters and its quotes
+abbrev pub form_checks : List ℕ → List Check
+form_checks value =
     (cause.RuleNotUtf8, not (is_utf8 value))
-    ∷ (cause.MissingSlash, has_odd_start value)
+    ∷ (cause.MissingSlash, has_odd_start value && not (is_expression value))
+    ∷ (cause.UrlInPath, is_url_in_path value)
     ∷ (cause.UrlAsRule, begins_as_url value)
     ∷ (cause.OddCharacter, has_odd_character value && not (holds_otherwise value || is_quoted value))
     ∷ (cause.UnencodedCharacter, holds_otherwise value)
+    ∷ (cause.QuoteAtEnd, has_quote_at_end value)
     ∷ (cause.QuotedRule, is_quoted value)
-    ∷ (cause.RegexSyntax, is_expression value)
+    ∷ []
+
+-- what it contains
+abbrev pub content_checks : List ℕ → List Check
+content_checks value =
+    (cause.RegexWithoutSlash, has_odd_start value && is_expression value)
+    ∷ (cause.RegexSyntax, not (has_odd_start value) && is_expression value)
     ∷ (cause.StarAfterDollar, has_more_after_dollar value)
     ∷ (cause.DollarNotAtEnd, has_dollar_inside value)
     ∷ (cause.EscapedWildcard, somewhere begins_wildcard value)
     ∷ (cause.DotSegment, somewhere begins_dot_segment (before_byte (byte "?") value))
-    ∷ (cause.SeveralValues, is_utf8 value && has_several_values value)
+    ∷ (several_values value, is_utf8 value && has_several_values value)
     ∷ []
+
+abbrev pub rule_checks : List ℕ → List Check
+rule_checks value = form_checks value ++ content_checks value
 
 -- microseconds per day
 abbrev pub day : ℕ
@@ -89,8 +102,9 @@ day = 86400000000
 -- the value of a sitemap line
 abbrev pub sitemap_checks : List ℕ → List Check
 sitemap_checks value =
-    (cause.SeveralValues, has_several_values value)
+    (several_values value, has_several_values value)
     ∷ (cause.SitemapNotAbsolute, not (is_absolute_url value))
+    ∷ (cause.SitemapHost, has_odd_host value)
     ∷ []
 
 -- the tail and the comment of any line

@@ -11,10 +11,13 @@ use Rattle.texting_robots.specs.Statement.{field_names}
 use Rattle.texting_robots.specs.declared.parser.statement.Kind.{Kind}
 use Rattle.texting_robots.specs.declared.parser.statement.Kind.TheVariants as kind
 use Rattle.robots_warnings.specs.{File.hash, File.space, File.tab, Rules.after_byte, Rules.before_byte}
+use Rattle.robots_warnings.specs.{Rules.somewhere}
 use Rattle.robots_warnings.specs.Urls.{begins_as_url}
 use Rattle.robots_warnings.specs.declared.field_names.TheConstants.{DIRECTIVES, KINDS, UNSUPPORTED}
 use Rattle.robots_warnings.specs.declared.table.Cause.{Cause}
 use Rattle.robots_warnings.specs.declared.table.Cause.TheVariants.{HostName, InvalidDelay, UnrecognizedLine}
+use Rattle.robots_warnings.specs.declared.table.Cause.TheVariants.{EqualsSign, UnseenInName}
+use Rattle.robots_warnings.specs.SeveralValues.{begins_unseen}
 
 -- ---- the tokens of a line
 
@@ -30,9 +33,13 @@ without_front (b ∷ text) = if is_space_or_tab b then without_front text else b
 abbrev pub without_end : List ℕ → List ℕ
 without_end text = reverse (without_front (reverse text))
 
+-- the text before the first such byte, or all of it, without spaces and tabs at both ends
+abbrev pub name_before : ℕ → List ℕ → List ℕ
+name_before b body = without_end (without_front (before_byte b body))
+
 -- the text before the first colon, or all of it, without spaces and tabs at both ends
 abbrev pub name_in : List ℕ → List ℕ
-name_in body = without_end (without_front (before_byte (byte ":") body))
+name_in body = name_before (byte ":") body
 
 -- the first token: the text up to the next space or tab, without leading ones
 abbrev pub first_word : List ℕ → List ℕ
@@ -106,25 +113,28 @@ has_host body =
     let value = without_end (without_front (after_byte (byte ":") (before_byte hash body))) in
     begins_as_url value || (not (length value == 0) && list_all is_host_byte value)
 
--- the warning for an ignored line with this content: for an invalid delay, for the name of a host, for a name
--- that other crawlers support or supported, for a directive, or else for an unrecognized line
+-- the token is an accepted name of a directive
+abbrev pub is_any_accepted : List ℕ → Bool
+is_any_accepted word = list_any (λ kind. is_accepted kind word) KINDS
+
+-- the warning for an ignored line with this content: for an invisible character in the first word before the
+-- colon, for `=` after the name of a directive, for an invalid delay, for the name of a host, for a name that
+-- other crawlers support or supported, for a directive, or else for an unrecognized line
 abbrev pub meant_by : List ℕ → Cause
 meant_by body =
     let name = name_in body in
     let word = first_word body in
-    if is_accepted kind.CrawlDelay name || is_accepted kind.CrawlDelay word then InvalidDelay
+    if somewhere begins_unseen (before_byte (byte ":") word) then UnseenInName
+    else (if is_any_accepted (name_before (byte "=") body) then EqualsSign
+    else (if is_accepted kind.CrawlDelay name || is_accepted kind.CrawlDelay word then InvalidDelay
     else (if (is_name (codes "host") name || is_name (codes "host") word) && has_host body then HostName
-    else unwrap_or (option_or (unsupported_in name word) (directive_in name word)) UnrecognizedLine)
+    else unwrap_or (option_or (unsupported_in name word) (directive_in name word)) UnrecognizedLine)))
 
 -- ---- what is unusual in a directive
 
 -- the line starts with none of the usual names
 abbrev pub is_misspelled : List ℕ → Bool
 is_misspelled body = not (list_any (λ row. begins_with row.0.now (without_front body)) DIRECTIVES)
-
--- the token is an accepted name of a directive
-abbrev pub is_any_accepted : List ℕ → Bool
-is_any_accepted word = list_any (λ kind. is_accepted kind word) KINDS
 
 -- the text starts with the name and a colon
 abbrev pub begins_field : List ℕ → List ℕ → Bool

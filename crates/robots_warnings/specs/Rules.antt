@@ -1,6 +1,6 @@
 -- Conditions on the value of an Allow or a Disallow line.
-use Rattle.std.specs.Prelude.{ℕ, ◌+◌, ◌-◌, ◌*◌, ◌==◌, nat_eq, nat_lt, Bool, false, not, ◌||◌, ◌&&◌, List, []}
-use Rattle.std.specs.Prelude.{◌∷◌, bytes_eq, codes, length, slice_index}
+use Rattle.std.specs.Prelude.{ℕ, ◌+◌, ◌-◌, ◌*◌, ◌==◌, nat_eq, nat_le, nat_lt, Bool, false, not, ◌||◌, ◌&&◌, List}
+use Rattle.std.specs.Prelude.{[], ◌∷◌, bytes_eq, codes, drop, if◌then◌else◌, length, slice_index}
 use Rattle.std.specs.Char.{digit_value, is_ascii_alphanumeric, is_ascii_hexdigit, is_ascii_lowercase}
 use Rattle.std.specs.List.{after_first, before_first, ends_with, list_any, starts_with}
 use Rattle.std.specs.Str.{byte}
@@ -24,6 +24,11 @@ after_byte b text = after_first (λ c. c == b) text
 abbrev pub somewhere : (List ℕ → Bool) → List ℕ → Bool
 somewhere test [] = false
 somewhere test (b ∷ text) = test (b ∷ text) || somewhere test text
+
+-- the rest of the text from the first byte on for which the test holds; empty if there is none
+abbrev pub from_first : (List ℕ → Bool) → List ℕ → List ℕ
+from_first test [] = []
+from_first test (b ∷ text) = if test (b ∷ text) then b ∷ text else from_first test text
 
 -- the text contains one of these bytes
 abbrev pub has_any : List ℕ → List ℕ → Bool
@@ -62,40 +67,72 @@ has_odd_character value =
 
 -- ---- quotes
 
+-- the text starts with a typographic quote, in UTF-8: U+2018 to U+201F, such as ‘ ’ “ ”, or « or »
+abbrev pub begins_quote : List ℕ → Bool
+begins_quote text =
+    let first = slice_index text 0 in
+    let second = slice_index text 1 in
+    let third = slice_index text 2 in
+    (first == 0xE2 && (second == 0x80 && (nat_le 0x98 third && nat_le third 0x9F)))
+    || (first == 0xC2 && (second == 0xAB || second == 0xBB))
+
+-- such a quote is the last character of the value, and there is no other one
+abbrev pub has_quote_at_end : List ℕ → Bool
+has_quote_at_end value =
+    let rest = from_first begins_quote value in
+    not (begins_quote value)
+    && (begins_quote rest && length rest == (if slice_index rest 0 == 0xE2 then 3 else 2))
+
 -- the byte is both the first and the last of at least two bytes
 abbrev pub begins_and_ends_with : ℕ → List ℕ → Bool
 begins_and_ends_with b value =
     nat_lt 1 (length value)
     && (slice_index value 0 == b && slice_index value (length value - 1) == b)
 
+-- the value is in ASCII quotes, or starts with a typographic one
 abbrev pub is_quoted : List ℕ → Bool
-is_quoted value = begins_and_ends_with (byte "\"") value || begins_and_ends_with (byte "'") value
+is_quoted value =
+    (begins_and_ends_with (byte "\"") value || begins_and_ends_with (byte "'") value) || begins_quote value
 
 -- the first byte is neither `/` nor `*`, and the value isn't an absolute URL or in quotes
 abbrev pub has_odd_start : List ℕ → Bool
 has_odd_start value = begins_oddly value && not (begins_as_url value || is_quoted value)
 
+-- ---- URLs in place of paths
+
+-- the text starts with a slash and the name of a host: a dot comes before the next slash
+abbrev pub begins_host : List ℕ → Bool
+begins_host text =
+    let name = drop 1 text in
+    slice_index text 0 == byte "/" && (has (byte "/") name && has (byte ".") (before_byte (byte "/") name))
+
+-- the value starts with a slash, and then with a URL or with such a host, as `//example.com/a` does
+abbrev pub is_url_in_path : List ℕ → Bool
+is_url_in_path value =
+    slice_index value 0 == byte "/" && (begins_as_url (drop 1 value) || begins_host (drop 1 value))
+
 -- ---- regular expressions
 
--- the text starts with a range, such as `[0-9]`; with `.*` after a slash or `(`, or before `$`, which
+-- the text starts with a range, such as `[0-9]`; with `(?`; with `.*` after a slash or `(`, or before `$`, which
 -- elsewhere is part of paths such as `/index.*`; or with a character class, such as `\d`
 abbrev pub begins_sign : List ℕ → Bool
 begins_sign text =
     (nat_lt 3 (length text) && (slice_index text 0 == byte "[" && slice_index text 2 == byte "-"))
     || ((starts_with nat_eq text (codes "/.*")
     || (starts_with nat_eq text (codes "(.*") || starts_with nat_eq text (codes ".*$")))
-    || (slice_index text 0 == byte "\\" && is_ascii_alphanumeric (slice_index text 1)))
+    || (starts_with nat_eq text (codes "(?")
+    || (slice_index text 0 == byte "\\" && is_ascii_alphanumeric (slice_index text 1))))
 
--- the value has an alternative, such as `(a|b)`: a `)` after a `|` after a `(`; or it contains a range,
--- such a
--- `.*` or a character class; or it ends with a `+` after a dot, `]` or `)`; others are part of names such as
--- `/canal+`
+-- the value starts with `^`; it has an alternative, such as `(a|b)`: a `)` after a `|` after a `(`; it contains
+-- a range, `(?`, such a `.*` or a character class; or it ends with a `+` after a dot, `]` or `)`; others are part
+-- of names such as `/canal+`
 abbrev pub is_expression : List ℕ → Bool
 is_expression value =
-    has (byte ")") (after_byte (byte "|") (after_byte (byte "(") value))
+    starts_with nat_eq value (codes "^")
+    || (has (byte ")") (after_byte (byte "|") (after_byte (byte "(") value))
     || (somewhere begins_sign value
     || (ends_with nat_eq value (codes ".+")
-    || (ends_with nat_eq value (codes "]+") || ends_with nat_eq value (codes ")+"))))
+    || (ends_with nat_eq value (codes "]+") || ends_with nat_eq value (codes ")+")))))
 
 -- ---- dollars
 

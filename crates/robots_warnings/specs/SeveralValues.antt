@@ -1,8 +1,10 @@
 -- Values of a rule or a sitemap that seem to be several ones.
 use Rattle.std.specs.Prelude.{ℕ, ◌==◌, nat_eq, nat_le, Bool, false, ◌||◌, ◌&&◌, List, [], ◌∷◌, codes, drop}
-use Rattle.std.specs.Prelude.{slice_index}
+use Rattle.std.specs.Prelude.{if◌then◌else◌, slice_index}
 use Rattle.std.specs.{Char.is_ascii_alphabetic, List.starts_with, Str.byte}
-use Rattle.robots_warnings.specs.Rules.{somewhere}
+use Rattle.robots_warnings.specs.Rules.{from_first, somewhere}
+use Rattle.robots_warnings.specs.declared.table.Cause.{Cause}
+use Rattle.robots_warnings.specs.declared.table.Cause.TheVariants as cause
 
 -- the text starts with a space or a control character of ASCII other than DEL
 abbrev pub begins_space : List ℕ → Bool
@@ -34,18 +36,33 @@ begins_unseen text =
     || ((first == 0xE2 && ((second == 0x80 && third == 0x8B) || (second == 0x81 && third == 0xA0)))
     || (first == 0xEF && (second == 0xBB && third == 0xBF)))
 
--- the text starts with one of these; with a comma, and then with a path or with `http`; or with a tag of
--- HTML: `<` and a letter, `/` or `!`
+-- the text starts with a comma, and then with a path or with `http`
+abbrev pub begins_list : List ℕ → Bool
+begins_list text =
+    slice_index text 0 == byte ","
+    && (starts_with nat_eq (drop 1 text) (codes "/") || starts_with nat_eq (drop 1 text) (codes "http"))
+
+-- the text starts with a tag of HTML: `<` and a letter, `/` or `!`
+abbrev pub begins_tag : List ℕ → Bool
+begins_tag text =
+    let second = slice_index text 1 in
+    slice_index text 0 == byte "<" && (is_ascii_alphabetic second || (second == byte "/" || second == byte "!"))
+
+-- the text starts with one of these
 abbrev pub begins_next_value : List ℕ → Bool
 begins_next_value text =
-    let first = slice_index text 0 in
-    let second = slice_index text 1 in
     begins_space text
-    || ((first == byte ","
-    && (starts_with nat_eq (drop 1 text) (codes "/") || starts_with nat_eq (drop 1 text) (codes "http")))
-    || ((first == byte "<" && (is_ascii_alphabetic second || (second == byte "/" || second == byte "!")))
-    || (begins_wide_space text || begins_unseen text)))
+    || (begins_list text || (begins_tag text || (begins_wide_space text || begins_unseen text)))
 
 -- the value contains one of these
 abbrev pub has_several_values : List ℕ → Bool
 has_several_values value = somewhere begins_next_value value
+
+-- the warning about the first of these in the value
+abbrev pub several_values : List ℕ → Cause
+several_values value =
+    let rest = from_first begins_next_value value in
+    if begins_list rest then cause.CommaInValue
+    else if begins_tag rest then cause.TagInValue
+    else if begins_unseen rest then cause.UnseenInValue
+    else cause.SpaceInValue

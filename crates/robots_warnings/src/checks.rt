@@ -2,7 +2,7 @@
 ghost use Rattle.std.specs.Prelude.{◌≡◌, IfOk, map, option_map};
 ghost use Rattle.texting_robots.specs.Callers.{label_by_value};
 ghost use Rattle.robots_warnings.specs.FieldNames.{is_without_colon};
-ghost use Rattle.robots_warnings.specs.Checks.{field_checks, file_checks, is_in_scope_of, position_checks, raw_rule_checks, rule_checks, sitemap_checks, text_checks, url_checks, user_agent_checks};
+ghost use Rattle.robots_warnings.specs.Checks.{content_checks, field_checks, file_checks, form_checks, is_in_scope_of, position_checks, raw_rule_checks, sitemap_checks, text_checks, url_checks, user_agent_checks};
 ghost use Rattle.robots_warnings.specs.File.{lines_of};
 
 use crate::contents::{has_odd_comment, has_odd_space, is_cut_short, is_cut_to_root};
@@ -13,14 +13,14 @@ use crate::positions::{
 };
 use crate::rules::{
     before_byte, begins_dot_segment, begins_wildcard, has, has_dollar_inside,
-    has_more_after_dollar, has_odd_start, holds_otherwise, is_expression, is_only_odd, is_quoted,
-    is_utf8, somewhere,
+    has_more_after_dollar, has_odd_start, has_quote_at_end, holds_otherwise, is_expression,
+    is_only_odd, is_quoted, is_url_in_path, is_utf8, somewhere,
 };
-use crate::several_values::has_several_values;
+use crate::several_values::{has_several_values, several_values};
 use crate::table::Cause;
 use crate::targets::has_odd_target;
 use crate::tokens::{is_product_token, is_usual_name};
-use crate::urls::{begins_as_url, is_absolute_url};
+use crate::urls::{begins_as_url, has_odd_host, is_absolute_url};
 use std::alloc::{AllocError, Global};
 use texting_robots::labels::{LabeledLine, Membership};
 use texting_robots::parser::Line;
@@ -107,35 +107,50 @@ pub(crate) fn is_in_scope_of(everywhere: bool, membership: Membership) -> bool
     everywhere || membership == Membership::Own
 }
 
-/// Checks of the value of an Allow or a Disallow.
-pub(crate) fn rule_checks(value: &[u8]) -> [Check; 12]
-    ensures { result ≡ rule_checks value.now }
+/// Checks of the value of an Allow or a Disallow: of its start, its characters and its quotes.
+pub(crate) fn form_checks(value: &[u8]) -> [Check; 8]
+    ensures { result ≡ form_checks value.now }
 {
-    let is_utf8 = is_utf8(value);
-    let has_dots = somewhere(before_byte(b'?', value), begins_dot_segment);
+    let is_odd = has_odd_start(value);
     [
-        (Cause::RuleNotUtf8, !is_utf8),
-        (Cause::MissingSlash, has_odd_start(value)),
+        (Cause::RuleNotUtf8, !is_utf8(value)),
+        (Cause::MissingSlash, is_odd & !is_expression(value)),
+        (Cause::UrlInPath, is_url_in_path(value)),
         (Cause::UrlAsRule, begins_as_url(value)),
         (Cause::OddCharacter, is_only_odd(value)),
         (Cause::UnencodedCharacter, holds_otherwise(value)),
+        (Cause::QuoteAtEnd, has_quote_at_end(value)),
         (Cause::QuotedRule, is_quoted(value)),
-        (Cause::RegexSyntax, is_expression(value)),
+    ]
+}
+
+/// Checks of what the value of an Allow or a Disallow contains.
+pub(crate) fn content_checks(value: &[u8]) -> [Check; 7]
+    ensures { result ≡ content_checks value.now }
+{
+    let is_odd = has_odd_start(value);
+    let is_expression = is_expression(value);
+    let has_dots = somewhere(before_byte(b'?', value), begins_dot_segment);
+    let has_several = is_utf8(value) & has_several_values(value);
+    [
+        (Cause::RegexWithoutSlash, is_odd & is_expression),
+        (Cause::RegexSyntax, !is_odd & is_expression),
         (Cause::StarAfterDollar, has_more_after_dollar(value)),
         (Cause::DollarNotAtEnd, has_dollar_inside(value)),
         (Cause::EscapedWildcard, somewhere(value, begins_wildcard)),
         (Cause::DotSegment, has_dots),
-        (Cause::SeveralValues, is_utf8 && has_several_values(value)),
+        (several_values(value), has_several),
     ]
 }
 
 /// Checks of the value of a sitemap line.
-pub(crate) fn sitemap_checks(alloc: Global, value: &[u8]) -> Result<[Check; 2], AllocError>
+pub(crate) fn sitemap_checks(alloc: Global, value: &[u8]) -> Result<[Check; 3], AllocError>
     ensures { IfOk result (λ checks. checks ≡ sitemap_checks value.now) }
 {
     Ok([
-        (Cause::SeveralValues, has_several_values(value)),
+        (several_values(value), has_several_values(value)),
         (Cause::SitemapNotAbsolute, !is_absolute_url(alloc, value)?),
+        (Cause::SitemapHost, has_odd_host(alloc, value)?),
     ])
 }
 

@@ -1,17 +1,17 @@
 //! Field names: which one was probably intended in an ignored line, and what is unusual about that of a directive.
 ghost use Rattle.std.specs.Prelude.{◌≡◌, ◌≤◌, IfOk, length, map};
 ghost use Rattle.std.specs.List.{list_all, list_any, position_or_len};
-ghost use Rattle.robots_warnings.specs.FieldNames.{after_seam, begins_field};
-ghost use Rattle.robots_warnings.specs.FieldNames.{begins_inner_field, begins_with, directive_in, first_that};
-ghost use Rattle.robots_warnings.specs.FieldNames.{first_word, goes_on, has_host, is_accepted};
-ghost use Rattle.robots_warnings.specs.FieldNames.{is_any_accepted, is_either, is_host_byte, is_misspelled};
-ghost use Rattle.robots_warnings.specs.FieldNames.{is_name, is_space_or_tab, is_without_colon};
-ghost use Rattle.robots_warnings.specs.FieldNames.{may_either_mean, may_mean, meant_by, name_in, without_end};
-ghost use Rattle.robots_warnings.specs.FieldNames.{without_front};
+ghost use Rattle.robots_warnings.specs.FieldNames.{after_seam, begins_field, begins_inner_field};
+ghost use Rattle.robots_warnings.specs.FieldNames.{begins_with, directive_in, first_that, first_word};
+ghost use Rattle.robots_warnings.specs.FieldNames.{goes_on, has_host, is_accepted, is_any_accepted};
+ghost use Rattle.robots_warnings.specs.FieldNames.{is_either, is_host_byte, is_misspelled, is_name};
+ghost use Rattle.robots_warnings.specs.FieldNames.{is_space_or_tab, is_without_colon, may_either_mean};
+ghost use Rattle.robots_warnings.specs.FieldNames.{may_mean, meant_by, name_in, without_end, without_front};
+ghost use Rattle.robots_warnings.specs.FieldNames.{name_before};
 ghost use Rattle.robots_warnings.specs.Internal.{name_value};
-
 use crate::file::first;
-use crate::rules::{after_byte, before_byte};
+use crate::rules::{after_byte, before_byte, somewhere};
+use crate::several_values::begins_unseen;
 use crate::table::Cause;
 use crate::urls::begins_as_url;
 use std::alloc::{AllocError, Global};
@@ -72,11 +72,18 @@ pub(crate) fn without_end<'a>(text: &'a [u8]) -> &'a [u8]
     rest
 }
 
+/// The text before the first such byte, or all of it, without spaces and tabs at both ends.
+fn name_before<'a>(byte: u8, body: &'a [u8]) -> &'a [u8]
+    ensures { result.now ≡ name_before byte body.now }
+{
+    without_end(without_front(before_byte(byte, body)))
+}
+
 /// The text before the first colon, or all of it, without spaces and tabs at both ends.
 fn name_in<'a>(body: &'a [u8]) -> &'a [u8]
     ensures { result.now ≡ name_in body.now }
 {
-    without_end(without_front(before_byte(b':', body)))
+    name_before(b':', body)
 }
 
 /// The index of the first space or tab, or the length of the text if there is none.
@@ -209,6 +216,12 @@ pub(crate) fn meant_by(alloc: Global, body: &[u8]) -> Result<Cause, AllocError>
     ensures { IfOk result (λ cause. cause ≡ meant_by body.now) }
 {
     let (name, word) = (name_in(body), first_word(body));
+    if somewhere(before_byte(b':', word), begins_unseen) {
+        return Ok(Cause::UnseenInName);
+    }
+    if is_any_accepted(name_before(b'=', body)) {
+        return Ok(Cause::EqualsSign);
+    }
     if is_accepted(Kind::CrawlDelay, name) || is_accepted(Kind::CrawlDelay, word) {
         return Ok(Cause::InvalidDelay);
     }

@@ -2,13 +2,13 @@
 ghost use Rattle.std.specs.Prelude.{◌≡◌, ◌<◌, ◌≤◌, ◌==◌, ◌&&◌, ◌||◌, ℕ, Bool, List, false, length, not, true};
 ghost use Rattle.std.specs.Char.{digit_value, is_ascii_hexdigit};
 ghost use Rattle.std.specs.{Fn.FnReturnsAt, List.list_any, List.position_or_len, Str.is_utf8};
-ghost use Rattle.robots_warnings.specs.Rules.{after_byte, before_byte, begins_delimiter, begins_dot_segment};
-ghost use Rattle.robots_warnings.specs.Rules.{begins_lone_percent, begins_odd_escape, begins_oddly, begins_sign, begins_wildcard};
+ghost use Rattle.robots_warnings.specs.Rules.{after_byte, before_byte, begins_delimiter, begins_dot_segment, begins_host, begins_quote};
+ghost use Rattle.robots_warnings.specs.Rules.{begins_lone_percent, begins_odd_escape, begins_oddly, begins_sign, begins_wildcard, from_first};
 ghost use Rattle.robots_warnings.specs.Rules.{has, has_any, has_dollar_inside, has_more_after_dollar};
-ghost use Rattle.robots_warnings.specs.Rules.{has_odd_character, has_odd_start, holds_otherwise, is_delimiter};
-ghost use Rattle.robots_warnings.specs.Rules.{is_expression, is_quoted, needs_no_escape, somewhere};
+ghost use Rattle.robots_warnings.specs.Rules.{has_odd_character, has_odd_start, has_quote_at_end, holds_otherwise, is_delimiter};
+ghost use Rattle.robots_warnings.specs.Rules.{is_expression, is_quoted, is_url_in_path, needs_no_escape, somewhere};
 
-use crate::urls::begins_as_url;
+use crate::urls::{as_text, begins_as_url};
 use memchr::memchr;
 
 /// Whether the text contains the byte.
@@ -44,31 +44,36 @@ pub(crate) fn after_byte(byte: u8, text: &[u8]) -> &[u8]
     }
 }
 
+/// The rest of the text from the first byte on for which the test holds; empty if there is none.
+pub(crate) fn from_first<'a, F: Fn(&[u8]) -> bool>(text: &'a [u8], test: F) -> &'a [u8]
+    requires { F.IsAlwaysCallable test }
+    ensures { (p : List ℕ → Bool) → ((x : List ℕ) (r : Bool) → FnReturnsAt F.Fn test x r → r ≡ p x)
+        → result.now ≡ from_first p text.now }
+{
+    let mut rest = text;
+    while let [_, after @ ..] = rest {
+        if test(rest) {
+            return rest;
+        }
+        rest = after;
+    }
+    rest
+}
+
 /// Whether the test holds for the rest of the text from some byte on.
-#[tactic(auto, using(crate::proofs::StepLemmas::somewhere_next))]
 pub fn somewhere<F: Fn(&[u8]) -> bool>(text: &[u8], test: F) -> bool
     requires { F.IsAlwaysCallable test }
     ensures { (p : List ℕ → Bool) → ((x : List ℕ) (r : Bool) → FnReturnsAt F.Fn test x r → r ≡ p x)
         → result ≡ somewhere p text.now }
 {
-    let mut rest = text;
-    while let [_, after @ ..] = rest {
-        if test(rest) {
-            return true;
-        }
-        rest = after;
-    }
-    false
+    !from_first(text, test).is_empty()
 }
 
 /// Whether the value is UTF-8.
 pub(crate) fn is_utf8(value: &[u8]) -> bool
     ensures { result ≡ is_utf8 value.now }
 {
-    match std::str::from_utf8(value) {
-        Ok(_) => true,
-        Err(_) => false,
-    }
+    as_text(value).is_some()
 }
 
 /// Whether the value isn't empty and doesn't start with a slash or a star.
@@ -114,11 +119,29 @@ pub(crate) fn has_odd_character(value: &[u8]) -> bool
         || has_any(b"\\^{}'", after_byte(b'*', value))
 }
 
-/// Whether the value is in single or double quotes.
+/// Whether the text starts with a typographic quote.
+fn begins_quote(text: &[u8]) -> bool
+    ensures { result ≡ begins_quote text.now }
+{
+    matches!(
+        text,
+        [0xE2, 0x80, 0x98..=0x9F, ..] | [0xC2, 0xAB | 0xBB, ..]
+    )
+}
+
+/// Whether a typographic quote is the last character of the value, and there is no other one.
+pub(crate) fn has_quote_at_end(value: &[u8]) -> bool
+    ensures { result ≡ has_quote_at_end value.now }
+{
+    let rest = from_first(value, begins_quote);
+    !begins_quote(value) && begins_quote(rest) && matches!(rest, [0xE2, _, _] | [0xC2, _])
+}
+
+/// Whether the value is in single or double quotes, or starts with a typographic one.
 pub(crate) fn is_quoted(value: &[u8]) -> bool
     ensures { result ≡ is_quoted value.now }
 {
-    matches!(value, [b'"', .., b'"'] | [b'\'', .., b'\''])
+    matches!(value, [b'"', .., b'"'] | [b'\'', .., b'\'']) || begins_quote(value)
 }
 
 /// Whether the value starts otherwise than a rule does, and isn't an absolute URL or in quotes.
@@ -128,24 +151,46 @@ pub(crate) fn has_odd_start(value: &[u8]) -> bool
     begins_oddly(value) && !(begins_as_url(value) || is_quoted(value))
 }
 
-/// Whether the text starts with a range, such as `[0-9]`, with `.*` after a slash or `(` or before `$`, or with a
-/// character class, such as `\d`.
+/// Whether the text starts with a slash and the name of a host: a dot comes before the next slash.
+fn begins_host(text: &[u8]) -> bool
+    ensures { result ≡ begins_host text.now }
+{
+    match text {
+        [b'/', name @ ..] => has(b'/', name) && has(b'.', before_byte(b'/', name)),
+        _ => false,
+    }
+}
+
+/// Whether the value starts with a slash, and then with a URL or with such a host.
+pub(crate) fn is_url_in_path(value: &[u8]) -> bool
+    ensures { result ≡ is_url_in_path value.now }
+{
+    match value {
+        [b'/', after @ ..] => begins_as_url(after) || begins_host(after),
+        _ => false,
+    }
+}
+
+/// Whether the text starts with a range, such as `[0-9]`, with `(?`, with `.*` after a slash or `(` or before `$`, or
+/// with a character class, such as `\d`.
 fn begins_sign(text: &[u8]) -> bool
     ensures { result ≡ begins_sign text.now }
 {
     match text {
         [b'[', _, b'-', _, ..] | [b'/' | b'(', b'.', b'*', ..] | [b'.', b'*', b'$', ..] => true,
+        [b'(', b'?', ..] => true,
         [b'\\', letter, ..] => letter.is_ascii_alphanumeric(),
         _ => false,
     }
 }
 
-/// Whether the value has an alternative, such as `(a|b)`, contains a range, such a `.*` or a character class, or ends
-/// with a `+` after a dot, `]` or `)`.
+/// Whether the value starts with `^`, has an alternative, such as `(a|b)`, contains a range, `(?`, such a `.*` or a
+/// character class, or ends with a `+` after a dot, `]` or `)`.
 pub(crate) fn is_expression(value: &[u8]) -> bool
     ensures { result ≡ is_expression value.now }
 {
-    has(b')', after_byte(b'|', after_byte(b'(', value)))
+    value.starts_with(b"^")
+        || has(b')', after_byte(b'|', after_byte(b'(', value)))
         || somewhere(value, begins_sign)
         || value.ends_with(b".+")
         || value.ends_with(b"]+")

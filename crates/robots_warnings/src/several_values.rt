@@ -1,9 +1,10 @@
 //! Values of a rule or a sitemap that seem to be several ones.
 ghost use Rattle.std.specs.Prelude.{◌≡◌};
-ghost use Rattle.robots_warnings.specs.SeveralValues.{begins_next_value};
-ghost use Rattle.robots_warnings.specs.SeveralValues.{begins_unseen, begins_wide_space, has_several_values};
+ghost use Rattle.robots_warnings.specs.SeveralValues.{begins_list, begins_next_value, begins_tag};
+ghost use Rattle.robots_warnings.specs.SeveralValues.{begins_unseen, begins_wide_space, has_several_values, several_values};
 
-use crate::rules::somewhere;
+use crate::rules::{from_first, somewhere};
+use crate::table::Cause;
 
 /// Whether the text starts with white space of Unicode that isn't ASCII.
 fn begins_wide_space(text: &[u8]) -> bool
@@ -20,7 +21,7 @@ fn begins_wide_space(text: &[u8]) -> bool
 }
 
 /// Whether the text starts with a character that can't be seen.
-fn begins_unseen(text: &[u8]) -> bool
+pub(crate) fn begins_unseen(text: &[u8]) -> bool
     ensures { result ≡ begins_unseen text.now }
 {
     matches!(
@@ -29,16 +30,36 @@ fn begins_unseen(text: &[u8]) -> bool
     )
 }
 
-/// Whether the text starts with what seems to separate or to end a value: a space or a control character; a comma, and
-/// then a path or `http`; a tag of HTML; or one of the above.
+/// Whether the text starts with a comma, and then with a path or `http`.
+fn begins_list(text: &[u8]) -> bool
+    ensures { result ≡ begins_list text.now }
+{
+    match text {
+        [b',', after @ ..] => after.starts_with(b"/") || after.starts_with(b"http"),
+        _ => false,
+    }
+}
+
+/// Whether the text starts with a tag of HTML.
+fn begins_tag(text: &[u8]) -> bool
+    ensures { result ≡ begins_tag text.now }
+{
+    match text {
+        [b'<', next, ..] => next.is_ascii_alphabetic() || *next == b'/' || *next == b'!',
+        _ => false,
+    }
+}
+
+/// Whether the text starts with what seems to separate or to end a value: a space or a control character, or one of the
+/// above.
 fn begins_next_value(text: &[u8]) -> bool
     ensures { result ≡ begins_next_value text.now }
 {
     match text {
-        [b',', after @ ..] => after.starts_with(b"/") || after.starts_with(b"http"),
-        [b'<', next, ..] => next.is_ascii_alphabetic() || *next == b'/' || *next == b'!',
         [0..=b' ', ..] => true,
-        _ => begins_wide_space(text) || begins_unseen(text),
+        _ => {
+            begins_list(text) || begins_tag(text) || begins_wide_space(text) || begins_unseen(text)
+        }
     }
 }
 
@@ -47,4 +68,20 @@ pub(crate) fn has_several_values(value: &[u8]) -> bool
     ensures { result ≡ has_several_values value.now }
 {
     somewhere(value, begins_next_value)
+}
+
+/// The warning about the first of these in the value.
+pub(crate) fn several_values(value: &[u8]) -> Cause
+    ensures { result ≡ several_values value.now }
+{
+    let rest = from_first(value, begins_next_value);
+    if begins_list(rest) {
+        Cause::CommaInValue
+    } else if begins_tag(rest) {
+        Cause::TagInValue
+    } else if begins_unseen(rest) {
+        Cause::UnseenInValue
+    } else {
+        Cause::SpaceInValue
+    }
 }

@@ -46,6 +46,8 @@ pub enum Cause {
     LikeDisallow,
     LikeSitemap,
     LikeCrawlDelay,
+    UnseenInName,
+    EqualsSign,
     UnrecognizedLine,
     // the field name of a line
     NonstandardField,
@@ -59,10 +61,13 @@ pub enum Cause {
     HashCutsRule,
     RuleNotUtf8,
     MissingSlash,
+    UrlInPath,
     UrlAsRule,
     OddCharacter,
     UnencodedCharacter,
+    QuoteAtEnd,
     QuotedRule,
+    RegexWithoutSlash,
     RegexSyntax,
     StarAfterDollar,
     DollarNotAtEnd,
@@ -71,12 +76,16 @@ pub enum Cause {
     EscapedDelimiter,
     DotSegment,
     // a rule or a sitemap
-    SeveralValues,
+    SpaceInValue,
+    CommaInValue,
+    TagInValue,
+    UnseenInValue,
     // a delay
     DelayNotation,
     DelayOverADay,
     // a sitemap
     SitemapNotAbsolute,
+    SitemapHost,
     // any line
     OneLine,
     ControlInComment,
@@ -117,7 +126,7 @@ pub enum Topic {
 
 /// The warnings with their levels, topics and names.
 #[rattlefmt::skip]
-pub static WARNINGS: [(Cause, Level, Topic, &str); 72] = [
+pub static WARNINGS: [(Cause, Level, Topic, &str); 81] = [
     // the file
     (Cause::LooksLikeHtml, Level::Error, Topic::Syntax, "looks-like-html"),
     (Cause::LooksLikeUtf16, Level::Error, Topic::Syntax, "looks-like-utf-16"),
@@ -147,6 +156,8 @@ pub static WARNINGS: [(Cause, Level, Topic, &str); 72] = [
     (Cause::LikeDisallow, Level::Warning, Topic::Syntax, "unrecognized-line"),
     (Cause::LikeSitemap, Level::Warning, Topic::Syntax, "unrecognized-line"),
     (Cause::LikeCrawlDelay, Level::Warning, Topic::Syntax, "unrecognized-line"),
+    (Cause::UnseenInName, Level::Warning, Topic::Syntax, "unrecognized-line"),
+    (Cause::EqualsSign, Level::Warning, Topic::Syntax, "unrecognized-line"),
     (Cause::UnrecognizedLine, Level::Warning, Topic::Syntax, "unrecognized-line"),
     // the field name of a line
     (Cause::NonstandardField, Level::Warning, Topic::Syntax, "nonstandard-field"),
@@ -160,10 +171,13 @@ pub static WARNINGS: [(Cause, Level, Topic, &str); 72] = [
     (Cause::HashCutsRule, Level::Warning, Topic::Meaning, "hash-cuts-rule"),
     (Cause::RuleNotUtf8, Level::Warning, Topic::Syntax, "rule-not-utf-8"),
     (Cause::MissingSlash, Level::Error, Topic::Syntax, "missing-slash"),
+    (Cause::UrlInPath, Level::Warning, Topic::Meaning, "url-as-rule"),
     (Cause::UrlAsRule, Level::Error, Topic::Syntax, "url-as-rule"),
     (Cause::OddCharacter, Level::Note, Topic::Verdict, "unencoded-character"),
     (Cause::UnencodedCharacter, Level::Warning, Topic::Verdict, "unencoded-character"),
+    (Cause::QuoteAtEnd, Level::Warning, Topic::Meaning, "quoted-rule"),
     (Cause::QuotedRule, Level::Error, Topic::Syntax, "quoted-rule"),
+    (Cause::RegexWithoutSlash, Level::Error, Topic::Syntax, "regex-syntax"),
     (Cause::RegexSyntax, Level::Warning, Topic::Meaning, "regex-syntax"),
     (Cause::StarAfterDollar, Level::Warning, Topic::Verdict, "dollar-not-at-end"),
     (Cause::DollarNotAtEnd, Level::Warning, Topic::Verdict, "dollar-not-at-end"),
@@ -172,12 +186,16 @@ pub static WARNINGS: [(Cause, Level, Topic, &str); 72] = [
     (Cause::EscapedDelimiter, Level::Note, Topic::Meaning, "escaped-delimiter"),
     (Cause::DotSegment, Level::Error, Topic::Meaning, "dot-segment"),
     // a rule or a sitemap
-    (Cause::SeveralValues, Level::Warning, Topic::Syntax, "several-values"),
+    (Cause::SpaceInValue, Level::Warning, Topic::Syntax, "several-values"),
+    (Cause::CommaInValue, Level::Warning, Topic::Syntax, "several-values"),
+    (Cause::TagInValue, Level::Warning, Topic::Syntax, "several-values"),
+    (Cause::UnseenInValue, Level::Warning, Topic::Syntax, "several-values"),
     // a delay
     (Cause::DelayNotation, Level::Warning, Topic::Syntax, "delay-notation"),
     (Cause::DelayOverADay, Level::Warning, Topic::Meaning, "delay-over-a-day"),
     // a sitemap
     (Cause::SitemapNotAbsolute, Level::Warning, Topic::Syntax, "sitemap-not-absolute"),
+    (Cause::SitemapHost, Level::Warning, Topic::Meaning, "sitemap-host"),
     // any line
     (Cause::OneLine, Level::Error, Topic::Meaning, "one-line"),
     (Cause::ControlInComment, Level::Note, Topic::Syntax, "control-in-comment"),

@@ -3,7 +3,7 @@ use crate::table::Cause;
 
 /// For each warning, in the order of [`WARNINGS`](crate::table::WARNINGS), its message.
 #[rattlefmt::skip]
-pub(crate) static MESSAGES: [(Cause, &str); 72] = [
+pub(crate) static MESSAGES: [(Cause, &str); 81] = [
     // the file
     (Cause::LooksLikeHtml,
         "no usable line found; the text starts with <, so it may be an HTML page; serve a plain-text robots.txt instead"),
@@ -59,6 +59,10 @@ pub(crate) static MESSAGES: [(Cause, &str); 72] = [
         "the line is ignored; did you mean \"Sitemap:\"?"),
     (Cause::LikeCrawlDelay,
         "the line is ignored; did you mean \"Crawl-delay:\"?"),
+    (Cause::UnseenInName,
+        "the line is ignored; its field name has an invisible character, such as a zero-width space or a byte order mark; delete it"),
+    (Cause::EqualsSign,
+        "the line is ignored, since = isn't a colon; write, for example, \"Disallow: /path\""),
     (Cause::UnrecognizedLine,
         "the line isn't a known directive and is ignored; write, for example, \"Disallow: /path\", or start a comment with #"),
     // the field name of a line
@@ -82,14 +86,20 @@ pub(crate) static MESSAGES: [(Cause, &str); 72] = [
         "the rule isn't valid UTF-8 and is ignored; save the file as UTF-8"),
     (Cause::MissingSlash,
         "the rule doesn't start with / or *, so it matches no path; add a leading /, or /* if it may come later in the path"),
+    (Cause::UrlInPath,
+        "the rule matches only paths that begin so, with a slash and a URL or a host; if that isn't meant, keep only the part after the host, for example: /search"),
     (Cause::UrlAsRule,
         "the rule starts like a URL, but rules apply to paths, so it matches none; keep only the part after the host, for example: /search"),
     (Cause::OddCharacter,
         "the rule contains a character that crawlers encode differently (a vertical bar, \", <, >, a backquote or a lone %; after a ? or *, also \\ ^ { } or '), so it may not match; use * in its place"),
     (Cause::UnencodedCharacter,
         "the rule contains a character that usually has another form in URLs (^ { } \\ in a path, ' or a backquote in a query, or a tab); use * in its place"),
+    (Cause::QuoteAtEnd,
+        "the quote at the end is treated as part of the path, so the rule matches only paths with it; remove it, unless that is meant"),
     (Cause::QuotedRule,
         "the quotes are treated as part of the path, so the rule won't match; remove them"),
+    (Cause::RegexWithoutSlash,
+        "this looks like a regular expression, which robots.txt doesn't support, and it doesn't start with / or *, so it matches no path; write what paths start with, with * for any characters, and a final $ for the end of the URL, for example: /admin"),
     (Cause::RegexSyntax,
         "this looks like a regular expression, which robots.txt doesn't support; use * for any characters, and a final $ for the end of the URL"),
     (Cause::StarAfterDollar,
@@ -105,8 +115,14 @@ pub(crate) static MESSAGES: [(Cause, &str); 72] = [
     (Cause::DotSegment,
         "the rule contains a . or .. segment, which crawlers resolve in a URL's path before matching; write the resolved path"),
     // a rule or a sitemap
-    (Cause::SeveralValues,
-        "all of this is read as one value, with its space, comma, tag or invisible character; write one value per line, %20 for a space, and comments after #"),
+    (Cause::SpaceInValue,
+        "all of this is read as one value, with the white space or control character in it; write one value per line, %20 for a space, and comments after #"),
+    (Cause::CommaInValue,
+        "all of this is read as one value, with the comma in it; write one value per line"),
+    (Cause::TagInValue,
+        "all of this is read as one value, with the HTML tag in it; delete the tag, and write one value per line"),
+    (Cause::UnseenInValue,
+        "all of this is read as one value, with an invisible character in it, such as a zero-width space or a byte order mark; delete it"),
     // a delay
     (Cause::DelayNotation,
         "the delay is read here, but other crawlers may ignore it; write only digits, possibly with a point and more digits, and no invisible characters, for example: Crawl-delay: 1.5"),
@@ -115,6 +131,8 @@ pub(crate) static MESSAGES: [(Cause, &str); 72] = [
     // a sitemap
     (Cause::SitemapNotAbsolute,
         "the sitemap isn't a valid URL that starts with http:// or https://; write, for example, https://example.com/sitemap.xml"),
+    (Cause::SitemapHost,
+        "the sitemap is at no public host (there is none, an IP address, localhost, undefined or null), so search engines can't fetch it; write the site's own, for example: https://example.com/sitemap.xml"),
     // any line
     (Cause::OneLine,
         "another field name follows in the same line, where it isn't recognized; write each User-agent, Allow, Disallow, Crawl-delay and Sitemap on a line of its own"),
@@ -166,7 +184,7 @@ pub(crate) static MESSAGES: [(Cause, &str); 72] = [
 /// For each warning, in the order of [`WARNINGS`](crate::table::WARNINGS), a file that triggers it for FerrisBot, or with
 /// the arguments in its first line, or a command. In a file, `\xFF` is a byte, and `\{512000 a}` is 512,000 times an `a`.
 #[rattlefmt::skip]
-pub(crate) static EXAMPLES: [(Cause, &str); 72] = [
+pub(crate) static EXAMPLES: [(Cause, &str); 81] = [
     // the file
     (Cause::LooksLikeHtml, "<html>\n</html>"),
     (Cause::LooksLikeUtf16, "\\xFF\\xFED\\x00"),
@@ -196,6 +214,8 @@ pub(crate) static EXAMPLES: [(Cause, &str); 72] = [
     (Cause::LikeDisallow, "User-agent: *\nDisalow; /a"),
     (Cause::LikeSitemap, "User-agent: *\nSitemaps: https://example.com/s.xml"),
     (Cause::LikeCrawlDelay, "User-agent: *\nCrawl-dely: 1"),
+    (Cause::UnseenInName, "User-agent: *\n\\xE2\\x80\\x8BDisallow: /a"),
+    (Cause::EqualsSign, "User-agent: *\nDisallow = /a"),
     (Cause::UnrecognizedLine, "User-agent: *\nhello"),
     // the field name of a line
     (Cause::NonstandardField, "User-agent: *\nUseragent: *\nDisallow: /a"),
@@ -209,10 +229,13 @@ pub(crate) static EXAMPLES: [(Cause, &str); 72] = [
     (Cause::HashCutsRule, "User-agent: *\nDisallow: /a#b"),
     (Cause::RuleNotUtf8, "User-agent: *\nDisallow: /\\xE9"),
     (Cause::MissingSlash, "User-agent: *\nDisallow: search"),
+    (Cause::UrlInPath, "User-agent: *\nDisallow: /https://example.com/a"),
     (Cause::UrlAsRule, "User-agent: *\nDisallow: https://example.com/a"),
     (Cause::OddCharacter, "User-agent: *\nDisallow: /?{id}"),
     (Cause::UnencodedCharacter, "User-agent: *\nDisallow: /{id}"),
+    (Cause::QuoteAtEnd, "User-agent: *\nDisallow: /a\\xE2\\x80\\x9D"),
     (Cause::QuotedRule, "User-agent: *\nDisallow: \"/a\""),
+    (Cause::RegexWithoutSlash, "User-agent: *\nDisallow: ^/admin"),
     (Cause::RegexSyntax, "User-agent: *\nDisallow: /.*"),
     (Cause::StarAfterDollar, "User-agent: *\nDisallow: /a$*"),
     (Cause::DollarNotAtEnd, "User-agent: *\nDisallow: /$a"),
@@ -221,12 +244,16 @@ pub(crate) static EXAMPLES: [(Cause, &str); 72] = [
     (Cause::EscapedDelimiter, "User-agent: *\nDisallow: /a%2Fb"),
     (Cause::DotSegment, "User-agent: *\nDisallow: /../a"),
     // a rule or a sitemap
-    (Cause::SeveralValues, "User-agent: *\nDisallow: /a/ /b/"),
+    (Cause::SpaceInValue, "User-agent: *\nDisallow: /a/ /b/"),
+    (Cause::CommaInValue, "User-agent: *\nDisallow: /a/,/b/"),
+    (Cause::TagInValue, "User-agent: *\nDisallow: /a<br>"),
+    (Cause::UnseenInValue, "User-agent: *\nDisallow: /a\\xE2\\x80\\x8B"),
     // a delay
     (Cause::DelayNotation, "User-agent: *\nCrawl-delay: 1e3"),
     (Cause::DelayOverADay, "User-agent: *\nCrawl-delay: 100000"),
     // a sitemap
     (Cause::SitemapNotAbsolute, "User-agent: *\nSitemap: /s.xml"),
+    (Cause::SitemapHost, "User-agent: *\nSitemap: http://localhost/s.xml"),
     // any line
     (Cause::OneLine, "User-agent: * Disallow: /"),
     (Cause::ControlInComment, "# \\x01"),

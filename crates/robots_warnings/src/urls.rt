@@ -1,7 +1,8 @@
 //! Conditions on URLs and paths.
-ghost use Rattle.std.specs.Prelude.{◌≡◌, ◌&&◌, IfOk, not};
-ghost use Rattle.robots_warnings.specs.Urls.{begins_as_url, begins_in_any_case, is_absolute_url};
-ghost use Rattle.robots_warnings.specs.Urls.{is_unparsable};
+ghost use Rattle.std.specs.Prelude.{◌≡◌, ◌&&◌, IfOk, MatchOption, false, not, true};
+ghost use Rattle.std.specs.Str.{is_utf8};
+ghost use Rattle.robots_warnings.specs.Urls.{begins_as_url, begins_in_any_case, begins_without_host, has_odd_host};
+ghost use Rattle.robots_warnings.specs.Urls.{is_absolute_url, is_local, is_unparsable};
 
 use crate::file::first;
 use std::alloc::{AllocError, Global};
@@ -19,6 +20,17 @@ pub(crate) fn begins_as_url(text: &[u8]) -> bool
     ensures { result ≡ begins_as_url text.now }
 {
     begins_in_any_case(b"http://", text) || begins_in_any_case(b"https://", text)
+}
+
+/// The value as a text, if it is UTF-8.
+pub(crate) fn as_text<'a>(value: &'a [u8]) -> Option<&'a str>
+    ensures { MatchOption result (is_utf8 value.now ≡ false)
+        (λ text. (is_utf8 value.now ≡ true) × (text.now ≡ value.now)) }
+{
+    match std::str::from_utf8(value) {
+        Ok(text) => Some(text),
+        Err(_) => None,
+    }
 }
 
 /// Whether `url` can't parse the text.
@@ -43,8 +55,42 @@ pub(crate) fn is_parsable_url(alloc: Global, text: &str) -> Result<bool, AllocEr
 pub fn is_absolute_url(alloc: Global, value: &[u8]) -> Result<bool, AllocError>
     ensures { IfOk result (λ answer. answer ≡ is_absolute_url value.now) }
 {
-    match std::str::from_utf8(value) {
-        Ok(text) => is_parsable_url(alloc, text),
+    match as_text(value) {
+        Some(text) => is_parsable_url(alloc, text),
+        None => Ok(false),
+    }
+}
+
+/// Whether the text has a third slash in place of a host.
+fn begins_without_host(text: &[u8]) -> bool
+    ensures { result ≡ begins_without_host text.now }
+{
+    begins_in_any_case(b"http:///", text) || begins_in_any_case(b"https:///", text)
+}
+
+/// Whether the host of the URL is an IP address, or a name that only this machine has, or one that templates leave.
+fn is_local(url: &Url) -> bool
+    ensures { result ≡ is_local url.now }
+{
+    match url.domain() {
+        Some(name) => name == "localhost" || name == "undefined" || name == "null",
+        None => true,
+    }
+}
+
+/// Whether the value is an absolute http(s) URL that other machines can't use because of its host.
+pub(crate) fn has_odd_host(alloc: Global, value: &[u8]) -> Result<bool, AllocError>
+    ensures { IfOk result (λ answer. answer ≡ has_odd_host value.now) }
+{
+    let Some(text) = as_text(value) else {
+        return Ok(false);
+    };
+    if !begins_as_url(value) {
+        return Ok(false);
+    }
+    match Url::parse(alloc, text) {
+        Ok(url) => Ok(begins_without_host(value) || is_local(&url)),
+        Err(ParseError::OutOfMemory | ParseError::Overflow) => Err(AllocError),
         Err(_) => Ok(false),
     }
 }

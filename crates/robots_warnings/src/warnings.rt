@@ -12,8 +12,8 @@ ghost use Rattle.robots_warnings.specs.Warnings.{google_warning, google_warnings
 ghost use Rattle.robots_warnings.specs.Warnings.{past_limit_warnings, position_warnings, url_warnings, warned, warned_at, warned_beside, warnings};
 
 use crate::checks::{
-    Check, field_checks, file_checks, is_in_scope_of, position_checks, raw_rule_checks,
-    rule_checks, sitemap_checks, text_checks, url_checks, user_agent_checks,
+    Check, content_checks, field_checks, file_checks, form_checks, is_in_scope_of, position_checks,
+    raw_rule_checks, sitemap_checks, text_checks, url_checks, user_agent_checks,
 };
 use crate::conflicts::{RuleLines, rule_lines};
 use crate::contents::{has_odd_delay, has_odd_space, split_content};
@@ -122,6 +122,14 @@ fn warn_in_general<'a>(
     warn_of_urls(alloc, found, urls)
 }
 
+/// Appends the warnings about the value of an Allow or a Disallow.
+fn warn_of_rule(found: &mut Found<'_>, line: Option<usize>, value: &[u8]) -> Result<(), AllocError>
+    ensures { OnOk result (Adds found.old.items found.new.items (warned line None (rule_checks value.now))) }
+{
+    warn(found, line, None, &form_checks(value))?;
+    warn(found, line, None, &content_checks(value))
+}
+
 /// Appends the warnings about the value of a line. Rules are only checked if `is_in_scope` is true.
 fn warn_of_value(
     alloc: Global,
@@ -136,7 +144,7 @@ fn warn_of_value(
     match line {
         Line::UserAgent(value) => warn(found, at, None, &user_agent_checks(value)),
         Line::Allow(value) | Line::Disallow(value) if is_in_scope => {
-            warn(found, at, None, &rule_checks(value))
+            warn_of_rule(found, at, value)
         }
         Line::CrawlDelay(Some(micros)) => {
             warn(found, at, None, &[(Cause::DelayOverADay, micros > DAY)])

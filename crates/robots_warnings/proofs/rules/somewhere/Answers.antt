@@ -1,16 +1,9 @@
-use Rattle.std.proofs.Common.{arith, rules}
+use Rattle.std.proofs.Common.{arith}
 use Rattle.std.proofs.lemmas.Grind.{common_steps}
-use Rattle.robots_warnings.proofs.StepLemmas.{somewhere_next}
+use Rattle.robots_warnings.proofs.StepLemmas.{somewhere_first}
 use Rattle.robots_warnings.proofs.rules.somewhere.Goals as goal
 
-pub returns-then-test : goal.returns-then-test
-returns-then-test g c = λ p computes.
-    let told = computes c.loop-rest.rest.now c.test.result (search rules) in
-    let whole = c.loop-rest.invariant p computes in
-    grind (arith, somewhere_next)
-
-pub loop-rest-preserved : goal.loop-rest-preserved
-loop-rest-preserved g c = λ p computes.
-    let told = computes c.loop-rest.rest.now c.test.result (search rules) in
-    let whole = c.loop-rest.invariant p computes in
-    grind (arith, common_steps, somewhere_next)
+pub returns : goal.returns
+returns g c = λ p computes.
+    let found = c.from_first.ensures p computes in
+    grind (arith, common_steps, somewhere_first)

@@ -1,12 +1,12 @@
 use Rattle.std.proofs.Common.{◌≡◌, ℕ, Bool, List, length}
 use Rattle.std.specs.Fn.{FnReturnsAt}
-use Rattle.robots_warnings.specs.Rules.{somewhere}
-use Rattle.robots_warnings.proofs.rules.somewhere.Given as goal
+use Rattle.robots_warnings.specs.Rules.{from_first}
+use Rattle.robots_warnings.proofs.rules.from_first.Given as goal
 
 abbrev pub invariant-loop-rest : goal.invariant-loop-rest
 invariant-loop-rest g l =
     (p : List ℕ → Bool) → ((x : List ℕ) (r : Bool) → FnReturnsAt g.F.Fn l.fn.test x r → r ≡ p x)
-    → somewhere p l.rest ≡ somewhere p l.text
+    → from_first p l.rest ≡ from_first p l.text
 
 abbrev pub decreases-loop-rest : goal.decreases-loop-rest
 decreases-loop-rest g l = length l.rest
