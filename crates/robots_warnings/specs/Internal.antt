@@ -43,3 +43,7 @@ pub record IsAt {X : Type 0} (items : List X) (number : ℕ) (item : X) : Type 0
 -- the row is at this index
 abbrev pub IsRowAt : List Row → ℕ → Row → Type 0
 IsRowAt rows number row = IsAt rows number row
+
+-- a row of the table of crawlers by value
+abbrev pub row_value : Bor (List ℕ) × Bor (List ℕ) → List ℕ × List ℕ
+row_value row = (row.0.now, row.1.now)

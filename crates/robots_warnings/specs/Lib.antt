@@ -13,7 +13,7 @@ pub mod Checks
 pub mod Conflicts
 pub mod EmptyDisallows
 pub mod Closed
-pub mod Google
+pub mod Crawlers
 pub mod NamesPastLimit
 pub mod Spellings
 pub mod Repeated

@@ -11,7 +11,8 @@ use Rattle.robots_warnings.specs.contracts.table.Cause.{the_type}
 use Rattle.robots_warnings.specs.declared.table.Cause.{Cause}
 use Rattle.robots_warnings.specs.declared.table.Cause.TheVariants.{GoogleIgnoresStar, GooglebotGroup}
 use Rattle.robots_warnings.specs.declared.warning.Detail.{Detail}
-use Rattle.robots_warnings.specs.declared.warning.Detail.TheVariants.{Line, Rules}
+use Rattle.robots_warnings.specs.declared.warning.Detail.TheVariants.{Group, Line, Meant, Rules}
+use Rattle.robots_warnings.specs.Crawlers.{row_at}
 use Rattle.robots_warnings.specs.Table.{all_names, all_texts, name_of, number_of, text_of}
 use Rattle.robots_warnings.specs.WarningValue.{WarningValue}
 
@@ -62,18 +63,23 @@ abbrev pub reason_part : Cause → Option (List ℕ) → PartValue
 reason_part cause None = Only (fixed_text cause)
 reason_part cause (Some name) = Part (label (codes "': ") refl) (Word (fixed_text cause))
 
--- how many rules the message is about, or the line of another rule that it is about
+-- how many rules the message is about, the line of another rule, the name of the group that a crawler's vendor
+-- applies, or that of the crawler that may be meant
 abbrev pub detail_part : Option Detail → PartValue
 detail_part None = Absent
 detail_part (Some (Rules count)) = Part (label (codes " (") refl) (Number count)
 detail_part (Some (Line number)) = Part (label (codes " (see line ") refl) (Number number)
+detail_part (Some (Group number)) = Part (label (codes " (see the group of ") refl) (Untrusted (row_at number).1)
+detail_part (Some (Meant number)) = Part (label (codes " (did you mean ") refl) (Untrusted (row_at number).0)
 
 abbrev pub detail_end : Option Detail → PartValue
 detail_end None = Absent
 detail_end (Some (Rules count)) = only (codes " in all)") refl
 detail_end (Some (Line number)) = only (codes ")") refl
+detail_end (Some (Group number)) = only (codes ")") refl
+detail_end (Some (Meant number)) = only (codes "?)") refl
 
--- the message, preceded by the URL or the crawler's name, and followed by the number that it ends with
+-- the message, preceded by the URL or the crawler's name, and followed by what it ends with
 abbrev pub message_parts : WarningValue → List PartValue
 message_parts warning =
     about_part warning.cause warning.about ∷ reason_part warning.cause warning.about

@@ -1,6 +1,6 @@
 -- All warnings about a file and a request, in the order of output.
 use Rattle.std.specs.Prelude.{ℕ, ◌==◌, Bool, true, List, [], ◌∷◌, ◌++◌, ◌&&◌, Option, Some, None, codes}
-use Rattle.std.specs.Prelude.{flat_map, if◌then◌else◌, length, map, not, ◌||◌}
+use Rattle.std.specs.Prelude.{flat_map, if◌then◌else◌, length, map, not, ◌||◌, ◌+◌}
 use Rattle.texting_robots.specs.Callers.{LineValue, Label, bodies_read, is_named}
 use Rattle.robots_warnings.specs.declared.facts.FileFacts.{FileFacts}
 use Rattle.robots_warnings.specs.declared.positions.Preceding.{Preceding}
@@ -10,12 +10,12 @@ use Rattle.robots_warnings.specs.declared.table.Cause.TheVariants.{AllowedAndDis
 use Rattle.robots_warnings.specs.declared.table.Cause.TheVariants.{CutLine, EmptyDisallow, EscapedDelimiter}
 use Rattle.robots_warnings.specs.declared.table.Cause.TheVariants.{GoogleIgnoresStar}
 use Rattle.robots_warnings.specs.declared.table.Cause.TheVariants.{GooglebotGroup, GroupPastSizeLimit}
-use Rattle.robots_warnings.specs.declared.table.Cause.TheVariants.{NonstandardEscape, RepeatedRule}
+use Rattle.robots_warnings.specs.declared.table.Cause.TheVariants.{MisspelledName, NonstandardEscape}
+use Rattle.robots_warnings.specs.declared.table.Cause.TheVariants.{RepeatedRule}
 use Rattle.robots_warnings.specs.declared.table.Cause.TheVariants.{ReplacesStar}
 use Rattle.robots_warnings.specs.declared.warning.Detail.{Detail}
-use Rattle.robots_warnings.specs.declared.warning.Detail.TheVariants.{Line, Rules}
-use Rattle.robots_warnings.specs.Google.{is_given, is_named_at_google}
-use Rattle.robots_warnings.specs.declared.google.TheConstants.{IGNORING_STAR, LIKE_GOOGLEBOT}
+use Rattle.robots_warnings.specs.declared.warning.Detail.TheVariants.{Group, Line, Meant, Rules}
+use Rattle.robots_warnings.specs.Crawlers.{Row, crawlers, gets_other, is_given, meant_in}
 use Rattle.robots_warnings.specs.Checks.{Check, file_checks, line_checks, position_checks}
 use Rattle.robots_warnings.specs.Checks.{is_in_scope_of, url_checks}
 use Rattle.robots_warnings.specs.Positions.{first_delay, last_group, preceding_with, sole_name}
@@ -114,21 +114,45 @@ crawler_warnings is_empty agents lines labels = flat_map
     (λ label. rule_warnings (conflict is_empty agents lines) (overruled is_empty agents lines)
     (is_closed agents lines) label.number) labels
 
--- this warning about the crawler with this name, if it is among these, Google reads its name in no line, and
--- there is the group that Google applies or doesn't apply to it
-abbrev pub google_warning : Cause → (has_group : Bool) → (everywhere : Bool) → List (List ℕ) → List LineValue
-    → List ℕ → List WarningValue
-google_warning cause has_group everywhere agents lines name =
-    warned None (crawler_shown everywhere name)
-    ((cause, has_group && (is_given agents name && not (is_named_at_google name lines))) ∷ [])
+-- this warning about the line with this number, if there is a known crawler that may be meant in it
+abbrev pub warned_of_name : ℕ → Option ℕ → List WarningValue
+warned_of_name number None = []
+warned_of_name number (Some crawler) =
+    record { line = Some number; cause = MisspelledName; about = None; detail = Some (Meant crawler) } ∷ []
 
--- warnings about those of Google's crawlers that are among these, each once
-abbrev pub google_warnings : Bool → List (List ℕ) → List LineValue → List WarningValue
-google_warnings everywhere agents lines =
-    flat_map (google_warning GooglebotGroup (is_named_at_google (codes "Googlebot") lines) everywhere agents
-    lines) (map (λ name. name.now) LIKE_GOOGLEBOT)
-    ++ flat_map (google_warning GoogleIgnoresStar (is_named (codes "*") lines) everywhere agents lines)
-    (map (λ name. name.now) IGNORING_STAR)
+-- warnings about the names in user-agent lines
+abbrev pub name_warning : Label → List WarningValue
+name_warning label = warned_of_name label.number (meant_in label.line)
+
+abbrev pub name_warnings : List Label → List WarningValue
+name_warnings labels = flat_map name_warning labels
+
+-- the reason and the end of the message about a crawler, at this index, to which its vendor applies the group with
+-- this name, or none if it is empty
+abbrev pub other_cause : (group : List ℕ) → Cause
+other_cause group = if length group == 0 then GoogleIgnoresStar else GooglebotGroup
+
+abbrev pub other_detail : ℕ → (group : List ℕ) → Option Detail
+other_detail number group = if length group == 0 then None else Some (Group number)
+
+-- the warning about the known crawler at this index, if it is among these and its vendor applies another group
+abbrev pub vendor_warning : (everywhere : Bool) → List (List ℕ) → List LineValue → ℕ → Row → List WarningValue
+vendor_warning everywhere agents lines number row =
+    if is_given agents row.0 && gets_other lines row.0 row.1
+    then record {
+      line = None;
+      cause = other_cause row.1;
+      about = crawler_shown everywhere row.0;
+      detail = other_detail number row.1;
+    } ∷ []
+    else []
+
+-- warnings about those of the known crawlers, from this index on, that are among these, each once
+abbrev pub vendor_warnings : Bool → List (List ℕ) → List LineValue → ℕ → List Row → List WarningValue
+vendor_warnings everywhere agents lines number [] = []
+vendor_warnings everywhere agents lines number (row ∷ rows) =
+    vendor_warning everywhere agents lines number row
+    ++ vendor_warnings everywhere agents lines (number + 1) rows
 
 -- warnings about the rules of a group or of a crawler as a whole
 abbrev pub group_warnings : Bool → List (List ℕ) → (bodies : List (List ℕ)) → List LineValue → List Label
@@ -139,7 +163,8 @@ group_warnings everywhere agents bodies lines labels =
     ++ (crawler_warnings (is_empty_at bodies labels) agents lines labels
     ++ (warned_at ReplacesStar (Some (Rules (star_count lines))) (replacing agents lines labels)
     ++ (warned_at RepeatedRule None (repeated everywhere labels)
-    ++ google_warnings everywhere agents lines))))
+    ++ (name_warnings labels
+    ++ vendor_warnings everywhere agents lines 0 crawlers)))))
 
 -- ---- all
 

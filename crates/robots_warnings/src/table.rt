@@ -104,6 +104,7 @@ pub enum Cause {
     ClosesEverything,
     ReplacesStar,
     RepeatedRule,
+    MisspelledName,
     GooglebotGroup,
     GoogleIgnoresStar,
     // a rule that can be deleted
@@ -126,7 +127,7 @@ pub enum Topic {
 
 /// The warnings with their levels, topics and names.
 #[rattlefmt::skip]
-pub static WARNINGS: [(Cause, Level, Topic, &str); 81] = [
+pub static WARNINGS: [(Cause, Level, Topic, &str); 82] = [
     // the file
     (Cause::LooksLikeHtml, Level::Error, Topic::Syntax, "looks-like-html"),
     (Cause::LooksLikeUtf16, Level::Error, Topic::Syntax, "looks-like-utf-16"),
@@ -214,6 +215,7 @@ pub static WARNINGS: [(Cause, Level, Topic, &str); 81] = [
     (Cause::ClosesEverything, Level::Note, Topic::Meaning, "closes-everything"),
     (Cause::ReplacesStar, Level::Note, Topic::Meaning, "replaces-star"),
     (Cause::RepeatedRule, Level::Note, Topic::Meaning, "repeated-rule"),
+    (Cause::MisspelledName, Level::Note, Topic::Meaning, "misspelled-name"),
     (Cause::GooglebotGroup, Level::Note, Topic::Meaning, "googlebot-group"),
     (Cause::GoogleIgnoresStar, Level::Note, Topic::Meaning, "google-ignores-star"),
     // a rule that can be deleted

@@ -3,7 +3,7 @@ use crate::table::Cause;
 
 /// For each warning, in the order of [`WARNINGS`](crate::table::WARNINGS), its message.
 #[rattlefmt::skip]
-pub(crate) static MESSAGES: [(Cause, &str); 81] = [
+pub(crate) static MESSAGES: [(Cause, &str); 82] = [
     // the file
     (Cause::LooksLikeHtml,
         "no usable line found; the text starts with <, so it may be an HTML page; serve a plain-text robots.txt instead"),
@@ -166,10 +166,12 @@ pub(crate) static MESSAGES: [(Cause, &str); 81] = [
         "the group has none of the Disallow rules of *, and a crawler with a group of its own doesn't get them; repeat in this group those that should apply to it"),
     (Cause::RepeatedRule,
         "the same rule is above in the same group, so this one changes no verdict; delete it, or correct it if another path is meant"),
+    (Cause::MisspelledName,
+        "no known crawler has this name, and a group applies only to a crawler with its very name; correct it if another one is meant"),
     (Cause::GooglebotGroup,
-        "AGENT has no group of its own, so Google applies the group of Googlebot to it, and that may not be the one that is reported here; pass Googlebot as AGENT, or add a group"),
+        "the crawler has no group of its own, so its vendor applies that of another one, which may not be the one that is reported here; check the report on that one, or add a group"),
     (Cause::GoogleIgnoresStar,
-        "AGENT has no group of its own, and Google doesn't apply the group of * to this crawler, so it may fetch everything; add a group for it"),
+        "the crawler has no group of its own, and its vendor doesn't apply the group of * to it, so it may fetch everything; add a group for it"),
     // a rule that can be deleted
     (Cause::NeverDecides,
         "this rule never decides, since another one matches everything that it matches and takes precedence; correct it if it should decide, or delete it together with all other needless rules"),
@@ -184,7 +186,7 @@ pub(crate) static MESSAGES: [(Cause, &str); 81] = [
 /// For each warning, in the order of [`WARNINGS`](crate::table::WARNINGS), a file that triggers it for FerrisBot, or with
 /// the arguments in its first line, or a command. In a file, `\xFF` is a byte, and `\{512000 a}` is 512,000 times an `a`.
 #[rattlefmt::skip]
-pub(crate) static EXAMPLES: [(Cause, &str); 81] = [
+pub(crate) static EXAMPLES: [(Cause, &str); 82] = [
     // the file
     (Cause::LooksLikeHtml, "<html>\n</html>"),
     (Cause::LooksLikeUtf16, "\\xFF\\xFED\\x00"),
@@ -272,6 +274,7 @@ pub(crate) static EXAMPLES: [(Cause, &str); 81] = [
     (Cause::ClosesEverything, "User-agent: *\nDisallow: /"),
     (Cause::ReplacesStar, "User-agent: *\nDisallow: /a\nUser-agent: FerrisBot\nDisallow: /b"),
     (Cause::RepeatedRule, "User-agent: *\nDisallow: /a\nDisallow: /a"),
+    (Cause::MisspelledName, "User-agent: Googlbot\nDisallow: /a"),
     (Cause::GooglebotGroup, "# robots_audit Googlebot-News\nUser-agent: Googlebot\nDisallow: /a"),
     (Cause::GoogleIgnoresStar, "# robots_audit AdsBot-Google\nUser-agent: *\nDisallow: /a"),
     // a rule that can be deleted

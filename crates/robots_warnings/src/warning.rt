@@ -4,18 +4,23 @@ ghost use Rattle.printable_text.specs.{Raw.raw_line, Raw.raw_text, Text.part_tex
 ghost use Rattle.robots_warnings.specs.Message.{about_part, detail_end, detail_part, message_parts};
 ghost use Rattle.robots_warnings.specs.Message.{reason_part, reported_parts, warning_text};
 
+use crate::crawlers::row_at;
 use crate::table::Cause;
 use printable_text::parts::{Part, Value, push_parts};
 use std::alloc::AllocError;
 use std::marker::Model;
 
-/// A number at the end of a message.
+/// What a message ends with.
 #[derive(Clone, Copy)]
 pub enum Detail {
     /// How many rules the message is about.
     Rules(usize),
     /// The line of another rule that the message is about.
     Line(usize),
+    /// The index of a known crawler whose vendor applies the group that the message is about.
+    Group(usize),
+    /// The index of a known crawler that may be meant.
+    Meant(usize),
 }
 
 /// A warning.
@@ -26,7 +31,7 @@ pub struct Warning<'a> {
     pub cause: Cause,
     /// The URL or the crawler's name that the message begins with, if it does.
     pub about: Option<&'a str>,
-    /// The number that the message ends with, if it does.
+    /// What the message ends with, if it isn't its text.
     pub detail: Option<Detail>,
 }
 
@@ -78,29 +83,38 @@ fn reason_part(cause: Cause, about: Option<&str>) -> Part<'static>
     }
 }
 
-/// The number that a message ends with, if it does.
+/// What a message ends with, with its first words.
 fn detail_part(detail: Option<Detail>) -> Part<'static>
     ensures { raw_text result ≡ part_text (detail_part detail) }
 {
     match detail {
         Some(Detail::Rules(count)) => Part(" (", Value::Number(count)),
         Some(Detail::Line(number)) => Part(" (see line ", Value::Number(number)),
+        Some(Detail::Group(number)) => {
+            let group = row_at(number).1;
+            Part(" (see the group of ", Value::Untrusted(group.as_bytes()))
+        }
+        Some(Detail::Meant(number)) => {
+            let name = row_at(number).0;
+            Part(" (did you mean ", Value::Untrusted(name.as_bytes()))
+        }
         None => Part("", Value::Nothing),
     }
 }
 
-/// What follows the number.
+/// What follows it.
 fn detail_end(detail: Option<Detail>) -> Part<'static>
     ensures { raw_text result ≡ part_text (detail_end detail) }
 {
     match detail {
         Some(Detail::Rules(_)) => Part(" in all)", Value::Nothing),
-        Some(Detail::Line(_)) => Part(")", Value::Nothing),
+        Some(Detail::Line(_) | Detail::Group(_)) => Part(")", Value::Nothing),
+        Some(Detail::Meant(_)) => Part("?)", Value::Nothing),
         None => Part("", Value::Nothing),
     }
 }
 
-/// The message of a warning, with the URL or the crawler's name that it begins with, and the number that it ends with.
+/// The message of a warning, with the URL or the crawler's name that it begins with, and what it ends with.
 fn message_parts<'a>(warning: &Warning<'a>) -> [Part<'a>; 4]
     ensures { raw_line result ≡ parts_text (message_parts warning.now) }
 {

@@ -4,11 +4,11 @@ ghost use Rattle.texting_robots.specs.Callers.{bodies_read, by_value, file_lines
 ghost use Rattle.robots_warnings.specs.Checks.{directive_checks, is_directive, raw_checks, rule_checks, value_checks};
 ghost use Rattle.robots_warnings.specs.Contents.{comment_of, tail_of};
 ghost use Rattle.robots_warnings.specs.EmptyDisallows.{is_empty_at};
-ghost use Rattle.robots_warnings.specs.Internal.{Adds};
+ghost use Rattle.robots_warnings.specs.Internal.{Adds, row_value};
 ghost use Rattle.robots_warnings.specs.Internal.Rules.{warnings_at};
 ghost use Rattle.robots_warnings.specs.Spellings.{unpaired};
 ghost use Rattle.robots_warnings.specs.Warnings.{crawler_warnings, file_lines_warnings, general_warnings};
-ghost use Rattle.robots_warnings.specs.Warnings.{google_warning, google_warnings, group_warnings, line_warnings};
+ghost use Rattle.robots_warnings.specs.Warnings.{group_warnings, line_warnings, name_warning, name_warnings, vendor_warning, vendor_warnings};
 ghost use Rattle.robots_warnings.specs.Warnings.{past_limit_warnings, position_warnings, url_warnings, warned, warned_at, warned_beside, warnings};
 
 use crate::checks::{
@@ -17,11 +17,11 @@ use crate::checks::{
 };
 use crate::conflicts::{RuleLines, rule_lines};
 use crate::contents::{has_odd_delay, has_odd_space, split_content};
+use crate::crawlers::{Crawler, crawlers, gets_other, is_given, meant_in};
 use crate::empty_disallows::empty_disallows;
 use crate::facts::{FileFacts, suppresses_line_warnings};
 use crate::field_names::{is_without_colon, meant_by};
 use crate::file::{counted, is_blank};
-use crate::google::{IGNORING_STAR, LIKE_GOOGLEBOT, is_given, is_named_at_google};
 use crate::names_past_limit::names_past_limit;
 use crate::positions::{Preceding, first_delay, last_group, preceding_with, sole_name};
 use crate::repeated::repeated;
@@ -367,60 +367,85 @@ fn warn_of_crawlers(
     warn_of_numbers(found, read.labels, &lines)
 }
 
-/// Appends this warning about those of these crawlers with one of these names that have no group of their own at
-/// Google. `has_group` is true if there is the group that Google applies or doesn't apply to them.
-fn warn_of_names<'a>(
-    found: &mut Found<'a>,
-    cause: Cause,
-    has_group: bool,
-    everywhere: bool,
-    site: &Site,
-    agents: &[&str],
-    names: &[&'a str],
+/// Appends the warning about the name in a user-agent line, if there is a known crawler that may be meant.
+fn warn_of_name(
+    alloc: Global,
+    found: &mut Found<'_>,
+    labeled: &LabeledLine<'_>,
 ) -> Result<(), AllocError>
-    ensures { OnOk result (Adds found.old.items found.new.items
-        (flat_map (google_warning cause has_group everywhere (map (λ agent. agent.now) agents.now) (file_lines site.now))
-        (map (λ name. name.now) names.now))) }
+    ensures { OnOk result (Adds found.old.items found.new.items (name_warning (label_by_value labeled.now))) }
 {
-    for name in names {
-        let shown = if everywhere { Some(*name) } else { None };
-        let holds = has_group && is_given(agents, name) && !is_named_at_google(site, name);
-        warn(found, None, shown, &[(cause, holds)])?;
+    let Some(crawler) = meant_in(alloc, labeled.line)? else {
+        return Ok(());
+    };
+    found.push(Warning {
+        line: Some(labeled.number),
+        cause: Cause::MisspelledName,
+        about: None,
+        detail: Some(Detail::Meant(crawler)),
+    })?;
+    Ok(())
+}
+
+/// Appends the warnings about the names in user-agent lines.
+fn warn_of_names(
+    alloc: Global,
+    found: &mut Found<'_>,
+    labels: &[LabeledLine<'_>],
+) -> Result<(), AllocError>
+    ensures { OnOk result (Adds found.old.items found.new.items (name_warnings (map label_by_value labels.now))) }
+{
+    for labeled in labels {
+        warn_of_name(alloc, found, labeled)?;
     }
     Ok(())
 }
 
-/// Appends the warnings about those of Google's crawlers that are among these, each once.
-fn warn_of_google(
+/// Appends the warning about the known crawler at this index, if it is among these and its vendor applies another group.
+fn warn_of_vendor(
     found: &mut Found<'_>,
     everywhere: bool,
     site: &Site,
     agents: &[&str],
+    number: usize,
+    crawler: &Crawler,
 ) -> Result<(), AllocError>
     ensures { OnOk result (Adds found.old.items found.new.items
-        (google_warnings everywhere (map (λ agent. agent.now) agents.now) (file_lines site.now))) }
+        (vendor_warning everywhere (map (λ agent. agent.now) agents.now) (file_lines site.now) number (row_value crawler.now))) }
 {
-    let has_googlebot = is_named_at_google(site, "Googlebot");
-    let like = &LIKE_GOOGLEBOT;
-    warn_of_names(
-        found,
-        Cause::GooglebotGroup,
-        has_googlebot,
-        everywhere,
-        site,
-        agents,
-        like,
-    )?;
-    let (has_star, ignoring) = (site.is_named("*"), &IGNORING_STAR);
-    warn_of_names(
-        found,
-        Cause::GoogleIgnoresStar,
-        has_star,
-        everywhere,
-        site,
-        agents,
-        ignoring,
-    )
+    let (name, group) = *crawler;
+    if !is_given(agents, name) || !gets_other(site, name, group) {
+        return Ok(());
+    }
+    let (cause, detail) = if group.is_empty() {
+        (Cause::GoogleIgnoresStar, None)
+    } else {
+        (Cause::GooglebotGroup, Some(Detail::Group(number)))
+    };
+    found.push(Warning {
+        line: None,
+        cause,
+        about: if everywhere { Some(name) } else { None },
+        detail,
+    })?;
+    Ok(())
+}
+
+/// Appends the warnings about those of the known crawlers in these rows that are among these, each once.
+fn warn_of_vendors(
+    found: &mut Found<'_>,
+    everywhere: bool,
+    site: &Site,
+    agents: &[&str],
+    rows: &[Crawler],
+) -> Result<(), AllocError>
+    ensures { OnOk result (Adds found.old.items found.new.items
+        (vendor_warnings everywhere (map (λ agent. agent.now) agents.now) (file_lines site.now) 0 (map row_value rows.now))) }
+{
+    for (number, crawler) in rows.iter().enumerate() {
+        warn_of_vendor(found, everywhere, site, agents, number, crawler)?;
+    }
+    Ok(())
 }
 
 /// Appends this warning about the rules that their group lacks in this spelling.
@@ -461,7 +486,8 @@ fn warn_of_groups(
     warn_at(found, Cause::ReplacesStar, detail, &replacing)?;
     let repeated = repeated(alloc, everywhere, labels)?;
     warn_at(found, Cause::RepeatedRule, None, &repeated)?;
-    warn_of_google(found, everywhere, site, agents)
+    warn_of_names(alloc, found, labels)?;
+    warn_of_vendors(found, everywhere, site, agents, crawlers())
 }
 
 /// All warnings about a file and a request, in the order of output. `everywhere` is false for a report on a single

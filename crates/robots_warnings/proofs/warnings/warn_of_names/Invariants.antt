@@ -1,11 +1,8 @@
-use Rattle.std.proofs.Common.{◌≡◌, ◌++◌, flat_map, map, take}
-use Rattle.texting_robots.specs.Callers.{file_lines}
-use Rattle.robots_warnings.specs.Warnings.{google_warning}
+use Rattle.std.proofs.Common.{◌≡◌, ◌++◌, map, take}
+use Rattle.texting_robots.specs.Callers.{label_by_value}
+use Rattle.robots_warnings.specs.Warnings.{name_warnings}
 use Rattle.robots_warnings.proofs.warnings.warn_of_names.Given as goal
 
-abbrev pub invariant-loop-name : goal.invariant-loop-name
-invariant-loop-name l =
-    l.found.items
-    ≡ l.fn.found.items
-    ++ flat_map (google_warning l.cause l.has_group l.everywhere (map (λ agent. agent.now) l.agents) (file_lines l.site))
-    (map (λ name. name.now) (take l.name-index l.names))
+abbrev pub invariant-loop-labeled : goal.invariant-loop-labeled
+invariant-loop-labeled l =
+    l.found.items ≡ l.fn.found.items ++ name_warnings (map label_by_value (take l.labeled-index l.labels))

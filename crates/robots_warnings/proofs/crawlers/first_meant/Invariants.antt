@@ -1,0 +1,9 @@
+use Rattle.std.proofs.Common.{◌≡◌, drop, map}
+use Rattle.std.specs.List.{position_from}
+use Rattle.robots_warnings.specs.{Crawlers.is_meant, Internal.row_value}
+use Rattle.robots_warnings.proofs.crawlers.first_meant.Given as goal
+
+abbrev pub invariant-loop-number : goal.invariant-loop-number
+invariant-loop-number l =
+    position_from (is_meant l.value) l.number (map row_value (drop l.number l.rows))
+    ≡ position_from (is_meant l.value) 0 (map row_value l.rows)

@@ -1,0 +1,294 @@
+//! Known crawlers: which group the vendor of each applies to it, and which one a similar name may mean.
+ghost use Rattle.std.specs.Prelude.{◌≡◌, ◌&&◌, [], IfOk, bytes_eq, map, option_map, slice_index_or};
+ghost use Rattle.std.specs.List.{list_any, position_from};
+ghost use Rattle.std.specs.Str.{str_eq_ignore_ascii_case};
+ghost use Rattle.texting_robots.specs.Callers.{by_value, file_lines};
+ghost use Rattle.robots_warnings.specs.Crawlers.{crawlers, gets_other, has_name, is_given, is_line_at_vendor};
+ghost use Rattle.robots_warnings.specs.Crawlers.{is_meant, is_named_at_vendor, is_near, is_other_for};
+ghost use Rattle.robots_warnings.specs.Crawlers.{meant, meant_in, most_edits, other_group, other_in, row_at};
+ghost use Rattle.robots_warnings.specs.Internal.{row_value};
+
+use crate::file::first;
+use crate::tokens::token_front;
+use std::alloc::{AllocError, Global};
+use strsim::generic_levenshtein;
+use texting_robots::parser::{Line, file_lines};
+use texting_robots::site::Site;
+
+/// A crawler's name, and that of the group that its vendor applies to it if a file has none of its own: that of `*`,
+/// that of another crawler (and if there is none either, that of `*`), or, for an empty name, no group.
+pub(crate) type Crawler = (&'static str, &'static str);
+
+/// The known crawlers. Above each block is where its vendor, or those of its crawlers, say so.
+#[rattlefmt::skip]
+static CRAWLERS: [(&str, &str); 108] = [
+    // all that have no group of their own
+    ("*", "*"),
+    // https://developers.google.com/search/docs/crawling-indexing/google-common-crawlers
+    ("Googlebot", "*"), ("Googlebot-Image", "Googlebot"), ("Googlebot-News", "Googlebot"),
+    ("Googlebot-Video", "Googlebot"), ("Google-InspectionTool", "Googlebot"),
+    ("Storebot-Google", "Googlebot"), ("Google-CloudVertexBot", "Googlebot"), ("Google-Extended", "*"),
+    ("GoogleOther", "*"), ("GoogleOther-Image", "GoogleOther"), ("GoogleOther-Video", "GoogleOther"),
+    // https://developers.google.com/search/docs/crawling-indexing/google-special-case-crawlers
+    ("AdsBot-Google", ""), ("AdsBot-Google-Mobile", ""), ("APIs-Google", ""), ("Mediapartners-Google", ""),
+    // https://support.apple.com/en-us/119829
+    ("Applebot", "Googlebot"), ("Applebot-Extended", "*"),
+    // https://yandex.com/support/webmaster/controlling-robot/robots-txt.html
+    // https://yandex.com/support/webmaster/robot-workings/check-yandex-robots.html
+    ("Yandex", "*"), ("YandexBot", "Yandex"), ("YandexImages", "Yandex"), ("YandexVideo", "Yandex"),
+    ("YandexMedia", "Yandex"), ("YandexBlogs", "Yandex"), ("YandexMarket", "Yandex"),
+    ("YandexWebmaster", "Yandex"), ("YandexPagechecker", "Yandex"), ("YandexMobileBot", ""),
+    ("YandexMetrika", ""), ("YandexDirect", ""),
+    // https://www.bing.com/webmasters/help/which-crawlers-does-bing-use-8c184ec0
+    ("Bingbot", "*"), ("AdIdxBot", "*"), ("BingPreview", "*"),
+    // https://duckduckgo.com/duckduckgo-help-pages/results/duckduckbot
+    ("DuckDuckBot", "*"), ("DuckAssistBot", "*"),
+    // https://help.baidu.com/question?prod_id=99&class=476&id=2996
+    ("Baiduspider", "*"), ("Baiduspider-image", "*"), ("Baiduspider-video", "*"), ("Baiduspider-news", "*"),
+    // https://help.yahoo.com/kb/SLN22600.html, https://www.mojeek.com/bot.html, https://help.qwant.com/bot/,
+    // https://o-seznam.cz/napoveda/vyhledavani/en/seznambot-crawler/,
+    // https://webmaster.petalsearch.com/site/petalbot
+    ("Slurp", "*"), ("SeznamBot", "*"), ("Qwantbot", "*"), ("Qwantify", "*"), ("MojeekBot", "*"),
+    ("PetalBot", "*"),
+    // other search engines
+    ("Yeti", "*"), ("360Spider", "*"), ("YisouSpider", "*"), ("coccocbot-web", "*"), ("Exabot", "*"),
+    // https://platform.openai.com/docs/bots
+    ("GPTBot", "*"), ("ChatGPT-User", "*"), ("OAI-SearchBot", "*"),
+    // https://support.anthropic.com/en/articles/8896518
+    ("ClaudeBot", "*"), ("Claude-User", "*"), ("Claude-SearchBot", "*"), ("Claude-Web", "*"),
+    ("anthropic-ai", "*"),
+    // https://docs.perplexity.ai/guides/bots
+    ("PerplexityBot", "*"), ("Perplexity-User", "*"),
+    // https://developers.facebook.com/docs/sharing/webmasters/web-crawlers
+    ("facebookexternalhit", "*"), ("FacebookBot", "*"), ("meta-externalagent", "*"),
+    ("meta-externalfetcher", "*"),
+    // https://developer.amazon.com/amazonbot, https://commoncrawl.org/ccbot, https://allenai.org/crawler,
+    // https://docs.mistral.ai/robots, https://webz.io/bot.html, https://imagesift.com/about
+    ("Amazonbot", "*"), ("CCBot", "*"), ("AI2Bot", "*"), ("MistralAI-User", "*"), ("omgili", "*"),
+    ("omgilibot", "*"), ("ImagesiftBot", "*"),
+    // other crawlers for language models
+    ("Bytespider", "*"), ("TikTokSpider", "*"), ("cohere-ai", "*"), ("Diffbot", "*"), ("YouBot", "*"),
+    ("Timpibot", "*"), ("img2dataset", "*"), ("ICC-Crawler", "*"),
+    // https://ahrefs.com/robot, https://www.semrush.com/bot/, https://mj12bot.com,
+    // https://moz.com/help/moz-procedures/crawlers, https://babbar.tech/crawler,
+    // https://dataforseo.com/dataforseo-bot, https://serpstatbot.com, https://www.seokicks.de/robot.html
+    ("AhrefsBot", "*"), ("AhrefsSiteAudit", "*"), ("SemrushBot", "*"), ("SiteAuditBot", "*"),
+    ("MJ12bot", "*"), ("DotBot", "*"), ("rogerbot", "*"), ("Barkrowler", "*"), ("DataForSeoBot", "*"),
+    ("serpstatbot", "*"), ("SEOkicks", "*"), ("BLEXBot", "*"),
+    // https://help.pinterest.com/en/business/article/pinterest-crawler, https://api.slack.com/robots
+    ("Pinterest", "*"), ("Pinterestbot", "*"), ("Slackbot", "*"),
+    // other previews of links
+    ("Twitterbot", "*"), ("LinkedInBot", "*"), ("Discordbot", "*"), ("TelegramBot", "*"), ("WhatsApp", "*"),
+    ("redditbot", "*"),
+    // archives, and crawlers for other purposes
+    ("ia_archiver", "*"), ("archive.org_bot", "*"), ("heritrix", "*"), ("TurnitinBot", "*"),
+    ("proximic", "*"), ("GrapeshotCrawler", "*"), ("Nutch", "*"), ("Scrapy", "*"),
+];
+
+/// Names that no crawler has, each with that of the known crawler that is probably meant.
+const WRONG_NAMES: [(&str, &str); 12] = [
+    ("all", "*"),
+    ("Google", "Googlebot"),
+    ("Gemini", "Google-Extended"),
+    ("Bing", "Bingbot"),
+    ("Baidu", "Baiduspider"),
+    ("Yahoo", "Slurp"),
+    ("OpenAI", "GPTBot"),
+    ("ChatGPT", "ChatGPT-User"),
+    ("Chat-GPT", "ChatGPT-User"),
+    ("Claude", "ClaudeBot"),
+    ("Anthropic", "ClaudeBot"),
+    ("Perplexity", "PerplexityBot"),
+];
+
+/// The known crawlers. No other function names the long table, since each that does takes long to prove.
+#[tactic(auto, unfolding(crate::specs::Crawlers::crawlers))]
+pub(crate) fn crawlers() -> &'static [Crawler]
+    ensures { map row_value result.now ≡ crawlers }
+{
+    &CRAWLERS
+}
+
+/// The row at this index, or an empty one if there is none.
+fn row_in(rows: &'static [Crawler], number: usize) -> Crawler
+    ensures { row_value result ≡ slice_index_or (map row_value rows.now) number ([], []) }
+{
+    match rows.get(number) {
+        Some(row) => *row,
+        None => ("", ""),
+    }
+}
+
+/// The known crawler at this index.
+pub(crate) fn row_at(number: usize) -> Crawler
+    ensures { row_value result ≡ row_at number }
+{
+    row_in(crawlers(), number)
+}
+
+/// Whether one of these crawlers has this name, ASCII letters in any case.
+pub(crate) fn is_given(agents: &[&str], name: &str) -> bool
+    ensures { result ≡ is_given (map (λ agent. agent.now) agents.now) name.now }
+{
+    agents
+        .iter()
+        .any(|agent| name.eq_ignore_ascii_case(agent.as_str()))
+}
+
+/// Whether the line is a user-agent line in which a vendor reads the name of this crawler.
+fn is_line_at_vendor(agent: &str, line: Line<'_>) -> bool
+    ensures { result ≡ is_line_at_vendor agent.now (by_value line.entry) }
+{
+    match line {
+        Line::UserAgent(value) => token_front(value).eq_ignore_ascii_case(agent.as_bytes()),
+        _ => false,
+    }
+}
+
+/// Whether a vendor reads the name of the crawler in a user-agent line.
+fn is_named_at_vendor(site: &Site, agent: &str) -> bool
+    ensures { result ≡ is_named_at_vendor agent.now (file_lines site.now) }
+{
+    for line in file_lines(site.text()) {
+        if is_line_at_vendor(agent, line) {
+            return true;
+        }
+    }
+    false
+}
+
+/// Whether the crawler has no group of its own, and its vendor applies the group with this name, which there is; or,
+/// for an empty name, no group, although there is one of `*`.
+pub(crate) fn gets_other(site: &Site, agent: &str, group: &str) -> bool
+    ensures { result ≡ gets_other (file_lines site.now) agent.now group.now }
+{
+    if group == "*" || is_named_at_vendor(site, agent) {
+        return false;
+    }
+    if group.is_empty() {
+        site.is_named("*")
+    } else {
+        is_named_at_vendor(site, group)
+    }
+}
+
+/// Whether this row is about the crawler, and changes its group.
+#[tactic(auto, unfolding(crate::specs::Crawlers::is_other_for))]
+fn is_other_for(site: &Site, agent: &str, row: &Crawler) -> bool
+    ensures { result ≡ is_other_for (file_lines site.now) agent.now (row_value row.now) }
+{
+    row.0.eq_ignore_ascii_case(agent) && gets_other(site, agent, row.1)
+}
+
+/// The group in the first of these rows that changes that of the crawler.
+fn other_in(rows: &'static [Crawler], site: &Site, agent: &str) -> Option<&'static str>
+    ensures { option_map (λ group. group.now) result
+        ≡ other_in (file_lines site.now) agent.now (map row_value rows.now) }
+{
+    for row in rows {
+        if is_other_for(site, agent, row) {
+            return Some(row.1);
+        }
+    }
+    None
+}
+
+/// The name of the group that the vendor of a known crawler applies to it, or an empty one for no group, if it
+/// isn't the group that applies here.
+pub fn other_group(site: &Site, agent: &str) -> Option<&'static str>
+    ensures { option_map (λ group. group.now) result ≡ other_group (file_lines site.now) agent.now }
+{
+    other_in(crawlers(), site, agent)
+}
+
+/// Whether the value of a user-agent line is this name, or begins with it, ASCII letters in any case.
+fn has_name(value: &[u8], name: &str) -> bool
+    ensures { result ≡ has_name value.now name.now }
+{
+    value.eq_ignore_ascii_case(name.as_bytes())
+        || token_front(value).eq_ignore_ascii_case(name.as_bytes())
+}
+
+/// Whether one of these pairs is that of the value, ASCII letters in any case, and the name.
+fn is_pair(pairs: &[(&str, &str)], value: &[u8], name: &str) -> bool
+    ensures { result ≡ list_any (λ row. str_eq_ignore_ascii_case row.0.now value.now && bytes_eq row.1.now name.now)
+        pairs.now }
+{
+    pairs.iter().any(|row| row.0.as_bytes().eq_ignore_ascii_case(value) && row.1 == name)
+}
+
+/// How many edits a name still has to be recognized after.
+fn most_edits(name: &str) -> usize
+    ensures { result ≡ most_edits name.now }
+{
+    match name.len() {
+        0..5 => 0,
+        5..9 => 1,
+        _ => 2,
+    }
+}
+
+/// Whether the value begins with the letter that the name begins with, and is made of it by so many edits.
+fn is_near(alloc: Global, value: &[u8], name: &str) -> Result<bool, AllocError>
+    ensures { IfOk result (λ answer. answer ≡ is_near value.now name.now) }
+{
+    let (most, name) = (most_edits(name), name.as_bytes());
+    if !first(1, value).eq_ignore_ascii_case(first(1, name))
+        || name.len().abs_diff(value.len()) > most
+    {
+        return Ok(false);
+    }
+    let (value, name) = (
+        value.to_ascii_lowercase(alloc)?,
+        name.to_ascii_lowercase(alloc)?,
+    );
+    Ok(generic_levenshtein(alloc, &value, &name)? <= most)
+}
+
+/// Whether the crawler in this row is probably meant by the value.
+#[tactic(auto, unfolding(crate::specs::Crawlers::is_meant))]
+fn is_meant(alloc: Global, value: &[u8], row: &Crawler) -> Result<bool, AllocError>
+    ensures { IfOk result (λ answer. answer ≡ is_meant value.now (row_value row.now)) }
+{
+    Ok(is_pair(&WRONG_NAMES, value, row.0) || is_near(alloc, value, row.0)?)
+}
+
+/// Whether the value is the name of a crawler in one of these rows.
+fn is_known(rows: &[Crawler], value: &[u8]) -> bool
+    ensures { result ≡ list_any (λ row. has_name value.now row.0.now) rows.now }
+{
+    rows.iter().any(|row| has_name(value, row.0))
+}
+
+/// The index of the first of these rows whose crawler is probably meant by the value.
+fn first_meant(alloc: Global, rows: &[Crawler], value: &[u8]) -> Result<Option<usize>, AllocError>
+    ensures { IfOk result (λ found. found ≡ position_from (is_meant value.now) 0 (map row_value rows.now)) }
+{
+    for (number, row) in rows.iter().enumerate() {
+        if is_meant(alloc, value, row)? {
+            return Ok(Some(number));
+        }
+    }
+    Ok(None)
+}
+
+/// The index of the crawler that the value of a user-agent line probably means, if no known one has this name.
+fn meant(alloc: Global, value: &[u8]) -> Result<Option<usize>, AllocError>
+    ensures { IfOk result (λ found. found ≡ meant value.now) }
+{
+    let rows = crawlers();
+    if is_known(rows, value) {
+        return Ok(None);
+    }
+    first_meant(alloc, rows, value)
+}
+
+/// The same for any line.
+pub(crate) fn meant_in(alloc: Global, line: Line<'_>) -> Result<Option<usize>, AllocError>
+    ensures { IfOk result (λ found. found ≡ meant_in (by_value line.entry)) }
+{
+    match line {
+        Line::UserAgent(value) => meant(alloc, value),
+        _ => Ok(None),
+    }
+}
