@@ -1,9 +1,9 @@
 -- The lines of a text and the entries in them, and the expectations in the file of `--expect`, one per line.
-use Rattle.std.specs.Prelude.{◌≡◌, ℕ, nat_eq, suc, ◌==◌, Bool, false, not, ◌&&◌, ◌||◌, List, [], ◌∷◌, Option}
+use Rattle.std.specs.Prelude.{◌≡◌, ℕ, nat_eq, suc, ◌==◌, Bool, false, not, ◌&&◌, ◌||◌, List, [], ◌∷◌, ◌++◌, Option}
 use Rattle.std.specs.Prelude.{Some, None, Result, Ok, Err, bytes_eq, codes, filter, if◌then◌else◌}
-use Rattle.std.specs.Prelude.{string_bytes}
+use Rattle.std.specs.Prelude.{length, string_bytes}
 use Rattle.std.specs.{Result.result_err, List.list_any, List.starts_with, Str.byte, Str.is_utf8}
-use Rattle.robots_warnings.specs.Rules.{before_byte, has, somewhere}
+use Rattle.robots_warnings.specs.Rules.{after_byte, before_byte, has, somewhere}
 use Rattle.robots_warnings.specs.{Facts.mark, Facts.without_start, Urls.is_absolute_url}
 use Rattle.audit_core.specs.declared.fault.{Entry.Entry, Fault.Fault, Flaw.Flaw}
 use Rattle.audit_core.specs.declared.fault.Fault.TheVariants.{Empty, Malformed, Memory}
@@ -40,6 +40,17 @@ lines text = parts line_separators text
 
 abbrev pub words : List ℕ → List (List ℕ)
 words line = filter is_word (parts word_separators line)
+
+abbrev pub quote : ℕ
+quote = byte "\""
+
+-- the same words, but if one precedes the first quotation mark, what is between this and the next one is a word,
+-- too, with its spaces
+abbrev pub words_with_name : List ℕ → List (List ℕ)
+words_with_name line =
+    let first = words (before_byte quote line) in
+    let rest = after_byte quote line in
+    if length first == 1 then first ++ before_byte quote rest ∷ words (after_byte quote rest) else words line
 
 -- ---- entries, of which a line has at most one
 
@@ -134,7 +145,7 @@ words_expect number (word ∷ others) =
 
 -- the expectation of the line with this number, if it has one, or what is wrong with the line
 abbrev pub expectation_in : ℕ → List ℕ → Result (Option ExpectationValue) MalformedLine
-expectation_in number line = words_expect number (words line)
+expectation_in number line = words_expect number (words_with_name line)
 
 -- the expectations in a text, possibly after a byte order mark, or its first malformed line
 abbrev pub expectations_in : List ℕ → Result (List ExpectationValue) MalformedLine

@@ -10,10 +10,10 @@ use Rattle.texting_robots.specs.declared.decision.Decision.{Decision}
 use Rattle.printable_text.specs.Lines.{ended}
 use Rattle.printable_text.specs.Text.{Count, Label, NamedLine, Number, Part, PartValue, ReportLine, Untrusted}
 use Rattle.printable_text.specs.Text.{label, line_from, line_text, named_text, only}
-use Rattle.robots_warnings.specs.Google.{gets_googlebots, gets_nobodys}
+use Rattle.robots_warnings.specs.Crawlers.{other_group}
 use Rattle.audit_core.specs.declared.answer.{Answer.Answer, Outcome.Outcome}
-use Rattle.audit_expect.specs.declared.checks.{AtGoogle.AtGoogle, Judgment.Judgment}
-use Rattle.audit_expect.specs.declared.checks.AtGoogle.TheVariants.{Googlebot, Nobody, Same}
+use Rattle.audit_expect.specs.declared.checks.{AtVendor.AtVendor, Judgment.Judgment}
+use Rattle.audit_expect.specs.declared.checks.AtVendor.TheVariants.{Group, Nobody, Same}
 use Rattle.audit_expect.specs.declared.checks.Judgment.TheVariants.{Decided, Rejected}
 use Rattle.audit_core.specs.{Asked.asked_target, Texts.rejected_front, Texts.rejected_line_part}
 use Rattle.audit_expect.specs.{Expect.ExpectationValue, Expect.expectations_in, NormalForm.IsNormalDecision}
@@ -32,26 +32,23 @@ IsJudgmentOn file agent url (Decided decision other normal) =
     × IsOtherDecision (bodies_read file) rules (asked_target url) other
     × IsNormalDecision (bodies_read file) rules (asked_target url) normal
 
--- which of the two notes on Google's crawlers applies: neither; or Google applies the group of Googlebot, for
--- which this is the judgment, as names are compared here; or Google applies no group, so everything is
--- allowed
-abbrev pub IsAtGoogle : List ℕ → List ℕ → List ℕ → AtGoogle → Type 0
-IsAtGoogle file agent url Same =
-    (gets_googlebots (lines_read file) agent ≡ false) × (gets_nobodys (lines_read file) agent ≡ false)
-IsAtGoogle file agent url (Googlebot judgment) =
-    (gets_googlebots (lines_read file) agent ≡ true) × IsJudgmentOn file (codes "Googlebot") url judgment
-IsAtGoogle file agent url Nobody =
-    (gets_googlebots (lines_read file) agent ≡ false) × (gets_nobodys (lines_read file) agent ≡ true)
+-- which group the vendor of the crawler applies: the one that applies here; or the one with this name, for which
+-- this is the judgment, as names are compared here; or none, so everything is allowed
+abbrev pub IsAtVendor : List ℕ → List ℕ → List ℕ → AtVendor → Type 0
+IsAtVendor file agent url Same = other_group (lines_read file) agent ≡ None
+IsAtVendor file agent url (Group name judgment) =
+    (other_group (lines_read file) agent ≡ Some name.now) × IsJudgmentOn file name.now url judgment
+IsAtVendor file agent url Nobody = other_group (lines_read file) agent ≡ Some []
 
--- an expectation and what the file says, here and at Google
+-- an expectation and what the file says, here and at the vendor of its crawler
 pub record CheckedValue : Type 0 where
   pub expectation : ExpectationValue
   pub judgment : Judgment
-  pub google : AtGoogle
+  pub vendor : AtVendor
 
 pub record IsChecked (file : List ℕ) (checked : CheckedValue) : Type 0 where
   pub here : IsJudgmentOn file checked.expectation.agent checked.expectation.url checked.judgment
-  pub at_google : IsAtGoogle file checked.expectation.agent checked.expectation.url checked.google
+  pub at_vendor : IsAtVendor file checked.expectation.agent checked.expectation.url checked.vendor
 
 -- the decision isn't the expected one
 abbrev pub is_unexpected : Bool → Decision → Bool
@@ -67,16 +64,16 @@ fails_at allowed (Decided decision other normal) =
 abbrev pub fails_here : CheckedValue → Bool
 fails_here checked = fails_at checked.expectation.allowed checked.judgment
 
--- the same of the group that Google applies in its place, if it is another one; with none everything is
+-- the same of the group that the vendor applies in its place, if it is another one; with none everything is
 -- allowed
-abbrev pub fails_at_google : Bool → AtGoogle → Bool
-fails_at_google allowed Same = false
-fails_at_google allowed (Googlebot judgment) = fails_at allowed judgment
-fails_at_google allowed Nobody = not allowed
+abbrev pub fails_at_vendor : Bool → AtVendor → Bool
+fails_at_vendor allowed Same = false
+fails_at_vendor allowed (Group name judgment) = fails_at allowed judgment
+fails_at_vendor allowed Nobody = not allowed
 
 -- an expectation fails for one of these reasons
 abbrev pub fails : CheckedValue → Bool
-fails checked = fails_here checked || fails_at_google checked.expectation.allowed checked.google
+fails checked = fails_here checked || fails_at_vendor checked.expectation.allowed checked.vendor
 
 -- ---- the report
 
@@ -125,21 +122,21 @@ judgment_parts agent url allowed (Decided decision other normal) =
     else if is_unexpected allowed other then other_front ∷ decision_parts url other.allowed other.line
     else normal_front ∷ decision_parts url normal.allowed normal.line
 
--- which group Google applies
-abbrev pub googlebot_parts : List ℕ → List PartValue
-googlebot_parts agent =
-    Part (label (codes "Google applies the group Googlebot to ") refl) (Untrusted agent)
-    ∷ only (codes ", and ") refl ∷ []
+-- which group the vendor applies
+abbrev pub group_parts : List ℕ → List PartValue
+group_parts name =
+    Part (label (codes "its vendor applies the group ") refl) (Untrusted name)
+    ∷ only (codes " to it, and ") refl ∷ []
 
-abbrev pub nobody_parts : List ℕ → List PartValue
-nobody_parts agent = Part (label (codes "Google doesn't apply the group * to ") refl) (Untrusted agent) ∷ []
+abbrev pub nobody_parts : List PartValue
+nobody_parts = only (codes "its vendor doesn't apply the group * to it") refl ∷ []
 
 -- the group, and what it says
-abbrev pub google_parts : List ℕ → List ℕ → Bool → AtGoogle → List PartValue
-google_parts agent url allowed Same = []
-google_parts agent url allowed (Googlebot judgment) =
-    googlebot_parts agent ++ judgment_parts (codes "Googlebot") url allowed judgment
-google_parts agent url allowed Nobody = nobody_parts agent
+abbrev pub vendor_parts : List ℕ → Bool → AtVendor → List PartValue
+vendor_parts url allowed Same = []
+vendor_parts url allowed (Group name judgment) =
+    group_parts name.now ++ judgment_parts name.now url allowed judgment
+vendor_parts url allowed Nobody = nobody_parts
 
 -- why an expectation fails
 abbrev pub reason_parts : CheckedValue → List PartValue
@@ -147,7 +144,7 @@ reason_parts checked =
     let expectation = checked.expectation in
     if fails_here checked
     then judgment_parts expectation.agent expectation.url expectation.allowed checked.judgment
-    else google_parts expectation.agent expectation.url expectation.allowed checked.google
+    else vendor_parts expectation.url expectation.allowed checked.vendor
 
 -- where an expectation is, what it is, and why it fails
 abbrev pub failure : List ℕ → CheckedValue → NamedLine

@@ -1,7 +1,7 @@
-//! What a robots.txt file says about an expectation, here and at Google, and whether the expectation fails.
+//! What a robots.txt file says about an expectation, here and at the crawler's vendor, and whether it fails.
 ghost use Rattle.std.specs.Prelude.{◌≡◌, IfErr, IfOk, take};
 ghost use Rattle.texting_robots.specs.Callers.{IsRobotOfFile, bodies_read, file_limit};
-ghost use Rattle.audit_expect.specs.Expectations.{IsAtGoogle, IsChecked, IsJudgmentOn, fails, fails_at, fails_at_google, fails_here, is_unexpected};
+ghost use Rattle.audit_expect.specs.Expectations.{IsAtVendor, IsChecked, IsJudgmentOn, fails, fails_at, fails_at_vendor, fails_here, is_unexpected};
 ghost use Rattle.audit_core.specs.Internal.{IsReading};
 ghost use Rattle.audit_expect.specs.Internal.Expectations.{checked_value};
 ghost use Rattle.audit_expect.specs.Internal.OtherReading.{marks_of};
@@ -11,7 +11,7 @@ use crate::other_reading::{normal_decision, other_decision};
 use audit_core::asked::decision_on;
 use audit_core::audit::{Reading, read_for};
 use audit_core::fault::Fault;
-use robots_warnings::google::{gets_googlebots, gets_nobodys};
+use robots_warnings::crawlers::other_group;
 use std::alloc::Global;
 use texting_robots::robot::Decision;
 use texting_robots::{Robot, Site};
@@ -25,23 +25,23 @@ pub(crate) enum Judgment {
     Decided(Decision, Decision, Decision),
 }
 
-/// Which note on Google's crawlers applies to a crawler.
+/// Which group the vendor of a crawler applies.
 #[derive(Drop)]
-pub(crate) enum AtGoogle {
-    /// Neither note on its crawlers applies.
+pub(crate) enum AtVendor {
+    /// The one that applies here.
     Same,
-    /// Google applies the group of Googlebot, and the file says this about it.
-    Googlebot(Judgment),
-    /// Google applies no group, so everything is allowed.
+    /// The group with this name, and the file says this about it.
+    Group(&'static str, Judgment),
+    /// No group, so everything is allowed.
     Nobody,
 }
 
-/// An expectation, and what the file says about it here and at Google.
+/// An expectation, and what the file says about it here and at the vendor of its crawler.
 #[derive(Drop)]
 pub(crate) struct Checked<'a> {
     pub(crate) expectation: Expectation<'a>,
     pub(crate) judgment: Judgment,
-    pub(crate) google: AtGoogle,
+    pub(crate) vendor: AtVendor,
 }
 
 /// The decisions of a file on a URL for a crawler with this robot, where `marks` has the empty Disallows.
@@ -88,29 +88,29 @@ fn judgment_on(
     }
 }
 
-/// What Google's documentation changes for a crawler and a URL.
-fn at_google(
+/// What the documentation of a crawler's vendor changes for a URL.
+fn at_vendor(
     alloc: Global,
     agent: &str,
     url: &str,
     file: &[u8],
     site: &Site,
     marks: &[bool],
-) -> Result<AtGoogle, Fault>
+) -> Result<AtVendor, Fault>
     requires site { site.now ≡ take file_limit file.now }
     requires marks { marks.now ≡ marks_of (bodies_read file.now) }
-    ensures ok { IfOk result (IsAtGoogle file.now agent.now url.now) }
+    ensures ok { IfOk result (IsAtVendor file.now agent.now url.now) }
     ensures fault { IfErr result (λ fault. fault ≡ Fault.Memory) }
 {
-    if gets_googlebots(site, agent) {
-        let reading = read_for(alloc, "Googlebot", file, site)?;
-        let judgment = judgment_on(alloc, "Googlebot", url, &reading, file, site, marks)?;
-        return Ok(AtGoogle::Googlebot(judgment));
+    let Some(group) = other_group(site, agent) else {
+        return Ok(AtVendor::Same);
+    };
+    if group.is_empty() {
+        return Ok(AtVendor::Nobody);
     }
-    if gets_nobodys(site, agent) {
-        return Ok(AtGoogle::Nobody);
-    }
-    Ok(AtGoogle::Same)
+    let reading = read_for(alloc, group, file, site)?;
+    let judgment = judgment_on(alloc, group, url, &reading, file, site, marks)?;
+    Ok(AtVendor::Group(group, judgment))
 }
 
 /// What the file says about an expectation, where `reading` is how it is read for the crawler.
@@ -131,11 +131,11 @@ pub(crate) fn checked_on<'a>(
 {
     let (agent, url) = (expectation.agent, expectation.url);
     let judgment = judgment_on(alloc, agent, url, reading, file, site, marks)?;
-    let google = at_google(alloc, agent, url, file, site, marks)?;
+    let vendor = at_vendor(alloc, agent, url, file, site, marks)?;
     Ok(Checked {
         expectation: *expectation,
         judgment,
-        google,
+        vendor,
     })
 }
 
@@ -164,14 +164,14 @@ fn fails_at(allowed: bool, judgment: &Judgment) -> bool
     }
 }
 
-/// Whether the same is so of the group that Google applies, if it is another one.
-fn fails_at_google(allowed: bool, google: &AtGoogle) -> bool
-    ensures { result ≡ fails_at_google allowed google.now }
+/// Whether the same is so of the group that the vendor applies, if it is another one.
+fn fails_at_vendor(allowed: bool, vendor: &AtVendor) -> bool
+    ensures { result ≡ fails_at_vendor allowed vendor.now }
 {
-    match google {
-        AtGoogle::Same => false,
-        AtGoogle::Googlebot(judgment) => fails_at(allowed, judgment),
-        AtGoogle::Nobody => !allowed,
+    match vendor {
+        AtVendor::Same => false,
+        AtVendor::Group(_, judgment) => fails_at(allowed, judgment),
+        AtVendor::Nobody => !allowed,
     }
 }
 
@@ -186,5 +186,5 @@ pub(crate) fn fails_here(checked: &Checked<'_>) -> bool
 pub(crate) fn fails(checked: &Checked<'_>) -> bool
     ensures { result ≡ fails (checked_value checked.now) }
 {
-    fails_here(checked) || fails_at_google(checked.expectation.allowed, &checked.google)
+    fails_here(checked) || fails_at_vendor(checked.expectation.allowed, &checked.vendor)
 }

@@ -5,7 +5,7 @@ ghost use Rattle.std.specs.{Option.option_to_list, Result.result_err, Str.byte};
 ghost use Rattle.robots_warnings.specs.Rules.{has};
 ghost use Rattle.audit_expect.specs.Expect.{IsLineFault, begins_dot_segment, entries_from, expectation_in};
 ghost use Rattle.audit_expect.specs.Expect.{expectations_in, expects, is_asked_otherwise, is_comment, is_in};
-ghost use Rattle.audit_expect.specs.Expect.{is_path, is_path_or_url, lines, parts, words};
+ghost use Rattle.audit_expect.specs.Expect.{is_path, is_path_or_url, lines, parts, words, words_with_name};
 ghost use Rattle.audit_core.specs.Crawler.{is_word};
 ghost use Rattle.audit_expect.specs.Internal.Expect.{HasNone, IsFirstSeparator, expectation_value};
 
@@ -14,7 +14,7 @@ use audit_core::agents::as_text;
 use audit_core::crawler::is_crawler_name;
 use audit_core::fault::{Fault, Flaw};
 use robots_warnings::facts::without_mark;
-use robots_warnings::rules::{before_byte, somewhere};
+use robots_warnings::rules::{after_byte, before_byte, somewhere};
 use robots_warnings::urls::is_absolute_url;
 use std::alloc::{AllocError, Global};
 
@@ -72,17 +72,35 @@ fn push_word<'a>(found: &mut Vec<&'a [u8]>, word: &'a [u8]) -> Result<(), AllocE
     Ok(())
 }
 
-/// The words of a line.
-fn words<'a>(alloc: Global, line: &'a [u8]) -> Result<Vec<&'a [u8]>, AllocError>
-    ensures { IfOk result (λ found. map (λ word. word.now) found.items ≡ words line.now) }
+/// Appends the words of a line.
+fn push_words<'a>(found: &mut Vec<&'a [u8]>, line: &'a [u8]) -> Result<(), AllocError>
+    ensures { OnOk result (map (λ word. word.now) found.new.items ≡ map (λ word. word.now) found.old.items
+        ++ words line.entry.now) }
 {
-    let mut found = Vec::new(alloc);
     let mut rest = line;
     while !rest.is_empty() {
         let (word, later) = cut(b" \t\r", rest);
-        push_word(&mut found, word)?;
+        push_word(found, word)?;
         rest = later;
     }
+    Ok(())
+}
+
+/// The words of a line. If one precedes the first quotation mark, what is between this and the next one is a word,
+/// too.
+fn words<'a>(alloc: Global, line: &'a [u8]) -> Result<Vec<&'a [u8]>, AllocError>
+    ensures { IfOk result (λ found. map (λ word. word.now) found.items ≡ words_with_name line.now) }
+{
+    let mut found = Vec::new(alloc);
+    push_words(&mut found, before_byte(b'"', line))?;
+    if found.len() != 1 {
+        found.clear();
+        push_words(&mut found, line)?;
+        return Ok(found);
+    }
+    let rest = after_byte(b'"', line);
+    found.push(before_byte(b'"', rest))?;
+    push_words(&mut found, after_byte(b'"', rest))?;
     Ok(found)
 }
 

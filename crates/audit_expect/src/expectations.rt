@@ -9,11 +9,11 @@ ghost use Rattle.audit_core.specs.Asked.{asked_target};
 ghost use Rattle.audit_core.specs.Internal.{IsReading};
 ghost use Rattle.audit_expect.specs.declared.checks.Judgment.TheVariants.{Decided};
 ghost use Rattle.audit_expect.specs.Expect.{IsEntryFault, expectations_in as specified_in};
-ghost use Rattle.audit_expect.specs.Expectations.{IsAnswer, IsPlain, decision_parts, demand, judgment_parts, front_parts, google_parts, googlebot_parts, holding, nobody_parts, reason_parts, rejected_parts, unmatched};
+ghost use Rattle.audit_expect.specs.Expectations.{IsAnswer, IsPlain, decision_parts, demand, judgment_parts, front_parts, group_parts, holding, nobody_parts, reason_parts, rejected_parts, unmatched, vendor_parts};
 ghost use Rattle.audit_expect.specs.Internal.Expect.{expectation_value};
 ghost use Rattle.audit_expect.specs.Internal.Expectations.{AreFailuresOn, IsReadFor, checked_value, failures_at};
 
-use crate::checks::{AtGoogle, Checked, Judgment, checked_on, fails, fails_here, is_unexpected};
+use crate::checks::{AtVendor, Checked, Judgment, checked_on, fails, fails_here, is_unexpected};
 use crate::entries::without_entries;
 use crate::expect::{Expectation, expectations_in};
 use crate::other_reading::empty_disallows;
@@ -182,49 +182,59 @@ fn push_judgment(
     }
 }
 
-/// That Google applies the group of Googlebot.
-fn googlebot_parts<'a>(agent: &'a str) -> [Part<'a>; 2]
-    ensures { raw_line result ≡ parts_text (googlebot_parts agent.entry.now) }
+/// That the vendor applies the group with this name.
+fn group_parts<'a>(name: &'a str) -> [Part<'a>; 2]
+    ensures { raw_line result ≡ parts_text (group_parts name.entry.now) }
 {
     [
         Part(
-            "Google applies the group Googlebot to ",
-            Value::Untrusted(agent.as_bytes()),
+            "its vendor applies the group ",
+            Value::Untrusted(name.as_bytes()),
         ),
-        Part(", and ", Value::Nothing),
+        Part(" to it, and ", Value::Nothing),
     ]
 }
 
-/// That Google applies no group.
-fn nobody_parts<'a>(agent: &'a str) -> [Part<'a>; 1]
-    ensures { raw_line result ≡ parts_text (nobody_parts agent.entry.now) }
-{
-    [Part(
-        "Google doesn't apply the group * to ",
-        Value::Untrusted(agent.as_bytes()),
-    )]
-}
-
-/// Appends which group Google applies, and what it says.
-fn push_google(
+/// Appends that the vendor applies the group with this name, and what it says.
+fn push_group(
     alloc: Global,
     text: &mut String,
-    agent: &str,
+    name: &str,
     url: &str,
     allowed: bool,
-    google: &AtGoogle,
+    judgment: &Judgment,
 ) -> Result<(), Fault>
     ensures ok { OnOk result (string_bytes text.new ≡ string_bytes text.old
-        ++ parts_text (google_parts agent.now url.now allowed google.now)) }
+        ++ parts_text (group_parts name.now ++ judgment_parts name.now url.now allowed judgment.now)) }
     ensures fault { IfErr result (λ fault. fault ≡ Fault.Memory) }
 {
-    match google {
-        AtGoogle::Same => Ok(()),
-        AtGoogle::Googlebot(judgment) => {
-            push_parts(text, &googlebot_parts(agent))?;
-            push_judgment(alloc, text, "Googlebot", url, allowed, judgment)
-        }
-        AtGoogle::Nobody => Ok(push_parts(text, &nobody_parts(agent))?),
+    push_parts(text, &group_parts(name))?;
+    push_judgment(alloc, text, name, url, allowed, judgment)
+}
+
+/// That the vendor applies no group.
+fn nobody_parts() -> [Part<'static>; 1]
+    ensures { raw_line result ≡ parts_text nobody_parts }
+{
+    [Part("its vendor doesn't apply the group * to it", Value::Nothing)]
+}
+
+/// Appends which group the vendor applies, and what it says.
+fn push_vendor(
+    alloc: Global,
+    text: &mut String,
+    url: &str,
+    allowed: bool,
+    vendor: &AtVendor,
+) -> Result<(), Fault>
+    ensures ok { OnOk result (string_bytes text.new ≡ string_bytes text.old
+        ++ parts_text (vendor_parts url.now allowed vendor.now)) }
+    ensures fault { IfErr result (λ fault. fault ≡ Fault.Memory) }
+{
+    match vendor {
+        AtVendor::Same => Ok(()),
+        AtVendor::Group(name, judgment) => push_group(alloc, text, name, url, allowed, judgment),
+        AtVendor::Nobody => Ok(push_parts(text, &nobody_parts())?),
     }
 }
 
@@ -239,7 +249,7 @@ fn push_reason(alloc: Global, text: &mut String, checked: &Checked<'_>) -> Resul
     if fails_here(checked) {
         push_judgment(alloc, text, agent, url, allowed, &checked.judgment)
     } else {
-        push_google(alloc, text, agent, url, allowed, &checked.google)
+        push_vendor(alloc, text, url, allowed, &checked.vendor)
     }
 }
 

@@ -35,7 +35,7 @@ pub fn before_byte(byte: u8, text: &[u8]) -> &[u8]
 }
 
 /// The text after the first occurrence of the byte; empty if there is none.
-pub(crate) fn after_byte(byte: u8, text: &[u8]) -> &[u8]
+pub fn after_byte(byte: u8, text: &[u8]) -> &[u8]
     ensures { result.now ≡ after_byte byte text.now }
 {
     match &text[place(byte, text)..] {

@@ -13,7 +13,7 @@ abbrev pub checked_value : Checked → CheckedValue
 checked_value checked = record {
   expectation = expectation_value checked.expectation;
   judgment = checked.judgment;
-  google = checked.google;
+  vendor = checked.vendor;
 }
 
 -- how the file is read for this crawler
