@@ -130,9 +130,7 @@ pub(crate) fn row_at(number: usize) -> Crawler
 pub(crate) fn is_given(agents: &[&str], name: &str) -> bool
     ensures { result ≡ is_given (map (λ agent. agent.now) agents.now) name.now }
 {
-    agents
-        .iter()
-        .any(|agent| name.eq_ignore_ascii_case(agent.as_str()))
+    agents.iter().any(|agent| name.eq_ignore_ascii_case(agent))
 }
 
 /// Whether the line is a user-agent line in which a vendor reads the name of this crawler.

@@ -9,6 +9,7 @@ ghost use Rattle.robots_warnings.specs.FieldNames.{is_space_or_tab, is_without_c
 ghost use Rattle.robots_warnings.specs.FieldNames.{may_mean, meant_by, name_in, without_end, without_front};
 ghost use Rattle.robots_warnings.specs.FieldNames.{name_before};
 ghost use Rattle.robots_warnings.specs.Internal.{name_value};
+
 use crate::file::first;
 use crate::rules::{after_byte, before_byte, somewhere};
 use crate::several_values::begins_unseen;
