@@ -56,7 +56,7 @@ pub(crate) fn is_named_at_google(site: &Site, agent: &str) -> bool
 }
 
 /// Whether one of these names is that of the crawler, ASCII letters in any case.
-fn is_one_of(names: &[&str], agent: &str) -> bool
+pub(crate) fn is_one_of(names: &[&str], agent: &str) -> bool
     ensures { result ≡ list_any (λ name. str_eq_ignore_ascii_case name.now agent.now) names.now }
 {
     names.iter().any(|name| name.eq_ignore_ascii_case(agent))
