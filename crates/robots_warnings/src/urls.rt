@@ -1,8 +1,8 @@
 //! Conditions on URLs and paths.
 ghost use Rattle.std.specs.Prelude.{◌≡◌, ◌&&◌, IfOk, MatchOption, false, not, true};
 ghost use Rattle.std.specs.Str.{is_utf8};
-ghost use Rattle.robots_warnings.specs.Urls.{begins_as_url, begins_in_any_case, begins_without_host, has_odd_host};
-ghost use Rattle.robots_warnings.specs.Urls.{is_absolute_url, is_local, is_unparsable};
+ghost use Rattle.robots_warnings.specs.Urls.{begins_as_url, begins_in_any_case, begins_without_host};
+ghost use Rattle.robots_warnings.specs.Urls.{has_odd_host, is_absolute_url, is_local, is_unparsable};
 
 use crate::file::first;
 use std::alloc::{AllocError, Global};

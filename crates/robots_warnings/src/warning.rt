@@ -21,6 +21,8 @@ pub enum Detail {
     Group(usize),
     /// The index of a known crawler that may be meant.
     Meant(usize),
+    /// How many other crawlers the message is about.
+    Others(usize),
 }
 
 /// A warning.
@@ -34,6 +36,9 @@ pub struct Warning<'a> {
     /// What the message ends with, if it isn't its text.
     pub detail: Option<Detail>,
 }
+
+/// The warnings found so far.
+pub(crate) type Found<'a> = Vec<Warning<'a>>;
 
 impl<'a> Model for Warning<'a> {
     ghost use Rattle.robots_warnings.specs.WarningValue.{WarningValue};
@@ -68,7 +73,10 @@ fn about_part<'a>(cause: Cause, about: Option<&'a str>) -> Part<'a>
     };
     let name = Value::Untrusted(name.as_bytes());
     match cause {
-        Cause::GooglebotGroup | Cause::GoogleIgnoresStar => Part("crawler '", name),
+        Cause::ClosesSite
+        | Cause::ClosesEverything
+        | Cause::GooglebotGroup
+        | Cause::GoogleIgnoresStar => Part("crawler '", name),
         _ => Part("URL '", name),
     }
 }
@@ -98,6 +106,7 @@ fn detail_part(detail: Option<Detail>) -> Part<'static>
             let name = row_at(number).0;
             Part(" (did you mean ", Value::Untrusted(name.as_bytes()))
         }
+        Some(Detail::Others(count)) => Part(" (and ", Value::Number(count)),
         None => Part("", Value::Nothing),
     }
 }
@@ -110,6 +119,9 @@ fn detail_end(detail: Option<Detail>) -> Part<'static>
         Some(Detail::Rules(_)) => Part(" in all)", Value::Nothing),
         Some(Detail::Line(_) | Detail::Group(_)) => Part(")", Value::Nothing),
         Some(Detail::Meant(_)) => Part("?)", Value::Nothing),
+        Some(Detail::Line(_)) => Part(")", Value::Nothing),
+        Some(Detail::Others(1)) => Part(" other crawler)", Value::Nothing),
+        Some(Detail::Others(_)) => Part(" other crawlers)", Value::Nothing),
         None => Part("", Value::Nothing),
     }
 }
