@@ -9,7 +9,7 @@ use Rattle.strsim.specs.Edits.{levenshtein_row}
 use Rattle.texting_robots.specs.Statement.{field_names}
 use Rattle.texting_robots.specs.declared.parser.statement.Kind.{Kind}
 use Rattle.texting_robots.specs.declared.parser.statement.Kind.TheVariants as kind
-use Rattle.robots_warnings.specs.{File.space, File.tab, Rules.before_byte, Rules.somewhere}
+use Rattle.robots_warnings.specs.{File.space, File.tab, Rules.before_byte, Rules.has, Rules.somewhere}
 use Rattle.robots_warnings.specs.SeveralValues.{begins_unseen}
 use Rattle.robots_warnings.specs.declared.field_names.TheConstants.{DIRECTIVES, KINDS, UNSUPPORTED}
 use Rattle.robots_warnings.specs.declared.table.Cause.{Cause}
@@ -108,7 +108,7 @@ meant_by body =
     let name = name_in body in
     let word = first_word body in
     if somewhere begins_unseen (before_byte (byte ":") word) then UnseenInName
-    else if is_any_accepted (name_before (byte "=") body) then EqualsSign
+    else if has (byte "=") body && is_any_accepted (name_before (byte "=") body) then EqualsSign
     else if is_accepted kind.CrawlDelay name || is_accepted kind.CrawlDelay word then InvalidDelay
     else unwrap_or (option_or (unsupported_in name word) (directive_in name word)) UnrecognizedLine
 

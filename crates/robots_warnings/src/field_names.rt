@@ -8,7 +8,7 @@ ghost use Rattle.robots_warnings.specs.FieldNames.{without_end, without_front};
 ghost use Rattle.robots_warnings.specs.Internal.{name_value};
 
 use crate::file::first;
-use crate::rules::{before_byte, somewhere};
+use crate::rules::{before_byte, has, somewhere};
 use crate::several_values::begins_unseen;
 use crate::table::Cause;
 use std::alloc::{AllocError, Global};
@@ -184,7 +184,7 @@ pub(crate) fn meant_by(alloc: Global, body: &[u8]) -> Result<Cause, AllocError>
     if somewhere(before_byte(b':', word), begins_unseen) {
         return Ok(Cause::UnseenInName);
     }
-    if is_any_accepted(name_before(b'=', body)) {
+    if has(b'=', body) && is_any_accepted(name_before(b'=', body)) {
         return Ok(Cause::EqualsSign);
     }
     if is_accepted(Kind::CrawlDelay, name) || is_accepted(Kind::CrawlDelay, word) {
