@@ -1,7 +1,8 @@
 -- Steps of loops over bytes and over lines.
 use Rattle.std.proofs.Common.{◌≡◌, ℕ, ◌+◌, ◌<◌, ◌==◌, ◌||◌, ◌&&◌, List, drop, length, refl, slice_index_or}
 use Rattle.std.proofs.Common.{Bool, map, not, take, ◌∷◌, [], arith, codes, false, nat_eq, ◌++◌, ap}
-use Rattle.std.proofs.Common.{inl, inr, append-nil, append_assoc, flat_map, sym, ◌∙◌, cond, true, if◌then◌else◌}
+use Rattle.std.proofs.Common.{append-nil, append_assoc, flat_map, sym, ◌∙◌, cond, true, if◌then◌else◌}
+use Rattle.std.proofs.Common.{inl, inr}
 use Rattle.std.proofs.lemmas.List.{drop_more, map-append, take_more}
 use Rattle.robots_warnings.specs.File.{hash, is_blank, space, tab, lines_of}
 use Rattle.robots_warnings.specs.Positions.{group_number, last_group}
@@ -54,7 +55,8 @@ last_from labels at labeled below = rw (drop_more labels at labeled below) refl
 
 -- ---- the value of a rule
 
--- the rest of a text from the first byte on at which a test holds: all of it, or that of all but its first byte
+-- the rest of a text from the first byte on at which a test holds: all of it, or that of all but its first
+-- byte
 pub from_first_next : (test : List ℕ → Bool) (text : List ℕ) → 0 < length text
     → from_first test text ≡ (if test text then text else from_first test (drop 1 text))
 from_first_next test [] some = absurd (omega arith)

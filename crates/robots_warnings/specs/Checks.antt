@@ -1,8 +1,8 @@
 -- The conditions of warnings about a file, a request, a line and its position, grouped by what they inspect,
 -- in the order of output. Warnings.antt names those of the others.
 use Rattle.std.specs.Prelude.{ℕ, Bool, true, false, List, [], ◌∷◌, ◌++◌, ◌||◌, Option, None, Some}
-use Rattle.std.specs.Prelude.{if◌then◌else◌, nat_lt, not, ◌&&◌}
-use Rattle.std.specs.{Str.byte, Str.is_utf8}
+use Rattle.std.specs.Prelude.{if◌then◌else◌, nat_lt, not, ◌&&◌, ◌==◌, codes, nat_eq}
+use Rattle.std.specs.{Str.byte, Str.is_utf8, List.starts_with}
 use Rattle.texting_robots.specs.Callers.{Allow, CrawlDelay, Disallow, LineValue, Label, Raw, Sitemap}
 use Rattle.texting_robots.specs.Callers.{UserAgent, is_own}
 use Rattle.texting_robots.specs.declared.labels.Membership.{Membership}
@@ -16,8 +16,8 @@ use Rattle.robots_warnings.specs.FieldNames.{begins_inner_field, is_misspelled, 
 use Rattle.robots_warnings.specs.Positions.{are_joined, is_above_agents, is_empty_group, is_other_delay}
 use Rattle.robots_warnings.specs.Positions.{is_split, name_star}
 use Rattle.robots_warnings.specs.Rules.{before_byte, begins_dot_segment, begins_wildcard, has, has_dollar_inside}
-use Rattle.robots_warnings.specs.Rules.{has_more_after_dollar, has_odd_character, has_odd_start, has_quote_at_end}
-use Rattle.robots_warnings.specs.Rules.{holds_otherwise, is_expression, is_quoted, is_url_in_path, somewhere}
+use Rattle.robots_warnings.specs.Rules.{has_more_after_dollar, has_odd_character, has_odd_start}
+use Rattle.robots_warnings.specs.Rules.{has_quote_at_end, holds_otherwise, is_expression, is_quoted, is_url_in_path, somewhere}
 use Rattle.robots_warnings.specs.Targets.{has_odd_target}
 use Rattle.robots_warnings.specs.Tokens.{is_product_token, is_usual_name}
 use Rattle.robots_warnings.specs.Urls.{begins_as_url, has_odd_host, is_absolute_url}
@@ -71,7 +71,12 @@ user_agent_checks value =
 abbrev pub form_checks : List ℕ → List Check
 form_checks value =
     (cause.RuleNotUtf8, not (is_utf8 value))
-    ∷ (cause.MissingSlash, has_odd_start value && not (is_expression value))
+    ∷ (cause.EqualsInRule, has_odd_start value && starts_with nat_eq value (codes "="))
+    ∷ (
+      cause.MissingSlash,
+      has_odd_start value
+          && not (starts_with nat_eq value (codes "=") || is_expression value),
+    )
     ∷ (cause.UrlInPath, is_url_in_path value)
     ∷ (cause.UrlAsRule, begins_as_url value)
     ∷ (cause.OddCharacter, has_odd_character value && not (holds_otherwise value || is_quoted value))

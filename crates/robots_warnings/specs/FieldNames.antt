@@ -11,8 +11,9 @@ use Rattle.texting_robots.specs.Statement.{field_names}
 use Rattle.texting_robots.specs.declared.parser.statement.Kind.{Kind}
 use Rattle.texting_robots.specs.declared.parser.statement.Kind.TheVariants as kind
 use Rattle.robots_warnings.specs.{File.hash, File.space, File.tab, Rules.after_byte, Rules.before_byte}
-use Rattle.robots_warnings.specs.{Rules.somewhere}
+use Rattle.robots_warnings.specs.{Rules.somewhere, Rules.has}
 use Rattle.robots_warnings.specs.Urls.{begins_as_url}
+use Rattle.robots_warnings.specs.SeveralValues.{begins_unseen}
 use Rattle.robots_warnings.specs.declared.field_names.TheConstants.{DIRECTIVES, KINDS, UNSUPPORTED}
 use Rattle.robots_warnings.specs.declared.table.Cause.{Cause}
 use Rattle.robots_warnings.specs.declared.table.Cause.TheVariants.{HostName, InvalidDelay, UnrecognizedLine}
@@ -125,7 +126,7 @@ meant_by body =
     let name = name_in body in
     let word = first_word body in
     if somewhere begins_unseen (before_byte (byte ":") word) then UnseenInName
-    else (if is_any_accepted (name_before (byte "=") body) then EqualsSign
+    else (if has (byte "=") body && is_any_accepted (name_before (byte "=") body) then EqualsSign
     else (if is_accepted kind.CrawlDelay name || is_accepted kind.CrawlDelay word then InvalidDelay
     else (if (is_name (codes "host") name || is_name (codes "host") word) && has_host body then HostName
     else unwrap_or (option_or (unsupported_in name word) (directive_in name word)) UnrecognizedLine)))

@@ -1,6 +1,6 @@
 -- Conditions on the value of an Allow or a Disallow line.
-use Rattle.std.specs.Prelude.{ℕ, ◌+◌, ◌-◌, ◌*◌, ◌==◌, nat_eq, nat_le, nat_lt, Bool, false, not, ◌||◌, ◌&&◌, List}
-use Rattle.std.specs.Prelude.{[], ◌∷◌, bytes_eq, codes, drop, if◌then◌else◌, length, slice_index}
+use Rattle.std.specs.Prelude.{ℕ, ◌+◌, ◌-◌, ◌*◌, ◌==◌, nat_eq, nat_le, nat_lt, Bool, false, not, ◌||◌, ◌&&◌}
+use Rattle.std.specs.Prelude.{List, [], ◌∷◌, bytes_eq, codes, drop, if◌then◌else◌, length, slice_index}
 use Rattle.std.specs.Char.{digit_value, is_ascii_alphanumeric, is_ascii_hexdigit, is_ascii_lowercase}
 use Rattle.std.specs.List.{after_first, before_first, ends_with, list_any, starts_with}
 use Rattle.std.specs.Str.{byte}
@@ -113,8 +113,8 @@ is_url_in_path value =
 
 -- ---- regular expressions
 
--- the text starts with a range, such as `[0-9]`; with `(?`; with `.*` after a slash or `(`, or before `$`, which
--- elsewhere is part of paths such as `/index.*`; or with a character class, such as `\d`
+-- the text starts with a range, such as `[0-9]`; with `(?`; with `.*` after a slash or `(`, or before `$`,
+-- which elsewhere is part of paths such as `/index.*`; or with a character class, such as `\d`
 abbrev pub begins_sign : List ℕ → Bool
 begins_sign text =
     (nat_lt 3 (length text) && (slice_index text 0 == byte "[" && slice_index text 2 == byte "-"))
@@ -123,12 +123,12 @@ begins_sign text =
     || (starts_with nat_eq text (codes "(?")
     || (slice_index text 0 == byte "\\" && is_ascii_alphanumeric (slice_index text 1))))
 
--- the value starts with `^`; it has an alternative, such as `(a|b)`: a `)` after a `|` after a `(`; it contains
--- a range, `(?`, such a `.*` or a character class; or it ends with a `+` after a dot, `]` or `)`; others are part
--- of names such as `/canal+`
+-- the value starts with `^` or `.*`; it has an alternative, such as `(a|b)`: a `)` after a `|` after a `(`; it
+-- contains a range, `(?`, such a `.*` or a character class; or it ends with a `+` after a dot, `]` or `)`;
+-- others are part of names such as `/canal+`
 abbrev pub is_expression : List ℕ → Bool
 is_expression value =
-    starts_with nat_eq value (codes "^")
+    (starts_with nat_eq value (codes "^") || starts_with nat_eq value (codes ".*"))
     || (has (byte ")") (after_byte (byte "|") (after_byte (byte "(") value))
     || (somewhere begins_sign value
     || (ends_with nat_eq value (codes ".+")

@@ -46,7 +46,8 @@ begins_list text =
 abbrev pub begins_tag : List ℕ → Bool
 begins_tag text =
     let second = slice_index text 1 in
-    slice_index text 0 == byte "<" && (is_ascii_alphabetic second || (second == byte "/" || second == byte "!"))
+    slice_index text 0 == byte "<"
+    && (is_ascii_alphabetic second || (second == byte "/" || second == byte "!"))
 
 -- the text starts with one of these
 abbrev pub begins_next_value : List ℕ → Bool

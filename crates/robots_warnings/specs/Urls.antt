@@ -1,6 +1,6 @@
 -- Conditions on URLs and paths.
-use Rattle.std.specs.Prelude.{ℕ, Bool, true, false, ◌||◌, ◌&&◌, not, List, None, Some, Ok, Err, bytes_eq, codes}
-use Rattle.std.specs.Prelude.{is_err, length, option_and_then, take}
+use Rattle.std.specs.Prelude.{ℕ, Bool, true, false, ◌||◌, ◌&&◌, not, List, None, Some, Ok, Err, bytes_eq}
+use Rattle.std.specs.Prelude.{codes, is_err, length, option_and_then, take}
 use Rattle.std.specs.Str.{is_utf8, str_eq_ignore_ascii_case}
 use Rattle.url.specs.{Host.domain_of, Parser.parse_url, Parts.Parts, Parts.nonempty_host}
 

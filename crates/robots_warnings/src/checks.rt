@@ -108,13 +108,18 @@ pub(crate) fn is_in_scope_of(everywhere: bool, membership: Membership) -> bool
 }
 
 /// Checks of the value of an Allow or a Disallow: of its start, its characters and its quotes.
-pub(crate) fn form_checks(value: &[u8]) -> [Check; 8]
+pub(crate) fn form_checks(value: &[u8]) -> [Check; 9]
     ensures { result ≡ form_checks value.now }
 {
     let is_odd = has_odd_start(value);
+    let has_equals = value.starts_with(b"=");
     [
         (Cause::RuleNotUtf8, !is_utf8(value)),
-        (Cause::MissingSlash, is_odd & !is_expression(value)),
+        (Cause::EqualsInRule, is_odd & has_equals),
+        (
+            Cause::MissingSlash,
+            is_odd & !(has_equals | is_expression(value)),
+        ),
         (Cause::UrlInPath, is_url_in_path(value)),
         (Cause::UrlAsRule, begins_as_url(value)),
         (Cause::OddCharacter, is_only_odd(value)),

@@ -11,7 +11,7 @@ ghost use Rattle.robots_warnings.specs.FieldNames.{name_before};
 ghost use Rattle.robots_warnings.specs.Internal.{name_value};
 
 use crate::file::first;
-use crate::rules::{after_byte, before_byte, somewhere};
+use crate::rules::{after_byte, before_byte, has, somewhere};
 use crate::several_values::begins_unseen;
 use crate::table::Cause;
 use crate::urls::begins_as_url;
@@ -220,7 +220,7 @@ pub(crate) fn meant_by(alloc: Global, body: &[u8]) -> Result<Cause, AllocError>
     if somewhere(before_byte(b':', word), begins_unseen) {
         return Ok(Cause::UnseenInName);
     }
-    if is_any_accepted(name_before(b'=', body)) {
+    if has(b'=', body) && is_any_accepted(name_before(b'=', body)) {
         return Ok(Cause::EqualsSign);
     }
     if is_accepted(Kind::CrawlDelay, name) || is_accepted(Kind::CrawlDelay, word) {

@@ -184,12 +184,13 @@ fn begins_sign(text: &[u8]) -> bool
     }
 }
 
-/// Whether the value starts with `^`, has an alternative, such as `(a|b)`, contains a range, `(?`, such a `.*` or a
+/// Whether the value starts with `^` or `.*`, has an alternative, such as `(a|b)`, contains a range, `(?`, such a `.*` or a
 /// character class, or ends with a `+` after a dot, `]` or `)`.
 pub(crate) fn is_expression(value: &[u8]) -> bool
     ensures { result ≡ is_expression value.now }
 {
     value.starts_with(b"^")
+        || value.starts_with(b".*")
         || has(b')', after_byte(b'|', after_byte(b'(', value)))
         || somewhere(value, begins_sign)
         || value.ends_with(b".+")

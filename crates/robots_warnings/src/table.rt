@@ -60,6 +60,7 @@ pub enum Cause {
     HashLeavesRoot,
     HashCutsRule,
     RuleNotUtf8,
+    EqualsInRule,
     MissingSlash,
     UrlInPath,
     UrlAsRule,
@@ -128,7 +129,7 @@ pub enum Topic {
 
 /// The warnings with their levels, topics and names.
 #[rattlefmt::skip]
-pub static WARNINGS: [(Cause, Level, Topic, &str); 83] = [
+pub static WARNINGS: [(Cause, Level, Topic, &str); 84] = [
     // the file
     (Cause::LooksLikeHtml, Level::Error, Topic::Syntax, "looks-like-html"),
     (Cause::LooksLikeUtf16, Level::Error, Topic::Syntax, "looks-like-utf-16"),
@@ -172,6 +173,7 @@ pub static WARNINGS: [(Cause, Level, Topic, &str); 83] = [
     (Cause::HashLeavesRoot, Level::Error, Topic::Meaning, "hash-cuts-rule"),
     (Cause::HashCutsRule, Level::Warning, Topic::Meaning, "hash-cuts-rule"),
     (Cause::RuleNotUtf8, Level::Warning, Topic::Syntax, "rule-not-utf-8"),
+    (Cause::EqualsInRule, Level::Error, Topic::Syntax, "missing-slash"),
     (Cause::MissingSlash, Level::Error, Topic::Syntax, "missing-slash"),
     (Cause::UrlInPath, Level::Warning, Topic::Meaning, "url-as-rule"),
     (Cause::UrlAsRule, Level::Error, Topic::Syntax, "url-as-rule"),

@@ -3,7 +3,7 @@ use crate::table::Cause;
 
 /// For each warning, in the order of [`WARNINGS`](crate::table::WARNINGS), its message.
 #[rattlefmt::skip]
-pub(crate) static MESSAGES: [(Cause, &str); 83] = [
+pub(crate) static MESSAGES: [(Cause, &str); 84] = [
     // the file
     (Cause::LooksLikeHtml,
         "no usable line found; the text starts with <, so it may be an HTML page; serve a plain-text robots.txt instead"),
@@ -84,6 +84,8 @@ pub(crate) static MESSAGES: [(Cause, &str); 83] = [
         "everything from # on is a comment, so the rule is shorter and matches more paths; write %23 for a # in a path, or a space before a comment"),
     (Cause::RuleNotUtf8,
         "the rule isn't valid UTF-8 and is ignored; save the file as UTF-8"),
+    (Cause::EqualsInRule,
+        "the rule matches no path, since = isn't a colon, but the start of its value; write, for example, \"Disallow: /path\""),
     (Cause::MissingSlash,
         "the rule doesn't start with / or *, so it matches no path; add a leading /, or /* if it may come later in the path"),
     (Cause::UrlInPath,
@@ -188,7 +190,7 @@ pub(crate) static MESSAGES: [(Cause, &str); 83] = [
 /// For each warning, in the order of [`WARNINGS`](crate::table::WARNINGS), a file that triggers it for FerrisBot, or with
 /// the arguments in its first line, or a command. In a file, `\xFF` is a byte, and `\{512000 a}` is 512,000 times an `a`.
 #[rattlefmt::skip]
-pub(crate) static EXAMPLES: [(Cause, &str); 83] = [
+pub(crate) static EXAMPLES: [(Cause, &str); 84] = [
     // the file
     (Cause::LooksLikeHtml, "<html>\n</html>"),
     (Cause::LooksLikeUtf16, "\\xFF\\xFED\\x00"),
@@ -219,7 +221,7 @@ pub(crate) static EXAMPLES: [(Cause, &str); 83] = [
     (Cause::LikeSitemap, "User-agent: *\nSitemaps: https://example.com/s.xml"),
     (Cause::LikeCrawlDelay, "User-agent: *\nCrawl-dely: 1"),
     (Cause::UnseenInName, "User-agent: *\n\\xE2\\x80\\x8BDisallow: /a"),
-    (Cause::EqualsSign, "User-agent: *\nDisallow = /a"),
+    (Cause::EqualsSign, "User-agent: *\nDisallow=/a"),
     (Cause::UnrecognizedLine, "User-agent: *\nhello"),
     // the field name of a line
     (Cause::NonstandardField, "User-agent: *\nUseragent: *\nDisallow: /a"),
@@ -232,6 +234,7 @@ pub(crate) static EXAMPLES: [(Cause, &str); 83] = [
     (Cause::HashLeavesRoot, "User-agent: *\nDisallow: /#/admin"),
     (Cause::HashCutsRule, "User-agent: *\nDisallow: /a#b"),
     (Cause::RuleNotUtf8, "User-agent: *\nDisallow: /\\xE9"),
+    (Cause::EqualsInRule, "User-agent: *\nDisallow = /a"),
     (Cause::MissingSlash, "User-agent: *\nDisallow: search"),
     (Cause::UrlInPath, "User-agent: *\nDisallow: /https://example.com/a"),
     (Cause::UrlAsRule, "User-agent: *\nDisallow: https://example.com/a"),
