@@ -100,6 +100,7 @@ for name, level, _, text in documented_warnings():
 FORMATS = re.findall(r'"(\w+)"', re.search(r"const NAMES: [^=]*= &\[(.*?)\];", (CRATES / "audit_core/src/request.rt").read_text(), re.S)[1])
 OF_A_URL = {"not-a-url-or-path", "invalid-url", "url-not-normal"}
 OF_A_CRAWLER = {"empty-agent", "space-around-agent", "version-in-agent", "googlebot-group", "google-ignores-star"}
+OF_GROUP = {"googlebot-group"}
 OF_RULES = {"replaces-star"}
 OF_A_LINE = {"allowed-and-disallowed", "empty-disallow"}
 NEEDLESS = ["never", "nothing", "allowed", "covered"]  # in the order of the messages of `needless-rule`
@@ -107,10 +108,11 @@ WORDS = {"space", "comma", "tag", "invisible", "="}  # each in one message of a 
 
 
 def level_and_text(name, detail=""):
-    """The documented level and message of a warning. Its detail is the field name that may be meant; the level of one before the last; a
-    word of its message; how many rules it is about; the line of another rule; the kind of a needless rule, possibly with such a line; the
-    name of one of several crawlers, in quotes; of `closes-everything` the level, such a name, and how many other crawlers there are, if
-    there are some; or else the URL that the warning is about."""
+    """The level and message of a warning. Its detail is the field name that may be meant; the level of one before the last; a word of its
+    message; how many rules it is about; the line of another rule; the kind of a needless rule, possibly with such a line; the name of a
+    crawler that may be meant; the name of one of several crawlers, in quotes, and that of the group that its vendor applies, if it isn't
+    Googlebot; of `closes-everything` the level, such a name, and how many other crawlers there are, if there are some; or else the URL that
+    the warning is about."""
     if name == "needless-rule":
         kind, _, other = detail.partition(" ")
         level, text = WARNINGS[name][NEEDLESS.index(kind)]
@@ -129,6 +131,11 @@ def level_and_text(name, detail=""):
         return level, f"{text} ({detail} in all)"
     if name in OF_A_LINE:
         return level, f"{text} (see line {detail})"
+    if name == "misspelled-name":
+        return level, f"{text} (did you mean {detail}?)"
+    if name in OF_GROUP:
+        detail, group = re.fullmatch(r"('.*')? ?([^' ]+)?", detail).groups()
+        text += f" (see the group of {group or 'Googlebot'})"
     if name in OF_A_CRAWLER:
         return level, f"crawler {detail}: {text}" if detail else text
     return level, f"URL '{detail}': {text}" if name in OF_A_URL else text

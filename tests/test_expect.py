@@ -36,7 +36,7 @@ FAILING = {
     "the start of a command of a workflow": (b"allow GPTBot https://e.com/a##[error]x", "1: GPTBot must be allowed https://e.com/a%23%23[error]x, but line 7 denies it"),
 }
 
-GOOGLE = b"""User-agent: *
+VENDORS = b"""User-agent: *
 Disallow: /private/
 
 User-agent: Googlebot
@@ -44,27 +44,41 @@ Disallow: /news/
 
 User-agent: Mediapartners-Google
 Disallow: /ads/
+
+User-agent: Yandex
+Disallow: /images/
 """
 
-NOBODY = "but Google doesn't apply the group * to"
-GOOGLEBOT = "but Google applies the group Googlebot to"
+NOBODY = "but its vendor doesn't apply the group * to it"
+GOOGLEBOT = "but its vendor applies the group Googlebot to it"
 
-# expectations that would hold if Google applied the same group as other crawlers do, and what is reported on each
-FAILING_AT_GOOGLE = {
-    "no group": (b"deny AdsBot-Google /private/tea", f"AdsBot-Google must be denied /private/tea, {NOBODY} AdsBot-Google"),
-    "another case": (b"deny apis-google /private/tea", f"apis-google must be denied /private/tea, {NOBODY} apis-google"),
-    "the group of Googlebot": (b"allow Googlebot-News /news/1", f"Googlebot-News must be allowed /news/1, {GOOGLEBOT} Googlebot-News, and line 5 denies it"),
-    "no rule of Googlebot": (b"deny Storebot-Google /private/tea", f"Storebot-Google must be denied /private/tea, {GOOGLEBOT} Storebot-Google, and no rule matches it"),
+# expectations that would hold if each vendor applied the same group as others do, and what is reported on each
+FAILING_AT_VENDOR = {
+    "no group": (b"deny AdsBot-Google /private/tea", f"AdsBot-Google must be denied /private/tea, {NOBODY}"),
+    "another case": (b"deny apis-google /private/tea", f"apis-google must be denied /private/tea, {NOBODY}"),
+    "the group of Googlebot": (b"allow Googlebot-News /news/1", f"Googlebot-News must be allowed /news/1, {GOOGLEBOT}, and line 5 denies it"),
+    "no rule of Googlebot": (b"deny Storebot-Google /private/tea", f"Storebot-Google must be denied /private/tea, {GOOGLEBOT}, and no rule matches it"),
+    "another vendor": (b"allow Applebot /news/1", f"Applebot must be allowed /news/1, {GOOGLEBOT}, and line 5 denies it"),
+    "the group of Yandex": (b"allow YandexImages /images/1", "YandexImages must be allowed /images/1, but its vendor applies the group Yandex to it, and line 11 denies it"),
 }
 
-# and others, whose result Google's groups don't change
-AT_GOOGLE = {
+# and others, whose result the vendors' groups don't change
+AT_VENDOR = {
     "allowed by both groups": (b"allow Googlebot-Image /tea", None),
     "allowed without a group": (b"allow AdsBot-Google /tea", None),
     "a group of its own": (b"deny Mediapartners-Google /ads/1", None),
     "Googlebot": (b"deny Googlebot /news/1", None),
     "denied here": (b"allow AdsBot-Google /private/tea", "AdsBot-Google must be allowed /private/tea, but line 2 denies it"),
     "allowed here": (b"deny Googlebot-News /news/1", "Googlebot-News must be denied /news/1, but no rule matches it"),
+}
+
+NAMES_IN_QUOTES = {
+    "with a space": (b'allow "Some Bot" /a', "Some Bot must be allowed /a, but line 2 denies it"),
+    "in another case": (b'deny\t"some bot"\t/a\r', None),
+    "without a space": (b'allow "Ferris" /a', None),
+    "two spaces, which are another name": (b'allow "Some  Bot" /a', None),
+    "a quotation mark in the URL": (b'allow "Some Bot" /b"c', None),
+    "two of them in a URL": (b'allow Ferris /"b"', None),
 }
 
 OTHERWISE = "where an empty Disallow is no rule, as for RFC 9309 and Google, line"
@@ -92,7 +106,7 @@ EMPTY_DISALLOW = {
     "a group of its own": (b"User-agent: *\nDisallow: /\n\nUser-agent: Ferris\nDisallow:", b"allow Ferris /a", None),
     "the end of a list of names": (b"User-agent: Ferris\nDisallow:\nUser-agent: *\nDisallow: /", b"allow Ferris /a", None),
     "no user-agent line": (b"Disallow:\nDisallow: /", b"allow Ferris /a", f"Ferris must be allowed /a, but {OTHERWISE} 2 denies it"),
-    "the group of Googlebot": (b"User-agent: Googlebot\nDisallow: /\nDisallow:\n\nUser-agent: *\nDisallow: /b", b"allow Googlebot-News /a", f"Googlebot-News must be allowed /a, {GOOGLEBOT} Googlebot-News, and {OTHERWISE} 2 denies it"),
+    "the group of Googlebot": (b"User-agent: Googlebot\nDisallow: /\nDisallow:\n\nUser-agent: *\nDisallow: /b", b"allow Googlebot-News /a", f"Googlebot-News must be allowed /a, {GOOGLEBOT}, and {OTHERWISE} 2 denies it"),
     "a file past the size limit": (b"User-agent: *\nDisallow: /\nDisallow:\n" + b"#" * 512_000 + b"\nAllow: /", b"allow Ferris /a", f"Ferris must be allowed /a, but {OTHERWISE} 2 denies it"),
     "a byte order mark and a NUL": (b"\xef\xbb\xbfUser-agent: *\nDisallow: /\0Disallow:\0", b"allow Ferris /a", f"Ferris must be allowed /a, but {OTHERWISE} 2 denies it"),
 }
@@ -145,6 +159,12 @@ MALFORMED = {
     "a URL that isn't UTF-8": (b"\ndeny Googlebot /\xe9", 2, NOT_UTF_8),
     "a name that isn't UTF-8": (b"deny Google\xe9 /", 1, NOT_UTF_8),
     "a version": (b"allow Googlebot/2.1 /tea", 1, AGENT),
+    "a version in quotes": (b'allow "Some Bot 2.1" /tea', 1, AGENT),
+    "a space at the end of a name": (b'allow "Googlebot " /tea', 1, AGENT),
+    "nothing in quotes": (b'allow "" /tea', 1, AGENT),
+    "quotes that aren't closed": (b'allow "Some Bot /tea', 1, FORM),
+    "no quotes": (b"allow Some Bot /tea", 1, FORM),
+    "all in quotes": (b'"allow" Googlebot /tea', 1, FORM),
     "a letter that no product token has": (b"allow Caf\xc3\xa9Bot /tea", 1, AGENT),
     "a star after a name": (b"allow Googlebot* /tea", 1, AGENT),
     "two stars": (b"allow ** /tea", 1, AGENT),
@@ -192,10 +212,16 @@ def test_urls_in_the_form_that_crawlers_ask_for(tmp_path, url):
     assert outcome(check(tmp_path, b"allow Googlebot " + url)) == (0, "1 expectation holds\n", "")
 
 
-@pytest.mark.parametrize("text, line", (FAILING_AT_GOOGLE | AT_GOOGLE).values(), ids=FAILING_AT_GOOGLE | AT_GOOGLE)
-def test_crawler_of_google(tmp_path, text, line):
+@pytest.mark.parametrize("text, line", (FAILING_AT_VENDOR | AT_VENDOR).values(), ids=FAILING_AT_VENDOR | AT_VENDOR)
+def test_group_that_a_vendor_applies(tmp_path, text, line):
     expected = (1, f"expect.txt:1: {line}\n", "") if line else (0, "1 expectation holds\n", "")
-    assert outcome(check(tmp_path, text, robots=GOOGLE)) == expected
+    assert outcome(check(tmp_path, text, robots=VENDORS)) == expected
+
+
+@pytest.mark.parametrize("text, line", NAMES_IN_QUOTES.values(), ids=NAMES_IN_QUOTES)
+def test_name_in_quotes(tmp_path, text, line):
+    expected = (1, f"expect.txt:1: {line}\n", "") if line else (0, "1 expectation holds\n", "")
+    assert outcome(check(tmp_path, text, robots=b"User-agent: Some Bot\nDisallow: /a\n")) == expected
 
 
 @pytest.mark.parametrize("robots, text, line", EMPTY_DISALLOW.values(), ids=EMPTY_DISALLOW)
@@ -211,7 +237,7 @@ def test_normal_forms(tmp_path, rules, text, line):
 
 
 def test_normal_forms_of_the_group_of_googlebot(tmp_path):
-    line = f"expect.txt:1: Googlebot-News must be allowed /%62, {GOOGLEBOT} Googlebot-News, and {NORMALLY} line 2 denies it\n"
+    line = f"expect.txt:1: Googlebot-News must be allowed /%62, {GOOGLEBOT}, and {NORMALLY} line 2 denies it\n"
     result = check(tmp_path, b"allow Googlebot-News /%62", robots=b"User-agent: Googlebot\nDisallow: /b\n")
     assert outcome(result) == (1, line, "")
 
@@ -224,7 +250,7 @@ def test_a_url_is_asked_without_its_fragment(tmp_path, text, line):
 
 def test_file_that_is_rejected_for_googlebot(tmp_path):
     robots = b"User-agent: Googlebot\nDisallow: /" + b"x" * 4096 + b"$\n"
-    line = f"expect.txt:1: Googlebot-News must be allowed /tea, {GOOGLEBOT} Googlebot-News, and the file is rejected for Googlebot: line 2\n"
+    line = f"expect.txt:1: Googlebot-News must be allowed /tea, {GOOGLEBOT}, and the file is rejected for Googlebot: line 2\n"
     assert outcome(check(tmp_path, b"allow Googlebot-News /tea", robots=robots)) == (1, line, "")
 
 

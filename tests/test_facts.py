@@ -97,21 +97,25 @@ def test_characters_that_change_the_writing_direction():
     assert sentence.count(" to ") == turning.count("..=") - 1  # U+200E and U+200F are two
 
 
-GOOGLE = {row[1]: re.findall(r"`([^`]+)`", row[0]) for row in tables(PROGRAMS)}
-LIKE_GOOGLEBOT, IGNORING_STAR = GOOGLE["the group of `Googlebot`; if there is none, that of `*`, as here"], GOOGLE["no group, not even that of `*`"]
+KNOWN = re.search(r"static CRAWLERS: .*?\n\];", source("robots_warnings/src/crawlers.rt"), re.S)[0]
+CRAWLERS = dict(re.findall(r'\("([^"]+)", "([^"]*)"\)', KNOWN))  # with the group that the vendor of each applies
 
 
-def test_crawlers_of_google():
-    lists = re.findall(r"const \w+: \[&str; \d\] = \[(.*?)\];", source("robots_warnings/src/google.rt"), re.S)
-    assert [LIKE_GOOGLEBOT, IGNORING_STAR] == [re.findall(r'"([^"]+)"', names) for names in lists]
+def test_table_of_known_crawlers():
+    """Each name is there once, ASCII case ignored, and each group is that of a known crawler, and below a source."""
+    assert len(CRAWLERS) == len({name.lower() for name in CRAWLERS}) == KNOWN.count('("') == int(re.search(r"&str\); (\d+)\]", KNOWN)[1])
+    for name, group in CRAWLERS.items():
+        assert group in ("*", "") or CRAWLERS[group] == "*", name
+    for block in re.findall(r"((?:    //.*\n)+)((?:    \(.*\n?)+)", KNOWN):
+        assert "https://" in block[0] or set(re.findall(r'"([^"]*)"\)', block[1])) == {"*"}, block[1]
 
 
-@pytest.mark.parametrize("name", [*LIKE_GOOGLEBOT, *IGNORING_STAR])
-def test_crawler_of_google_has_its_note(name):
+@pytest.mark.parametrize("name", [name for name, group in CRAWLERS.items() if group != "*"])
+def test_crawler_with_another_group_has_its_note(name):
     """The specification takes the names from the source, so no proof sees a wrong one."""
-    note, group = ("googlebot-group", "Googlebot") if name in LIKE_GOOGLEBOT else ("google-ignores-star", "*")
+    note, group = ("googlebot-group", CRAWLERS[name]) if CRAWLERS[name] else ("google-ignores-star", "*")
     result = run("robots_audit", ["-q", name], f"User-agent: {group}\nDisallow: /a\n".encode())
-    assert f" [{note}]\n" in result.err
+    assert f" [{note}]\n" in result.err and (group == "*" or f" (see the group of {group})" in result.err)
     result = run("robots_audit", ["-q", name], f"User-agent: {group}\nUser-agent: {name}\nDisallow: /a\n".encode())
     assert result.err == ""
 

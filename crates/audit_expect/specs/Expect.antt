@@ -1,5 +1,6 @@
 -- The lines of a text and the entries in them, and the expectations in the file of `--expect`, one per line.
-use Rattle.std.specs.Prelude.{◌≡◌, ℕ, nat_eq, suc, ◌==◌, Bool, false, not, ◌&&◌, ◌||◌, List, [], ◌∷◌, ◌++◌, Option}
+use Rattle.std.specs.Prelude.{◌≡◌, ℕ, nat_eq, suc, ◌==◌, Bool, false, not, ◌&&◌, ◌||◌, List, [], ◌∷◌, ◌++◌}
+use Rattle.std.specs.Prelude.{Option}
 use Rattle.std.specs.Prelude.{Some, None, Result, Ok, Err, bytes_eq, codes, filter, if◌then◌else◌}
 use Rattle.std.specs.Prelude.{length, string_bytes}
 use Rattle.std.specs.{Result.result_err, List.list_any, List.starts_with, Str.byte, Str.is_utf8}
@@ -44,8 +45,8 @@ words line = filter is_word (parts word_separators line)
 abbrev pub quote : ℕ
 quote = byte "\""
 
--- the same words, but if one precedes the first quotation mark, what is between this and the next one is a word,
--- too, with its spaces
+-- the same words, but if one precedes the first quotation mark, what is between this and the next one is a
+-- word, too, with its spaces
 abbrev pub words_with_name : List ℕ → List (List ℕ)
 words_with_name line =
     let first = words (before_byte quote line) in

@@ -22,8 +22,8 @@ use Rattle.audit_expect.specs.{OtherReading.IsOtherDecision}
 -- ---- what the robots.txt file says
 
 -- the file is rejected for the crawler, and this is the line of its first overlong rule; or these are the
--- decisions on the URL: where an empty Disallow is an Allow of `/`, as here; where it is no rule; and where it is
--- no rule and normal forms are compared
+-- decisions on the URL: where an empty Disallow is an Allow of `/`, as here; where it is no rule; and where
+-- it is no rule and normal forms are compared
 abbrev pub IsJudgmentOn : List ℕ → List ℕ → List ℕ → Judgment → Type 0
 IsJudgmentOn file agent url (Rejected line) = IsFirstOverlong (placed_rules agent (lines_read file)) line
 IsJudgmentOn file agent url (Decided decision other normal) =
@@ -32,8 +32,8 @@ IsJudgmentOn file agent url (Decided decision other normal) =
     × IsOtherDecision (bodies_read file) rules (asked_target url) other
     × IsNormalDecision (bodies_read file) rules (asked_target url) normal
 
--- which group the vendor of the crawler applies: the one that applies here; or the one with this name, for which
--- this is the judgment, as names are compared here; or none, so everything is allowed
+-- which group the vendor of the crawler applies: the one that applies here; or the one with this name, for
+-- which this is the judgment, as names are compared here; or none, so everything is allowed
 abbrev pub IsAtVendor : List ℕ → List ℕ → List ℕ → AtVendor → Type 0
 IsAtVendor file agent url Same = other_group (lines_read file) agent ≡ None
 IsAtVendor file agent url (Group name judgment) =

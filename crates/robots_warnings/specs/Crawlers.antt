@@ -1,7 +1,7 @@
 -- Known crawlers: which group the vendor of each applies to it, and which one a similar name may mean.
-use Rattle.std.specs.Prelude.{ℕ, ◌+◌, ◌==◌, Bool, false, not, ◌&&◌, ◌||◌, List, [], Option, None, bytes_eq, codes}
-use Rattle.std.specs.Prelude.{find, if◌then◌else◌, length, map, nat_eq, nat_le, nat_lt, option_map, slice_index_or}
-use Rattle.std.specs.Prelude.{take}
+use Rattle.std.specs.Prelude.{ℕ, ◌+◌, ◌==◌, Bool, false, not, ◌&&◌, ◌||◌, List, [], Option, None, bytes_eq}
+use Rattle.std.specs.Prelude.{codes, find, if◌then◌else◌, length, map, nat_eq, nat_le, nat_lt, option_map}
+use Rattle.std.specs.Prelude.{slice_index_or, take}
 use Rattle.std.specs.List.{before_first, list_any, position_from}
 use Rattle.std.specs.Str.{str_eq_ignore_ascii_case, str_to_ascii_lowercase}
 use Rattle.strsim.specs.Edits.{levenshtein_row}
@@ -26,8 +26,8 @@ row_at number = slice_index_or crawlers number ([], [])
 abbrev pub is_given : List (List ℕ) → List ℕ → Bool
 is_given agents name = list_any (λ agent. str_eq_ignore_ascii_case name agent) agents
 
--- the line is a user-agent line in which a vendor reads the name of this crawler: the letters, `_` and `-` that
--- the value starts with, such as `Googlebot` of `Googlebot/2.1` and of `Googlebot*`
+-- the line is a user-agent line in which a vendor reads the name of this crawler: the letters, `_` and `-`
+-- that the value starts with, such as `Googlebot` of `Googlebot/2.1` and of `Googlebot*`
 abbrev pub is_line_at_vendor : List ℕ → LineValue → Bool
 is_line_at_vendor agent (UserAgent value) = str_eq_ignore_ascii_case (before_first ends_token value) agent
 is_line_at_vendor agent _ = false
@@ -36,8 +36,8 @@ is_line_at_vendor agent _ = false
 abbrev pub is_named_at_vendor : List ℕ → List LineValue → Bool
 is_named_at_vendor agent lines = list_any (is_line_at_vendor agent) lines
 
--- to a crawler without a group of its own, its vendor applies the group with this name, which there is; or, for
--- an empty name, no group, although there is one of `*`
+-- to a crawler without a group of its own, its vendor applies the group with this name, which there is; or,
+-- for an empty name, no group, although there is one of `*`
 abbrev pub gets_other : List LineValue → (agent group : List ℕ) → Bool
 gets_other lines agent group =
     not (bytes_eq group (codes "*"))
@@ -52,15 +52,15 @@ is_other_for lines agent row = str_eq_ignore_ascii_case row.0 agent && gets_othe
 abbrev pub other_in : List LineValue → List ℕ → List Row → Option (List ℕ)
 other_in lines agent rows = option_map (λ (row : Row). row.1) (find (is_other_for lines agent) rows)
 
--- the name of the group that the vendor of a known crawler applies to it, or an empty one for no group, if it is
--- another group than the one that applies here
+-- the name of the group that the vendor of a known crawler applies to it, or an empty one for no group, if it
+-- is another group than the one that applies here
 abbrev pub other_group : List LineValue → List ℕ → Option (List ℕ)
 other_group lines agent = other_in lines agent crawlers
 
 -- ---- similar names
 
--- the value of a user-agent line is this name, or the letters, `_` and `-` that it starts with are, ASCII letters
--- in any case
+-- the value of a user-agent line is this name, or the letters, `_` and `-` that it starts with are, ASCII
+-- letters in any case
 abbrev pub has_name : List ℕ → List ℕ → Bool
 has_name value name =
     str_eq_ignore_ascii_case value name || str_eq_ignore_ascii_case (before_first ends_token value) name
@@ -74,15 +74,16 @@ is_wrong_name value name =
 abbrev pub most_edits : List ℕ → ℕ
 most_edits name = if nat_lt (length name) 5 then 0 else if nat_lt (length name) 9 then 1 else 2
 
--- the value begins with the letter that the name begins with, and is made of it by so many edits, ASCII letters in
--- any case
+-- the value begins with the letter that the name begins with, and is made of it by so many edits, ASCII
+-- letters in any case
 abbrev pub is_near : List ℕ → List ℕ → Bool
 is_near value name =
     let most = most_edits name in
+    let lowered = str_to_ascii_lowercase in
+    let edits = levenshtein_row nat_eq (lowered value) (lowered name) (length name) in
     str_eq_ignore_ascii_case (take 1 value) (take 1 name)
     && ((nat_le (length value) (length name + most) && nat_le (length name) (length value + most))
-    && nat_le (levenshtein_row nat_eq (str_to_ascii_lowercase value) (str_to_ascii_lowercase name) (length name))
-    most)
+    && nat_le edits most)
 
 -- the value of a user-agent line probably means the crawler in this row
 unfoldable pub is_meant : List ℕ → Row → Bool

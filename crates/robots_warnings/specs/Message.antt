@@ -66,13 +66,14 @@ abbrev pub reason_part : Cause → Option (List ℕ) → PartValue
 reason_part cause None = Only (fixed_text cause)
 reason_part cause (Some name) = Part (label (codes "': ") refl) (Word (fixed_text cause))
 
--- how many rules the message is about, the line of another rule, the name of the group that a crawler's vendor
--- applies, that of the crawler that may be meant, or how many other crawlers the message is about
+-- how many rules the message is about, the line of another rule, the name of the group that a crawler's
+-- vendor applies, that of the crawler that may be meant, or how many other crawlers the message is about
 abbrev pub detail_part : Option Detail → PartValue
 detail_part None = Absent
 detail_part (Some (Rules count)) = Part (label (codes " (") refl) (Number count)
 detail_part (Some (Line number)) = Part (label (codes " (see line ") refl) (Number number)
-detail_part (Some (Group number)) = Part (label (codes " (see the group of ") refl) (Untrusted (row_at number).1)
+detail_part (Some (Group number)) =
+    Part (label (codes " (see the group of ") refl) (Untrusted (row_at number).1)
 detail_part (Some (Meant number)) = Part (label (codes " (did you mean ") refl) (Untrusted (row_at number).0)
 detail_part (Some (Others count)) = Part (label (codes " (and ") refl) (Number count)
 

@@ -149,15 +149,16 @@ name_warning label = warned_of_name label.number (meant_in label.line)
 abbrev pub name_warnings : List Label → List WarningValue
 name_warnings labels = flat_map name_warning labels
 
--- the reason and the end of the message about a crawler, at this index, to which its vendor applies the group with
--- this name, or none if it is empty
+-- the reason and the end of the message about a crawler, at this index, to which its vendor applies the group
+-- with this name, or none if it is empty
 abbrev pub other_cause : (group : List ℕ) → Cause
 other_cause group = if length group == 0 then GoogleIgnoresStar else GooglebotGroup
 
 abbrev pub other_detail : ℕ → (group : List ℕ) → Option Detail
 other_detail number group = if length group == 0 then None else Some (Group number)
 
--- the warning about the known crawler at this index, if it is among these and its vendor applies another group
+-- the warning about the known crawler at this index, if it is among these and its vendor applies another
+-- group
 abbrev pub vendor_warning : (everywhere : Bool) → List (List ℕ) → List LineValue → ℕ → Row → List WarningValue
 vendor_warning everywhere agents lines number row =
     if is_given agents row.0 && gets_other lines row.0 row.1

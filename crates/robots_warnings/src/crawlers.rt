@@ -1,5 +1,6 @@
 //! Known crawlers: which group the vendor of each applies to it, and which one a similar name may mean.
 ghost use Rattle.std.specs.Prelude.{◌≡◌, ◌&&◌, [], IfOk, bytes_eq, map, option_map, slice_index_or};
+ghost use Rattle.std.specs.Prelude.{string_bytes};
 ghost use Rattle.std.specs.List.{list_any, position_from};
 ghost use Rattle.std.specs.Str.{str_eq_ignore_ascii_case};
 ghost use Rattle.texting_robots.specs.Callers.{by_value, file_lines};
@@ -15,8 +16,9 @@ use strsim::generic_levenshtein;
 use texting_robots::parser::{Line, file_lines};
 use texting_robots::site::Site;
 
-/// A crawler's name, and that of the group that its vendor applies to it if a file has none of its own: that of `*`,
-/// that of another crawler (and if there is none either, that of `*`), or, for an empty name, no group.
+/// A crawler's name, and that of the group that its vendor applies to it if a file has none of its own: that
+/// of `*`, that of another crawler (and if there is none either, that of `*`), or, for an empty name, no
+/// group.
 pub(crate) type Crawler = (&'static str, &'static str);
 
 /// The known crawlers. Above each block is where its vendor, or those of its crawlers, say so.
@@ -155,8 +157,8 @@ fn is_named_at_vendor(site: &Site, agent: &str) -> bool
     false
 }
 
-/// Whether the crawler has no group of its own, and its vendor applies the group with this name, which there is; or,
-/// for an empty name, no group, although there is one of `*`.
+/// Whether the crawler has no group of its own, and its vendor applies the group with this name, which there
+/// is; or, for an empty name, no group, although there is one of `*`.
 pub(crate) fn gets_other(site: &Site, agent: &str, group: &str) -> bool
     ensures { result ≡ gets_other (file_lines site.now) agent.now group.now }
 {
@@ -191,8 +193,8 @@ fn other_in(rows: &'static [Crawler], site: &Site, agent: &str) -> Option<&'stat
     None
 }
 
-/// The name of the group that the vendor of a known crawler applies to it, or an empty one for no group, if it
-/// isn't the group that applies here.
+/// The name of the group that the vendor of a known crawler applies to it, or an empty one for no group, if
+/// it isn't the group that applies here.
 pub fn other_group(site: &Site, agent: &str) -> Option<&'static str>
     ensures { option_map (λ group. group.now) result ≡ other_group (file_lines site.now) agent.now }
 {
@@ -209,8 +211,8 @@ fn has_name(value: &[u8], name: &str) -> bool
 
 /// Whether one of these pairs is that of the value, ASCII letters in any case, and the name.
 fn is_pair(pairs: &[(&str, &str)], value: &[u8], name: &str) -> bool
-    ensures { result ≡ list_any (λ row. str_eq_ignore_ascii_case row.0.now value.now && bytes_eq row.1.now name.now)
-        pairs.now }
+    ensures { result ≡ list_any
+        (λ row. str_eq_ignore_ascii_case row.0.now value.now && bytes_eq row.1.now name.now) pairs.now }
 {
     pairs.iter().any(|row| row.0.as_bytes().eq_ignore_ascii_case(value) && row.1 == name)
 }
@@ -270,7 +272,8 @@ fn first_meant(alloc: Global, rows: &[Crawler], value: &[u8]) -> Result<Option<u
     Ok(None)
 }
 
-/// The index of the crawler that the value of a user-agent line probably means, if no known one has this name.
+/// The index of the crawler that the value of a user-agent line probably means, if no known one has this
+/// name.
 fn meant(alloc: Global, value: &[u8]) -> Result<Option<usize>, AllocError>
     ensures { IfOk result (λ found. found ≡ meant value.now) }
 {
