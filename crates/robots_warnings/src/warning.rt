@@ -119,7 +119,6 @@ fn detail_end(detail: Option<Detail>) -> Part<'static>
         Some(Detail::Rules(_)) => Part(" in all)", Value::Nothing),
         Some(Detail::Line(_) | Detail::Group(_)) => Part(")", Value::Nothing),
         Some(Detail::Meant(_)) => Part("?)", Value::Nothing),
-        Some(Detail::Line(_)) => Part(")", Value::Nothing),
         Some(Detail::Others(1)) => Part(" other crawler)", Value::Nothing),
         Some(Detail::Others(_)) => Part(" other crawlers)", Value::Nothing),
         None => Part("", Value::Nothing),
