@@ -12,7 +12,7 @@ pub(crate) static MESSAGES: [(Cause, &str); 69] = [
     (Cause::NoDirectives,
         "no usable User-agent, Allow, Disallow, Crawl-delay or Sitemap line found, so everything is allowed; write one directive per line, for example: Disallow: /search"),
     (Cause::EmptyFile,
-        "the file is empty, so every URL may be fetched; name the right file with --file, or, if that is meant, write User-agent: * and an empty Disallow"),
+        "the file is empty, so every URL may be fetched; name the right file, or, if that is meant, write User-agent: * and an empty Disallow"),
     (Cause::FileTooLarge,
         "the file is larger than 512,000 bytes (500 KiB); the rest is ignored; shorten it or move important groups to the top"),
     (Cause::NoUserAgent,
@@ -143,9 +143,9 @@ pub(crate) static MESSAGES: [(Cause, &str); 69] = [
     (Cause::RepeatedRule,
         "the same rule is above in the same group, so this one changes no verdict; delete it, or correct it if another path is meant"),
     (Cause::GooglebotGroup,
-        "AGENT has no group of its own, so Google applies the group of Googlebot to it, and that may not be the one that is reported here; pass Googlebot as AGENT, or add a group"),
+        "this crawler has no group of its own, so Google applies the group of Googlebot to it, and that may not be the one that is reported here; pass --agent Googlebot, or add a group"),
     (Cause::GoogleIgnoresStar,
-        "AGENT has no group of its own, and Google doesn't apply the group of * to this crawler, so it may fetch everything; add a group for it"),
+        "this crawler has no group of its own, and Google doesn't apply the group of * to it, so it may fetch everything; add a group for it"),
     // a rule that can be deleted
     (Cause::NeverDecides,
         "this rule never decides, since another one matches everything that it matches and takes precedence; correct it if it should decide, or delete it together with all other needless rules"),
@@ -157,21 +157,21 @@ pub(crate) static MESSAGES: [(Cause, &str); 69] = [
         "this rule isn't needed: if all needless rules are deleted, the verdicts stay the same, since another one of its kind matches everything that it matches; delete it together with the others, or correct it"),
 ];
 
-/// For each warning, in the order of [`WARNINGS`](crate::table::WARNINGS), a file that triggers it for FerrisBot, or with
-/// the arguments in its first line, or a command. In a file, `\xFF` is a byte, and `\{512000 a}` is 512,000 times an `a`.
+/// For each warning, in the order of [`WARNINGS`](crate::table::WARNINGS), a file that triggers it, as robots.txt in the
+/// command in its first line, or a command. In a file, `\xFF` is a byte, and `\{512000 a}` is 512,000 times an `a`.
 #[rattlefmt::skip]
 pub(crate) static EXAMPLES: [(Cause, &str); 69] = [
     // the file
     (Cause::LooksLikeHtml, "<html>\n</html>"),
     (Cause::LooksLikeUtf16, "\\xFF\\xFED\\x00"),
     (Cause::NoDirectives, "hello\nworld"),
-    (Cause::EmptyFile, "robots_audit FerrisBot < /dev/null"),
+    (Cause::EmptyFile, "robots_audit /dev/null"),
     (Cause::FileTooLarge, "Disallow: /\\{512000 a}"),
     (Cause::NoUserAgent, "Disallow: /a\nDisallow: /b"),
     (Cause::DamagedByteOrderMark, "\\xEF\\xBBAllow: /"),
     (Cause::NulEndsLine, "Allow: /\\x00"),
     // a URL
-    (Cause::UrlNotNormal, "robots_audit FerrisBot /%c3"),
+    (Cause::UrlNotNormal, "robots_audit robots.txt /%c3"),
     // an ignored line
     (Cause::InvalidDelay, "User-agent: *\nCrawl-delay: ten"),
     (Cause::NoindexLine, "User-agent: *\nNoindex: /a"),
@@ -236,11 +236,11 @@ pub(crate) static EXAMPLES: [(Cause, &str); 69] = [
     (Cause::ClosesEverything, "User-agent: *\nDisallow: /"),
     (Cause::ReplacesStar, "User-agent: *\nDisallow: /a\nUser-agent: FerrisBot\nDisallow: /b"),
     (Cause::RepeatedRule, "User-agent: *\nDisallow: /a\nDisallow: /a"),
-    (Cause::GooglebotGroup, "# robots_audit Googlebot-News\nUser-agent: Googlebot\nDisallow: /a"),
-    (Cause::GoogleIgnoresStar, "# robots_audit AdsBot-Google\nUser-agent: *\nDisallow: /a"),
+    (Cause::GooglebotGroup, "# robots_audit robots.txt --agent Googlebot-News\nUser-agent: Googlebot\nDisallow: /a"),
+    (Cause::GoogleIgnoresStar, "# robots_audit robots.txt --agent AdsBot-Google\nUser-agent: *\nDisallow: /a"),
     // a rule that can be deleted
-    (Cause::NeverDecides, "# robots_audit --needless FerrisBot\nUser-agent: *\nDisallow: /*b\nDisallow: /b"),
-    (Cause::MatchesNothing, "# robots_audit --needless FerrisBot\nUser-agent: *\nDisallow: /a\nDisallow: /$b"),
-    (Cause::AllowedAnyway, "# robots_audit --needless FerrisBot\nUser-agent: *\nDisallow: /a\nAllow: /b"),
-    (Cause::NotNeeded, "# robots_audit --needless FerrisBot\nUser-agent: *\nDisallow: /a\nDisallow: /ab"),
+    (Cause::NeverDecides, "# robots_audit robots.txt --needless\nUser-agent: *\nDisallow: /*b\nDisallow: /b"),
+    (Cause::MatchesNothing, "# robots_audit robots.txt --needless\nUser-agent: *\nDisallow: /a\nDisallow: /$b"),
+    (Cause::AllowedAnyway, "# robots_audit robots.txt --needless\nUser-agent: *\nDisallow: /a\nAllow: /b"),
+    (Cause::NotNeeded, "# robots_audit robots.txt --needless\nUser-agent: *\nDisallow: /a\nDisallow: /ab"),
 ];
