@@ -1,17 +1,19 @@
 -- Whatever the error is, its message is printable.
-use Rattle.std.proofs.Common.{◌∷◌, []}
+use Rattle.std.proofs.Common.{true, ◌∷◌, []}
 use Rattle.std.specs.Prelude.{string_bytes}
 use Rattle.printable_text.specs.Sanitize.{IsPrintable}
-use Rattle.printable_text.proofs.{SanitizeLemmas.sanitized_lines_printable, PartLemmas.written_printable}
+use Rattle.printable_text.proofs.SanitizeLemmas.{nil_printable, sanitized_lines_printable}
+use Rattle.printable_text.proofs.PartLemmas.{written_printable}
 use Rattle.audit_core.specs.declared.fault.Fault.{Fault}
-use Rattle.audit_core.specs.declared.fault.Fault.TheVariants.{Argument, Empty, File, Malformed, Memory}
-use Rattle.audit_core.specs.declared.fault.Fault.TheVariants.{NotUtf8, Read, StdinTwice, UnknownWarning}
-use Rattle.audit_core.specs.declared.fault.Fault.TheVariants.{Usage, Words, Write}
-use Rattle.audit_core.specs.Fault.{fault_line, fault_text}
+use Rattle.audit_core.specs.declared.fault.Fault.TheVariants.{Argument, Closed, Empty, File, Malformed}
+use Rattle.audit_core.specs.declared.fault.Fault.TheVariants.{Memory, NotUtf8, Read, StdinTwice}
+use Rattle.audit_core.specs.declared.fault.Fault.TheVariants.{UnknownWarning, Usage, Words, Write}
+use Rattle.audit_core.specs.Fault.{example_lines, fault_line, fault_text}
 
 pub fault_printable : (fault : Fault) → IsPrintable (fault_text fault)
 fault_printable (Words text) = sanitized_lines_printable (string_bytes text)
-fault_printable Usage = written_printable (fault_line Usage ∷ [])
+fault_printable Closed = nil_printable true
+fault_printable Usage = written_printable (fault_line Usage ∷ example_lines)
 fault_printable NotUtf8 = written_printable (fault_line NotUtf8 ∷ [])
 fault_printable (UnknownWarning name) = written_printable (fault_line (UnknownWarning name) ∷ [])
 fault_printable (File name) = written_printable (fault_line (File name) ∷ [])

@@ -4,9 +4,10 @@ use Rattle.std.specs.Prelude.{◌≡◌, ℕ, true, false, List, [], Option, Res
 use Rattle.std.specs.Prelude.{string_bytes}
 use Rattle.std.specs.Io.KnownBytes.{Appends, Keeps}
 use Rattle.robots_io.specs.Streams.{AppendsBeginning}
+use Rattle.robots_io.specs.declared.streams.WriteFault.{WriteFault}
 use Rattle.audit_core.specs.declared.answer.{Answer.Answer, Outcome.Outcome}
 use Rattle.audit_core.specs.declared.fault.Fault.{Fault}
-use Rattle.audit_core.specs.declared.fault.Fault.TheVariants.{Write}
+use Rattle.audit_core.specs.Fault.{fault_of_write}
 
 -- the answer is a text, such as the help; there are no warnings, and the exit status is 0
 pub record IsText (text : List ℕ) (answer : Answer) : Type 0 where
@@ -20,7 +21,7 @@ pub record IsText (text : List ℕ) (answer : Answer) : Type 0 where
 pub record WritesReport (answer : Answer) (old new : Option (List ℕ)) (result : Result Outcome Fault)
     : Type 0 where
   pub ok : IfOk result (λ outcome. (outcome ≡ answer.outcome) × Appends old new answer.report.items)
-  pub fault : IfErr result (λ fault. fault ≡ Write)
+  pub fault : IfErr result (λ fault. (cause : WriteFault) × (fault ≡ fault_of_write cause))
   pub beginning : AppendsBeginning old new answer.report.items
 
 -- after an error nothing is written

@@ -1,17 +1,20 @@
 -- The message for each error, and the exit status.
-use Rattle.std.specs.Prelude.{ℕ, not, List, [], ◌∷◌, Result, Ok, Err, codes, if◌then◌else◌, string_bytes, ◌≡◌}
+use Rattle.std.specs.Prelude.{◌≡◌, ℕ, Bool, true, false, not, List, [], ◌∷◌, Result, Ok, Err, codes}
+use Rattle.std.specs.Prelude.{if◌then◌else◌, string_bytes}
 use Rattle.std.proofs.Common.{refl}
 use Rattle.printable_text.specs.Sanitize.{sanitized_lines}
-use Rattle.robots_io.specs.declared.streams.ReadFault.{ReadFault}
+use Rattle.robots_io.specs.declared.streams.{ReadFault.ReadFault, WriteFault.WriteFault}
 use Rattle.robots_io.specs.declared.streams.ReadFault.TheVariants as read
-use Rattle.printable_text.specs.Text.{Named, Number, Part, PartValue, ReportLine, Untrusted, Value, label}
-use Rattle.printable_text.specs.Text.{line_from, only, value_text, word, written}
+use Rattle.robots_io.specs.declared.streams.WriteFault.TheVariants as write
+use Rattle.robots_warnings.specs.Urls.{begins_as_url}
+use Rattle.printable_text.specs.Text.{Absent, Named, Number, Part, PartValue, ReportLine, Untrusted, Value}
+use Rattle.printable_text.specs.Text.{label, line_from, only, value_text, word, written}
 use Rattle.audit_core.specs.declared.answer.Outcome.{Outcome}
 use Rattle.audit_core.specs.declared.fault.{Entry.Entry, Fault.Fault, Flaw.Flaw}
 use Rattle.audit_core.specs.declared.fault.Entry.TheVariants.{Expectation, Url}
-use Rattle.audit_core.specs.declared.fault.Fault.TheVariants.{Argument, Empty, File, Malformed, Memory}
-use Rattle.audit_core.specs.declared.fault.Fault.TheVariants.{NotUtf8, Read, StdinTwice, UnknownWarning}
-use Rattle.audit_core.specs.declared.fault.Fault.TheVariants.{Usage, Words, Write}
+use Rattle.audit_core.specs.declared.fault.Fault.TheVariants.{Argument, Closed, Empty, File, Malformed}
+use Rattle.audit_core.specs.declared.fault.Fault.TheVariants.{Memory, NotUtf8, Read, StdinTwice}
+use Rattle.audit_core.specs.declared.fault.Fault.TheVariants.{UnknownWarning, Usage, Words, Write}
 use Rattle.audit_core.specs.declared.fault.Flaw.TheVariants as flaw
 
 -- ---- messages
@@ -25,9 +28,12 @@ other_path =
 abbrev pub flaw_value : Flaw → Value
 flaw_value flaw.Form = word (codes "write \"allow AGENT URL\" or \"deny AGENT URL\"") refl
 flaw_value flaw.NotUtf8 = word (codes "the line isn't valid UTF-8") refl
-flaw_value flaw.Agent = word (codes "AGENT isn't a product token without a version, such as Googlebot") refl
+flaw_value flaw.Agent =
+    word (codes "a crawler's name is a product token without a version, such as Googlebot") refl
 flaw_value flaw.Url =
     word (codes "URL is neither a path that starts with / nor a valid http:// or https:// URL") refl
+flaw_value flaw.Name =
+    word (codes "URL is neither a path that starts with / nor a URL; for a crawler, write --agent NAME") refl
 flaw_value flaw.Path = word other_path refl
 
 abbrev pub flaw_text : Flaw → List ℕ
@@ -43,16 +49,25 @@ entry_text entry = value_text (entry_value entry)
 
 -- the usage, which follows an error in the arguments that `clap` doesn't report
 abbrev pub usage : PartValue
-usage = only (codes "; usage: robots_audit [-f FILE] [OPTIONS] AGENT [URL]..") refl
+usage = only (codes "; usage: robots_audit [OPTIONS] FILE [URL]..") refl
+
+-- what to do if the name of a file is a URL
+abbrev pub fetch_part : (is_url : Bool) → PartValue
+fetch_part true =
+    only (codes "; a URL isn't a file, try: curl -s https://example.com/robots.txt | robots_audit -") refl
+fetch_part false = Absent
 
 -- the message for an error, after the name of the program; `clap` has messages of its own
 abbrev pub fault_parts : Fault → List PartValue
 fault_parts (Words text) = []
-fault_parts Usage = only (codes ": missing AGENT (use --agent or --agents)") refl ∷ usage ∷ []
+fault_parts Closed = []
+fault_parts Usage = only (codes ": missing FILE") refl ∷ usage ∷ []
 fault_parts NotUtf8 = only (codes ": arguments must be valid UTF-8") refl ∷ usage ∷ []
 fault_parts (UnknownWarning name) =
     Part (label (codes ": unknown warning ") refl) (Named (string_bytes name)) ∷ usage ∷ []
-fault_parts (File name) = Part (label (codes ": cannot read ") refl) (Named (string_bytes name)) ∷ []
+fault_parts (File name) =
+    Part (label (codes ": cannot read ") refl) (Named (string_bytes name))
+    ∷ fetch_part (begins_as_url (string_bytes name)) ∷ []
 fault_parts (Malformed file line which) =
     Part (label (codes ": ") refl) (Untrusted (string_bytes file))
     ∷ Part (label (codes ":") refl) (Number line) ∷ Part (label (codes ": ") refl) (flaw_value which) ∷ []
@@ -63,7 +78,7 @@ fault_parts (Empty file entry) =
     Part (label (codes ": ") refl) (Untrusted (string_bytes file))
     ∷ Part (label (codes ": ") refl) (entry_value entry) ∷ []
 fault_parts StdinTwice =
-    only (codes ": standard input can't be both robots.txt and another file (use --file)") refl ∷ usage ∷ []
+    only (codes ": standard input can't be two files; give the name of one") refl ∷ usage ∷ []
 fault_parts Read = only (codes ": cannot read standard input") refl ∷ []
 fault_parts Write = only (codes ": cannot write the report") refl ∷ []
 fault_parts Memory = only (codes ": out of memory") refl ∷ []
@@ -71,9 +86,22 @@ fault_parts Memory = only (codes ": out of memory") refl ∷ []
 abbrev pub fault_line : Fault → ReportLine
 fault_line fault = line_from (only (codes "robots_audit") refl) refl (fault_parts fault)
 
--- the line for an error; the message of `clap` may have several lines
+abbrev example_of_a_pipe : PartValue
+example_of_a_pipe =
+    only (codes "example: curl -s https://example.com/robots.txt | robots_audit --agent Googlebot -") refl
+
+-- the examples that follow the usage if FILE is missing
+abbrev pub example_lines : List ReportLine
+example_lines =
+    line_from (only (codes "example: robots_audit robots.txt /search") refl) refl []
+    ∷ line_from example_of_a_pipe refl [] ∷ []
+
+-- the line for an error; the message of `clap` may have several lines, and there is none if the reader of the
+-- output has closed it
 abbrev pub fault_text : Fault → List ℕ
 fault_text (Words text) = sanitized_lines (string_bytes text)
+fault_text Closed = []
+fault_text Usage = written (fault_line Usage ∷ example_lines)
 fault_text fault = written (fault_line fault ∷ [])
 
 -- the message on standard error: the warnings, one per line, or the error
@@ -81,14 +109,16 @@ abbrev pub message_after : Result Outcome Fault → List ℕ
 message_after (Ok outcome) = string_bytes outcome.warnings
 message_after (Err fault) = fault_text fault
 
--- the exit status: 2 after an error, or if the file is rejected; 1 if some URL is denied, an expectation
--- fails or something differs; 3 if there is a warning at the level of `--strict` or a more serious one; else
--- 0
+-- the exit status: 2 after an error, or if the file is rejected; 3 if there is a warning at the level of
+-- `--strict` or a more serious one, since verdicts on a file with mistakes are in doubt; 1 if some URL is
+-- denied, an expectation fails or something differs; else 0; but 141 if the reader of the output has closed
+-- it, as of other programs, which the signal SIGPIPE ends
 abbrev pub status_after : Result Outcome Fault → ℕ
 status_after (Ok outcome) =
     if outcome.is_rejected then 2
-    else if not outcome.has_passed then 1
-    else if outcome.is_warned then 3 else 0
+    else if outcome.is_warned then 3
+    else if not outcome.has_passed then 1 else 0
+status_after (Err Closed) = 141
 status_after (Err fault) = 2
 
 -- ---- possible errors
@@ -98,7 +128,17 @@ abbrev pub fault_of_read : ReadFault → Fault
 fault_of_read read.Read = Read
 fault_of_read read.Memory = Memory
 
+-- the error of the program for a failed write
+abbrev pub fault_of_write : WriteFault → Fault
+fault_of_write write.Closed = Closed
+fault_of_write write.Write = Write
+
 -- the error reports that no warning has this name, or an allocation failed
 abbrev pub IsUnknown : List ℕ → Fault → Type 0
 IsUnknown name (UnknownWarning text) = string_bytes text ≡ name
 IsUnknown name fault = fault ≡ Memory
+
+-- the error shows that this argument is malformed in this way, or an allocation failed
+abbrev pub IsArgument : List ℕ → Flaw → Fault → Type 0
+IsArgument text flaw (Argument shown which) = (string_bytes shown ≡ text) × (which ≡ flaw)
+IsArgument text flaw fault = fault ≡ Memory

@@ -48,7 +48,8 @@ pub fn text_answer(alloc: Global, text: Vec<u8>) -> Answer
 ///
 /// # Errors
 ///
-/// `Fault::Write` if a write or a flush fails, or a write accepts no bytes.
+/// `Fault::Closed` if the reader of the output has closed it, and `Fault::Write` if a write or a flush fails in another
+/// way, or a write accepts no bytes.
 pub fn write_answer<W: Write>(
     answer: Result<Answer, Fault>,
     writer: &mut W,

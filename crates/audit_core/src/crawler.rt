@@ -2,12 +2,11 @@
 ghost use Rattle.std.specs.Prelude.{◌≡◌, IfErr, IsTrue, OnOk, map, not, option_map};
 ghost use Rattle.std.specs.{Char.is_ascii_digit, List.list_all, List.list_any, Str.byte};
 ghost use Rattle.robots_warnings.specs.Rules.{has};
-ghost use Rattle.audit_core.specs.Crawler.{single, IsNoCrawler, IsNoCrawlerIn, has_version, is_crawler_name};
-ghost use Rattle.audit_core.specs.Crawler.{is_own_name};
+ghost use Rattle.audit_core.specs.Crawler.{single, IsNoCrawlerIn, has_version, is_crawler_name, is_own_name};
 
-use crate::fault::{Fault, Flaw};
+use crate::fault::{Fault, Flaw, argument};
 use robots_warnings::tokens::{are_name_bytes, has_space_around};
-use std::alloc::{AllocError, Global};
+use std::alloc::Global;
 
 /// Whether the name has a dot.
 fn has_dot(name: &[u8]) -> bool
@@ -55,16 +54,6 @@ pub fn single<'a>(agents: &[&'a str]) -> Option<&'a str>
     }
 }
 
-/// The error for a name that no crawler has; `Fault::Memory` if an allocation fails.
-fn no_crawler(alloc: Global, name: &str) -> Fault
-    ensures { IsNoCrawler name.now result }
-{
-    match String::from_str(alloc, name) {
-        Ok(text) => Fault::Argument(text, Flaw::Agent),
-        Err(AllocError) => Fault::Memory,
-    }
-}
-
 /// Fails with the first of these names that no crawler has.
 pub fn are_crawlers(alloc: Global, names: &[&str]) -> Result<(), Fault>
     ensures ok { OnOk result (IsTrue (list_all is_crawler_name (map (λ name. name.now) names.now))) }
@@ -72,7 +61,7 @@ pub fn are_crawlers(alloc: Global, names: &[&str]) -> Result<(), Fault>
 {
     for name in names {
         if !is_crawler_name(name) {
-            return Err(no_crawler(alloc, name));
+            return Err(argument(alloc, name, Flaw::Agent));
         }
     }
     Ok(())

@@ -1,13 +1,14 @@
 //! Errors, their messages, and the exit status.
 ghost use Rattle.std.specs.Prelude.{◌≡◌, ◌∷◌, [], IfOk, string_bytes};
-ghost use Rattle.printable_text.specs.Raw.{raw_line};
-ghost use Rattle.printable_text.specs.Text.{parts_text};
-ghost use Rattle.audit_core.specs.Fault.{IsUnknown, entry_text, fault_parts, fault_text, flaw_text, status_after};
+ghost use Rattle.printable_text.specs.{Raw.raw_line, Raw.raw_text, Text.part_text, Text.parts_text};
+ghost use Rattle.audit_core.specs.Fault.{IsArgument, IsUnknown, entry_text, fault_parts, fault_text, fetch_part};
+ghost use Rattle.audit_core.specs.Fault.{flaw_text, status_after};
 
 use crate::answer::Outcome;
 use printable_text::parts::{Part, Value, push_line_of};
 use printable_text::sanitize::push_sanitized_lines;
 use robots_io::streams::{ReadFault, WriteFault};
+use robots_warnings::urls::begins_as_url;
 use std::alloc::{AllocError, AllocFailed, Global};
 
 /// What is wrong with a line of the file of `--expect` or `--urls`, or with a crawler's name or a URL in arguments.
@@ -17,10 +18,12 @@ pub enum Flaw {
     Form,
     /// It isn't UTF-8.
     NotUtf8,
-    /// AGENT isn't a name that crawlers have.
+    /// The name isn't one that crawlers have.
     Agent,
     /// The URL is neither a path nor an http(s) URL that can be parsed.
     Url,
+    /// The same, but it may be the name of a crawler.
+    Name,
     /// The URL is a path that crawlers ask for in another form.
     Path,
 }
@@ -39,7 +42,7 @@ pub enum Entry {
 pub enum Fault {
     /// `clap` rejects the arguments; this is its message, with the usage.
     Words(String),
-    /// AGENT is missing.
+    /// FILE is missing.
     Usage,
     /// An argument isn't UTF-8.
     NotUtf8,
@@ -57,7 +60,9 @@ pub enum Fault {
     StdinTwice,
     /// A read failed, or the input didn't end within the maximum number of reads.
     Read,
-    /// A write or a flush failed, or a write accepted no bytes.
+    /// The reader of the output has closed it, as `head` does. There is no message.
+    Closed,
+    /// A write or a flush failed in another way, or a write accepted no bytes.
     Write,
     /// An allocation failed, or a URL is too long for the crate `url`.
     Memory,
@@ -101,12 +106,15 @@ impl From<ReadFault> for Fault {
 
 impl From<WriteFault> for Fault {
     ghost use Rattle.std.specs.Prelude.{◌≡◌};
-    ghost use Rattle.audit_core.specs.declared.fault.Fault.TheVariants.{Write};
+    ghost use Rattle.audit_core.specs.Fault.{fault_of_write};
 
-    ghost from_gives = { λ _ fault. fault ≡ Write };
+    ghost from_gives = { λ fault own. own ≡ fault_of_write fault };
 
-    fn from(_: WriteFault) -> Fault {
-        Fault::Write
+    fn from(fault: WriteFault) -> Fault {
+        match fault {
+            WriteFault::Closed => Fault::Closed,
+            WriteFault::Write => Fault::Write,
+        }
     }
 }
 
@@ -117,8 +125,10 @@ fn flaw_text(flaw: Flaw) -> &'static str
     match flaw {
         Flaw::Form => "write \"allow AGENT URL\" or \"deny AGENT URL\"",
         Flaw::NotUtf8 => "the line isn't valid UTF-8",
-        Flaw::Agent => "AGENT isn't a product token without a version, such as Googlebot",
+        Flaw::Agent => "a crawler's name is a product token without a version, such as Googlebot",
         Flaw::Url => "URL is neither a path that starts with / nor a valid http:// or https:// URL",
+        Flaw::Name =>
+            "URL is neither a path that starts with / nor a URL; for a crawler, write --agent NAME",
         Flaw::Path =>
             "URL has a . or .. segment or a #, which crawlers resolve or drop; write the path that they ask for",
     }
@@ -139,21 +149,35 @@ const NONE: Part<'static> = Part("", Value::Nothing);
 
 /// The usage, which follows an error in the arguments that `clap` doesn't report.
 const USAGE: Part<'static> = Part(
-    "; usage: robots_audit [-f FILE] [OPTIONS] AGENT [URL]..",
+    "; usage: robots_audit [OPTIONS] FILE [URL]..",
     Value::Nothing,
 );
+
+/// The examples that follow the usage if FILE is missing.
+const EXAMPLES: &str = "example: robots_audit robots.txt /search\n\
+    example: curl -s https://example.com/robots.txt | robots_audit --agent Googlebot -\n";
+
+/// How to audit a file that is at a URL.
+fn fetch_part(is_url: bool) -> Part<'static>
+    ensures { raw_text result ≡ part_text (fetch_part is_url) }
+{
+    if is_url {
+        Part(
+            "; a URL isn't a file, try: curl -s https://example.com/robots.txt | robots_audit -",
+            Value::Nothing,
+        )
+    } else {
+        NONE
+    }
+}
 
 /// The message for an error, which follows the program's name. `clap` has messages of its own.
 fn fault_parts(fault: &Fault) -> [Part<'_>; 3]
     ensures { raw_line result ≡ parts_text (fault_parts fault.now) }
 {
     match fault {
-        Fault::Words(_) => [NONE, NONE, NONE],
-        Fault::Usage => [
-            Part(": missing AGENT (use --agent or --agents)", Value::Nothing),
-            USAGE,
-            NONE,
-        ],
+        Fault::Words(_) | Fault::Closed => [NONE, NONE, NONE],
+        Fault::Usage => [Part(": missing FILE", Value::Nothing), USAGE, NONE],
         Fault::NotUtf8 => [
             Part(": arguments must be valid UTF-8", Value::Nothing),
             USAGE,
@@ -166,7 +190,7 @@ fn fault_parts(fault: &Fault) -> [Part<'_>; 3]
         ],
         Fault::File(name) => [
             Part(": cannot read ", Value::Named(name.as_bytes())),
-            NONE,
+            fetch_part(begins_as_url(name.as_bytes())),
             NONE,
         ],
         Fault::Malformed(file, line, flaw) => [
@@ -186,7 +210,7 @@ fn fault_parts(fault: &Fault) -> [Part<'_>; 3]
         ],
         Fault::StdinTwice => [
             Part(
-                ": standard input can't be both robots.txt and another file (use --file)",
+                ": standard input can't be two files; give the name of one",
                 Value::Nothing,
             ),
             USAGE,
@@ -215,8 +239,14 @@ pub fn fault_text(alloc: Global, fault: &Fault) -> Result<String, AllocError>
         push_sanitized_lines(&mut text, words.as_bytes())?;
         return Ok(text);
     }
+    if let Fault::Closed = fault {
+        return Ok(text);
+    }
     text.push_str("robots_audit")?;
     push_line_of(&mut text, &fault_parts(fault))?;
+    if let Fault::Usage = fault {
+        text.push_str(EXAMPLES)?;
+    }
     Ok(text)
 }
 
@@ -226,9 +256,10 @@ pub fn status_after(outcome: &Result<Outcome, Fault>) -> u8
 {
     match outcome {
         Ok(outcome) if outcome.is_rejected => 2,
-        Ok(outcome) if !outcome.has_passed => 1,
         Ok(outcome) if outcome.is_warned => 3,
+        Ok(outcome) if !outcome.has_passed => 1,
         Ok(_) => 0,
+        Err(Fault::Closed) => 141,
         Err(_) => 2,
     }
 }
@@ -239,6 +270,16 @@ pub fn unknown(alloc: Global, name: &str) -> Fault
 {
     match String::from_str(alloc, name) {
         Ok(text) => Fault::UnknownWarning(text),
+        Err(AllocError) => Fault::Memory,
+    }
+}
+
+/// The error for an argument that is malformed in this way; `Fault::Memory` if an allocation fails.
+pub fn argument(alloc: Global, text: &str, flaw: Flaw) -> Fault
+    ensures { IsArgument text.now flaw result }
+{
+    match String::from_str(alloc, text) {
+        Ok(text) => Fault::Argument(text, flaw),
         Err(AllocError) => Fault::Memory,
     }
 }

@@ -1,12 +1,12 @@
 -- The URLs in the file of `--urls`, one per line, and those in arguments.
-use Rattle.std.specs.Prelude.{◌≡◌, ℕ, ◌-◌, ◌==◌, false, not, List, ◌++◌, Option, Some, None, Result, Ok, Err}
-use Rattle.std.specs.Prelude.{drop, if◌then◌else◌, length, string_bytes, take}
+use Rattle.std.specs.Prelude.{◌≡◌, ◌⊎◌, ℕ, ◌-◌, ◌==◌, false, not, List, ◌++◌, Option, Some, None, Result, Ok}
+use Rattle.std.specs.Prelude.{Err, drop, if◌then◌else◌, length, take}
 use Rattle.std.specs.{Char.is_ascii_whitespace, List.find, List.prefix_len, List.suffix_len, Str.is_utf8}
-use Rattle.audit_core.specs.{Request.RequestValue, Crawler.is_word}
+use Rattle.audit_core.specs.{Crawler.is_crawler_name, Crawler.is_word, Fault.IsArgument, Request.RequestValue}
 use Rattle.audit_expect.specs.Expect.{MalformedLine, entries_from, is_comment, is_path_or_url, lines}
-use Rattle.audit_core.specs.declared.fault.Fault.{Fault}
-use Rattle.audit_core.specs.declared.fault.Fault.TheVariants.{Argument, Memory}
-use Rattle.audit_core.specs.declared.fault.Flaw.TheVariants.{NotUtf8, Url}
+use Rattle.audit_core.specs.declared.fault.{Fault.Fault, Flaw.Flaw}
+use Rattle.audit_core.specs.declared.fault.Fault.TheVariants.{Memory}
+use Rattle.audit_core.specs.declared.fault.Flaw.TheVariants.{Name, NotUtf8, Url}
 use Rattle.robots_warnings.specs.Facts.{mark, without_start}
 
 -- the line without ASCII white space at its start
@@ -21,15 +21,16 @@ without_back line = take (length line - suffix_len is_ascii_whitespace line) lin
 abbrev pub trimmed : List ℕ → List ℕ
 trimmed line = without_back (without_front line)
 
--- the URL of the line with this number, if the line is neither blank nor a comment, which starts with `#` as
--- no URL does; or that the line isn't UTF-8
-abbrev pub url_in : ℕ → List ℕ → Result (Option (List ℕ)) MalformedLine
+-- the URL or path of the line with this number, if the line is neither blank nor a comment, which starts with
+-- `#` as no URL does; or that the line isn't UTF-8, or neither a path nor an http(s) URL that can be parsed
+unfoldable pub url_in : ℕ → List ℕ → Result (Option (List ℕ)) MalformedLine
 url_in number line =
     if is_comment (trimmed line) then Ok None
     else if not (is_utf8 (trimmed line)) then Err (number, NotUtf8)
-    else if is_word (trimmed line) then Ok (Some (trimmed line)) else Ok None
+    else if not (is_word (trimmed line)) then Ok None
+    else if is_path_or_url (trimmed line) then Ok (Some (trimmed line)) else Err (number, Url)
 
--- the URLs in a text, possibly after a byte order mark, or the first line that isn't UTF-8
+-- the URLs in a text, possibly after a byte order mark, or the first malformed line
 abbrev pub urls_in : List ℕ → Result (List (List ℕ)) MalformedLine
 urls_in text = entries_from url_in 1 (lines (without_start mark text))
 
@@ -50,7 +51,12 @@ pub record HasUrlsIn (text : List ℕ) (requested extended : RequestValue) : Typ
 abbrev pub first_malformed : List (List ℕ) → Option (List ℕ)
 first_malformed urls = find (λ url. not (is_path_or_url url)) urls
 
+-- what is wrong with it: it may be the name of a crawler
+abbrev pub url_flaw : List ℕ → Flaw
+url_flaw text = if is_crawler_name text then Name else Url
+
 -- the error shows the first malformed one of these URLs, or an allocation failed
-abbrev pub IsUrlFault : Option (List ℕ) → Fault → Type 0
-IsUrlFault malformed (Argument text flaw) = (malformed ≡ Some (string_bytes text)) × (flaw ≡ Url)
-IsUrlFault malformed fault = fault ≡ Memory
+abbrev pub IsUrlFault : List (List ℕ) → Fault → Type 0
+IsUrlFault urls fault =
+    (fault ≡ Memory)
+    ⊎ ((url : List ℕ) × (first_malformed urls ≡ Some url) × IsArgument url (url_flaw url) fault)

@@ -5,12 +5,13 @@ ghost use Rattle.audit_core.specs.Request.{requested_by};
 ghost use Rattle.audit_core.specs.declared.fault.Entry.TheVariants as entry;
 ghost use Rattle.audit_expect.specs.Expect.{IsEntryFault, IsLineFault, entries_from, lines};
 ghost use Rattle.audit_expect.specs.UrlList.{HasUrlsIn, IsUrlFault};
-ghost use Rattle.audit_expect.specs.UrlList.{first_malformed, trimmed, url_in, urls_in};
+ghost use Rattle.audit_expect.specs.UrlList.{first_malformed, trimmed, url_flaw, url_in, urls_in};
 
 use crate::entries::{malformed, without_entries};
 use crate::expect::{cut, is_comment, is_path_or_url};
 use audit_core::agents::as_text;
-use audit_core::fault::{Entry, Fault, Flaw};
+use audit_core::crawler::is_crawler_name;
+use audit_core::fault::{Entry, Fault, Flaw, argument};
 use audit_core::request::Request;
 use robots_warnings::facts::without_mark;
 use std::alloc::Global;
@@ -22,7 +23,8 @@ fn trimmed<'a>(line: &'a [u8]) -> &'a [u8]
     line.trim_ascii()
 }
 
-/// The URL of the line with this number, if the line is neither blank nor a comment.
+/// The URL or path of the line with this number, if the line is neither blank nor a comment.
+#[tactic(auto, unfolding(crate::specs::UrlList::url_in))]
 fn url_in<'a>(
     alloc: Global,
     name: &str,
@@ -38,7 +40,8 @@ fn url_in<'a>(
     }
     match as_text(line) {
         Some(url) if url.is_empty() => Ok(None),
-        Some(url) => Ok(Some(url)),
+        Some(url) if is_path_or_url(alloc, line)? => Ok(Some(url)),
+        Some(_) => Err(malformed(alloc, name, number, Flaw::Url)),
         None => Err(malformed(alloc, name, number, Flaw::NotUtf8)),
     }
 }
@@ -80,8 +83,8 @@ fn urls_in<'a>(alloc: Global, name: &str, text: &'a [u8]) -> Result<Vec<&'a str>
 ///
 /// # Errors
 ///
-/// `Fault::Malformed` if a line isn't UTF-8, `Fault::Empty` if there are no URLs in the text, and `Fault::Memory` if an
-/// allocation fails.
+/// `Fault::Malformed` if a line isn't UTF-8, or neither a path nor an http(s) URL that can be parsed, `Fault::Empty` if
+/// there are no URLs in the text, and `Fault::Memory` if an allocation fails.
 pub fn with_urls<'a>(
     alloc: Global,
     request: Request<'a>,
@@ -97,6 +100,17 @@ pub fn with_urls<'a>(
     Ok(extended)
 }
 
+/// What is wrong with an argument that is neither a path nor a URL.
+fn url_flaw(text: &str) -> Flaw
+    ensures { result ≡ url_flaw text.now }
+{
+    if is_crawler_name(text) {
+        Flaw::Name
+    } else {
+        Flaw::Url
+    }
+}
+
 /// Fails with the first of these URLs that is neither a path nor an http(s) URL that can be parsed.
 ///
 /// # Errors
@@ -104,11 +118,11 @@ pub fn with_urls<'a>(
 /// `Fault::Argument` for this URL, and `Fault::Memory` if an allocation fails.
 pub fn are_paths_or_urls(alloc: Global, urls: &[&str]) -> Result<(), Fault>
     ensures ok { OnOk result (first_malformed (map (λ url. url.now) urls.now) ≡ None) }
-    ensures fault { IfErr result (IsUrlFault (first_malformed (map (λ url. url.now) urls.now))) }
+    ensures fault { IfErr result (IsUrlFault (map (λ url. url.now) urls.now)) }
 {
     for url in urls {
         if !is_path_or_url(alloc, url.as_bytes())? {
-            return Err(Fault::Argument(String::from_str(alloc, url)?, Flaw::Url));
+            return Err(argument(alloc, url, url_flaw(url)));
         }
     }
     Ok(())

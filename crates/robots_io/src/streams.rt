@@ -5,7 +5,7 @@ ghost use Rattle.std.specs.Io.KnownBytes.{Appends, ReadConsumes};
 ghost use Rattle.robots_io.specs.Streams.{AppendsBeginning};
 
 use std::alloc::{AllocError, Global};
-use std::io::{Read, Write};
+use std::io::{Error, ErrorKind, Read, Write};
 
 /// The maximum number of bytes per read.
 const CHUNK_LEN: usize = 65_536;
@@ -22,9 +22,22 @@ pub enum ReadFault {
     Memory,
 }
 
-/// A write or a flush failed, or a write accepted no bytes.
+/// Why an output couldn't be written.
 #[derive(Debug, PartialEq, Eq, Drop)]
-pub struct WriteFault;
+pub enum WriteFault {
+    /// Its reader has closed it.
+    Closed,
+    /// A write or a flush failed in another way, or a write accepted no bytes.
+    Write,
+}
+
+/// What a failed write or flush means.
+fn write_fault(error: Error) -> WriteFault {
+    match error.kind() {
+        ErrorKind::BrokenPipe => WriteFault::Closed,
+        _ => WriteFault::Write,
+    }
+}
 
 impl From<AllocError> for ReadFault {
     ghost use Rattle.std.specs.Prelude.{◌≡◌};
@@ -89,13 +102,13 @@ pub fn write_out<W: Write>(writer: &mut W, text: &[u8]) -> Result<(), WriteFault
     let mut at = 0;
     while at < text.len() {
         match writer.write(&text[at..]) {
-            Ok(0) => return Err(WriteFault),
+            Ok(0) => return Err(WriteFault::Write),
             Ok(count) => at += count,
-            Err(_) => return Err(WriteFault),
+            Err(error) => return Err(write_fault(error)),
         }
     }
     match writer.flush() {
         Ok(()) => Ok(()),
-        Err(_) => Err(WriteFault),
+        Err(error) => Err(write_fault(error)),
     }
 }

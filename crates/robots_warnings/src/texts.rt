@@ -187,8 +187,8 @@ pub(crate) static MESSAGES: [(Cause, &str); 84] = [
         "this rule isn't needed: if all needless rules are deleted, the verdicts stay the same, since another one of its kind matches everything that it matches; delete it together with the others, or correct it"),
 ];
 
-/// For each warning, in the order of [`WARNINGS`](crate::table::WARNINGS), a file that triggers it for FerrisBot, or with
-/// the arguments in its first line, or a command. In a file, `\xFF` is a byte, and `\{512000 a}` is 512,000 times an `a`.
+/// For each warning, in the order of [`WARNINGS`](crate::table::WARNINGS), a file that triggers it for FerrisBot, or as
+/// robots.txt in the command in its first line, or a command. In a file, `\xFF` is a byte, and `\{512000 a}` is 512,000 times an `a`.
 #[rattlefmt::skip]
 pub(crate) static EXAMPLES: [(Cause, &str); 84] = [
     // the file
@@ -201,7 +201,7 @@ pub(crate) static EXAMPLES: [(Cause, &str); 84] = [
     (Cause::DamagedByteOrderMark, "\\xEF\\xBBAllow: /"),
     (Cause::NulEndsLine, "Allow: /\\x00"),
     // a URL
-    (Cause::UrlNotNormal, "robots_audit FerrisBot /%c3"),
+    (Cause::UrlNotNormal, "robots_audit robots.txt /%c3"),
     // an ignored line
     (Cause::InvalidDelay, "User-agent: *\nCrawl-delay: ten"),
     (Cause::NoindexLine, "User-agent: *\nNoindex: /a"),
@@ -281,11 +281,11 @@ pub(crate) static EXAMPLES: [(Cause, &str); 84] = [
     (Cause::ReplacesStar, "User-agent: *\nDisallow: /a\nUser-agent: FerrisBot\nDisallow: /b"),
     (Cause::RepeatedRule, "User-agent: *\nDisallow: /a\nDisallow: /a"),
     (Cause::MisspelledName, "User-agent: Googlbot\nDisallow: /a"),
-    (Cause::GooglebotGroup, "# robots_audit Googlebot-News\nUser-agent: Googlebot\nDisallow: /a"),
-    (Cause::GoogleIgnoresStar, "# robots_audit AdsBot-Google\nUser-agent: *\nDisallow: /a"),
+    (Cause::GooglebotGroup, "# robots_audit robots.txt --agent Googlebot-News\nUser-agent: Googlebot\nDisallow: /a"),
+    (Cause::GoogleIgnoresStar, "# robots_audit robots.txt --agent AdsBot-Google\nUser-agent: *\nDisallow: /a"),
     // a rule that can be deleted
-    (Cause::NeverDecides, "# robots_audit --needless FerrisBot\nUser-agent: *\nDisallow: /*b\nDisallow: /b"),
-    (Cause::MatchesNothing, "# robots_audit --needless FerrisBot\nUser-agent: *\nDisallow: /a\nDisallow: /$b"),
-    (Cause::AllowedAnyway, "# robots_audit --needless FerrisBot\nUser-agent: *\nDisallow: /a\nAllow: /b"),
-    (Cause::NotNeeded, "# robots_audit --needless FerrisBot\nUser-agent: *\nDisallow: /a\nDisallow: /ab"),
+    (Cause::NeverDecides, "# robots_audit robots.txt --needless\nUser-agent: *\nDisallow: /*b\nDisallow: /b"),
+    (Cause::MatchesNothing, "# robots_audit robots.txt --needless\nUser-agent: *\nDisallow: /a\nDisallow: /$b"),
+    (Cause::AllowedAnyway, "# robots_audit robots.txt --needless\nUser-agent: *\nDisallow: /a\nAllow: /b"),
+    (Cause::NotNeeded, "# robots_audit robots.txt --needless\nUser-agent: *\nDisallow: /a\nDisallow: /ab"),
 ];

@@ -16,7 +16,7 @@ pub(crate) fn begins_in_any_case(front: &[u8], text: &[u8]) -> bool
 }
 
 /// Whether the text starts with `http://` or `https://`.
-pub(crate) fn begins_as_url(text: &[u8]) -> bool
+pub fn begins_as_url(text: &[u8]) -> bool
     ensures { result ≡ begins_as_url text.now }
 {
     begins_in_any_case(b"http://", text) || begins_in_any_case(b"https://", text)
