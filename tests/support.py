@@ -1,4 +1,4 @@
-"""What the tests share: running a program, the messages that docs/PROGRAMS.md has, and the notation of golden cases."""
+"""What the tests share: running a program, the messages in tests/warnings.toml, and the notation of golden cases."""
 
 import json
 import os
@@ -79,28 +79,20 @@ def shown(document):
     return "".join(line[4:] + "\n" for line in document.splitlines() if line.startswith("    "))
 
 
-TOPICS = {"": "Syntax", "‡": "Verdict", "†": "Meaning"}  # by their marks
-
-
-def documented_warnings():
-    """Each warning's name, level, topic and message, in the order of docs/PROGRAMS.md. One of the messages has KEY in place of a field
-    name."""
-    for row in tables(DOCUMENTS["docs/PROGRAMS.md"]):
-        level, _, mark = row[1].partition(" ")
-        if len(row) == 4 and level in ("error", "warning", "note"):
-            yield row[0].strip("`"), level, TOPICS[mark], row[3]
-
+# each warning in the order of the program's list
+ALL_WARNINGS = tomllib.loads((ROOT / "tests/warnings.toml").read_text())["warning"]
 
 # the levels and messages of each warning by its name
 WARNINGS = {}
-for name, level, _, text in documented_warnings():
-    WARNINGS.setdefault(name, []).append((level, text))
+for row in ALL_WARNINGS:
+    WARNINGS.setdefault(row["name"], []).append((row["level"], row["text"]))
 
 
 FORMATS = re.findall(r'"(\w+)"', re.search(r"const NAMES: [^=]*= &\[(.*?)\];", (CRATES / "audit_core/src/request.rt").read_text(), re.S)[1])
-OF_A_URL = {"not-a-url-or-path", "invalid-url", "url-not-normal"}
-OF_A_CRAWLER = {"empty-agent", "space-around-agent", "version-in-agent", "googlebot-group", "google-ignores-star"}
+OF_A_URL = {"url-not-normal"}
+OF_A_CRAWLER = {"googlebot-group", "google-ignores-star"}
 OF_GROUP = {"googlebot-group"}
+KEYS = ("User-agent", "Allow", "Disallow", "Sitemap", "Crawl-delay")
 OF_RULES = {"replaces-star"}
 OF_A_LINE = {"allowed-and-disallowed", "empty-disallow"}
 NEEDLESS = ["never", "nothing", "allowed", "covered"]  # in the order of the messages of `needless-rule`
@@ -122,10 +114,8 @@ def level_and_text(name, detail=""):
         more = f" (and {others} other crawler{'' if others == '1' else 's'})" if others else ""
         return level, f"crawler {crawler}: {dict(WARNINGS[name])[level]}{more}"
     for level, text in WARNINGS[name]:
-        if detail == level or detail in WORDS and f" {detail} " in text:
+        if detail == level or detail in WORDS and f" {detail} " in text or detail in KEYS and f'"{detail}:"' in text:
             return level, text
-        if "KEY" in text and detail not in {"", *WORDS}:
-            return level, text.replace("KEY", detail)
     level, text = WARNINGS[name][-1]
     if name in OF_RULES:
         return level, f"{text} ({detail} in all)"

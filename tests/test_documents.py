@@ -9,7 +9,7 @@ import shlex
 import subprocess
 
 import pytest
-from support import CRATES, DOCUMENTS, ROOT, WARNINGS, documented_warnings, run, shown, spelled, tables
+from support import ALL_WARNINGS, CRATES, DOCUMENTS, ROOT, WARNINGS, run, shown, spelled, tables
 
 LIBRARY = CRATES / "texting_robots"
 README, GUIDE, PROGRAMS, PROOFS, CONTRACTS = map(DOCUMENTS.get, ["README.md", *(f"docs/{name}.md" for name in ("GUIDE", "PROGRAMS", "PROOFS", "CONTRACTS"))])
@@ -235,41 +235,34 @@ def test_proofs_name_the_toolchain():
 
 # ---- docs/PROGRAMS.md
 
-EMPTY = {"an empty AGENT": ([b""], b""), "an empty file": ([b"FerrisBot"], b"")}
-PREFIXED = ("**An ignored line", "**A directive", "**A rule", "**A delay")
-
-
 def examples_of_warnings():
-    """Each warning with its example: the arguments and the file."""
-    for part in re.split(r"\n(?=\*\*)", section(PROGRAMS, "Warnings")):
-        for name, _, example, _ in (row for row in tables(part) if row[0].strip("`") in WARNINGS):
-            if example in EMPTY:
-                yield pytest.param(name.strip("`"), *EMPTY[example], id=f"{name} {example}")
-                continue
-            what, text, below = re.fullmatch(r"(AGENT|URL|option|) ?`([^`]*)`(?:, file `([^`]*)`)?", example).groups()
-            bytes_of, file = (spelled((text or "").replace("⏎", "\n")) for text in (text, below))
-            args = {"AGENT": [bytes_of], "URL": ["FerrisBot", bytes_of], "option": [bytes_of, "FerrisBot"]}.get(what, ["FerrisBot"])
-            file = file if what else (b"User-agent: *\n" if part.startswith(PREFIXED) else b"") + bytes_of
-            yield pytest.param(name.strip("`"), args, file, id=f"{name} {example[:60]}")
+    """Each warning with its example: its number in the list, its name, the arguments and the file."""
+    for number, row in enumerate(ALL_WARNINGS):
+        args = shlex.split(row.get("args", "- --agent FerrisBot"))
+        yield pytest.param(number, row["name"], args, spelled(row.get("file", "")), id=f"{row['name']} {row.get('file', '')[:40]!r}")
 
 
-@pytest.mark.parametrize("name, args, file", examples_of_warnings())
-def test_example_triggers_its_warning(name, args, file):
+@pytest.mark.parametrize("number, name, args, file", examples_of_warnings())
+def test_example_triggers_its_warning(number, name, args, file, tmp_path, monkeypatch):
+    monkeypatch.chdir(tmp_path)
+    (tmp_path / "robots.txt").write_bytes(file)
     assert f" [{name}]\n" in run("robots_audit", args, file).err
 
 
-def test_each_warning_has_an_example():
-    assert {it.values[0] for it in examples_of_warnings()} == set(WARNINGS)
-
-
 def test_warnings_are_those_of_the_table():
-    table = (CRATES / "robots_warnings/src/table.rt").read_text()
-    rows = re.findall(r'\(Cause::(\w+), Level::(\w+), Topic::(\w+), "([a-z0-9-]+)"\)', table)
-    messages = dict(re.findall(r'\(Cause::(\w+),\n +"((?:[^"\\]|\\.)*)"\)', table))
+    source = CRATES / "robots_warnings/src"
+    rows = re.findall(r'\(Cause::(\w+), Level::(\w+), Topic::(\w+), "([a-z0-9-]+)"\)', (source / "table.rt").read_text())
+    messages = dict(re.findall(r'\(Cause::(\w+),\n +"((?:[^"\\]|\\.)*)"\)', (source / "texts.rt").read_text()))
     stated = [(name, level.lower(), topic, messages[cause].replace('\\"', '"').replace("\\\\", "\\")) for cause, level, topic, name in rows]
     names = ["User-agent", "Allow", "Disallow", "Sitemap", "Crawl-delay"]
-    documented = [(*row, text.replace("KEY", key)) for *row, text in documented_warnings() for key in (names if "KEY" in text else [""])]
-    assert stated == documented
+    keyed = [(row, row["text"].replace("KEY", key)) for row in ALL_WARNINGS for key in (names if "KEY" in row["text"] else [""])]
+    assert stated == [(row["name"], row["level"], row["topic"], text) for row, text in keyed]
+
+
+def test_documented_warnings_are_those_of_the_table():
+    rows = [(row[0].strip("`"), row[1]) for row in tables(section(PROGRAMS, "Warnings")) if row[0].strip("`") in WARNINGS]
+    levels = {name: list(dict.fromkeys(level for level, _ in its)) for name, its in WARNINGS.items()}
+    assert rows == [(name, ", ".join(sorted(its, key=["error", "warning", "note"].index))) for name, its in levels.items()]
 
 
 LONG_RULE = b"Disallow: /b\nAllow: $" + b"a" * 4096

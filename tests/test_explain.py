@@ -1,64 +1,90 @@
-"""`robots_audit --list-warnings` and `--explain`: they print what docs/PROGRAMS.md documents, and each example that they print triggers
-its warning."""
+"""`robots_audit --list-warnings` and `--explain`: the list is that of tests/warnings.toml, each example that they print triggers its
+warning, and each corrected one doesn't."""
 
 import re
 import shlex
 
 import pytest
-from support import WARNINGS, run, spelled
-from test_documents import examples_of_warnings
+from support import ALL_WARNINGS, CRATES, WARNINGS, run, spelled
 
 KEYS = ["User-agent", "Allow", "Disallow", "Sitemap", "Crawl-delay"]
+ABOUT = {
+    "Syntax": "the syntax of the file, by RFC 9309",
+    "Verdict": "what the file means; a verdict may not be that of RFC 9309",
+    "Meaning": "what the file or the request means",
+}
+PART = r"(\S.*)\nabout: (.*)\nfor example:\n((?:    .*\n)+)(?:instead:\n((?:    .*\n)+))?"
 
 
 def listed():
-    """The list: a line for each message, in the order of the document."""
-    for name, messages in WARNINGS.items():
-        for level, text in messages:
-            for key in KEYS if "KEY" in text else [""]:
-                yield f"{level} {name}: {text.replace('KEY', key)}"
+    """The list: a line for each message."""
+    for row in ALL_WARNINGS:
+        for key in KEYS if "KEY" in row["text"] else [""]:
+            yield row, f"{row['level']} {row['name']}: {row['text'].replace('KEY', key)}"
 
 
 def explained(name):
-    """The lines of the list that an explanation has, each with its example."""
+    """What an explanation has for each message: its line, what it is about, an example and a corrected one; and the lines below."""
     result = run("robots_audit", ["--explain", name])
     assert (result.status, result.err) == (0, "")
-    return re.findall(r"^(\S.*)\nfor example:\n((?:    .*\n)+)", result.out, re.M)
+    parts = re.findall(PART, result.out)
+    return parts, re.sub(PART, "", result.out).splitlines()
 
 
-def arguments_of(file):
-    """The arguments for which a file is an example."""
-    named = re.match(rb"# robots_audit (.+)\n", file)
-    return shlex.split(named[1].decode()) if named else ["FerrisBot"]
+def file_of(example):
+    """The file that an example shows, and the arguments for which it is one."""
+    file = spelled(re.sub("^    ", "", example, flags=re.M).removesuffix("\n"))
+    named = re.match(rb"# robots_audit (.+)\n", file) or re.fullmatch(rb"robots_audit (.+)", file)
+    args = shlex.split(named[1].decode()) if named else ["-", "--agent", "FerrisBot"]
+    return file, args
+
+
+def given(example, folder):
+    """The warnings that are given for an example."""
+    file, args = file_of(example)
+    (folder / "robots.txt").write_bytes(file)
+    return run("robots_audit", args, file).err
 
 
 def test_list():
     result = run("robots_audit", ["--list-warnings"])
-    assert (result.status, result.out.splitlines(), result.err) == (0, list(listed()), "")
+    assert (result.status, result.out.splitlines(), result.err) == (0, [line for _, line in listed()], "")
 
 
 @pytest.mark.parametrize("name", WARNINGS)
-def test_example_triggers_its_warning(name):
-    parts = explained(name)
-    assert [line for line, _ in parts] == [line for line in listed() if line.split()[1] == f"{name}:"]
-    for line, example in parts:
-        text = spelled(re.sub("^    ", "", example, flags=re.M).removesuffix("\n"))
-        command = shlex.split(text.removesuffix(b" < /dev/null").decode()) if text.startswith(b"robots_audit ") else ["", *arguments_of(text)]
+def test_explanation(name, tmp_path, monkeypatch):
+    monkeypatch.chdir(tmp_path)
+    parts, below = explained(name)
+    wanted = [(line, ABOUT[row["topic"]]) for row, line in listed() if row["name"] == name]
+    assert [part[:2] for part in parts] == wanted
+    for line, _, example, corrected in parts:
         level, message = line.split()[0], line.split(": ", 1)[1]
-        result = run("robots_audit", command[1:], b"" if command[0] else text)
-        assert f"{level}: {message} [{name}]" in re.sub(r"URL '.*?': | \(\d+ in all\)| \(see line \d+\)", "", result.err)
+        shown = re.sub(r"(?:URL|crawler) '.*?': | \([^)]*\)(?= \[)", "", given(example, tmp_path))
+        assert f"{level}: {re.sub(r' \([^)]*\)$', '', message)} [{name}]" in shown
+        assert not corrected or f"[{name}]" not in given(corrected, tmp_path)
+    assert [line.split(":")[0] for line in below] in (["given"], ["given", "proved"])
 
 
-@pytest.mark.parametrize("name, args, file", examples_of_warnings())
-def test_example_is_the_documented_one(name, args, file):
-    examples = [spelled(re.sub("^    ", "", example, flags=re.M).removesuffix("\n")) for _, example in explained(name)]
-    command = shlex.join(["robots_audit", *(word.decode() if isinstance(word, bytes) else word for word in args)]).encode()
-    shown = {file, file.removeprefix(b"User-agent: *\n"), b"# " + command + b"\n" + file} if file else {command, command + b" < /dev/null"}
-    assert shown & set(examples)
+def test_examples_are_those_of_the_data():
+    for name in WARNINGS:
+        shown = []
+        for _, _, example, _ in explained(name)[0]:
+            file, args = file_of(example)
+            shown.append((args, re.sub(rb"\A(?:# )?robots_audit .+(?:\n|\Z)", b"", file)))
+        rows = [row for row in ALL_WARNINGS if row["name"] == name]
+        for row in rows:
+            assert (shlex.split(row.get("args", "- --agent FerrisBot")), spelled(row.get("file", ""))) in shown
+
+
+def test_theorems_are_named():
+    """The theorems that explanations name are those of `warnings_laws`."""
+    laws = set(re.findall(r"pub fn (\w+)", (CRATES / "warnings_laws/src/laws.rt").read_text()))
+    named = {theorem for name in WARNINGS for line in explained(name)[1] for theorem in re.findall(r"\((\w+_\w+)\)$", line)}
+    assert named <= laws and len(named) > 10
 
 
 @pytest.mark.parametrize("option", [["--list-warnings"], ["--explain", "missing-slash"]], ids=["list", "explain"])
-@pytest.mark.parametrize("more", ["Ferris", "--agents", "-fx", "-q", "--json", "--format=text", "--html", "--agent=x", "--urls=x", "--denied", "--color=auto", "--strict", "--needless", "--only=x", "--ignore=x", "--expect=x", "--compare=x"])
+@pytest.mark.parametrize("more", ["robots.txt", "-q", "--json", "--format=text", "--html", "--agent=x", "--urls=x", "--denied", "--color=auto", "--strict", "--needless", "--only=x", "--ignore=x", "--expect=x", "--compare=x"])
 def test_other_arguments_conflict(option, more):
     result = run("robots_audit", [*option, more])
     assert (result.status, result.out) == (2, "") and "cannot be used with" in result.err

@@ -1,5 +1,4 @@
 pub mod AgentLemmas
-pub mod AskedLemmas
 pub mod AuditLemmas
 pub mod EscapeLemmas
 pub mod FaultLemmas

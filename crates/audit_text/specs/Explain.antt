@@ -1,6 +1,7 @@
 -- The list of all warnings, and the explanation of one.
 use Rattle.std.specs.Prelude.{◌≡◌, ◌==◌, ℕ, true, false, List, [], ◌∷◌, ◌++◌, Result, IfErr, IfOk, ◌⊎◌}
-use Rattle.std.specs.Prelude.{bytes_eq, codes, flat_map, if◌then◌else◌, map}
+use Rattle.std.specs.Prelude.{bytes_eq, codes, flat_map, if◌then◌else◌, length, map, not}
+use Rattle.std.specs.Borrow.{Bor}
 use Rattle.std.proofs.Common.{refl}
 use Rattle.printable_text.specs.Text.{Only, Part, ReportLine, Word, fixed_level, label, line_from, written}
 use Rattle.printable_text.specs.{Lines.lf, Level.level_word, PlainLine.starts}
@@ -8,7 +9,9 @@ use Rattle.printable_text.specs.declared.level.Level.{Level}
 use Rattle.printable_text.specs.declared.level.Level.TheVariants.{Error, Note, Warning}
 use Rattle.robots_warnings.specs.declared.table.Cause.{Cause}
 use Rattle.robots_warnings.specs.Message.{fixed_name, fixed_text}
-use Rattle.robots_warnings.specs.Table.{all_causes, example_of, is_name, level_of, name_of}
+use Rattle.robots_warnings.specs.Table.{all_causes, example_of, is_name, is_not_about_syntax, keeps_verdicts}
+use Rattle.robots_warnings.specs.Table.{level_of, name_of, number_of}
+use Rattle.audit_text.specs.declared.conditions.TheConstants.{CONDITIONS, CORRECTIONS}
 use Rattle.audit_core.specs.{Answer.IsText, Fault.IsUnknown}
 use Rattle.audit_core.specs.declared.answer.Answer.{Answer}
 use Rattle.audit_core.specs.declared.fault.Fault.{Fault}
@@ -40,20 +43,69 @@ indented_byte byte = if byte == lf then lf ∷ codes "    " else byte ∷ []
 unfoldable pub indented : List ℕ → List ℕ
 indented text = codes "    " ++ flat_map indented_byte text
 
--- the lines with an example
-abbrev pub example_lines : Cause → List ℕ
-example_lines cause = codes "for example:" ++ (lf ∷ (indented (example_of cause) ++ lf ∷ []))
+-- lines with a label before them
+abbrev pub example_lines : (label lines : List ℕ) → List ℕ
+example_lines label lines = label ++ (indented lines ++ lf ∷ [])
 
--- the line of the list, and an example
+-- a line with a label, unless the text is empty
+abbrev pub text_line : (label content : List ℕ) → List ℕ
+text_line label content = if length content == 0 then [] else label ++ (content ++ lf ∷ [])
+
+-- what the warning is about
+abbrev pub about_line : Cause → List ℕ
+about_line cause =
+    if not (is_not_about_syntax cause) then codes "about: the syntax of the file, by RFC 9309\n"
+    else if keeps_verdicts cause then codes "about: what the file or the request means\n"
+    else codes "about: what the file means; a verdict may not be that of RFC 9309\n"
+
+-- ---- the tables of src/conditions.rt
+
+-- a name, when its warnings are given, and what is proved about them
+abbrev pub condition_value : Bor (List ℕ) × Bor (List ℕ) × Bor (List ℕ) → List ℕ × List ℕ × List ℕ
+condition_value row = (row.0.now, row.1.now, row.2.now)
+
+abbrev pub correction_value : Cause × Bor (List ℕ) → Cause × List ℕ
+correction_value row = (row.0, row.1.now)
+
+unfoldable pub all_conditions : List (List ℕ × List ℕ × List ℕ)
+all_conditions = map (λ row. (row.0.now, row.1.now, row.2.now)) CONDITIONS
+
+unfoldable pub all_corrections : List (Cause × List ℕ)
+all_corrections = map (λ row. (row.0, row.1.now)) CORRECTIONS
+
+abbrev pub condition_if_named : List ℕ → List ℕ × List ℕ × List ℕ → List ℕ
+condition_if_named name row =
+    if bytes_eq row.0 name then text_line (codes "given: ") row.1 ++ text_line (codes "proved: ") row.2 else []
+
+-- when the warnings with this name are given, and what is proved about them
+unfoldable pub conditions_of : List ℕ → List ℕ
+conditions_of name = flat_map (condition_if_named name) all_conditions
+
+abbrev pub correction_if_own : Cause → Cause × List ℕ → List ℕ
+correction_if_own cause row =
+    if number_of row.0 == number_of cause then example_lines (codes "instead:\n") row.1 else []
+
+-- the corrected example of the warning, if it has one
+unfoldable pub corrections_of : Cause → List ℕ
+corrections_of cause = flat_map (correction_if_own cause) all_corrections
+
+-- ---- explanations
+
+-- the line of the list, and what the warning is about
+unfoldable pub heading : Cause → List ℕ
+heading cause = written (list_line cause ∷ []) ++ about_line cause
+
+-- with an example, and a corrected one
 abbrev pub explained : Cause → List ℕ
-explained cause = written (list_line cause ∷ []) ++ example_lines cause
+explained cause =
+    heading cause ++ (example_lines (codes "for example:\n") (example_of cause) ++ corrections_of cause)
 
 abbrev pub explained_if_named : List ℕ → Cause → List ℕ
 explained_if_named name cause = if bytes_eq (name_of cause) name then explained cause else []
 
--- the explanations of all warnings with this name
+-- the explanations of all warnings with this name, when they are given, and what is proved about them
 abbrev pub explanation : List ℕ → List ℕ
-explanation name = flat_map (explained_if_named name) all_causes
+explanation name = flat_map (explained_if_named name) all_causes ++ conditions_of name
 
 -- ---- answers
 

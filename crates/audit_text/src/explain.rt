@@ -1,11 +1,13 @@
 //! The list of all warnings, and the explanation of one.
-ghost use Rattle.std.specs.Prelude.{◌≡◌, ◌++◌, IfErr, IfOk, OnOk, true};
+ghost use Rattle.std.specs.Prelude.{◌≡◌, ◌==◌, ◌++◌, IfErr, IfOk, OnOk, true};
 ghost use Rattle.audit_core.specs.Answer.{IsText};
 ghost use Rattle.printable_text.specs.{Raw.raw_line, Text.line_text};
-ghost use Rattle.robots_warnings.specs.Table.{is_name};
-ghost use Rattle.audit_text.specs.Explain.{IsUnexplained, MayAnswer, example_lines, explained_if_named};
-ghost use Rattle.audit_text.specs.Explain.{explanation, indented, indented_byte, list_line, list_text};
+ghost use Rattle.robots_warnings.specs.Table.{is_name, number_of};
+ghost use Rattle.audit_text.specs.Explain.{IsUnexplained, MayAnswer, about_line, condition_if_named, condition_value};
+ghost use Rattle.audit_text.specs.Explain.{conditions_of, correction_if_own, correction_value, corrections_of, example_lines};
+ghost use Rattle.audit_text.specs.Explain.{explained, explained_if_named, explanation, heading, indented, indented_byte, list_line, list_text, text_line};
 
+use crate::conditions::{Condition, conditions, corrections};
 use audit_core::answer::{Answer, text_answer};
 use audit_core::fault::Fault;
 use printable_text::parts::{Part, Value, push_line_of};
@@ -58,16 +60,93 @@ fn push_indented(text: &mut Vec<u8>, lines: &[u8]) -> Result<(), AllocError>
     Ok(())
 }
 
-/// Appends an example of a warning.
-fn push_example(text: &mut Vec<u8>, cause: Cause) -> Result<(), AllocError>
-    ensures { OnOk result (text.new.items ≡ text.old.items ++ example_lines cause) }
+/// Appends a label, these lines, each with four spaces before it, and LF.
+fn push_example(text: &mut Vec<u8>, label: &str, lines: &str) -> Result<(), AllocError>
+    ensures { OnOk result (text.new.items ≡ text.old.items ++ example_lines label.now lines.now) }
 {
-    text.extend_from_slice(b"for example:\n")?;
-    push_indented(text, cause.example().as_bytes())?;
+    text.extend_from_slice(label.as_bytes())?;
+    push_indented(text, lines.as_bytes())?;
     text.extend_from_slice(b"\n")
 }
 
-/// Appends the line about a warning and an example, if the warning has this name.
+/// Appends a line with a label, unless the text is empty.
+fn push_text_line(text: &mut Vec<u8>, label: &str, content: &str) -> Result<(), AllocError>
+    ensures { OnOk result (text.new.items ≡ text.old.items ++ text_line label.now content.now) }
+{
+    if content.is_empty() {
+        return Ok(());
+    }
+    text.extend_from_slice(label.as_bytes())?;
+    text.extend_from_slice(content.as_bytes())?;
+    text.extend_from_slice(b"\n")
+}
+
+/// The line with what the warning is about.
+fn about_line(cause: Cause) -> &'static str
+    ensures { result.now ≡ about_line cause }
+{
+    if !cause.is_not_about_syntax() {
+        "about: the syntax of the file, by RFC 9309\n"
+    } else if cause.keeps_verdicts() {
+        "about: what the file or the request means\n"
+    } else {
+        "about: what the file means; a verdict may not be that of RFC 9309\n"
+    }
+}
+
+/// Whether the row is about the warning.
+fn is_own(cause: Cause, row: &(Cause, &'static str)) -> bool
+    ensures { result ≡ (number_of row.now.0 == number_of cause) }
+{
+    row.0 as usize == cause as usize
+}
+
+/// Appends the corrected example, if the row is about the warning.
+fn push_correction(
+    text: &mut Vec<u8>,
+    cause: Cause,
+    row: &(Cause, &'static str),
+) -> Result<(), AllocError>
+    ensures { OnOk result (text.new.items ≡ text.old.items ++ correction_if_own cause (correction_value row.now)) }
+{
+    if !is_own(cause, row) {
+        return Ok(());
+    }
+    push_example(text, "instead:\n", row.1)
+}
+
+/// Appends the corrected example of the warning, if it has one.
+#[tactic(auto, unfolding(crate::specs::Explain::corrections_of))]
+fn push_corrections(text: &mut Vec<u8>, cause: Cause) -> Result<(), AllocError>
+    ensures { OnOk result (text.new.items ≡ text.old.items ++ corrections_of cause) }
+{
+    for row in corrections() {
+        push_correction(text, cause, row)?;
+    }
+    Ok(())
+}
+
+/// Appends the line about a warning, and what it is about.
+#[tactic(auto, unfolding(crate::specs::Explain::heading))]
+fn push_heading(alloc: Global, text: &mut Vec<u8>, cause: Cause) -> Result<(), AllocError>
+    ensures { OnOk result (text.new.items ≡ text.old.items ++ heading cause) }
+{
+    let mut line = String::new(alloc);
+    push_line_of(&mut line, &list_line(cause))?;
+    text.extend_from_slice(line.as_bytes())?;
+    text.extend_from_slice(about_line(cause).as_bytes())
+}
+
+/// Appends the line about a warning, what it is about, an example and a corrected one.
+fn push_explained(alloc: Global, text: &mut Vec<u8>, cause: Cause) -> Result<(), AllocError>
+    ensures { OnOk result (text.new.items ≡ text.old.items ++ explained cause) }
+{
+    push_heading(alloc, text, cause)?;
+    push_example(text, "for example:\n", cause.example())?;
+    push_corrections(text, cause)
+}
+
+/// Appends the explanation of a warning, if it has this name.
 fn push_if_named(
     alloc: Global,
     text: &mut Vec<u8>,
@@ -79,10 +158,29 @@ fn push_if_named(
     if cause.name() != name {
         return Ok(());
     }
-    let mut line = String::new(alloc);
-    push_line_of(&mut line, &list_line(cause))?;
-    text.extend_from_slice(line.as_bytes())?;
-    push_example(text, cause)
+    push_explained(alloc, text, cause)
+}
+
+/// Appends when the warnings with this name are given, and what is proved about them, if the row is about the name.
+fn push_condition(text: &mut Vec<u8>, name: &str, row: &Condition) -> Result<(), AllocError>
+    ensures { OnOk result (text.new.items ≡ text.old.items ++ condition_if_named name.now (condition_value row.now)) }
+{
+    if row.0 != name {
+        return Ok(());
+    }
+    push_text_line(text, "given: ", row.1)?;
+    push_text_line(text, "proved: ", row.2)
+}
+
+/// Appends when the warnings with this name are given, and what is proved about them.
+#[tactic(auto, unfolding(crate::specs::Explain::conditions_of))]
+fn push_conditions(text: &mut Vec<u8>, name: &str) -> Result<(), AllocError>
+    ensures { OnOk result (text.new.items ≡ text.old.items ++ conditions_of name.now) }
+{
+    for row in conditions() {
+        push_condition(text, name, row)?;
+    }
+    Ok(())
 }
 
 /// The explanations of all warnings with this name.
@@ -94,6 +192,7 @@ fn explanation(alloc: Global, name: &str) -> Result<Vec<u8>, AllocError>
     for cause in &all {
         push_if_named(alloc, &mut text, name, *cause)?;
     }
+    push_conditions(&mut text, name)?;
     Ok(text)
 }
 

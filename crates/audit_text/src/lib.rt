@@ -2,6 +2,7 @@
 //! explanation of one; what `--denied` leaves out of a report.
 #![tactic(auto)]
 
+mod conditions;
 pub mod denied;
 pub mod explain;
 pub mod github;

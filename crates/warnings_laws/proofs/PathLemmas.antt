@@ -294,11 +294,13 @@ target_normal text asked quiet =
     let target = asked_target text in
     let odd = not (is_normal target) in
     let is = not-false (is_normal target) (second _ odd asked quiet) in
-    let (bytes, even) =
-    and_parts (list_all is_normal_byte target) (not (somewhere begins_odd_escape target)) is in
+    let (bytes, even) = and_parts (list_all is_normal_byte target) _ is in
     (normal_uris target).1
-    (and_from (list_all is_normal_byte target) _ bytes (ap not (odd_escapes target) ∙ even))
+    (and_from (list_all is_normal_byte target) _ bytes (ap not (odd_escapes target) ∙ neither _ _ even))
   where
+    neither : (x y : Bool) → not (x || y) ≡ true → not x ≡ true
+    neither true y is = is
+    neither false y is = refl
     second : (x y : Bool) → x ≡ true → (x && y) ≡ false → y ≡ false
     second true y is both = both
     second false y is both = cc

@@ -1,0 +1,207 @@
+//! For `--explain`: for each name of a warning, when it is given, and what is proved about it; and corrected examples.
+ghost use Rattle.std.specs.Prelude.{◌≡◌, map};
+ghost use Rattle.audit_text.specs.Explain.{all_conditions, all_corrections, condition_value, correction_value};
+
+use robots_warnings::table::Cause;
+
+/// The name of a warning, when those with this name are given, and what is proved about what they say, with the theorem
+/// of `warnings_laws`; empty if no theorem is about it.
+pub type Condition = (&'static str, &'static str, &'static str);
+
+/// The conditions of all warnings.
+#[rattlefmt::skip]
+static CONDITIONS: [(&str, &str, &str); 56] = [
+    // the file
+    ("looks-like-html",
+        "the file has no directive, and its first character is <, not counting a byte order mark, spaces, tabs and line ends; then no line has a warning of its own", ""),
+    ("looks-like-utf-16",
+        "the file has no directive, and it starts with the byte order mark of UTF-16, or it has at least four bytes and every second one of the first 64 is NUL; then no line has a warning of its own", ""),
+    ("no-directives",
+        "the file has no directive, although a line is neither empty nor a comment, and it looks neither like HTML nor like UTF-16", ""),
+    ("empty-file",
+        "the file has no bytes, as standard input may have none in CI", ""),
+    ("file-too-large",
+        "the file has more than 512,000 bytes", ""),
+    ("no-user-agent",
+        "the file has a rule, but no User-agent line", ""),
+    ("damaged-byte-order-mark",
+        "the file starts with EF, BB or BF, but not with all three bytes of a byte order mark", ""),
+    ("nul-ends-line",
+        "the first 512,000 bytes have a NUL byte, and the file doesn't look like UTF-16", ""),
+    // a URL
+    ("url-not-normal",
+        "the path and the query that crawlers request have a byte other than letters, digits, % and -._~:/?[]@!&'()+,;=, an escape with lowercase digits or of a letter, a digit or one of -._~, or a % that begins no escape",
+        "without this note the path and the query are in normal form, so the sentence about verdicts applies (url_not_normal)"),
+    // an ignored line
+    ("invalid-delay",
+        "the field name is Crawl-delay, but the value isn't a number of seconds that is 0 or more", ""),
+    ("noindex-line", "the field name of an ignored line is Noindex", ""),
+    ("nofollow-line", "the field name of an ignored line is Nofollow", ""),
+    ("host-line", "the field name of an ignored line is Host", ""),
+    ("request-rate-line", "the field name of an ignored line is Request-rate", ""),
+    ("visit-time-line", "the field name of an ignored line is Visit-time", ""),
+    ("clean-param-line", "the field name of an ignored line is Clean-param", ""),
+    ("content-signal-line", "the field name of an ignored line is Content-Signal", ""),
+    ("content-usage-line", "the field name of an ignored line is Content-Usage", ""),
+    ("robot-version-line", "the field name of an ignored line is Robot-version", ""),
+    ("comment-line", "the field name of an ignored line is Comment", ""),
+    ("unrecognized-line",
+        "the line is neither blank nor a comment, and has no known field name; a name is suggested if the text before the colon, or the first word, begins with it or differs from it in at most two bytes", ""),
+    // the field name of a line
+    ("nonstandard-field",
+        "the field name of a directive isn't spelled as in the message, ASCII letters in any case", ""),
+    ("missing-colon", "a directive has no colon after its field name", ""),
+    ("space-around-value",
+        "the value of a directive with a colon, except a delay, has white space other than spaces and tabs around it", ""),
+    // the value of a user-agent line
+    ("invalid-product-token",
+        "the name isn't a product token, nor like names that crawlers have: ASCII letters, digits, _, -, dots and spaces, possibly with a single * at the end; several names in one line aren't such a name either", ""),
+    ("unusual-product-token",
+        "the name isn't a product token, but like names that crawlers have: ASCII letters, digits, _, -, dots and spaces, possibly with a single * at the end", ""),
+    // a rule
+    ("hash-cuts-rule",
+        "a # directly follows a byte of the value of a rule with a colon, or a comment that begins with #/ or #!/ is in place of a value; it is an error if the whole site or an empty Disallow is left; it isn't given if an empty Allow is left, or what is left has an error of its own",
+        "as an error: what is left of the rule matches every path (hash_cuts_rule)"),
+    ("rule-not-utf-8", "the value of a rule isn't UTF-8", "no crawler has the rule (rule_not_utf_8)"),
+    ("missing-slash",
+        "the value of a rule begins with neither / nor *, unless it looks like a URL or has quotes",
+        "such a rule matches nothing that starts with / (missing_slash)"),
+    ("url-as-rule",
+        "the value of a rule begins with http:// or https://",
+        "such a rule matches nothing that starts with / (missing_slash)"),
+    ("unencoded-character",
+        "as a warning: a rule has one of ^ { } \\ in its path, ' or a backquote in its query, or a tab; as a note: a vertical bar, \", <, >, a backquote, the byte 7F or a % without two hexadecimal digits anywhere, or one of \\ ^ { } ' after the first ? or *, which may match a ?; the note isn't given for a rule in quotes or with the warning", ""),
+    ("quoted-rule", "the value of a rule begins or ends with a quote", "a rule that begins with a quote matches nothing that starts with / (missing_slash)"),
+    ("regex-syntax",
+        "a rule has a bracket with a range such as [a-z], .* after / or ( or before $, \\ before a letter or digit, a final + after a dot, ] or ), or (, a vertical bar and ) in this order", ""),
+    ("dollar-not-at-end",
+        "a byte follows the first $ of a rule",
+        "if another byte than * or $ follows, the rule matches nothing (dollar_not_at_end)"),
+    ("nonstandard-escape",
+        "a rule has an escape with lowercase digits, or of a letter, a digit or one of -._~; not if the group has the rule of the same kind in the standard spelling, too: /%2b and /%2B", ""),
+    ("escaped-wildcard", "a rule has %2A or %24, hexadecimal digits in any case", ""),
+    ("escaped-delimiter",
+        "a rule has an escape of one of :/?[]@!&()+,;= ; not if the group has the rule of the same kind with the plain characters, too: /a%2Fb and /a/b", ""),
+    ("dot-segment", "the path of a rule has a segment . or .. before its first ?", ""),
+    // a rule or a sitemap
+    ("several-values",
+        "the value of a rule or a sitemap has white space inside, or another byte up to 0x20; a comma before / or http; a < before a letter, / or !; or a soft hyphen, a zero-width space, a word joiner or a byte order mark; not for a rule that isn't UTF-8", ""),
+    // a delay
+    ("delay-notation",
+        "a delay with a colon isn't written as digits, possibly with a point and more digits", ""),
+    ("delay-over-a-day", "a delay is longer than 86,400 seconds", ""),
+    // a sitemap
+    ("sitemap-not-absolute", "the value of a sitemap isn't an http(s) URL that can be parsed", ""),
+    // any line
+    ("one-line",
+        "after the first colon of a line and before a comment, a space, a tab or a star is followed by User-agent:, Allow:, Disallow:, Crawl-delay: or Sitemap:, ASCII letters in any case", ""),
+    ("control-in-comment",
+        "a comment has a byte below 0x20 other than a tab, or isn't UTF-8", ""),
+    // the position of a line
+    ("rule-before-user-agent",
+        "a rule is above all User-agent lines of a file that has one", "no crawler has the rule (rule_before_user_agent)"),
+    ("empty-group",
+        "no rule and no delay follows a User-agent line", ""),
+    ("delay-splits-group",
+        "only delays are between a User-agent line and one above it, and the lower group has rules; not if the only name above is in the lower group, too; it is a note if that group is the one of *", ""),
+    ("group-past-size-limit",
+        "a User-agent line past the first 512,000 bytes has a name that no line before it has", "no line within the limit has the name (group_past_size_limit)"),
+    ("allowed-and-disallowed",
+        "a crawler of the report has this Disallow and an Allow with an equal path; * and / are equal; an empty Disallow isn't such an Allow; the number is the line of the first such Allow, for the first such crawler",
+        "the Disallow decides no verdict for that crawler, or, if one of the paths is *, none on a path (allowed_and_disallowed)"),
+    ("empty-disallow",
+        "a crawler of the report has this empty Disallow and a Disallow of / or *, but no Allow of these that is written so; the number is the line of that Disallow",
+        "for a crawler without such a line, every verdict is the same where an empty Disallow is no rule (empty_disallow)"),
+    // the groups
+    ("two-delays",
+        "the delay differs from the first one below the same User-agent lines", "if some or all of these lines are deleted, the delay of every crawler is the same (two_delays)"),
+    ("replaces-star",
+        "the crawlers of a group have none of the Disallow rules of *, in any of their groups, and no rule for the whole site, while * has a Disallow for a part of the site; not if only a Crawl-delay is between the group and that of * below; the number is how many Disallows * has",
+        "the crawler has none of the Disallows of *, and the number is right (replaces_star)"),
+    ("repeated-rule",
+        "the same rule is above it below the same User-agent lines; an empty Disallow counts as the Allow of / that it means here, so keep an Allow of / below one if there is a Disallow of /, since other crawlers need it",
+        "it decides no verdict; if some or all of these lines are deleted, every verdict of every crawler is the same (repeated_rule)"),
+    ("googlebot-group",
+        "the file names Googlebot, but not this crawler of Google, which is one that applies the group of Googlebot then", ""),
+    ("google-ignores-star",
+        "the file has a group of *, but doesn't name this crawler of Google, which is one that doesn't apply the group of *", ""),
+    // a rule that can be deleted
+    ("needless-rule",
+        "with --needless: the rule matches nothing, another rule matches everything that it matches and makes it superfluous, or it is an Allow of what is allowed without it, and all such rules can be deleted together; deleting only some of them may change a verdict. Not all of them are found. None is reported if the file is larger than 512,000 bytes or rejected for a crawler, if its first line would begin with a byte of a byte order mark then, or if crawlers need each other's rules in too many ways; nor a rule without which User-agent lines would join those below. Crawlers that apply the first rule that matches, or read an empty Disallow otherwise, may need them, so mend empty-disallow first",
+        "if exactly these lines are deleted, with their line ends, every verdict, the delay, the sitemaps and whether the file is rejected stay the same for each crawler (needless_lines_can_be_deleted)"),
+];
+
+/// The examples of some warnings, corrected so that the warning isn't given.
+#[rattlefmt::skip]
+static CORRECTIONS: [(Cause, &str); 54] = [
+    (Cause::LooksLikeHtml, "User-agent: *\nDisallow: /search"),
+    (Cause::NoDirectives, "User-agent: *\nDisallow: /search"),
+    (Cause::EmptyFile, "User-agent: *\nDisallow:"),
+    (Cause::NoUserAgent, "User-agent: *\nDisallow: /a\nDisallow: /b"),
+    (Cause::DamagedByteOrderMark, "User-agent: *\nAllow: /"),
+    (Cause::NulEndsLine, "User-agent: *\nAllow: /"),
+    (Cause::InvalidDelay, "User-agent: *\nCrawl-delay: 10"),
+    (Cause::RequestRateLine, "User-agent: *\nCrawl-delay: 10"),
+    (Cause::VisitTimeLine, "User-agent: *\nCrawl-delay: 10"),
+    (Cause::CleanParamLine, "User-agent: *\nDisallow: /*?ref="),
+    (Cause::CommentLine, "User-agent: *\n# hello"),
+    (Cause::LikeUserAgent, "User-agent: *\nUser-agent: a\nDisallow: /b"),
+    (Cause::LikeAllow, "User-agent: *\nAllow: /a"),
+    (Cause::LikeDisallow, "User-agent: *\nDisallow: /a"),
+    (Cause::LikeSitemap, "User-agent: *\nDisallow: /a\nSitemap: https://example.com/s.xml"),
+    (Cause::LikeCrawlDelay, "User-agent: *\nCrawl-delay: 1"),
+    (Cause::UnrecognizedLine, "User-agent: *\n# hello"),
+    (Cause::NonstandardField, "User-agent: *\nDisallow: /a"),
+    (Cause::MissingColon, "User-agent: *\nDisallow: /a"),
+    (Cause::SpaceAroundValue, "User-agent: *\nDisallow: /a"),
+    (Cause::InvalidProductToken, "User-agent: *\nUser-agent: Bot\nDisallow: /a"),
+    (Cause::HashLeavesRoot, "User-agent: *\nDisallow: /%23/admin"),
+    (Cause::HashCutsRule, "User-agent: *\nDisallow: /a # b"),
+    (Cause::RuleNotUtf8, "User-agent: *\nDisallow: /%C3%A9"),
+    (Cause::MissingSlash, "User-agent: *\nDisallow: /search"),
+    (Cause::UrlAsRule, "User-agent: *\nDisallow: /a"),
+    (Cause::OddCharacter, "User-agent: *\nDisallow: /?*id"),
+    (Cause::UnencodedCharacter, "User-agent: *\nDisallow: /*id"),
+    (Cause::QuotedRule, "User-agent: *\nDisallow: /a"),
+    (Cause::RegexSyntax, "User-agent: *\nDisallow: /*b"),
+    (Cause::StarAfterDollar, "User-agent: *\nDisallow: /a$"),
+    (Cause::DollarNotAtEnd, "User-agent: *\nDisallow: /*a"),
+    (Cause::NonstandardEscape, "User-agent: *\nDisallow: /%C3"),
+    (Cause::EscapedWildcard, "User-agent: *\nDisallow: /a*b"),
+    (Cause::EscapedDelimiter, "User-agent: *\nDisallow: /a%2Fb\nDisallow: /a/b"),
+    (Cause::DotSegment, "User-agent: *\nDisallow: /a"),
+    (Cause::SeveralValues, "User-agent: *\nDisallow: /a/\nDisallow: /b/"),
+    (Cause::DelayNotation, "User-agent: *\nCrawl-delay: 1000"),
+    (Cause::DelayOverADay, "User-agent: *\nCrawl-delay: 10"),
+    (Cause::SitemapNotAbsolute, "User-agent: *\nDisallow: /a\nSitemap: https://example.com/s.xml"),
+    (Cause::OneLine, "User-agent: *\nDisallow: /a"),
+    (Cause::ControlInComment, "# a"),
+    (Cause::RuleBeforeUserAgent, "User-agent: *\nDisallow: /a"),
+    (Cause::EmptyGroup, "User-agent: *\nDisallow: /a"),
+    (Cause::DelayAboveStar, "User-agent: a\nCrawl-delay: 1\nDisallow: /b\nUser-agent: *\nDisallow: /b"),
+    (Cause::DelaySplitsGroup, "User-agent: a\nUser-agent: b\nCrawl-delay: 1\nDisallow: /"),
+    (Cause::AllowedAndDisallowed, "Disallow: /a"),
+    (Cause::EmptyDisallow, "User-agent: *\nDisallow: /"),
+    (Cause::TwoDelays, "User-agent: *\nCrawl-delay: 1"),
+    (Cause::ReplacesStar, "User-agent: *\nDisallow: /a\nUser-agent: FerrisBot\nDisallow: /a\nDisallow: /b"),
+    (Cause::RepeatedRule, "User-agent: *\nDisallow: /a"),
+    (Cause::NeverDecides, "User-agent: *\nDisallow: /*b"),
+    (Cause::MatchesNothing, "User-agent: *\nDisallow: /a"),
+    (Cause::NotNeeded, "User-agent: *\nDisallow: /a"),
+];
+
+/// The rows of [`CONDITIONS`].
+#[tactic(auto, unfolding(crate::specs::Explain::all_conditions))]
+pub(crate) fn conditions() -> &'static [Condition]
+    ensures { map condition_value result.now ≡ all_conditions }
+{
+    &CONDITIONS
+}
+
+/// The rows of [`CORRECTIONS`].
+#[tactic(auto, unfolding(crate::specs::Explain::all_corrections))]
+pub(crate) fn corrections() -> &'static [(Cause, &'static str)]
+    ensures { map correction_value result.now ≡ all_corrections }
+{
+    &CORRECTIONS
+}
