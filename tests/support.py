@@ -92,7 +92,7 @@ FORMATS = re.findall(r'"(\w+)"', re.search(r"const NAMES: [^=]*= &\[(.*?)\];", (
 OF_A_URL = {"url-not-normal"}
 OF_A_CRAWLER = {"googlebot-group", "google-ignores-star"}
 OF_GROUP = {"googlebot-group"}
-KEYS = ("User-agent", "Allow", "Disallow", "Sitemap", "Crawl-delay")
+FIELDS = ("User-agent", "Allow", "Disallow", "Sitemap", "Crawl-delay")
 OF_RULES = {"replaces-star"}
 OF_A_LINE = {"allowed-and-disallowed", "empty-disallow"}
 NEEDLESS = ["never", "nothing", "allowed", "covered"]  # in the order of the messages of `needless-rule`
@@ -114,7 +114,7 @@ def level_and_text(name, detail=""):
         more = f" (and {others} other crawler{'' if others == '1' else 's'})" if others else ""
         return level, f"crawler {crawler}: {dict(WARNINGS[name])[level]}{more}"
     for level, text in WARNINGS[name]:
-        if detail == level or detail in WORDS and f" {detail} " in text or detail in KEYS and f'"{detail}:"' in text:
+        if detail == level or detail in WORDS and f" {detail} " in text or detail in FIELDS and f'"{detail}:"' in text:
             return level, text
     level, text = WARNINGS[name][-1]
     if name in OF_RULES:

@@ -7,7 +7,6 @@ import shlex
 import pytest
 from support import ALL_WARNINGS, CRATES, WARNINGS, run, spelled
 
-KEYS = ["User-agent", "Allow", "Disallow", "Sitemap", "Crawl-delay"]
 ABOUT = {
     "Syntax": "the syntax of the file, by RFC 9309",
     "Verdict": "what the file means; a verdict may not be that of RFC 9309",
@@ -19,8 +18,7 @@ PART = r"(\S.*)\nabout: (.*)\nfor example:\n((?:    .*\n)+)(?:instead:\n((?:    
 def listed():
     """The list: a line for each message."""
     for row in ALL_WARNINGS:
-        for key in KEYS if "KEY" in row["text"] else [""]:
-            yield row, f"{row['level']} {row['name']}: {row['text'].replace('KEY', key)}"
+        yield row, f"{row['level']} {row['name']}: {row['text']}"
 
 
 def explained(name):
