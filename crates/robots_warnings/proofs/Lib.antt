@@ -1,3 +1,4 @@
+pub mod ClosedLemmas
 pub mod NameLemmas
 pub mod PrintableLemmas
 pub mod RuleLemmas

@@ -1,9 +1,9 @@
 -- Sets of product tokens.
 use Rattle.std.proofs.Common.{◌≡◌, ◌||◌, Bool, cond, false, true, ℕ, List, [], ◌∷◌, ◌++◌, ap, refl, ◌+◌, ◌<◌}
-use Rattle.std.proofs.Common.{String, bytes_eq, length, map, not, slice_index_or, string_bytes, sym, take}
+use Rattle.std.proofs.Common.{Bor, bytes_eq, length, map, not, slice_index_or, sym, take}
 use Rattle.std.proofs.Common.{◌∙◌}
 use Rattle.std.specs.BTreeSet.{BTreeSet, Updates, contains}
-use Rattle.std.specs.{Global.Global, List.list_any, Str.str_to_ascii_lowercase}
+use Rattle.std.specs.{List.list_any, Str.str_to_ascii_lowercase}
 use Rattle.std.proofs.Math.Bool.{or-false}
 use Rattle.std.proofs.lemmas.List.{map-append, take_more}
 use Rattle.std.proofs.lemmas.List.Folds.{list_any-append}
@@ -33,15 +33,13 @@ name_added old new lowered name is_new in_lower_case is updates = record {
 }
 
 -- whether a test holds for one of the first names, in terms of the last of these
-pub any_next : (test : List ℕ → Bool) (names : List (String Global)) (at : ℕ) (item : String Global)
-    {before after : Bool} {name : List ℕ}
-    → at < length names → item ≡ slice_index_or names at item → name ≡ string_bytes item
-    → before ≡ list_any test (map string_bytes (take at names)) → after ≡ (before || test name)
-    → after ≡ list_any test (map string_bytes (take (at + 1) names))
-any_next test names at item {name} below here is was now =
-    let front = list_any test (map string_bytes (take at names)) in
-    now ∙ ap (λ (b : Bool). b || test name) was
-    ∙ ap (λ (n : List ℕ). front || test n) (is ∙ ap string_bytes here)
+pub any_next : (test : List ℕ → Bool) (names : List (Bor (List ℕ))) (at : ℕ) (item : Bor (List ℕ))
+    {before after : Bool} → at < length names
+    → before ≡ list_any test (map (λ name. name.now) (take at names))
+    → after ≡ (before || test (slice_index_or names at item).now)
+    → after ≡ list_any test (map (λ name. name.now) (take (at + 1) names))
+any_next test names at item below was now =
+    now ∙ ap (λ (b : Bool). b || test (slice_index_or names at item).now) was
     ∙ sym (rw (take_more names at item below) (simp (map-append, list_any-append, or-false)))
 
 -- whether a test holds for some item of a list with one more item

@@ -2,7 +2,7 @@
 use Rattle.std.proofs.Common.{◌≡◌, ℕ, ◌==◌, Bool, false, true, List, [], ◌∷◌, arith, inl, inr, length, refl}
 use Rattle.std.proofs.Common.{subst, suc, sym, ◌∙◌, ◌&&◌, ◌+◌, ◌<◌, Option, Some, None, String, bytes_eq}
 use Rattle.std.proofs.Common.{if◌then◌else◌, string_bytes, ap, ap₂, codes, drop, ◌||◌, ◌⊎◌, cond, map}
-use Rattle.std.proofs.Common.{slice_index_or}
+use Rattle.std.proofs.Common.{Bor, slice_index_or}
 use Rattle.std.proofs.lemmas.Bool.{cases_Bool, false≢true, ne_eqb}
 use Rattle.std.proofs.lemmas.List.{drop_more}
 use Rattle.std.proofs.lemmas.Bool.Decides.{nat_tests}
@@ -12,7 +12,7 @@ use Rattle.std.specs.{Prelude.is_some, String.string_eq}
 use Rattle.texting_robots.specs.Callers.{escaped, PlacedRule, by_value, label_by_value}
 use Rattle.texting_robots.specs.Escape.{is_escaped}
 use Rattle.texting_robots.proofs.RulesLemmas.{option_or_none}
-use Rattle.robots_warnings.specs.Closed.{is_whole_site}
+use Rattle.robots_warnings.proofs.ClosedLemmas.{differs}
 use Rattle.robots_warnings.specs.Conflicts.{allow_beside, compared, first_of}
 use Rattle.std.proofs.Math.Bool.{or-false, or-true}
 use Rattle.std.proofs.lemmas.Map.Text.{hash_map_updates_text, hash_set_updates_text}
@@ -25,40 +25,6 @@ use Rattle.texting_robots.specs.Group.{is_group}
 use Rattle.robots_warnings.specs.File.{lines_of}
 use Rattle.robots_warnings.specs.{Internal.Rules.Patterns, Replaced.denies}
 use Rattle.robots_warnings.proofs.NameLemmas.{either}
-
--- ---- rules for a whole site
-
-abbrev only_stars : List ℕ → Bool
-only_stars text = list_all (λ c. c == byte "*") text
-
--- an escaped byte isn't one that is never escaped
-differs : (b c : ℕ) → is_escaped c ≡ false → is_escaped b ≡ true → (b == c) ≡ false
-differs b c plain bad = ne_eqb b c (λ same. false≢true (sym plain ∙ ap is_escaped (sym same) ∙ bad))
-
--- stars aren't escaped, and no escape has one
-stars_escaped : (value : List ℕ) → only_stars (escaped value) ≡ only_stars value
-stars_escaped [] = refl
-stars_escaped (b ∷ value) = elim (cases_Bool (is_escaped b)) [
-  | inl bad ↦ rw (bad, differs b (byte "*") refl bad) refl
-  | inr good ↦ rw good (ap (λ rest. b == byte "*" && rest) (stars_escaped value))
-]
-
-pub whole_site_escaped : (value : List ℕ) → is_whole_site (escaped value) ≡ is_whole_site value
-whole_site_escaped [] = refl
-whole_site_escaped (b ∷ value) = elim (cases_Bool (is_escaped b)) [
-  | inl bad ↦ rw (bad, differs b (byte "/") refl bad, differs b (byte "*") refl bad) refl
-  | inr good ↦ rw good (ap (λ rest. (b == byte "/" || b == byte "*") && rest) (stars_escaped value))
-]
-
-some_bytes : (n : ℕ) → (suc n == 0) ≡ false
-some_bytes n = grind (arith, nat_tests)
-
-pub none_escaped : (value : List ℕ) → (length (escaped value) == 0) ≡ (length value == 0)
-none_escaped [] = refl
-none_escaped (b ∷ value) = elim (cases_Bool (is_escaped b)) [
-  | inl bad ↦ rw bad (some_bytes _ ∙ sym (some_bytes (length value)))
-  | inr good ↦ rw good (some_bytes _ ∙ sym (some_bytes (length value)))
-]
 
 -- ---- rules that contradict each other
 
@@ -92,19 +58,18 @@ first_added old new key number isnt updates other =
 -- ---- several crawlers
 
 -- loop step: one crawler more was looked at
-pub agents_next : (f : List ℕ → Option ℕ) (agents : List (String Global)) (at : ℕ) (item : String Global)
-    (old : Option ℕ) {new all : Option ℕ} {name : List ℕ} → at < length agents
-    → item ≡ slice_index_or agents at item → name ≡ string_bytes item → new ≡ option_or old (f name)
-    → option_or old (first_of f (map string_bytes (drop at agents))) ≡ all
-    → option_or new (first_of f (map string_bytes (drop (at + 1) agents))) ≡ all
-agents_next f agents at item old {new} {all} below here named is was =
-    let rest = first_of f (map string_bytes (drop (at + 1) agents)) in
+pub agents_next : (f : List ℕ → Option ℕ) (agents : List (Bor (List ℕ))) (at : ℕ) (item : Bor (List ℕ))
+    (old : Option ℕ) {new all : Option ℕ} → at < length agents
+    → new ≡ option_or old (f (slice_index_or agents at item).now)
+    → option_or old (first_of f (map (λ agent. agent.now) (drop at agents))) ≡ all
+    → option_or new (first_of f (map (λ agent. agent.now) (drop (at + 1) agents))) ≡ all
+agents_next f agents at item old {new} {all} below is was =
+    let rest = first_of f (map (λ agent. agent.now) (drop (at + 1) agents)) in
     let names = slice_index_or agents at item ∷ drop (at + 1) agents in
-    let before : option_or old (first_of f (map string_bytes names)) ≡ all
+    let before : option_or old (first_of f (map (λ agent. agent.now) names)) ≡ all
     = rw (drop_more agents at item below) at was in
-    let same = named ∙ ap string_bytes here in
-    ap (λ found. option_or found rest) (is ∙ ap (λ name. option_or old (f name)) same)
-    ∙ or_assoc old (f (string_bytes (slice_index_or agents at item))) rest ∙ before
+    ap (λ found. option_or found rest) is
+    ∙ or_assoc old (f (slice_index_or agents at item).now) rest ∙ before
 
 -- ---- patterns of everything
 

@@ -188,10 +188,10 @@ pub(crate) struct RuleLines {
 pub(crate) fn rule_lines(
     alloc: Global,
     site: &Site,
-    agents: &[String],
+    agents: &[&str],
     empty: &Numbers,
 ) -> Result<RuleLines, AllocError>
-    ensures { IfOk result (AreOf (contains nat_cmp empty.now) (map string_bytes agents.now) (file_lines site.now)) }
+    ensures { IfOk result (AreOf (contains nat_cmp empty.now) (map (λ agent. agent.now) agents.now) (file_lines site.now)) }
 {
     let mut conflicts = BTreeMap::new(alloc);
     let mut overruled = BTreeMap::new(alloc);

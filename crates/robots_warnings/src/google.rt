@@ -1,5 +1,5 @@
 //! Crawlers of Google to which Google applies another group than the one that applies here.
-ghost use Rattle.std.specs.Prelude.{◌≡◌, map, string_bytes};
+ghost use Rattle.std.specs.Prelude.{◌≡◌, map};
 ghost use Rattle.std.specs.List.{list_any};
 ghost use Rattle.std.specs.Str.{str_eq_ignore_ascii_case};
 ghost use Rattle.texting_robots.specs.Callers.{by_value, file_lines};
@@ -27,12 +27,12 @@ pub(crate) const IGNORING_STAR: [&str; 4] = [
 ];
 
 /// Whether one of these crawlers has this name, ASCII letters in any case.
-pub(crate) fn is_given(agents: &[String], name: &str) -> bool
-    ensures { result ≡ is_given (map string_bytes agents.now) name.now }
+pub(crate) fn is_given(agents: &[&str], name: &str) -> bool
+    ensures { result ≡ is_given (map (λ agent. agent.now) agents.now) name.now }
 {
     agents
         .iter()
-        .any(|agent| name.eq_ignore_ascii_case(agent.as_str()))
+        .any(|agent| name.eq_ignore_ascii_case(agent))
 }
 
 /// Whether the line is a user-agent line in which Google reads the name of this crawler.

@@ -3,7 +3,7 @@
 #![tactic(auto)]
 
 pub mod checks;
-mod closed;
+pub mod closed;
 mod conflicts;
 pub mod contents;
 pub mod empty_disallows;

@@ -1,5 +1,5 @@
 //! Groups of crawlers that have none of the Disallow rules of `*`.
-ghost use Rattle.std.specs.Prelude.{◌≡◌, ◌||◌, ◌&&◌, Bool, IfOk, List, OnOk, bytes_eq, map, string_bytes, ℕ};
+ghost use Rattle.std.specs.Prelude.{◌≡◌, ◌||◌, ◌&&◌, Bool, IfOk, List, OnOk, bytes_eq, map, ℕ};
 ghost use Rattle.std.specs.{BTreeSet.contains, HashSet.contains_text, List.list_any, Str.str_to_ascii_lowercase};
 ghost use Rattle.texting_robots.specs.Callers.{LineValue, by_value, file_lines, label_by_value};
 ghost use Rattle.texting_robots.specs.Group.{is_group};
@@ -36,7 +36,7 @@ pub(crate) fn star_count(alloc: Global, site: &Site) -> Result<usize, AllocError
 }
 
 /// Whether `*` has a Disallow that isn't of the whole site.
-#[tactic(auto, using(crate::proofs::RuleLemmas::whole_site_escaped))]
+#[tactic(auto, using(crate::proofs::ClosedLemmas::whole_site_escaped))]
 fn has_partial(site: &Site) -> bool
     ensures { result ≡ list_any is_partial (star_rules (file_lines site.now)) }
 {
@@ -72,7 +72,7 @@ fn denied_patterns(alloc: Global, site: &Site) -> Result<Patterns, AllocError>
 }
 
 /// Whether the rule is for the whole site, or a Disallow whose pattern is in the set.
-#[tactic(auto, using(crate::proofs::RuleLemmas::whole_site_escaped))]
+#[tactic(auto, using(crate::proofs::ClosedLemmas::whole_site_escaped))]
 fn is_kept(alloc: Global, denied: &Patterns, rule: &SiteRule<'_>) -> Result<bool, AllocError>
     ensures { IfOk result (λ is. is ≡ is_kept_in denied.now rule.now) }
 {
@@ -114,8 +114,8 @@ fn add_lacking(
 }
 
 /// The names, in lower case, of those of these crawlers that have none of the Disallows of `*`.
-fn lacking(alloc: Global, site: &Site, agents: &[String]) -> Result<Names, AllocError>
-    ensures { IfOk result (λ names. HasThose names (is_lacking (map string_bytes agents.now) (file_lines site.now))) }
+fn lacking(alloc: Global, site: &Site, agents: &[&str]) -> Result<Names, AllocError>
+    ensures { IfOk result (λ names. HasThose names (is_lacking (map (λ agent. agent.now) agents.now) (file_lines site.now))) }
 {
     let denied = denied_patterns(alloc, site)?;
     let mut names = BTreeSet::new(alloc);
@@ -194,11 +194,11 @@ fn is_replacing(
 pub(crate) fn replacing(
     alloc: Global,
     site: &Site,
-    agents: &[String],
+    agents: &[&str],
     labels: &[LabeledLine<'_>],
 ) -> Result<Vec<usize>, AllocError>
     ensures { IfOk result (λ found. found.items
-        ≡ replacing (map string_bytes agents.now) (file_lines site.now) (map label_by_value labels.now)) }
+        ≡ replacing (map (λ agent. agent.now) agents.now) (file_lines site.now) (map label_by_value labels.now)) }
 {
     let mut found = Vec::new(alloc);
     if !has_partial(site) {

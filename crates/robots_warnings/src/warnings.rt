@@ -1,5 +1,5 @@
 //! All warnings about a file and a request.
-ghost use Rattle.std.specs.Prelude.{◌≡◌, [], IfOk, OnOk, flat_map, if◌then◌else◌, map, option_map, string_bytes};
+ghost use Rattle.std.specs.Prelude.{◌≡◌, [], IfOk, OnOk, flat_map, if◌then◌else◌, map, option_map};
 ghost use Rattle.texting_robots.specs.Callers.{bodies_read, by_value, file_lines, label_by_value};
 ghost use Rattle.robots_warnings.specs.Checks.{directive_checks, is_directive, raw_checks, rule_checks, value_checks};
 ghost use Rattle.robots_warnings.specs.Contents.{comment_of, tail_of};
@@ -341,12 +341,12 @@ fn warn_of_numbers(
 fn warn_of_crawlers(
     alloc: Global,
     found: &mut Found<'_>,
-    agents: &[String],
+    agents: &[&str],
     read: &FileRead<'_, '_>,
 ) -> Result<(), AllocError>
     ensures { OnOk result (Adds found.old.items found.new.items
         (crawler_warnings (is_empty_at (bodies_read read.now.bytes.now) (map label_by_value read.now.labels.now))
-        (map string_bytes agents.now) (file_lines read.now.site.now) (map label_by_value read.now.labels.now))) }
+        (map (λ agent. agent.now) agents.now) (file_lines read.now.site.now) (map label_by_value read.now.labels.now))) }
 {
     let empty = empty_disallows(alloc, read.labels, read.bytes)?;
     let lines = rule_lines(alloc, read.site, agents, &empty)?;
@@ -361,11 +361,11 @@ fn warn_of_names<'a>(
     has_group: bool,
     everywhere: bool,
     site: &Site,
-    agents: &[String],
+    agents: &[&str],
     names: &[&'a str],
 ) -> Result<(), AllocError>
     ensures { OnOk result (Adds found.old.items found.new.items
-        (flat_map (google_warning cause has_group everywhere (map string_bytes agents.now) (file_lines site.now))
+        (flat_map (google_warning cause has_group everywhere (map (λ agent. agent.now) agents.now) (file_lines site.now))
         (map (λ name. name.now) names.now))) }
 {
     for name in names {
@@ -381,10 +381,10 @@ fn warn_of_google(
     found: &mut Found<'_>,
     everywhere: bool,
     site: &Site,
-    agents: &[String],
+    agents: &[&str],
 ) -> Result<(), AllocError>
     ensures { OnOk result (Adds found.old.items found.new.items
-        (google_warnings everywhere (map string_bytes agents.now) (file_lines site.now))) }
+        (google_warnings everywhere (map (λ agent. agent.now) agents.now) (file_lines site.now))) }
 {
     let has_googlebot = is_named_at_google(site, "Googlebot");
     let like = &LIKE_GOOGLEBOT;
@@ -430,11 +430,11 @@ fn warn_of_groups(
     alloc: Global,
     found: &mut Found<'_>,
     everywhere: bool,
-    agents: &[String],
+    agents: &[&str],
     read: &FileRead<'_, '_>,
 ) -> Result<(), AllocError>
     ensures { OnOk result (Adds found.old.items found.new.items (group_warnings everywhere
-        (map string_bytes agents.now) (bodies_read read.now.bytes.now) (file_lines read.now.site.now)
+        (map (λ agent. agent.now) agents.now) (bodies_read read.now.bytes.now) (file_lines read.now.site.now)
         (map label_by_value read.now.labels.now))) }
 {
     let (labels, site) = (read.labels, read.site);
@@ -455,12 +455,12 @@ fn warn_of_groups(
 pub fn warnings<'a>(
     alloc: Global,
     everywhere: bool,
-    agents: &[String],
+    agents: &[&str],
     urls: &[&'a str],
     read: &FileRead<'_, '_>,
 ) -> Result<Vec<Warning<'a>>, AllocError>
     ensures { IfOk result (λ found. found.items
-        ≡ warnings everywhere (map string_bytes agents.now) (map (λ url. url.now) urls.now)
+        ≡ warnings everywhere (map (λ agent. agent.now) agents.now) (map (λ url. url.now) urls.now)
         read.now.bytes.now read.now.facts (map label_by_value read.now.labels.now) (file_lines read.now.site.now)) }
 {
     let mut found = Vec::new(alloc);

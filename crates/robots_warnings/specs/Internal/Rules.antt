@@ -1,14 +1,14 @@
 -- What is found among the rules of a crawler: their lines by their patterns, as they are compared, and sets
 -- of
 -- patterns.
-use Rattle.std.specs.Prelude.{◌≡◌, ℕ, Bool, List, String, true, not, ◌||◌, ◌&&◌}
+use Rattle.std.specs.Prelude.{◌≡◌, ℕ, Bool, List, String, true, not, ◌||◌, ◌&&◌, length, nat_lt}
 use Rattle.std.specs.HashSet.{HashSet, contains_text}
 use Rattle.std.specs.{BTreeMap.get, BTreeSet.contains, BTreeSet.BTreeSet, Global.Global, HashMap.HashMap}
 use Rattle.std.specs.{HashMap.get_by_text, Ordering.nat_cmp, List.list_any}
 use Rattle.texting_robots.specs.Callers.{LineValue, PlacedRule}
 use Rattle.robots_warnings.specs.declared.conflicts.RuleLines.{RuleLines}
 use Rattle.robots_warnings.specs.Conflicts.{conflict, first_line, is_like, overruled}
-use Rattle.robots_warnings.specs.Closed.{is_closed, is_whole_site}
+use Rattle.robots_warnings.specs.Closed.{is_closed, is_rival, is_whole_site}
 use Rattle.robots_warnings.specs.{WarningValue.WarningValue, Warnings.rule_warnings, Replaced.denies}
 use Rattle.robots_warnings.specs.Internal.Names.{Key, key_cmp}
 
@@ -38,6 +38,11 @@ warnings_at found number =
 -- a set of patterns, for any hash function
 abbrev pub Patterns : Type 0 → Type 0
 Patterns S = HashSet (String Global) S
+
+-- a pattern has no rival among the rules exactly if it has this length at least
+abbrev pub IsNeeded : (is_exempt : List ℕ → Bool) → List PlacedRule → ℕ → Type 0
+IsNeeded is_exempt rules needed =
+    (pattern : List ℕ) → nat_lt (length pattern) needed ≡ list_any (is_rival is_exempt pattern) rules
 
 -- the set has exactly the patterns of the Disallows among the rules
 pub record HasDenied {S : Type 0} (denied : Patterns S) (rules : List PlacedRule) : Type 0 where

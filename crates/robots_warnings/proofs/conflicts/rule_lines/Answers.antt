@@ -8,19 +8,18 @@ pub loop-agent-preserved : goal.loop-agent-preserved
 loop-agent-preserved c =
     let agents = c.args.agents.now in
     let at = c.loop-agent.agent-index in
-    let item = c.agent-item.result in
     let lines = file_lines c.args.site.now in
     let is_empty = contains nat_cmp c.args.empty.now in
     let below = c.loop-agent-test.true in
     let was = c.loop-agent.invariant in
     record {
       conflicts = λ number.
-          agents_next (conflict_for is_empty lines number) agents at item _ below c.agent-item.is
-          c.deref.ensures (c.in_ok-add_others.ensures.conflicts number) (was.conflicts number);
+          agents_next (conflict_for is_empty lines number) agents at _ _ below
+          (c.in_ok-add_others.ensures.conflicts number) (was.conflicts number);
       overruled = λ number.
-          agents_next (overruled_for is_empty lines number) agents at item _ below c.agent-item.is
-          c.deref.ensures (c.in_ok-add_others.ensures.overruled number) (was.overruled number);
+          agents_next (overruled_for is_empty lines number) agents at _ _ below
+          (c.in_ok-add_others.ensures.overruled number) (was.overruled number);
       closed = λ number.
-          any_next (is_closed_for lines number) agents at item below c.agent-item.is
-          c.deref-in-loop-agent.ensures (was.closed number) (c.in_ok-add_closed.ensures number);
+          any_next (is_closed_for lines number) agents at _ below
+          (was.closed number) (c.in_ok-add_closed.ensures number);
     }

@@ -1,4 +1,4 @@
-use Rattle.std.proofs.Common.{◌≡◌, ℕ, List, drop, map, string_bytes, take}
+use Rattle.std.proofs.Common.{◌≡◌, ℕ, List, drop, map, take}
 use Rattle.std.specs.{BTreeMap.get, BTreeSet.contains, Option.option_or, Ordering.nat_cmp}
 use Rattle.texting_robots.specs.Callers.{file_lines}
 use Rattle.robots_warnings.specs.{Closed.is_closed, Conflicts.conflict, Conflicts.overruled}
@@ -9,13 +9,13 @@ abbrev pub invariant-loop-agent : goal.invariant-loop-agent
 invariant-loop-agent l =
     let lines = file_lines l.site in
     let is_empty = contains nat_cmp l.empty in
-    let all : List (List ℕ) = map string_bytes l.agents in
-    let left : List (List ℕ) = map string_bytes (drop l.agent-index l.agents) in
+    let all : List (List ℕ) = map (λ agent. agent.now) l.agents in
+    let left : List (List ℕ) = map (λ agent. agent.now) (drop l.agent-index l.agents) in
     record {
       conflicts : (number : ℕ) → option_or (get nat_cmp l.conflicts number)
           (conflict is_empty left lines number) ≡ conflict is_empty all lines number;
       overruled : (number : ℕ) → option_or (get nat_cmp l.overruled number)
           (overruled is_empty left lines number) ≡ overruled is_empty all lines number;
       closed : (number : ℕ) → contains nat_cmp l.closed number
-          ≡ is_closed (map string_bytes (take l.agent-index l.agents)) lines number;
+          ≡ is_closed (map (λ agent. agent.now) (take l.agent-index l.agents)) lines number;
     }

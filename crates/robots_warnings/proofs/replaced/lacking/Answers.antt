@@ -10,14 +10,13 @@ loop-agent-preserved c =
     let lines = file_lines c.args.site.now in
     let agents = c.args.agents.now in
     let at = c.loop-agent.agent-index in
-    let item = c.agent-item.result in
     let below : at < length agents = omega arith in
     record {
       denied = c.loop-agent.invariant.denied;
       names = record {
         each = λ key.
             any_next (λ agent. lacks_all lines agent && bytes_eq (str_to_ascii_lowercase agent) key.items)
-            agents at item below c.agent-item.is c.deref.ensures (c.loop-agent.invariant.names.each key)
+            agents at _ below (c.loop-agent.invariant.names.each key)
             (c.in_ok-add_lacking.ensures key);
       };
     }

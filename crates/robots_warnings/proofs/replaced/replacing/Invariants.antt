@@ -1,4 +1,4 @@
-use Rattle.std.proofs.Common.{◌≡◌, ◌++◌, length, map, string_bytes}
+use Rattle.std.proofs.Common.{◌≡◌, ◌++◌, length, map}
 use Rattle.texting_robots.specs.Callers.{file_lines, label_by_value}
 use Rattle.robots_warnings.specs.declared.positions.Preceding.TheVariants.{Other}
 use Rattle.robots_warnings.specs.Internal.Rules.{HasThose}
@@ -8,7 +8,7 @@ use Rattle.robots_warnings.proofs.replaced.replacing.Given as goal
 -- the numbers found and those among the remaining lines are all numbers
 abbrev pub invariant-loop-rest : goal.invariant-loop-rest
 invariant-loop-rest l =
-    let agents = map string_bytes l.agents in
+    let agents = map (λ agent. agent.now) l.agents in
     let lines = file_lines l.site in
     record {
       names : HasThose l.names (is_lacking agents lines);

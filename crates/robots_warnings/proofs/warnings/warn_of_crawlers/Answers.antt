@@ -1,4 +1,4 @@
-use Rattle.std.proofs.Common.{◌≡◌, OnOk, ap, flat_map, map, string_bytes, subst, ◌∙◌}
+use Rattle.std.proofs.Common.{◌≡◌, OnOk, ap, flat_map, map, subst, ◌∙◌}
 use Rattle.std.specs.{BTreeSet.contains, Ordering.nat_cmp}
 use Rattle.texting_robots.specs.Callers.{bodies_read, file_lines, label_by_value}
 use Rattle.robots_warnings.specs.Conflicts.{conflict, overruled}
@@ -9,7 +9,7 @@ use Rattle.robots_warnings.proofs.warnings.warn_of_crawlers.Goals as goal
 pub returns : goal.returns
 returns c =
     let labels = map label_by_value c.args.read.now.labels.now in
-    let agents = map string_bytes c.args.agents.now in
+    let agents = map (λ agent. agent.now) c.args.agents.now in
     let lines = file_lines c.args.read.now.site.now in
     let is_empty = is_empty_at (bodies_read c.args.read.now.bytes.now) labels in
     let empty : contains nat_cmp c.in_ok-empty.empty ≡ is_empty = λ i n. c.in_ok-empty.ensures n i in

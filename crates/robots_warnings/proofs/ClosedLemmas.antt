@@ -1,0 +1,80 @@
+-- Rules that leave nothing, or nearly nothing, of a site to a crawler.
+use Rattle.std.proofs.Common.{◌≡◌, ℕ, ◌+◌, ◌==◌, Bool, false, true, List, [], ◌∷◌, ap, arith, inl, inr, length}
+use Rattle.std.proofs.Common.{refl, rules, suc, sym, ◌∙◌, ◌&&◌, ◌||◌, nat_le, nat_lt, not}
+use Rattle.std.proofs.lemmas.Bool.{and_parts, cases_Bool, eqb-true, false≢true, ne_eqb}
+use Rattle.std.proofs.lemmas.Bool.Decides.{nat_tests}
+use Rattle.std.specs.{List.list_all, List.list_any, Str.byte}
+use Rattle.texting_robots.specs.Callers.{PlacedRule, escaped}
+use Rattle.texting_robots.specs.Escape.{is_escaped}
+use Rattle.robots_warnings.specs.Closed.{closes, is_anything, is_closing, is_rival, is_star_or_dollar}
+use Rattle.robots_warnings.specs.Closed.{is_whole_site}
+use Rattle.robots_warnings.specs.Internal.Rules.{IsNeeded}
+
+-- ---- escaped patterns
+
+-- an escaped byte isn't one that is never escaped
+pub differs : (b c : ℕ) → is_escaped c ≡ false → is_escaped b ≡ true → (b == c) ≡ false
+differs b c plain bad = ne_eqb b c (λ same. false≢true (sym plain ∙ ap is_escaped (sym same) ∙ bad))
+
+-- stars and `$` aren't escaped, and no escape has one
+stars_escaped : (value : List ℕ) → list_all is_star_or_dollar (escaped value) ≡ list_all is_star_or_dollar value
+stars_escaped [] = refl
+stars_escaped (b ∷ value) = elim (cases_Bool (is_escaped b)) [
+  | inl bad ↦ rw (bad, differs b (byte "*") refl bad, differs b (byte "$") refl bad) refl
+  | inr good ↦ rw good (ap (λ rest. is_star_or_dollar b && rest) (stars_escaped value))
+]
+
+anything_escaped : (value : List ℕ) → is_anything (escaped value) ≡ is_anything value
+anything_escaped [] = refl
+anything_escaped (b ∷ value) = elim (cases_Bool (is_escaped b)) [
+  | inl bad ↦ rw (bad, differs b (byte "*") refl bad) refl
+  | inr good ↦ rw good (ap (λ rest. b == byte "*" && rest) (stars_escaped value))
+]
+
+some_bytes : (n : ℕ) → (suc n == 0) ≡ false
+some_bytes n = grind (arith, nat_tests)
+
+pub none_escaped : (value : List ℕ) → (length (escaped value) == 0) ≡ (length value == 0)
+none_escaped [] = refl
+none_escaped (b ∷ value) = elim (cases_Bool (is_escaped b)) [
+  | inl bad ↦ rw bad (some_bytes _ ∙ sym (some_bytes (length value)))
+  | inr good ↦ rw good (some_bytes _ ∙ sym (some_bytes (length value)))
+]
+
+pub whole_site_escaped : (value : List ℕ) → is_whole_site (escaped value) ≡ is_whole_site value
+whole_site_escaped [] = refl
+whole_site_escaped (b ∷ value) = elim (cases_Bool (is_escaped b)) [
+  | inl bad ↦ rw (bad, differs b (byte "/") refl bad, differs b (byte "*") refl bad) refl
+  | inr good ↦ rw (good, none_escaped value, anything_escaped value, stars_escaped value) refl
+]
+
+-- a pattern of the whole site has no escaped byte
+stars_stay : (pattern : List ℕ) → list_all is_star_or_dollar pattern ≡ true → escaped pattern ≡ pattern
+stars_stay [] stars = refl
+stars_stay (b ∷ pattern) stars =
+    let (first, later) = and_parts (is_star_or_dollar b) _ stars in
+    elim (cases_Bool (is_escaped b)) [
+      | inl bad ↦ absurd (false≢true (sym (rw (differs b (byte "*") refl bad, differs b (byte "$") refl bad) refl) ∙ first))
+      | inr good ↦ rw (good, stars_stay pattern later) refl
+    ]
+
+pub whole_site_stays : (pattern : List ℕ) → is_whole_site pattern ≡ true → escaped pattern ≡ pattern
+whole_site_stays [] whole = refl
+whole_site_stays (b ∷ []) whole = grind (arith, nat_tests)
+whole_site_stays (b ∷ (c ∷ pattern)) whole = grind (arith, nat_tests, stars_stay)
+
+-- ---- rules that close the site
+
+pub closes_if : (is_exempt : List ℕ → Bool) (rules : List PlacedRule) (needed : ℕ) (placed : PlacedRule)
+    (value : List ℕ) → is_closing placed ≡ true → placed.rule.0 ≡ escaped value
+    → IsNeeded is_exempt rules needed → nat_le needed (length value) ≡ closes is_exempt rules placed
+closes_if is_exempt rules needed placed value closing same is =
+    let (denies, whole) = and_parts _ _ closing in
+    let stays = whole_site_stays value
+    (sym (whole_site_escaped value) ∙ ap is_whole_site (sym same) ∙ whole) in
+    at_least needed (length value) _
+    (sym (is placed.rule.0) ∙ ap (λ pattern. nat_lt (length pattern) needed) (same ∙ stays))
+    ∙ ap (λ closing. closing && not (list_any (is_rival is_exempt placed.rule.0) rules)) (sym closing)
+  where
+    at_least : (m n : ℕ) (rival : Bool) → rival ≡ nat_lt n m → nat_le m n ≡ not rival
+    at_least m n rival is = rw is (grind (arith, nat_tests))
