@@ -108,11 +108,16 @@ NEEDLESS = ["never", "nothing", "allowed", "covered"]  # in the order of the mes
 def level_and_text(name, detail=""):
     """The documented level and message of a warning. Its detail is the field name that may be meant; the level of one before the last; how
     many rules it is about; the line of another rule; the kind of a needless rule, possibly with such a line; the name of one of several
-    crawlers, in quotes; or else the URL that the warning is about."""
+    crawlers, in quotes; of `closes-everything` the level, such a name, and how many other crawlers there are, if there are some; or else the
+    URL that the warning is about."""
     if name == "needless-rule":
         kind, _, other = detail.partition(" ")
         level, text = WARNINGS[name][NEEDLESS.index(kind)]
         return level, f"{text} (see line {other})" if other else text
+    if name == "closes-everything":
+        level, crawler, others = re.fullmatch(r"(\w+) ('.*')(?: (\d+))?", detail).groups()
+        more = f" (and {others} other crawler{'' if others == '1' else 's'})" if others else ""
+        return level, f"crawler {crawler}: {dict(WARNINGS[name])[level]}{more}"
     for level, text in WARNINGS[name]:
         if detail == level or detail and "KEY" in text:
             return level, text.replace("KEY", detail)

@@ -1,13 +1,15 @@
 -- Rules that leave nothing, or nearly nothing, of a site to a crawler.
 use Rattle.std.proofs.Common.{◌≡◌, ℕ, ◌+◌, ◌==◌, Bool, false, true, List, [], ◌∷◌, ap, arith, inl, inr, length}
-use Rattle.std.proofs.Common.{refl, rules, suc, sym, ◌∙◌, ◌&&◌, ◌||◌, nat_le, nat_lt, not}
-use Rattle.std.proofs.lemmas.Bool.{and_parts, cases_Bool, eqb-true, false≢true, ne_eqb}
+use Rattle.std.proofs.Common.{refl, suc, sym, ◌∙◌, ◌&&◌, ◌||◌, nat_le, nat_lt, not, ◌++◌, ◌<◌, Bor, append_assoc}
+use Rattle.std.proofs.Common.{Option, cond, drop, filter, if◌then◌else◌, map, slice_index_or}
+use Rattle.std.proofs.lemmas.List.{drop_more, Elements.filter_map-append, Folds.list_any-append}
+use Rattle.std.proofs.lemmas.Bool.{and_parts, cases_Bool, false≢true, ne_eqb}
 use Rattle.std.proofs.lemmas.Bool.Decides.{nat_tests}
-use Rattle.std.specs.{List.list_all, List.list_any, Str.byte}
-use Rattle.texting_robots.specs.Callers.{PlacedRule, escaped}
-use Rattle.texting_robots.specs.Escape.{is_escaped}
+use Rattle.std.specs.{List.filter_map, List.list_all, List.list_any, Str.byte}
+use Rattle.texting_robots.specs.Callers.{LineValue, PlacedRule, escaped, sitemaps_in}
+use Rattle.texting_robots.specs.{Escape.is_escaped, Executable.sitemap_in}
 use Rattle.robots_warnings.specs.Closed.{closes, is_anything, is_closing, is_rival, is_star_or_dollar}
-use Rattle.robots_warnings.specs.Closed.{is_whole_site}
+use Rattle.robots_warnings.specs.Closed.{is_literally, is_number, is_whole_site, opened_path}
 use Rattle.robots_warnings.specs.Internal.Rules.{IsNeeded}
 
 -- ---- escaped patterns
@@ -62,6 +64,56 @@ pub whole_site_stays : (pattern : List ℕ) → is_whole_site pattern ≡ true �
 whole_site_stays [] whole = refl
 whole_site_stays (b ∷ []) whole = grind (arith, nat_tests)
 whole_site_stays (b ∷ (c ∷ pattern)) whole = grind (arith, nat_tests, stars_stay)
+
+-- ---- sitemaps
+
+abbrev opens : List ℕ → List LineValue → Bool
+opens pattern lines = list_any (is_literally pattern) (filter_map opened_path (sitemaps_in lines))
+
+-- loop step: the path of the sitemap in one line more was added
+pub opened_next : (pattern : List ℕ) (line : LineValue) (old : Bool) {left rest : List LineValue}
+    {new all : Bool} → left ≡ line ∷ rest → new ≡ (old || opens pattern (line ∷ [])) → (old || opens pattern left) ≡ all
+    → (new || opens pattern rest) ≡ all
+opened_next pattern line old {left} {rest} here is was =
+    let one = sitemaps_in (line ∷ []) in
+    let later = sitemaps_in rest in
+    let parts : opens pattern left ≡ (opens pattern (line ∷ []) || opens pattern rest) =
+    ap (opens pattern) here
+    ∙ ap (λ urls. list_any (is_literally pattern) (filter_map opened_path urls))
+    (filter_map-append sitemap_in (line ∷ []) rest)
+    ∙ ap (list_any (is_literally pattern)) (filter_map-append opened_path one later)
+    ∙ list_any-append (is_literally pattern) (filter_map opened_path one) (filter_map opened_path later) in
+    ap (λ new. new || opens pattern rest) is ∙ grouped old (opens pattern (line ∷ [])) (opens pattern rest)
+    ∙ ap (λ more. old || more) (sym parts) ∙ was
+  where
+    grouped : (a b c : Bool) → ((a || b) || c) ≡ (a || (b || c))
+    grouped true b c = refl
+    grouped false b c = refl
+
+-- ---- crawlers
+
+-- loop step: one crawler more was added, if the line with this number is the one that closes the site to it
+pub closed_next : (number : ℕ) (f : List ℕ → Option ℕ) (agents : List (Bor (List ℕ))) (at : ℕ)
+    (item : Bor (List ℕ)) (old : List (List ℕ)) {line : Option ℕ} {new all : List (List ℕ)}
+    → at < length agents → line ≡ f (slice_index_or agents at item).now
+    → new ≡ old ++ (if is_number number line then (slice_index_or agents at item).now ∷ [] else [])
+    → old ++ filter (λ agent. is_number number (f agent)) (map (λ agent. agent.now) (drop at agents)) ≡ all
+    → new ++ filter (λ agent. is_number number (f agent)) (map (λ agent. agent.now) (drop (at + 1) agents)) ≡ all
+closed_next number f agents at item old {line} {new} {all} below of is was =
+    let test : List ℕ → Bool = λ agent. is_number number (f agent) in
+    let agent = (slice_index_or agents at item).now in
+    let rest = filter test (map (λ agent. agent.now) (drop (at + 1) agents)) in
+    let names = slice_index_or agents at item ∷ drop (at + 1) agents in
+    let before : old ++ filter test (map (λ agent. agent.now) names) ≡ all
+    = rw (drop_more agents at item below) at was in
+    let one : Option ℕ → List (List ℕ) = λ line. if is_number number line then agent ∷ [] else [] in
+    ap (λ found. found ++ rest) (is ∙ ap (λ line. old ++ one line) of) ∙ append_assoc old (one (f agent)) rest
+    ∙ ap (λ more. old ++ more) (taken (test agent) agent rest) ∙ before
+  where
+    taken : (is : Bool) (agent : List ℕ) (rest : List (List ℕ))
+        → (if is then agent ∷ [] else []) ++ rest ≡ cond is (agent ∷ rest) rest
+    taken true agent rest = refl
+    taken false agent rest = refl
 
 -- ---- rules that close the site
 

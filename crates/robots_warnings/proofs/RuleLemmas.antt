@@ -1,13 +1,12 @@
 -- What is found among the rules of a crawler.
 use Rattle.std.proofs.Common.{◌≡◌, ℕ, ◌==◌, Bool, false, true, List, [], ◌∷◌, arith, inl, inr, length, refl}
-use Rattle.std.proofs.Common.{subst, suc, sym, ◌∙◌, ◌&&◌, ◌+◌, ◌<◌, Option, Some, None, String, bytes_eq}
+use Rattle.std.proofs.Common.{subst, sym, ◌∙◌, ◌&&◌, ◌+◌, ◌<◌, Option, Some, None, String, bytes_eq}
 use Rattle.std.proofs.Common.{if◌then◌else◌, string_bytes, ap, ap₂, codes, drop, ◌||◌, ◌⊎◌, cond, map}
 use Rattle.std.proofs.Common.{Bor, slice_index_or}
-use Rattle.std.proofs.lemmas.Bool.{cases_Bool, false≢true, ne_eqb}
+use Rattle.std.proofs.lemmas.Bool.{cases_Bool}
 use Rattle.std.proofs.lemmas.List.{drop_more}
-use Rattle.std.proofs.lemmas.Bool.Decides.{nat_tests}
 use Rattle.std.specs.HashMap.{Updates, get_by_text, hash_map_len}
-use Rattle.std.specs.{List.list_all, List.list_any, Str.byte, Global.Global, Map.lookup, Option.option_or}
+use Rattle.std.specs.{List.list_any, Str.byte, Global.Global, Map.lookup, Option.option_or}
 use Rattle.std.specs.{Prelude.is_some, String.string_eq}
 use Rattle.texting_robots.specs.Callers.{escaped, PlacedRule, by_value, label_by_value}
 use Rattle.texting_robots.specs.Escape.{is_escaped}

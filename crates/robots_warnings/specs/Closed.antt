@@ -1,9 +1,11 @@
 -- Rules that leave nothing, or nearly nothing, of a site to a crawler.
-use Rattle.std.specs.Prelude.{ℕ, ◌==◌, Bool, false, not, ◌||◌, ◌&&◌, List, [], ◌∷◌, Option, if◌then◌else◌, is_some}
-use Rattle.std.specs.Prelude.{length, nat_le}
-use Rattle.std.specs.{List.list_all, List.list_any, Str.byte}
-use Rattle.texting_robots.specs.Callers.{LineValue, PlacedRule, placed_rules}
+use Rattle.std.specs.Prelude.{ℕ, ◌==◌, Bool, false, not, ◌||◌, ◌&&◌, List, [], ◌∷◌, ◌++◌, Option, Some, None}
+use Rattle.std.specs.Prelude.{bytes_eq, codes, filter, if◌then◌else◌, is_some, length, nat_le, nat_lt}
+use Rattle.std.specs.{List.list_all, List.filter_map, List.list_any, Str.byte, Str.str_eq_ignore_ascii_case}
+use Rattle.texting_robots.specs.Callers.{LineValue, PlacedRule, is_named, placed_rules, prepared, robots_file}
+use Rattle.texting_robots.specs.Callers.{sitemaps_in}
 use Rattle.robots_warnings.specs.Conflicts.{first_line}
+use Rattle.robots_warnings.specs.declared.closed.TheConstants.{SEARCH_ENGINES}
 use Rattle.robots_warnings.specs.declared.closed.Reach.{Reach}
 use Rattle.robots_warnings.specs.declared.closed.Reach.TheVariants.{Everything, Nothing, Part}
 
@@ -54,17 +56,42 @@ reach_of lines agent =
     if list_all is_allow rules then Everything
     else if is_some (closing_line (λ pattern. false) rules) then Nothing else Part
 
--- TEMPORARY: until `closes-everything` uses `closing_line`
-abbrev pub is_opening : PlacedRule → Bool
-is_opening placed = placed.rule.1 && not (length placed.rule.0 == 0)
+-- ---- what may stay open
 
-abbrev pub is_closing_at : ℕ → PlacedRule → Bool
-is_closing_at number placed = is_closing placed && placed.line == number
+-- the pattern is literally this path, with or without `$`: the path has no star or `$`
+abbrev pub is_literally : List ℕ → List ℕ → Bool
+is_literally pattern path =
+    not (list_any is_star_or_dollar path)
+    && (bytes_eq path pattern || bytes_eq (path ++ codes "$") pattern)
 
-abbrev pub is_closed_for : List LineValue → ℕ → List ℕ → Bool
-is_closed_for lines number agent =
-    not (list_any is_opening (placed_rules agent lines))
-    && list_any (is_closing_at number) (placed_rules agent lines)
+-- the path of a sitemap with this URL, as a match target, if it has more than `/`
+abbrev pub opened_path : List ℕ → Option (List ℕ)
+opened_path url = let path = prepared url in if nat_lt 1 (length path) then Some path else None
 
-abbrev pub is_closed : List (List ℕ) → List LineValue → ℕ → Bool
-is_closed agents lines number = list_any (is_closed_for lines number) agents
+-- paths that Allows may open and leave the site closed: `/robots.txt`, and those of sitemaps that the file lists
+abbrev pub opened_paths : List LineValue → List (List ℕ)
+opened_paths lines = robots_file ∷ filter_map opened_path (sitemaps_in lines)
+
+abbrev pub is_exempt : List LineValue → List ℕ → Bool
+is_exempt lines pattern = list_any (is_literally pattern) (opened_paths lines)
+
+-- ---- `closes-everything`
+
+-- the line of the first rule that closes the site to the crawler
+abbrev pub line_closing : List LineValue → List ℕ → Option ℕ
+line_closing lines agent = closing_line (is_exempt lines) (placed_rules agent lines)
+
+abbrev pub is_number : ℕ → Option ℕ → Bool
+is_number number None = false
+is_number number (Some line) = line == number
+
+-- those of these crawlers to which the line with this number closes the site
+abbrev pub closed_at : List LineValue → List (List ℕ) → ℕ → List (List ℕ)
+closed_at lines agents number = filter (λ agent. is_number number (line_closing lines agent)) agents
+
+-- the crawler is `*`, or gets the rules of `*`, as no line names it, or is that of a large search engine
+abbrev pub is_major : List LineValue → List ℕ → Bool
+is_major lines agent =
+    bytes_eq agent (codes "*")
+    || (not (is_named agent lines)
+    || list_any (λ name. str_eq_ignore_ascii_case name.now agent) SEARCH_ENGINES)

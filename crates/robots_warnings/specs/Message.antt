@@ -1,6 +1,6 @@
 -- The message of a warning as the parts of a line.
 use Rattle.std.specs.Prelude.{◌≡◌, ℕ, zero, suc, ◌<◌, Bool, true, false, List, [], ◌∷◌, ◌++◌, Option, Some}
-use Rattle.std.specs.Prelude.{None, codes, length, slice_index_or}
+use Rattle.std.specs.Prelude.{None, ◌==◌, codes, if◌then◌else◌, length, slice_index_or}
 use Rattle.std.specs.List.{list_all}
 use Rattle.std.proofs.Common.{arith, refl}
 use Rattle.std.proofs.lemmas.Bool.{and_parts}
@@ -9,9 +9,10 @@ use Rattle.printable_text.specs.Text.{Absent, Fixed, Label, Number, Only, Part, 
 use Rattle.printable_text.specs.Text.{is_fixed, label, only, parts_text}
 use Rattle.robots_warnings.specs.contracts.table.Cause.{the_type}
 use Rattle.robots_warnings.specs.declared.table.Cause.{Cause}
+use Rattle.robots_warnings.specs.declared.table.Cause.TheVariants.{ClosesEverything, ClosesSite}
 use Rattle.robots_warnings.specs.declared.table.Cause.TheVariants.{GoogleIgnoresStar, GooglebotGroup}
 use Rattle.robots_warnings.specs.declared.warning.Detail.{Detail}
-use Rattle.robots_warnings.specs.declared.warning.Detail.TheVariants.{Line, Rules}
+use Rattle.robots_warnings.specs.declared.warning.Detail.TheVariants.{Line, Others, Rules}
 use Rattle.robots_warnings.specs.Table.{all_names, all_texts, name_of, number_of, text_of}
 use Rattle.robots_warnings.specs.WarningValue.{WarningValue}
 
@@ -44,6 +45,8 @@ fixed_text cause = record { text = text_of cause; safe = text_safe cause }
 
 -- the reason is about a crawler's name
 abbrev pub is_about_crawler : Cause → Bool
+is_about_crawler ClosesSite = true
+is_about_crawler ClosesEverything = true
 is_about_crawler GooglebotGroup = true
 is_about_crawler GoogleIgnoresStar = true
 is_about_crawler _ = false
@@ -62,16 +65,19 @@ abbrev pub reason_part : Cause → Option (List ℕ) → PartValue
 reason_part cause None = Only (fixed_text cause)
 reason_part cause (Some name) = Part (label (codes "': ") refl) (Word (fixed_text cause))
 
--- how many rules the message is about, or the line of another rule that it is about
+-- how many rules the message is about, the line of another rule that it is about, or how many other crawlers
 abbrev pub detail_part : Option Detail → PartValue
 detail_part None = Absent
 detail_part (Some (Rules count)) = Part (label (codes " (") refl) (Number count)
 detail_part (Some (Line number)) = Part (label (codes " (see line ") refl) (Number number)
+detail_part (Some (Others count)) = Part (label (codes " (and ") refl) (Number count)
 
 abbrev pub detail_end : Option Detail → PartValue
 detail_end None = Absent
 detail_end (Some (Rules count)) = only (codes " in all)") refl
 detail_end (Some (Line number)) = only (codes ")") refl
+detail_end (Some (Others count)) =
+    if count == 1 then only (codes " other crawler)") refl else only (codes " other crawlers)") refl
 
 -- the message, preceded by the URL or the crawler's name, and followed by the number that it ends with
 abbrev pub message_parts : WarningValue → List PartValue

@@ -56,7 +56,7 @@ begins_lone_percent text =
 -- after the first `?`, or after the first star, which may match a `?`
 abbrev pub has_odd_character : List ℕ → Bool
 has_odd_character value =
-    (has_any (codes "|\"<>`\x7F") value || somewhere begins_lone_percent value)
+    (has_any (codes "|\"<>`\u{7f}") value || somewhere begins_lone_percent value)
     || (has_any (codes "\\^{}'") (after_byte (byte "?") value)
     || has_any (codes "\\^{}'") (after_byte (byte "*") value))
 

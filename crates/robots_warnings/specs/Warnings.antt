@@ -1,26 +1,28 @@
 -- All warnings about a file and a request, in the order of output.
 use Rattle.std.specs.Prelude.{ℕ, Bool, List, [], ◌∷◌, ◌++◌, ◌&&◌, Option, Some, None, codes, flat_map}
-use Rattle.std.specs.Prelude.{if◌then◌else◌, map, not, ◌||◌}
+use Rattle.std.specs.Prelude.{◌==◌, filter, if◌then◌else◌, length, map, not, slice_get, ◌||◌}
 use Rattle.texting_robots.specs.Callers.{LineValue, Label, bodies_read, is_named}
 use Rattle.robots_warnings.specs.declared.facts.FileFacts.{FileFacts}
 use Rattle.robots_warnings.specs.declared.positions.Preceding.{Preceding}
 use Rattle.robots_warnings.specs.declared.positions.Preceding.TheVariants.{Other}
 use Rattle.robots_warnings.specs.declared.table.Cause.{Cause}
 use Rattle.robots_warnings.specs.declared.table.Cause.TheVariants.{AllowedAndDisallowed, ClosesEverything}
+use Rattle.robots_warnings.specs.declared.table.Cause.TheVariants.{ClosesSite}
 use Rattle.robots_warnings.specs.declared.table.Cause.TheVariants.{EmptyDisallow, EscapedDelimiter}
 use Rattle.robots_warnings.specs.declared.table.Cause.TheVariants.{GoogleIgnoresStar}
 use Rattle.robots_warnings.specs.declared.table.Cause.TheVariants.{GooglebotGroup, GroupPastSizeLimit}
 use Rattle.robots_warnings.specs.declared.table.Cause.TheVariants.{NonstandardEscape, RepeatedRule}
 use Rattle.robots_warnings.specs.declared.table.Cause.TheVariants.{ReplacesStar}
 use Rattle.robots_warnings.specs.declared.warning.Detail.{Detail}
-use Rattle.robots_warnings.specs.declared.warning.Detail.TheVariants.{Line, Rules}
+use Rattle.robots_warnings.specs.declared.warning.Detail.TheVariants.{Line, Others, Rules}
 use Rattle.robots_warnings.specs.Google.{is_given, is_named_at_google}
 use Rattle.robots_warnings.specs.declared.google.TheConstants.{IGNORING_STAR, LIKE_GOOGLEBOT}
 use Rattle.robots_warnings.specs.Checks.{Check, file_checks, line_checks, position_checks}
 use Rattle.robots_warnings.specs.Checks.{is_in_scope_of, url_checks}
 use Rattle.robots_warnings.specs.Positions.{first_delay, last_group, preceding_with, sole_name}
 use Rattle.robots_warnings.specs.Replaced.{replacing, star_count}
-use Rattle.robots_warnings.specs.{Closed.is_closed, Conflicts.conflict, Conflicts.overruled}
+use Rattle.robots_warnings.specs.{Closed.closed_at, Closed.is_major, Conflicts.conflict}
+use Rattle.robots_warnings.specs.{Conflicts.overruled}
 use Rattle.robots_warnings.specs.{EmptyDisallows.is_empty_at, Facts.suppresses_line_warnings, File.lines_of}
 use Rattle.robots_warnings.specs.{NamesPastLimit.names_past_limit, Repeated.repeated}
 use Rattle.robots_warnings.specs.declared.spellings.Spelling.TheVariants.{Plain, Standard}
@@ -96,20 +98,42 @@ past_limit_warnings facts file labels =
     if not facts.is_too_large || suppresses_line_warnings facts then []
     else warned_at GroupPastSizeLimit None (names_past_limit (lines_of labels) file)
 
--- warnings about a line with this number: the Allow that wins over it, the Disallow that it overrules, and
--- whether it closes the site, if it does
-abbrev pub rule_warnings : (allow disallow : ℕ → Option ℕ) → (closes : ℕ → Bool) → ℕ → List WarningValue
-rule_warnings allow disallow closes number =
+-- how many other crawlers a message is about, if there are some
+abbrev pub others : ℕ → Option Detail
+others count = if count == 0 then None else Some (Others count)
+
+-- the warning about a line that closes the site to this crawler and to so many others: about the first major
+-- one among them, if there is one
+abbrev pub closing_warning : ℕ → List ℕ → ℕ → (major : Option (List ℕ)) → WarningValue
+closing_warning number agent count None =
+    record { line = Some number; cause = ClosesEverything; about = Some agent; detail = others count }
+closing_warning number agent count (Some major) =
+    record { line = Some number; cause = ClosesSite; about = Some major; detail = others count }
+
+-- the same, if the line closes it to these crawlers
+abbrev pub closing_warnings : List LineValue → ℕ → List (List ℕ) → List WarningValue
+closing_warnings lines number [] = []
+closing_warnings lines number (agent ∷ agents) =
+    let major = slice_get (filter (is_major lines) (agent ∷ agents)) 0 in
+    closing_warning number agent (length agents) major ∷ []
+
+-- warnings about lines that close the site to some of these crawlers
+abbrev pub site_warnings : List (List ℕ) → List LineValue → List Label → List WarningValue
+site_warnings agents lines labels =
+    flat_map (λ label. closing_warnings lines label.number (closed_at lines agents label.number)) labels
+
+-- warnings about a line with this number: the Allow that wins over it, and the Disallow that it overrules
+abbrev pub rule_warnings : (allow disallow : ℕ → Option ℕ) → ℕ → List WarningValue
+rule_warnings allow disallow number =
     warned_beside AllowedAndDisallowed number (allow number)
-    ++ (warned_beside EmptyDisallow number (disallow number)
-    ++ warned (Some number) None ((ClosesEverything, closes number) ∷ []))
+    ++ warned_beside EmptyDisallow number (disallow number)
 
 -- warnings about the rules of these crawlers; `is_empty` holds for the numbers of empty Disallows
 abbrev pub crawler_warnings : (is_empty : ℕ → Bool) → List (List ℕ) → List LineValue → List Label
     → List WarningValue
 crawler_warnings is_empty agents lines labels = flat_map
-    (λ label. rule_warnings (conflict is_empty agents lines) (overruled is_empty agents lines)
-    (is_closed agents lines) label.number) labels
+    (λ label. rule_warnings (conflict is_empty agents lines) (overruled is_empty agents lines) label.number)
+    labels
 
 -- this warning about the crawler with this name, if it is among these, Google reads its name in no line, and
 -- there is the group that Google applies or doesn't apply to it
@@ -140,16 +164,19 @@ group_warnings everywhere agents bodies lines labels =
 
 -- ---- all
 
--- warnings about the file and the URLs
-abbrev pub general_warnings : FileFacts → List (List ℕ) → List WarningValue
-general_warnings facts urls = warned None None (file_checks facts) ++ flat_map url_warnings urls
+-- warnings about the file as a whole and the URLs
+abbrev pub general_warnings : FileFacts → (agents urls : List (List ℕ)) → List LineValue → List Label
+    → List WarningValue
+general_warnings facts agents urls lines labels =
+    warned None None (file_checks facts)
+    ++ (site_warnings agents lines labels ++ flat_map url_warnings urls)
 
 -- all warnings. `everywhere` is false for a report on a single crawler, and else the rules of all groups are
 -- checked; `agents` are the crawlers reported on, and `lines` the file's
 abbrev pub warnings : (everywhere : Bool) → (agents urls : List (List ℕ)) → List ℕ → FileFacts
     → List Label → List LineValue → List WarningValue
 warnings everywhere agents urls file facts labels lines =
-    general_warnings facts urls
+    general_warnings facts agents urls lines labels
     ++ (file_lines_warnings facts everywhere labels (bodies_read file)
     ++ (position_warnings labels
     ++ (past_limit_warnings facts file labels

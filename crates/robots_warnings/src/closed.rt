@@ -1,19 +1,44 @@
 //! Rules that leave nothing, or nearly nothing, of a site to a crawler.
-ghost use Rattle.std.specs.Prelude.{◌≡◌, ◌||◌, Bool, IfOk, List, OnOk, false, is_some, length, nat_lt, ℕ};
-ghost use Rattle.std.specs.HashSet.{contains_text};
-ghost use Rattle.std.specs.{BTreeSet.contains, List.list_all, List.list_any, Ordering.nat_cmp};
-ghost use Rattle.texting_robots.specs.Callers.{PlacedRule, file_lines, placed_rules};
-ghost use Rattle.robots_warnings.specs.Closed.{closes, closing_line, is_allow, is_anything, is_closed_for, is_closing};
-ghost use Rattle.robots_warnings.specs.Closed.{is_opening, is_rival, is_star_or_dollar, is_whole_site, reach_of};
-ghost use Rattle.robots_warnings.specs.Internal.Rules.{IsNeeded};
+ghost use Rattle.std.specs.Prelude.{◌≡◌, ◌++◌, ◌||◌, ◌∷◌, [], Bool, IfOk, List, OnOk, bytes_eq, codes, false, filter, flat_map, if◌then◌else◌};
+ghost use Rattle.std.specs.Prelude.{is_some, length, map, nat_lt, option_map, slice_get, string_bytes, ℕ};
+ghost use Rattle.std.specs.{HashSet.contains_text, List.filter_map, List.list_all, List.list_any};
+ghost use Rattle.texting_robots.specs.Callers.{PlacedRule, by_value, file_lines, label_by_value, placed_rules, sitemaps_in};
+ghost use Rattle.robots_warnings.specs.Closed.{closed_at, closes, closing_line, is_allow, is_anything, is_closing};
+ghost use Rattle.robots_warnings.specs.Closed.{is_literally, is_major, is_number, is_rival, is_star_or_dollar};
+ghost use Rattle.robots_warnings.specs.Closed.{is_whole_site, line_closing, opened_path, reach_of};
+ghost use Rattle.robots_warnings.specs.Internal.{Adds, Rules.HasExempt, Rules.IsNeeded, Rules.agents_at};
+ghost use Rattle.robots_warnings.specs.Warnings.{closing_warnings, others, site_warnings};
 
-use crate::numbers::{Numbers, insert_if};
+use crate::google::is_one_of;
+use crate::table::Cause;
+use crate::targets::prepared;
+use crate::urls::as_text;
+use crate::warning::{Detail, Found, Warning};
 use std::alloc::{AllocError, Global};
-use std::collections::HashSet;
+use std::collections::{BTreeMap, HashSet};
+use texting_robots::labels::LabeledLine;
+use texting_robots::parser::{Line, file_lines};
 use texting_robots::site::{Site, SiteRule};
 
 /// A set of patterns.
 type Patterns = HashSet<String>;
+
+/// For the number of a line, the crawlers to which it closes the site.
+type ClosedLines<'a> = BTreeMap<usize, Vec<&'a str>>;
+
+/// The crawlers of large search engines, as their documentation calls them: developers.google.com/crawling,
+/// bing.com/webmasters/help, duckduckgo.com/duckduckgo-help-pages, yandex.com/support/webmaster, help.baidu.com,
+/// support.apple.com/119829 and help.yahoo.com.
+pub(crate) const SEARCH_ENGINES: [&str; 8] = [
+    "Googlebot",
+    "Bingbot",
+    "DuckDuckBot",
+    "YandexBot",
+    "Yandex",
+    "Baiduspider",
+    "Applebot",
+    "Slurp",
+];
 
 /// What a crawler may fetch.
 #[derive(Clone, Copy, PartialEq, Eq)]
@@ -153,29 +178,240 @@ pub fn reach_of(alloc: Global, site: &Site, agent: &str) -> Result<Reach, AllocE
     Ok(Reach::Part)
 }
 
-/// Whether a rule of the crawler is an Allow whose pattern isn't empty.
-#[tactic(auto, using(crate::proofs::ClosedLemmas::none_escaped))]
-fn is_opened(site: &Site, agent: &str) -> bool
-    ensures { result ≡ list_any is_opening (placed_rules agent.now (file_lines site.now)) }
+/// Whether some byte is a star or `$`.
+fn has_star_or_dollar(text: &[u8]) -> bool
+    ensures { result ≡ list_any is_star_or_dollar text.now }
 {
-    for rule in site.rules(agent) {
-        if rule.is_allow && !rule.value.is_empty() {
-            return true;
-        }
-    }
-    false
+    text.iter().any(|byte| *byte == b'*' || *byte == b'$')
 }
 
-/// Inserts the line numbers of the Disallows of the whole site that apply to the crawler, unless such an Allow does.
-pub(crate) fn add_closed(numbers: &mut Numbers, site: &Site, agent: &str) -> Result<(), AllocError>
-    ensures { OnOk result ((number : ℕ) → contains nat_cmp numbers.new number
-        ≡ (contains nat_cmp numbers.old number || is_closed_for (file_lines site.now) number agent.now)) }
+/// Inserts the pattern.
+fn add(patterns: &mut Patterns, text: String) -> Result<(), AllocError>
+    ensures { OnOk result ((pattern : List ℕ) → contains_text patterns.new pattern
+        ≡ (contains_text patterns.old pattern || bytes_eq (string_bytes text) pattern)) }
 {
-    if is_opened(site, agent) {
+    patterns.insert(text)?;
+    Ok(())
+}
+
+/// Inserts the path, with and without `$`.
+fn add_both(alloc: Global, patterns: &mut Patterns, path: &str) -> Result<(), AllocError>
+    ensures { OnOk result ((pattern : List ℕ) → contains_text patterns.new pattern
+        ≡ (contains_text patterns.old pattern
+        || (bytes_eq path.now pattern || bytes_eq (path.now ++ codes "$") pattern))) }
+{
+    let mut ended = String::from_str(alloc, path)?;
+    ended.push_str("$")?;
+    add(patterns, String::from_str(alloc, path)?)?;
+    add(patterns, ended)
+}
+
+/// Inserts the path, with and without `$`, if it has no star or `$` itself.
+fn add_path(alloc: Global, patterns: &mut Patterns, path: &str) -> Result<(), AllocError>
+    ensures { OnOk result ((pattern : List ℕ) → contains_text patterns.new pattern
+        ≡ (contains_text patterns.old pattern || is_literally pattern path.now)) }
+{
+    if has_star_or_dollar(path.as_bytes()) {
         return Ok(());
     }
-    for rule in site.rules(agent) {
-        insert_if(numbers, is_closing(&rule), rule.line)?;
+    add_both(alloc, patterns, path)
+}
+
+/// Inserts the path of the sitemap with this URL, if it has more than `/`.
+fn add_url(alloc: Global, patterns: &mut Patterns, url: &str) -> Result<(), AllocError>
+    ensures { OnOk result ((pattern : List ℕ) → contains_text patterns.new pattern
+        ≡ (contains_text patterns.old pattern
+        || list_any (is_literally pattern) (filter_map opened_path (url.now ∷ [])))) }
+{
+    let path = prepared(alloc, url)?;
+    if path.len() > 1 {
+        add_path(alloc, patterns, path.as_str())?;
     }
     Ok(())
+}
+
+/// Inserts the path of the sitemap in the line, if there is one.
+fn add_line(alloc: Global, patterns: &mut Patterns, line: Line<'_>) -> Result<(), AllocError>
+    ensures { OnOk result ((pattern : List ℕ) → contains_text patterns.new pattern
+        ≡ (contains_text patterns.old pattern
+        || list_any (is_literally pattern) (filter_map opened_path (sitemaps_in (by_value line.entry ∷ []))))) }
+{
+    let Line::Sitemap(value) = line else {
+        return Ok(());
+    };
+    match as_text(value) {
+        Some(url) => add_url(alloc, patterns, url),
+        None => Ok(()),
+    }
+}
+
+/// The patterns of Allows that leave a site closed.
+fn exempt_patterns(alloc: Global, site: &Site) -> Result<Patterns, AllocError>
+    ensures { IfOk result (HasExempt (file_lines site.now)) }
+{
+    let mut patterns = HashSet::new(alloc);
+    add_path(alloc, &mut patterns, "/robots.txt")?;
+    for line in file_lines(site.text()) {
+        add_line(alloc, &mut patterns, line)?;
+    }
+    Ok(patterns)
+}
+
+/// The line of the first rule that closes the site to the crawler.
+fn line_closing(
+    alloc: Global,
+    exempt: &Patterns,
+    site: &Site,
+    agent: &str,
+) -> Result<Option<usize>, AllocError>
+    requires { HasExempt (file_lines site.now) exempt.now }
+    ensures { IfOk result (λ line. line ≡ line_closing (file_lines site.now) agent.now) }
+{
+    closing_line(alloc, exempt, site, agent)
+}
+
+/// Appends the crawler to those of the line, if there is one.
+fn add_closed<'a>(
+    alloc: Global,
+    closed: &mut ClosedLines<'a>,
+    line: Option<usize>,
+    agent: &'a str,
+) -> Result<(), AllocError>
+    ensures { OnOk result ((number : ℕ) → agents_at closed.new number
+        ≡ agents_at closed.old number ++ (if is_number number line then agent.now ∷ [] else [])) }
+{
+    let Some(number) = line else {
+        return Ok(());
+    };
+    let mut agents = match closed.remove(&number) {
+        Some(agents) => agents,
+        None => Vec::new(alloc),
+    };
+    agents.push(agent)?;
+    closed.insert(number, agents)?;
+    Ok(())
+}
+
+/// For each line, those of these crawlers to which it closes the site.
+fn closed_lines<'a>(
+    alloc: Global,
+    site: &Site,
+    agents: &[&'a str],
+) -> Result<ClosedLines<'a>, AllocError>
+    ensures { IfOk result (λ closed. (number : ℕ) → agents_at closed number
+        ≡ closed_at (file_lines site.now) (map (λ agent. agent.now) agents.now) number) }
+{
+    let exempt = exempt_patterns(alloc, site)?;
+    let mut closed = BTreeMap::new(alloc);
+    for agent in agents {
+        let line = line_closing(alloc, &exempt, site, agent)?;
+        add_closed(alloc, &mut closed, line, agent)?;
+    }
+    Ok(closed)
+}
+
+/// Whether the crawler is `*`, gets the rules of `*`, or is that of a large search engine.
+fn is_major(site: &Site, agent: &str) -> bool
+    ensures { result ≡ is_major (file_lines site.now) agent.now }
+{
+    agent == "*" || !site.is_named(agent) || is_one_of(&SEARCH_ENGINES, agent)
+}
+
+/// The first of these crawlers that is.
+fn first_major<'a>(site: &Site, agents: &[&'a str]) -> Option<&'a str>
+    ensures { option_map (λ agent. agent.now) result
+        ≡ slice_get (filter (is_major (file_lines site.now)) (map (λ agent. agent.now) agents.now)) 0 }
+{
+    let mut rest = agents;
+    while let [agent, after @ ..] = rest {
+        if is_major(site, agent) {
+            return Some(*agent);
+        }
+        rest = after;
+    }
+    None
+}
+
+/// How many other crawlers a message is about, if there are some.
+fn others(count: usize) -> Option<Detail>
+    ensures { result ≡ others count }
+{
+    if count == 0 {
+        return None;
+    }
+    Some(Detail::Others(count))
+}
+
+/// Appends the warning about the line with this number, which closes the site to these crawlers, if there are some.
+fn warn_of_agents<'a>(
+    found: &mut Found<'a>,
+    site: &Site,
+    number: usize,
+    agents: &[&'a str],
+) -> Result<(), AllocError>
+    ensures { OnOk result (Adds found.old.items found.new.items
+        (closing_warnings (file_lines site.now) number (map (λ agent. agent.now) agents.now))) }
+{
+    let [agent, rest @ ..] = agents else {
+        return Ok(());
+    };
+    let (cause, about) = match first_major(site, agents) {
+        Some(major) => (Cause::ClosesSite, major),
+        None => (Cause::ClosesEverything, *agent),
+    };
+    found.push(Warning {
+        line: Some(number),
+        cause,
+        about: Some(about),
+        detail: others(rest.len()),
+    })?;
+    Ok(())
+}
+
+/// Appends the warning about the line with this number, if it closes the site to a crawler.
+fn warn_of_number<'a>(
+    found: &mut Found<'a>,
+    site: &Site,
+    closed: &ClosedLines<'a>,
+    number: usize,
+) -> Result<(), AllocError>
+    ensures { OnOk result (Adds found.old.items found.new.items
+        (closing_warnings (file_lines site.now) number (agents_at closed.now number))) }
+{
+    let Some(agents) = closed.get(&number) else {
+        return Ok(());
+    };
+    warn_of_agents(found, site, number, agents)
+}
+
+/// Appends the warnings about those of these lines that close the site to a crawler.
+fn warn_of_lines<'a>(
+    found: &mut Found<'a>,
+    site: &Site,
+    closed: &ClosedLines<'a>,
+    labels: &[LabeledLine<'_>],
+) -> Result<(), AllocError>
+    ensures { OnOk result (Adds found.old.items found.new.items
+        (flat_map (λ label. closing_warnings (file_lines site.now) label.number (agents_at closed.now label.number))
+        (map label_by_value labels.now))) }
+{
+    for labeled in labels {
+        warn_of_number(found, site, closed, labeled.number)?;
+    }
+    Ok(())
+}
+
+/// Appends the warnings about lines that close the site to one of these crawlers.
+pub(crate) fn warn_of_closed<'a>(
+    alloc: Global,
+    found: &mut Found<'a>,
+    agents: &[&'a str],
+    site: &Site,
+    labels: &[LabeledLine<'_>],
+) -> Result<(), AllocError>
+    ensures { OnOk result (Adds found.old.items found.new.items (site_warnings (map (λ agent. agent.now) agents.now)
+        (file_lines site.now) (map label_by_value labels.now))) }
+{
+    let closed = closed_lines(alloc, site, agents)?;
+    warn_of_lines(found, site, &closed, labels)
 }

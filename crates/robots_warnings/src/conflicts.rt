@@ -8,10 +8,9 @@ ghost use Rattle.robots_warnings.specs.Conflicts.{allow_beside, compared, confli
 ghost use Rattle.robots_warnings.specs.Conflicts.{overruled_for, overruling};
 ghost use Rattle.robots_warnings.specs.Internal.Rules.{AreOf, HasFirst};
 
-use crate::closed::add_closed;
 use crate::numbers::Numbers;
 use std::alloc::{AllocError, Global};
-use std::collections::{BTreeMap, BTreeSet, HashMap};
+use std::collections::{BTreeMap, HashMap};
 use texting_robots::site::{Site, SiteRule};
 
 /// For a pattern, as it is compared, the line of the first Allow with it.
@@ -180,8 +179,6 @@ pub(crate) struct RuleLines {
     /// For the empty Disallows that apply to one of them, as does a Disallow of `/` or `*` and no Allow of these, the
     /// line of this Disallow.
     pub(crate) overruled: Others,
-    /// The rules that leave nothing but `/robots.txt` to one of them.
-    pub(crate) closed: Numbers,
 }
 
 /// What is to be said about the rules of these crawlers.
@@ -195,14 +192,11 @@ pub(crate) fn rule_lines(
 {
     let mut conflicts = BTreeMap::new(alloc);
     let mut overruled = BTreeMap::new(alloc);
-    let mut closed = BTreeSet::new(alloc);
     for agent in agents {
         add_others(alloc, &mut conflicts, &mut overruled, site, agent, empty)?;
-        add_closed(&mut closed, site, agent)?;
     }
     Ok(RuleLines {
         conflicts,
         overruled,
-        closed,
     })
 }

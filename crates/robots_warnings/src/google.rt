@@ -30,9 +30,7 @@ pub(crate) const IGNORING_STAR: [&str; 4] = [
 pub(crate) fn is_given(agents: &[&str], name: &str) -> bool
     ensures { result ≡ is_given (map (λ agent. agent.now) agents.now) name.now }
 {
-    agents
-        .iter()
-        .any(|agent| name.eq_ignore_ascii_case(agent))
+    agents.iter().any(|agent| name.eq_ignore_ascii_case(agent))
 }
 
 /// Whether the line is a user-agent line in which Google reads the name of this crawler.
@@ -58,7 +56,7 @@ pub(crate) fn is_named_at_google(site: &Site, agent: &str) -> bool
 }
 
 /// Whether one of these names is that of the crawler, ASCII letters in any case.
-fn is_one_of(names: &[&str], agent: &str) -> bool
+pub(crate) fn is_one_of(names: &[&str], agent: &str) -> bool
     ensures { result ≡ list_any (λ name. str_eq_ignore_ascii_case name.now agent.now) names.now }
 {
     names.iter().any(|name| name.eq_ignore_ascii_case(agent))

@@ -89,6 +89,7 @@ pub enum Cause {
     EmptyDisallow,
     // the groups
     TwoDelays,
+    ClosesSite,
     ClosesEverything,
     ReplacesStar,
     RepeatedRule,
@@ -114,7 +115,7 @@ pub enum Topic {
 
 /// The warnings with their levels, topics and names.
 #[rattlefmt::skip]
-pub static WARNINGS: [(Cause, Level, Topic, &str); 69] = [
+pub static WARNINGS: [(Cause, Level, Topic, &str); 70] = [
     // the file
     (Cause::LooksLikeHtml, Level::Error, Topic::Syntax, "looks-like-html"),
     (Cause::LooksLikeUtf16, Level::Error, Topic::Syntax, "looks-like-utf-16"),
@@ -187,6 +188,7 @@ pub static WARNINGS: [(Cause, Level, Topic, &str); 69] = [
     (Cause::EmptyDisallow, Level::Warning, Topic::Verdict, "empty-disallow"),
     // the groups
     (Cause::TwoDelays, Level::Warning, Topic::Meaning, "two-delays"),
+    (Cause::ClosesSite, Level::Warning, Topic::Meaning, "closes-everything"),
     (Cause::ClosesEverything, Level::Note, Topic::Meaning, "closes-everything"),
     (Cause::ReplacesStar, Level::Note, Topic::Meaning, "replaces-star"),
     (Cause::RepeatedRule, Level::Note, Topic::Meaning, "repeated-rule"),

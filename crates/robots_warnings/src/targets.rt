@@ -50,7 +50,7 @@ fn requested_target(url: &Url) -> &str
 }
 
 /// The match target that the library gives a text.
-fn prepared(alloc: Global, text: &str) -> Result<String, AllocError>
+pub(crate) fn prepared(alloc: Global, text: &str) -> Result<String, AllocError>
     ensures { IfOk result (λ target. string_bytes target ≡ prepared text.now) }
 {
     match Robot::prepare_url(alloc, text) {

@@ -3,7 +3,7 @@ use crate::table::Cause;
 
 /// For each warning, in the order of [`WARNINGS`](crate::table::WARNINGS), its message.
 #[rattlefmt::skip]
-pub(crate) static MESSAGES: [(Cause, &str); 69] = [
+pub(crate) static MESSAGES: [(Cause, &str); 70] = [
     // the file
     (Cause::LooksLikeHtml,
         "no usable line found; the text starts with <, so it may be an HTML page; serve a plain-text robots.txt instead"),
@@ -136,8 +136,10 @@ pub(crate) static MESSAGES: [(Cause, &str); 69] = [
     // the groups
     (Cause::TwoDelays,
         "the delay differs from one above it in the same group, so it isn't used here, but other crawlers may use it; delete all but one"),
+    (Cause::ClosesSite,
+        "the whole site is closed to it, except /robots.txt and sitemaps of this file that an Allow names; if that isn't meant, delete this rule or add a longer Allow"),
     (Cause::ClosesEverything,
-        "at least one crawler that gets this rule may fetch nothing but /robots.txt; if that isn't meant, delete the rule or add an Allow"),
+        "may fetch nothing but /robots.txt and sitemaps of this file that an Allow names; if that isn't meant, delete this rule or add a longer Allow"),
     (Cause::ReplacesStar,
         "the group has none of the Disallow rules of *, and a crawler with a group of its own doesn't get them; repeat in this group those that should apply to it"),
     (Cause::RepeatedRule,
@@ -160,7 +162,7 @@ pub(crate) static MESSAGES: [(Cause, &str); 69] = [
 /// For each warning, in the order of [`WARNINGS`](crate::table::WARNINGS), a file that triggers it for FerrisBot, or with
 /// the arguments in its first line, or a command. In a file, `\xFF` is a byte, and `\{512000 a}` is 512,000 times an `a`.
 #[rattlefmt::skip]
-pub(crate) static EXAMPLES: [(Cause, &str); 69] = [
+pub(crate) static EXAMPLES: [(Cause, &str); 70] = [
     // the file
     (Cause::LooksLikeHtml, "<html>\n</html>"),
     (Cause::LooksLikeUtf16, "\\xFF\\xFED\\x00"),
@@ -233,7 +235,8 @@ pub(crate) static EXAMPLES: [(Cause, &str); 69] = [
     (Cause::EmptyDisallow, "User-agent: *\nDisallow: /\nDisallow:"),
     // the groups
     (Cause::TwoDelays, "User-agent: *\nCrawl-delay: 1\nCrawl-delay: 2"),
-    (Cause::ClosesEverything, "User-agent: *\nDisallow: /"),
+    (Cause::ClosesSite, "User-agent: *\nDisallow: /"),
+    (Cause::ClosesEverything, "User-agent: GPTBot\nDisallow: /"),
     (Cause::ReplacesStar, "User-agent: *\nDisallow: /a\nUser-agent: FerrisBot\nDisallow: /b"),
     (Cause::RepeatedRule, "User-agent: *\nDisallow: /a\nDisallow: /a"),
     (Cause::GooglebotGroup, "# robots_audit Googlebot-News\nUser-agent: Googlebot\nDisallow: /a"),

@@ -1,5 +1,6 @@
 //! Conditions on URLs and paths.
-ghost use Rattle.std.specs.Prelude.{◌≡◌, ◌&&◌, IfOk, not};
+ghost use Rattle.std.specs.Prelude.{◌≡◌, ◌&&◌, IfOk, MatchOption, false, not, true};
+ghost use Rattle.std.specs.Str.{is_utf8};
 ghost use Rattle.robots_warnings.specs.Urls.{begins_as_url, begins_in_any_case, is_absolute_url};
 ghost use Rattle.robots_warnings.specs.Urls.{is_unparsable};
 
@@ -37,6 +38,17 @@ pub(crate) fn is_parsable_url(alloc: Global, text: &str) -> Result<bool, AllocEr
     ensures { IfOk result (λ answer. answer ≡ (begins_as_url text.now && not (is_unparsable text.now))) }
 {
     Ok(begins_as_url(text.as_bytes()) && !is_unparsable(alloc, text)?)
+}
+
+/// The bytes as a string, or `None` if they aren't UTF-8.
+pub(crate) fn as_text<'a>(bytes: &'a [u8]) -> Option<&'a str>
+    ensures { MatchOption result (is_utf8 bytes.now ≡ false)
+        (λ text. (is_utf8 bytes.now ≡ true) × (text.now ≡ bytes.now)) }
+{
+    match std::str::from_utf8(bytes) {
+        Ok(text) => Some(text),
+        Err(_) => None,
+    }
 }
 
 /// Whether the value is an absolute http(s) URL.

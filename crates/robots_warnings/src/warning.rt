@@ -16,6 +16,8 @@ pub enum Detail {
     Rules(usize),
     /// The line of another rule that the message is about.
     Line(usize),
+    /// How many other crawlers the message is about.
+    Others(usize),
 }
 
 /// A warning.
@@ -29,6 +31,9 @@ pub struct Warning<'a> {
     /// The number that the message ends with, if it does.
     pub detail: Option<Detail>,
 }
+
+/// The warnings found so far.
+pub(crate) type Found<'a> = Vec<Warning<'a>>;
 
 impl<'a> Model for Warning<'a> {
     ghost use Rattle.robots_warnings.specs.WarningValue.{WarningValue};
@@ -63,7 +68,10 @@ fn about_part<'a>(cause: Cause, about: Option<&'a str>) -> Part<'a>
     };
     let name = Value::Untrusted(name.as_bytes());
     match cause {
-        Cause::GooglebotGroup | Cause::GoogleIgnoresStar => Part("crawler '", name),
+        Cause::ClosesSite
+        | Cause::ClosesEverything
+        | Cause::GooglebotGroup
+        | Cause::GoogleIgnoresStar => Part("crawler '", name),
         _ => Part("URL '", name),
     }
 }
@@ -85,6 +93,7 @@ fn detail_part(detail: Option<Detail>) -> Part<'static>
     match detail {
         Some(Detail::Rules(count)) => Part(" (", Value::Number(count)),
         Some(Detail::Line(number)) => Part(" (see line ", Value::Number(number)),
+        Some(Detail::Others(count)) => Part(" (and ", Value::Number(count)),
         None => Part("", Value::Nothing),
     }
 }
@@ -96,6 +105,8 @@ fn detail_end(detail: Option<Detail>) -> Part<'static>
     match detail {
         Some(Detail::Rules(_)) => Part(" in all)", Value::Nothing),
         Some(Detail::Line(_)) => Part(")", Value::Nothing),
+        Some(Detail::Others(1)) => Part(" other crawler)", Value::Nothing),
+        Some(Detail::Others(_)) => Part(" other crawlers)", Value::Nothing),
         None => Part("", Value::Nothing),
     }
 }

@@ -12,9 +12,10 @@ ghost use Rattle.robots_warnings.specs.Warnings.{google_warning, google_warnings
 ghost use Rattle.robots_warnings.specs.Warnings.{past_limit_warnings, position_warnings, url_warnings, warned, warned_at, warned_beside, warnings};
 
 use crate::checks::{
-    Check, field_checks, file_checks, is_in_scope_of, position_checks, raw_rule_checks, rule_checks,
-    sitemap_checks, text_checks, url_checks, user_agent_checks,
+    Check, field_checks, file_checks, is_in_scope_of, position_checks, raw_rule_checks,
+    rule_checks, sitemap_checks, text_checks, url_checks, user_agent_checks,
 };
+use crate::closed::warn_of_closed;
 use crate::conflicts::{RuleLines, rule_lines};
 use crate::contents::{has_odd_delay, has_odd_space, split_content};
 use crate::empty_disallows::empty_disallows;
@@ -28,7 +29,7 @@ use crate::repeated::repeated;
 use crate::replaced::{replacing, star_count};
 use crate::spellings::{Spelling, unpaired};
 use crate::table::Cause;
-use crate::warning::{Detail, Warning};
+use crate::warning::{Detail, Found, Warning};
 use std::alloc::{AllocError, Global};
 use texting_robots::labels::LabeledLine;
 use texting_robots::parser::{Line, file_bodies};
@@ -46,9 +47,6 @@ pub struct FileRead<'f, 'b> {
     pub labels: &'f [LabeledLine<'b>],
     pub site: &'f Site,
 }
-
-/// The warnings found so far.
-type Found<'a> = Vec<Warning<'a>>;
 
 /// Appends the warnings whose conditions hold.
 fn warn<'a>(
@@ -108,17 +106,20 @@ fn warn_of_urls<'a>(
     Ok(())
 }
 
-/// Appends the warnings about the file and the URLs.
+/// Appends the warnings about the file as a whole and the URLs.
 fn warn_in_general<'a>(
     alloc: Global,
     found: &mut Found<'a>,
-    facts: FileFacts,
+    agents: &[&'a str],
     urls: &[&'a str],
+    read: &FileRead<'_, '_>,
 ) -> Result<(), AllocError>
     ensures { OnOk result (Adds found.old.items found.new.items
-        (general_warnings facts (map (λ url. url.now) urls.now))) }
+        (general_warnings read.now.facts (map (λ agent. agent.now) agents.now) (map (λ url. url.now) urls.now)
+        (file_lines read.now.site.now) (map label_by_value read.now.labels.now))) }
 {
-    warn(found, None, None, &file_checks(facts))?;
+    warn(found, None, None, &file_checks(read.facts))?;
+    warn_of_closed(alloc, found, agents, read.site, read.labels)?;
     warn_of_urls(alloc, found, urls)
 }
 
@@ -312,14 +313,7 @@ fn warn_of_number(found: &mut Found<'_>, number: usize, lines: &RuleLines) -> Re
     let allow = lines.conflicts.get(&number).copied();
     warn_beside(found, Cause::AllowedAndDisallowed, number, allow)?;
     let disallow = lines.overruled.get(&number).copied();
-    warn_beside(found, Cause::EmptyDisallow, number, disallow)?;
-    let closes = lines.closed.contains(&number);
-    warn(
-        found,
-        Some(number),
-        None,
-        &[(Cause::ClosesEverything, closes)],
-    )
+    warn_beside(found, Cause::EmptyDisallow, number, disallow)
 }
 
 /// Appends the warnings about these lines.
@@ -455,7 +449,7 @@ fn warn_of_groups(
 pub fn warnings<'a>(
     alloc: Global,
     everywhere: bool,
-    agents: &[&str],
+    agents: &[&'a str],
     urls: &[&'a str],
     read: &FileRead<'_, '_>,
 ) -> Result<Vec<Warning<'a>>, AllocError>
@@ -464,7 +458,7 @@ pub fn warnings<'a>(
         read.now.bytes.now read.now.facts (map label_by_value read.now.labels.now) (file_lines read.now.site.now)) }
 {
     let mut found = Vec::new(alloc);
-    warn_in_general(alloc, &mut found, read.facts, urls)?;
+    warn_in_general(alloc, &mut found, agents, urls, read)?;
     warn_of_lines(alloc, &mut found, everywhere, read)?;
     warn_of_positions(&mut found, read.labels)?;
     warn_past_limit(alloc, &mut found, read)?;

@@ -1,14 +1,16 @@
 -- What is found among the rules of a crawler: their lines by their patterns, as they are compared, and sets
 -- of
 -- patterns.
-use Rattle.std.specs.Prelude.{◌≡◌, ℕ, Bool, List, String, true, not, ◌||◌, ◌&&◌, length, nat_lt}
+use Rattle.std.specs.Prelude.{◌≡◌, ℕ, Bool, List, String, true, not, ◌||◌, ◌&&◌, length, map, nat_lt}
+use Rattle.std.specs.Prelude.{Option, Some, None, []}
 use Rattle.std.specs.HashSet.{HashSet, contains_text}
-use Rattle.std.specs.{BTreeMap.get, BTreeSet.contains, BTreeSet.BTreeSet, Global.Global, HashMap.HashMap}
+use Rattle.std.specs.{Borrow.Bor, BTreeMap.BTreeMap, BTreeMap.get, BTreeSet.contains, BTreeSet.BTreeSet}
+use Rattle.std.specs.{Global.Global, Global.Vec, HashMap.HashMap}
 use Rattle.std.specs.{HashMap.get_by_text, Ordering.nat_cmp, List.list_any}
 use Rattle.texting_robots.specs.Callers.{LineValue, PlacedRule}
 use Rattle.robots_warnings.specs.declared.conflicts.RuleLines.{RuleLines}
 use Rattle.robots_warnings.specs.Conflicts.{conflict, first_line, is_like, overruled}
-use Rattle.robots_warnings.specs.Closed.{is_closed, is_rival, is_whole_site}
+use Rattle.robots_warnings.specs.Closed.{is_exempt, is_rival, is_whole_site}
 use Rattle.robots_warnings.specs.{WarningValue.WarningValue, Warnings.rule_warnings, Replaced.denies}
 use Rattle.robots_warnings.specs.Internal.Names.{Key, key_cmp}
 
@@ -27,13 +29,11 @@ pub record AreOf (is_empty : ℕ → Bool) (agents : List (List ℕ)) (lines : L
     : Type 0 where
   pub conflicts : (number : ℕ) → get nat_cmp found.conflicts number ≡ conflict is_empty agents lines number
   pub overruled : (number : ℕ) → get nat_cmp found.overruled number ≡ overruled is_empty agents lines number
-  pub closed : (number : ℕ) → contains nat_cmp found.closed number ≡ is_closed agents lines number
 
 -- the warnings about a line with this number
 abbrev pub warnings_at : RuleLines → ℕ → List WarningValue
 warnings_at found number =
-    rule_warnings (get nat_cmp found.conflicts) (get nat_cmp found.overruled) (contains nat_cmp found.closed)
-    number
+    rule_warnings (get nat_cmp found.conflicts) (get nat_cmp found.overruled) number
 
 -- a set of patterns, for any hash function
 abbrev pub Patterns : Type 0 → Type 0
@@ -43,6 +43,19 @@ Patterns S = HashSet (String Global) S
 abbrev pub IsNeeded : (is_exempt : List ℕ → Bool) → List PlacedRule → ℕ → Type 0
 IsNeeded is_exempt rules needed =
     (pattern : List ℕ) → nat_lt (length pattern) needed ≡ list_any (is_rival is_exempt pattern) rules
+
+-- the set has exactly the patterns of Allows that leave a site closed
+pub record HasExempt {S : Type 0} (lines : List LineValue) (patterns : Patterns S) : Type 0 where
+  pub each : (pattern : List ℕ) → contains_text patterns pattern ≡ is_exempt lines pattern
+
+-- the names of these crawlers
+abbrev pub names_of : Option (Vec (Bor (List ℕ))) → List (List ℕ)
+names_of None = []
+names_of (Some agents) = map (λ agent. agent.now) agents.items
+
+-- the crawlers to which the line with this number closes the site, in a map from such numbers
+abbrev pub agents_at : BTreeMap ℕ (Vec (Bor (List ℕ))) → ℕ → List (List ℕ)
+agents_at closed number = names_of (get nat_cmp closed number)
 
 -- the set has exactly the patterns of the Disallows among the rules
 pub record HasDenied {S : Type 0} (denied : Patterns S) (rules : List PlacedRule) : Type 0 where

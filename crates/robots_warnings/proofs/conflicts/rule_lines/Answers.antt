@@ -1,7 +1,7 @@
 use Rattle.std.specs.{BTreeSet.contains, Ordering.nat_cmp}
 use Rattle.texting_robots.specs.Callers.{file_lines}
-use Rattle.robots_warnings.specs.{Closed.is_closed_for, Conflicts.conflict_for, Conflicts.overruled_for}
-use Rattle.robots_warnings.proofs.{RuleLemmas.agents_next, NameLemmas.any_next}
+use Rattle.robots_warnings.specs.Conflicts.{conflict_for, overruled_for}
+use Rattle.robots_warnings.proofs.RuleLemmas.{agents_next}
 use Rattle.robots_warnings.proofs.conflicts.rule_lines.Goals as goal
 
 pub loop-agent-preserved : goal.loop-agent-preserved
@@ -19,7 +19,4 @@ loop-agent-preserved c =
       overruled = λ number.
           agents_next (overruled_for is_empty lines number) agents at _ _ below
           (c.in_ok-add_others.ensures.overruled number) (was.overruled number);
-      closed = λ number.
-          any_next (is_closed_for lines number) agents at _ below
-          (was.closed number) (c.in_ok-add_closed.ensures number);
     }

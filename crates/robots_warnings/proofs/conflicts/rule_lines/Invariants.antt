@@ -1,7 +1,7 @@
-use Rattle.std.proofs.Common.{◌≡◌, ℕ, List, drop, map, take}
+use Rattle.std.proofs.Common.{◌≡◌, ℕ, List, drop, map}
 use Rattle.std.specs.{BTreeMap.get, BTreeSet.contains, Option.option_or, Ordering.nat_cmp}
 use Rattle.texting_robots.specs.Callers.{file_lines}
-use Rattle.robots_warnings.specs.{Closed.is_closed, Conflicts.conflict, Conflicts.overruled}
+use Rattle.robots_warnings.specs.Conflicts.{conflict, overruled}
 use Rattle.robots_warnings.proofs.conflicts.rule_lines.Given as goal
 
 -- those of the first crawlers, and those of the others, are all
@@ -16,6 +16,4 @@ invariant-loop-agent l =
           (conflict is_empty left lines number) ≡ conflict is_empty all lines number;
       overruled : (number : ℕ) → option_or (get nat_cmp l.overruled number)
           (overruled is_empty left lines number) ≡ overruled is_empty all lines number;
-      closed : (number : ℕ) → contains nat_cmp l.closed number
-          ≡ is_closed (map (λ agent. agent.now) (take l.agent-index l.agents)) lines number;
     }

@@ -19,6 +19,6 @@ returns c =
     ≡ crawler_warnings is_empty agents lines labels = λ i. flat_map (λ label. rule_warnings
     (λ n. (are.conflicts n ∙ ap (λ is_empty. conflict is_empty agents lines n) empty) i)
     (λ n. (are.overruled n ∙ ap (λ is_empty. overruled is_empty agents lines n) empty) i)
-    (λ n. are.closed n i) label.number) labels in
+    label.number) labels in
     subst (λ more. OnOk c.warn_of_numbers.result
     (Adds c.args.found.now.items c.warn_of_numbers.new.found.items more)) same c.warn_of_numbers.ensures

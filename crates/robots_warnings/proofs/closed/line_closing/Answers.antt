@@ -1,0 +1,12 @@
+use Rattle.std.proofs.Common.{◌≡◌, IfOk, subst}
+use Rattle.std.specs.HashSet.{contains_text}
+use Rattle.texting_robots.specs.Callers.{file_lines, placed_rules}
+use Rattle.robots_warnings.specs.Closed.{closing_line, is_exempt}
+use Rattle.robots_warnings.proofs.closed.line_closing.Goals as goal
+
+pub returns : goal.returns
+returns c =
+    let lines = file_lines c.args.site.now in
+    let same : contains_text c.args.exempt.now ≡ is_exempt lines = λ i pattern. c.requires.each pattern i in
+    subst (λ test. IfOk c.closing_line.result
+    (λ line. line ≡ closing_line test (placed_rules c.args.agent.now lines))) same c.closing_line.ensures
