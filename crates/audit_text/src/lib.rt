@@ -3,9 +3,13 @@
 #![tactic(auto)]
 
 mod conditions;
+mod counts;
+mod crawlers;
 pub mod denied;
 pub mod explain;
 pub mod github;
+mod joined;
 pub mod laws;
 mod listed;
 pub mod report;
+mod verdicts;

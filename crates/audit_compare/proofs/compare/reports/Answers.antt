@@ -1,4 +1,4 @@
-use Rattle.std.proofs.Common.{string_bytes, [], ◌∷◌, ◌++◌}
+use Rattle.std.proofs.Common.{[], ◌∷◌, ◌++◌}
 use Rattle.std.proofs.lemmas.List.{map_more}
 use Rattle.audit_core.proofs.AuditLemmas.{zip_push}
 use Rattle.audit_compare.specs.Internal.Compare.{compared_value}
@@ -7,12 +7,12 @@ use Rattle.audit_compare.proofs.compare.reports.Goals as goal
 pub loop-agent-preserved : goal.loop-agent-preserved
 loop-agent-preserved c =
     let before = c.loop-agent.invariant in
-    rw (map_more string_bytes c.args.agents.now c.loop-agent.agent-index c.agent-item.result
+    rw (map_more (λ agent. agent.now) c.args.agents.now c.loop-agent.agent-index _
     c.loop-agent-test.true)
     (record {
       compared = before.compared ++ compared_value c.in_ok-compared.compared ∷ [];
       all =
           zip_push _ _ _ _ _ before.all
-          (rw (c.deref.ensures, c.agent-item.is) at c.in_ok-compared.ensures.ok);
+          c.in_ok-compared.ensures.ok;
       is = c.in_ok-add.ensures before.compared before.is;
     })
