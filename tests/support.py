@@ -231,6 +231,6 @@ def wanted_of(case):
     if "room" in case:
         out = out[: case["room"] if case["room"] != "closed" else 0]
     warnings = spelled(case.get("warn", "")).decode().splitlines()
-    named = re.search(r"(?:(?<!-)-q?f[ =]?|--file[ =])(?!- )(\S+)", case.get("args", ""))
-    file = named[1] if named else "robots.txt"
+    named = re.match(r"(?!-)\S+", case.get("args", ""))  # a named file is the first argument in golden cases
+    file = named[0] if named else "robots.txt"
     return Result(case.get("status", 0), out, lines(case.get("err", "")) + warning_lines(warnings, file).encode())
