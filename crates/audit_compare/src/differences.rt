@@ -183,10 +183,7 @@ fn push_url_changes(
     if is_same_decision(compared, one, other) {
         return Ok(());
     }
-    push_line_of(
-        text,
-        &url_line(compared.older.agent, older.url, one, other),
-    )
+    push_line_of(text, &url_line(compared.older.agent, older.url, one, other))
 }
 
 /// Appends the decisions that differ.

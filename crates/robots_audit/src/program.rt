@@ -89,11 +89,7 @@ fn output(alloc: Global, request: &Request<'_>, audit: Audit<'_>) -> Result<Vec<
 }
 
 /// The message on standard error after an audit: the warnings, unless they are in the report.
-fn message(
-    alloc: Global,
-    request: &Request<'_>,
-    audit: &Audit<'_>,
-) -> Result<String, AllocError>
+fn message(alloc: Global, request: &Request<'_>, audit: &Audit<'_>) -> Result<String, AllocError>
     ensures { IfOk result (λ text. string_bytes text ≡ message (requested_by request.now) audit.now) }
 {
     match request.format {
