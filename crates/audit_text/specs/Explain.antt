@@ -1,6 +1,6 @@
 -- The list of all warnings, and the explanation of one.
 use Rattle.std.specs.Prelude.{◌≡◌, ◌==◌, ℕ, true, false, List, [], ◌∷◌, ◌++◌, Result, IfErr, IfOk, ◌⊎◌}
-use Rattle.std.specs.Prelude.{bytes_eq, codes, flat_map, if◌then◌else◌, length, map, not}
+use Rattle.std.specs.Prelude.{bytes_eq, codes, flat_map, if◌then◌else◌, map, not}
 use Rattle.std.specs.Borrow.{Bor}
 use Rattle.std.proofs.Common.{refl}
 use Rattle.printable_text.specs.Text.{Only, Part, ReportLine, Word, fixed_level, label, line_from, written}
@@ -11,7 +11,7 @@ use Rattle.robots_warnings.specs.declared.table.Cause.{Cause}
 use Rattle.robots_warnings.specs.Message.{fixed_name, fixed_text}
 use Rattle.robots_warnings.specs.Table.{all_causes, example_of, is_name, is_not_about_syntax, keeps_verdicts}
 use Rattle.robots_warnings.specs.Table.{level_of, name_of, number_of}
-use Rattle.audit_text.specs.declared.conditions.TheConstants.{CONDITIONS, CORRECTIONS}
+use Rattle.audit_text.specs.declared.conditions.TheConstants.{CONDITIONS, CORRECTIONS, THEOREMS}
 use Rattle.audit_core.specs.{Answer.IsText, Fault.IsUnknown}
 use Rattle.audit_core.specs.declared.answer.Answer.{Answer}
 use Rattle.audit_core.specs.declared.fault.Fault.{Fault}
@@ -47,10 +47,6 @@ indented text = codes "    " ++ flat_map indented_byte text
 abbrev pub example_lines : (label lines : List ℕ) → List ℕ
 example_lines label lines = label ++ (indented lines ++ lf ∷ [])
 
--- a line with a label, unless the text is empty
-abbrev pub text_line : (label content : List ℕ) → List ℕ
-text_line label content = if length content == 0 then [] else label ++ (content ++ lf ∷ [])
-
 -- what the warning is about
 abbrev pub about_line : Cause → List ℕ
 about_line cause =
@@ -60,26 +56,25 @@ about_line cause =
 
 -- ---- the tables of src/conditions.rt
 
--- a name, when its warnings are given, and what is proved about them
-abbrev pub condition_value : Bor (List ℕ) × Bor (List ℕ) × Bor (List ℕ) → List ℕ × List ℕ × List ℕ
-condition_value row = (row.0.now, row.1.now, row.2.now)
+-- a row by value: a name and a text about the warnings with it, or a warning and its corrected example
+abbrev pub named_value : Bor (List ℕ) × Bor (List ℕ) → List ℕ × List ℕ
+named_value row = (row.0.now, row.1.now)
 
 abbrev pub correction_value : Cause × Bor (List ℕ) → Cause × List ℕ
 correction_value row = (row.0, row.1.now)
 
-unfoldable pub all_conditions : List (List ℕ × List ℕ × List ℕ)
-all_conditions = map (λ row. (row.0.now, row.1.now, row.2.now)) CONDITIONS
+unfoldable pub all_conditions : List (List ℕ × List ℕ)
+all_conditions = map (λ row. (row.0.now, row.1.now)) CONDITIONS
+
+unfoldable pub all_theorems : List (List ℕ × List ℕ)
+all_theorems = map (λ row. (row.0.now, row.1.now)) THEOREMS
 
 unfoldable pub all_corrections : List (Cause × List ℕ)
 all_corrections = map (λ row. (row.0, row.1.now)) CORRECTIONS
 
-abbrev pub condition_if_named : List ℕ → List ℕ × List ℕ × List ℕ → List ℕ
-condition_if_named name row =
-    if bytes_eq row.0 name then text_line (codes "given: ") row.1 ++ text_line (codes "proved: ") row.2 else []
-
--- when the warnings with this name are given, and what is proved about them
-unfoldable pub conditions_of : List ℕ → List ℕ
-conditions_of name = flat_map (condition_if_named name) all_conditions
+-- a line with a label and the text of the row, if it is about the name
+abbrev pub text_if_named : (label name : List ℕ) → List ℕ × List ℕ → List ℕ
+text_if_named label name row = if bytes_eq row.0 name then label ++ (row.1 ++ lf ∷ []) else []
 
 abbrev pub correction_if_own : Cause → Cause × List ℕ → List ℕ
 correction_if_own cause row =
@@ -105,7 +100,10 @@ explained_if_named name cause = if bytes_eq (name_of cause) name then explained 
 
 -- the explanations of all warnings with this name, when they are given, and what is proved about them
 abbrev pub explanation : List ℕ → List ℕ
-explanation name = flat_map (explained_if_named name) all_causes ++ conditions_of name
+explanation name =
+    flat_map (explained_if_named name) all_causes
+    ++ (flat_map (text_if_named (codes "given: ") name) all_conditions
+    ++ flat_map (text_if_named (codes "proved: ") name) all_theorems)
 
 -- ---- answers
 

@@ -1,13 +1,13 @@
 //! The list of all warnings, and the explanation of one.
-ghost use Rattle.std.specs.Prelude.{◌≡◌, ◌==◌, ◌++◌, IfErr, IfOk, OnOk, true};
+ghost use Rattle.std.specs.Prelude.{◌≡◌, ◌==◌, ◌++◌, IfErr, IfOk, OnOk, flat_map, map, true};
 ghost use Rattle.audit_core.specs.Answer.{IsText};
 ghost use Rattle.printable_text.specs.{Raw.raw_line, Text.line_text};
 ghost use Rattle.robots_warnings.specs.Table.{is_name, number_of};
-ghost use Rattle.audit_text.specs.Explain.{IsUnexplained, MayAnswer, about_line, condition_if_named, condition_value};
-ghost use Rattle.audit_text.specs.Explain.{conditions_of, correction_if_own, correction_value, corrections_of, example_lines};
-ghost use Rattle.audit_text.specs.Explain.{explained, explained_if_named, explanation, heading, indented, indented_byte, list_line, list_text, text_line};
+ghost use Rattle.audit_text.specs.Explain.{IsUnexplained, MayAnswer, about_line, correction_if_own, correction_value};
+ghost use Rattle.audit_text.specs.Explain.{corrections_of, example_lines, explained, explained_if_named, explanation};
+ghost use Rattle.audit_text.specs.Explain.{heading, indented, indented_byte, list_line, list_text, named_value, text_if_named};
 
-use crate::conditions::{Condition, conditions, corrections};
+use crate::conditions::{Named, conditions, corrections, theorems};
 use audit_core::answer::{Answer, text_answer};
 use audit_core::fault::Fault;
 use printable_text::parts::{Part, Value, push_line_of};
@@ -66,18 +66,6 @@ fn push_example(text: &mut Vec<u8>, label: &str, lines: &str) -> Result<(), Allo
 {
     text.extend_from_slice(label.as_bytes())?;
     push_indented(text, lines.as_bytes())?;
-    text.extend_from_slice(b"\n")
-}
-
-/// Appends a line with a label, unless the text is empty.
-fn push_text_line(text: &mut Vec<u8>, label: &str, content: &str) -> Result<(), AllocError>
-    ensures { OnOk result (text.new.items ≡ text.old.items ++ text_line label.now content.now) }
-{
-    if content.is_empty() {
-        return Ok(());
-    }
-    text.extend_from_slice(label.as_bytes())?;
-    text.extend_from_slice(content.as_bytes())?;
     text.extend_from_slice(b"\n")
 }
 
@@ -161,24 +149,30 @@ fn push_if_named(
     push_explained(alloc, text, cause)
 }
 
-/// Appends when the warnings with this name are given, and what is proved about them, if the row is about the name.
-fn push_condition(text: &mut Vec<u8>, name: &str, row: &Condition) -> Result<(), AllocError>
-    ensures { OnOk result (text.new.items ≡ text.old.items ++ condition_if_named name.now (condition_value row.now)) }
+/// Appends a line with the label and the text of the row, if the row is about the name.
+fn push_text(text: &mut Vec<u8>, label: &str, name: &str, row: &Named) -> Result<(), AllocError>
+    ensures { OnOk result (text.new.items ≡ text.old.items ++ text_if_named label.now name.now (named_value row.now)) }
 {
     if row.0 != name {
         return Ok(());
     }
-    push_text_line(text, "given: ", row.1)?;
-    push_text_line(text, "proved: ", row.2)
+    text.extend_from_slice(label.as_bytes())?;
+    text.extend_from_slice(row.1.as_bytes())?;
+    text.extend_from_slice(b"\n")
 }
 
-/// Appends when the warnings with this name are given, and what is proved about them.
-#[tactic(auto, unfolding(crate::specs::Explain::conditions_of))]
-fn push_conditions(text: &mut Vec<u8>, name: &str) -> Result<(), AllocError>
-    ensures { OnOk result (text.new.items ≡ text.old.items ++ conditions_of name.now) }
+/// Appends the texts of these rows that are about the name.
+fn push_texts(
+    text: &mut Vec<u8>,
+    label: &str,
+    name: &str,
+    rows: &[Named],
+) -> Result<(), AllocError>
+    ensures { OnOk result (text.new.items ≡ text.old.items
+        ++ flat_map (text_if_named label.now name.now) (map named_value rows.now)) }
 {
-    for row in conditions() {
-        push_condition(text, name, row)?;
+    for row in rows {
+        push_text(text, label, name, row)?;
     }
     Ok(())
 }
@@ -192,7 +186,8 @@ fn explanation(alloc: Global, name: &str) -> Result<Vec<u8>, AllocError>
     for cause in &all {
         push_if_named(alloc, &mut text, name, *cause)?;
     }
-    push_conditions(&mut text, name)?;
+    push_texts(&mut text, "given: ", name, conditions())?;
+    push_texts(&mut text, "proved: ", name, theorems())?;
     Ok(text)
 }
 

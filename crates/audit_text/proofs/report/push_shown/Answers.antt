@@ -1,5 +1,6 @@
 use Rattle.std.proofs.Common.{◌∙◌}
 use Rattle.std.proofs.lemmas.Result.{on_ok_weaker}
+use Rattle.robots_warnings.specs.Internal.Warned.{warning_value}
 use Rattle.audit_text.proofs.ReportLemmas.{shown_built}
 use Rattle.audit_text.proofs.report.push_shown.Goals as goal
 
@@ -12,5 +13,6 @@ returns c =
       c.in_ok-push_warning_text.ensures,
       c.also_parts.ensures,
       c.name_parts.ensures,
-    ) (shown_built c.args.warning.now c.args.lines.now _))
+      ← c.warning.view_is,
+    ) (shown_built (warning_value c.warning.inside) c.args.lines.now _))
     c.push_parts-2.ensures
