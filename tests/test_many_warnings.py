@@ -30,7 +30,7 @@ def test_causes_with_one_name_are_counted_together():
 
 
 def test_each_name_is_counted():
-    text = "User-agent: *\nDisallow: /a\n" + "".join(f"Host: a\nDisallow: b{n}\nNoindex: c\n" for n in range(21)) + "Noindex: d\n"
+    text = "User-agent: *\nDisallow: /a\n" + "".join(f"Host: /a\nDisallow: b{n}\nNoindex: c\n" for n in range(21)) + "Noindex: d\n"
     listed = "".join(lines(3 * n + 3, name="host-line") + lines(3 * n + 4, name="missing-slash") + lines(3 * n + 5, name="noindex-line") for n in range(20))
     more = [("warning", 1, "host-line"), ("error", 1, "missing-slash"), ("warning", 2, "noindex-line")]
     assert audit(text).err == listed + "".join(f"robots.txt: {level}: and {number} more [{name}]\n" for level, number, name in more)

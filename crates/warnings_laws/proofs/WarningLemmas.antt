@@ -32,7 +32,7 @@ use Rattle.texting_robots.specs.{Internal.Segments.is_wildcard, Trim.IsTrimOf}
 use Rattle.texting_robots.proofs.{CapturedLemmas.some_passes, SlashLemmas.unparsed_prepared}
 use Rattle.texting_robots.proofs.{PatternLemmas.only_wildcards_match, LineLemmas.lines_of_file_bodies}
 use Rattle.texting_robots.proofs.{TrimLemmas.each_append}
-use Rattle.robots_warnings.specs.{Urls.is_invalid_url, Tokens.has_space_around}
+use Rattle.robots_warnings.specs.{Tokens.has_space_around}
 use Rattle.audit_core.specs.{Asked.asked_target}
 use Rattle.audit_core.proofs.{AskedLemmas.unparsed_asked}
 use Rattle.texting_robots.specs.declared.parser.statement.Kind.TheVariants as kind
@@ -201,12 +201,6 @@ pub odd_start_matches_no_path : (value text : List ℕ) → begins_oddly value �
 unfolding MatchesWith
 odd_start_matches_no_path [] text odd m = cc
 odd_start_matches_no_path (b ∷ value) text odd m = grind (arith, common_steps)
-
--- ---- URLs that can't be parsed
-
-pub invalid_url_is_escaped : (url : List ℕ) → is_invalid_url url ≡ true → asked_target url ≡ escaped url
-invalid_url_is_escaped [] is = cc
-invalid_url_is_escaped (b ∷ url) is = grind (arith, and_parts, unparsed_asked, unparsed_prepared)
 
 -- ---- bytes that no other byte equals in lowercase
 
