@@ -5,7 +5,7 @@ use Rattle.std.proofs.Common.{rules, false, true, ◌++◌, ap, None, Option, So
 use Rattle.std.proofs.Common.{◌≡◌, ◌≢◌, ◌≤◌, ◌↔◌, ℕ, Bool, inl, inr, List, [], ◌∷◌, Contains, IsUtf8, arith}
 use Rattle.std.proofs.Common.{codes, length, ltb-false, refl, subst, subst₂, sym, take, take_all, ◌⊎◌, suc}
 use Rattle.std.proofs.Common.{map, not, ◌==◌}
-use Rattle.std.proofs.lemmas.Bool.{cases_Bool, false≢true, ne_eqb, not-false, or_parts}
+use Rattle.std.proofs.lemmas.Bool.{cases_Bool, false_from_ne_true, false≢true, ne_eqb, not-false, or_parts}
 use Rattle.texting_robots.specs.Callers.{IsVerdict, LineValue, PlacedRule, agents_in, placed_rules}
 use Rattle.texting_robots.specs.Callers.{file_limit, rules_for, IsFirstOverlong, IsOverlong, IsRejected, Rule}
 use Rattle.texting_robots.specs.Callers.{delay_for, lines_read, unplaced, IsRobotOfFile, RobotValue}
@@ -67,7 +67,9 @@ alike lines found agent other are has same =
 all_read : (requested : RequestValue) (file : List ℕ) (audit : AuditValue)
     (is : IsAuditOf requested file audit)
     → is.needless ≢ [] → length file ≤ file_limit
-all_read requested file audit is some = grind (arith, common_steps)
+all_read requested file audit is some =
+    ltb-false file_limit (length file)
+    (false_from_ne_true (is_too_large file) (λ large. some (is.too_large large)))
 
 pub robot_stays : (requested : RequestValue) (file left : List ℕ) (audit : AuditValue) (agent : List ℕ)
     → (is : IsAuditOf requested file audit) → is.needless ≢ [] → IsLeftOf (numbers_of is.needless) file left
