@@ -29,12 +29,10 @@ use Rattle.std.proofs.{lemmas.List.Folds.list_any-append, lemmas.List.Elements.C
 use Rattle.std.proofs.{lemmas.Bool.Decides.nat_tests, lemmas.Slice.Eq.bytes_eq-Decides}
 use Rattle.texting_robots.specs.{declared.labels.Membership.Membership, Statement.IsStatement}
 use Rattle.texting_robots.specs.{Internal.Segments.is_wildcard, Trim.IsTrimOf}
-use Rattle.texting_robots.proofs.{CapturedLemmas.some_passes, SlashLemmas.unparsed_prepared}
+use Rattle.texting_robots.proofs.{CapturedLemmas.some_passes}
 use Rattle.texting_robots.proofs.{PatternLemmas.only_wildcards_match, LineLemmas.lines_of_file_bodies}
 use Rattle.texting_robots.proofs.{TrimLemmas.each_append}
 use Rattle.robots_warnings.specs.{Tokens.has_space_around}
-use Rattle.audit_core.specs.{Asked.asked_target}
-use Rattle.audit_core.proofs.{AskedLemmas.unparsed_asked}
 use Rattle.texting_robots.specs.declared.parser.statement.Kind.TheVariants as kind
 
 -- ---- conditions and lines
