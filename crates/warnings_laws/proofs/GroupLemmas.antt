@@ -71,9 +71,9 @@ other_here : (last : Option ℕ) (preceding : Preceding) (above : Option (List �
     (label : Label) (lines : List LineValue)
     → Contains (position_checks last preceding above first label lines) (TwoDelays, true)
     → is_other_delay first label ≡ true
-other_here last preceding above first label lines (suc (suc (suc (suc zero))), below, at) =
+other_here last preceding above first label lines (suc (suc (suc (suc (suc zero)))), below, at) =
     ap (λ (check : Check). check.1) at
-other_here last preceding above first label lines (suc (suc (suc (suc (suc k)))), below, at) =
+other_here last preceding above first label lines (suc (suc (suc (suc (suc (suc k))))), below, at) =
     absurd (omega arith)
 other_here last preceding above first label lines (place, below, at) = grind (arith, common_steps)
 

@@ -5,7 +5,7 @@ use Rattle.std.proofs.Common.{rules, false, true, ◌++◌, ap, None, Option, So
 use Rattle.std.proofs.Common.{◌≡◌, ◌≢◌, ◌≤◌, ◌↔◌, ℕ, Bool, inl, inr, List, [], ◌∷◌, Contains, IsUtf8, arith}
 use Rattle.std.proofs.Common.{codes, length, ltb-false, refl, subst, subst₂, sym, take, take_all, ◌⊎◌, suc}
 use Rattle.std.proofs.Common.{map, not, ◌==◌}
-use Rattle.std.proofs.lemmas.Bool.{cases_Bool, false≢true, ne_eqb, not-false, or_parts}
+use Rattle.std.proofs.lemmas.Bool.{cases_Bool, false_from_ne_true, false≢true, ne_eqb, not-false, or_parts}
 use Rattle.texting_robots.specs.Callers.{IsVerdict, LineValue, PlacedRule, agents_in, placed_rules}
 use Rattle.texting_robots.specs.Callers.{file_limit, rules_for, IsFirstOverlong, IsOverlong, IsRejected, Rule}
 use Rattle.texting_robots.specs.Callers.{delay_for, lines_read, unplaced, IsRobotOfFile, RobotValue}
@@ -67,7 +67,9 @@ alike lines found agent other are has same =
 all_read : (requested : RequestValue) (file : List ℕ) (audit : AuditValue)
     (is : IsAuditOf requested file audit)
     → is.needless ≢ [] → length file ≤ file_limit
-all_read requested file audit is some = grind (arith, common_steps)
+all_read requested file audit is some =
+    ltb-false file_limit (length file)
+    (false_from_ne_true (is_too_large file) (λ large. some (is.too_large large)))
 
 pub robot_stays : (requested : RequestValue) (file left : List ℕ) (audit : AuditValue) (agent : List ℕ)
     → (is : IsAuditOf requested file audit) → is.needless ≢ [] → IsLeftOf (numbers_of is.needless) file left
@@ -351,30 +353,30 @@ module _ (requested : RequestValue) (file : List ℕ) (audit : AuditValue) (is :
       audited : (test : Cause → Bool) → ArePassed test found
           → ArePassed test (warnings_of agents requested.urls file)
       audited test passed =
-          passed_on test requested.agent requested.agents agents requested.urls file known.0.0
+          passed_on test requested.agent agents requested.urls file known.0.0
           (each_front (λ warning. test warning.cause ≡ true)
-          (warnings_for requested.agent requested.agents agents requested.urls file)
+          (warnings_for requested.agent agents requested.urls file)
           (map needless_warning is.needless) passed)
 
-      silent : IsSilentOn requested.agents agents requested.urls file
+      silent : IsSilentOn agents requested.urls file
       silent = audited is_not_about_syntax (each_not found known.1)
 
       pub file_of_the_standard : (groups : List Group) × IsFile groups file
       file_of_the_standard =
           let whole = take_all file_limit file (ltb-false file_limit (length file) known.0.1) in
-          let (groups, is) = silence requested.agents agents requested.urls file silent in
+          let (groups, is) = silence agents requested.urls file silent in
           (groups, subst (IsFile groups) whole is)
 
       pub robot_of_the_standard : (agent : List ℕ) (robot : RobotValue)
           → IsRobotOfFile agent (take file_limit file) robot → IsRobotStated agent file robot
       robot_of_the_standard agent robot of =
-          robot_stated requested.agents agents requested.urls file silent agent robot of
+          robot_stated agents requested.urls file silent agent robot of
 
     pub verdicts_of_the_standard : has_standard_verdicts audit.syntax ≡ true → (agent uri : List ℕ)
         (groups : List Group) (robot : RobotValue) (answer : Bool) → IsAsked agents file agent uri
         → IsFile groups file → IsRobotOfFile agent (take file_limit file) robot
         → IsVerdict (unplaced robot.rules) uri answer ↔ IsStandardVerdict groups agent uri answer
     verdicts_of_the_standard standard agent uri groups robot answer =
-        verdicts_stated requested.agents agents requested.urls file agent uri groups robot answer
+        verdicts_stated agents requested.urls file agent uri groups robot answer
         (audited (verdicts_stated_too audit.syntax standard) keeps_verdicts (kept unstated found
         (subst (λ s. has_standard_verdicts s ≡ true) is.syntax_is standard)))

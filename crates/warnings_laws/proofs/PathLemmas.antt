@@ -7,14 +7,14 @@ use Rattle.std.specs.Char.{digit_value, is_ascii_hexdigit, to_ascii_uppercase}
 use Rattle.std.specs.List.{list_any, list_all, position_or_len, starts_with}
 use Rattle.std.proofs.lemmas.Bool.{Decides.nat_tests, agree_below_at, and_parts, and_right, cases_Bool}
 use Rattle.std.proofs.lemmas.Bool.{cases_lt, eqb-true, le-ltb, or_from, or_parts}
-use Rattle.std.proofs.lemmas.Bool.{and_from, not-false}
+use Rattle.std.proofs.lemmas.Bool.{and_from, not-false, not-true}
 use Rattle.std.proofs.lemmas.List.{Concat.flat_map-append, Folds.list_any-append}
 use Rattle.texting_robots.specs.Escape.{escape_byte, escaped, is_escaped}
 use Rattle.texting_robots.proofs.EscapeLemmas.{plain_stays}
 use Rattle.rfc9309_laws.specs.Matching.{is_kept, all_stay, has_dollar, in_rule, is_ended}
 use Rattle.rfc9309_laws.specs.Matching.{is_unreserved, normal_escape, normal_from, normal_octet, without_end}
 use Rattle.rfc9309_laws.specs.Matching.{normal_uri}
-use Rattle.rfc9309_laws.specs.Comparable.{IsComparedAs, has_odd_escape}
+use Rattle.rfc9309_laws.specs.Comparable.{IsComparedAs, has_odd_escape, is_uri_octet}
 use Rattle.rfc9309_laws.proofs.NormalLemmas.{begins_escape, by_escapes, escape_first, escape_odd, escape_same}
 use Rattle.rfc9309_laws.proofs.NormalLemmas.{hex_not, normal_uris, octet_first}
 use Rattle.robots_warnings.specs.Targets.{asked_target, has_odd_target, is_normal, is_normal_byte}
@@ -287,6 +287,15 @@ compared_as path odds end =
 
 -- ---- match targets
 
+octets : (text : List ℕ) → list_all is_normal_byte text ≡ true → list_all is_uri_octet text ≡ true
+octets [] all = refl
+octets (b ∷ text) all =
+    let both = and_parts (is_normal_byte b) _ all in
+    and_from (is_uri_octet b) _ (one b both.0) (octets text both.1)
+  where
+    one : (b : ℕ) → is_normal_byte b ≡ true → is_uri_octet b ≡ true
+    one b is = grind (arith, nat_tests)
+
 pub target_normal : (text : List ℕ)
     → (starts_with nat_eq text (codes "/") || (begins_as_url text && not (is_unparsable text))) ≡ true
     → has_odd_target text ≡ false → normal_uri all_stay (asked_target text) ≡ asked_target text
@@ -295,12 +304,10 @@ target_normal text asked quiet =
     let odd = not (is_normal target) in
     let is = not-false (is_normal target) (second _ odd asked quiet) in
     let (bytes, even) = and_parts (list_all is_normal_byte target) _ is in
+    let none = (or_parts (somewhere begins_odd_escape target) _ (not-true _ even)).0 in
     (normal_uris target).1
-    (and_from (list_all is_normal_byte target) _ bytes (ap not (odd_escapes target) ∙ neither _ _ even))
+    (and_from (list_all is_uri_octet target) _ (octets target bytes) (ap not (odd_escapes target ∙ none)))
   where
-    neither : (x y : Bool) → not (x || y) ≡ true → not x ≡ true
-    neither true y is = is
-    neither false y is = refl
     second : (x y : Bool) → x ≡ true → (x && y) ≡ false → y ≡ false
     second true y is both = both
     second false y is both = cc

@@ -242,15 +242,14 @@ either None None first second = refl
 either None (Some other) first second = second
 either (Some one) other first second = first
 
-delay_or : (b : Bool) (other : Cause) → is_not_about_syntax other ≡ false
-    → is_not_about_syntax (if b then cause.InvalidDelay else other) ≡ false
-unfolding topic_of
-delay_or true other is = refl
-delay_or false other is = is
+one_or : (b : Bool) (one other : Cause) → is_not_about_syntax one ≡ false
+    → is_not_about_syntax other ≡ false → is_not_about_syntax (if b then one else other) ≡ false
+one_or true one other first second = first
+one_or false one other first second = second
 
 meant : (body : List ℕ) → is_not_about_syntax (meant_by body) ≡ false
 unfolding topic_of
-meant body = search (rules, delay_or, unwrap_or, either, first_one)
+meant body = search (rules, one_or, either, first_one)
 
 pub not_quiet : (body : List ℕ) → is_quiet (meant_by body, true) ≡ true → ⊥
 not_quiet body is = grind (arith, false≢true, not-true, meant)

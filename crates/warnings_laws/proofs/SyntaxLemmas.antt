@@ -36,6 +36,7 @@ use Rattle.rfc9309_laws.proofs.LineFormLemmas.{forms_make_file}
 use Rattle.rfc9309_laws.proofs.{SyntaxLemmas.each_front, SyntaxLemmas.each_weaker, RobotLemmas.forms_robot}
 use Rattle.robots_warnings.specs.declared.facts.FileFacts.{FileFacts}
 use Rattle.robots_warnings.specs.declared.table.Cause.{Cause}
+use Rattle.robots_warnings.specs.declared.table.Cause.TheVariants.{CutLine}
 use Rattle.texting_robots.specs.Internal.Line.{line_of}
 use Rattle.robots_warnings.specs.declared.positions.Preceding.{Preceding}
 use Rattle.robots_warnings.specs.declared.positions.Preceding.TheVariants.{Other}
@@ -164,20 +165,27 @@ module _ (test : Cause → Bool) where
       → ArePassed test (warned line about checks) → AreQuietBy test checks
   warned_quiet line about checks all = grind (arith, each_weaker, quiet_by, each_given)
 
+  -- the line isn't cut, if the warning of that doesn't pass the test
+  whole : (is_cut : Bool) (checks : List Check) → test CutLine ≡ false
+      → AreQuietBy test (if is_cut then (CutLine, true) ∷ [] else checks) → AreQuietBy test checks
+  whole true checks fails all = absurd (false≢true (rw fails at all.0))
+  whole false checks fails all = all
+
   -- the same, line by line
-  pub lines_quiet : (bodies : List (List ℕ)) (labels : List Label) → lines_of labels ≡ map line_of bodies
-      → ArePassed test (lines_warnings true bodies labels)
+  pub lines_quiet : (cuts : Bool) (bodies : List (List ℕ)) (labels : List Label) → test CutLine ≡ false
+      → lines_of labels ≡ map line_of bodies → ArePassed test (lines_warnings cuts true bodies labels)
       → Each (λ body. AreQuietBy test (line_checks true (line_of body) body)) bodies
-  lines_quiet [] labels same all = tt
-  lines_quiet (body ∷ bodies) [] same all = absurd cc
-  lines_quiet (body ∷ bodies) (label ∷ labels) same all =
-      let first : List WarningValue = line_warnings true label body in
-      let rest : List WarningValue = lines_warnings true bodies labels in
+  lines_quiet cuts [] labels fails same all = tt
+  lines_quiet cuts (body ∷ bodies) [] fails same all = absurd cc
+  lines_quiet cuts (body ∷ bodies) (label ∷ labels) fails same all =
+      let is_cut : Bool = cuts && length labels == 0 in
+      let first : List WarningValue = line_warnings is_cut true label body in
+      let rest : List WarningValue = lines_warnings cuts true bodies labels in
       let line : label.line ≡ line_of body = cc in (
         subst (λ line. AreQuietBy test (line_checks true line body)) line
-            (warned_quiet (Some label.number) None (line_checks true label.line body)
-            (each_front _ first rest all)),
-        lines_quiet bodies labels (cc) (each_back _ first rest all),
+            (whole is_cut (line_checks true label.line body) fails
+            (warned_quiet (Some label.number) None _ (each_front _ first rest all))),
+        lines_quiet cuts bodies labels fails (cc) (each_back _ first rest all),
       )
 
   pub shown : (hidden : Bool) (warnings : List WarningValue) → hidden ≡ false
@@ -230,6 +238,10 @@ none_above last preceding above delay (label ∷ labels) all =
       none_above last next name after labels (each_back IsNotAboutSyntax first rest all),
     )
 
+cut_is_syntax : is_not_about_syntax CutLine ≡ false
+unfolding topic_of
+cut_is_syntax = refl
+
 -- ---- all warnings about a file
 
 module _ (file : List ℕ) where
@@ -257,7 +269,7 @@ module _ (file : List ℕ) where
     Passes warning = test warning.cause ≡ true
 
     abbrev general : List WarningValue
-    general = general_warnings facts true named urls
+    general = general_warnings facts urls
 
     abbrev of_lines : List WarningValue
     of_lines = file_lines_warnings facts true labels bodies
@@ -284,9 +296,9 @@ module _ (file : List ℕ) where
         (flat_map url_warnings urls)
         (each_front Passes general (of_lines ++ (of_positions ++ (past_limit ++ of_groups))) all))
 
-    pub bodies_quiet : suppresses_line_warnings facts ≡ false
+    pub bodies_quiet : test CutLine ≡ false → suppresses_line_warnings facts ≡ false
         → Each (λ body. AreQuietBy test (line_checks true (line_of body) body)) bodies
-    bodies_quiet are_shown =
+    bodies_quiet fails are_shown =
         grind (arith, lines_quiet, bodies, labels, labels_are, shown, facts, each_front, passed_later)
 
     pub passed_positions : ArePassed test of_positions
@@ -313,7 +325,7 @@ module _ (agents urls : List (List ℕ)) (file : List ℕ)
         no_nul = no_nul text quiets.nul;
         bom = marked 511997 file quiets.mark;
         each = lines_forms (bodies file) (reads file)
-            (bodies_quiet file is_not_about_syntax agents urls silent quiets.shown);
+            (bodies_quiet file is_not_about_syntax agents urls silent cut_is_syntax quiets.shown);
         below = subst (λ lines. AreRulesBelowAgents (map form_of lines)) are.lines_are
             (rules_below (name file) (labels file)
             (subst (λ l. AreLabelsOf (name file) l (labels file)) (sym are.lines_are) are) quiets.with_agent

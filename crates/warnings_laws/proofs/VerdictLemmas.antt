@@ -72,6 +72,10 @@ small_file : (facts : FileFacts) → AreQuietBy keeps_verdicts (file_checks fact
 unfolding topic_of
 small_file facts (html, (utf_16, (other, (empty, (large, more))))) = not-true _ large
 
+cut_matters : keeps_verdicts cause.CutLine ≡ false
+unfolding topic_of
+cut_matters = refl
+
 -- ---- lines
 
 kept_lines : (bodies : List (List ℕ)) → AllZip IsLineOf (map line_of bodies) bodies
@@ -141,7 +145,7 @@ module _ (agents urls : List (List ℕ)) (file : List ℕ)
   all_kept : Each (λ body. IsKeptLine (line_of body) body) (bodies file)
   all_kept =
       kept_lines (bodies file) (reads file)
-      (bodies_quiet file keeps_verdicts agents urls kept (quiets agents urls file silent).shown)
+      (bodies_quiet file keeps_verdicts agents urls kept cut_matters (quiets agents urls file silent).shown)
 
   kept_groups : Each KeepsVerdicts (group_warnings true agents (bodies file) lines (labels file))
   kept_groups = passed_groups file keeps_verdicts agents urls kept

@@ -10,14 +10,14 @@ abbrev pub silent_file : List ℕ
 silent_file = codes "User-agent: *" ++ lf ++ codes "Disallow: /a # b" ++ lf
 
 abbrev pub silent : Type 0
-silent = IsSilentOn [] [] [] silent_file × HasSyntax silent_file
+silent = IsSilentOn [] [] silent_file × HasSyntax silent_file
 
 -- the same without the slash: there is a warning
 abbrev pub warned_file : List ℕ
 warned_file = codes "User-agent: *" ++ lf ++ codes "Disallow: a" ++ lf
 
 abbrev pub warned : Type 0
-warned = ¬ IsSilentOn [] [] [] warned_file
+warned = ¬ IsSilentOn [] [] warned_file
 
 -- a file without warnings about syntax or verdicts: with a star, a `$` at the end, a path that isn't ASCII,
 -- and an empty Disallow
@@ -27,4 +27,4 @@ kept_file =
     ++ codes "Disallow:" ++ lf ++ codes "Allow: /%C3%A9/b*.gif$" ++ lf
 
 abbrev pub kept : Type 0
-kept = AreVerdictsKept [] (codes "*" ∷ []) [] kept_file
+kept = AreVerdictsKept (codes "*" ∷ []) [] kept_file

@@ -9,13 +9,13 @@ use Rattle.warnings_laws.proofs.SyntaxLemmas.{silence}
 use Rattle.warnings_laws.specs.{Examples.silent_file, Syntax.IsSilentOn}
 use Rattle.warnings_laws.proofs.syntax.examples.Goals as goal
 
-quiet : IsSilentOn [] [] [] silent_file
+quiet : IsSilentOn [] [] silent_file
 unfolding cut line_of statement_of begins_with kept_end kept_start pieces_from spans_from is_utf8 chars
     encode topic_of
 quiet = tt
 
 pub returns-clause-silent : goal.returns-clause-silent
-returns-clause-silent c = (quiet, silence [] [] [] silent_file quiet)
+returns-clause-silent c = (quiet, silence [] [] silent_file quiet)
 
 pub returns-clause-warned : goal.returns-clause-warned
 unfolding cut line_of statement_of begins_with kept_end kept_start pieces_from spans_from is_utf8 chars
