@@ -114,11 +114,11 @@ no_odd_octet : (value : List ℕ) → holds_otherwise value ≡ false → has_od
     → list_any stays_odd value ≡ false
 no_odd_octet value held odd =
     let before = (or_parts (has_any (codes "\t\\^{}") (before_byte 63 value)) _ held).0 in
-    let (first, parts) = or_parts (has_any (codes "|\"<>`") value || _) _ odd in
-    let (anywhere, percents) = or_parts (has_any (codes "|\"<>`") value) _ first in
+    let (first, parts) = or_parts (has_any (codes "|\"<>`\u{7f}") value || _) _ odd in
+    let (anywhere, percents) = or_parts (has_any (codes "|\"<>`\u{7f}") value) _ first in
     let after = (or_parts (has_any (codes "\\^{}'") (after_byte 63 value)) _ parts).0 in
     let one = λ (b : ℕ). has b (codes "\\^{}") in
-    any_both one (λ b. has b (codes "|\"<>`")) stays_odd (λ b first second. grind (arith, nat_tests)) value
+    any_both one (λ b. has b (codes "|\"<>`\u{7f}")) stays_odd (λ b first second. grind (arith, nat_tests)) value
     (any_around one 63 value refl
     (any_less (λ b. has b (codes "\t\\^{}")) one (λ b no. grind (arith, nat_tests)) (before_byte 63 value)
     before)
@@ -138,10 +138,10 @@ path_kept : (value : List ℕ) → AreQuietBy keeps_verdicts (rule_checks value)
 unfolding topic_of
 path_kept value (
   utf8,
-  (starts, (url, (odd, (held, (quoted, (regex, (more, (dollar, (wild, (dots, (several, end))))))))))),
+  (equals, (starts, (_, (url, (odd, (held, (_, (quoted, (regex, (_, (more, (dollar, _)))))))))))),
 ) = (
   not-false _ (not-true _ utf8),
-  started value starts url quoted,
+  started value equals starts url quoted regex,
   compared_as value
       (no_odd_octet value (not-true _ held)
       (odd_off (has_odd_character value) (holds_otherwise value) (is_quoted value) (not-true _ odd)
