@@ -17,7 +17,8 @@ use Rattle.robots_warnings.specs.Positions.{are_joined, is_above_agents, is_empt
 use Rattle.robots_warnings.specs.Positions.{is_split, name_star}
 use Rattle.robots_warnings.specs.Rules.{before_byte, begins_dot_segment, begins_wildcard, has, has_dollar_inside}
 use Rattle.robots_warnings.specs.Rules.{has_more_after_dollar, has_odd_character, has_odd_start}
-use Rattle.robots_warnings.specs.Rules.{has_quote_at_end, holds_otherwise, is_expression, is_quoted, is_url_in_path, somewhere}
+use Rattle.robots_warnings.specs.Rules.{has_quote_at_end, holds_otherwise, is_expression, is_quoted}
+use Rattle.robots_warnings.specs.Rules.{is_url_in_path, somewhere}
 use Rattle.robots_warnings.specs.Targets.{has_odd_target}
 use Rattle.robots_warnings.specs.Tokens.{is_product_token, is_usual_name}
 use Rattle.robots_warnings.specs.Urls.{begins_as_url, has_odd_host, is_absolute_url}

@@ -17,7 +17,8 @@ use Rattle.warnings_laws.proofs.ColonLemmas.{HasColon, has_colon, tail_is, aroun
 use Rattle.warnings_laws.proofs.ColonLemmas.{before_is, from_is, from_none}
 use Rattle.warnings_laws.proofs.QuietLemmas.{keyed, named, token, Empty, Path, Star, quiet, raw_cases}
 use Rattle.warnings_laws.proofs.QuietLemmas.{raw_plain, rule_value, not_quiet, in_order, IsQuietDirective}
-use Rattle.warnings_laws.proofs.QuietLemmas.{value_units}
+use Rattle.warnings_laws.proofs.QuietLemmas.{quiet_off, several_about, value_units}
+use Rattle.robots_warnings.specs.SeveralValues.{several_values}
 use Rattle.warnings_laws.specs.Syntax.{AreQuiet, IsQuietLine, form_of}
 use Rattle.robots_warnings.specs.Rules.{after_byte, before_byte, has}
 use Rattle.rfc9309_laws.proofs.KeyedLemmas.{has_at, word_of}
@@ -205,7 +206,7 @@ sitemap_form value body of quiets =
     let utf8 = and_parts (is_utf8 value) _ url in (
       value,
       (
-        value_units value utf8.0 (not-true _ quiets.value.0)
+        value_units value utf8.0 (quiet_off (several_values value) _ (several_about value) quiets.value.0)
             (value_plain kind.Sitemap value value body line same),
         keyed kind.Sitemap value body line value quiets.spelled same quiets.comment,
       ),

@@ -4,7 +4,8 @@ use Rattle.std.proofs.lemmas.Grind.{common_steps}
 use Rattle.std.proofs.Common.{rules, append_assoc, arith, bytes_eq, length, not, refl, sym, ◌∙◌, nat_lt}
 use Rattle.std.proofs.Common.{◌≡◌, ◌⊎◌, inl, inr, ℕ, ◌==◌, ◌&&◌, Bool, true, false, List, [], ◌∷◌, ◌++◌, ap}
 use Rattle.std.proofs.Common.{◌≢◌, if◌then◌else◌, subst, nat_le, None, Option, Some, unwrap_or}
-use Rattle.std.specs.List.{list_all, list_any, AllByRecursion as Each}
+use Rattle.std.proofs.Common.{◌||◌, codes, nat_eq}
+use Rattle.std.specs.List.{list_all, list_any, starts_with, AllByRecursion as Each}
 use Rattle.std.proofs.lemmas.Bool.{and_from, and_parts, false≢true, not-false, or_cases, or_parts}
 use Rattle.std.proofs.lemmas.Bool.{cases_Bool, not-true}
 use Rattle.std.proofs.lemmas.Str.{IsCharBoundary-after_ascii, IsUtf8-drop, IsUtf8-from_is_utf8}
@@ -21,8 +22,8 @@ use Rattle.warnings_laws.proofs.ColonLemmas.{HasColon, comment_is, front_kept, t
 use Rattle.warnings_laws.proofs.ColonLemmas.{solid_key, usual_key, around}
 use Rattle.robots_warnings.specs.Checks.{Check, directive_checks, raw_checks, rule_checks, text_checks}
 use Rattle.robots_warnings.specs.Checks.{value_checks}
-use Rattle.robots_warnings.specs.Rules.{begins_oddly, has_odd_start, is_quoted, somewhere}
-use Rattle.robots_warnings.specs.SeveralValues.{begins_next_value, has_several_values}
+use Rattle.robots_warnings.specs.Rules.{begins_oddly, has_odd_start, is_expression, is_quoted, somewhere}
+use Rattle.robots_warnings.specs.SeveralValues.{begins_next_value, has_several_values, several_values}
 use Rattle.robots_warnings.specs.Table.{topic_of, is_not_about_syntax}
 use Rattle.warnings_laws.specs.Syntax.{AreQuiet, is_quiet}
 use Rattle.std.specs.{Str.is_utf8, Option.option_or}
@@ -183,9 +184,23 @@ pub data IsRuleValue (value : List ℕ) : Type 0 where
   Path : rfc.IsPathPattern value → IsRuleValue value
   Star : rfc.IsStarPattern value → IsRuleValue value
 
-pub started : (value : List ℕ) → not (has_odd_start value) ≡ true → not (begins_as_url value) ≡ true
-    → not (is_quoted value) ≡ true → begins_oddly value ≡ false
-started value starts url quoted = grind (arith, common_steps)
+pub started : (value : List ℕ) → not (has_odd_start value && starts_with nat_eq value (codes "=")) ≡ true
+    → not (has_odd_start value && not (starts_with nat_eq value (codes "=") || is_expression value)) ≡ true
+    → not (begins_as_url value) ≡ true → not (is_quoted value) ≡ true
+    → not (has_odd_start value && is_expression value) ≡ true → begins_oddly value ≡ false
+started value equals starts url quoted regex =
+    off (begins_oddly value) (begins_as_url value) (is_quoted value) (starts_with nat_eq value (codes "="))
+    (is_expression value) equals starts url quoted regex
+  where
+    off : (odd url quoted equals regex : Bool) → not ((odd && not (url || quoted)) && equals) ≡ true
+        → not ((odd && not (url || quoted)) && not (equals || regex)) ≡ true → not url ≡ true
+        → not quoted ≡ true → not ((odd && not (url || quoted)) && regex) ≡ true → odd ≡ false
+    off false _ _ _ _ _ _ _ _ _ = refl
+    off true false false true _ one _ _ _ _ = absurd (false≢true one)
+    off true false false false true _ _ _ _ one = absurd (false≢true one)
+    off true false false false false _ one _ _ _ = absurd (false≢true one)
+    off true true _ _ _ _ _ one _ _ = absurd (false≢true one)
+    off true false true _ _ _ _ _ one _ = absurd (false≢true one)
 
 pub first_byte : (b : ℕ) (text : List ℕ) → begins_oddly (b ∷ text) ≡ false → (b ≡ 0x2F) ⊎ (b ≡ 0x2A)
 first_byte b text is = grind (arith, common_steps)
@@ -202,17 +217,32 @@ pub second : (x y : Bool) → x ≡ true → (x && y) ≡ false → y ≡ false
 second true y is both = both
 second false y is both = absurd (false≢true is)
 
+-- a check whose warning is about syntax
+pub quiet_off : (cause : Cause) (holds : Bool) → is_not_about_syntax cause ≡ false
+    → is_quiet (cause, holds) ≡ true → holds ≡ false
+quiet_off cause holds about quiet = not-true _ (rw about at quiet)
+
+either_about : (b : Bool) (one other : Cause) → is_not_about_syntax one ≡ false
+    → is_not_about_syntax other ≡ false → is_not_about_syntax (if b then one else other) ≡ false
+either_about true one other first second = first
+either_about false one other first second = second
+
+pub several_about : (value : List ℕ) → is_not_about_syntax (several_values value) ≡ false
+unfolding topic_of
+several_about value = search (rules, either_about)
+
 pub rule_value : (value : List ℕ) → AreQuiet (rule_checks value) → Each (λ b. b ≢ 35) value
     → IsRuleValue value
 unfolding topic_of
 rule_value [] all plain = Empty refl
 rule_value (b ∷ text) (
   utf8,
-  (starts, (url, (odd, (escapes, (quoted, (regex, (more, (dollar, (wild, (dots, (several, end))))))))))),
+  (equals, (starts, (_, (url, (_, (_, (_, (quoted, (regex, (_, (_, (_, (_, (_, (several, _))))))))))))))),
 ) plain =
-    let first = first_byte b text (started (b ∷ text) starts url quoted) in
+    let first = first_byte b text (started (b ∷ text) equals starts url quoted regex) in
     let one = not-false (is_utf8 (b ∷ text)) (not-true _ utf8) in
-    let single = second (is_utf8 (b ∷ text)) (has_several_values (b ∷ text)) one (not-true _ several) in
+    let single = second (is_utf8 (b ∷ text)) (has_several_values (b ∷ text)) one
+    (quiet_off (several_values (b ∷ text)) _ (several_about (b ∷ text)) several) in
     let units = value_units text (utf8_after b text one (small b first)) (later b text single) plain.1 in
     elim first [
       | inl slash ↦ Path (record { text = text; is_text = units; whole = ap (λ c. c ∷ text) slash })
@@ -242,14 +272,9 @@ either None None first second = refl
 either None (Some other) first second = second
 either (Some one) other first second = first
 
-one_or : (b : Bool) (one other : Cause) → is_not_about_syntax one ≡ false
-    → is_not_about_syntax other ≡ false → is_not_about_syntax (if b then one else other) ≡ false
-one_or true one other first second = first
-one_or false one other first second = second
-
 meant : (body : List ℕ) → is_not_about_syntax (meant_by body) ≡ false
 unfolding topic_of
-meant body = search (rules, one_or, either, first_one)
+meant body = search (rules, either_about, either, first_one)
 
 pub not_quiet : (body : List ℕ) → is_quiet (meant_by body, true) ≡ true → ⊥
 not_quiet body is = grind (arith, false≢true, not-true, meant)

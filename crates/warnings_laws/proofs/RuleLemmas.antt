@@ -138,10 +138,10 @@ path_kept : (value : List ℕ) → AreQuietBy keeps_verdicts (rule_checks value)
 unfolding topic_of
 path_kept value (
   utf8,
-  (starts, (url, (odd, (held, (quoted, (regex, (more, (dollar, (wild, (dots, (several, end))))))))))),
+  (equals, (starts, (_, (url, (odd, (held, (_, (quoted, (regex, (_, (more, (dollar, _)))))))))))),
 ) = (
   not-false _ (not-true _ utf8),
-  started value starts url quoted,
+  started value equals starts url quoted regex,
   compared_as value
       (no_odd_octet value (not-true _ held)
       (odd_off (has_odd_character value) (holds_otherwise value) (is_quoted value) (not-true _ odd)

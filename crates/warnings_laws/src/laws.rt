@@ -222,8 +222,8 @@ pub fn dollar_not_at_end()
     ensures { (value text : List ℕ) → has_dollar_inside value ≡ true → ¬ Matches (escaped value) text }
 {}
 
-/// A rule with `missing-slash`, `url-as-rule` or `quoted-rule` that starts with neither a slash nor a star matches no text
-/// that starts with a slash, as all paths do.
+/// A rule with `missing-slash`, `url-as-rule`, `quoted-rule` or `regex-syntax` that starts with neither a slash nor a star
+/// matches no text that starts with a slash, as all paths do.
 pub fn missing_slash()
     ensures { (value text : List ℕ) → begins_oddly value ≡ true → ¬ Matches (escaped value) (byte "/" ∷ text) }
 {}
