@@ -1,7 +1,7 @@
 -- Known crawlers: which group the vendor of each applies to it, and which one a similar name may mean.
-use Rattle.std.specs.Prelude.{ℕ, ◌+◌, ◌==◌, Bool, false, not, ◌&&◌, ◌||◌, List, [], Option, None, bytes_eq}
+use Rattle.std.specs.Prelude.{ℕ, ◌+◌, ◌==◌, Bool, false, not, ◌&&◌, ◌||◌, List, [], ◌∷◌, Option, None}
 use Rattle.std.specs.Prelude.{codes, find, if◌then◌else◌, length, map, nat_eq, nat_le, nat_lt, option_map}
-use Rattle.std.specs.Prelude.{slice_index_or, take}
+use Rattle.std.specs.Prelude.{bytes_eq, slice_index_or, take}
 use Rattle.std.specs.List.{before_first, list_any, position_from}
 use Rattle.std.specs.Str.{str_eq_ignore_ascii_case, str_to_ascii_lowercase}
 use Rattle.strsim.specs.Edits.{levenshtein_row}
@@ -59,16 +59,19 @@ other_group lines agent = other_in lines agent crawlers
 
 -- ---- similar names
 
--- the value of a user-agent line is this name, or the letters, `_` and `-` that it starts with are, ASCII
--- letters in any case
-abbrev pub has_name : List ℕ → List ℕ → Bool
-has_name value name =
-    str_eq_ignore_ascii_case value name || str_eq_ignore_ascii_case (before_first ends_token value) name
+-- this is the name of a known crawler, ASCII letters in any case
+unfoldable pub is_known : List ℕ → Bool
+is_known name = list_any (λ (row : Row). str_eq_ignore_ascii_case name row.0) crawlers
 
--- no crawler has this name, which is probably meant as the known one
-abbrev pub is_wrong_name : List ℕ → List ℕ → Bool
-is_wrong_name value name =
-    list_any (λ row. str_eq_ignore_ascii_case row.0.now value && bytes_eq row.1.now name) WRONG_NAMES
+-- names that no crawler has, each with that of the known crawler that is probably meant
+unfoldable pub wrong_names : List Row
+wrong_names = map (λ row. (row.0.now, row.1.now)) WRONG_NAMES
+
+-- the name in the row of this one, ASCII letters in any case, or an empty one if none of
+-- these rows has it
+abbrev pub name_for : List ℕ → List Row → List ℕ
+name_for value [] = []
+name_for value (row ∷ rows) = if str_eq_ignore_ascii_case row.0 value then row.1 else name_for value rows
 
 -- how many edits a longer or a shorter name still has to be recognized after
 abbrev pub most_edits : List ℕ → ℕ
@@ -85,15 +88,17 @@ is_near value name =
     && ((nat_le (length value) (length name + most) && nat_le (length name) (length value + most))
     && nat_le edits most)
 
--- the value of a user-agent line probably means the crawler in this row
-unfoldable pub is_meant : List ℕ → Row → Bool
-is_meant value row = is_wrong_name value row.0 || is_near value row.0
+-- the value of a user-agent line probably means the crawler in this row, which has the other name, or one
+-- that is near the value
+unfoldable pub is_meant : (value other : List ℕ) → Row → Bool
+is_meant value other row = bytes_eq row.0 other || is_near value row.0
 
--- the index of the crawler that it probably means, if no known one has this name
+-- the index of the crawler that it probably means, if neither the value nor the letters, `_` and `-` that it
+-- starts with are the name of a known one
 abbrev pub meant : List ℕ → Option ℕ
 meant value =
-    if list_any (λ (row : Row). has_name value row.0) crawlers then None
-    else position_from (is_meant value) 0 crawlers
+    if is_known value || is_known (before_first ends_token value) then None
+    else position_from (is_meant value (name_for value wrong_names)) 0 crawlers
 
 -- the same for any line
 abbrev pub meant_in : LineValue → Option ℕ

@@ -1,12 +1,13 @@
 //! Known crawlers: which group the vendor of each applies to it, and which one a similar name may mean.
-ghost use Rattle.std.specs.Prelude.{◌≡◌, ◌&&◌, [], IfOk, bytes_eq, map, option_map, slice_index_or};
+ghost use Rattle.std.specs.Prelude.{◌≡◌, [], IfOk, map, option_map, slice_index_or};
 ghost use Rattle.std.specs.Prelude.{string_bytes};
 ghost use Rattle.std.specs.List.{list_any, position_from};
 ghost use Rattle.std.specs.Str.{str_eq_ignore_ascii_case};
 ghost use Rattle.texting_robots.specs.Callers.{by_value, file_lines};
-ghost use Rattle.robots_warnings.specs.Crawlers.{crawlers, gets_other, has_name, is_given, is_line_at_vendor};
+ghost use Rattle.robots_warnings.specs.Crawlers.{crawlers, gets_other, is_given, is_known, is_line_at_vendor};
 ghost use Rattle.robots_warnings.specs.Crawlers.{is_meant, is_named_at_vendor, is_near, is_other_for};
-ghost use Rattle.robots_warnings.specs.Crawlers.{meant, meant_in, most_edits, other_group, other_in, row_at};
+ghost use Rattle.robots_warnings.specs.Crawlers.{meant, meant_in, most_edits, name_for, other_group, other_in};
+ghost use Rattle.robots_warnings.specs.Crawlers.{row_at, wrong_names};
 ghost use Rattle.robots_warnings.specs.Internal.{row_value};
 
 use crate::file::first;
@@ -88,7 +89,7 @@ static CRAWLERS: [(&str, &str); 108] = [
 ];
 
 /// Names that no crawler has, each with that of the known crawler that is probably meant.
-const WRONG_NAMES: [(&str, &str); 12] = [
+static WRONG_NAMES: [(&str, &str); 12] = [
     ("all", "*"),
     ("Google", "Googlebot"),
     ("Gemini", "Google-Extended"),
@@ -201,20 +202,24 @@ pub fn other_group(site: &Site, agent: &str) -> Option<&'static str>
     other_in(crawlers(), site, agent)
 }
 
-/// Whether the value of a user-agent line is this name, or begins with it, ASCII letters in any case.
-fn has_name(value: &[u8], name: &str) -> bool
-    ensures { result ≡ has_name value.now name.now }
+/// The wrong names, each with that of the known crawler that is probably meant.
+#[tactic(auto, unfolding(crate::specs::Crawlers::wrong_names))]
+fn wrong_names() -> &'static [Crawler]
+    ensures { map row_value result.now ≡ wrong_names }
 {
-    value.eq_ignore_ascii_case(name.as_bytes())
-        || token_front(value).eq_ignore_ascii_case(name.as_bytes())
+    &WRONG_NAMES
 }
 
-/// Whether one of these pairs is that of the value, ASCII letters in any case, and the name.
-fn is_pair(pairs: &[(&str, &str)], value: &[u8], name: &str) -> bool
-    ensures { result ≡ list_any
-        (λ row. str_eq_ignore_ascii_case row.0.now value.now && bytes_eq row.1.now name.now) pairs.now }
+/// The name in the row of this one, ASCII letters in any case, or an empty one if none of these rows has it.
+fn name_for(rows: &'static [Crawler], value: &[u8]) -> &'static str
+    ensures { result.now ≡ name_for value.now (map row_value rows.now) }
 {
-    pairs.iter().any(|row| row.0.as_bytes().eq_ignore_ascii_case(value) && row.1 == name)
+    for row in rows {
+        if row.0.as_bytes().eq_ignore_ascii_case(value) {
+            return row.1;
+        }
+    }
+    ""
 }
 
 /// How many edits a name still has to be recognized after.
@@ -245,43 +250,56 @@ fn is_near(alloc: Global, value: &[u8], name: &str) -> Result<bool, AllocError>
     Ok(generic_levenshtein(alloc, &value, &name)? <= most)
 }
 
-/// Whether the crawler in this row is probably meant by the value.
+/// Whether the crawler in this row, which has the other name or one near the value, is probably meant.
 #[tactic(auto, unfolding(crate::specs::Crawlers::is_meant))]
-fn is_meant(alloc: Global, value: &[u8], row: &Crawler) -> Result<bool, AllocError>
-    ensures { IfOk result (λ answer. answer ≡ is_meant value.now (row_value row.now)) }
+fn is_meant(alloc: Global, value: &[u8], other: &str, row: &Crawler) -> Result<bool, AllocError>
+    ensures { IfOk result (λ answer. answer ≡ is_meant value.now other.now (row_value row.now)) }
 {
-    Ok(is_pair(&WRONG_NAMES, value, row.0) || is_near(alloc, value, row.0)?)
+    Ok(row.0 == other || is_near(alloc, value, row.0)?)
 }
 
-/// Whether the value is the name of a crawler in one of these rows.
-fn is_known(rows: &[Crawler], value: &[u8]) -> bool
-    ensures { result ≡ list_any (λ row. has_name value.now row.0.now) rows.now }
+/// Whether one of these rows has this name.
+fn has_name(rows: &[Crawler], name: &[u8]) -> bool
+    ensures { result ≡ list_any (λ row. str_eq_ignore_ascii_case name.now row.0.now) rows.now }
 {
-    rows.iter().any(|row| has_name(value, row.0))
+    rows.iter()
+        .any(|row| name.eq_ignore_ascii_case(row.0.as_bytes()))
 }
 
-/// The index of the first of these rows whose crawler is probably meant by the value.
-fn first_meant(alloc: Global, rows: &[Crawler], value: &[u8]) -> Result<Option<usize>, AllocError>
-    ensures { IfOk result (λ found. found ≡ position_from (is_meant value.now) 0 (map row_value rows.now)) }
+/// Whether this is the name of a known crawler, ASCII letters in any case.
+fn is_known(name: &[u8]) -> bool
+    ensures { result ≡ is_known name.now }
+{
+    has_name(crawlers(), name)
+}
+
+/// The index of the first of these rows whose crawler is probably meant.
+fn first_meant(
+    alloc: Global,
+    rows: &[Crawler],
+    value: &[u8],
+    other: &str,
+) -> Result<Option<usize>, AllocError>
+    ensures { IfOk result (λ found. found
+        ≡ position_from (is_meant value.now other.now) 0 (map row_value rows.now)) }
 {
     for (number, row) in rows.iter().enumerate() {
-        if is_meant(alloc, value, row)? {
+        if is_meant(alloc, value, other, row)? {
             return Ok(Some(number));
         }
     }
     Ok(None)
 }
 
-/// The index of the crawler that the value of a user-agent line probably means, if no known one has this
-/// name.
+/// The index of the crawler that the value of a user-agent line probably means, if neither the value nor the
+/// product token that it begins with is the name of a known one.
 fn meant(alloc: Global, value: &[u8]) -> Result<Option<usize>, AllocError>
     ensures { IfOk result (λ found. found ≡ meant value.now) }
 {
-    let rows = crawlers();
-    if is_known(rows, value) {
+    if is_known(value) || is_known(token_front(value)) {
         return Ok(None);
     }
-    first_meant(alloc, rows, value)
+    first_meant(alloc, crawlers(), value, name_for(wrong_names(), value))
 }
 
 /// The same for any line.
