@@ -85,7 +85,7 @@ answer_for_terminal by_default matches answer (inr (off, is)) = by _ _ _ is
         (string_bytes answer.outcome.warnings)
     by (Some name) expect compare (known, is) = text_for_terminal _ _ answer is
     by None (Some name) compare is = let (hold, report, plain) = is.checked in silent _ answer plain.silent
-    by None None (Some name) is = silent _ answer is.compared.compared.silent
+    by None None (Some name) is = silent _ answer is.compared.silent
     by None None None is = audited_for_terminal by_default matches answer is
 
 -- with or without colors, warnings can be sent to a terminal

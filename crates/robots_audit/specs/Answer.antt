@@ -1,7 +1,7 @@
 -- What the program answers: to an audit, and to its arguments.
 use Rattle.std.specs.Prelude.{◌≡◌, ◌⊎◌, ℕ, Bool, true, false, List, [], ◌∷◌, ◌++◌, None, Option, Some, codes}
-use Rattle.std.specs.Prelude.{if◌then◌else◌, IsTrue, not, ◌&&◌, string_bytes, ⊤}
-use Rattle.std.specs.List.{list_all, list_any}
+use Rattle.std.specs.Prelude.{if◌then◌else◌, not, ◌&&◌, string_bytes, ⊤}
+use Rattle.std.specs.List.{list_any}
 use Rattle.clap.specs.declared.parser.matches.ArgMatches.{ArgMatches}
 use Rattle.html_writer.specs.Html.{document}
 use Rattle.printable_text.specs.{Lines.ended, Level.reaches, Text.ReportLine, Text.written}
@@ -9,15 +9,15 @@ use Rattle.printable_text.specs.declared.level.Level.{Level}
 use Rattle.robots_warnings.specs.{Table.is_name, Table.level_of, WarningValue.WarningValue}
 use Rattle.audit_core.specs.Audit.{AuditValue, IsAuditOf, all_allowed, rejects_some, shown}
 use Rattle.audit_core.specs.Request.{RequestValue, has_rows, requested_by}
-use Rattle.audit_core.specs.{Answer.IsText, Crawler.is_crawler_name, Findings.findings}
+use Rattle.audit_core.specs.{Answer.IsText, Findings.findings}
 use Rattle.audit_core.specs.declared.answer.{Answer.Answer, Outcome.Outcome}
 use Rattle.audit_core.specs.declared.fault.Fault.{Fault}
 use Rattle.audit_core.specs.declared.fault.Fault.TheVariants.{File, Memory, Words}
 use Rattle.audit_core.specs.declared.request.{Format.Format, Request.Request}
 use Rattle.audit_core.specs.declared.request.Format.TheVariants.{Github, Html, Json, Sarif, Text}
-use Rattle.robots_audit.specs.Command.{IsOn, IsRequestOf, reads_stdin_twice, value_of}
+use Rattle.robots_audit.specs.Command.{HasFile, IsOn, IsRequestOf, value_of}
 use Rattle.audit_compare.specs.Compare.{IsComparison}
-use Rattle.audit_expect.specs.{Expectations.IsAnswer, UrlList.HasUrlsIn, UrlList.first_malformed}
+use Rattle.audit_expect.specs.{Expectations.IsAnswer, UrlList.HasUrlsIn}
 use Rattle.audit_text.specs.Report.{listed_lines, report_lines, total_line}
 use Rattle.audit_text.specs.{Github.github_text, Explain.explanation, Explain.list_text}
 use Rattle.audit_json.specs.{Json.json_text, Sarif.sarif_text}
@@ -123,23 +123,18 @@ pub record AnswersAudit (by_default : Bool) (matches : ArgMatches) (answer : Ans
 
 -- a check of the expectations in the file with this name
 pub record AnswersExpectations (matches : ArgMatches) (name : List ℕ) (answer : Answer) : Type 0 where
-  pub once : reads_stdin_twice matches ≡ false
+  pub has_file : HasFile matches
   pub text : List ℕ
   pub file : List ℕ
   pub checked : IsAnswer name text file answer
 
 -- a comparison of two files
-pub record AnswersFiles (requested : RequestValue) (answer : Answer) : Type 0 where
-  pub urls : first_malformed requested.urls ≡ None
-  pub older : List ℕ
-  pub newer : List ℕ
-  pub compared : IsComparison requested.agents requested.urls older newer answer
-
 pub record AnswersComparison (matches : ArgMatches) (answer : Answer) : Type 0 where
   pub requested : RequestValue
   pub asked : IsAsked false matches requested
-  pub named : IsTrue (list_all is_crawler_name requested.agents)
-  pub compared : AnswersFiles requested answer
+  pub older : List ℕ
+  pub newer : List ℕ
+  pub compared : IsComparison requested.agents requested.urls older newer answer
 
 -- what the options `--explain`, `--expect` and `--compare` request, in this order, or else an audit
 abbrev pub AnswersOptions : (explain expect compare : Option (List ℕ)) → (by_default : Bool) → ArgMatches

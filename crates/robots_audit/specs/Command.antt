@@ -1,5 +1,5 @@
 -- The request that the arguments contain, specified by what `clap` found in them.
-use Rattle.std.specs.Prelude.{◌≡◌, ◌⊎◌, ℕ, Bool, true, false, List, [], ◌∷◌, ◌++◌, Option, Some, None}
+use Rattle.std.specs.Prelude.{◌≡◌, ◌⊎◌, ℕ, Bool, true, false, List, [], Option, Some, None}
 use Rattle.std.specs.Prelude.{Contains, IsTrue, Result, Ok, Err, bytes_eq, codes, if◌then◌else◌, is_none}
 use Rattle.std.specs.Prelude.{is_some, map, ◌&&◌, ◌||◌, option_map}
 use Rattle.std.specs.{List.list_all, Option.option_map_or}
@@ -13,7 +13,9 @@ use Rattle.audit_core.specs.declared.fault.Fault.TheVariants.{Memory, StdinTwice
 use Rattle.printable_text.specs.declared.level.Level.{Level}
 use Rattle.printable_text.specs.declared.level.Level.TheVariants as level
 use Rattle.robots_warnings.specs.Table.{is_name}
-use Rattle.audit_core.specs.{Crawler.single, Fault.IsUnknown, Request.format_named}
+use Rattle.audit_core.specs.{Crawler.IsNoCrawlerIn, Crawler.is_crawler_name, Crawler.single}
+use Rattle.audit_core.specs.{Fault.IsUnknown, Request.format_named}
+use Rattle.audit_expect.specs.UrlList.{IsUrlFault, first_malformed}
 
 -- the first value of an option or argument
 abbrev pub value_of : ArgMatches → List ℕ → Option (List ℕ)
@@ -22,10 +24,6 @@ value_of matches id = first_value (found_of matches) id
 -- all of its values
 abbrev pub values_of : ArgMatches → List ℕ → List (List ℕ)
 values_of matches id = option_map_or raw_values (matched_of (found_of matches) id) []
-
--- the arguments that aren't options
-abbrev pub words_of : ArgMatches → List (List ℕ)
-words_of matches = values_of matches (codes "agent") ++ values_of matches (codes "url")
 
 -- the value of an option that is on or off
 abbrev pub IsOn : ArgMatches → List ℕ → Bool → Type 0
@@ -70,25 +68,26 @@ IsFormatOf matches format = (is_json is_html : Bool) × IsOn matches (codes "jso
     × IsOn matches (codes "html") is_html
     × (format ≡ requested_format is_json is_html (value_of matches (codes "format")))
 
--- the crawlers and the URLs, where these names are the values of `--agent`: without it, the first argument is
--- a product token; otherwise all arguments are URLs
-abbrev pub AreWordsOf : List (List ℕ) → List (List ℕ) → List (List ℕ) → List (List ℕ) → Type 0
-AreWordsOf [] words agents urls = (agent : List ℕ) × (words ≡ agent ∷ urls) × (agents ≡ agent ∷ [])
-AreWordsOf (name ∷ names) words agents urls = (words ≡ urls) × (agents ≡ name ∷ names)
+-- FILE is given, and standard input is read at most once
+pub record HasFile (matches : ArgMatches) : Type 0 where
+  pub given : is_some (value_of matches (codes "file")) ≡ true
+  pub once : reads_stdin_twice matches ≡ false
 
--- the crawlers and the URLs of these arguments; with `--agents` no crawler is given, and all arguments are
--- URLs
-abbrev pub HasCrawlers : ArgMatches → List (List ℕ) → List (List ℕ) → List (List ℕ) → Type 0
-HasCrawlers matches words agents urls =
-    (IsOn matches (codes "agents") true × (words ≡ urls) × (agents ≡ []))
-    ⊎ (IsOn matches (codes "agents") false
-    × AreWordsOf (values_of matches (codes "crawler")) words agents urls)
+-- the error for the one or the other
+abbrev pub IsFileFault : ArgMatches → Fault → Type 0
+IsFileFault matches fault =
+    ((value_of matches (codes "file") ≡ None) × (fault ≡ Usage))
+    ⊎ ((reads_stdin_twice matches ≡ true) × (fault ≡ StdinTwice))
 
--- neither `--agents` nor `--agent` nor AGENT is given
-pub record LacksAgent (matches : ArgMatches) (words : List (List ℕ)) : Type 0 where
-  pub off : IsOn matches (codes "agents") false
-  pub unnamed : values_of matches (codes "crawler") ≡ []
-  pub missing : words ≡ []
+-- the values of `--agent`; crawlers have such names
+pub record AreAgentsOf (matches : ArgMatches) (agents : List (List ℕ)) : Type 0 where
+  pub all : agents ≡ values_of matches (codes "agent")
+  pub named : IsTrue (list_all is_crawler_name agents)
+
+-- the arguments after FILE; each is a path or a URL
+pub record AreUrlsOf (matches : ArgMatches) (urls : List (List ℕ)) : Type 0 where
+  pub all : urls ≡ values_of matches (codes "url")
+  pub formed : first_malformed urls ≡ None
 
 -- the names given with this option; each is that of a warning
 pub record AreNamesOf (matches : ArgMatches) (id : List ℕ) (names : List (List ℕ)) : Type 0 where
@@ -97,7 +96,7 @@ pub record AreNamesOf (matches : ArgMatches) (id : List ℕ) (names : List (List
 
 -- the request that the arguments contain; `by_default` is whether warnings have colors without `--color`
 pub record IsRequestOf (by_default : Bool) (matches : ArgMatches) (request : Request) : Type 0 where
-  pub once : reads_stdin_twice matches ≡ false
+  pub has_file : HasFile matches
   pub file : option_map (λ name. name.now) request.file ≡ file_read (value_of matches (codes "file"))
   pub quiet : IsOn matches (codes "quiet") request.is_quiet
   pub format : IsFormatOf matches request.format
@@ -106,8 +105,8 @@ pub record IsRequestOf (by_default : Bool) (matches : ArgMatches) (request : Req
   pub needless : IsOn matches (codes "needless") request.has_needless
   pub colors : request.has_colors ≡ requested_colors (value_of matches (codes "color")) by_default
   pub strict : request.strict ≡ option_map level_named (value_of matches (codes "strict"))
-  pub words : HasCrawlers matches (words_of matches) (map (λ agent. agent.now) request.agents.items)
-      (map (λ url. url.now) request.urls.items)
+  pub agents : AreAgentsOf matches (map (λ agent. agent.now) request.agents.items)
+  pub urls : AreUrlsOf matches (map (λ url. url.now) request.urls.items)
   pub agent : option_map (λ agent. agent.now) request.agent
       ≡ single (map (λ agent. agent.now) request.agents.items)
   pub only : AreNamesOf matches (codes "only") (map (λ name. name.now) request.only.items)
@@ -118,12 +117,13 @@ abbrev pub IsUnknownIn : List (List ℕ) → Fault → Type 0
 IsUnknownIn names fault =
     (fault ≡ Memory) ⊎ ((name : List ℕ) × Contains names name × (is_name name ≡ false) × IsUnknown name fault)
 
--- a request, or an error: no crawler is given, standard input would be read twice, no warning has a given
--- name, or an allocation failed
+-- a request, or an error: FILE is missing, standard input would be read twice, no crawler or no warning has a
+-- given name, an argument is neither a path nor a URL, or an allocation failed
 abbrev pub Asks : (by_default : Bool) → ArgMatches → Result Request Fault → Type 0
 Asks by_default matches (Ok request) = IsRequestOf by_default matches request
 Asks by_default matches (Err fault) =
-    (LacksAgent matches (words_of matches) × (fault ≡ Usage))
-    ⊎ (((reads_stdin_twice matches ≡ true) × (fault ≡ StdinTwice))
+    IsFileFault matches fault
+    ⊎ (IsNoCrawlerIn (values_of matches (codes "agent")) fault
+    ⊎ (IsUrlFault (values_of matches (codes "url")) fault
     ⊎ (IsUnknownIn (values_of matches (codes "only")) fault
-    ⊎ IsUnknownIn (values_of matches (codes "ignore")) fault))
+    ⊎ IsUnknownIn (values_of matches (codes "ignore")) fault)))

@@ -1,28 +1,45 @@
 //! The command line, and the request that it results in.
-ghost use Rattle.std.specs.Prelude.{◌≡◌, ◌≢◌, ◌++◌, IfErr, IfOk, IsTrue, OnOk, is_some, map, option_map, ◌||◌};
+ghost use Rattle.std.specs.Prelude.{◌≡◌, IfErr, IfOk, IsTrue, OnOk, codes, is_some, map, option_map, ◌||◌};
 ghost use Rattle.std.specs.List.{list_all};
 ghost use Rattle.robots_warnings.specs.Table.{is_name};
-ghost use Rattle.robots_audit.specs.Command.{AreNamesOf, Asks, file_read, HasCrawlers, is_stdin, IsUnknownIn};
-ghost use Rattle.robots_audit.specs.Command.{LacksAgent, level_named, reads_stdin_twice, requested_format};
-ghost use Rattle.robots_audit.specs.Command.{values_of, words_of};
+ghost use Rattle.audit_core.specs.Crawler.{IsNoCrawlerIn};
+ghost use Rattle.audit_expect.specs.UrlList.{IsUrlFault};
+ghost use Rattle.robots_audit.specs.Command.{AreAgentsOf, AreNamesOf, AreUrlsOf, Asks, file_read, HasFile};
+ghost use Rattle.robots_audit.specs.Command.{IsFileFault, is_stdin, IsUnknownIn, level_named, reads_stdin_twice};
+ghost use Rattle.robots_audit.specs.Command.{requested_format, values_of};
 
 use crate::options::with_options;
 use audit_core::color::requested_colors;
-use audit_core::crawler::single;
+use audit_core::crawler::{are_crawlers, single};
 use audit_core::fault::{Fault, unknown};
 use audit_core::request::{Format, Request};
 use audit_core::version::VERSION_AND_TOOLCHAIN;
+use audit_expect::url_list::are_paths_or_urls;
 use clap::{ArgMatches, Command};
 use printable_text::level::Level;
 use robots_warnings::table::is_name;
 use std::alloc::{AllocError, Global};
 
+/// The end of the help.
+const AFTER_HELP: &str = "\
+Exit status, the first that applies:
+  2  after an error, or if the file is rejected for a crawler
+  3  with --strict, if a warning at its level is reported: mend the file before you trust verdicts
+  1  if a URL is denied, an expectation fails or something differs
+  0  otherwise
+
+Examples:
+  robots_audit robots.txt
+  curl -s https://example.com/robots.txt | robots_audit --agent Googlebot - /search
+  robots_audit --compare old.txt robots.txt /search /products/tea";
+
 /// The program's options and arguments.
 pub fn command<'a>(alloc: Global) -> Result<Command<'a>, AllocError> {
     let called = Command::new(alloc, "robots_audit")
         .version(VERSION_AND_TOOLCHAIN)
-        .about("Explains how a crawler interprets a robots.txt file")
-        .override_usage("robots_audit [-f FILE] [OPTIONS] AGENT [URL]..");
+        .about("Explains how crawlers interpret a robots.txt file")
+        .override_usage("robots_audit [OPTIONS] FILE [URL]..")
+        .after_help(AFTER_HELP);
     with_options(alloc, called)
 }
 
@@ -48,7 +65,7 @@ fn is_stdin(name: Option<&str>) -> bool
 
 /// Whether the robots.txt file and another one would be read from standard input: the URLs, the expectations or the older
 /// version of the robots.txt file; or both the URLs and that version would.
-pub fn reads_stdin_twice(matches: &ArgMatches<'_>) -> bool
+fn reads_stdin_twice(matches: &ArgMatches<'_>) -> bool
     ensures { result ≡ reads_stdin_twice matches.now }
 {
     let urls = is_stdin(matches.get_str("urls"));
@@ -56,6 +73,18 @@ pub fn reads_stdin_twice(matches: &ArgMatches<'_>) -> bool
     let older = is_stdin(matches.get_str("compare"));
     let has_no_file = file_read(matches.get_str("file")).is_none();
     has_no_file && (urls || expected || older) || urls && older
+}
+
+/// Fails if FILE is missing, or if standard input would be read twice.
+pub fn check_files(matches: &ArgMatches<'_>) -> Result<(), Fault>
+    ensures ok { OnOk result (HasFile matches.now) }
+    ensures fault { IfErr result (IsFileFault matches.now) }
+{
+    match matches.get_str("file") {
+        None => Err(Fault::Usage),
+        Some(_) if reads_stdin_twice(matches) => Err(Fault::StdinTwice),
+        Some(_) => Ok(()),
+    }
 }
 
 /// The level with this word. `clap` accepts none but those of the three levels.
@@ -93,31 +122,6 @@ fn requested_format(is_json: bool, is_html: bool, name: Option<&str>) -> Format
     }
 }
 
-/// Appends all values of an option or argument.
-fn add_values<'a>(
-    words: &mut Vec<&'a str>,
-    matches: &ArgMatches<'a>,
-    id: &str,
-) -> Result<(), AllocError>
-    ensures { OnOk result (map (λ word. word.now) words.new.items
-        ≡ map (λ word. word.now) words.old.items ++ values_of matches.now id.now) }
-{
-    match matches.get_strs(id) {
-        Some(values) => words.extend_from_slice(values),
-        None => Ok(()),
-    }
-}
-
-/// The arguments that aren't options, in order.
-fn words_of<'a>(alloc: Global, matches: &ArgMatches<'a>) -> Result<Vec<&'a str>, AllocError>
-    ensures { IfOk result (λ words. map (λ word. word.now) words.items ≡ words_of matches.now) }
-{
-    let mut words = Vec::new(alloc);
-    add_values(&mut words, matches, "agent")?;
-    add_values(&mut words, matches, "url")?;
-    Ok(words)
-}
-
 /// All values of an option or argument.
 fn values_of<'a>(
     alloc: Global,
@@ -127,7 +131,9 @@ fn values_of<'a>(
     ensures { IfOk result (λ values. map (λ value. value.now) values.items ≡ values_of matches.now id.now) }
 {
     let mut values = Vec::new(alloc);
-    add_values(&mut values, matches, id)?;
+    if let Some(given) = matches.get_strs(id) {
+        values.extend_from_slice(given)?;
+    }
     Ok(values)
 }
 
@@ -154,28 +160,24 @@ fn names_of<'a>(alloc: Global, matches: &ArgMatches<'a>, id: &str) -> Result<Vec
     Ok(names)
 }
 
-/// The crawlers that `--agent` or else AGENT names; none with `--agents`. AGENT is removed from the arguments.
-fn crawlers<'a>(
-    alloc: Global,
-    matches: &ArgMatches<'a>,
-    words: &mut Vec<&'a str>,
-) -> Result<Vec<&'a str>, Fault>
-    ensures ok { IfOk result (λ agents. HasCrawlers matches.now (map (λ word. word.now) words.old.items)
-        (map (λ agent. agent.now) agents.items) (map (λ word. word.now) words.new.items)) }
-    ensures fault { IfErr result (λ fault. fault ≢ Fault.Memory
-        → LacksAgent matches.now (map (λ word. word.now) words.old.items) × (fault ≡ Fault.Usage)) }
+/// The crawlers that `--agent` names. Fails with the first name that no crawler has.
+fn agents_of<'a>(alloc: Global, matches: &ArgMatches<'a>) -> Result<Vec<&'a str>, Fault>
+    ensures ok { IfOk result (λ agents. AreAgentsOf matches.now (map (λ agent. agent.now) agents.items)) }
+    ensures fault { IfErr result (IsNoCrawlerIn (values_of matches.now (codes "agent"))) }
 {
-    if matches.get_flag("agents") {
-        return Ok(Vec::new(alloc));
-    }
-    let mut agents = values_of(alloc, matches, "crawler")?;
-    if agents.is_empty() {
-        if words.is_empty() {
-            return Err(Fault::Usage);
-        }
-        agents.push(words.remove(0))?;
-    }
+    let agents = values_of(alloc, matches, "agent")?;
+    are_crawlers(alloc, &agents)?;
     Ok(agents)
+}
+
+/// The URLs and paths among the arguments. Fails with the first one that is neither.
+fn urls_of<'a>(alloc: Global, matches: &ArgMatches<'a>) -> Result<Vec<&'a str>, Fault>
+    ensures ok { IfOk result (λ urls. AreUrlsOf matches.now (map (λ url. url.now) urls.items)) }
+    ensures fault { IfErr result (IsUrlFault (values_of matches.now (codes "url"))) }
+{
+    let urls = values_of(alloc, matches, "url")?;
+    are_paths_or_urls(alloc, &urls)?;
+    Ok(urls)
 }
 
 /// Whether the report ends with the numbers of allowed and denied URLs: with `--denied` or `--urls`.
@@ -186,8 +188,8 @@ fn has_totals(is_denied_only: bool, urls: Option<&str>) -> bool
 }
 
 /// The request that the arguments contain, without the URLs in a file; `has_colors` is whether warnings have colors
-/// without `--color` or with `--color auto`. Fails if AGENT is missing, if standard input would be read twice, if
-/// no warning has a given name, or if an allocation fails.
+/// without `--color` or with `--color auto`. Fails if FILE is missing, if standard input would be read twice, if no
+/// crawler or no warning has a given name, if an argument is neither a URL nor a path, or if an allocation fails.
 pub fn requested<'a>(
     alloc: Global,
     matches: &ArgMatches<'a>,
@@ -195,11 +197,8 @@ pub fn requested<'a>(
 ) -> Result<Request<'a>, Fault>
     ensures { Asks has_colors matches.now result }
 {
-    let mut urls = words_of(alloc, matches)?;
-    let agents = crawlers(alloc, matches, &mut urls)?;
-    if reads_stdin_twice(matches) {
-        return Err(Fault::StdinTwice);
-    }
+    check_files(matches)?;
+    let agents = agents_of(alloc, matches)?;
     let is_denied_only = matches.get_flag("denied");
     Ok(Request {
         file: file_read(matches.get_str("file")),
@@ -213,7 +212,7 @@ pub fn requested<'a>(
         strict: strict_level(matches.get_str("strict")),
         agent: single(&agents),
         agents,
-        urls,
+        urls: urls_of(alloc, matches)?,
         only: names_of(alloc, matches, "only")?,
         ignored: names_of(alloc, matches, "ignore")?,
         is_denied_only,

@@ -1,11 +1,11 @@
-//! Explains how a crawler interprets a robots.txt file, which is a named one or standard input. The report has a row
+//! Explains how crawlers interpret a robots.txt file, which is a named one or standard input. The report has a row
 //! for each line of the first 512,000 bytes, with its number, whether it is in the crawler's group, and its directive;
 //! then the group and the delay that apply to the crawler; then for each URL whether the crawler may fetch it, and
 //! which line decides. Warnings about lines that probably don't do what was intended go to standard error. All of this
 //! can be written as JSON or as an HTML page instead. Annotations for GitHub and a SARIF log have what was found: the
 //! URLs that are denied, the crawlers for which the file is rejected, and the warnings.
 //!
-//! `robots_audit [OPTIONS] AGENT [URL]..`
+//! `robots_audit [OPTIONS] FILE [URL]..`
 //!
 //! With `--compare` it writes instead what differs from an older version of the file.
 //!
@@ -14,19 +14,20 @@
 //! With `--expect` it checks instead whether crawlers may fetch what a file of expectations says, and writes a line for
 //! each that fails, or how many hold if none fails.
 //!
-//! The exit status is 0 if every URL is allowed, all expectations hold or nothing differs; 1 if not; 2 after an error, or
-//! if the file is rejected for a crawler of a report or of a comparison; and with `--strict` 3 if there is a warning at
-//! its level or a more serious one.
+//! The exit status is 0 if every URL is allowed, all expectations hold or nothing differs, and 1 if not; but with
+//! `--strict` 3 if there is a warning at its level or a more serious one; and 2 after an error, or if the file is rejected
+//! for a crawler of a report or of a comparison.
 #![tactic(auto)]
 
-ghost use Rattle.std.specs.Prelude.{◌≡◌, ◌≢◌, IfErr, IfOk, IsErr, string_bytes, true};
+ghost use Rattle.std.specs.Prelude.{◌≡◌, ◌≢◌, IfErr, IfOk, IsErr, option_map, string_bytes, true};
 ghost use Rattle.std.specs.Process.{exit_status};
 ghost use Rattle.printable_text.specs.Color.{IsForTerminal};
 ghost use Rattle.audit_core.specs.Fault.{fault_text, message_after, status_after};
 ghost use Rattle.audit_core.specs.declared.fault.Fault.TheVariants.{Memory};
 ghost use Rattle.clap.specs.Values.{kind_of};
 ghost use Rattle.audit_core.specs.Request.{requested_by};
-ghost use Rattle.robots_audit.specs.Answer.{Answers, AnswersAudit, AnswersComparison, AnswersExpectations, AnswersFiles, HasWords};
+ghost use Rattle.robots_audit.specs.Answer.{Answers, AnswersAudit, AnswersComparison, AnswersExpectations};
+ghost use Rattle.robots_audit.specs.Answer.{HasUrls, HasWords};
 
 mod command;
 mod laws;
@@ -36,15 +37,14 @@ mod program;
 use audit_compare::compare::compare;
 use audit_core::answer::{Answer, Outcome, text_answer, write_answer};
 use audit_core::color::colors_by_default;
-use audit_core::crawler::are_crawlers;
 use audit_core::fault::{Fault, fault_text, status_after};
 use audit_core::request::Request;
 use audit_expect::expectations::check;
-use audit_expect::url_list::{are_paths_or_urls, with_urls};
+use audit_expect::url_list::with_urls;
 use audit_text::explain::{explain, list_warnings};
 use clap::ArgMatches;
 use clap::error::ErrorKind as WordsKind;
-use command::{command, file_read, reads_stdin_twice, requested};
+use command::{check_files, command, file_read, requested};
 use program::{audited, unread};
 use robots_io::streams::{ReadFault, read_all};
 use std::alloc::{AllocError, Global};
@@ -84,53 +84,60 @@ fn read(rt: &HostRuntime, name: Option<&str>) -> Result<Vec<u8>, Fault> {
     }
 }
 
-/// Audits the file that the arguments name, or standard input; `has_colors` is as for `requested`.
+/// The bytes of the file of `--urls`; none without this option.
+fn url_text(rt: &HostRuntime, matches: &ArgMatches<'_>) -> Result<Vec<u8>, Fault> {
+    match matches.get_str("urls") {
+        Some(name) => read(rt, Some(name)),
+        None => Ok(Vec::new(rt.alloc())),
+    }
+}
+
+/// The request with the URLs in this text, if it is that of a file of `--urls`, which has this name.
+fn extended<'a>(
+    alloc: Global,
+    request: Request<'a>,
+    name: Option<&str>,
+    text: &'a [u8],
+) -> Result<Request<'a>, Fault>
+    ensures { IfOk result (λ extended. HasUrls (option_map (λ name. name.now) name.entry)
+        (requested_by request.entry) (requested_by extended)) }
+{
+    match name {
+        Some(name) => with_urls(alloc, request, name, text),
+        None => Ok(request),
+    }
+}
+
+/// Audits the file that the arguments name; `has_colors` is as for `requested`.
 fn audit(rt: &HostRuntime, matches: &ArgMatches<'_>, has_colors: bool) -> Result<Answer, Fault>
     ensures { IfOk result (AnswersAudit has_colors matches.now) }
 {
     let request = requested(rt.alloc(), matches, has_colors)?;
-    let Some(name) = matches.get_str("urls") else {
-        return audited(rt.alloc(), &request, &read(rt, request.file)?);
-    };
-    let text = read(rt, Some(name))?;
-    let extended = with_urls(rt.alloc(), request, name, &text)?;
-    audited(rt.alloc(), &extended, &read(rt, extended.file)?)
+    let text = url_text(rt, matches)?;
+    let whole = extended(rt.alloc(), request, matches.get_str("urls"), &text)?;
+    audited(rt.alloc(), &whole, &read(rt, whole.file)?)
 }
 
-/// Checks the expectations in the file `expected` against the file that the arguments name, or standard input.
+/// Checks the expectations in the file `expected` against the file that the arguments name.
 fn checked(rt: &HostRuntime, matches: &ArgMatches<'_>, expected: &str) -> Result<Answer, Fault>
     ensures { IfOk result (AnswersExpectations matches.now expected.now) }
 {
-    if reads_stdin_twice(matches) {
-        return Err(Fault::StdinTwice);
-    }
+    check_files(matches)?;
     let text = read(rt, Some(expected))?;
     let file = read(rt, matches.get_str("file"))?;
     check(rt.alloc(), expected, &text, &file)
 }
 
-/// Compares the file `older` with the file that the request names, or standard input.
-fn compare_files(rt: &HostRuntime, request: &Request<'_>, older: &str) -> Result<Answer, Fault>
-    ensures { IfOk result (AnswersFiles (requested_by request.now)) }
-{
-    are_paths_or_urls(rt.alloc(), &request.urls)?;
-    let older = read(rt, Some(older))?;
-    let newer = read(rt, request.file)?;
-    compare(rt.alloc(), &request.agents, &request.urls, &older, &newer)
-}
-
-/// Compares the file `older` with the file that the arguments name, or standard input.
+/// Compares the file `older` with the file that the arguments name.
 fn compared(rt: &HostRuntime, matches: &ArgMatches<'_>, older: &str) -> Result<Answer, Fault>
     ensures { IfOk result (AnswersComparison matches.now) }
 {
     let request = requested(rt.alloc(), matches, false)?;
-    are_crawlers(rt.alloc(), &request.agents)?;
-    let Some(name) = matches.get_str("urls") else {
-        return compare_files(rt, &request, older);
-    };
-    let text = read(rt, Some(name))?;
-    let extended = with_urls(rt.alloc(), request, name, &text)?;
-    compare_files(rt, &extended, older)
+    let text = url_text(rt, matches)?;
+    let whole = extended(rt.alloc(), request, matches.get_str("urls"), &text)?;
+    let older = read(rt, Some(older))?;
+    let newer = read(rt, whole.file)?;
+    compare(rt.alloc(), &whole.agents, &whole.urls, &older, &newer)
 }
 
 /// The answer to the parsed arguments; `has_colors` is as for `requested`.

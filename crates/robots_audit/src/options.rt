@@ -17,7 +17,7 @@ enum Value {
     Repeated(&'static str),
     /// One of these words.
     OneOf(&'static str, &'static [&'static str]),
-    /// One of these words, which can only follow a `=`, as AGENT may follow the option. If the
+    /// One of these words, which can only follow a `=`, as FILE may follow the option. If the
     /// option is given without a `=`, its value is the last field of this variant.
     OneOfAfterEquals(&'static str, &'static [&'static str], &'static str),
 }
@@ -35,8 +35,8 @@ struct Parameter {
     excludes: &'static [&'static [&'static str]],
 }
 
-/// The arguments, and the options that choose crawlers and URLs.
-const OF_QUERIES: &[&str] = &["agent", "url", "agents", "crawler", "urls"];
+/// The URLs, and the options that choose crawlers and URLs.
+const OF_QUERIES: &[&str] = &["url", "agent", "urls"];
 
 /// The options of an audit that are about warnings and the form of the report.
 const OF_REPORTS: &[&str] = &[
@@ -46,11 +46,11 @@ const OF_REPORTS: &[&str] = &[
 /// The arguments in their order, and the options in that of the help.
 const PARAMETERS: &[Parameter] = &[
     Parameter {
-        id: "agent",
+        id: "file",
         short: None,
         long: None,
-        value: Value::Text("AGENT"),
-        help: "The crawler's product token, without a version",
+        value: Value::Text("FILE"),
+        help: "The robots.txt file (-: standard input)",
         excludes: &[],
     },
     Parameter {
@@ -59,14 +59,6 @@ const PARAMETERS: &[Parameter] = &[
         long: None,
         value: Value::Texts("URL"),
         help: "URLs or paths to check",
-        excludes: &[],
-    },
-    Parameter {
-        id: "file",
-        short: Some('f'),
-        long: Some("file"),
-        value: Value::Text("FILE"),
-        help: "robots.txt file to read (default, or -: standard input)",
         excludes: &[],
     },
     Parameter {
@@ -86,19 +78,11 @@ const PARAMETERS: &[Parameter] = &[
         excludes: &[],
     },
     Parameter {
-        id: "crawler",
+        id: "agent",
         short: None,
         long: Some("agent"),
         value: Value::Repeated("NAME"),
-        help: "Report on this crawler, instead of AGENT; may be repeated",
-        excludes: &[&["agents"]],
-    },
-    Parameter {
-        id: "agents",
-        short: Some('a'),
-        long: Some("agents"),
-        value: Value::Absent,
-        help: "Report on * and every crawler named in the file, instead of AGENT",
+        help: "Report on this crawler; may be repeated (default: * and every crawler that FILE names)",
         excludes: &[],
     },
     Parameter {
@@ -186,7 +170,7 @@ const PARAMETERS: &[Parameter] = &[
         short: None,
         long: Some("compare"),
         value: Value::Text("OLD"),
-        help: "Report instead what differs from OLD (-: standard input) to the robots.txt file",
+        help: "Report instead what differs from OLD (-: standard input) to FILE",
         excludes: &[&["expect"], OF_REPORTS],
     },
     Parameter {

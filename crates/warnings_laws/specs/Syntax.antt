@@ -20,8 +20,8 @@ use Rattle.robots_warnings.specs.{WarningValue.WarningValue}
 abbrev pub IsNotAboutSyntax : WarningValue → Type 0
 IsNotAboutSyntax warning = is_not_about_syntax warning.cause ≡ true
 
--- the warnings about a file if all groups are checked, as with `--agents` or more than one `--agent`; `named`
--- are the crawlers that the user named, and `agents` those reported on
+-- the warnings about a file if all groups are checked, as without `--agent` or with more than one;
+-- `agents` are the crawlers that are reported on
 abbrev pub warnings_of : (agents urls : List (List ℕ)) → List ℕ → List WarningValue
 warnings_of agents urls file =
     let lines = lines_read file in
