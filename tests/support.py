@@ -98,8 +98,8 @@ for name, level, _, text in documented_warnings():
 
 
 FORMATS = re.findall(r'"(\w+)"', re.search(r"const NAMES: [^=]*= &\[(.*?)\];", (CRATES / "audit_core/src/request.rt").read_text(), re.S)[1])
-OF_A_URL = {"not-a-url-or-path", "invalid-url", "url-not-normal"}
-OF_A_CRAWLER = {"empty-agent", "space-around-agent", "version-in-agent", "googlebot-group", "google-ignores-star"}
+OF_A_URL = {"url-not-normal"}
+OF_A_CRAWLER = {"googlebot-group", "google-ignores-star"}
 OF_RULES = {"replaces-star"}
 OF_A_LINE = {"allowed-and-disallowed", "empty-disallow"}
 NEEDLESS = ["never", "nothing", "allowed", "covered"]  # in the order of the messages of `needless-rule`
@@ -201,6 +201,6 @@ def wanted_of(case):
     if "room" in case:
         out = out[: case["room"] if case["room"] != "closed" else 0]
     warnings = spelled(case.get("warn", "")).decode().splitlines()
-    named = re.search(r"(?:(?<!-)-q?f[ =]?|--file[ =])(?!- )(\S+)", case.get("args", ""))
-    file = named[1] if named else "robots.txt"
+    named = re.match(r"(?!-)\S+", case.get("args", ""))  # a named file is the first argument in golden cases
+    file = named[0] if named else "robots.txt"
     return Result(case.get("status", 0), out, lines(case.get("err", "")) + warning_lines(warnings, file).encode())

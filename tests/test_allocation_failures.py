@@ -105,25 +105,29 @@ def test_robots_verdict(failing_heap, later):
 BEYOND, JUNK, EXPECTED, ODD, NONE, NEEDLESS, LIST = "BEYOND", "JUNK", "EXPECTED", "ODD", "NONE", "NEEDLESS", "LIST"
 AUDIT_RUNS = {
     "the example": AUDIT_ARGS,
-    "a named file": ["--file", CRATES / "robots_audit/stdin", "Ferris", *URLS],
-    "each agent": ["--agents", *URLS],
-    "agents by name": ["--agent", "Ferris", "--agent", "other", *URLS],
-    "URLs in a file": ["--urls", CRATES / "robots_audit/args", "--denied", "Ferris", *URLS],
-    "a page about each agent": ["--html", "--agents", *URLS],
-    "a comparison": ["--compare", OLDER, "--agents", *URLS],
-    "a comparison with URLs in a file": ["--compare", OLDER, "--urls", LIST, "Ferris", *URLS],
-    "expectations": ["--expect", EXPECTED],
-    "an expectation about no URL": ["--expect", ODD],
-    "no expectations": ["--expect", NONE],
-    **{form: ["--format", form, "Ferris", *URLS] for form in FORMATS},
+    "a named file": ["--agent", "Ferris", CRATES / "robots_audit/stdin", *URLS],
+    "each agent": ["-", *URLS],
+    "agents by name": ["--agent", "Ferris", "--agent", "other", "-", *URLS],
+    "URLs in a file": ["--urls", LIST, "--denied", "--agent", "Ferris", "-", *URLS],
+    "a page about each agent": ["--html", "-", *URLS],
+    "a comparison": ["--compare", OLDER, "-", *URLS],
+    "a comparison with URLs in a file": ["--compare", OLDER, "--urls", LIST, "--agent", "Ferris", "-", *URLS],
+    "expectations": ["--expect", EXPECTED, "-"],
+    "an expectation about no URL": ["--expect", ODD, "-"],
+    "no expectations": ["--expect", NONE, "-"],
+    **{form: ["--format", form, "--agent", "Ferris", "-", *URLS] for form in FORMATS},
     "the list of warnings": ["--list-warnings"],
     "an explanation": ["--explain", "missing-slash"],
-    "wrong arguments": ["--none", "Ferris"],
-    "a name after the first 512,000 bytes": ["--file", BEYOND, "Ferris"],
-    "more than twenty warnings with one name": ["--file", JUNK, "Ferris"],
-    "needless rules": ["--needless", "--file", NEEDLESS, "--agents"],
-    "colors": ["--color", "always", "Ferris", *URLS],
-    "warnings by name": ["--only", "noindex-line", "--only", "missing-slash", "--ignore", "noindex-line", "--strict", "Ferris", *URLS],
+    "wrong arguments": ["--none", "-"],
+    "no arguments": [],
+    "the name of no crawler": ["--agent", "Ferris/1", "-"],
+    "an argument that is no URL": ["-", "/a", "a"],
+    "a URL where a file is expected": ["https://example.com"],
+    "a name after the first 512,000 bytes": ["--agent", "Ferris", BEYOND],
+    "more than twenty warnings with one name": ["--agent", "Ferris", JUNK],
+    "needless rules": ["--needless", NEEDLESS],
+    "colors": ["--color", "always", "--agent", "Ferris", "-", *URLS],
+    "warnings by name": ["--only", "noindex-line", "--only", "missing-slash", "--ignore", "noindex-line", "--strict", "--agent", "Ferris", "-", *URLS],
 }
 
 
@@ -157,16 +161,16 @@ def long_file(tmp_path):
 
 @pytest.mark.parametrize("is_named", [True, False], ids=["of a named file", "of standard input"])
 def test_robots_audit_reports_a_failed_read(failing_heap, long_file, is_named):
-    args = ["Ferris", URLS[0]] if not is_named else ["--file", long_file, "Ferris", URLS[0]]
+    args = ["--agent", "Ferris", long_file if is_named else "-", URLS[0]]
     why = f"cannot read {long_file}" if is_named else "cannot read standard input"
     program = Failing(failing_heap, "robots_audit", args, b"" if is_named else long_file.read_bytes())
     break_each(program, "READ", lambda result, right, number: result == Result(2, "", f"robots_audit: {why}\n"))
 
 
 OTHER_FILES = {
-    "URLs": (["Ferris", "--urls"], b"/a\n" * 50_000),
+    "URLs": (["--urls"], b"/a\n" * 50_000),
     "expectations": (["--expect"], b"allow Ferris /\n" + b"#" * 200_000),
-    "an older version": (["Ferris", "--compare"], AUDIT_INPUT + b"#" * 200_000),
+    "an older version": (["--compare"], AUDIT_INPUT + b"#" * 200_000),
 }
 
 
@@ -182,14 +186,14 @@ def test_robots_audit_reports_a_failed_read_of_one_of_two_files(failing_heap, lo
         unread.update(named)
         return named != set()
 
-    break_each(Failing(failing_heap, "robots_audit", ["--file", long_file, *args, other]), "READ", is_reported)
+    break_each(Failing(failing_heap, "robots_audit", [long_file, *args, other]), "READ", is_reported)
     assert unread == files
 
 
 WRITTEN = {
-    **{form: ["--format", form, "Ferris", URLS[0]] for form in FORMATS},
-    "a comparison": ["--compare", OLDER, "Ferris", URLS[0]],
-    "expectations": ["--expect", EXPECTED],
+    **{form: ["--format", form, "--agent", "Ferris", "-", URLS[0]] for form in FORMATS},
+    "a comparison": ["--compare", OLDER, "--agent", "Ferris", "-", URLS[0]],
+    "expectations": ["--expect", EXPECTED, "-"],
     "the list of warnings": ["--list-warnings"],
     "an explanation": ["--explain", "missing-slash"],
 }
@@ -244,7 +248,7 @@ def test_robots_verdict_reads_at_most_1048576_times(failing_heap, size):
 
 @pytest.mark.parametrize("size", [1_048_575, 1_048_576], ids=["at the end", "a byte before it"])
 def test_robots_audit_reads_at_most_1048576_times(failing_heap, size):
-    program = Failing(failing_heap, "robots_audit", ["-q", "a"], b"Disallow: /" + b" " * (size - 11), PIECE=1)
+    program = Failing(failing_heap, "robots_audit", ["-q", "--agent", "a", "-"], b"Disallow: /" + b" " * (size - 11), PIECE=1)
     result = program()
     ended = (0, "") if size == 1_048_575 else (2, "robots_audit: cannot read standard input\n")
     assert (result.status, result.err if result.status else "", program.reads) == (*ended, 1_048_576)
@@ -279,13 +283,13 @@ def test_no_size_is_out_of_memory(what):
         agent, urls, file, verdicts = AT_EACH_SIZE[what](size)
         verdict = run("robots_verdict", stdin="\n".join([agent, *urls, "", file]).encode())
         assert (verdict.status, verdict.err, verdict.out.endswith("\n" + verdicts)) == (0, "", True), size
-        audit = run("robots_audit", [agent, *urls], file.encode())
+        audit = run("robots_audit", ["--agent", agent, "-", *urls], file.encode())
         assert (audit.status, audit.out.endswith("\n" + verdicts)) == (1, True), (size, audit.err)
-        as_json = run("robots_audit", ["--json", agent, *urls], file.encode())
+        as_json = run("robots_audit", ["--json", "--agent", agent, "-", *urls], file.encode())
         assert (as_json.status, len(json.loads(as_json.out)["agents"][0]["verdicts"])) == (1, len(urls)), (size, as_json.err)
 
 
-USAGE = "usage: robots_audit [-f FILE] [OPTIONS] AGENT [URL].."
+USAGE = "usage: robots_audit [OPTIONS] FILE [URL].."
 DENIED = "group: everyone (the file has no User-agent line; all rules are applied)\ndelay: none\ndeny 1 /b\n"
 
 
@@ -296,25 +300,25 @@ def error(message):
 
 # By what of an audit has a size: the arguments and the input of a run, its status, its output, and the end of its message.
 OF_AN_AUDIT = {
-    "the number of crawlers": lambda size: (["-q", *["--agent=a"] * size, "/b"], "Disallow: /", (1, DENIED * size, "")),
+    "the number of crawlers": lambda size: (["-q", *["--agent=a"] * size, "-", "/b"], "Disallow: /", (1, DENIED * size, "")),
     "the number of compared crawlers": lambda size: (
-        ["--compare", "/dev/null", *["--agent=a"] * size], "User-agent: b",
+        ["--compare", "/dev/null", *["--agent=a"] * size, "-"], "User-agent: b",
         (1, "crawler a: group everyone -> none\ncrawler a: same rules, so no URL's verdict differs\n" * size, ""),
     ),
-    "the number of chosen names": lambda size: (["-q", *["--only=host-line"] * size, "a", "/b"], "Disallow: /", (1, DENIED, "")),
+    "the number of chosen names": lambda size: (["-q", *["--only=host-line"] * size, "--agent=a", "-", "/b"], "Disallow: /", (1, DENIED, "")),
     "a name that no warning has, explained": lambda size: (["--explain", "a" * size], "", error(f"unknown warning {'a' * size}; {USAGE}")),
-    "a name that no warning has": lambda size: (["--ignore", "a" * size, "B"], "", error(f"unknown warning {'a' * size}; {USAGE}")),
-    "the name of a missing file": lambda size: (["-f", "a" * size, "B"], "", error(f"cannot read {'a' * size}")),
-    "the name of missing URLs": lambda size: (["--urls", "a" * size, "B"], "", error(f"cannot read {'a' * size}")),
-    "the name of missing expectations": lambda size: (["--expect", "a" * size], "", error(f"cannot read {'a' * size}")),
-    "the name of a missing older file": lambda size: (["--compare", "a" * size, "B"], "", error(f"cannot read {'a' * size}")),
+    "a name that no warning has": lambda size: (["--ignore", "a" * size, "-"], "", error(f"unknown warning {'a' * size}; {USAGE}")),
+    "the name of a missing file": lambda size: (["a" * size], "", error(f"cannot read {'a' * size}")),
+    "the name of missing URLs": lambda size: (["--urls", "a" * size, "-"], "", error(f"cannot read {'a' * size}")),
+    "the name of missing expectations": lambda size: (["--expect", "a" * size, "-"], "", error(f"cannot read {'a' * size}")),
+    "the name of a missing older file": lambda size: (["--compare", "a" * size, "-"], "", error(f"cannot read {'a' * size}")),
     "a name that no crawler has": lambda size: (
-        ["--compare", "/dev/null", "%" * size], "",
-        error(f"{'%' * size}: AGENT isn't a product token without a version, such as Googlebot"),
+        ["--agent", "%" * size, "-"], "",
+        error(f"{'%' * size}: a crawler's name is a product token without a version, such as Googlebot"),
     ),
     "neither a path nor a URL": lambda size: (
-        ["--compare", "/dev/null", "B", "b" * size], "",
-        error(f"{'b' * size}: URL is neither a path that starts with / nor a valid http:// or https:// URL"),
+        ["-", "b" * size], "",
+        error(f"{'b' * size}: URL is neither a path that starts with / nor a URL; for a crawler, write --agent NAME"),
     ),
 }  # fmt: skip
 
@@ -331,7 +335,7 @@ def test_no_size_of_an_audit_is_out_of_memory(what, size):
 def test_many_crawlers_in_a_file():
     """Those that it names have the rule, and `*` has none."""
     file = "".join(f"User-agent: {number:x}\n" for number in range(10_000)) + "Disallow: /"
-    result = run("robots_audit", ["-aq", "/b"], file.encode(), timeout=300)
+    result = run("robots_audit", ["-q", "-", "/b"], file.encode(), timeout=300)
     assert (result.status, result.out.count("\ndeny 10001 /b\n"), result.out.count("\nallow - /b\n")) == (1, 10_000, 1)
 
 
@@ -340,18 +344,18 @@ EACH = {"json": '"name":"unrecognized-line"', "github": "title=unrecognized-line
 
 @pytest.mark.parametrize("form", EACH)
 def test_many_listed_warnings(form):
-    result = run("robots_audit", ["--format", form, "B"], b"a\n" * 65_537 + b"Disallow: /", timeout=300)
+    result = run("robots_audit", ["--format", form, "-"], b"a\n" * 65_537 + b"Disallow: /", timeout=300)
     assert (result.status, result.out.count(EACH[form]), result.err) == (0, 65_537, "")
 
 
 # Of a file of 64 MB, its role, the arguments and its beginning, and the end of the report.
 LARGE = b"#" * 2**26
 OF_LARGE_FILES = {
-    "robots.txt": (["-q", "-f", "LARGE", "a", "/b"], b"Disallow: /\n", DENIED),
-    "standard input": (["-q", "a", "/b"], b"Disallow: /\n", DENIED),
-    "URLs": (["-q", "-f", "SMALL", "a", "--urls", "LARGE"], b"/b\n", DENIED + "0 allowed, 1 denied\n"),
-    "expectations": (["-f", "SMALL", "--expect", "LARGE"], b"allow a /b\n", "LARGE:1: a must be allowed /b, but line 1 denies it\n"),
-    "an older version": (["-f", "SMALL", "--compare", "LARGE", "a", "/b"], b"Allow: /\n", "crawler a /b: allow 1 -> deny 1\n"),
+    "robots.txt": (["-q", "--agent=a", "LARGE", "/b"], b"Disallow: /\n", DENIED),
+    "standard input": (["-q", "--agent=a", "-", "/b"], b"Disallow: /\n", DENIED),
+    "URLs": (["-q", "SMALL", "--agent=a", "--urls", "LARGE"], b"/b\n", DENIED + "0 allowed, 1 denied\n"),
+    "expectations": (["SMALL", "--expect", "LARGE"], b"allow a /b\n", "LARGE:1: a must be allowed /b, but line 1 denies it\n"),
+    "an older version": (["SMALL", "--compare", "LARGE", "--agent=a", "/b"], b"Allow: /\n", "crawler a /b: allow 1 -> deny 1\n"),
 }
 
 
@@ -370,5 +374,5 @@ def test_a_file_with_a_long_path_is_read(length, tmp_path):
     """Linux opens paths of up to 4,095 bytes."""
     (tmp_path / "a").write_bytes(b"Disallow: /\n")
     path = "./" * (length // 2) + "a" if length % 2 else ".//" + "./" * (length // 2 - 2) + "a"
-    result = run("robots_audit", ["-q", "-f", path, "a", "/b"], cwd=tmp_path)
+    result = run("robots_audit", ["-q", "--agent=a", path, "/b"], cwd=tmp_path)
     assert (len(path), result.status, result.out) == (length, 1, DENIED), result.err

@@ -557,9 +557,13 @@ def test_example_in_c_reports_each_failed_allocation(failing_heap, objects, tmp_
     assert result.out == right.out and reported > 3
 
 
-@pytest.mark.parametrize("case", EXAMPLES.values(), ids=EXAMPLES)
+OF_URLS = {name: case for name, case in EXAMPLES.items() if re.fullmatch(r"\S+( (/|https?:)\S*)*", case["args"])}
+
+
+@pytest.mark.parametrize("case", OF_URLS.values(), ids=OF_URLS)
 def test_robots_audit_has_the_same_verdicts(case):
-    result, wanted = run("robots_audit", arguments(case), input_of(case)), wanted_of(case)
+    agent, *urls = arguments(case)
+    result, wanted = run("robots_audit", ["--agent", agent, "-", *urls], input_of(case)), wanted_of(case)
     assert result.status == wanted.status
     if wanted.status != 2:
         assert verdict_lines(result.out) == verdict_lines(wanted.out)

@@ -104,10 +104,10 @@ def test_hook_stops_a_commit_without_robots_txt(folder):
 
 
 def test_empty_file_is_stopped_by_its_audit(folder):
-    """That of a build, and standard input, if `--file` is forgotten."""
+    """That of a build, and standard input."""
     _, audit, *_ = shown(DOCUMENTS["docs/CI.md"]).splitlines()
     assert ran(folder, audit) == 0
-    assert ran(folder, audit.replace(" --file robots.txt", " < /dev/null")) == 3
+    assert ran(folder, audit.replace(" robots.txt", " - < /dev/null")) == 3
     (folder / "robots.txt").write_text("")
     assert ran(folder, audit) == 3
 
@@ -134,7 +134,7 @@ def test_workflow_reports_on_a_new_file(folder):
 def test_workflows_run_if_a_file_changes_that_they_read():
     """And the first one fetches the commit before, which it compares with."""
     for workflow in blocks("yaml"):
-        read = {name for command, _ in commands(workflow) for name in re.findall(r"--(?:file|expect) (\S+)", command)}
+        read = {name for command, _ in commands(workflow) for name in re.findall(r"(?:--expect| (?=robots\.txt)) ?(\S+)", command)}
         assert read == set(re.search(r"paths: \[(.*)\]", workflow)[1].split(", "))
     changes, alerts = blocks("yaml")
     assert "HEAD^1" in changes and int(re.search(r"fetch-depth: (\d+)", changes)[1]) == 2

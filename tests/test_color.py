@@ -57,25 +57,25 @@ def audit(args, environment, is_terminal, file=FILE):
     ],
 )
 def test_colors(args, environment, is_terminal, colored):
-    assert audit([*args, "-q", "Ferris"], environment, is_terminal)[0] == (COLORED if colored else PLAIN)
+    assert audit([*args, "-q", "-"], environment, is_terminal)[0] == (COLORED if colored else PLAIN)
 
 
 def test_a_report_has_no_colors():
-    colored, plain = (audit([f"--color={when}", "Ferris", "/a"], TERMINAL, True)[1] for when in ("always", "never"))
+    colored, plain = (audit([f"--color={when}", "-", "/a"], TERMINAL, True)[1] for when in ("always", "never"))
     assert colored == plain and "\x1b" not in colored
 
 
 def test_other_formats_have_no_colors():
     for form in set(FORMATS) - {"text"}:
-        error, out = audit(["--color=always", "--format", form, "Ferris"], TERMINAL, True)
+        error, out = audit(["--color=always", "--format", form, "-"], TERMINAL, True)
         assert (error, "\x1b" in out) == ("", False)
 
 
 def test_an_error_has_no_colors():
-    assert audit(["--color=always"], TERMINAL, True)[0].startswith("robots_audit: missing AGENT")
+    assert audit(["--color=always"], TERMINAL, True)[0].startswith("robots_audit: missing FILE")
 
 
 def test_the_file_adds_no_codes():
     """Codes in the names of files and in URLs are escaped, as without colors."""
-    error, _ = audit(["--color=always", "-q", "-a", "a\x1b[31m"], TERMINAL, True)
-    assert error == warning_line("not-a-url-or-path a%1B[31m").replace("warning", "\x1b[1;33mwarning\x1b[0m", 1) + COLORED
+    error, _ = audit(["--color=always", "-q", "-", "/%c3\x1b[31m"], TERMINAL, True)
+    assert error == warning_line("url-not-normal /%c3%1B[31m").replace("note", "\x1b[1;36mnote\x1b[0m", 1) + COLORED

@@ -36,14 +36,14 @@ crawler *: - Allow: /search/tea (line 3)
 crawler *: + Disallow: /products (line 3)
 """
 
-USAGE = "usage: robots_audit [-f FILE] [OPTIONS] AGENT [URL].."
+USAGE = "usage: robots_audit [OPTIONS] FILE [URL].."
 SAME_TEXT = "no group, delay or rule differs, so no URL's verdict does; sitemaps aren't compared\n"
 NOTHING = f"crawler Ferris: {SAME_TEXT}"
 ALL = f"all compared crawlers: {SAME_TEXT}"
 OTHERS = f"other compared crawlers: {SAME_TEXT}"
-AGENT = "AGENT isn't a product token without a version, such as Googlebot"
+NAME = "a crawler's name is a product token without a version, such as Googlebot"
 URL = "URL is neither a path that starts with / nor a valid http:// or https:// URL"
-MISSING = f"robots_audit: missing AGENT (use --agent or --agents); {USAGE}\n"
+MAYBE = "URL is neither a path that starts with / nor a URL; for a crawler, write --agent NAME"
 SAME = "crawler Ferris: same rules, so no URL's verdict differs\n"
 TOO_LONG = b"User-agent: *\nDisallow: /" + b"x" * 4096 + b"$\n"
 REASON = "a pattern with $ longer than 4,096 bytes isn't supported; shorten it\n"
@@ -70,10 +70,15 @@ DIFFERENCES = {
 }
 
 
-def compare(folder, old, new, *words):
+def compare(folder, old, new, *words, file="-"):
     """The result for two files."""
     (folder / "old.txt").write_bytes(old)
-    return run("robots_audit", ["--compare", "old.txt", *words], new, cwd=folder)
+    return run("robots_audit", ["--compare", "old.txt", file, *words], new, cwd=folder)
+
+
+def for_ferris(folder, old, new, *words, **options):
+    """The same for one crawler."""
+    return compare(folder, old, new, "--agent", "Ferris", *words, **options)
 
 
 def outcome(result):
@@ -86,7 +91,7 @@ def test_one_crawler(tmp_path):
 crawler Googlebot https://shop.example/search/milk: deny 2 -> allow
 crawler Googlebot /cart: allow -> deny 6
 """
-    assert outcome(compare(tmp_path, OLD, NEW, "Googlebot", *urls)) == (1, GOOGLEBOT + lines, "")
+    assert outcome(compare(tmp_path, OLD, NEW, "--agent=Googlebot", *urls)) == (1, GOOGLEBOT + lines, "")
 
 
 def test_a_url_is_asked_without_its_fragment(tmp_path):
@@ -96,8 +101,8 @@ crawler Ferris https://e.com/a#b: deny 1 -> allow
 crawler Ferris https://e.com/a#c: deny 1 -> allow
 """
     (tmp_path / "list.txt").write_bytes(b"https://e.com/a#c\n/a#c\n")
-    words = ["--urls", "list.txt", "Ferris", "https://e.com/a#b", "/a#b"]
-    assert outcome(compare(tmp_path, b"Disallow: /a$", b"", *words)) == (1, lines, "")
+    words = ["--urls", "list.txt", "https://e.com/a#b", "/a#b"]
+    assert outcome(for_ferris(tmp_path, b"Disallow: /a$", b"", *words)) == (1, lines, "")
 
 
 def test_urls_in_a_file(tmp_path):
@@ -107,50 +112,50 @@ def test_urls_in_a_file(tmp_path):
 crawler Googlebot /cart: allow -> deny 6
 crawler Googlebot https://shop.example/search/milk: deny 2 -> allow
 """
-    assert outcome(compare(tmp_path, OLD, NEW, "--urls", "list.txt", "Googlebot", "/search/tea")) == (1, GOOGLEBOT + lines, "")
+    assert outcome(compare(tmp_path, OLD, NEW, "--urls", "list.txt", "--agent=Googlebot", "/search/tea")) == (1, GOOGLEBOT + lines, "")
 
 
-@pytest.mark.parametrize("text, why", [(b"# none\n", "list.txt: there are no URLs"), (b"/a\n\xff\n", "list.txt:2: the line isn't valid UTF-8"), (b"/a\ntea\n", f"tea: {URL}")], ids=["no URL", "not UTF-8", "neither a path nor a URL"])
+@pytest.mark.parametrize("text, why", [(b"# none\n", "list.txt: there are no URLs"), (b"/a\n\xff\n", "list.txt:2: the line isn't valid UTF-8"), (b"/a\ntea\n", f"list.txt:2: {URL}")], ids=["no URL", "not UTF-8", "neither a path nor a URL"])
 def test_file_of_urls_that_is_none(tmp_path, text, why):
     (tmp_path / "list.txt").write_bytes(text)
-    assert outcome(compare(tmp_path, OLD, NEW, "--urls", "list.txt", "Ferris")) == (2, "", f"robots_audit: {why}\n")
+    assert outcome(for_ferris(tmp_path, OLD, NEW, "--urls", "list.txt")) == (2, "", f"robots_audit: {why}\n")
 
 
 def test_urls_from_standard_input(tmp_path):
     (tmp_path / "new.txt").write_bytes(NEW)
-    result = compare(tmp_path, OLD, b"/search/tea\n", "-f", "new.txt", "--urls", "-", "GPTBot")
+    result = compare(tmp_path, OLD, b"/search/tea\n", "--urls", "-", "--agent=GPTBot", file="new.txt")
     assert outcome(result) == (0, NOTHING.replace("Ferris", "GPTBot"), "")
 
 
-@pytest.mark.parametrize("words", [["--compare", "old.txt", "--urls", "-"], ["--compare", "-", "--urls", "-", "-f", "new.txt"], ["--compare", "-", "--urls", "list.txt"]])
+@pytest.mark.parametrize("words", [["--compare", "old.txt", "--urls", "-", "-"], ["--compare", "-", "--urls", "-", "new.txt"], ["--compare", "-", "--urls", "list.txt", "-"]])
 def test_standard_input_is_read_once(tmp_path, words):
     for name in ("old.txt", "new.txt", "list.txt"):
         (tmp_path / name).write_bytes(b"/a\n")
-    message = f"robots_audit: standard input can't be both robots.txt and another file (use --file); {USAGE}\n"
-    assert outcome(run("robots_audit", [*words, "Ferris"], NEW, cwd=tmp_path)) == (2, "", message)
+    message = f"robots_audit: standard input can't be two files; give the name of one; {USAGE}\n"
+    assert outcome(run("robots_audit", words, NEW, cwd=tmp_path)) == (2, "", message)
 
 
 def test_all_crawlers(tmp_path):
-    assert outcome(compare(tmp_path, OLD, NEW, "--agents")) == (1, STAR + GOOGLEBOT + OTHERS, "")
+    assert outcome(compare(tmp_path, OLD, NEW)) == (1, STAR + GOOGLEBOT + OTHERS, "")
 
 
 def test_all_crawlers_and_a_url(tmp_path):
     lines = STAR + "crawler * /search/tea: allow 3 -> deny 2\n" + GOOGLEBOT + "crawler Googlebot /search/tea: allow 3 -> allow\n" + OTHERS
-    assert outcome(compare(tmp_path, OLD, NEW, "-a", "/search/tea")) == (1, lines, "")
+    assert outcome(compare(tmp_path, OLD, NEW, "/search/tea")) == (1, lines, "")
 
 
 @pytest.mark.parametrize("old, new, lines", DIFFERENCES.values(), ids=DIFFERENCES)
 def test_difference(tmp_path, old, new, lines):
-    assert outcome(compare(tmp_path, old, new, "Ferris", "/a")) == ((1, lines, "") if lines else (0, NOTHING, ""))
+    assert outcome(for_ferris(tmp_path, old, new, "/a")) == ((1, lines, "") if lines else (0, NOTHING, ""))
 
 
 NO_DIFFERENCE = {
-    "one crawler": (["Ferris"], NOTHING),
-    "one crawler and URLs": (["GPTBot", "/a", "/b"], f"crawler GPTBot: {SAME_TEXT}"),
-    "one with spaces": (["Offline Explorer"], f"crawler Offline Explorer: {SAME_TEXT}"),
-    "one by option": (["--agent=*"], f"crawler *: {SAME_TEXT}"),
+    "one crawler": (["--agent", "Ferris"], NOTHING),
+    "one crawler and URLs": (["/a", "--agent=GPTBot", "/b"], f"crawler GPTBot: {SAME_TEXT}"),
+    "one with spaces": (["--agent=Offline Explorer"], f"crawler Offline Explorer: {SAME_TEXT}"),
+    "all that have no group": (["--agent=*"], f"crawler *: {SAME_TEXT}"),
     "two crawlers": (["--agent=Ferris", "--agent=GPTBot"], ALL),
-    "all crawlers": (["--agents", "/search/tea"], ALL),
+    "all crawlers": (["/search/tea"], ALL),
 }
 
 
@@ -160,41 +165,41 @@ def test_no_difference(tmp_path, words, line):
 
 
 def test_another_crawler_is_not_spoken_of(tmp_path):
-    assert outcome(compare(tmp_path, OLD, NEW, "GPTBot")) == (0, f"crawler GPTBot: {SAME_TEXT}", "")
+    assert outcome(compare(tmp_path, OLD, NEW, "--agent=GPTBot")) == (0, f"crawler GPTBot: {SAME_TEXT}", "")
     lines = STAR.replace("crawler *", "crawler Ferris") + OTHERS
     assert outcome(compare(tmp_path, OLD, NEW, "--agent=Ferris", "--agent=GPTBot")) == (1, lines, "")
 
 
 def test_sitemaps_are_not_compared(tmp_path):
-    assert outcome(compare(tmp_path, OLD + b"Sitemap: https://e.com/s\n", OLD, "Ferris")) == (0, NOTHING, "")
+    assert outcome(for_ferris(tmp_path, OLD + b"Sitemap: https://e.com/s\n", OLD)) == (0, NOTHING, "")
 
 
 def test_rejected_files(tmp_path):
     old = f"the old file is rejected for Ferris: line 2: {REASON}"
     new = f"the new file is rejected for Ferris: line 2: {REASON}"
-    assert outcome(compare(tmp_path, TOO_LONG, OLD, "Ferris", "/a")) == (2, old, "")
-    assert outcome(compare(tmp_path, OLD, TOO_LONG, "Ferris", "/a")) == (2, new, "")
-    assert outcome(compare(tmp_path, TOO_LONG, TOO_LONG, "Ferris", "/a")) == (2, old + new, "")
+    assert outcome(for_ferris(tmp_path, TOO_LONG, OLD, "/a")) == (2, old, "")
+    assert outcome(for_ferris(tmp_path, OLD, TOO_LONG, "/a")) == (2, new, "")
+    assert outcome(for_ferris(tmp_path, TOO_LONG, TOO_LONG, "/a")) == (2, old + new, "")
 
 
 def test_other_crawlers_than_one_for_which_a_file_is_rejected(tmp_path):
     line = f"the new file is rejected for *: line 2: {REASON}"
     new = TOO_LONG + b"User-agent: GPTBot\nDisallow: /"
-    assert outcome(compare(tmp_path, OLD, new, "--agents")) == (2, line + OTHERS, "")
+    assert outcome(compare(tmp_path, OLD, new)) == (2, line + OTHERS, "")
 
 
 def test_untrusted_text(tmp_path):
     lines = "crawler Ferris: + Disallow: /%07 (line 1)\ncrawler Ferris /%07: allow -> deny 1\n"
-    assert outcome(compare(tmp_path, b"", b"Disallow: /\x07", "Ferris", "/\x07")) == (1, lines, "")
+    assert outcome(for_ferris(tmp_path, b"", b"Disallow: /\x07", "/\x07")) == (1, lines, "")
     new = b"User-agent: *\nDisallow: /a\nUser-agent: a\x1bb\nDisallow: /b"
     lines = "crawler a%1Bb: group * -> a%1Bb\ncrawler a%1Bb: - Disallow: /a (line 2)\ncrawler a%1Bb: + Disallow: /b (line 4)\n"
-    assert outcome(compare(tmp_path, b"User-agent: *\nDisallow: /a", new, "--agents")) == (1, lines + OTHERS, "")
+    assert outcome(compare(tmp_path, b"User-agent: *\nDisallow: /a", new)) == (1, lines + OTHERS, "")
 
 
 def test_no_command_of_a_workflow(tmp_path):
     """GitHub takes `##[` for a command, anywhere in a line."""
     lines = "crawler Ferris: + Disallow: / (line 1)\ncrawler Ferris /%23%23[error]x: allow -> deny 1\ncrawler Ferris /#[: allow -> deny 1\n"
-    assert outcome(compare(tmp_path, b"", b"Disallow: /", "Ferris", "/##[error]x", "/#[")) == (1, lines, "")
+    assert outcome(for_ferris(tmp_path, b"", b"Disallow: /", "/##[error]x", "/#[")) == (1, lines, "")
 
 
 def test_a_name_that_looks_like_a_command(tmp_path):
@@ -202,59 +207,59 @@ def test_a_name_that_looks_like_a_command(tmp_path):
     name = "crawler ::error title=tea::milk"
     lines = "crawler *: group everyone -> none\ncrawler *: same rules, so no URL's verdict differs\n"
     lines += f"{name}: group everyone -> ::error title=tea::milk\n{name}: + Disallow: / (line 2)\n"
-    assert outcome(compare(tmp_path, b"", new, "--agents")) == (1, lines, "")
+    assert outcome(compare(tmp_path, b"", new)) == (1, lines, "")
 
 
 def test_files_by_name(tmp_path):
     (tmp_path / "robots.txt").write_bytes(OLD)
-    assert outcome(compare(tmp_path, OLD, NEW, "-f", "robots.txt", "Ferris")) == (0, NOTHING, "")
-    assert outcome(compare(tmp_path, OLD, NEW, "-f", "missing", "Ferris")) == (2, "", "robots_audit: cannot read missing\n")
-    missing = run("robots_audit", ["--compare", "missing.txt", "Ferris"], NEW, cwd=tmp_path)
+    assert outcome(for_ferris(tmp_path, OLD, NEW, file="robots.txt")) == (0, NOTHING, "")
+    assert outcome(for_ferris(tmp_path, OLD, NEW, file="missing")) == (2, "", "robots_audit: cannot read missing\n")
+    missing = run("robots_audit", ["--compare", "missing.txt", "-"], NEW, cwd=tmp_path)
     assert outcome(missing) == (2, "", "robots_audit: cannot read missing.txt\n")
 
 
 def test_folders_in_place_of_files(tmp_path):
     """They can be opened, but each read fails."""
     (tmp_path / "folder").mkdir()
-    assert outcome(compare(tmp_path, OLD, NEW, "-f", "folder", "Ferris")) == (2, "", "robots_audit: cannot read folder\n")
-    folder = run("robots_audit", ["--compare", "folder", "Ferris"], NEW, cwd=tmp_path)
+    assert outcome(for_ferris(tmp_path, OLD, NEW, file="folder")) == (2, "", "robots_audit: cannot read folder\n")
+    folder = run("robots_audit", ["--compare", "folder", "-"], NEW, cwd=tmp_path)
     assert outcome(folder) == (2, "", "robots_audit: cannot read folder\n")
 
 
 def test_older_file_from_standard_input(tmp_path):
     (tmp_path / "robots.txt").write_bytes(NEW)
-    result = run("robots_audit", ["--compare", "-", "-f", "robots.txt", "Googlebot"], OLD, cwd=tmp_path)
+    result = run("robots_audit", ["--compare", "-", "robots.txt", "--agent=Googlebot"], OLD, cwd=tmp_path)
     assert outcome(result) == (1, GOOGLEBOT, "")
-    message = f"robots_audit: standard input can't be both robots.txt and another file (use --file); {USAGE}\n"
-    assert outcome(run("robots_audit", ["--compare", "-", "Ferris"], OLD)) == (2, "", message)
-    assert outcome(run("robots_audit", ["--compare", "-", "-f", "-", "Ferris"], OLD)) == (2, "", message)
-
-
-def test_agent_is_missing(tmp_path):
-    assert outcome(compare(tmp_path, OLD, NEW)) == (2, "", MISSING)
+    message = f"robots_audit: standard input can't be two files; give the name of one; {USAGE}\n"
+    assert outcome(run("robots_audit", ["--compare", "-", "-"], OLD)) == (2, "", message)
 
 
 @pytest.mark.parametrize("name, shown", [("", '""'), ("Googlebot/2.1", "Googlebot/2.1"), ("Googlebot.2", "Googlebot.2"), ("Googlebot*", "Googlebot*"), (" Bingbot", " Bingbot"), ("a\x1bb", "a%1Bb"), ("Caf\u00e9", "Caf\u00e9")])
 def test_name_that_no_crawler_has(tmp_path, name, shown):
-    for words in ([name], ["--agent=Ferris", f"--agent={name}"]):
-        assert outcome(compare(tmp_path, OLD, OLD, *words)) == (2, "", f"robots_audit: {shown}: {AGENT}\n")
+    for words in ([f"--agent={name}"], ["--agent=Ferris", f"--agent={name}"]):
+        assert outcome(compare(tmp_path, OLD, OLD, *words)) == (2, "", f"robots_audit: {shown}: {NAME}\n")
 
 
-@pytest.mark.parametrize("url, shown", [("", '""'), ("products/tea", "products/tea"), ("*", "*"), ("e.com/a", "e.com/a"), ("ftp://e.com/a", "ftp://e.com/a"), ("https:/a", "https:/a"), ("https://", "https://"), ("http://[1/a", "http://[1/a"), (" /a", " /a"), ("a\x1bb", "a%1Bb")])
+@pytest.mark.parametrize("url, shown", [("", '""'), ("products/tea", "products/tea"), ("e.com/a", "e.com/a"), ("ftp://e.com/a", "ftp://e.com/a"), ("https:/a", "https:/a"), ("https://", "https://"), ("http://[1/a", "http://[1/a"), (" /a", " /a"), ("a\x1bb", "a%1Bb")])
 def test_neither_a_path_nor_a_url(tmp_path, url, shown):
-    for words in (["Ferris", url], ["--agents", "/", "https://e.com/a", "HTTP://e.com", url, "tea"]):
+    for words in ([url], ["/", "https://e.com/a", "HTTP://e.com", url, "tea"]):
         assert outcome(compare(tmp_path, OLD, NEW, *words)) == (2, "", f"robots_audit: {shown}: {URL}\n")
 
 
+@pytest.mark.parametrize("name", ["*", "Googlebot", "Offline Explorer", "new.txt"])
+def test_an_argument_that_may_be_a_crawler(tmp_path, name):
+    assert outcome(compare(tmp_path, OLD, NEW, name, "tea")) == (2, "", f"robots_audit: {name}: {MAYBE}\n")
+
+
 def test_names_are_checked_before_urls_and_both_before_files(tmp_path):
-    assert outcome(compare(tmp_path, OLD, NEW, "Ferris/1", "tea")) == (2, "", f"robots_audit: Ferris/1: {AGENT}\n")
-    missing = run("robots_audit", ["--compare", "missing.txt", "Ferris", "tea"], NEW, cwd=tmp_path)
-    assert outcome(missing) == (2, "", f"robots_audit: tea: {URL}\n")
+    assert outcome(compare(tmp_path, OLD, NEW, "--agent=Ferris/1", "tea/")) == (2, "", f"robots_audit: Ferris/1: {NAME}\n")
+    missing = run("robots_audit", ["--compare", "missing.txt", "-", "tea/"], NEW, cwd=tmp_path)
+    assert outcome(missing) == (2, "", f"robots_audit: tea/: {URL}\n")
 
 
 @pytest.mark.parametrize("more", ["--expect=old.txt", "--denied", "-q", "--format=text", "--json", "--html", "--color=never", "--strict", "--needless", "--only=missing-slash", "--ignore=missing-slash"])
 def test_other_options_conflict(tmp_path, more):
-    result = compare(tmp_path, OLD, NEW, more, "Ferris")
+    result = compare(tmp_path, OLD, NEW, more)
     assert (result.status, result.out) == (2, "") and "cannot be used with" in result.err
 
 
@@ -263,7 +268,7 @@ def test_many_rules(tmp_path):
         return b"".join(b"Disallow: /%b%05d\n" % (front, n) for n in range(25_000))
 
     old, new = rules(b"a"), rules(b"b")
-    assert outcome(compare(tmp_path, old, old, "Ferris")) == (0, NOTHING, "")
-    result = compare(tmp_path, old, new, "Ferris")
+    assert outcome(for_ferris(tmp_path, old, old)) == (0, NOTHING, "")
+    result = for_ferris(tmp_path, old, new)
     assert (result.status, result.out.count("\n")) == (1, 50_000)
     assert result.out.splitlines()[24_999] == "crawler Ferris: - Disallow: /a24999 (line 25000)"

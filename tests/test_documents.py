@@ -217,12 +217,11 @@ def test_guide_shows_its_program():
 
 
 def test_readme_shows_what_the_first_command_prints():
-    """Some lines of the output, in its order."""
+    """Some lines of the output, in its order. The same file has another name in the folder of a release."""
     words = shlex.split(re.search(r"^    \(cd crates/robots_audit && rt try -- (.*)\)$", README, re.M)[1])
-    at = words.index("<")
-    result = run("robots_audit", words[:at], (CRATES / "robots_audit" / words[at + 1]).read_bytes())
+    result = run("robots_audit", words, cwd=CRATES / "robots_audit")
     assert result.status == 1
-    lines = iter((result.out + result.err).splitlines())
+    lines = iter((result.out + result.err.replace("../../examples/", "share/doc/robots_audit/")).splitlines())
     examples = shown(section(README, "Audit a file").split("It prints")[1].split("`+` marks")[0]).splitlines()
     assert len(examples) > 5
     assert [line for line in examples if line not in lines] == []
@@ -235,7 +234,7 @@ def test_proofs_name_the_toolchain():
 
 # ---- docs/PROGRAMS.md
 
-EMPTY = {"an empty AGENT": ([b""], b""), "an empty file": ([b"FerrisBot"], b"")}
+EMPTY = {"an empty file": ([b"-"], b"")}
 PREFIXED = ("**An ignored line", "**A directive", "**A rule", "**A delay")
 
 
@@ -246,9 +245,9 @@ def examples_of_warnings():
             if example in EMPTY:
                 yield pytest.param(name.strip("`"), *EMPTY[example], id=f"{name} {example}")
                 continue
-            what, text, below = re.fullmatch(r"(AGENT|URL|option|) ?`([^`]*)`(?:, file `([^`]*)`)?", example).groups()
+            what, text, below = re.fullmatch(r"(URL|option|) ?`([^`]*)`(?:, file `([^`]*)`)?", example).groups()
             bytes_of, file = (spelled((text or "").replace("⏎", "\n")) for text in (text, below))
-            args = {"AGENT": [bytes_of], "URL": ["FerrisBot", bytes_of], "option": [bytes_of, "FerrisBot"]}.get(what, ["FerrisBot"])
+            args = [b"-", *bytes_of.split()] if what else [b"-"]
             file = file if what else (b"User-agent: *\n" if part.startswith(PREFIXED) else b"") + bytes_of
             yield pytest.param(name.strip("`"), args, file, id=f"{name} {example[:60]}")
 
@@ -263,7 +262,7 @@ def test_each_warning_has_an_example():
 
 
 def test_warnings_are_those_of_the_table():
-    table = (CRATES / "robots_warnings/src/table.rt").read_text()
+    table = "".join((CRATES / f"robots_warnings/src/{name}.rt").read_text() for name in ("table", "texts"))
     rows = re.findall(r'\(Cause::(\w+), Level::(\w+), Topic::(\w+), "([a-z0-9-]+)"\)', table)
     messages = dict(re.findall(r'\(Cause::(\w+),\n +"((?:[^"\\]|\\.)*)"\)', table))
     stated = [(name, level.lower(), topic, messages[cause].replace('\\"', '"').replace("\\\\", "\\")) for cause, level, topic, name in rows]
@@ -275,14 +274,18 @@ def test_warnings_are_those_of_the_table():
 LONG_RULE = b"Disallow: /b\nAllow: $" + b"a" * 4096
 ERRORS = {
     "unknown option": {"args": ["--bogus"]},
-    "AGENT is missing": {},
+    "FILE is missing": {},
     "an argument isn't UTF-8": {"args": [b"\xff"]},
-    "standard input would be read twice": {"args": ["--urls", "-", "B"]},
-    "no warning has this name": {"args": ["--ignore", "NAME", "B"]},
-    "a file can't be opened or read": {"args": ["-f", "NAME", "B"]},
-    "standard input can't be read": {"args": ["B"], "stdin": "/"},
-    "the report can't be written": {"args": ["B"], "stdout": "/dev/full"},
-    "an allocation fails, or a URL is too long for the crate `url`": {"args": ["B"], "text": LONG_RULE, "fails": True},
+    "no crawler has the name after `--agent`": {"args": ["--agent", "B/1", "-"]},
+    "an argument is neither a path nor a URL": {"args": ["-", "a/b"]},
+    "it may be the name of a crawler": {"args": ["-", "B"]},
+    "standard input would be read twice": {"args": ["--urls", "-", "-"]},
+    "no warning has this name": {"args": ["--ignore", "NAME", "-"]},
+    "a file can't be opened or read": {"args": ["NAME"]},
+    "its name is a URL": {"args": ["https://example.com"]},
+    "standard input can't be read": {"args": ["-"], "stdin": "/"},
+    "the report can't be written": {"args": ["-"], "stdout": "/dev/full"},
+    "an allocation fails, or a URL is too long for the crate `url`": {"args": ["-"], "text": LONG_RULE, "fails": True},
     "Read": {"stdin": "/"},
     "Write": {"text": b"B\n\n", "stdout": "/dev/full"},
     "NoEmptyLine": {"text": b"B\n/a\n"},
@@ -322,10 +325,12 @@ def test_all_documented_errors_are_tried():
 def test_error_has_the_documented_message(failing_heap, program, name, status, text):
     result = run_into(program, failing_heap, **ERRORS[name])
     assert result.status == status
-    usage = "usage: robots_audit [-f FILE] [OPTIONS] AGENT [URL].."
+    usage = "usage: robots_audit [OPTIONS] FILE [URL].."
     assert usage in shown(PROGRAMS).splitlines()
     if text.startswith("`"):
-        assert result.err == text.strip("`").replace("USAGE", usage).replace("line N:", "line 2:") + "\n"
+        message, *examples = result.err.splitlines()
+        assert message == spelled(text.strip("`")).decode().replace("USAGE", usage).replace("line N:", "line 2:")
+        assert len(examples) == (2 if name == "FILE is missing" else 0)
     else:
         assert "Usage: robots_audit" in result.err
 
@@ -334,11 +339,11 @@ def test_documented_options_are_those_of_help():
     option = r"(?<![\w-])(?:--[a-z-]+|-[a-zA-Z])(?![\w-])"
     documented = [name for row in tables(PROGRAMS) if row[0].startswith("`-") for name in re.findall(option, row[0])]
     usage = run("robots_audit", ["--help"]).out
-    assert sorted(documented) == sorted(set(re.findall(option, usage[usage.index("\nOptions:") :])))
+    assert sorted(documented) == sorted(set(re.findall(option, usage.split("\nOptions:")[1].split("\n\n")[0])))
 
 
 def test_documented_json_is_that_of_the_program():
-    report = json.loads(run("robots_audit", ["--json", "FerrisBot", "/search"], b"User-agent: *\nDisallow: search").out)
+    report = json.loads(run("robots_audit", ["--json", "--agent", "FerrisBot", "-", "/search"], b"User-agent: *\nDisallow: search").out)
     assert json.loads(code(PROGRAMS, "json")[0]) == report
 
 
@@ -367,7 +372,7 @@ def rows_under(name, *columns):
 
 @pytest.mark.parametrize("line, read", rows_under("docs/SPECIFICATION.md", "Line", "Read as"))
 def test_line_is_read_as_documented(line, read):
-    row = run("robots_audit", ["FerrisBot"], bytes_in(line)).out.splitlines()[0]
+    row = run("robots_audit", ["--agent", "FerrisBot", "-"], bytes_in(line)).out.splitlines()[0]
     assert row[4:].split(maxsplit=1) == read.strip("`").split(maxsplit=1)
 
 
@@ -380,7 +385,7 @@ def verdict(crawler, file, url):
 
 @pytest.mark.parametrize("file, url, result", rows_under("docs/SPECIFICATION.md", "File", "URL", "Result"))
 def test_url_has_the_documented_verdict(file, url, result):
-    out = run("robots_audit", ["-q", "FerrisBot", bytes_in(url)], bytes_in(file)).out
+    out = run("robots_audit", ["-q", "--agent", "FerrisBot", "-", bytes_in(url)], bytes_in(file)).out
     assert out.splitlines()[-1].startswith(result.strip("`") + " ")
 
 
@@ -394,7 +399,8 @@ def test_url_has_the_documented_match_target(url, target):
 def test_file_is_read_as_documented(file, url, standard, google, crate, here, warning):
     crawler = (re.search(r"crawler `(.*)`", file) or [0, "a"])[1]
     text = bytes_in(file) if "ser-agent" in file else b"User-agent: a\n" + bytes_in(file)
-    result = run("robots_audit", ["-q", crawler, bytes_in(url)], text)
+    urls = re.findall(rb"^(?:/|https?:).*$", bytes_in(url))  # robots_audit takes no others
+    result = run("robots_audit", ["-q", "--agent", crawler, "-", *urls], text)
     assert here.split(":")[0] == verdict(crawler.encode(), text, bytes_in(url))
     warned, documented = set(re.findall(r" \[([a-z0-9-]+)\]$", result.err, re.M)), set(re.findall(r"`(.*)`", warning))
     assert documented <= warned and bool(documented) == bool(warned)
@@ -404,5 +410,4 @@ def test_file_is_read_as_documented(file, url, standard, google, crate, here, wa
 def test_url_has_the_documented_path(url, crate, here):
     """Where a path is documented; a rule that ends with $ denies exactly this path."""
     for given, path in zip(re.findall(r"`(.*?)`", url), re.findall(r"`(/.*?)`", here)):
-        out = run("robots_audit", ["-q", "FerrisBot", given], f"Disallow: {path}$".encode()).out
-        assert out.splitlines()[-1].startswith("deny 1 ")
+        assert verdict(b"FerrisBot", f"Disallow: {path}$".encode(), given.encode()) == "denied"

@@ -14,7 +14,7 @@ Disallow: /
 User-agent: Longbot
 Disallow: /""" + b"x" * 4096 + b"$\n"
 
-USAGE = "usage: robots_audit [-f FILE] [OPTIONS] AGENT [URL].."
+USAGE = "usage: robots_audit [OPTIONS] FILE [URL].."
 
 HOLDING = b"""# what must hold after each change
 allow Googlebot /products/tea
@@ -132,7 +132,7 @@ FRAGMENT = {
 
 FORM = 'write "allow AGENT URL" or "deny AGENT URL"'
 NOT_UTF_8 = "the line isn't valid UTF-8"
-AGENT = "AGENT isn't a product token without a version, such as Googlebot"
+NAME = "a crawler's name is a product token without a version, such as Googlebot"
 PATH = "URL has a . or .. segment or a #, which crawlers resolve or drop; write the path that they ask for"
 URL = "URL is neither a path that starts with / nor a valid http:// or https:// URL"
 
@@ -144,11 +144,11 @@ MALFORMED = {
     "a comment after an expectation": (b"allow Googlebot /a # tea", 1, FORM),
     "a URL that isn't UTF-8": (b"\ndeny Googlebot /\xe9", 2, NOT_UTF_8),
     "a name that isn't UTF-8": (b"deny Google\xe9 /", 1, NOT_UTF_8),
-    "a version": (b"allow Googlebot/2.1 /tea", 1, AGENT),
-    "a letter that no product token has": (b"allow Caf\xc3\xa9Bot /tea", 1, AGENT),
-    "a star after a name": (b"allow Googlebot* /tea", 1, AGENT),
-    "two stars": (b"allow ** /tea", 1, AGENT),
-    "a version after a dot": (b"allow Googlebot.2 /tea", 1, AGENT),
+    "a version": (b"allow Googlebot/2.1 /tea", 1, NAME),
+    "a letter that no product token has": (b"allow Caf\xc3\xa9Bot /tea", 1, NAME),
+    "a star after a name": (b"allow Googlebot* /tea", 1, NAME),
+    "two stars": (b"allow ** /tea", 1, NAME),
+    "a version after a dot": (b"allow Googlebot.2 /tea", 1, NAME),
     "a .. segment": (b"allow Googlebot /tea/../private/tea", 1, PATH),
     "a . segment": (b"deny Googlebot /./private/tea", 1, PATH),
     "a .. at the end": (b"deny Googlebot /private/tea/..", 1, PATH),
@@ -163,10 +163,10 @@ MALFORMED = {
 }
 
 
-def check(folder, text, *more, robots=ROBOTS):
+def check(folder, text, *more, robots=ROBOTS, file="-"):
     """The result for a text of expectations, in a file `expect.txt`."""
     (folder / "expect.txt").write_bytes(text)
-    return run("robots_audit", ["--expect", "expect.txt", *more], robots, cwd=folder)
+    return run("robots_audit", ["--expect", "expect.txt", file, *more], robots, cwd=folder)
 
 
 def outcome(result):
@@ -252,29 +252,33 @@ def test_malformed_line(tmp_path, text, line, why):
 
 def test_files_by_name(tmp_path):
     (tmp_path / "robots.txt").write_bytes(ROBOTS)
-    assert outcome(check(tmp_path, HOLDING, "-f", "robots.txt", robots=b"User-agent: *\nDisallow: /")) == (0, HOLD, "")
-    assert outcome(check(tmp_path, HOLDING, "-f", "missing")) == (2, "", "robots_audit: cannot read missing\n")
-    missing = run("robots_audit", ["--expect", "missing.txt"], ROBOTS, cwd=tmp_path)
+    assert outcome(check(tmp_path, HOLDING, robots=b"User-agent: *\nDisallow: /", file="robots.txt")) == (0, HOLD, "")
+    assert outcome(check(tmp_path, HOLDING, file="missing")) == (2, "", "robots_audit: cannot read missing\n")
+    missing = run("robots_audit", ["--expect", "missing.txt", "-"], ROBOTS, cwd=tmp_path)
     assert outcome(missing) == (2, "", "robots_audit: cannot read missing.txt\n")
 
 
 def test_folders_in_place_of_files(tmp_path):
     """They can be opened, but each read fails."""
     (tmp_path / "folder").mkdir()
-    assert outcome(check(tmp_path, HOLDING, "-f", "folder")) == (2, "", "robots_audit: cannot read folder\n")
-    assert outcome(run("robots_audit", ["--expect", "folder"], ROBOTS, cwd=tmp_path)) == (2, "", "robots_audit: cannot read folder\n")
+    assert outcome(check(tmp_path, HOLDING, file="folder")) == (2, "", "robots_audit: cannot read folder\n")
+    assert outcome(run("robots_audit", ["--expect", "folder", "-"], ROBOTS, cwd=tmp_path)) == (2, "", "robots_audit: cannot read folder\n")
 
 
 def test_expectations_from_standard_input(tmp_path):
     (tmp_path / "robots.txt").write_bytes(ROBOTS)
-    result = run("robots_audit", ["--expect", "-", "-f", "robots.txt"], b"allow Googlebot /\nallow GPTBot /\n", cwd=tmp_path)
+    result = run("robots_audit", ["--expect", "-", "robots.txt"], b"allow Googlebot /\nallow GPTBot /\n", cwd=tmp_path)
     assert outcome(result) == (1, "-:2: GPTBot must be allowed /, but line 7 denies it\n", "")
-    message = f"robots_audit: standard input can't be both robots.txt and another file (use --file); {USAGE}\n"
-    assert outcome(run("robots_audit", ["--expect", "-"], HOLDING)) == (2, "", message)
-    assert outcome(run("robots_audit", ["--expect", "-", "-f", "-"], HOLDING)) == (2, "", message)
+    message = f"robots_audit: standard input can't be two files; give the name of one; {USAGE}\n"
+    assert outcome(run("robots_audit", ["--expect", "-", "-"], HOLDING)) == (2, "", message)
 
 
-@pytest.mark.parametrize("more", ["Ferris", "--agents", "--agent=Ferris", "--urls=list.txt", "--denied", "-q", "--format=text", "--json", "--html", "--color=auto", "--strict", "--needless", "--only=missing-slash", "--ignore=missing-slash"])
+def test_file_is_missing():
+    result = run("robots_audit", ["--expect", "expect.txt"])
+    assert (result.status, result.out) == (2, "") and result.err.startswith(f"robots_audit: missing FILE; {USAGE}\n")
+
+
+@pytest.mark.parametrize("more", ["/a", "--agent=Ferris", "--urls=list.txt", "--denied", "-q", "--format=text", "--json", "--html", "--color=auto", "--strict", "--needless", "--only=missing-slash", "--ignore=missing-slash"])
 def test_other_arguments_conflict(tmp_path, more):
     result = check(tmp_path, HOLDING, more)
     assert (result.status, result.out) == (2, "") and "cannot be used with" in result.err

@@ -110,9 +110,9 @@ def test_crawlers_of_google():
 def test_crawler_of_google_has_its_note(name):
     """The specification takes the names from the source, so no proof sees a wrong one."""
     note, group = ("googlebot-group", "Googlebot") if name in LIKE_GOOGLEBOT else ("google-ignores-star", "*")
-    result = run("robots_audit", ["-q", name], f"User-agent: {group}\nDisallow: /a\n".encode())
+    result = run("robots_audit", ["-q", "--agent", name, "-"], f"User-agent: {group}\nDisallow: /a\n".encode())
     assert f" [{note}]\n" in result.err
-    result = run("robots_audit", ["-q", name], f"User-agent: {group}\nUser-agent: {name}\nDisallow: /a\n".encode())
+    result = run("robots_audit", ["-q", "--agent", name, "-"], f"User-agent: {group}\nUser-agent: {name}\nDisallow: /a\n".encode())
     assert result.err == ""
 
 
@@ -210,11 +210,11 @@ def test_readme_has_the_exit_statuses():
     text = re.search(r"The exit status is (.*?)\. ", joined(README))[1]
     statuses = {words: int(status) for status, words in re.findall(r"(\d) ((?:if|after) [^,]*?)(?:,|$| or if)", text)}
     assert statuses == {
-        "if every URL is allowed": run("robots_audit", ["B", "/a"], b"Disallow: /b").status,
-        "if one is denied": run("robots_audit", ["B", "/a", "/b"], b"Disallow: /b").status,
-        "after an error": run("robots_audit", ["-f", "NAME", "B"]).status,
+        "if every URL is allowed": run("robots_audit", ["-", "/a"], b"Disallow: /b").status,
+        "if one is denied": run("robots_audit", ["-", "/a", "/b"], b"Disallow: /b").status,
+        "after an error": run("robots_audit", ["NAME"]).status,
     }
-    assert run("robots_audit", ["B"], LONG).status == statuses["after an error"]
+    assert run("robots_audit", ["-"], LONG).status == statuses["after an error"]
 
 
 def test_table_of_exit_statuses(tmp_path):
@@ -223,13 +223,13 @@ def test_table_of_exit_statuses(tmp_path):
     expect.write_text("allow B /b\n")
     old.write_text("Disallow: /a\n")
     calls = {
-        "a URL is denied": (["B", "/b"], b"Disallow: /b"),
-        "an expectation fails": (["--expect", expect], b"Disallow: /b"),
-        "something differs": (["--compare", old, "B"], b"Disallow: /b"),
-        "the file is rejected for a crawler": (["B"], LONG),
-        "one of the files is rejected for a crawler": (["--compare", old, "B"], LONG),
-        "nothing differs": (["--compare", old, "B"], b"Disallow: /a"),
-        "all expectations hold": (["--expect", expect], b"Disallow: /a"),
+        "a URL is denied": (["-", "/b"], b"Disallow: /b"),
+        "an expectation fails": (["--expect", expect, "-"], b"Disallow: /b"),
+        "something differs": (["--compare", old, "-"], b"Disallow: /b"),
+        "the file is rejected for a crawler": (["-"], LONG),
+        "one of the files is rejected for a crawler": (["--compare", old, "-"], LONG),
+        "nothing differs": (["--compare", old, "-"], b"Disallow: /a"),
+        "all expectations hold": (["--expect", expect, "-"], b"Disallow: /a"),
     }
     columns = {"An audit": ["a URL is denied", "the file is rejected for a crawler"], "--expect": ["an expectation fails", "all expectations hold"]}
     columns["--compare"] = ["something differs", "one of the files is rejected for a crawler", "nothing differs"]

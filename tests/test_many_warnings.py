@@ -6,7 +6,7 @@ from support import run, warning_line
 
 
 def audit(text, *args):
-    return run("robots_audit", ["-q", *args, "Ferris"], text.encode())
+    return run("robots_audit", ["-q", *args, "--agent", "Ferris", "-"], text.encode())
 
 
 def lines(*numbers, name="unrecognized-line", file="robots.txt"):
@@ -47,7 +47,7 @@ def test_the_levels_of_a_name_are_counted_separately():
 
 def test_the_file_is_named(tmp_path):
     (tmp_path / "a\x07.txt").write_text("User-agent: *\nDisallow: /a\n" + "hello\n" * 21)
-    result = run("robots_audit", ["-q", "-f", "a\x07.txt", "Ferris"], cwd=tmp_path)
+    result = run("robots_audit", ["-q", "--agent", "Ferris", "a\x07.txt"], cwd=tmp_path)
     assert result.err == lines(*range(3, 23), file="a%07.txt") + "a%07.txt: warning: and 1 more [unrecognized-line]\n"
 
 

@@ -21,7 +21,7 @@ def block_of(some):
 
 
 def report_on(file, *options):
-    return json.loads(run("robots_audit", ["--json", *options, *CRAWLERS, *URLS], file).out)
+    return json.loads(run("robots_audit", ["--json", *options, *CRAWLERS, "-", *URLS], file).out)
 
 
 def found_in(lines):

@@ -15,6 +15,7 @@ SOURCE, STYLE = page_style.SOURCE.read_text(), page_style.STYLE.read_text()
 
 EXAMPLE = (ROOT / "examples/robots.txt").read_bytes()
 URLS = ["https://example.com/search/tea", "/drafts/tea", "/a?x=1&y=2"]
+FERRIS = ["--agent=FerrisBot", "-"]
 
 # What an HTML parser or a terminal could take for something else than text.
 HOSTILE = [
@@ -171,7 +172,7 @@ def test_page_on_a_small_file():
     """Apart from the style, a page has no line ends."""
     warning = f"Error: {level_and_text('missing-slash')[1]} [missing-slash]"
     wanted = SMALL.replace("\n", "").format(policy=constant("POLICY"), style=STYLE, warning=warning)
-    assert page("Ferris", "/a<b", file=b"User-agent: *\nDisallow: search\n") == wanted
+    assert page("--agent=Ferris", "-", "/a<b", file=b"User-agent: *\nDisallow: search\n") == wanted
 
 
 CRAWLERS = """
@@ -187,11 +188,11 @@ CRAWLERS = """
 def test_table_of_crawlers():
     """Each byte of it. The specification takes the longer texts from the source, so no proof sees a wrong one."""
     file = b"User-agent: *\nDisallow: /b\nCrawl-delay: 2.5\nUser-agent: Long\nDisallow: /$" + b"a" * 4096
-    assert CRAWLERS.replace("\n", "") in page("--agent", "Long", "--agent", "B", "/b", file=file)
+    assert CRAWLERS.replace("\n", "") in page("--agent", "Long", "--agent", "B", "-", "/b", file=file)
 
 
 def test_page_has_the_lines_and_warnings_of_the_json():
-    elements, found = Reader(page("FerrisBot", *URLS)).elements, audit("FerrisBot", *URLS)
+    elements, found = Reader(page(*FERRIS, *URLS)).elements, audit(*FERRIS, *URLS)
     rows = rows_of(found)
     assert len(rows) > len(found["lines"]) and [row for row in children(elements, "tr") if row[0]] == rows
     listed = [f"line {it['line']}: {words(it)}" if it["line"] else words(it) for it in found["warnings"]]
@@ -204,7 +205,7 @@ VERDICTS = "verdicts are those of RFC 9309 for URLs in normal form (reserved cha
 
 @pytest.mark.parametrize("rule, syntax, verdicts", [("/a", f"no warnings: {SYNTAX}", VERDICTS), ("/", f"no warnings about syntax: {SYNTAX}", VERDICTS), ("/a$b", f"no warnings about syntax: {SYNTAX}", None), ("a", None, None)])
 def test_page_has_the_sentences_about_the_standard(rule, syntax, verdicts):
-    elements = Reader(page("--agents", file=f"User-agent: *\nDisallow: {rule}".encode())).elements
+    elements = Reader(page("-", file=f"User-agent: *\nDisallow: {rule}".encode())).elements
     entries = dict(zip(texts(elements, "dt"), texts(elements, "dd")))
     assert (entries.get("Syntax"), entries.get("Verdicts")) == (syntax, verdicts)
 
@@ -214,21 +215,21 @@ def verdict(it):
 
 
 def test_page_has_the_verdicts_of_the_json():
-    elements, found = Reader(page("FerrisBot", *URLS)).elements, audit("FerrisBot", *URLS)
+    elements, found = Reader(page(*FERRIS, *URLS)).elements, audit(*FERRIS, *URLS)
     rows = [["URL", "Verdict"], *([it["url"], verdict(it)] for it in found["agents"][0]["verdicts"])]
     assert [cells for _, cells in children(elements, "tr")][: len(rows)] == rows
 
 
 def test_page_about_all_crawlers():
-    elements, found = Reader(page("--agents", *URLS)).elements, audit("--agents", *URLS)
+    elements, found = Reader(page("-", *URLS)).elements, audit("-", *URLS)
     rows = [["Crawler", "Group", "Crawl delay", *URLS]]
     for it in found["agents"]:
         rows.append([it["agent"], it["agent"], delay(it["delay"]), *map(verdict, it["verdicts"])])
     assert [cells for _, cells in children(elements, "tr")][: len(rows)] == rows
-    assert [row for row in children(elements, "tr") if row[0]] == rows_of({**audit("*"), "warnings": found["warnings"]})
+    assert [row for row in children(elements, "tr") if row[0]] == rows_of({**audit("--agent=*", "-"), "warnings": found["warnings"]})
 
 
-@pytest.mark.parametrize("agents", [["--agents"], ["FerrisBot"]], ids=["all crawlers", "one crawler"])
+@pytest.mark.parametrize("agents", [["-"], FERRIS], ids=["all crawlers", "one crawler"])
 def test_page_has_allowed_urls_too(agents):
     """The tables have a row or a column for each URL, so `--denied` leaves nothing out."""
     whole = run("robots_audit", ["--html", *agents, *URLS], EXAMPLE)
@@ -236,33 +237,33 @@ def test_page_has_allowed_urls_too(agents):
 
 
 def test_at_most_100_warnings_are_listed():
-    elements = Reader(page("FerrisBot", file=b"hello there\n" * 103 + b"User-agent: *\n")).elements
+    elements = Reader(page(*FERRIS, file=b"hello there\n" * 103 + b"User-agent: *\n")).elements
     assert len(texts(elements, "li")) == 100 and "and 4 more, below their lines" in texts(elements, "p")
     assert len(texts(elements, "tr", **{"class": "warning"})) == 104
 
 
 def test_all_warnings_without_a_row_are_listed():
     """Warnings about URLs have no line, and those past the size limit have no row."""
-    urls = [f"bad{number}" for number in range(150)]
-    elements = Reader(page("FerrisBot", *urls, file=b"User-agent: *\nDisallow: /a\nhello\n")).elements
+    urls = [f"/%c3{number}" for number in range(150)]
+    elements = Reader(page(*FERRIS, *urls, file=b"User-agent: *\nDisallow: /a\nhello\n")).elements
     listed = texts(elements, "li")
     assert len(listed) == 150 and all(f"'{url}'" in text for url, text in zip(urls, listed))
     assert "and 1 more, below their lines" in texts(elements, "p")
     names = b"".join(b"User-agent: a%d\nDisallow: /\n" % number for number in range(150))
-    elements = Reader(page("FerrisBot", file=b"User-agent: *\nDisallow: /a\n" + b"#".ljust(511_973, b"x") + b"\n" + names)).elements
+    elements = Reader(page(*FERRIS, file=b"User-agent: *\nDisallow: /a\n" + b"#".ljust(511_973, b"x") + b"\n" + names)).elements
     found = [text for text in texts(elements, "li") if "[group-past-size-limit]" in text]
     assert [text.split(":")[0] for text in found] == [f"line {number}" for number in range(4, 304, 2)]
 
 
 def test_line_past_the_size_limit_is_no_link():
     """It has no row."""
-    elements = Reader(page("A", file=b"#".ljust(511_999, b"x") + b"\nUser-agent: a")).elements
+    elements = Reader(page("--agent=A", "-", file=b"#".ljust(511_999, b"x") + b"\nUser-agent: a")).elements
     assert [text.split(":")[0] for text in texts(elements, "li")] == ["Warning", "line 2"]
     assert texts(elements, "tr", id="L1") and not texts(elements, "tr", id="L2") and not texts(elements, "a")
 
 
 def test_table_of_lines_has_bodies_of_500_lines():
-    elements = Reader(page("FerrisBot", file=b"User-agent: *\n" + b"x\n" * 1000)).elements
+    elements = Reader(page(*FERRIS, file=b"User-agent: *\n" + b"x\n" * 1000)).elements
     bodies = []
     for name, attributes, _ in elements:
         if name == "tbody":
@@ -275,7 +276,7 @@ def test_table_of_lines_has_bodies_of_500_lines():
 
 def test_page_is_accessible():
     """Each link has its target, headings are in order, a table has a caption, and a heading of a row or column says so."""
-    for args in (["FerrisBot", *URLS], ["--agents", *URLS]):
+    for args in ([*FERRIS, *URLS], ["-", *URLS]):
         elements = Reader(page(*args)).elements
         ids = [own["id"] for _, own, _ in elements if "id" in own]
         links = [own["href"] for name, own, _ in elements if name == "a"]
@@ -304,16 +305,16 @@ def shape(elements):
 
 @pytest.mark.parametrize("text", HOSTILE)
 def test_text_of_a_file_becomes_no_element(text):
-    args = ["--only", "sitemap-not-absolute", "FerrisBot", "/x"]
+    args = ["--only", "sitemap-not-absolute", *FERRIS, "/x"]
     elements = [Reader(page(*args, file=with_text(it))).elements for it in (text, harmless(text))]
     assert shape(elements[0]) == shape(elements[1])
 
 
 @pytest.mark.parametrize("text", [text.replace(b"\0", b"").decode() for text in HOSTILE if b"\xff" not in text])
-@pytest.mark.parametrize("args", [["{}", "/{}"], ["--agents", "/{}"]])
+@pytest.mark.parametrize("args", [FERRIS, ["-"]], ids=["one crawler", "all crawlers"])
 def test_name_and_url_become_no_element(text, args):
-    ready = [["--only", "host-line", *(word.format(it) for word in args)] for it in (text, "harmless")]
-    assert shape(Reader(page(*ready[0])).elements) == shape(Reader(page(*ready[1])).elements)
+    pages = [page("--only", "host-line", *args, f"/{it}", file=f"User-agent: {it}\nDisallow: /\n".encode()) for it in (text, "harmless/1")]
+    assert shape(Reader(pages[0]).elements) == shape(Reader(pages[1]).elements)
 
 
 # ---- in a browser
@@ -330,13 +331,13 @@ def browser(tmp_path_factory):
 
 
 PAGES = {
-    "one crawler": (["FerrisBot", *URLS], EXAMPLE),
-    "all crawlers": (["--agents", *URLS], EXAMPLE),
-    "neither URLs nor lines": (["FerrisBot"], b""),
-    "several bodies": (["FerrisBot"], b"User-agent: *\n" + b"Disallow: x\nx\n" * 500),
-    "a rejected file": (["FerrisBot", "/"], b"User-agent: *\nDisallow: /" + b"a" * 4096 + b"$\n"),
-    **{f"hostile text {at}": (["<b>&lt;\u202e", "/<i>"], with_text(text)) for at, text in enumerate(HOSTILE)},
-    "hostile text of all crawlers": (["--agents", "/<i>"], b"".join(b"User-agent: " + text + b"\nDisallow: /\n" for text in HOSTILE)),
+    "one crawler": ([*FERRIS, *URLS], EXAMPLE),
+    "all crawlers": (["-", *URLS], EXAMPLE),
+    "neither URLs nor lines": (FERRIS, b""),
+    "several bodies": (FERRIS, b"User-agent: *\n" + b"Disallow: x\nx\n" * 500),
+    "a rejected file": ([*FERRIS, "/"], b"User-agent: *\nDisallow: /" + b"a" * 4096 + b"$\n"),
+    **{f"hostile text {at}": ([*FERRIS, "/<i>"], with_text(text)) for at, text in enumerate(HOSTILE)},
+    "hostile text of all crawlers": (["-", "/<i>"], b"".join(b"User-agent: " + text + b"\nDisallow: /\n" for text in HOSTILE)),
 }
 
 
@@ -359,7 +360,7 @@ def test_browser_reads_the_page(browser, tmp_path, name):
 def test_link_leads_to_its_line(browser, tmp_path):
     """The row of a line is at the top of the window, although those above it aren't laid out."""
     path = tmp_path / "page.html"
-    path.write_text(page("FerrisBot", file=b"User-agent: *\n" + b"Disallow: x\nx\n" * 500), newline="")
+    path.write_text(page(*FERRIS, file=b"User-agent: *\n" + b"Disallow: x\nx\n" * 500), newline="")
     for width in (360, 1000):
         for line in (20, 450, 700, 900):
             browser.open(path, width)

@@ -107,7 +107,7 @@ def test_a_rule_with_a_byte_that_urls_escape_is_warned_about(start, misses):
         if byte in "\n\r#$*":
             continue
         rule = f"{start}{byte}/"
-        args = ["--only", "unencoded-character", "Ferris", f"http://example.com{rule}"]
+        args = ["--only", "unencoded-character", "--agent", "Ferris", "-", f"http://example.com{rule}"]
         result = run("robots_audit", args, f"User-agent: *\nDisallow: {rule}".encode())
         if result.status == 0:
             assert result.err == warning_line("2 unencoded-character")
@@ -123,12 +123,12 @@ def file_of(rules):
 
 
 def report_on(rules, urls):
-    """The report on such a file, with the lines on these URLs, of which all but the empty one name a rule by its number."""
+    """The report on such a file, with the lines on these URLs, each of which names a rule by its number."""
     width = len(str(rules + 1))
     out = [f"{1:{width}} + user-agent  Ferris"]
     out += [f"{n + 1:{width}} + {'disallow' if n % 2 else 'allow':11} /{n}/" for n in range(1, rules + 1)]
-    out += ["group: Ferris", "delay: none", "allow - "]
-    for url in urls[1:]:
+    out += ["group: Ferris", "delay: none"]
+    for url in urls:
         n = int(url.split("/")[-2])
         line = f"{'deny' if n % 2 else 'allow'} {n + 1}" if n <= rules else "allow -"
         out.append(f"{line} {url}")
@@ -137,9 +137,9 @@ def report_on(rules, urls):
 
 @pytest.mark.parametrize("rules, count", [(0, 70), (5000, 1), (5000, 1001)])
 def test_many_rules_and_urls(rules, count):
-    urls = [""] + [f"{'' if n % 2 else 'https://example.com'}/{17 * n}/" for n in range(1, count)]
-    result = run("robots_audit", ["Ferris", *urls], file_of(rules).encode())
-    warnings = ["not-a-url-or-path"] + ["1 empty-group"] * (rules == 0)
+    urls = [f"{'' if n % 2 else 'https://example.com'}/{17 * n}/" for n in range(1, count)]
+    result = run("robots_audit", ["--agent", "Ferris", "-", *urls], file_of(rules).encode())
+    warnings = ["1 empty-group"] * (rules == 0)
     out = report_on(rules, urls)
     assert result == Result(1 if "\ndeny" in out else 0, out, "".join(map(warning_line, warnings)))
 
@@ -157,7 +157,7 @@ def test_many_agents():
         text += f"User-agent: {'A' * n}_\nAllow: /none/{n}\n"
     out += "no warnings: the file has RFC 9309 syntax\n"
     out += "verdicts are those of RFC 9309 for URLs in normal form (reserved characters as in RFC 3986, octets counted in normal form)\n"
-    assert run("robots_audit", ["-a", *urls], text.encode()) == Result(1, out, "")
+    assert run("robots_audit", ["-", *urls], text.encode()) == Result(1, out, "")
 
 
 def test_many_pages():

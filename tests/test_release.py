@@ -341,7 +341,7 @@ def test_manual_pages_name_the_options_of_help():
     page = (ROOT / "man/robots_audit.1").read_text().split(".SH OPTIONS")[1].split("\n.SH ")[0]
     headings = "\n".join(re.findall(r"^\.TP\n(.*)$", page, re.M)).replace("\\-", "-")
     usage = run("robots_audit", ["--help"]).out
-    assert sorted(re.findall(option, re.sub(r"\\f[BIR]", " ", headings))) == sorted(set(re.findall(option, usage[usage.index("\nOptions:") :])))
+    assert sorted(re.findall(option, re.sub(r"\\f[BIR]", " ", headings))) == sorted(set(re.findall(option, usage.split("\nOptions:")[1].split("\n\n")[0])))
 
 
 @pytest.mark.parametrize("name", ["robots_audit", "robots_verdict"])

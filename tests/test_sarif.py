@@ -77,7 +77,7 @@ def results(log):
         yield it["level"], it["ruleId"], read(it["message"]), place["artifactLocation"]["uri"], place["region"]["startLine"]
 
 
-@pytest.mark.parametrize("args", [["Ferris/1", "/b"], ["-a", "/b"]], ids=["one crawler", "all"])
+@pytest.mark.parametrize("args", [["--agent=Ferris", "-", "/b"], ["-", "/b"]], ids=["one crawler", "all"])
 def test_schema(args):
     found = log(*args, status=1)
     assert_meets("log", found)
@@ -87,30 +87,30 @@ def test_schema(args):
 
 def test_results():
     """Errors come first, then what crawlers may not fetch, and then other warnings. What isn't about a line is at the first."""
-    assert list(results(log("Ferris", "/b", "/c", status=1))) == [
+    assert list(results(log("--agent=Ferris", "-", "/b", "/c", status=1))) == [
         ("error", "missing-slash", message("missing-slash"), "robots.txt", 2),
         ("error", "denied", "Ferris may not fetch /b", "robots.txt", 3),
         ("note", "clean-param-line", message("clean-param-line"), "robots.txt", 4),
         ("warning", "noindex-line", message("noindex-line"), "robots.txt", 5),
     ]
-    assert list(results(log("Ferris/1", file=b"#"))) == [("warning", "version-in-agent", message("version-in-agent"), "robots.txt", 1)]
-    named = f"crawler 'Ferris/1': {message('version-in-agent')}"
-    assert list(results(log("--agent", "Ferris/1", "--agent", "Ferris", file=b"#"))) == [("warning", "version-in-agent", named, "robots.txt", 1)]
+    assert list(results(log("-", file=b""))) == [("warning", "empty-file", message("empty-file"), "robots.txt", 1)]
+    named = f"URL '/%c3': {message('url-not-normal')}"
+    assert list(results(log("-", "/%c3", file=b"#"))) == [("note", "url-not-normal", named, "robots.txt", 1)]
 
 
 @pytest.mark.parametrize("url", ["/b{0}", "/b[ok](https://evil.example)", "/b\\[ok](1)", "/b{{}}\\\\[]\u00fc\u20ac\U0001f600"])
 def test_texts_are_neither_placeholders_nor_links(url):
-    assert list(results(log("Ferris", url, "--only=one-line", status=1))) == [("error", "denied", f"Ferris may not fetch {url}", "robots.txt", 3)]
+    assert list(results(log("--agent=Ferris", "-", url, "--only=one-line", status=1))) == [("error", "denied", f"Ferris may not fetch {url}", "robots.txt", 3)]
 
 
 def test_rejected_file():
     text = "rejected for Ferris: line 2: a pattern with $ longer than 4,096 bytes isn't supported; shorten it"
     file = b"User-agent: *\nDisallow: /" + b"a" * 4095 + b"$"
-    assert list(results(log("Ferris", "/b", file=file, status=2))) == [("error", "rejected", text, "robots.txt", 2)]
+    assert list(results(log("--agent=Ferris", "-", "/b", file=file, status=2))) == [("error", "rejected", text, "robots.txt", 2)]
 
 
 def test_rules():
-    driver = log("Ferris")["runs"][0]["tool"]["driver"]
+    driver = log("-")["runs"][0]["tool"]["driver"]
     assert run("robots_audit", ["--version"]).out.startswith(f"{driver['name']} {driver['version']} (")
     levels = [(it["id"], it["defaultConfiguration"]["level"]) for it in driver["rules"]]
     most_serious = [(name, min((it[0] for it in its), key=["error", "warning", "note"].index)) for name, its in WARNINGS.items()]
@@ -133,7 +133,7 @@ def test_uri(tmp_path, name):
     path = tmp_path / name
     path.parent.mkdir(exist_ok=True)
     path.write_bytes(ROBOTS)
-    (_, _, _, uri, _), *_ = results(log("-f", name, "Ferris", cwd=tmp_path))
+    (_, _, _, uri, _), *_ = results(log("--agent=Ferris", name, cwd=tmp_path))
     assert re.fullmatch(r"(?:[A-Za-z0-9._~/-]|%[0-9A-F]{2})+", uri) and unquote(uri) == name
 
 
@@ -141,5 +141,5 @@ def test_uri(tmp_path, name):
 def test_several_slashes_are_not_before_a_host(tmp_path, slashes):
     path = tmp_path / "robots.txt"
     path.write_bytes(ROBOTS)
-    (_, _, _, uri, _), *_ = results(log("-f", f"{slashes}{str(path)[1:]}", "Ferris"))
+    (_, _, _, uri, _), *_ = results(log("--agent=Ferris", f"{slashes}{str(path)[1:]}"))
     assert unquote(uri) == str(path)

@@ -15,7 +15,7 @@ Allow: /a
 User-agent: Longbot
 Disallow: /""" + b"x" * 4096 + b"$\n"
 
-USAGE = "usage: robots_audit [-f FILE] [OPTIONS] AGENT [URL].."
+USAGE = "usage: robots_audit [OPTIONS] FILE [URL].."
 
 LISTED = {
     "one line": (b"/private/tea\n", "deny 2 /private/tea\n0 allowed, 1 denied\n"),
@@ -32,10 +32,10 @@ def outcome(result):
     return result.status, result.out, result.err
 
 
-def check(folder, text, *args, robots=ROBOTS):
+def check(folder, text, agent, *args, robots=ROBOTS):
     """The result for a text of URLs, in a file `list.txt`."""
     (folder / "list.txt").write_bytes(text)
-    return run("robots_audit", ["-q", "--urls", "list.txt", *args], robots, cwd=folder)
+    return run("robots_audit", ["-q", "--urls", "list.txt", "--agent", agent, "-", *args], robots, cwd=folder)
 
 
 @pytest.mark.parametrize("text, lines", LISTED.values(), ids=LISTED)
@@ -57,21 +57,31 @@ def test_urls_of_the_command_line_come_first(tmp_path):
     assert outcome(check(tmp_path, b"/a\n/private/\n", "Ferris", "/b")) == (1, out, "")
 
 
-def test_warnings_are_about_listed_urls_too(tmp_path):
-    result = check(tmp_path, b"example.com/a\n", "Ferris")
-    assert result.err.startswith("robots.txt: warning: URL 'example.com/a': ") and result.err.endswith(" [not-a-url-or-path]\n")
+URL = "URL is neither a path that starts with / nor a valid http:// or https:// URL"
+NOT_URLS = {
+    "a host": (b"/a\nexample.com/a\n", 2),
+    "an element of a sitemap": (b"<url><loc>https://example.com/</loc></url>", 1),
+    "a sitemap": (b'<?xml version="1.0"?>\n<urlset>', 1),
+    "another scheme": (b"# none\n\nftp://example.com/\n", 3),
+    "no host": (b"http://", 1),
+    "a word": (b"/a\n/b\ntea", 3),
+}
+
+
+@pytest.mark.parametrize("text, line", NOT_URLS.values(), ids=NOT_URLS)
+def test_a_line_that_is_neither_a_path_nor_a_url(tmp_path, text, line):
+    assert outcome(check(tmp_path, text, "Ferris")) == (2, "", f"robots_audit: list.txt:{line}: {URL}\n")
 
 
 def test_urls_from_standard_input(tmp_path):
     (tmp_path / "robots.txt").write_bytes(ROBOTS)
-    result = run("robots_audit", ["-q", "-f", "robots.txt", "--urls", "-", "GPTBot"], b"/a\n/b\n", cwd=tmp_path)
+    result = run("robots_audit", ["-q", "robots.txt", "--urls", "-", "--agent", "GPTBot"], b"/a\n/b\n", cwd=tmp_path)
     assert (result.status, result.out) == (1, "group: GPTBot\ndelay: none\nallow 6 /a\ndeny 5 /b\n1 allowed, 1 denied\n")
 
 
-@pytest.mark.parametrize("file", [[], ["-f", "-"]], ids=["by default", "by name"])
-def test_standard_input_is_read_once(file):
-    message = f"robots_audit: standard input can't be both robots.txt and another file (use --file); {USAGE}\n"
-    assert outcome(run("robots_audit", ["--urls", "-", *file, "Ferris"], ROBOTS)) == (2, "", message)
+def test_standard_input_is_read_once():
+    message = f"robots_audit: standard input can't be two files; give the name of one; {USAGE}\n"
+    assert outcome(run("robots_audit", ["--urls", "-", "-"], ROBOTS)) == (2, "", message)
 
 
 @pytest.mark.parametrize("text, line", [(b"\xff", 1), (b"/a\n\n/\xe9 \n/\xff\n", 3)])
@@ -85,19 +95,30 @@ def test_no_urls(tmp_path, text, more):
     assert outcome(check(tmp_path, text, "Ferris", *more)) == (2, "", "robots_audit: list.txt: there are no URLs\n")
 
 
-@pytest.mark.parametrize("option", ["--urls", "--file"])
-@pytest.mark.parametrize("name, shown", [("missing.txt", "missing.txt"), (".", "."), ("", '""')], ids=["missing", "a folder", "no name"])
-def test_file_that_cannot_be_read(tmp_path, option, name, shown):
-    result = run("robots_audit", [option, name, "Ferris"], ROBOTS, cwd=tmp_path)
+FETCH = "a URL isn't a file, try: curl -s https://example.com/robots.txt | robots_audit -"
+UNREAD = {
+    "missing": ("missing.txt", "missing.txt"),
+    "a folder": (".", "."),
+    "no name": ("", '""'),
+    "a URL": ("https://example.com", f"https://example.com; {FETCH}"),
+    "a URL in capitals": ("HTTP://example.com/a", f"HTTP://example.com/a; {FETCH}"),
+    "a host": ("example.com", "example.com"),
+}
+
+
+@pytest.mark.parametrize("args", [["NAME"], ["--urls", "NAME", "-"], ["--expect", "NAME", "-"], ["--compare", "NAME", "-"]], ids=["FILE", "--urls", "--expect", "--compare"])
+@pytest.mark.parametrize("name, shown", UNREAD.values(), ids=UNREAD)
+def test_file_that_cannot_be_read(tmp_path, args, name, shown):
+    result = run("robots_audit", [name if word == "NAME" else word for word in args], ROBOTS, cwd=tmp_path)
     assert outcome(result) == (2, "", f"robots_audit: cannot read {shown}\n")
 
 
 def test_denied_urls_alone(tmp_path):
     out = "group: * (Ferris has no group of its own)\ndelay: none\ndeny 2 /private/\n2 allowed, 1 denied\n"
-    assert outcome(check(tmp_path, b"/a\n/private/\n/b\n", "--denied", "Ferris")) == (1, out, "")
-    assert outcome(run("robots_audit", ["-q", "--denied", "Ferris", "/a", "/private/", "/b"], ROBOTS)) == (1, out, "")
+    assert outcome(check(tmp_path, b"/a\n/private/\n/b\n", "Ferris", "--denied")) == (1, out, "")
+    assert outcome(run("robots_audit", ["-q", "--denied", "--agent=Ferris", "-", "/a", "/private/", "/b"], ROBOTS)) == (1, out, "")
     out = "group: * (Ferris has no group of its own)\ndelay: none\n1 allowed, 0 denied\n"
-    assert outcome(run("robots_audit", ["-q", "--denied", "Ferris", "/a"], ROBOTS)) == (0, out, "")
+    assert outcome(run("robots_audit", ["-q", "--denied", "--agent=Ferris", "-", "/a"], ROBOTS)) == (0, out, "")
 
 
 def test_numbers_are_those_of_all_crawlers(tmp_path):
@@ -106,18 +127,17 @@ def test_numbers_are_those_of_all_crawlers(tmp_path):
     out += "group: Longbot\ndelay: none\n"
     out += "rejected for Longbot: line 9: a pattern with $ longer than 4,096 bytes isn't supported; shorten it\n"
     out += "3 allowed, 3 denied\n"
-    agents = ["--agent=Ferris", "--agent=GPTBot", "--agent=Longbot"]
-    result = check(tmp_path, b"/a\n/b\n/private/\n", "--denied", *agents)
+    result = check(tmp_path, b"/a\n/b\n/private/\n", "Ferris", "--denied", "--agent=GPTBot", "--agent=Longbot")
     assert (result.status, result.out) == (2, out)
 
 
 def test_denied_urls_as_json():
-    result = run("robots_audit", ["--json", "--denied", "Ferris", "/a", "/private/"], ROBOTS)
+    result = run("robots_audit", ["--json", "--denied", "--agent=Ferris", "-", "/a", "/private/"], ROBOTS)
     verdicts = json.loads(result.out)["agents"][0]["verdicts"]
     assert (result.status, verdicts) == (1, [{"allowed": False, "line": 2, "url": "/private/"}])
 
 
 def test_ten_thousand_urls(tmp_path):
     text = b"".join(b"/%d\n/private/%d\n" % (n, n) for n in range(5_000))
-    lines = check(tmp_path, text, "--denied", "Ferris").out.splitlines()
+    lines = check(tmp_path, text, "Ferris", "--denied").out.splitlines()
     assert (len(lines), lines[-2:]) == (5_003, ["deny 2 /private/4999", "5000 allowed, 5000 denied"])

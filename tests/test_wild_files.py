@@ -14,9 +14,9 @@ for_one_or_all = pytest.mark.parametrize("for_all", [False, True], ids=["for one
 
 def warnings(file, for_all):
     row = FILES[file]
-    crawler = "--agents" if for_all else row.get("agent", "Googlebot")
+    crawler = [] if for_all else ["--agent", row.get("agent", "Googlebot")]
     urls = [f"https://example.com{path}" for path in row["urls"]]
-    return json.loads(run("robots_audit", ["--json", "-f", WILD / file, crawler, *urls]).out)["warnings"]
+    return json.loads(run("robots_audit", ["--json", *crawler, WILD / file, *urls]).out)["warnings"]
 
 
 @each_file
@@ -37,7 +37,7 @@ def test_a_misspelled_crawler_is_found_by_an_expectation(tmp_path):
     """An audit has no warning for it."""
     expected = tmp_path / "expect.txt"
     expected.write_text("deny Google-Extended /\ndeny ChatGPT-User /\n")
-    result = run("robots_audit", ["-f", WILD / "misspelled-names.txt", "--expect", expected])
+    result = run("robots_audit", ["--expect", expected, WILD / "misspelled-names.txt"])
     told = [f"{expected}:{line}: {name} must be denied /, but no rule matches it\n" for line, name in [(1, "Google-Extended"), (2, "ChatGPT-User")]]
     assert (result.status, result.out) == (1, "".join(told))
 
