@@ -30,13 +30,13 @@ struct Comparison {
 /// The given crawlers, or if there are none `*` and each that one of the files names.
 fn agents_of<'a>(
     alloc: Global,
-    agents: &[&str],
+    agents: &[&'a str],
     older: &Version<'a>,
     newer: &Version<'a>,
-) -> Result<Vec<String>, AllocError>
+) -> Result<Vec<&'a str>, AllocError>
     requires older { IsVersion older.now }
     requires newer { IsVersion newer.now }
-    ensures { IfOk result (λ names. map string_bytes names.items
+    ensures { IfOk result (λ names. map (λ name. name.now) names.items
         ≡ specified_agents (map (λ agent. agent.now) agents.now)
         (lines_read older.now.bytes.now ++ lines_read newer.now.bytes.now)) }
 {
@@ -87,17 +87,17 @@ impl Comparison {
 }
 
 /// The reports on these crawlers.
-fn reports(
+fn reports<'a>(
     alloc: Global,
-    agents: &[String],
+    agents: &[&'a str],
     older: &Version<'_>,
     newer: &Version<'_>,
-    urls: &[&str],
+    urls: &[&'a str],
 ) -> Result<Comparison, Fault>
     requires older { IsVersion older.now }
     requires newer { IsVersion newer.now }
     ensures ok { IfOk result (IsReportOn (map (λ url. url.now) urls.now)
-        older.now.bytes.now newer.now.bytes.now (map string_bytes agents.now)) }
+        older.now.bytes.now newer.now.bytes.now (map (λ agent. agent.now) agents.now)) }
     ensures fault { IfErr result (λ fault. fault ≡ Fault.Memory) }
 {
     let mut found = Comparison {
@@ -121,9 +121,9 @@ const UNCHANGED: Part<'static> = Part(
 
 /// The crawlers on which nothing else is reported; `agents` are all that were compared, and `all` is whether those are
 /// all.
-fn unchanged_subject(agents: &[String], all: bool) -> Part<'_>
+fn unchanged_subject<'a>(agents: &[&'a str], all: bool) -> Part<'a>
     ensures { raw_text result ++ part_text unchanged_part
-        ≡ line_text (unchanged_line (map string_bytes agents.now) all) }
+        ≡ line_text (unchanged_line (map (λ agent. agent.now) agents.now) all) }
 {
     match agents {
         [agent] => crawler(agent),
@@ -135,12 +135,12 @@ fn unchanged_subject(agents: &[String], all: bool) -> Part<'_>
 /// Appends that all of these crawlers are unchanged, or that some are.
 fn push_unchanged(
     text: &mut String,
-    agents: &[String],
+    agents: &[&str],
     all: bool,
     some: bool,
 ) -> Result<(), AllocError>
     ensures { OnOk result (string_bytes text.new ≡ string_bytes text.old
-        ++ written (unchanged_lines (map string_bytes agents.now) all some)) }
+        ++ written (unchanged_lines (map (λ agent. agent.now) agents.now) all some)) }
 {
     if !some {
         return Ok(());
@@ -155,12 +155,12 @@ fn push_unchanged(
 ///
 /// `Fault::Memory` if an allocation failed or a URL is too long for `url`. A file that is rejected for a crawler isn't an
 /// error.
-pub fn compare(
+pub fn compare<'a>(
     alloc: Global,
-    agents: &[&str],
-    urls: &[&str],
-    older: &[u8],
-    newer: &[u8],
+    agents: &[&'a str],
+    urls: &[&'a str],
+    older: &'a [u8],
+    newer: &'a [u8],
 ) -> Result<Answer, Fault>
     ensures ok { IfOk result (IsComparison (map (λ agent. agent.now) agents.now)
         (map (λ url. url.now) urls.now) older.now newer.now) }

@@ -9,7 +9,6 @@ use crate::rule_sets::{RuleSet, rules_lacked};
 use audit_core::audit::{AgentAudit, agent_audit};
 use audit_core::fault::Fault;
 use audit_core::rules::{Rule, rules_for};
-use robots_warnings::facts::facts_of;
 use robots_warnings::file::labels_for;
 use std::alloc::{AllocError, Global};
 use texting_robots::Site;
@@ -21,8 +20,6 @@ pub(crate) struct Version<'a> {
     pub(crate) bytes: &'a [u8],
     pub(crate) labels: Vec<LabeledLine<'a>>,
     pub(crate) site: Site,
-    /// Whether the file has a user-agent line.
-    pub(crate) has_agents: bool,
 }
 
 /// What each file means for a crawler, and the rules that only one of them has.
@@ -47,13 +44,11 @@ pub(crate) fn read_version<'a>(alloc: Global, bytes: &'a [u8]) -> Result<Version
     ensures parts { IfOk result IsVersion }
 {
     let labels = labels_for(alloc, "*", bytes)?;
-    let facts = facts_of(bytes, &labels);
     let site = Site::new(alloc, bytes)?;
     Ok(Version {
         bytes,
         labels,
         site,
-        has_agents: facts.kinds.user_agent,
     })
 }
 
@@ -81,7 +76,7 @@ fn rule_changes(
 /// What a file means for the crawler.
 fn audit_for<'a>(
     alloc: Global,
-    agent: &str,
+    agent: &'a str,
     version: &Version<'_>,
     urls: &[&'a str],
 ) -> Result<AgentAudit<'a>, Fault>
@@ -91,13 +86,13 @@ fn audit_for<'a>(
     ensures fault { IfErr result (λ fault. fault ≡ Fault.Memory) }
 {
     let (bytes, site) = (version.bytes, &version.site);
-    agent_audit(alloc, agent, bytes, site, version.has_agents, urls)
+    agent_audit(alloc, agent, bytes, &version.labels, site, urls)
 }
 
 /// What both files mean for the crawler.
 pub(crate) fn compared_for<'a>(
     alloc: Global,
-    agent: &str,
+    agent: &'a str,
     older: &Version<'_>,
     newer: &Version<'_>,
     urls: &[&'a str],

@@ -59,7 +59,7 @@ fn push_group_changes(
     if is_same_group(older.group, newer.group) {
         return Ok(());
     }
-    push_line_of(text, &group_line(&older.agent, older.group, newer.group))
+    push_line_of(text, &group_line(older.agent, older.group, newer.group))
 }
 
 /// The line about the delays.
@@ -183,10 +183,7 @@ fn push_url_changes(
     if is_same_decision(compared, one, other) {
         return Ok(());
     }
-    push_line_of(
-        text,
-        &url_line(&compared.older.agent, older.url, one, other),
-    )
+    push_line_of(text, &url_line(compared.older.agent, older.url, one, other))
 }
 
 /// Appends the decisions that differ.
@@ -213,9 +210,9 @@ pub(crate) fn push_differences(text: &mut String, compared: &Compared<'_>) -> Re
 {
     let (older, newer) = (&compared.older, &compared.newer);
     push_group_changes(text, older, newer)?;
-    push_delay_changes(text, &older.agent, older.delay, newer.delay)?;
-    push_rule_lines(text, &older.agent, false, &compared.removed)?;
-    push_rule_lines(text, &older.agent, true, &compared.added)?;
+    push_delay_changes(text, older.agent, older.delay, newer.delay)?;
+    push_rule_lines(text, older.agent, false, &compared.removed)?;
+    push_rule_lines(text, older.agent, true, &compared.added)?;
     push_verdict_changes(text, compared, &older.verdicts, &newer.verdicts)?;
     Ok(())
 }
@@ -236,7 +233,7 @@ pub(crate) fn push_same_rules(text: &mut String, compared: &Compared<'_>) -> Res
         return Ok(());
     }
     let what = Part(": same rules, so no URL's verdict differs", Value::Nothing);
-    push_line_of(text, &[crawler(&compared.older.agent), what])
+    push_line_of(text, &[crawler(compared.older.agent), what])
 }
 
 /// What a line about one of the files begins with.
@@ -258,7 +255,7 @@ fn push_rejection(text: &mut String, is_new: bool, audit: &AgentAudit<'_>) -> Re
     match audit.rejected {
         Some(line) => {
             text.push_str(file_text(is_new))?;
-            push_line_of(text, &rejected_parts(&audit.agent, line))
+            push_line_of(text, &rejected_parts(audit.agent, line))
         }
         None => Ok(()),
     }

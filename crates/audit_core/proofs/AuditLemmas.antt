@@ -12,8 +12,7 @@ use Rattle.texting_robots.proofs.GivenLemmas.{delay_is_computed}
 use Rattle.texting_robots.proofs.MainTheoremLemmas.{answers_computed, lines_are_read, of_lines, read_robot}
 use Rattle.robots_warnings.specs.File.{lines_of, labels_for}
 use Rattle.audit_core.specs.Asked.{asked_target}
-use Rattle.audit_core.specs.Audit.{AgentValue, IsAgentAudit, IsRuling, IsVerdictOn, VerdictValue}
-use Rattle.audit_core.specs.Audit.{agents_requested, group_of}
+use Rattle.audit_core.specs.Audit.{IsRuling, IsVerdictOn, VerdictValue, agents_requested}
 
 -- one more item, and the result for it
 pub zip_push : {B V : Type 0} (R : B → V → Type 0) (items : List B) (found : List V) (item : B) (next : V)
@@ -72,24 +71,15 @@ verdicts_like rules others alike (url ∷ urls) (verdict ∷ verdicts) (first, l
       verdicts_like rules others alike urls verdicts later,
     )
 
--- the values of a robot made from the file are those of the crawler's audit
-pub agent_made : (urls : List (List ℕ)) (file agent : List ℕ) (value : AgentValue) (robot : RobotValue)
-    → IsRobotOfFile agent (take file_limit file) robot → value.agent ≡ agent
-    → value.group ≡ group_of agent (lines_read file) → value.delay ≡ robot.delay → value.rejected ≡ None
-    → AllZip (IsVerdictOn robot.rules) urls value.verdicts
-    → IsAgentAudit urls (lines_read file) agent value
-agent_made urls file agent value robot of name group delay accepted are =
+-- the verdicts of a robot made from the file are those of the crawler's audit
+pub ruling_made : (urls : List (List ℕ)) (file agent : List ℕ) (robot : RobotValue)
+    (verdicts : List VerdictValue) → IsRobotOfFile agent (take file_limit file) robot
+    → AllZip (IsVerdictOn robot.rules) urls verdicts → IsRuling urls (lines_read file) agent None verdicts
+ruling_made urls file agent robot verdicts of are =
     let lines = lines_read file in
     let is = read_robot agent file robot of in
     let alike = answers_computed agent lines robot.rules is.rules in
-    let found : IsRuling urls lines agent None value.verdicts =
-    (is.accepted, verdicts_like robot.rules (placed_rules agent lines) alike urls value.verdicts are) in
-    record {
-      agent_is = name;
-      group_is = group;
-      delay_is = delay ∙ (delay_is_computed agent lines robot.delay).0 is.delay;
-      ruling = rw accepted found;
-    }
+    (is.accepted, verdicts_like robot.rules (placed_rules agent lines) alike urls verdicts are)
 
 -- a delay as the specification states it is the computed one
 pub delay_read : (agent file : List ℕ) (delay : Option ℕ)

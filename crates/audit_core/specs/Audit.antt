@@ -1,15 +1,19 @@
 -- The audit of a file: its lines, what applies to each requested crawler, and the warnings.
 use Rattle.std.specs.Prelude.{◌≡◌, ℕ, Bool, false, true, List, [], ◌∷◌, ◌++◌, Option, Some, None, codes}
-use Rattle.std.specs.Prelude.{count_by, filter, is_none, is_some, map, not, sum_by, take, if◌then◌else◌}
-use Rattle.std.specs.{List.AllZip, List.list_all, List.list_any, Str.is_utf8}
+use Rattle.std.specs.Prelude.{count_by, filter, is_none, is_some, length, map, not, sum_by, take}
+use Rattle.std.specs.Prelude.{if◌then◌else◌}
+use Rattle.std.specs.{List.AllZip, List.list_all, List.list_any, List.position_from, Str.is_utf8}
 use Rattle.texting_robots.specs.Callers.{IsFirstOverlong, IsRejected, LineValue, Label, PlacedRule, UserAgent}
-use Rattle.texting_robots.specs.Callers.{delay_for, file_limit, is_named, lines_read, placed_rules}
+use Rattle.texting_robots.specs.Callers.{delay_for, file_limit, group_name, is_agent_named, is_named}
+use Rattle.texting_robots.specs.Callers.{lines_read, placed_rules}
 use Rattle.texting_robots.specs.{Agents.is_among, Group.is_agent, Decision.IsDecisionOn}
 use Rattle.texting_robots.specs.declared.decision.Decision.{Decision}
 use Rattle.audit_core.specs.declared.group.Group.{Group}
 use Rattle.audit_core.specs.declared.group.Group.TheVariants.{Everyone, Named, Nobody, Star}
 use Rattle.robots_needless.specs.Deleted.{AreFoundIn}
 use Rattle.robots_needless.specs.declared.needless.NeedlessRule.{NeedlessRule}
+use Rattle.robots_warnings.specs.declared.closed.Reach.{Reach}
+use Rattle.robots_warnings.specs.Closed.{reach_of}
 use Rattle.robots_warnings.specs.Facts.{facts_of, is_too_large}
 use Rattle.robots_warnings.specs.{File.labels_for, Warnings.warnings, WarningValue.WarningValue}
 use Rattle.audit_core.specs.Needless.{needless_warning}
@@ -47,6 +51,10 @@ group_of agent lines =
     else if is_named (codes "*") lines then Star
     else if list_any is_agent lines then Nobody else Everyone
 
+-- the number of the first line that names this group, if one does
+abbrev pub naming_line : List ℕ → List LineValue → Option ℕ
+naming_line agent lines = position_from (is_agent_named (group_name agent lines)) 1 lines
+
 pub record VerdictValue : Type 0 where
   pub url : List ℕ
   pub decision : Decision
@@ -54,6 +62,9 @@ pub record VerdictValue : Type 0 where
 pub record AgentValue : Type 0 where
   pub agent : List ℕ
   pub group : Group
+  pub group_line : Option ℕ
+  pub rules : ℕ
+  pub reach : Reach
   pub delay : Option ℕ
   pub rejected : Option ℕ
   pub verdicts : List VerdictValue
@@ -76,12 +87,16 @@ pub record IsAgentAudit (urls : List (List ℕ)) (lines : List LineValue) (agent
     (value : AgentValue) : Type 0 where
   pub agent_is : value.agent ≡ agent
   pub group_is : value.group ≡ group_of agent lines
+  pub line_is : value.group_line ≡ naming_line agent lines
+  pub rules_are : value.rules ≡ length (placed_rules agent lines)
+  pub reach_is : value.reach ≡ reach_of lines agent
   pub delay_is : value.delay ≡ delay_for agent lines
   pub ruling : IsRuling urls lines agent value.rejected value.verdicts
 
 -- ---- a file
 
 pub record AuditValue : Type 0 where
+  pub bytes : List ℕ
   pub labels : List Label
   pub agents : List AgentValue
   pub warnings : List WarningValue
@@ -119,6 +134,7 @@ pub record IsAuditOf (requested : RequestValue) (file : List ℕ) (audit : Audit
   pub needless_are : AreFoundIn (take file_limit file) needless
   pub unrequested : requested.has_needless ≡ false → needless ≡ []
   pub too_large : is_too_large file ≡ true → needless ≡ []
+  pub bytes_are : audit.bytes ≡ take file_limit file
   pub labels_are : audit.labels ≡ labels_requested requested file
   pub agents_are : AllZip (IsAgentAudit requested.urls (lines_read file))
       (agents_requested requested.agents (lines_read file)) audit.agents

@@ -1,13 +1,15 @@
 -- The rows of a report: one for each line of the file.
 use Rattle.std.specs.Prelude.{ℕ, ◌==◌, Bool, true, false, not, List, [], ◌∷◌, Some, None, codes, decimal}
-use Rattle.std.specs.Prelude.{is_some, length, map}
+use Rattle.std.specs.Prelude.{if◌then◌else◌, is_some, length, map, zip}
 use Rattle.std.proofs.Common.{refl}
 use Rattle.texting_robots.specs.Callers.{Allow, CrawlDelay, Disallow, LineValue, Label, Raw, Sitemap}
 use Rattle.texting_robots.specs.Callers.{UserAgent}
 use Rattle.texting_robots.specs.declared.labels.Membership.{Membership}
 use Rattle.texting_robots.specs.declared.labels.Membership.TheVariants.{Other, Ungrouped, Own}
+use Rattle.robots_warnings.specs.Contents.{comment_of as comment_in}
 use Rattle.robots_warnings.specs.File.{is_blank}
-use Rattle.printable_text.specs.Text.{Aligned, Column, Delay, Label as Front, Nothing, Part, PartValue}
+use Rattle.printable_text.specs.Text.{Absent, Aligned, Column, Delay, Label as Front, Nothing, Part}
+use Rattle.printable_text.specs.Text.{PartValue}
 use Rattle.printable_text.specs.Text.{ReportLine, Untrusted, Value, label, line_from, only, value_text, word}
 
 -- the width of the column with the directives; the longest one is followed by a space
@@ -66,16 +68,25 @@ abbrev pub kind_part : (has_value : Bool) → LineValue → PartValue
 kind_part true line = Column word_width (kind_of line) (line_value line)
 kind_part false line = Part (kind_of line) Nothing
 
--- the number, the mark, the directive and the value
-abbrev pub row : ℕ → Label → ReportLine
-row width labeled =
+-- the comment in the content of a directive; other lines are shown with their comments
+abbrev pub comment_of : LineValue → List ℕ → List ℕ
+comment_of (Raw value) body = []
+comment_of line body = comment_in body
+
+abbrev pub comment_part : List ℕ → PartValue
+comment_part comment =
+    if length comment == 0 then Absent else Part (label (codes "  ") refl) (Untrusted comment)
+
+-- the number, the mark, the directive, the value and the comment of a line with this content
+abbrev pub row : ℕ → List ℕ × Label → ReportLine
+row width (body, labeled) =
     line_from (Aligned width labeled.number) refl
     (Part (label (codes " ") refl) (mark_of labeled.membership) ∷ only (codes " ") refl
-    ∷ kind_part (has_value labeled.line) labeled.line ∷ [])
+    ∷ kind_part (has_value labeled.line) labeled.line ∷ comment_part (comment_of labeled.line body) ∷ [])
 
--- a row for each line, the numbers right-aligned
-abbrev pub rows : List Label → List ReportLine
-rows labels = map (row (length (decimal (length labels)))) labels
+-- a row for each line, given its content, the numbers right-aligned
+abbrev pub rows : List (List ℕ) → List Label → List ReportLine
+rows bodies labels = map (row (length (decimal (length labels)))) (zip bodies labels)
 
 abbrev pub membership_value : Membership → Value
 membership_value Own = word (codes "own") refl

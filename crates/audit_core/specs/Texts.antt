@@ -4,7 +4,10 @@ use Rattle.std.specs.Prelude.{ℕ, Bool, true, false, List, [], ◌∷◌, ◌++
 use Rattle.std.proofs.Common.{refl}
 use Rattle.audit_core.specs.declared.group.Group.{Group}
 use Rattle.audit_core.specs.declared.group.Group.TheVariants.{Everyone, Named, Nobody, Star}
-use Rattle.printable_text.specs.Text.{Absent, Delay, Number, Part, PartValue, ReportLine, Untrusted, Value}
+use Rattle.printable_text.specs.Text.{Absent, Delay, Fixed, Number, Part, PartValue, ReportLine, Untrusted}
+use Rattle.printable_text.specs.Text.{Value}
+use Rattle.robots_warnings.specs.declared.closed.Reach.{Reach}
+use Rattle.robots_warnings.specs.declared.closed.Reach.TheVariants as reach
 use Rattle.printable_text.specs.Text.{label, line_from, only, parts_text, value_text, word}
 
 abbrev pub delay_value : Option ℕ → Value
@@ -52,6 +55,13 @@ abbrev pub group_line : List ℕ → Group → ReportLine
 group_line agent group =
     line_from (Part (label (codes "group: ") refl) (group_value agent group)) refl
     (group_reason agent group ∷ group_end agent group ∷ [])
+
+-- the word for what a crawler may fetch, if that is everything or nothing; if the file is rejected for it, it
+-- may fetch nothing, but not because of its rules
+abbrev pub may_fetch : (rejected : Option ℕ) → Reach → Option Fixed
+may_fetch None reach.Everything = Some (record { text = codes "everything"; safe = refl })
+may_fetch None reach.Nothing = Some (record { text = codes "nothing"; safe = refl })
+may_fetch rejected reach = None
 
 -- ---- rejected files
 

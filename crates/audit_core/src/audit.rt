@@ -1,9 +1,8 @@
 //! The audit of a file: its lines, what applies to each requested crawler, and the warnings.
-ghost use Rattle.std.specs.Prelude.{◌≡◌, ◌++◌, IfErr, IfOk, is_none, map, option_map, string_bytes, take};
-ghost use Rattle.std.specs.List.{AllZip, list_any};
-ghost use Rattle.texting_robots.specs.Callers.{file_limit, file_lines, lines_read, label_by_value};
-ghost use Rattle.texting_robots.specs.Group.{is_agent};
-ghost use Rattle.audit_core.specs.Audit.{IsAgentAudit, IsAuditOf, IsVerdictOn, agents_requested, all_allowed};
+ghost use Rattle.std.specs.Prelude.{◌≡◌, ◌++◌, IfErr, IfOk, is_none, length, map, option_map, take};
+ghost use Rattle.std.specs.List.{AllZip};
+ghost use Rattle.texting_robots.specs.Callers.{file_limit, file_lines, lines_read, label_by_value, placed_rules};
+ghost use Rattle.audit_core.specs.Audit.{IsAgentAudit, IsAuditOf, IsRuling, IsVerdictOn, agents_requested, all_allowed};
 ghost use Rattle.audit_core.specs.Audit.{allows_all, labeling_agent, rejects_some};
 ghost use Rattle.audit_core.specs.{Request.requested_by, Needless.needless_warning, Internal.IsReading};
 ghost use Rattle.robots_warnings.specs.{File.lines_of, File.labels_for, Warnings.warnings};
@@ -12,11 +11,12 @@ use crate::agents::agents_requested;
 use crate::asked::decision_on;
 use crate::chosen::choose;
 use crate::fault::Fault;
-use crate::group::{Group, group_of};
+use crate::group::{Group, group_of, naming_line};
 use crate::needless::{add_needless, needless_rules};
 use crate::request::Request;
 use crate::syntax::{Syntax, syntax_of};
 use robots_needless::needless::NeedlessRule;
+use robots_warnings::closed::{Reach, reach_of};
 use robots_warnings::facts::{FileFacts, facts_of};
 use robots_warnings::file::{counted, labels_for};
 use robots_warnings::warning::Warning;
@@ -25,6 +25,7 @@ use std::alloc::{AllocError, Global};
 use std::marker::Model;
 use texting_robots::labels::{LabeledLine, first_overlong_line};
 use texting_robots::robot::Decision;
+use texting_robots::site::SiteRule;
 use texting_robots::{Error, Robot, Site};
 
 /// The verdict on a URL.
@@ -47,8 +48,14 @@ impl<'a> Model for Verdict<'a> {
 /// What a file means for one crawler.
 #[derive(Drop)]
 pub struct AgentAudit<'a> {
-    pub agent: String,
+    pub agent: &'a str,
     pub group: Group,
+    /// The line of the first user-agent line that names the group; `None` if no line does.
+    pub group_line: Option<usize>,
+    /// How many rules apply to the crawler.
+    pub rules: usize,
+    /// What the crawler may fetch, unless the file is rejected for it.
+    pub reach: Reach,
     /// In microseconds.
     pub delay: Option<u64>,
     /// The line of the crawler's first overlong rule, if it has one; then this parser rejects the file for the crawler.
@@ -69,14 +76,16 @@ impl<'a> Model for AgentAudit<'a> {
 
 /// The audit of a file.
 #[derive(Drop)]
-pub struct Audit<'a, 'b> {
-    pub labels: Vec<LabeledLine<'b>>,
+pub struct Audit<'a> {
+    /// The bytes that were read.
+    pub bytes: &'a [u8],
+    pub labels: Vec<LabeledLine<'a>>,
     pub agents: Vec<AgentAudit<'a>>,
     pub warnings: Vec<Warning<'a>>,
     pub syntax: Syntax,
 }
 
-impl<'a, 'b> Model for Audit<'a, 'b> {
+impl<'a> Model for Audit<'a> {
     ghost use Rattle.audit_core.specs.Audit.{AuditValue};
 
     ghost Value = { AuditValue };
@@ -127,62 +136,81 @@ fn verdicts_on<'a>(
     Ok(verdicts)
 }
 
-/// What the file means for one crawler. `has_agents` is true if the file has a user-agent line.
-pub fn agent_audit<'a>(
+/// The line of the crawler's first overlong rule, if it has one, or else the verdicts on the URLs.
+fn ruling<'a>(
     alloc: Global,
     agent: &str,
     file: &[u8],
     site: &Site,
-    has_agents: bool,
+    urls: &[&'a str],
+) -> Result<(Option<usize>, Vec<Verdict<'a>>), Fault>
+    requires { site.now ≡ take file_limit file.now }
+    ensures ok { IfOk result (λ ruling. IsRuling (map (λ url. url.now) urls.now) (lines_read file.now)
+        agent.now ruling.0 ruling.1.items) }
+    ensures fault { IfErr result (λ fault. fault ≡ Fault.Memory) }
+{
+    match read_for(alloc, agent, file, site)? {
+        Reading::Accepted(robot) => Ok((None, verdicts_on(alloc, &robot, urls)?)),
+        Reading::Rejected(line) => Ok((Some(line), Vec::new(alloc))),
+    }
+}
+
+/// How many rules apply to the crawler.
+fn rule_count(alloc: Global, site: &Site, agent: &str) -> Result<usize, AllocError>
+    ensures { IfOk result (λ count. count ≡ length (placed_rules agent.now (file_lines site.now))) }
+{
+    let rules: Vec<SiteRule<'_>> = site.rules(agent).collect(alloc)?;
+    Ok(rules.len())
+}
+
+/// What the file means for one crawler. The labels are those of the file's lines.
+pub fn agent_audit<'a>(
+    alloc: Global,
+    agent: &'a str,
+    file: &[u8],
+    labels: &[LabeledLine<'_>],
+    site: &Site,
     urls: &[&'a str],
 ) -> Result<AgentAudit<'a>, Fault>
-    requires agents { has_agents ≡ list_any is_agent (lines_read file.now) }
+    requires lines { lines_of (map label_by_value labels.now) ≡ lines_read file.now }
     requires site { site.now ≡ take file_limit file.now }
     ensures ok { IfOk result (λ audit. IsAgentAudit (map (λ url. url.now) urls.now) (lines_read file.now)
         agent.now audit) }
     ensures fault { IfErr result (λ fault. fault ≡ Fault.Memory) }
 {
-    let group = group_of(agent, site, has_agents);
-    let name = String::from_str(alloc, agent)?;
-    match read_for(alloc, agent, file, site)? {
-        Reading::Accepted(robot) => {
-            let verdicts = verdicts_on(alloc, &robot, urls)?;
-            Ok(AgentAudit {
-                agent: name,
-                group,
-                delay: robot.delay,
-                rejected: None,
-                verdicts,
-            })
-        }
-        Reading::Rejected(line) => Ok(AgentAudit {
-            agent: name,
-            group,
-            delay: site.delay(agent),
-            rejected: Some(line),
-            verdicts: Vec::new(alloc),
-        }),
-    }
+    let rules = rule_count(alloc, site, agent)?;
+    let reach = reach_of(alloc, site, agent)?;
+    let (rejected, verdicts) = ruling(alloc, agent, file, site, urls)?;
+    Ok(AgentAudit {
+        agent,
+        group: group_of(agent, site),
+        group_line: naming_line(agent, site, labels),
+        rules,
+        reach,
+        delay: site.delay(agent),
+        rejected,
+        verdicts,
+    })
 }
 
-/// What the file means for each of these crawlers. `has_agents` is true if the file has a user-agent line.
+/// What the file means for each of these crawlers. The labels are those of the file's lines.
 fn agent_audits<'a>(
     alloc: Global,
-    agents: &[String],
+    agents: &[&'a str],
     file: &[u8],
+    labels: &[LabeledLine<'_>],
     site: &Site,
-    has_agents: bool,
     urls: &[&'a str],
 ) -> Result<Vec<AgentAudit<'a>>, Fault>
-    requires agents { has_agents ≡ list_any is_agent (lines_read file.now) }
+    requires lines { lines_of (map label_by_value labels.now) ≡ lines_read file.now }
     requires site { site.now ≡ take file_limit file.now }
     ensures ok { IfOk result (λ audits. AllZip (IsAgentAudit (map (λ url. url.now) urls.now) (lines_read file.now))
-        (map string_bytes agents.now) audits.items) }
+        (map (λ agent. agent.now) agents.now) audits.items) }
     ensures fault { IfErr result (λ fault. fault ≡ Fault.Memory) }
 {
     let mut audits = Vec::with_capacity(alloc, agents.len())?;
     for agent in agents {
-        audits.push(agent_audit(alloc, agent, file, site, has_agents, urls)?)?;
+        audits.push(agent_audit(alloc, agent, file, labels, site, urls)?)?;
     }
     Ok(audits)
 }
@@ -202,7 +230,7 @@ pub fn labeling_agent<'a>(agent: Option<&'a str>) -> &'a str
 fn warnings_of<'a>(
     alloc: Global,
     request: &Request<'a>,
-    agents: &[String],
+    agents: &[&'a str],
     file: &[u8],
     facts: FileFacts,
     labels: &[LabeledLine<'_>],
@@ -210,7 +238,7 @@ fn warnings_of<'a>(
     needless: &[NeedlessRule],
 ) -> Result<Vec<Warning<'a>>, AllocError>
     ensures { IfOk result (λ found. found.items
-        ≡ warnings (is_none (requested_by request.now).agent) (map string_bytes agents.now)
+        ≡ warnings (is_none (requested_by request.now).agent) (map (λ agent. agent.now) agents.now)
         (requested_by request.now).urls file.now facts (map label_by_value labels.now) (file_lines site.now)
         ++ map needless_warning needless.now) }
 {
@@ -227,11 +255,11 @@ fn warnings_of<'a>(
 }
 
 /// Audits a file for the crawlers and URLs of the request.
-pub fn audit_of<'a, 'b>(
+pub fn audit_of<'a>(
     alloc: Global,
     request: &Request<'a>,
-    file: &'b [u8],
-) -> Result<Audit<'a, 'b>, Fault>
+    file: &'a [u8],
+) -> Result<Audit<'a>, Fault>
     ensures ok { IfOk result (λ audit. IsAuditOf (requested_by request.now) file.now audit) }
     ensures fault { IfErr result (λ fault. fault ≡ Fault.Memory) }
 {
@@ -239,8 +267,7 @@ pub fn audit_of<'a, 'b>(
     let facts = facts_of(file, &labels);
     let names = agents_requested(alloc, &request.agents, &labels)?;
     let site = Site::new(alloc, file)?;
-    let has_agents = facts.kinds.user_agent;
-    let agents = agent_audits(alloc, &names, file, &site, has_agents, &request.urls)?;
+    let agents = agent_audits(alloc, &names, file, &labels, &site, &request.urls)?;
     let needless = needless_rules(alloc, request.has_needless, facts.is_too_large, &site)?;
     let mut warnings = warnings_of(
         alloc, request, &names, file, facts, &labels, &site, &needless,
@@ -249,6 +276,7 @@ pub fn audit_of<'a, 'b>(
     let syntax = syntax_of(request.agent, facts.is_too_large, is_rejected, &warnings);
     choose(&request.only, &request.ignored, &mut warnings);
     Ok(Audit {
+        bytes: counted(file),
         labels,
         agents,
         warnings,

@@ -121,8 +121,8 @@ fn add_agent(alloc: Global, found: &mut Findings, agent: &AgentAudit<'_>) -> Res
     ensures { OnOk result (map finding_value found.new.items
         ≡ map finding_value found.old.items ++ map found_value (agent_findings agent.now)) }
 {
-    add_rejection(alloc, found, &agent.agent, agent.rejected)?;
-    add_denials(alloc, found, &agent.agent, &agent.verdicts)
+    add_rejection(alloc, found, agent.agent, agent.rejected)?;
+    add_denials(alloc, found, agent.agent, &agent.verdicts)
 }
 
 /// Adds what is wrong for each crawler.
@@ -182,7 +182,7 @@ fn add_warnings(
 
 /// What an audit found: the errors among the warnings; for each crawler why the file is rejected or which URLs are denied;
 /// and then the other warnings.
-pub fn findings_of(alloc: Global, audit: &Audit<'_, '_>) -> Result<Findings, AllocError>
+pub fn findings_of(alloc: Global, audit: &Audit<'_>) -> Result<Findings, AllocError>
     ensures { IfOk result (λ found. map finding_value found.items ≡ findings audit.now) }
 {
     let mut found = Vec::new(alloc);

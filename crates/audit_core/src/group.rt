@@ -1,10 +1,13 @@
 //! The group that applies to a crawler.
-ghost use Rattle.std.specs.Prelude.{◌≡◌};
-ghost use Rattle.std.specs.List.{list_any};
-ghost use Rattle.texting_robots.specs.{Callers.file_lines, Group.is_agent};
-ghost use Rattle.audit_core.specs.Audit.{group_of};
+ghost use Rattle.std.specs.Prelude.{◌≡◌, map};
+ghost use Rattle.std.specs.Str.{str_to_ascii_lowercase};
+ghost use Rattle.texting_robots.specs.Callers.{by_value, file_lines, is_agent_named, label_by_value};
+ghost use Rattle.robots_warnings.specs.File.{lines_of};
+ghost use Rattle.audit_core.specs.Audit.{group_of, naming_line};
 
 use texting_robots::Site;
+use texting_robots::labels::LabeledLine;
+use texting_robots::parser::Line;
 
 /// Which user-agent lines determine the group of a crawler.
 #[derive(Clone, Copy, PartialEq, Eq)]
@@ -19,18 +22,42 @@ pub enum Group {
     Everyone,
 }
 
-/// Which group applies to a crawler in this file. `has_agents` is true if the file has a user-agent line.
-pub(crate) fn group_of(agent: &str, site: &Site, has_agents: bool) -> Group
-    requires { has_agents ≡ list_any is_agent (file_lines site.now) }
+/// Which group applies to a crawler in this file.
+pub(crate) fn group_of(agent: &str, site: &Site) -> Group
     ensures { result ≡ group_of agent.now (file_lines site.now) }
 {
     if site.is_named(agent) {
         Group::Named
     } else if site.is_named("*") {
         Group::Star
-    } else if has_agents {
+    } else if site.has_agents() {
         Group::Nobody
     } else {
         Group::Everyone
     }
+}
+
+/// Whether the line is a user-agent line with this name, ASCII letters in any case.
+fn has_name(name: &[u8], line: Line<'_>) -> bool
+    ensures { result ≡ is_agent_named (str_to_ascii_lowercase name.now) (by_value line.entry) }
+{
+    match line {
+        Line::UserAgent(value) => value.eq_ignore_ascii_case(name),
+        _ => false,
+    }
+}
+
+/// The number of the first line that names the group that applies to a crawler. The labels are those of the site's
+/// lines.
+pub(crate) fn naming_line(agent: &str, site: &Site, labels: &[LabeledLine<'_>]) -> Option<usize>
+    requires { lines_of (map label_by_value labels.now) ≡ file_lines site.now }
+    ensures { result ≡ naming_line agent.now (file_lines site.now) }
+{
+    let name = site.group_name(agent);
+    for (at, labeled) in labels.iter().enumerate() {
+        if has_name(name, labeled.line) {
+            return Some(at + 1);
+        }
+    }
+    None
 }

@@ -1,19 +1,20 @@
 //! The rows of a report: one for each line of the file.
 ghost use Rattle.std.specs.Prelude.{◌≡◌, ◌++◌, ◌∷◌, [], OnOk, decimal, length, map, string_bytes};
-ghost use Rattle.texting_robots.specs.Callers.{by_value, label_by_value};
+ghost use Rattle.texting_robots.specs.Callers.{by_value, file_bodies, label_by_value};
 ghost use Rattle.printable_text.specs.Raw.{raw_value};
 ghost use Rattle.printable_text.specs.Text.{Aligned, blanks, part_text, value_text, written};
-ghost use Rattle.audit_core.specs.Rows.{has_value, kind_part, kind_text, line_value, line_value_text, mark_of};
-ghost use Rattle.audit_core.specs.Rows.{membership_word, row, rows};
+ghost use Rattle.audit_core.specs.Rows.{comment_of, comment_part, has_value, kind_part, kind_text, line_value};
+ghost use Rattle.audit_core.specs.Rows.{line_value_text, mark_of, membership_word, row, rows};
 
 use itoa::Buffer;
 use printable_text::delay::push_delay_text;
 use printable_text::parts::{Part, Value, push_parts};
 use printable_text::sanitize::push_sanitized;
+use robots_warnings::contents::split_content;
 use robots_warnings::file::is_blank;
 use std::alloc::AllocError;
 use texting_robots::labels::{LabeledLine, Membership};
-use texting_robots::parser::Line;
+use texting_robots::parser::{Line, file_bodies};
 
 /// The width of the column with the directives; the longest one is followed by a space.
 const WORD_WIDTH: usize = 12;
@@ -123,10 +124,35 @@ fn push_kind(text: &mut String, line: Line<'_>) -> Result<(), AllocError>
     Ok(())
 }
 
-/// Appends the row of a line.
-fn push_row(text: &mut String, width: usize, labeled: &LabeledLine<'_>) -> Result<(), AllocError>
+/// The comment in a line with this content, if it is a directive; other lines are shown with their comments.
+pub fn comment_of<'a>(line: Line<'_>, body: &'a [u8]) -> &'a [u8]
+    ensures { result.now ≡ comment_of (by_value line.entry) body.now }
+{
+    match line {
+        Line::Raw(_) => b"",
+        _ => split_content(body).1,
+    }
+}
+
+/// Appends a comment after two spaces, if there is one.
+fn push_comment(text: &mut String, comment: &[u8]) -> Result<(), AllocError>
+    ensures { OnOk result (string_bytes text.new ≡ string_bytes text.old ++ part_text (comment_part comment.now)) }
+{
+    if comment.is_empty() {
+        return Ok(());
+    }
+    push_parts(text, &[Part("  ", Value::Untrusted(comment))])
+}
+
+/// Appends the row of a line with this content.
+fn push_row(
+    text: &mut String,
+    width: usize,
+    labeled: &LabeledLine<'_>,
+    body: &[u8],
+) -> Result<(), AllocError>
     ensures { OnOk result (string_bytes text.new ≡ string_bytes text.old
-        ++ written (row width (label_by_value labeled.now) ∷ [])) }
+        ++ written (row width (body.now, label_by_value labeled.now) ∷ [])) }
 {
     push_aligned(text, width, labeled.number)?;
     push_parts(
@@ -137,6 +163,7 @@ fn push_row(text: &mut String, width: usize, labeled: &LabeledLine<'_>) -> Resul
         ],
     )?;
     push_kind(text, labeled.line)?;
+    push_comment(text, comment_of(labeled.line, body))?;
     text.push('\n')
 }
 
@@ -147,14 +174,23 @@ fn digits(number: usize) -> usize
     Buffer::new().format(number).len()
 }
 
-/// Appends a row for each line.
-pub fn push_rows(text: &mut String, labels: &[LabeledLine<'_>]) -> Result<(), AllocError>
+/// Appends a row for each line of the file with these bytes. The labels are those of the lines.
+pub fn push_rows(
+    text: &mut String,
+    bytes: &[u8],
+    labels: &[LabeledLine<'_>],
+) -> Result<(), AllocError>
     ensures { OnOk result (string_bytes text.new ≡ string_bytes text.old
-        ++ written (rows (map label_by_value labels.now))) }
+        ++ written (rows (file_bodies bytes.now) (map label_by_value labels.now))) }
 {
     let width = digits(labels.len());
-    for labeled in labels {
-        push_row(text, width, labeled)?;
+    let mut rest = labels;
+    for body in file_bodies(bytes) {
+        let [labeled, after @ ..] = rest else {
+            return Ok(());
+        };
+        push_row(text, width, labeled, body)?;
+        rest = after;
     }
     Ok(())
 }

@@ -1,12 +1,13 @@
 //! Texts that several reports share: a delay, which group applies to a crawler, and that the file is rejected for it.
-ghost use Rattle.std.specs.Prelude.{◌≡◌, ◌++◌, ◌∷◌, [], OnOk, string_bytes};
+ghost use Rattle.std.specs.Prelude.{◌≡◌, ◌++◌, ◌∷◌, [], OnOk, option_map, string_bytes};
 ghost use Rattle.printable_text.specs.Raw.{raw_line, raw_text, raw_value};
 ghost use Rattle.printable_text.specs.Text.{line_text, part_text, parts_text, value_text, written};
 ghost use Rattle.audit_core.specs.Texts.{delay_value, group_end, group_line, group_reason, group_text, group_value};
-ghost use Rattle.audit_core.specs.Texts.{rejected_lines, rejected_parts};
+ghost use Rattle.audit_core.specs.Texts.{may_fetch, rejected_lines, rejected_parts};
 
 use crate::group::Group;
 use printable_text::parts::{Part, Value, push_line_of, push_parts};
+use robots_warnings::closed::Reach;
 use std::alloc::AllocError;
 
 /// A delay as the value of a part.
@@ -81,6 +82,17 @@ pub fn push_group(text: &mut String, agent: &str, group: Group) -> Result<(), Al
         ++ written (group_line agent.now group ∷ [])) }
 {
     push_line_of(text, &group_parts("group: ", agent, group))
+}
+
+/// The word for what a crawler may fetch, if the file isn't rejected for it and that is everything or nothing.
+pub fn may_fetch(rejected: Option<usize>, reach: Reach) -> Option<&'static str>
+    ensures { option_map (λ word. word.now) result ≡ option_map (λ word. word.text) (may_fetch rejected reach) }
+{
+    match (rejected, reach) {
+        (None, Reach::Everything) => Some("everything"),
+        (None, Reach::Nothing) => Some("nothing"),
+        _ => None,
+    }
 }
 
 /// That the file is rejected for the crawler because of this line.

@@ -1,8 +1,8 @@
 -- The JSON of an audit contains no floating-point number, and no control or bidirectional-formatting
 -- characters other than LF.
 use Rattle.std.proofs.Common.{◌≡◌, ℕ, Bool, true, false, List, [], ◌∷◌, ◌++◌, Option, Some, None, ap, arith}
-use Rattle.std.proofs.Common.{map, refl, sym}
-use Rattle.std.specs.Prelude.{IsTrue, if◌then◌else◌}
+use Rattle.std.proofs.Common.{◌==◌, length, map, refl, sym}
+use Rattle.std.specs.Prelude.{IsTrue, if◌then◌else◌, option_map}
 use Rattle.std.specs.List.{list_all}
 use Rattle.std.proofs.lemmas.Bool.Decides.{nat_tests}
 use Rattle.std.proofs.lemmas.Simd.{map-map}
@@ -14,22 +14,24 @@ use Rattle.serde_json.specs.Written.{members_have_float, members_text}
 use Rattle.serde_json.proofs.OnLiterals.{serde_json_on_literals}
 use Rattle.texting_robots.specs.Callers.{CrawlDelay, LineValue, Label}
 use Rattle.printable_text.specs.Sanitize.{IsPrintable, is_printable_byte}
-use Rattle.printable_text.specs.{Lines.lf, Level.level_word, Text.Value, Text.value_text}
+use Rattle.printable_text.specs.{Lines.lf, Level.level_word, Text.Fixed, Text.Value, Text.value_text}
 use Rattle.printable_text.proofs.SanitizeLemmas.{append_printable, ascii_printable, decimal_printable}
 use Rattle.printable_text.proofs.SanitizeLemmas.{line_printable, sanitized_printable}
-use Rattle.printable_text.proofs.PartLemmas.{label_printable, level_printable, value_printable}
+use Rattle.printable_text.proofs.PartLemmas.{fixed_printable, label_printable, level_printable}
+use Rattle.printable_text.proofs.PartLemmas.{value_printable}
 use Rattle.printable_text.specs.declared.level.Level.{Level}
 use Rattle.robots_warnings.specs.Message.{fixed_name, message_parts}
 use Rattle.robots_warnings.specs.{Table.level_of, WarningValue.WarningValue}
 use Rattle.audit_core.specs.declared.group.Group.{Group}
 use Rattle.audit_core.specs.declared.group.Group.TheVariants.{Everyone, Named, Nobody, Star}
-use Rattle.audit_core.specs.Rows.{has_value, kind_of, line_value, membership_value}
+use Rattle.audit_core.specs.Rows.{comment_of, has_value, kind_of, line_value, membership_value}
 use Rattle.audit_core.specs.{Audit.AgentValue, Audit.AuditValue, Audit.VerdictValue, Findings.Parts}
+use Rattle.audit_core.specs.Texts.{may_fetch}
 use Rattle.audit_core.proofs.EscapeLemmas.{in_quotes}
 use Rattle.audit_core.proofs.FindingLemmas.{message_printable, name_printable}
-use Rattle.audit_json.specs.Json.{agent_json, audit_json, group_word, json_text, known_json, line_json}
-use Rattle.audit_json.specs.Json.{list_json, number_json, sanitized_json, value_json, verdict_json}
-use Rattle.audit_json.specs.Json.{warning_json}
+use Rattle.audit_json.specs.Json.{agent_json, audit_json, comment_json, group_word, json_text, known_json}
+use Rattle.audit_json.specs.Json.{line_json, list_json, number_json, sanitized_json, value_json}
+use Rattle.audit_json.specs.Json.{verdict_json, warning_json, word_json}
 
 -- ---- lists
 
@@ -144,9 +146,19 @@ group_printable Star = ascii_printable true (group_word Star) refl
 group_printable Nobody = ascii_printable true (group_word Nobody) refl
 group_printable Everyone = ascii_printable true (group_word Everyone) refl
 
+word_plain : (word : Option Fixed) → IsPlain (word_json (option_map (λ word. word.text) word))
+word_plain None = tt
+word_plain (Some word) = line_printable word.text (fixed_printable word)
+
 agent_plain : (agent : AgentValue) → IsPlain (agent_json agent)
 agent_plain agent =
-    search (number_plain, sanitized_printable, group_printable, list_plain verdict_json verdict_plain)
+    search (
+      number_plain,
+      sanitized_printable,
+      group_printable,
+      list_plain verdict_json verdict_plain,
+      word_plain (may_fetch agent.rejected agent.reach),
+    )
 
 word_printable : (value : Value) → IsPrintable (value_text value)
 word_printable value = line_printable (value_text value) (value_printable value)
@@ -159,10 +171,22 @@ value_plain : (line : LineValue) → IsPlain (value_json line)
 value_plain (CrawlDelay delay) = number_plain delay
 value_plain line = text_plain (has_value line) (line_value line)
 
-line_plain : (label : Label) → IsPlain (line_json label)
-line_plain label =
+printed_plain : (none : Bool) (text : List ℕ) → IsPlain (if none then null else sanitized_json text)
+printed_plain true text = tt
+printed_plain false text = sanitized_printable text
+
+comment_plain : (comment : List ℕ) → IsPlain (comment_json comment)
+comment_plain comment = printed_plain (length comment == 0) comment
+
+line_plain : (line : List ℕ × Label) → IsPlain (line_json line)
+line_plain (body, label) =
     let kind = line_printable (kind_of label.line).text (label_printable (kind_of label.line)) in
-    assumption (kind, word_printable (membership_value label.membership), value_plain label.line)
+    assumption (
+      comment_plain (comment_of label.line body),
+      kind,
+      word_printable (membership_value label.membership),
+      value_plain label.line,
+    )
 
 pub level_plain : (level : Level) → IsPrintable (level_word level)
 level_plain level = line_printable (level_word level) (level_printable level)

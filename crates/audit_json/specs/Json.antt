@@ -1,16 +1,16 @@
 -- The audit as one line of JSON.
 use Rattle.std.specs.Prelude.{ℕ, Bool, true, List, [], ◌∷◌, ◌++◌, Option, Some, None, codes, if◌then◌else◌}
-use Rattle.std.specs.Prelude.{map}
+use Rattle.std.specs.Prelude.{◌==◌, length, map, option_map, zip}
 use Rattle.serde_json.specs.Data.{Data, array, boolean, member, no_members, null, number, object, string}
 use Rattle.serde_json.specs.Data.{unsigned}
 use Rattle.serde_json.specs.{View.items_of, Written.compact_text}
-use Rattle.texting_robots.specs.Callers.{CrawlDelay, LineValue, Label, sitemaps_in}
+use Rattle.texting_robots.specs.Callers.{CrawlDelay, LineValue, Label, file_bodies, sitemaps_in}
 use Rattle.printable_text.specs.{Lines.lf, Level.level_word, Sanitize.sanitized}
 use Rattle.audit_core.specs.declared.group.Group.{Group}
 use Rattle.audit_core.specs.declared.group.Group.TheVariants.{Everyone, Named, Nobody, Star}
-use Rattle.audit_core.specs.Rows.{has_value, kind_text, line_value_text, membership_word}
-use Rattle.audit_core.specs.{Audit.AgentValue, Audit.AuditValue, Audit.VerdictValue, Syntax.has_standard_verdicts}
-use Rattle.audit_core.specs.Syntax.{is_standard}
+use Rattle.audit_core.specs.Rows.{comment_of, has_value, kind_text, line_value_text, membership_word}
+use Rattle.audit_core.specs.{Audit.AgentValue, Audit.AuditValue, Audit.VerdictValue, Syntax.is_standard}
+use Rattle.audit_core.specs.{Syntax.has_standard_verdicts, Texts.may_fetch}
 use Rattle.robots_warnings.specs.Table.{level_of, name_of}
 use Rattle.robots_warnings.specs.{File.lines_of, Message.warning_text, WarningValue.WarningValue}
 
@@ -44,14 +44,25 @@ group_word Star = codes "star"
 group_word Nobody = codes "none"
 group_word Everyone = codes "everyone"
 
--- the crawler, its delay in microseconds, the group that applies to it, and the verdicts
+-- a fixed word, or null for `None`
+abbrev pub word_json : Option (List ℕ) → Data
+word_json None = null
+word_json (Some word) = string word
+
+-- the crawler, its delay in microseconds, the group that applies to it and the first line that names it, what
+-- the crawler may fetch if that is everything or nothing, the line for which the file is rejected, how many
+-- rules apply, and the verdicts
 abbrev pub agent_json : AgentValue → Data
 agent_json agent = object
     (member (codes "agent") (sanitized_json agent.agent)
     (member (codes "delay") (number_json agent.delay)
     (member (codes "group") (string (group_word agent.group))
+    (member (codes "group_line") (number_json agent.group_line)
+    (member (codes "may_fetch")
+    (word_json (option_map (λ word. word.text) (may_fetch agent.rejected agent.reach)))
     (member (codes "rejected") (number_json agent.rejected)
-    (member (codes "verdicts") (list_json verdict_json agent.verdicts) no_members)))))
+    (member (codes "rules") (number (unsigned agent.rules))
+    (member (codes "verdicts") (list_json verdict_json agent.verdicts) no_members))))))))
 
 -- ---- a line
 
@@ -60,13 +71,23 @@ abbrev pub value_json : LineValue → Data
 value_json (CrawlDelay delay) = number_json delay
 value_json line = if has_value line then string (line_value_text line) else null
 
--- a line of the file: its directive, its number, its membership and its value
-abbrev pub line_json : Label → Data
-line_json label = object
+-- a comment, or null if there is none
+abbrev pub comment_json : List ℕ → Data
+comment_json comment = if length comment == 0 then null else sanitized_json comment
+
+-- a line of the file with this content: the comment of a directive, its name, its membership, its number and
+-- its value
+abbrev pub line_json : List ℕ × Label → Data
+line_json (body, label) = object
+    (member (codes "comment") (comment_json (comment_of label.line body))
     (member (codes "kind") (string (kind_text label.line))
     (member (codes "membership") (string (membership_word label.membership))
     (member (codes "number") (number (unsigned label.number))
-    (member (codes "value") (value_json label.line) no_members))))
+    (member (codes "value") (value_json label.line) no_members)))))
+
+-- the lines with these contents, if there are rows
+abbrev pub rows_json : (has_rows : Bool) → List (List ℕ) → List Label → Data
+rows_json has_rows bodies labels = list_json line_json (if has_rows then zip bodies labels else [])
 
 -- ---- the audit
 
@@ -88,7 +109,7 @@ audit_json has_rows audit = object
     (member (codes "agents") (list_json agent_json audit.agents)
     (member (codes "has_rfc_9309_syntax") (known_json (is_standard audit.syntax))
     (member (codes "has_rfc_9309_verdicts") (known_json (has_standard_verdicts audit.syntax))
-    (member (codes "lines") (list_json line_json (if has_rows then audit.labels else []))
+    (member (codes "lines") (rows_json has_rows (file_bodies audit.bytes) audit.labels)
     (member (codes "sitemaps") (list_json sanitized_json (sitemaps_in (lines_of audit.labels)))
     (member (codes "warnings") (list_json warning_json audit.warnings) no_members))))))
 

@@ -1,23 +1,24 @@
 //! The audit as one line of JSON.
-ghost use Rattle.std.specs.Prelude.{◌≡◌, [], false, IfOk, if◌then◌else◌, map, string_bytes};
+ghost use Rattle.std.specs.Prelude.{◌≡◌, false, IfOk, map, option_map, string_bytes};
 ghost use Rattle.serde_json.specs.{View.view, Written.has_float};
-ghost use Rattle.texting_robots.specs.Callers.{by_value, label_by_value, sitemaps_in};
-ghost use Rattle.audit_json.specs.Json.{agent_json, audit_json, group_word, json_line, json_text, known_json};
-ghost use Rattle.audit_json.specs.Json.{line_json, list_json, sanitized_json, value_json, verdict_json};
-ghost use Rattle.audit_json.specs.Json.{warning_json};
+ghost use Rattle.texting_robots.specs.Callers.{by_value, file_bodies, label_by_value, sitemaps_in};
+ghost use Rattle.audit_json.specs.Json.{agent_json, audit_json, comment_json, group_word, json_line, json_text};
+ghost use Rattle.audit_json.specs.Json.{known_json, line_json, list_json, number_json, rows_json, sanitized_json};
+ghost use Rattle.audit_json.specs.Json.{value_json, verdict_json, warning_json, word_json};
 ghost use Rattle.audit_core.specs.Rows.{membership_word};
 ghost use Rattle.robots_warnings.specs.File.{lines_of};
 
 use audit_core::audit::{AgentAudit, Audit, Verdict};
 use audit_core::group::Group;
-use audit_core::rows::{has_value, kind_text, membership_word, push_value};
+use audit_core::rows::{comment_of, has_value, kind_text, membership_word, push_value};
 use audit_core::sitemaps::sitemaps_of;
+use audit_core::texts::may_fetch;
 use printable_text::sanitize::push_sanitized;
 use robots_warnings::warning::{Warning, push_warning_text};
 use serde_json::{Value, json};
 use std::alloc::{AllocError, Global};
 use texting_robots::labels::LabeledLine;
-use texting_robots::parser::Line;
+use texting_robots::parser::{Line, file_bodies};
 
 /// A value with a JSON form.
 trait Json {
@@ -82,30 +83,28 @@ fn verdicts_json(alloc: Global, verdicts: &[Verdict<'_>]) -> Result<Value, Alloc
     list_json(alloc, verdicts)
 }
 
-/// What the file means for a crawler, as a JSON object.
-fn agent_json(
-    alloc: Global,
-    agent: &str,
-    group: Group,
-    delay: Option<u64>,
-    rejected: Option<usize>,
-    verdicts: &[Verdict<'_>],
-) -> Result<Value, AllocError>
-    ensures { IfOk result (λ value. view value ≡ agent_json (record {
-      agent = agent.now;
-      group = group;
-      delay = delay;
-      rejected = rejected;
-      verdicts = verdicts.now;
-    })) }
+/// A fixed word as a JSON string, or null if there is none.
+fn word_json(alloc: Global, word: Option<&str>) -> Result<Value, AllocError>
+    ensures { IfOk result (λ value. view value ≡ word_json (option_map (λ word. word.now) word.entry)) }
 {
-    json!(in alloc; {
-        "agent": sanitized_json(alloc, agent.as_bytes())?,
-        "delay": delay,
-        "group": group_word(group),
-        "rejected": rejected,
-        "verdicts": verdicts_json(alloc, verdicts)?,
-    })
+    match word {
+        Some(word) => Ok(Value::String(String::from_str(alloc, word)?)),
+        None => Ok(Value::Null),
+    }
+}
+
+/// The number of a line, or null if there is none.
+fn line_number(line: Option<usize>) -> Value
+    ensures { view result ≡ number_json line }
+{
+    Value::from(line)
+}
+
+/// A delay in microseconds, or null if there is none.
+fn delay_json(delay: Option<u64>) -> Value
+    ensures { view result ≡ number_json delay }
+{
+    Value::from(delay)
 }
 
 impl<'a> Json for AgentAudit<'a> {
@@ -114,14 +113,16 @@ impl<'a> Json for AgentAudit<'a> {
     ghost json = { agent_json };
 
     fn json(&self, alloc: Global) -> Result<Value, AllocError> {
-        agent_json(
-            alloc,
-            &self.agent,
-            self.group,
-            self.delay,
-            self.rejected,
-            &self.verdicts,
-        )
+        json!(in alloc; {
+            "agent": sanitized_json(alloc, self.agent.as_bytes())?,
+            "delay": delay_json(self.delay),
+            "group": group_word(self.group),
+            "group_line": line_number(self.group_line),
+            "may_fetch": word_json(alloc, may_fetch(self.rejected, self.reach))?,
+            "rejected": line_number(self.rejected),
+            "rules": self.rules,
+            "verdicts": verdicts_json(alloc, &self.verdicts)?,
+        })
     }
 }
 
@@ -130,7 +131,7 @@ fn value_json(alloc: Global, line: Line<'_>) -> Result<Value, AllocError>
     ensures { IfOk result (λ value. view value ≡ value_json (by_value line.entry)) }
 {
     match line {
-        Line::CrawlDelay(delay) => Ok(Value::from(delay)),
+        Line::CrawlDelay(delay) => Ok(delay_json(delay)),
         _ if has_value(line) => {
             let mut text = String::new(alloc);
             push_value(&mut text, line)?;
@@ -140,20 +141,28 @@ fn value_json(alloc: Global, line: Line<'_>) -> Result<Value, AllocError>
     }
 }
 
-impl<'a> Json for LabeledLine<'a> {
-    ghost use Rattle.audit_json.specs.Json.{line_json};
-    ghost use Rattle.texting_robots.specs.Callers.{label_by_value};
-
-    ghost json = { λ labeled. line_json (label_by_value labeled) };
-
-    fn json(&self, alloc: Global) -> Result<Value, AllocError> {
-        json!(in alloc; {
-            "kind": kind_text(self.line),
-            "membership": membership_word(self.membership),
-            "number": self.number,
-            "value": value_json(alloc, self.line)?,
-        })
+/// A comment, or null if there is none.
+fn comment_json(alloc: Global, comment: &[u8]) -> Result<Value, AllocError>
+    ensures { IfOk result (λ value. view value ≡ comment_json comment.now) }
+{
+    if comment.is_empty() {
+        Ok(Value::Null)
+    } else {
+        sanitized_json(alloc, comment)
     }
+}
+
+/// A line with this content, as a JSON object.
+fn line_json(alloc: Global, body: &[u8], labeled: &LabeledLine<'_>) -> Result<Value, AllocError>
+    ensures { IfOk result (λ value. view value ≡ line_json (body.now, label_by_value labeled.now)) }
+{
+    json!(in alloc; {
+        "comment": comment_json(alloc, comment_of(labeled.line, body))?,
+        "kind": kind_text(labeled.line),
+        "membership": membership_word(labeled.membership),
+        "number": labeled.number,
+        "value": value_json(alloc, labeled.line)?,
+    })
 }
 
 impl<'a> Json for &'a [u8] {
@@ -206,16 +215,30 @@ fn sitemaps_json(alloc: Global, labels: &[LabeledLine<'_>]) -> Result<Value, All
     list_json(alloc, &sitemaps)
 }
 
-/// The lines of the file as a JSON array, which is empty if the report has no rows.
-fn rows_json(alloc: Global, has_rows: bool, labels: &[LabeledLine<'_>]) -> Result<Value, AllocError>
+/// The lines of the file with these bytes as a JSON array, which is empty if the report has no rows. The labels are
+/// those of the lines.
+fn rows_json(
+    alloc: Global,
+    has_rows: bool,
+    bytes: &[u8],
+    labels: &[LabeledLine<'_>],
+) -> Result<Value, AllocError>
     ensures { IfOk result (λ value. view value
-        ≡ list_json line_json (if has_rows then map label_by_value labels.now else [])) }
+        ≡ rows_json has_rows (file_bodies bytes.now) (map label_by_value labels.now)) }
 {
-    if has_rows {
-        list_json(alloc, labels)
-    } else {
-        Ok(Value::Array(Vec::new(alloc)))
+    let mut list = Vec::new(alloc);
+    if !has_rows {
+        return Ok(Value::Array(list));
     }
+    let mut rest = labels;
+    for body in file_bodies(bytes) {
+        let [labeled, after @ ..] = rest else {
+            return Ok(Value::Array(list));
+        };
+        list.push(line_json(alloc, body, labeled)?)?;
+        rest = after;
+    }
+    Ok(Value::Array(list))
 }
 
 /// True if this is known of the file, or else null.
@@ -230,7 +253,7 @@ fn known_json(is_known: bool) -> Value
 }
 
 /// The audit as a JSON object.
-fn audit_json(alloc: Global, has_rows: bool, audit: &Audit<'_, '_>) -> Result<Value, AllocError>
+fn audit_json(alloc: Global, has_rows: bool, audit: &Audit<'_>) -> Result<Value, AllocError>
     ensures { IfOk result (λ value. view value ≡ audit_json has_rows audit.now) }
 {
     let syntax = known_json(audit.syntax.is_standard());
@@ -239,7 +262,7 @@ fn audit_json(alloc: Global, has_rows: bool, audit: &Audit<'_, '_>) -> Result<Va
         "agents": agents_json(alloc, &audit.agents)?,
         "has_rfc_9309_syntax": syntax,
         "has_rfc_9309_verdicts": verdicts,
-        "lines": rows_json(alloc, has_rows, &audit.labels)?,
+        "lines": rows_json(alloc, has_rows, audit.bytes, &audit.labels)?,
         "sitemaps": sitemaps_json(alloc, &audit.labels)?,
         "warnings": warnings_json(alloc, &audit.warnings)?,
     })
@@ -256,7 +279,7 @@ pub(crate) fn json_line(alloc: Global, value: &Value) -> Result<String, AllocErr
 }
 
 /// The audit as one line of JSON.
-pub fn json_text(alloc: Global, has_rows: bool, audit: &Audit<'_, '_>) -> Result<String, AllocError>
+pub fn json_text(alloc: Global, has_rows: bool, audit: &Audit<'_>) -> Result<String, AllocError>
     ensures { IfOk result (λ text. string_bytes text ≡ json_text has_rows audit.now) }
 {
     json_line(alloc, &audit_json(alloc, has_rows, audit)?)

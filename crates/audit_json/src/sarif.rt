@@ -307,7 +307,7 @@ fn log_json(alloc: Global, uri: &str, findings: &[Finding]) -> Result<Value, All
 }
 
 /// The log of the findings of an audit of the file with this name, as one line of JSON.
-pub fn sarif_text(alloc: Global, file: &str, audit: &Audit<'_, '_>) -> Result<String, AllocError>
+pub fn sarif_text(alloc: Global, file: &str, audit: &Audit<'_>) -> Result<String, AllocError>
     ensures { IfOk result (λ text. string_bytes text ≡ sarif_text file.now (findings audit.now)) }
 {
     let findings = findings_of(alloc, audit)?;

@@ -73,7 +73,7 @@ fn push_summary(
     alloc: Global,
     page: &mut Page,
     agent: Option<&str>,
-    audit: &Audit<'_, '_>,
+    audit: &Audit<'_>,
 ) -> Result<(), AllocError>
     ensures { OnOk result (page.new.out.items ≡ page.old.out.items
         ++ written (summary (option_map (λ agent. agent.now) agent.entry) audit.now)) }
@@ -92,7 +92,7 @@ fn push_content(
     alloc: Global,
     page: &mut Page,
     request: &Request<'_>,
-    audit: &Audit<'_, '_>,
+    audit: &Audit<'_>,
 ) -> Result<(), AllocError>
     ensures { OnOk result (page.new.out.items ≡ page.old.out.items
         ++ written (page_content (requested_by request.now) audit.now)) }
@@ -109,7 +109,7 @@ fn push_page(
     alloc: Global,
     page: &mut Page,
     request: &Request<'_>,
-    audit: &Audit<'_, '_>,
+    audit: &Audit<'_>,
 ) -> Result<(), AllocError>
     ensures { OnOk result (page.new.out.items ≡ page.old.out.items
         ++ written (page_tree (requested_by request.now) audit.now)) }
@@ -129,7 +129,7 @@ fn push_page(
 pub fn page_text(
     alloc: Global,
     request: &Request<'_>,
-    audit: &Audit<'_, '_>,
+    audit: &Audit<'_>,
 ) -> Result<Vec<u8>, AllocError>
     ensures { IfOk result (λ text. text.items
         ≡ document (page (requested_by request.now) audit.now)) }

@@ -1,14 +1,18 @@
 -- How warnings are counted, and which of them are listed.
 use Rattle.std.proofs.Common.{◌≡◌, ◌∙◌, ℕ, ◌+◌, ◌-◌, ◌<◌, ◌≤◌, Bool, List, [], ◌∷◌, ◌++◌, ap, ap₂}
-use Rattle.std.proofs.Common.{append_assoc, arith, cond, drop, if◌then◌else◌, length, map, slice_index_or}
-use Rattle.std.proofs.Common.{sym, take}
+use Rattle.std.proofs.Common.{append_assoc, arith, cond, drop, filter_map, if◌then◌else◌, length, map, not}
+use Rattle.std.proofs.Common.{slice_index_or, sym, take, ◌&&◌, ◌||◌}
+use Rattle.std.specs.List.{list_any}
 use Rattle.std.proofs.lemmas.List.{drop_more, length-take-le, map-append, take_more}
+use Rattle.std.proofs.lemmas.List.Elements.{filter_map-append}
 use Rattle.std.proofs.lemmas.List.Sums.{count_by-le-length, sum_by_push}
 use Rattle.audit_text.specs.Internal.Listed.{AreCounts, Counts, counted}
-use Rattle.audit_text.specs.Listed.{count_like, count_of, is_like, more_of, most, placed}
+use Rattle.audit_text.specs.Joined.{is_first, is_joined, is_joined_as, line_as, placed}
+use Rattle.audit_text.specs.Listed.{count_like, count_of, is_like, more_of, most}
 use Rattle.audit_text.specs.declared.listed.More.{More}
 use Rattle.printable_text.specs.declared.level.Level.{Level}
-use Rattle.robots_warnings.specs.{Table.level_of, Table.name_of, WarningValue.WarningValue}
+use Rattle.robots_warnings.specs.{Table.level_of, Table.name_of, Table.number_of, WarningValue.WarningValue}
+use Rattle.robots_warnings.proofs.NameLemmas.{any_last}
 use Rattle.robots_warnings.specs.declared.table.Cause.{Cause}
 
 -- there are at most as many warnings with a name and a level as there are warnings
@@ -39,21 +43,20 @@ counted_next counts new warnings at warning cause below same are more_at name le
     ∙ sym (sum_by_push (λ (warning : WarningValue). cond (is_like name level warning.cause) 1 0)
     (take at warnings) (slice_index_or warnings at warning)))
 
--- loop step: one more warning is appended if its place passes the test
-pub placed_next : (test : ℕ → Bool) (warnings : List WarningValue) (at : ℕ) (warning : WarningValue)
-    (place : ℕ)
-    (found new all : List WarningValue) → at < length warnings
-    → place ≡ count_like (slice_index_or warnings at warning).cause (take at warnings)
-    → new ≡ found ++ (if test place then slice_index_or warnings at warning ∷ [] else [])
+-- loop step: one more warning is appended if it passes the test
+pub placed_next : (test : List WarningValue → WarningValue → Bool) (warnings : List WarningValue) (at : ℕ)
+    (warning : WarningValue) (holds : Bool) (found new all : List WarningValue) → at < length warnings
+    → holds ≡ test (take at warnings) (slice_index_or warnings at warning)
+    → new ≡ found ++ (if holds then slice_index_or warnings at warning ∷ [] else [])
     → found ++ placed test (take at warnings) (drop at warnings) ≡ all
     → new ++ placed test (take (at + 1) warnings) (drop (at + 1) warnings) ≡ all
-placed_next test warnings at warning place found new all below is added so_far =
+placed_next test warnings at warning holds found new all below is added so_far =
     let item = slice_index_or warnings at warning in
     let later = placed test (take at warnings ++ item ∷ []) (drop (at + 1) warnings) in
     rw (take_more warnings at warning below)
     (ap (λ (front : List WarningValue). front ++ later) added
-    ∙ append_assoc found (if test place then item ∷ [] else []) later
-    ∙ ap (λ n. found ++ ((if test n then item ∷ [] else []) ++ later)) is
+    ∙ append_assoc found (if holds then item ∷ [] else []) later
+    ∙ ap (λ holds. found ++ ((if holds then item ∷ [] else []) ++ later)) is
     ∙ rw (drop_more warnings at warning below) at so_far)
 
 -- loop step: one more name and level, and how many warnings with both aren't listed
@@ -70,3 +73,35 @@ more_next warnings unlisted at warning cause found number counts are below same 
     (ap (λ number. record { cause = cause; number = number })
     (is ∙ ap (λ n. n - most) (are (name_of cause) (level_of cause)))
     ∙ ap (λ cause. record { cause = cause; number = count_like cause warnings - most }) same))
+
+-- ---- joined notes
+
+-- loop step: the reason of one more note is known
+pub met_next : (warnings : List WarningValue) (at : ℕ) (warning : WarningValue) (number : ℕ) (old new : Bool)
+    → at < length warnings → old ≡ list_any (is_joined_as number) (take at warnings)
+    → new ≡ (old || is_joined_as number (slice_index_or warnings at warning))
+    → new ≡ list_any (is_joined_as number) (take (at + 1) warnings)
+met_next warnings at warning number old new below is added =
+    rw (take_more warnings at warning below)
+    (added ∙ ap (λ b. b || is_joined_as number (slice_index_or warnings at warning)) is
+    ∙ sym (any_last (is_joined_as number) (take at warnings) (slice_index_or warnings at warning)))
+
+-- whether a warning is the first with its message
+pub first_is : (before : List WarningValue) (warning : WarningValue) (has holds : Bool)
+    → has ≡ list_any (is_joined_as (number_of warning.cause)) before
+    → holds ≡ not (is_joined warning && has) → holds ≡ is_first before warning
+first_is before warning has holds same is = is ∙ ap (λ has. not (is_joined warning && has)) same
+
+-- loop step: one more line is appended, if it is one of a note with this reason
+pub lines_next : (number : ℕ) (warnings : List WarningValue) (at : ℕ) (warning : WarningValue)
+    (found new all : List ℕ) → at < length warnings
+    → new ≡ found ++ filter_map (line_as number) (slice_index_or warnings at warning ∷ [])
+    → found ++ filter_map (line_as number) (drop at warnings) ≡ all
+    → new ++ filter_map (line_as number) (drop (at + 1) warnings) ≡ all
+lines_next number warnings at warning found new all below added so_far =
+    let here = slice_index_or warnings at warning ∷ [] in
+    let later = drop (at + 1) warnings in
+    ap (λ (front : List ℕ). front ++ filter_map (line_as number) later) added
+    ∙ append_assoc found (filter_map (line_as number) here) (filter_map (line_as number) later)
+    ∙ ap (λ (rest : List ℕ). found ++ rest) (sym (filter_map-append (line_as number) here later))
+    ∙ rw (drop_more warnings at warning below) at so_far

@@ -1,4 +1,8 @@
+pub mod Counts
+pub mod Joined
 pub mod Listed
+pub mod Verdicts
+pub mod Crawlers
 pub mod Report
 pub mod Explain
 pub mod Github

@@ -28,7 +28,7 @@ fn keep_all_denied(agents: &mut [AgentAudit<'_>])
 }
 
 /// The audit that is reported: all of it, or if `denied_only` is true that with the denied URLs alone.
-pub fn shown<'a, 'b>(denied_only: bool, audit: Audit<'a, 'b>) -> Audit<'a, 'b>
+pub fn shown<'a>(denied_only: bool, audit: Audit<'a>) -> Audit<'a>
     ensures { result ≡ shown denied_only audit.entry }
 {
     let mut reported = audit;

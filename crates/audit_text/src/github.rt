@@ -89,7 +89,7 @@ fn push_commands(out: &mut Vec<u8>, file: &str, findings: &[Finding]) -> Result<
 }
 
 /// The commands for the findings of an audit of the file with this name.
-pub fn github_text(alloc: Global, file: &str, audit: &Audit<'_, '_>) -> Result<Vec<u8>, AllocError>
+pub fn github_text(alloc: Global, file: &str, audit: &Audit<'_>) -> Result<Vec<u8>, AllocError>
     ensures { IfOk result (λ text. text.items ≡ github_text file.now (findings audit.now)) }
 {
     let findings = findings_of(alloc, audit)?;

@@ -2,9 +2,13 @@
 //! explanation of one; what `--denied` leaves out of a report.
 #![tactic(auto)]
 
+mod counts;
+mod crawlers;
 pub mod denied;
 pub mod explain;
 pub mod github;
+mod joined;
 pub mod laws;
 mod listed;
 pub mod report;
+mod verdicts;

@@ -1,10 +1,12 @@
-//! Which warnings the text lists: the first twenty of each name and level. For the others it has their number.
-ghost use Rattle.std.specs.Prelude.{◌≡◌, ℕ, ◌+◌, ◌<◌, ◌++◌, ◌∷◌, [], IfOk, List, OnOk, if◌then◌else◌, map};
+//! Which warnings the text lists: of those that are left when notes are joined, the first twenty of each name and
+//! level. For the others it has their number.
+ghost use Rattle.std.specs.Prelude.{◌≡◌, ℕ, ◌+◌, ◌<◌, IfOk, List, OnOk, if◌then◌else◌, map};
 ghost use Rattle.audit_text.specs.Internal.Listed.{AreCounts, counted};
-ghost use Rattle.audit_text.specs.Listed.{is_like, listed, more, more_of, unlisted};
+ghost use Rattle.audit_text.specs.Listed.{first_many, is_like, listed, more, more_of, unlisted};
 ghost use Rattle.printable_text.specs.declared.level.Level.{Level};
 ghost use Rattle.robots_warnings.specs.{Table.level_of, Table.name_of, WarningValue.WarningValue};
 
+use crate::joined::{joined, push_if};
 use robots_warnings::table::Cause;
 use robots_warnings::warning::Warning;
 use std::alloc::{AllocError, Global};
@@ -38,21 +40,6 @@ struct Tally<'a> {
     unlisted: Vec<Warning<'a>>,
 }
 
-/// Appends the warning if `holds` is true.
-fn push_if<'a>(
-    found: &mut Vec<Warning<'a>>,
-    holds: bool,
-    warning: &Warning<'a>,
-) -> Result<(), AllocError>
-    ensures { OnOk result (found.new.items ≡ found.old.items
-        ++ (if holds then warning.now ∷ [] else [])) }
-{
-    if holds {
-        found.push(warning.copy())?;
-    }
-    Ok(())
-}
-
 /// How many warnings with the name and the level of this one have been counted.
 fn counted(counts: &Counts, cause: Cause) -> usize
     ensures { result ≡ counted counts.now (name_of cause) (level_of cause) }
@@ -77,7 +64,7 @@ fn count(counts: &mut Counts, cause: Cause) -> Result<usize, AllocError>
 fn tally_of<'a>(alloc: Global, warnings: &[Warning<'a>]) -> Result<Tally<'a>, AllocError>
     ensures counts { IfOk result (λ tally. AreCounts tally.counts warnings.now) }
     ensures listed { IfOk result (λ tally. tally.listed.items
-        ≡ listed warnings.now) }
+        ≡ first_many warnings.now) }
     ensures unlisted { IfOk result (λ tally. tally.unlisted.items
         ≡ unlisted warnings.now) }
 {
@@ -114,8 +101,7 @@ fn more_in(
     Ok(found)
 }
 
-/// The first twenty warnings of each name and level, in order, and how many more there are, in the order of the first of
-/// them.
+/// The first twenty of each name and level, in order, and how many more there are, in the order of the first of them.
 pub(crate) fn listing_of<'a>(
     alloc: Global,
     warnings: &[Warning<'a>],
@@ -124,7 +110,7 @@ pub(crate) fn listing_of<'a>(
         ≡ listed warnings.now) }
     ensures more { IfOk result (λ found. found.more.items ≡ more warnings.now) }
 {
-    let tally = tally_of(alloc, warnings)?;
+    let tally = tally_of(alloc, &joined(alloc, warnings)?)?;
     let more = more_in(alloc, &tally.counts, &tally.unlisted)?;
     Ok(Listing {
         warnings: tally.listed,

@@ -1,77 +1,54 @@
 //! The audit as lines of text.
-ghost use Rattle.std.specs.Prelude.{◌≡◌, ◌++◌, ◌∷◌, [], IfOk, OnOk, flat_map, map, string_bytes};
-ghost use Rattle.printable_text.specs.Text.{level_text, line_text, named_text, part_text, value_text, written};
-ghost use Rattle.printable_text.specs.{Lines.ended, Raw.raw_line, Raw.raw_text, Raw.raw_value};
-ghost use Rattle.audit_core.specs.Syntax.{syntax_lines};
-ghost use Rattle.audit_text.specs.Report.{agent_lines, deciding, line_about, listed_lines, more_line};
-ghost use Rattle.audit_text.specs.Report.{numbers_line, place_part, report_lines, shown_warning, verdict_line};
+ghost use Rattle.std.specs.Prelude.{◌≡◌, ◌++◌, ◌∷◌, [], IfOk, OnOk, map, string_bytes};
+ghost use Rattle.printable_text.specs.Text.{level_text, named_text, part_text, parts_text, written};
+ghost use Rattle.printable_text.specs.{Lines.ended, Raw.raw_line, Raw.raw_text};
+ghost use Rattle.audit_core.specs.{Request.requested_by, Syntax.syntax_lines};
+ghost use Rattle.audit_text.specs.Report.{agent_lines, agents_lines, line_about, listed_lines, listed_warning};
+ghost use Rattle.audit_text.specs.Report.{more_line, name_parts, numbers_line, place_part, report_lines};
+ghost use Rattle.audit_text.specs.Report.{shown_parts, shown_warning};
 
+use crate::counts::push_counts;
+use crate::crawlers::{push_all_verdicts, push_crawlers};
 use crate::denied::Totals;
+use crate::joined::{also_parts, shared_lines};
 use crate::listed::{More, listing_of};
-use audit_core::audit::{AgentAudit, Audit, Verdict};
+use crate::verdicts::push_verdicts;
+use audit_core::audit::{AgentAudit, Audit};
+use audit_core::request::Request;
 use audit_core::rows::push_rows;
 use audit_core::syntax::{Syntax, VERDICTS_SENTENCE};
 use audit_core::texts::{delay_value, push_group, push_rejected};
 use printable_text::level::shown_word;
 use printable_text::lines::{push_line, push_number};
 use printable_text::parts::{Part, Value, push_line_of, push_parts};
-use robots_warnings::warning::{Warning, push_reported};
+use robots_warnings::table::Cause;
+use robots_warnings::warning::{Warning, push_warning_text};
 use std::alloc::{AllocError, Global};
-
-/// The line that decides.
-fn deciding(line: Option<usize>) -> Value<'static>
-    ensures { raw_value result ≡ value_text (deciding line) }
-{
-    match line {
-        Some(line) => Value::Number(line),
-        None => Value::Word("-"),
-    }
-}
-
-/// The line with the verdict on a URL.
-fn verdict_line<'a>(verdict: &Verdict<'a>) -> [Part<'a>; 2]
-    ensures { raw_line result ≡ line_text (verdict_line verdict.now) }
-{
-    [
-        Part(
-            if verdict.decision.allowed {
-                "allow "
-            } else {
-                "deny "
-            },
-            deciding(verdict.decision.line),
-        ),
-        Part(" ", Value::Untrusted(verdict.url.as_bytes())),
-    ]
-}
-
-/// Appends a line for each verdict.
-fn push_verdicts(text: &mut String, verdicts: &[Verdict<'_>]) -> Result<(), AllocError>
-    ensures { OnOk result (string_bytes text.new ≡ string_bytes text.old
-        ++ written (map verdict_line verdicts.now)) }
-{
-    for verdict in verdicts {
-        push_line_of(text, &verdict_line(verdict))?;
-    }
-    Ok(())
-}
 
 /// Appends the lines about a crawler: its group, its delay, whether the file is rejected for it, and its verdicts.
 fn push_agent(text: &mut String, agent: &AgentAudit<'_>) -> Result<(), AllocError>
     ensures { OnOk result (string_bytes text.new ≡ string_bytes text.old
         ++ written (agent_lines agent.now)) }
 {
-    push_group(text, &agent.agent, agent.group)?;
+    push_group(text, agent.agent, agent.group)?;
     push_line_of(text, &[Part("delay: ", delay_value(agent.delay))])?;
-    push_rejected(text, &agent.agent, agent.rejected)?;
-    push_verdicts(text, &agent.verdicts)
+    push_rejected(text, agent.agent, agent.rejected)?;
+    push_verdicts(text, None, &agent.verdicts)
 }
 
 /// Appends the lines about each crawler.
-fn push_agents(text: &mut String, agents: &[AgentAudit<'_>]) -> Result<(), AllocError>
+fn push_agents(
+    text: &mut String,
+    is_single: bool,
+    agents: &[AgentAudit<'_>],
+) -> Result<(), AllocError>
     ensures { OnOk result (string_bytes text.new ≡ string_bytes text.old
-        ++ written (flat_map agent_lines agents.now)) }
+        ++ written (agents_lines is_single agents.now)) }
 {
+    if !is_single {
+        push_crawlers(text, agents)?;
+        return push_all_verdicts(text, agents);
+    }
     for agent in agents {
         push_agent(text, agent)?;
     }
@@ -91,19 +68,19 @@ fn push_syntax(text: &mut String, syntax: Syntax) -> Result<(), AllocError>
     Ok(())
 }
 
-/// The report on an audit, with or without rows.
+/// The requested report on an audit.
 pub fn report_text(
     alloc: Global,
-    has_rows: bool,
-    audit: &Audit<'_, '_>,
+    request: &Request<'_>,
+    audit: &Audit<'_>,
 ) -> Result<String, AllocError>
-    ensures { IfOk result (λ text. string_bytes text ≡ written (report_lines has_rows audit.now)) }
+    ensures { IfOk result (λ text. string_bytes text ≡ written (report_lines (requested_by request.now) audit.now)) }
 {
     let mut text = String::with_capacity(alloc, audit.labels.len())?;
-    if has_rows {
-        push_rows(&mut text, &audit.labels)?;
+    if request.has_rows() {
+        push_rows(&mut text, audit.bytes, &audit.labels)?;
     }
-    push_agents(&mut text, &audit.agents)?;
+    push_agents(&mut text, request.agent.is_some(), &audit.agents)?;
     push_syntax(&mut text, audit.syntax)?;
     Ok(text)
 }
@@ -146,34 +123,58 @@ fn front_of<'a>(has_colors: bool, file: &'a str, warning: &Warning<'_>) -> [Part
     ]
 }
 
-/// Appends a warning about the file with this name, its level in color if there are colors.
+/// The name of a warning in brackets.
+fn name_parts(cause: Cause) -> [Part<'static>; 2]
+    ensures { raw_line result ≡ parts_text (name_parts cause) }
+{
+    [
+        Part(" [", Value::Word(cause.name())),
+        Part("]", Value::Nothing),
+    ]
+}
+
+/// Appends the message of a warning, the lines of other notes, and the name.
+fn push_shown(text: &mut String, lines: &[usize], warning: &Warning<'_>) -> Result<(), AllocError>
+    ensures { OnOk result (string_bytes text.new ≡ string_bytes text.old
+        ++ parts_text (shown_parts lines.now warning.now)) }
+{
+    push_warning_text(text, warning)?;
+    push_parts(text, &also_parts(lines))?;
+    push_parts(text, &name_parts(warning.cause))
+}
+
+/// Appends a warning about the file with this name, its level in color if there are colors; `lines` are those of all
+/// notes that are written as this one.
 fn push_warning(
     text: &mut String,
     has_colors: bool,
     file: &str,
+    lines: &[usize],
     warning: &Warning<'_>,
 ) -> Result<(), AllocError>
     ensures { OnOk result (string_bytes text.new ≡ string_bytes text.old
-        ++ ended (level_text has_colors (shown_warning file.now warning.now) ∷ [])) }
+        ++ ended (level_text has_colors (shown_warning file.now lines.now warning.now) ∷ [])) }
 {
     push_parts(text, &front_of(has_colors, file, warning))?;
-    push_reported(text, warning)?;
+    push_shown(text, lines, warning)?;
     text.push('\n')
 }
 
-/// The warnings about the file with this name, one per line.
+/// The listed warnings about the file with this name, one per line; `all` are all warnings.
 fn warning_lines(
     alloc: Global,
     has_colors: bool,
     file: &str,
-    warnings: &[Warning<'_>],
+    all: &[Warning<'_>],
+    listed: &[Warning<'_>],
 ) -> Result<String, AllocError>
     ensures { IfOk result (λ text. string_bytes text ≡ ended (map (level_text has_colors)
-        (map (shown_warning file.now) warnings.now))) }
+        (map (listed_warning file.now all.now) listed.now))) }
 {
     let mut text = String::new(alloc);
-    for warning in warnings {
-        push_warning(&mut text, has_colors, file, warning)?;
+    for warning in listed {
+        let lines = shared_lines(alloc, warning, all)?;
+        push_warning(&mut text, has_colors, file, &lines, warning)?;
     }
     Ok(text)
 }
@@ -191,7 +192,8 @@ fn more_line<'a>(file: &'a str, more: &More) -> [Part<'a>; 5]
     ]
 }
 
-/// The warnings about the file with this name that are listed, and how many more there are.
+/// The warnings about the file with this name that are listed, how many more there are, and how many there are of each
+/// level.
 pub fn listed_lines(
     alloc: Global,
     has_colors: bool,
@@ -202,9 +204,10 @@ pub fn listed_lines(
         ≡ ended (listed_lines has_colors file.now warnings.now)) }
 {
     let found = listing_of(alloc, warnings)?;
-    let mut text = warning_lines(alloc, has_colors, file, &found.warnings)?;
+    let mut text = warning_lines(alloc, has_colors, file, warnings, &found.warnings)?;
     for more in &found.more {
         push_line_of(&mut text, &more_line(file, more))?;
     }
+    push_counts(&mut text, file, warnings)?;
     Ok(text)
 }

@@ -12,7 +12,7 @@ use crate::rules::{after_byte, before_byte, begins_oddly, has, is_utf8, place};
 
 /// The tail, which is between the first colon and the comment, and the comment, which starts with `#` and is empty if
 /// there is none.
-pub(crate) fn split_content<'a>(body: &'a [u8]) -> (&'a [u8], &'a [u8])
+pub fn split_content<'a>(body: &'a [u8]) -> (&'a [u8], &'a [u8])
     ensures tail { result.0.now ≡ tail_of body.now }
     ensures comment { result.1.now ≡ comment_of body.now }
 {

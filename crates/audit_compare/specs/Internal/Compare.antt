@@ -2,7 +2,6 @@
 use Rattle.std.specs.Prelude.{◌≡◌, ℕ, Bool, List, flat_map, if◌then◌else◌, map, string_bytes, take}
 use Rattle.std.specs.{BTreeSet.contains_text, List.AllZip, List.list_all, List.list_any}
 use Rattle.texting_robots.specs.Callers.{PlacedRule, Rule, file_limit, label_by_value, lines_read}
-use Rattle.texting_robots.specs.Group.{is_agent}
 use Rattle.robots_warnings.specs.File.{lines_of}
 use Rattle.printable_text.specs.Text.{written}
 use Rattle.audit_compare.specs.declared.compare.Comparison.{Comparison}
@@ -28,7 +27,6 @@ pub record HasRules (rules : List PlacedRule) (set : RuleSet) : Type 0 where
 pub record IsVersion (version : Version) : Type 0 where
   pub site : version.site ≡ take file_limit version.bytes.now
   pub lines : lines_of (map label_by_value version.labels.items) ≡ lines_read version.bytes.now
-  pub agents : version.has_agents ≡ list_any is_agent (lines_read version.bytes.now)
 
 -- ---- reports
 

@@ -1,5 +1,5 @@
 -- The fields of an audit and its parts as values.
-use Rattle.std.specs.Prelude.{map, string_bytes}
+use Rattle.std.specs.Prelude.{map}
 use Rattle.texting_robots.specs.Callers.{label_by_value}
 use Rattle.audit_core.specs.Audit.{AgentValue, AuditValue, VerdictValue}
 use Rattle.audit_core.specs.declared.audit.AgentAudit.TheInside.{Inside as InsideAgent}
@@ -11,8 +11,11 @@ verdict_of verdict = record { url = verdict.url.now; decision = verdict.decision
 
 abbrev pub agent_of : InsideAgent → AgentValue
 agent_of audit = record {
-  agent = string_bytes audit.agent;
+  agent = audit.agent.now;
   group = audit.group;
+  group_line = audit.group_line;
+  rules = audit.rules;
+  reach = audit.reach;
   delay = audit.delay;
   rejected = audit.rejected;
   verdicts = audit.verdicts.items;
@@ -20,6 +23,7 @@ agent_of audit = record {
 
 abbrev pub audit_of : InsideAudit → AuditValue
 audit_of audit = record {
+  bytes = audit.bytes.now;
   labels = map label_by_value audit.labels.items;
   agents = audit.agents.items;
   warnings = audit.warnings.items;

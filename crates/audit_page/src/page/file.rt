@@ -174,7 +174,7 @@ fn push_file_content(
     alloc: Global,
     page: &mut Page,
     agent: Option<&str>,
-    audit: &Audit<'_, '_>,
+    audit: &Audit<'_>,
 ) -> Result<(), AllocError>
     ensures { OnOk result (page.new.out.items ≡ page.old.out.items
         ++ written (file_content (option_map (λ agent. agent.now) agent.entry) audit.now)) }
@@ -190,7 +190,7 @@ pub(crate) fn push_file_table(
     alloc: Global,
     page: &mut Page,
     agent: Option<&str>,
-    audit: &Audit<'_, '_>,
+    audit: &Audit<'_>,
 ) -> Result<(), AllocError>
     ensures { OnOk result (page.new.out.items ≡ page.old.out.items
         ++ written (file_table (option_map (λ agent. agent.now) agent.entry) audit.now)) }

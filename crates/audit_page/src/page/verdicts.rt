@@ -131,7 +131,7 @@ fn push_group_note(page: &mut Page, agent: &AgentAudit<'_>) -> Result<(), AllocE
     ensures { OnOk result (page.new.out.items ≡ page.old.out.items ++ written (group_note agent.now)) }
 {
     page.text.clear();
-    push_group_text(&mut page.text, &agent.agent, agent.group)?;
+    push_group_text(&mut page.text, agent.agent, agent.group)?;
     push_text(&mut page.out, page.text.as_bytes())?;
     push_rejection(page, agent.rejected)
 }

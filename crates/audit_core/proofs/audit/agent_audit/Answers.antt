@@ -1,35 +1,22 @@
-use Rattle.std.proofs.Common.{None, ap, refl, string_bytes, sym, ◌∙◌}
-use Rattle.std.specs.List.{list_any}
-use Rattle.texting_robots.specs.{Callers.RobotValue, Callers.file_lines, Group.is_agent}
-use Rattle.audit_core.specs.Audit.{group_of}
-use Rattle.audit_core.proofs.AuditLemmas.{agent_made, delay_read}
+use Rattle.std.proofs.Common.{ap, length, refl, sym, ◌∙◌}
+use Rattle.texting_robots.specs.Callers.{file_lines, placed_rules}
+use Rattle.audit_core.specs.Audit.{group_of, naming_line}
+use Rattle.robots_warnings.specs.Closed.{reach_of}
+use Rattle.audit_core.proofs.AuditLemmas.{delay_read}
 use Rattle.audit_core.proofs.audit.agent_audit.Goals as goal
 
-pub group_of-group-requires : goal.group_of-group-requires
-group_of-group-requires c =
-    c.requires.agents ∙ sym (ap (λ text. list_any is_agent (file_lines text)) c.requires.site)
+pub naming_line-requires : goal.naming_line-requires
+naming_line-requires c = c.requires.lines ∙ sym (ap file_lines c.requires.site)
 
-pub returns-in_ok-verdicts-in-Accepted-clause-ok : goal.returns-in_ok-verdicts-in-Accepted-clause-ok
-returns-in_ok-verdicts-in-Accepted-clause-ok c =
-    agent_made _ c.args.file.now c.args.agent.now (record {
-      agent = string_bytes c.in_ok-name.name;
-      group = c.group_of-group.result;
-      delay = c.robot.inside.delay;
-      rejected = None;
-      verdicts = c.in_ok-verdicts-in-Accepted.verdicts.items;
-    }) c.in-Accepted.robot
-    (rw c.in-Accepted.is at c.in_ok-robot.ensures.ok) c.in_ok-name.ensures.ok
-    (c.group_of-group.ensures ∙ ap (λ text. group_of c.args.agent.now (file_lines text)) c.requires.site)
-    (ap (λ (r : RobotValue). r.delay) c.robot.view_is) refl c.in_ok-verdicts-in-Accepted.ensures.ok
-
-pub returns-in-Rejected-clause-ok : goal.returns-in-Rejected-clause-ok
-returns-in-Rejected-clause-ok c = record {
-  agent_is = c.in_ok-name.ensures.ok;
-  group_is = c.group_of-group.ensures
-      ∙ ap (λ text. group_of c.args.agent.now (file_lines text)) c.requires.site;
-  delay_is = delay_read c.args.agent.now c.args.file.now _ (rw c.requires.site at c.delay.ensures);
-  ruling = (
-    rw c.in-Rejected.is at c.in_ok-robot.ensures.ok,
-    c.new.ensures.items,
-  );
-}
+pub returns-clause-ok : goal.returns-clause-ok
+returns-clause-ok c =
+    let agent = c.args.agent.now in record {
+      agent_is = refl;
+      group_is = c.group_of.ensures ∙ ap (λ text. group_of agent (file_lines text)) c.requires.site;
+      line_is = c.naming_line.ensures ∙ ap (λ text. naming_line agent (file_lines text)) c.requires.site;
+      rules_are = c.in_ok-rules.ensures
+          ∙ ap (λ text. length (placed_rules agent (file_lines text))) c.requires.site;
+      reach_is = c.in_ok-reach.ensures ∙ ap (λ text. reach_of (file_lines text) agent) c.requires.site;
+      delay_is = delay_read agent c.args.file.now _ (rw c.requires.site at c.delay.ensures);
+      ruling = c.in_ok-rejected.ensures.ok;
+    }

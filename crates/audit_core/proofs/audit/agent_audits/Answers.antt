@@ -1,4 +1,4 @@
-use Rattle.std.proofs.Common.{map, string_bytes}
+use Rattle.std.proofs.Common.{map}
 use Rattle.texting_robots.specs.Callers.{lines_read}
 use Rattle.audit_core.specs.Audit.{IsAgentAudit}
 use Rattle.audit_core.proofs.AuditLemmas.{zip_next}
@@ -7,7 +7,7 @@ use Rattle.audit_core.proofs.audit.agent_audits.Goals as goal
 pub loop-agent-preserved : goal.loop-agent-preserved
 loop-agent-preserved c =
     rw c.in_ok-push.ensures.items
-    (zip_next (IsAgentAudit (map (λ url. url.now) c.args.urls.now) (lines_read c.args.file.now)) string_bytes
-    c.args.agents.now c.loop-agent.agent-index c.agent-item.result c.loop-agent.audits.items _
+    (zip_next (IsAgentAudit (map (λ url. url.now) c.args.urls.now) (lines_read c.args.file.now))
+    (λ agent. agent.now) c.args.agents.now c.loop-agent.agent-index _ c.loop-agent.audits.items _
     c.loop-agent-test.true c.loop-agent.invariant
-    (rw (c.deref.ensures, c.agent-item.is) at c.in_ok-agent_audit.ensures.ok))
+    c.in_ok-agent_audit.ensures.ok)

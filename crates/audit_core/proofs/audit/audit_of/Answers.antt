@@ -1,30 +1,28 @@
-use Rattle.std.proofs.Common.{ap, map, string_bytes, ◌∙◌}
-use Rattle.std.specs.List.{list_any}
-use Rattle.texting_robots.specs.{Callers.lines_read, Callers.label_by_value, Group.is_agent}
+use Rattle.std.proofs.Common.{ap, map, ◌∙◌}
+use Rattle.texting_robots.specs.Callers.{label_by_value, lines_read}
 use Rattle.audit_core.specs.Request.{requested_by}
 use Rattle.audit_core.proofs.AuditLemmas.{lines_labeled, names_requested}
 use Rattle.robots_warnings.specs.File.{lines_of}
 use Rattle.audit_core.proofs.audit.audit_of.Goals as goal
 
-pub agent_audits-requires-clause-agents : goal.agent_audits-requires-clause-agents
-agent_audits-requires-clause-agents c =
-    ap (λ facts. facts.kinds.user_agent) c.facts_of-facts.ensures
-    ∙ ap (λ labels. list_any is_agent (lines_of (map label_by_value labels))) c.deref.ensures.value
-    ∙ ap (λ labels. list_any is_agent (lines_of labels)) c.in_ok-labels.ensures
-    ∙ ap (list_any is_agent) (lines_labeled c.labeling_agent.result.now (lines_read c.args.file.now))
+pub agent_audits-requires-clause-lines : goal.agent_audits-requires-clause-lines
+agent_audits-requires-clause-lines c =
+    ap (λ labels. lines_of (map label_by_value labels)) c.deref-5.ensures.value
+    ∙ ap lines_of c.in_ok-labels.ensures
+    ∙ lines_labeled c.labeling_agent.result.now (lines_read c.args.file.now)
 
 pub returns-clause-ok : goal.returns-clause-ok
 returns-clause-ok c =
     let names = names_requested (requested_by c.args.request.now).agents c.labeling_agent.result.now
     (lines_read c.args.file.now) c.in_ok-labels.labels.items c.deref-3.result.now
-    (map string_bytes c.in_ok-names.names.items) (rw c.deref-2.ensures.value at c.in_ok-names.ensures)
+    (map (λ name. name.now) c.in_ok-names.names.items) (rw c.deref-2.ensures.value at c.in_ok-names.ensures)
     c.deref-3.ensures.value
     c.in_ok-labels.ensures in
     let all = rw (
-      c.deref-6.ensures.value,
-      names,
       c.deref-7.ensures.value,
+      names,
       c.deref-8.ensures.value,
+      c.deref-9.ensures.value,
       c.facts_of-facts.ensures,
       c.deref.ensures.value,
       c.in_ok-labels.ensures,
@@ -37,13 +35,14 @@ returns-clause-ok c =
       unrequested = c.in_ok-needless.ensures.unrequested;
       too_large = λ large. c.in_ok-needless.ensures.too_large
           (ap (λ facts. facts.is_too_large) c.facts_of-facts.ensures ∙ large);
+      bytes_are = c.counted.ensures;
       labels_are = rw c.labeling_agent.ensures at c.in_ok-labels.ensures;
-      agents_are = rw (c.deref-4.ensures.value, names, c.deref-5.ensures.value) at c.in_ok-agents.ensures.ok;
-      warnings_are = rw (c.deref-11.ensures.value, c.deref-12.ensures.value, all) at c.choose.ensures;
+      agents_are = rw (c.deref-4.ensures.value, names, c.deref-6.ensures.value) at c.in_ok-agents.ensures.ok;
+      warnings_are = rw (c.deref-12.ensures.value, c.deref-13.ensures.value, all) at c.choose.ensures;
       syntax_is = rw (
         c.rejects_some-is_rejected.ensures,
-        c.deref-9.ensures.value,
         c.deref-10.ensures.value,
+        c.deref-11.ensures.value,
         all,
         c.facts_of-facts.ensures,
       ) at c.syntax_of-syntax.ensures;

@@ -1,6 +1,6 @@
 use Rattle.std.proofs.Common.{◌<◌, ap, arith, take, ◌==◌, ◌∙◌}
 use Rattle.std.specs.Bool.{nat_lt}
-use Rattle.audit_text.specs.Listed.{count_like, most}
+use Rattle.audit_text.specs.Listed.{count_like, is_early, is_next, most}
 use Rattle.robots_warnings.specs.WarningValue.{WarningValue}
 use Rattle.audit_text.proofs.ListedLemmas.{counted_next, counted_fits, placed_next}
 use Rattle.audit_text.proofs.listed.tally_of.Goals as goal
@@ -22,10 +22,10 @@ loop-warning-preserved c =
     record {
       counts = counted_next c.loop-warning.counts c.count.new.counts warnings at _ _ c.loop-warning-test.true
           same so_far.counts c.in_ok-place.ensures.counts;
-      listed = placed_next (λ place. nat_lt place most) warnings at _ c.in_ok-place.place
-          c.loop-warning.listed.items _ _ c.loop-warning-test.true place
+      listed = placed_next is_early warnings at _ _ c.loop-warning.listed.items _ _
+          c.loop-warning-test.true (ap (λ place. nat_lt place most) place)
           (rw c.warning-item.is at c.in_ok-push_if.ensures) so_far.listed;
-      unlisted = placed_next (λ place. place == most) warnings at _ c.in_ok-place.place
-          c.loop-warning.unlisted.items _ _ c.loop-warning-test.true place
+      unlisted = placed_next is_next warnings at _ _ c.loop-warning.unlisted.items _ _
+          c.loop-warning-test.true (ap (λ place. place == most) place)
           (rw c.warning-item.is at c.in_ok-push_if-2.ensures) so_far.unlisted;
     }

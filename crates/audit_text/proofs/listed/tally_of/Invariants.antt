@@ -1,7 +1,7 @@
-use Rattle.std.proofs.Common.{◌≡◌, ◌++◌, ◌==◌, drop, take}
-use Rattle.std.specs.Bool.{nat_lt}
+use Rattle.std.proofs.Common.{◌≡◌, ◌++◌, drop, take}
 use Rattle.audit_text.specs.Internal.Listed.{AreCounts}
-use Rattle.audit_text.specs.Listed.{listed, most, placed, unlisted}
+use Rattle.audit_text.specs.Joined.{placed}
+use Rattle.audit_text.specs.Listed.{first_many, is_early, is_next, unlisted}
 use Rattle.audit_text.proofs.listed.tally_of.Given as goal
 
 abbrev pub invariant-loop-warning : goal.invariant-loop-warning
@@ -9,8 +9,6 @@ invariant-loop-warning l =
     let done = take l.warning-index l.warnings in
     let left = drop l.warning-index l.warnings in record {
       counts : AreCounts l.counts done;
-      listed : l.listed.items ++ placed (λ place. nat_lt place most) done left
-          ≡ listed l.warnings;
-      unlisted : l.unlisted.items ++ placed (λ place. place == most) done left
-          ≡ unlisted l.warnings;
+      listed : l.listed.items ++ placed is_early done left ≡ first_many l.warnings;
+      unlisted : l.unlisted.items ++ placed is_next done left ≡ unlisted l.warnings;
     }
