@@ -131,25 +131,50 @@ def level_and_text(name, detail=""):
     return level, f"URL '{detail}': {text}" if name in OF_A_URL else text
 
 
-def warning_line(warning, file="robots.txt"):
-    """The line on standard error for a warning that a golden case writes as `[LINE] NAME [DETAIL]`, about the file with this name."""
+def parts_of(warning):
+    """The line, name, level and text of a warning that a golden case writes as `[LINE] NAME [DETAIL]`."""
     line, name, detail = re.fullmatch(r"(?:(\d+) )?([a-z0-9-]+)(?: (.*))?", warning).groups()
-    level, text = level_and_text(name, detail or "")
-    return f"{file}:{line or ''}{':' if line else ''} {level}: {text} [{name}]\n"
+    return line or "", name, *level_and_text(name, detail or "")
+
+
+def warning_line(warning, file="robots.txt", also=()):
+    """The line on standard error for such a warning about the file with this name; `also` are the lines of other notes that it has."""
+    line, name, level, text = parts_of(warning)
+    more = [*also[:3], f"{len(also) - 3} more"] if len(also) > 3 else also
+    listed = ", ".join(more[:-1]) + " and " * (len(more) > 1) + "".join(more[-1:])
+    end = f" (also in line{'s' * (len(also) > 1)} {listed})" if also else ""
+    return f"{file}:{line}{':' if line else ''} {level}: {text}{end} [{name}]\n"
+
+
+def counted(counts):
+    """The numbers of errors, warnings and notes, if there are any."""
+    return ", ".join(f"{count} {level}{'s' * (count > 1)}" for level in ("error", "warning", "note") if (count := counts.count(level)))
 
 
 def warning_lines(warnings, file="robots.txt"):
-    """The lines for such warnings: of each name and level the first twenty, and then how many more there are."""
-    shown, counts = [], {}
+    """The lines for such warnings: notes about lines with one message are one; of each name and level the first twenty, and how many more
+    there are; and how many of each level there are."""
+    joined, met = [], {}
     for warning in warnings:
-        name, _, detail = re.sub(r"^\d+ ", "", warning).partition(" ")
-        kind = level_and_text(name, detail)[0], name
+        line, name, level, text = parts_of(warning)
+        key = (name, "" if name == "closes-everything" else text)
+        if level == "note" and line and "(see line" not in text:
+            met.setdefault(key, []).append(line)
+            if len(met[key]) > 1:
+                continue
+            joined.append((warning, name, level, met[key]))
+        else:
+            joined.append((warning, name, level, [line]))
+    shown, counts = [], {}
+    for warning, name, level, lines in joined:
+        kind = level, name
         counts[kind] = counts.get(kind, 0) + 1
-        shown += [warning_line(warning, file)] * (counts[kind] <= 20)
+        shown += [warning_line(warning, file, lines[1:])] * (counts[kind] <= 20)
         if counts[kind] == 21:  # the numbers are in the order of these
             counts[kind] = counts.pop(kind)
     more = [f"{file}: {level}: and {count - 20} more [{name}]\n" for (level, name), count in counts.items() if count > 20]
-    return "".join(shown + more)
+    total = [f"{file}: {counted([parts_of(warning)[2] for warning in warnings])}\n"] if warnings else []
+    return "".join(shown + more + total)
 
 
 KEYS = set("like args agent robots file from pieces room out more warn err status indented".split())

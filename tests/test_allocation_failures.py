@@ -11,7 +11,7 @@ import tempfile
 from itertools import count
 
 import pytest
-from support import CRATES, FORMATS, ROOT, SIZES, Result, run, warning_line
+from support import CRATES, FORMATS, ROOT, SIZES, Result, run, warning_lines
 
 CALLS = [line.removesuffix(": right") for line in (CRATES / "texting_robots_tests/stdout").read_text().splitlines()]
 WITHOUT_MEMORY = [name for name in CALLS if name.endswith(" without memory")]
@@ -20,7 +20,7 @@ VERDICT_INPUT = (CRATES / "robots_verdict/stdin").read_bytes()
 AUDIT_INPUT = (CRATES / "robots_audit/stdin").read_bytes()
 AUDIT_ARGS = (CRATES / "robots_audit/args").read_text().splitlines()
 VERDICT = Result(0, (CRATES / "robots_verdict/stdout").read_bytes(), "")
-AUDIT_WARNINGS = "".join(map(warning_line, ["nul-ends-line", "5 several-values", "6 rule-not-utf-8", "11 noindex-line", "2 rule-before-user-agent"]))
+AUDIT_WARNINGS = warning_lines(["nul-ends-line", "5 several-values", "6 rule-not-utf-8", "11 noindex-line", "2 rule-before-user-agent"])
 AUDIT = Result(1, (CRATES / "robots_audit/stdout").read_bytes(), AUDIT_WARNINGS)
 URLS = ["https://example.com/b", "/a%20b/c"]
 OLDER = ROOT / "examples/robots.txt"
@@ -289,6 +289,11 @@ USAGE = "usage: robots_audit [-f FILE] [OPTIONS] AGENT [URL].."
 DENIED = "group: everyone (the file has no User-agent line; all rules are applied)\ndelay: none\ndeny 1 /b\n"
 
 
+def denied_to(size):
+    """The report on this many crawlers."""
+    return DENIED if size == 1 else "crawler a: all rules (no User-agent line), 1 rule, may fetch nothing\n" * size + "deny 1 a /b\n" * size
+
+
 def error(message):
     """The status, the output and the end of the message after an error."""
     return 2, "", f"robots_audit: {message}\n"
@@ -296,7 +301,7 @@ def error(message):
 
 # By what of an audit has a size: the arguments and the input of a run, its status, its output, and the end of its message.
 OF_AN_AUDIT = {
-    "the number of crawlers": lambda size: (["-q", *["--agent=a"] * size, "/b"], "Disallow: /", (1, DENIED * size, "")),
+    "the number of crawlers": lambda size: (["-q", *["--agent=a"] * size, "/b"], "Disallow: /", (1, denied_to(size), "")),
     "the number of compared crawlers": lambda size: (
         ["--compare", "/dev/null", *["--agent=a"] * size], "User-agent: b",
         (1, "crawler a: group everyone -> none\ncrawler a: same rules, so no URL's verdict differs\n" * size, ""),

@@ -5,10 +5,10 @@ import pty
 import subprocess
 
 import pytest
-from support import FORMATS, program, warning_line
+from support import FORMATS, program, warning_lines
 
 FILE = b"User-agent: *\nDisallow: a\n"
-PLAIN = warning_line("2 missing-slash")
+PLAIN = warning_lines(["2 missing-slash"])
 COLORED = PLAIN.replace("error", "\x1b[1;31merror\x1b[0m", 1)
 TERMINAL = {"TERM": "xterm"}
 

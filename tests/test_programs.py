@@ -14,7 +14,7 @@ from itertools import product
 from pathlib import Path
 
 import pytest
-from support import ROOT, WARNINGS, Result, cases_of, input_of, program, repeated, run, spelled, wanted_of, warning_line
+from support import ROOT, WARNINGS, Result, cases_of, input_of, program, repeated, run, spelled, wanted_of, warning_lines
 
 def golden():
     """The arguments of test_golden for each case, that of CONTRIBUTING.md too."""
@@ -110,10 +110,10 @@ def test_a_rule_with_a_byte_that_urls_escape_is_warned_about(start, misses):
         args = ["--only", "unencoded-character", "Ferris", f"http://example.com{rule}"]
         result = run("robots_audit", args, f"User-agent: *\nDisallow: {rule}".encode())
         if result.status == 0:
-            assert result.err == warning_line("2 unencoded-character")
+            assert result.err == warning_lines(["2 unencoded-character"])
             warned += byte
         else:
-            assert result.status == 1 and result.err in ("", warning_line("2 unencoded-character note"))
+            assert result.status == 1 and result.err in ("", warning_lines(["2 unencoded-character note"]))
     assert warned == misses
 
 
@@ -141,21 +141,22 @@ def test_many_rules_and_urls(rules, count):
     result = run("robots_audit", ["Ferris", *urls], file_of(rules).encode())
     warnings = ["not-a-url-or-path"] + ["1 empty-group"] * (rules == 0)
     out = report_on(rules, urls)
-    assert result == Result(1 if "\ndeny" in out else 0, out, "".join(map(warning_line, warnings)))
+    assert result == Result(1 if "\ndeny" in out else 0, out, warning_lines(warnings))
 
 
 def test_many_agents():
     """Agent N, of 100, may not fetch /N/. Every other one is named again, in capitals, which makes no further agent."""
     urls = [f"/{n}/" for n in range(1, 31)]
-    text, out = "", "group: none (no group for *; everything is allowed)\ndelay: none\n"
-    out += "".join(f"allow - {url}\n" for url in urls)
+    text, out = "", "crawler *: no group, may fetch everything\n"
+    verdicts = "".join(f"allow - * {url}\n" for url in urls)
     for n in range(1, 101):
-        text += f"User-agent: {'a' * n}_\nDisallow: /{n}/\n"
-        out += f"group: {'a' * n}_\ndelay: none\n"
-        out += "".join(f"{f'deny {2 * n}' if m == n else 'allow -'} {url}\n" for m, url in enumerate(urls, 1))
+        name = f"{'a' * n}_"
+        text += f"User-agent: {name}\nDisallow: /{n}/\n"
+        out += f"crawler {name}: group {name} (line {2 * n - 1}), {'2 rules' if n % 2 else '1 rule'}\n"
+        verdicts += "".join(f"{f'deny {2 * n}' if m == n else 'allow -'} {name} {url}\n" for m, url in enumerate(urls, 1))
     for n in range(1, 101, 2):
         text += f"User-agent: {'A' * n}_\nAllow: /none/{n}\n"
-    out += "no warnings: the file has RFC 9309 syntax\n"
+    out += verdicts + "no warnings: the file has RFC 9309 syntax\n"
     out += "verdicts are those of RFC 9309 for URLs in normal form (reserved characters as in RFC 3986, octets counted in normal form)\n"
     assert run("robots_audit", ["-a", *urls], text.encode()) == Result(1, out, "")
 

@@ -3,7 +3,7 @@
 import json
 
 import pytest
-from support import run, warning_line
+from support import run, warning_lines
 
 ROBOTS = b"""User-agent: *
 Disallow: /private/
@@ -41,7 +41,7 @@ def check(folder, text, *args, robots=ROBOTS):
 @pytest.mark.parametrize("text, lines", LISTED.values(), ids=LISTED)
 def test_each_line_is_a_url(tmp_path, text, lines):
     out = "group: * (Ferris has no group of its own)\ndelay: none\n" + lines
-    err = warning_line("url-not-normal /tea#cup") if b"#cup" in text else ""
+    err = warning_lines(["url-not-normal /tea#cup"] if b"#cup" in text else [])
     assert outcome(check(tmp_path, text, "Ferris")) == (1 if "deny" in out else 0, out, err)
 
 
@@ -49,7 +49,7 @@ def test_a_url_is_asked_without_its_fragment(tmp_path):
     """In a path, `#` is a byte like others."""
     out = "group: * (Ferris has no group of its own)\ndelay: none\ndeny 2 https://e.com/a#b\nallow - /a#b\n1 allowed, 1 denied\n"
     result = check(tmp_path, b"https://e.com/a#b\n/a#b\n", "Ferris", robots=b"User-agent: *\nDisallow: /a$\n")
-    assert outcome(result) == (1, out, warning_line("url-not-normal /a#b"))
+    assert outcome(result) == (1, out, warning_lines(["url-not-normal /a#b"]))
 
 
 def test_urls_of_the_command_line_come_first(tmp_path):
@@ -101,10 +101,9 @@ def test_denied_urls_alone(tmp_path):
 
 
 def test_numbers_are_those_of_all_crawlers(tmp_path):
-    out = "group: * (Ferris has no group of its own)\ndelay: none\ndeny 2 /private/\n"
-    out += "group: GPTBot\ndelay: none\ndeny 5 /b\ndeny 5 /private/\n"
-    out += "group: Longbot\ndelay: none\n"
+    out = "crawler Ferris: group * (line 1), 1 rule\ncrawler GPTBot: group GPTBot (line 4), 2 rules\ncrawler Longbot: group Longbot (line 8), 1 rule\n"
     out += "rejected for Longbot: line 9: a pattern with $ longer than 4,096 bytes isn't supported; shorten it\n"
+    out += "deny 2 Ferris /private/\ndeny 5 GPTBot /b\ndeny 5 GPTBot /private/\n"
     out += "3 allowed, 3 denied\n"
     agents = ["--agent=Ferris", "--agent=GPTBot", "--agent=Longbot"]
     result = check(tmp_path, b"/a\n/b\n/private/\n", "--denied", *agents)
