@@ -1,6 +1,7 @@
 -- The audit of a file: its lines, what applies to each requested crawler, and the warnings.
 use Rattle.std.specs.Prelude.{◌≡◌, ℕ, Bool, false, true, List, [], ◌∷◌, ◌++◌, Option, Some, None, codes}
-use Rattle.std.specs.Prelude.{count_by, filter, is_none, is_some, length, map, not, sum_by, take, if◌then◌else◌}
+use Rattle.std.specs.Prelude.{count_by, filter, is_none, is_some, length, map, not, sum_by, take}
+use Rattle.std.specs.Prelude.{if◌then◌else◌}
 use Rattle.std.specs.{List.AllZip, List.list_all, List.list_any, List.position_from, Str.is_utf8}
 use Rattle.texting_robots.specs.Callers.{IsFirstOverlong, IsRejected, LineValue, Label, PlacedRule, UserAgent}
 use Rattle.texting_robots.specs.Callers.{delay_for, file_limit, group_name, is_agent_named, is_named}

@@ -8,7 +8,8 @@ use Rattle.texting_robots.specs.declared.labels.Membership.{Membership}
 use Rattle.texting_robots.specs.declared.labels.Membership.TheVariants.{Other, Ungrouped, Own}
 use Rattle.robots_warnings.specs.Contents.{comment_of as comment_in}
 use Rattle.robots_warnings.specs.File.{is_blank}
-use Rattle.printable_text.specs.Text.{Absent, Aligned, Column, Delay, Label as Front, Nothing, Part, PartValue}
+use Rattle.printable_text.specs.Text.{Absent, Aligned, Column, Delay, Label as Front, Nothing, Part}
+use Rattle.printable_text.specs.Text.{PartValue}
 use Rattle.printable_text.specs.Text.{ReportLine, Untrusted, Value, label, line_from, only, value_text, word}
 
 -- the width of the column with the directives; the longest one is followed by a space

@@ -47,7 +47,8 @@ fn has_name(name: &[u8], line: Line<'_>) -> bool
     }
 }
 
-/// The number of the first line that names the group that applies to a crawler. The labels are those of the site's lines.
+/// The number of the first line that names the group that applies to a crawler. The labels are those of the site's
+/// lines.
 pub(crate) fn naming_line(agent: &str, site: &Site, labels: &[LabeledLine<'_>]) -> Option<usize>
     requires { lines_of (map label_by_value labels.now) ≡ file_lines site.now }
     ensures { result ≡ naming_line agent.now (file_lines site.now) }

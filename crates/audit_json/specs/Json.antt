@@ -9,8 +9,8 @@ use Rattle.printable_text.specs.{Lines.lf, Level.level_word, Sanitize.sanitized}
 use Rattle.audit_core.specs.declared.group.Group.{Group}
 use Rattle.audit_core.specs.declared.group.Group.TheVariants.{Everyone, Named, Nobody, Star}
 use Rattle.audit_core.specs.Rows.{comment_of, has_value, kind_text, line_value_text, membership_word}
-use Rattle.audit_core.specs.{Audit.AgentValue, Audit.AuditValue, Audit.VerdictValue, Syntax.has_standard_verdicts}
-use Rattle.audit_core.specs.{Syntax.is_standard, Texts.may_fetch}
+use Rattle.audit_core.specs.{Audit.AgentValue, Audit.AuditValue, Audit.VerdictValue}
+use Rattle.audit_core.specs.{Syntax.has_standard_verdicts, Syntax.is_standard, Texts.may_fetch}
 use Rattle.robots_warnings.specs.Table.{level_of, name_of}
 use Rattle.robots_warnings.specs.{File.lines_of, Message.warning_text, WarningValue.WarningValue}
 
@@ -49,9 +49,9 @@ abbrev pub word_json : Option (List ℕ) → Data
 word_json None = null
 word_json (Some word) = string word
 
--- the crawler, its delay in microseconds, the group that applies to it and the first line that names it, what the
--- crawler may fetch if that is everything or nothing, the line for which the file is rejected, how many rules
--- apply, and the verdicts
+-- the crawler, its delay in microseconds, the group that applies to it and the first line that names it, what
+-- the crawler may fetch if that is everything or nothing, the line for which the file is rejected, how many
+-- rules apply, and the verdicts
 abbrev pub agent_json : AgentValue → Data
 agent_json agent = object
     (member (codes "agent") (sanitized_json agent.agent)
@@ -75,8 +75,8 @@ value_json line = if has_value line then string (line_value_text line) else null
 abbrev pub comment_json : List ℕ → Data
 comment_json comment = if length comment == 0 then null else sanitized_json comment
 
--- a line of the file with this content: the comment of a directive, its name, its membership, its number and its
--- value
+-- a line of the file with this content: the comment of a directive, its name, its membership, its number and
+-- its value
 abbrev pub line_json : List ℕ × Label → Data
 line_json (body, label) = object
     (member (codes "comment") (comment_json (comment_of label.line body))

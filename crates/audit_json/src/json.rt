@@ -215,8 +215,8 @@ fn sitemaps_json(alloc: Global, labels: &[LabeledLine<'_>]) -> Result<Value, All
     list_json(alloc, &sitemaps)
 }
 
-/// The lines of the file with these bytes as a JSON array, which is empty if the report has no rows. The labels are those
-/// of the lines.
+/// The lines of the file with these bytes as a JSON array, which is empty if the report has no rows. The labels are
+/// those of the lines.
 fn rows_json(
     alloc: Global,
     has_rows: bool,

@@ -12,14 +12,16 @@ use Rattle.audit_text.specs.Report.{listed_lines, listed_warning, more_line, nam
 
 -- a warning with the lines of other notes
 pub shown_built : (warning : WarningValue) (lines text : List ℕ)
-    → ((text ++ warning_text warning) ++ parts_text (also_parts lines)) ++ parts_text (name_parts warning.cause)
+    → ((text ++ warning_text warning) ++ parts_text (also_parts lines))
+    ++ parts_text (name_parts warning.cause)
     ≡ text ++ parts_text (shown_parts lines warning)
 shown_built warning lines text =
     let also = also_parts lines in
     let name = name_parts warning.cause in
     append_assoc (text ++ warning_text warning) (parts_text also) (parts_text name)
     ∙ append_assoc text (warning_text warning) (parts_text also ++ parts_text name)
-    ∙ ap (λ (later : List ℕ). text ++ (warning_text warning ++ later)) (sym (flat_map-append part_text also name))
+    ∙ ap (λ (later : List ℕ). text ++ (warning_text warning ++ later))
+    (sym (flat_map-append part_text also name))
     ∙ ap (λ (later : List ℕ). text ++ later)
     (sym (flat_map-append part_text (message_parts warning) (also ++ name)))
 

@@ -28,7 +28,8 @@ abbrev pub number_part : (is_first : Bool) → ℕ → PartValue
 number_part is_first count = if count == 0 then Absent else Part (count_front is_first) (Number count)
 
 abbrev pub level_part : Level → ℕ → PartValue
-level_part level count = if count == 0 then Absent else Part (label (codes " ") refl) (Word (fixed_level level))
+level_part level count =
+    if count == 0 then Absent else Part (label (codes " ") refl) (Word (fixed_level level))
 
 abbrev pub plural_part : ℕ → PartValue
 plural_part count = if nat_lt 1 count then only (codes "s") refl else Absent

@@ -1,5 +1,5 @@
-//! Which warnings the text lists: of those that are left when notes are joined, the first twenty of each name and level.
-//! For the others it has their number.
+//! Which warnings the text lists: of those that are left when notes are joined, the first twenty of each name and
+//! level. For the others it has their number.
 ghost use Rattle.std.specs.Prelude.{◌≡◌, ℕ, ◌+◌, ◌<◌, IfOk, List, OnOk, if◌then◌else◌, map};
 ghost use Rattle.audit_text.specs.Internal.Listed.{AreCounts, counted};
 ghost use Rattle.audit_text.specs.Listed.{first_many, is_like, listed, more, more_of, unlisted};

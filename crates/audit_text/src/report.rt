@@ -143,8 +143,8 @@ fn push_shown(text: &mut String, lines: &[usize], warning: &Warning<'_>) -> Resu
     push_parts(text, &name_parts(warning.cause))
 }
 
-/// Appends a warning about the file with this name, its level in color if there are colors; `lines` are the lines of the
-/// notes that are this one.
+/// Appends a warning about the file with this name, its level in color if there are colors; `lines` are those of all
+/// notes that are written as this one.
 fn push_warning(
     text: &mut String,
     has_colors: bool,

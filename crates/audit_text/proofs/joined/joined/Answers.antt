@@ -8,10 +8,11 @@ loop-warning-preserved c =
     let warnings = c.args.warnings.now in
     let at = c.loop-warning.warning-index in
     let so_far = c.loop-warning.invariant in
-    let below = c.loop-warning-test.true in record {
+    let below = c.loop-warning-test.true in
+    let item = slice_index_or warnings at c.warning-item.result in record {
       met = λ number. met_next warnings at _ number _ _ below (so_far.met number)
           (rw c.warning-item.is at (c.in_ok-is_first.ensures.met number));
       found = placed_next is_first warnings at _ _ c.loop-warning.found.items _ _ below
-          (first_is _ (slice_index_or warnings at c.warning-item.result) _ _ (so_far.met _) (rw c.warning-item.is at c.in_ok-is_first.ensures.first))
+          (first_is _ item _ _ (so_far.met _) (rw c.warning-item.is at c.in_ok-is_first.ensures.first))
           (rw c.warning-item.is at c.in_ok-push_if.ensures) so_far.found;
     }
