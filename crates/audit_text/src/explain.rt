@@ -162,12 +162,7 @@ fn push_text(text: &mut Vec<u8>, label: &str, name: &str, row: &Named) -> Result
 }
 
 /// Appends the texts of these rows that are about the name.
-fn push_texts(
-    text: &mut Vec<u8>,
-    label: &str,
-    name: &str,
-    rows: &[Named],
-) -> Result<(), AllocError>
+fn push_texts(text: &mut Vec<u8>, label: &str, name: &str, rows: &[Named]) -> Result<(), AllocError>
     ensures { OnOk result (text.new.items ≡ text.old.items
         ++ flat_map (text_if_named label.now name.now) (map named_value rows.now)) }
 {
