@@ -263,20 +263,23 @@ def test_documented_warnings_are_those_of_the_table():
 
 
 LONG_RULE = b"Disallow: /b\nAllow: $" + b"a" * 4096
-ERRORS = {
-    "unknown option": {"args": ["--bogus"]},
-    "FILE is missing": {},
-    "an argument isn't UTF-8": {"args": [b"\xff"]},
-    "no crawler has the name after `--agent`": {"args": ["--agent", "B/1", "-"]},
-    "an argument is neither a path nor a URL": {"args": ["-", "a/b"]},
-    "it may be the name of a crawler": {"args": ["-", "B"]},
-    "standard input would be read twice": {"args": ["--urls", "-", "-"]},
-    "no warning has this name": {"args": ["--ignore", "NAME", "-"]},
-    "a file can't be opened or read": {"args": ["NAME"]},
-    "its name is a URL": {"args": ["https://example.com"]},
-    "standard input can't be read": {"args": ["-"], "stdin": "/"},
-    "the report can't be written": {"args": ["-"], "stdout": "/dev/full"},
-    "an allocation fails, or a URL is too long for the crate `url`": {"args": ["-"], "text": LONG_RULE, "fails": True},
+USAGE = "usage: robots_audit [OPTIONS] FILE [URL].."
+CURL = "curl -s https://example.com/robots.txt | robots_audit -"
+AUDIT_ERRORS = {
+    "missing FILE; " + USAGE: {},
+    "arguments must be valid UTF-8; " + USAGE: {"args": [b"\xff"]},
+    "B/1: a crawler's name is a product token without a version, such as Googlebot": {"args": ["--agent", "B/1", "-"]},
+    "a/b: URL is neither a path that starts with / nor a valid http:// or https:// URL": {"args": ["-", "a/b"]},
+    "B: URL is neither a path that starts with / nor a URL; for a crawler, write --agent NAME": {"args": ["-", "B"]},
+    "standard input can't be two files; give the name of one; " + USAGE: {"args": ["--urls", "-", "-"]},
+    "unknown warning NAME; " + USAGE: {"args": ["--ignore", "NAME", "-"]},
+    "cannot read NAME": {"args": ["NAME"]},
+    "cannot read https://example.com; a URL isn't a file, try: " + CURL: {"args": ["https://example.com"]},
+    "cannot read standard input": {"args": ["-"], "stdin": "/"},
+    "cannot write the report": {"args": ["-"], "stdout": "/dev/full"},
+    "out of memory": {"args": ["-"], "text": LONG_RULE, "fails": True},
+}
+VERDICT_ERRORS = {
     "Read": {"stdin": "/"},
     "Write": {"text": b"B\n\n", "stdout": "/dev/full"},
     "NoEmptyLine": {"text": b"B\n/a\n"},
@@ -299,31 +302,27 @@ def run_into(name, heap, args=(), text=b"", stdin=None, stdout=None, fails=False
             os.close(end)
 
 
-def errors_of(program):
-    """The rows of the table of errors of a program: the error, its status, and its message."""
-    rows = [(re.sub(r"^`(\w+)`$", r"\1", row[0]), *row[1:]) for row in tables(section(PROGRAMS, f"`{program}`"))]
-    return [(program, row[0], int(row[2]) if len(row) == 4 else 2, row[-1]) for row in rows if row[0] in ERRORS]
+@pytest.mark.parametrize("text", AUDIT_ERRORS)
+def test_audit_error(failing_heap, text):
+    result = run_into("robots_audit", failing_heap, **AUDIT_ERRORS[text])
+    message, *examples = result.err.splitlines()
+    assert (result.status, message, len(examples)) == (2, f"robots_audit: {text}", 2 if text.startswith("missing FILE") else 0)
 
 
-DOCUMENTED = [*errors_of("robots_audit"), *errors_of("robots_verdict")]
+def test_unknown_option(failing_heap):
+    result = run_into("robots_audit", failing_heap, args=["--bogus"])
+    assert result.status == 2 and "Usage: robots_audit" in result.err
 
 
-def test_all_documented_errors_are_tried():
-    assert [row[1] for row in DOCUMENTED] == list(ERRORS)
+def test_usage_is_documented():
+    assert USAGE in shown(PROGRAMS).splitlines() and CURL in shown(PROGRAMS).splitlines()
 
 
-@pytest.mark.parametrize("program, name, status, text", DOCUMENTED, ids=[row[1] for row in DOCUMENTED])
-def test_error_has_the_documented_message(failing_heap, program, name, status, text):
-    result = run_into(program, failing_heap, **ERRORS[name])
-    assert result.status == status
-    usage = "usage: robots_audit [OPTIONS] FILE [URL].."
-    assert usage in shown(PROGRAMS).splitlines()
-    if text.startswith("`"):
-        message, *examples = result.err.splitlines()
-        assert message == spelled(text.strip("`")).decode().replace("USAGE", usage).replace("line N:", "line 2:")
-        assert len(examples) == (2 if name == "FILE is missing" else 0)
-    else:
-        assert "Usage: robots_audit" in result.err
+@pytest.mark.parametrize("name", VERDICT_ERRORS)
+def test_verdict_error_has_the_documented_message(failing_heap, name):
+    (row,) = [row for row in tables(section(PROGRAMS, "`robots_verdict`")) if row[0] == f"`{name}`"]
+    result = run_into("robots_verdict", failing_heap, **VERDICT_ERRORS[name])
+    assert (result.status, result.err) == (int(row[2]), row[3].strip("`") + "\n")
 
 
 def test_documented_options_are_those_of_help():
