@@ -14,7 +14,7 @@ use Rattle.robots_audit.specs.Answer.{output, output_in, reported, shown_name, t
 output_in_printable : (format : Format) (requested : RequestValue) (audit : AuditValue)
     → IsPrintable (output_in format requested audit)
 output_in_printable Text requested audit =
-    written_printable (report_lines (has_rows requested) (reported requested audit)
+    written_printable (report_lines requested (reported requested audit)
     ++ total_lines requested.has_totals audit)
 output_in_printable Json requested audit =
     json_printable (has_rows requested) (reported requested audit)

@@ -51,7 +51,7 @@ reported requested audit = shown (leaves_out_allowed requested) audit
 -- the report in this format
 abbrev pub output_in : Format → RequestValue → AuditValue → List ℕ
 output_in Text requested audit =
-    written (report_lines (has_rows requested) (reported requested audit)
+    written (report_lines requested (reported requested audit)
     ++ total_lines requested.has_totals audit)
 output_in Json requested audit = json_text (has_rows requested) (reported requested audit)
 output_in Html requested audit = document (page requested (reported requested audit))

@@ -45,7 +45,7 @@ pub fn no_other_report_steers_a_terminal()
 /// If an audit as text, or a comparison, runs in a workflow on GitHub, no line of its report is a command, whatever the
 /// names of crawlers, the URLs and the files are: none begins with `::`, even after spaces, and none contains `##[`.
 pub fn no_line_is_a_command()
-    ensures audit { (has_rows : Bool) (audit : AuditValue) → Each IsPlainLine (map line_text (audit_lines has_rows audit)) }
+    ensures audit { (requested : RequestValue) (audit : AuditValue) → Each IsPlainLine (map line_text (audit_lines requested audit)) }
     ensures totals { (agents : List AgentValue) → IsPlainLine (line_text (total_line agents)) }
     ensures comparison { (compared : List ComparedValue) → Each IsPlainLine (map line_text (report_lines compared)) }
 {}

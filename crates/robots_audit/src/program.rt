@@ -66,21 +66,20 @@ fn leaves_out_allowed(request: &Request<'_>) -> bool
 }
 
 /// The report on an audit, in the requested format.
-fn output(alloc: Global, request: &Request<'_>, audit: Audit<'_, '_>) -> Result<Vec<u8>, AllocError>
+fn output(alloc: Global, request: &Request<'_>, audit: Audit<'_>) -> Result<Vec<u8>, AllocError>
     ensures { IfOk result (λ report. report.items ≡ output (requested_by request.now) audit.entry) }
 {
-    let has_rows = request.has_rows();
     let totals = totals_of(&audit.agents);
     let reported = shown(leaves_out_allowed(request), audit);
     match request.format {
         Format::Text => {
-            let mut text = report_text(alloc, has_rows, &reported)?;
+            let mut text = report_text(alloc, request, &reported)?;
             if request.has_totals {
                 push_totals(&mut text, totals)?;
             }
             Ok(text.into_bytes())
         }
-        Format::Json => Ok(json_text(alloc, has_rows, &reported)?.into_bytes()),
+        Format::Json => Ok(json_text(alloc, request.has_rows(), &reported)?.into_bytes()),
         Format::Html => page_text(alloc, request, &reported),
         Format::Github => github_text(alloc, shown_name(request.file), &reported),
         Format::Sarif => {
@@ -93,7 +92,7 @@ fn output(alloc: Global, request: &Request<'_>, audit: Audit<'_, '_>) -> Result<
 fn message(
     alloc: Global,
     request: &Request<'_>,
-    audit: &Audit<'_, '_>,
+    audit: &Audit<'_>,
 ) -> Result<String, AllocError>
     ensures { IfOk result (λ text. string_bytes text ≡ message (requested_by request.now) audit.now) }
 {
@@ -114,7 +113,7 @@ fn message(
 /// # Errors
 ///
 /// `Fault::Memory` if an allocation fails or a URL is too long for `url`.
-pub fn audited(alloc: Global, request: &Request<'_>, file: &[u8]) -> Result<Answer, Fault>
+pub fn audited<'a>(alloc: Global, request: &Request<'a>, file: &'a [u8]) -> Result<Answer, Fault>
     ensures ok { IfOk result (IsAudited (requested_by request.now) file.now) }
     ensures fault { IfErr result (λ fault. fault ≡ Fault.Memory) }
 {

@@ -5,7 +5,7 @@ use Rattle.robots_audit.proofs.laws.no_line_is_a_command.Goals as goal
 
 pub returns : goal.returns
 returns c = record {
-  audit = λ has_rows audit. lines_plain (audit_lines has_rows audit);
+  audit = λ requested audit. lines_plain (audit_lines requested audit);
   totals = λ agents. line_plain (total_line agents);
   comparison = λ compared. lines_plain (report_lines compared);
 }
