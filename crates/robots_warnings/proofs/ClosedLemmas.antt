@@ -1,7 +1,7 @@
 -- Rules that leave nothing, or nearly nothing, of a site to a crawler.
-use Rattle.std.proofs.Common.{◌≡◌, ℕ, ◌+◌, ◌==◌, Bool, false, true, List, [], ◌∷◌, ap, arith, inl, inr, length}
-use Rattle.std.proofs.Common.{refl, suc, sym, ◌∙◌, ◌&&◌, ◌||◌, nat_le, nat_lt, not, ◌++◌, ◌<◌, Bor, append_assoc}
-use Rattle.std.proofs.Common.{Option, cond, drop, filter, if◌then◌else◌, map, slice_index_or}
+use Rattle.std.proofs.Common.{◌≡◌, ℕ, ◌+◌, ◌==◌, Bool, false, true, List, [], ◌∷◌, ap, arith, inl, inr, refl}
+use Rattle.std.proofs.Common.{suc, sym, ◌∙◌, ◌&&◌, ◌||◌, nat_le, nat_lt, not, ◌++◌, ◌<◌, Bor, append_assoc}
+use Rattle.std.proofs.Common.{Option, cond, drop, filter, if◌then◌else◌, length, map, slice_index_or}
 use Rattle.std.proofs.lemmas.List.{drop_more, Elements.filter_map-append, Folds.list_any-append}
 use Rattle.std.proofs.lemmas.Bool.{and_parts, cases_Bool, false≢true, ne_eqb}
 use Rattle.std.proofs.lemmas.Bool.Decides.{nat_tests}
@@ -19,7 +19,8 @@ pub differs : (b c : ℕ) → is_escaped c ≡ false → is_escaped b ≡ true �
 differs b c plain bad = ne_eqb b c (λ same. false≢true (sym plain ∙ ap is_escaped (sym same) ∙ bad))
 
 -- stars and `$` aren't escaped, and no escape has one
-stars_escaped : (value : List ℕ) → list_all is_star_or_dollar (escaped value) ≡ list_all is_star_or_dollar value
+stars_escaped : (value : List ℕ)
+    → list_all is_star_or_dollar (escaped value) ≡ list_all is_star_or_dollar value
 stars_escaped [] = refl
 stars_escaped (b ∷ value) = elim (cases_Bool (is_escaped b)) [
   | inl bad ↦ rw (bad, differs b (byte "*") refl bad, differs b (byte "$") refl bad) refl
@@ -56,7 +57,10 @@ stars_stay [] stars = refl
 stars_stay (b ∷ pattern) stars =
     let (first, later) = and_parts (is_star_or_dollar b) _ stars in
     elim (cases_Bool (is_escaped b)) [
-      | inl bad ↦ absurd (false≢true (sym (rw (differs b (byte "*") refl bad, differs b (byte "$") refl bad) refl) ∙ first))
+      | inl bad ↦
+          let isnt : is_star_or_dollar b ≡ false =
+          rw (differs b (byte "*") refl bad, differs b (byte "$") refl bad) refl in
+          absurd (false≢true (sym isnt ∙ first))
       | inr good ↦ rw (good, stars_stay pattern later) refl
     ]
 
@@ -72,8 +76,8 @@ opens pattern lines = list_any (is_literally pattern) (filter_map opened_path (s
 
 -- loop step: the path of the sitemap in one line more was added
 pub opened_next : (pattern : List ℕ) (line : LineValue) (old : Bool) {left rest : List LineValue}
-    {new all : Bool} → left ≡ line ∷ rest → new ≡ (old || opens pattern (line ∷ [])) → (old || opens pattern left) ≡ all
-    → (new || opens pattern rest) ≡ all
+    {new all : Bool} → left ≡ line ∷ rest → new ≡ (old || opens pattern (line ∷ []))
+    → (old || opens pattern left) ≡ all → (new || opens pattern rest) ≡ all
 opened_next pattern line old {left} {rest} here is was =
     let one = sitemaps_in (line ∷ []) in
     let later = sitemaps_in rest in
@@ -98,7 +102,8 @@ pub closed_next : (number : ℕ) (f : List ℕ → Option ℕ) (agents : List (B
     → at < length agents → line ≡ f (slice_index_or agents at item).now
     → new ≡ old ++ (if is_number number line then (slice_index_or agents at item).now ∷ [] else [])
     → old ++ filter (λ agent. is_number number (f agent)) (map (λ agent. agent.now) (drop at agents)) ≡ all
-    → new ++ filter (λ agent. is_number number (f agent)) (map (λ agent. agent.now) (drop (at + 1) agents)) ≡ all
+    → new ++ filter (λ agent. is_number number (f agent)) (map (λ agent. agent.now) (drop (at + 1) agents))
+    ≡ all
 closed_next number f agents at item old {line} {new} {all} below of is was =
     let test : List ℕ → Bool = λ agent. is_number number (f agent) in
     let agent = (slice_index_or agents at item).now in

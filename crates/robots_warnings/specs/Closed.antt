@@ -68,7 +68,7 @@ is_literally pattern path =
 abbrev pub opened_path : List ℕ → Option (List ℕ)
 opened_path url = let path = prepared url in if nat_lt 1 (length path) then Some path else None
 
--- paths that Allows may open and leave the site closed: `/robots.txt`, and those of sitemaps that the file lists
+-- paths that Allows may open and leave the site closed: `/robots.txt`, and those of the sitemaps of the file
 abbrev pub opened_paths : List LineValue → List (List ℕ)
 opened_paths lines = robots_file ∷ filter_map opened_path (sitemaps_in lines)
 

@@ -1,68 +1,76 @@
--- What `closes-everything`, `hash-cuts-rule` and `allowed-and-disallowed` imply; and about first lines, which
--- `empty-disallow` has, too.
+-- What `hash-cuts-rule` and `allowed-and-disallowed` imply; and about first lines, which others have, too.
 use Rattle.std.proofs.lemmas.Grind.{common_steps}
 use Rattle.std.proofs.Common.{rules, Some, bytes_eq, codes, if◌then◌else◌, ◌∙◌}
 use Rattle.std.proofs.lemmas.Bool.{and_parts, not-true}
-use Rattle.std.proofs.Common.{◌≡◌, ◌≢◌, ℕ, ◌<◌, ◌==◌, ◌&&◌, ◌||◌, Bool, true, false, List, [], ◌∷◌, Contains}
-use Rattle.std.proofs.Common.{ap, arith, inl, inr, length, not, refl, subst, suc, sym, ◌⊎◌, Any, None, Option}
+use Rattle.std.proofs.Common.{◌≡◌, ℕ, ◌==◌, ◌&&◌, ◌||◌, Bool, true, false, List, [], ◌∷◌, Contains}
+use Rattle.std.proofs.Common.{append-nil, ap, arith, inl, inr, length, not, refl, subst, suc, sym, ◌⊎◌, Any}
+use Rattle.std.proofs.Common.{None, Option}
 use Rattle.std.specs.{List.list_all, List.list_any, Str.byte, Option.option_or, Prelude.is_some}
 use Rattle.std.proofs.lemmas.{Bool.eqb-true, Bool.or_cases, Bool.eq-eqb, Option.same_Some}
-use Rattle.std.proofs.lemmas.List.Folds.{Any-from_list_any, list_any-from_Any}
-use Rattle.texting_robots.specs.Callers.{AreRulesFor, IsDenied, LineValue, Matches, PlacedRule, Rule, escaped}
-use Rattle.texting_robots.specs.Callers.{placed_rules, unplaced, HoldsRule, IsDecidingLine}
-use Rattle.texting_robots.specs.{Pattern.MatchesWith, Pattern.star, Verdict.robots_file}
-use Rattle.robots_warnings.specs.Closed.{is_closed_for, is_closing_at, is_opening, is_whole_site}
+use Rattle.std.proofs.lemmas.List.Folds.{list_any-from_Any}
+use Rattle.texting_robots.specs.Callers.{AreRulesFor, LineValue, Matches, PlacedRule, Rule, escaped}
+use Rattle.texting_robots.specs.Callers.{placed_rules, HoldsRule, IsDecidingLine}
+use Rattle.texting_robots.specs.Pattern.{MatchesWith}
+use Rattle.robots_warnings.specs.Closed.{is_anything, is_star_or_dollar, is_whole_site}
 use Rattle.robots_warnings.specs.Conflicts.{IsConflict, allow_beside, at_line, compared, conflict_for}
 use Rattle.robots_warnings.specs.Conflicts.{first_line, first_of, is_like, line_if}
 use Rattle.robots_warnings.specs.Contents.{is_cut_to_root}
-use Rattle.texting_robots.proofs.{HeldLemmas.computed_are, BestLemmas.placed_of}
+use Rattle.robots_warnings.proofs.ClosedLemmas.{whole_site_stays}
+use Rattle.texting_robots.proofs.HeldLemmas.{computed_are}
 use Rattle.std.proofs.lemmas.Slice.Eq.{bytes_eq-Decides}
-use Rattle.robots_needless.proofs.TogetherLemmas.{unplaced_of}
 
 -- ---- patterns
 
-stars_match : (pattern text : List ℕ) → list_all (λ c. c == byte "*") pattern ≡ true → Matches pattern text
+-- at the end of a text, too
+stars_match : (pattern : List ℕ) → list_all is_star_or_dollar pattern ≡ true → Matches pattern []
 unfolding MatchesWith
-stars_match [] text stars = tt
-stars_match (b ∷ pattern) text stars =
-    let (first, later) = and_parts (b == star) _ stars in
-    subst (λ b. Matches (b ∷ pattern) text) (sym (eqb-true b star first))
-    (text, ([], refl), stars_match pattern text later)
+stars_match [] stars = tt
+stars_match (b ∷ pattern) stars =
+    let (first, later) = and_parts (is_star_or_dollar b) _ stars in
+    elim (or_cases (b == byte "*") (b == byte "$") first) [
+      | inl is ↦
+          subst (λ b. Matches (b ∷ pattern) []) (sym (eqb-true b (byte "*") is))
+          ([], ([], refl), stars_match pattern later)
+      | inr is ↦
+          subst (λ b. Matches (b ∷ pattern) []) (sym (eqb-true b (byte "$") is))
+          ([], (refl, refl), stars_match pattern later)
+    ]
+
+anything_matches : (pattern text : List ℕ) → is_anything pattern ≡ true → Matches pattern text
+unfolding MatchesWith
+anything_matches [] text is = cc
+anything_matches (b ∷ pattern) text is =
+    let (first, stars) = and_parts (b == byte "*") _ is in
+    subst (λ b. Matches (b ∷ pattern) text) (sym (eqb-true b (byte "*") first))
+    ([], (text, sym (append-nil text)), stars_match pattern stars)
+
+-- after a slash
+rest_matches : (pattern text : List ℕ) → (length pattern == 0 || is_anything pattern) ≡ true
+    → Matches pattern text
+unfolding MatchesWith
+rest_matches [] text rest = tt
+rest_matches (c ∷ pattern) text rest = elim (or_cases (length (c ∷ pattern) == 0) _ rest) [
+  | inl is ↦ let none : length (c ∷ pattern) ≡ 0 = eqb-true _ 0 is in absurd (omega arith)
+  | inr any ↦ anything_matches (c ∷ pattern) text any
+]
 
 pub whole_site_matches : (pattern text : List ℕ) → is_whole_site pattern ≡ true
     → Matches pattern (byte "/" ∷ text)
 unfolding MatchesWith
 whole_site_matches [] text whole = cc
 whole_site_matches (b ∷ pattern) text whole =
-    let (first, stars) = and_parts (b == byte "/" || b == star) _ whole in
-    elim (or_cases (b == byte "/") (b == star) first) [
-      | inl is ↦
+    elim (or_cases (b == byte "/" && (length pattern == 0 || is_anything pattern)) _ whole) [
+      | inl slash ↦
+          let (is, rest) = and_parts (b == byte "/") _ slash in
           subst (λ b. Matches (b ∷ pattern) (byte "/" ∷ text)) (sym (eqb-true b (byte "/") is))
-          (text, refl, stars_match pattern text stars)
-      | inr is ↦
-          subst (λ b. Matches (b ∷ pattern) (byte "/" ∷ text)) (sym (eqb-true b star is))
-          (byte "/" ∷ text, ([], refl), stars_match pattern (byte "/" ∷ text) stars)
+          (text, refl, rest_matches pattern text rest)
+      | inr any ↦ anything_matches (b ∷ pattern) (byte "/" ∷ text) any
     ]
-
--- none of these bytes is escaped
-stars_stay : (pattern : List ℕ) → list_all (λ c. c == byte "*") pattern ≡ true → escaped pattern ≡ pattern
-stars_stay [] stars = refl
-stars_stay (b ∷ pattern) stars =
-    let (first, later) = and_parts (b == star) _ stars in
-    rw (eqb-true b star first, stars_stay pattern later) refl
-
-whole_site_stays : (pattern : List ℕ) → is_whole_site pattern ≡ true → escaped pattern ≡ pattern
-whole_site_stays [] whole = refl
-whole_site_stays (b ∷ pattern) whole = search (rules, and_parts, eqb-true, stars_stay)
 
 pub cut_to_root_matches : (value tail comment path : List ℕ) → is_cut_to_root value tail comment ≡ true
     → Matches (escaped value) (byte "/" ∷ path)
 cut_to_root_matches value tail comment path is =
     search (rules, and_parts, whole_site_stays, whole_site_matches)
-
-some_bytes : (pattern : List ℕ) → is_whole_site pattern ≡ true → 0 < length pattern
-some_bytes [] whole = cc
-some_bytes (b ∷ pattern) whole = omega arith
 
 -- ---- rules
 
@@ -71,39 +79,6 @@ pub also_listed : {agent : List ℕ} {lines : List LineValue} {rules others : Li
     → AreRulesFor agent lines rules → AreRulesFor agent lines others → (placed : PlacedRule)
     → Contains rules placed → Contains others placed
 also_listed are also placed has = (also.held placed).1 ((are.held placed).0 has)
-
-none_opens : (rules : List PlacedRule) (placed : PlacedRule) → list_any is_opening rules ≡ false
-    → Contains rules placed → is_opening placed ≡ false
-none_opens rules placed shut (k, below, at) = grind (arith, common_steps)
-
--- an Allow that doesn't open has no bytes
-no_bytes : (pattern : List ℕ) → (true && not (length pattern == 0)) ≡ false → length pattern ≡ 0
-no_bytes [] shut = refl
-no_bytes (b ∷ pattern) shut = grind (arith, common_steps)
-
-pub closes_everything : (agent : List ℕ) (lines : List LineValue) (rules : List PlacedRule) (number : ℕ)
-    (text : List ℕ) → is_closed_for lines number agent ≡ true → AreRulesFor agent lines rules
-    → byte "/" ∷ text ≢ robots_file → IsDenied (unplaced rules) (byte "/" ∷ text)
-closes_everything agent lines rules number text is are differs =
-    let all = placed_rules agent lines in
-    let (shut, closing) = and_parts _ _ is in
-    let (k, placed, below, at, passes) = Any-from_list_any (is_closing_at number) all closing in
-    let (closes, here) = and_parts _ _ passes in
-    let (denies, whole) = and_parts _ _ closes in
-    let own = computed_are agent lines in (
-      differs,
-      placed.rule.0,
-      subst (λ (b : Bool). Contains (unplaced rules) (placed.rule.0, b)) (not-true _ denies)
-          (unplaced_of rules placed (also_listed own are placed (k, below, at))),
-      whole_site_matches placed.rule.0 text whole,
-      λ pattern has matches.
-          let (allow, listed, same) = placed_of rules (pattern, true) has in
-          let opens = none_opens all allow (not-true _ shut) (also_listed are own allow listed) in
-          let empty = no_bytes pattern
-          (subst (λ (rule : Rule). (rule.1 && not (length rule.0 == 0)) ≡ false) same opens) in
-          let some = some_bytes placed.rule.0 whole in
-          omega arith,
-    )
 
 -- ---- the first number that a function gives
 
@@ -118,7 +93,7 @@ first_found f (x ∷ xs) n is = by (f x) refl (first_found f xs n) is
         let (k, y, below, at, given) = later is in (suc k, y, omega arith, at, given)
     by (Some m) some later is = (0, x, omega arith, refl, some ∙ is)
 
-any_some : {X : Type 0} (f : X → Option ℕ) (xs : List X)
+pub any_some : {X : Type 0} (f : X → Option ℕ) (xs : List X)
     → list_any (λ x. is_some (f x)) xs ≡ is_some (first_of f xs)
 any_some f [] = refl
 any_some f (x ∷ xs) = grind (arith, common_steps, any_some f xs)

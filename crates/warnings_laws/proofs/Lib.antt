@@ -10,6 +10,7 @@ pub mod PathLemmas
 pub mod RuleLemmas
 pub mod TwinLemmas
 pub mod ConflictLemmas
+pub mod ClosedLemmas
 pub mod EmptyDisallowLemmas
 pub mod RepeatedLemmas
 pub mod GroupLemmas

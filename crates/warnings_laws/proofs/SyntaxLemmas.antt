@@ -16,7 +16,7 @@ use Rattle.robots_warnings.specs.Positions.{sole_name, last_group}
 use Rattle.robots_warnings.specs.Checks.{Check, file_checks, line_checks, position_checks}
 use Rattle.robots_warnings.specs.Table.{is_not_about_syntax, topic_of}
 use Rattle.robots_warnings.specs.Warnings.{line_warnings, lines_warnings, positions_from, warned, warning_of}
-use Rattle.robots_warnings.specs.Warnings.{file_lines_warnings, general_warnings}
+use Rattle.robots_warnings.specs.Warnings.{file_lines_warnings, general_warnings, site_warnings}
 use Rattle.robots_warnings.specs.Warnings.{group_warnings, past_limit_warnings, position_warnings}
 use Rattle.robots_warnings.specs.Warnings.{url_warnings, warnings}
 use Rattle.robots_warnings.specs.{File.lines_of, File.labels_for, WarningValue.WarningValue}
@@ -257,7 +257,7 @@ module _ (file : List ℕ) where
     Passes warning = test warning.cause ≡ true
 
     abbrev general : List WarningValue
-    general = general_warnings facts true named urls
+    general = general_warnings facts agents urls (lines_read file) labels
 
     abbrev of_lines : List WarningValue
     of_lines = file_lines_warnings facts true labels bodies
@@ -281,7 +281,7 @@ module _ (file : List ℕ) where
     facts_quiet =
         warned_quiet test None None (file_checks facts)
         (each_front Passes (warned None None (file_checks facts))
-        (flat_map url_warnings urls)
+        (site_warnings agents (lines_read file) labels ++ flat_map url_warnings urls)
         (each_front Passes general (of_lines ++ (of_positions ++ (past_limit ++ of_groups))) all))
 
     pub bodies_quiet : suppresses_line_warnings facts ≡ false

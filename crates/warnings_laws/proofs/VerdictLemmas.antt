@@ -25,7 +25,7 @@ use Rattle.robots_warnings.specs.declared.spellings.Spelling.TheVariants.{Plain,
 use Rattle.robots_warnings.specs.Checks.{file_checks, line_checks}
 use Rattle.robots_warnings.specs.Conflicts.{compared, conflict, conflict_for, overruled, overruled_for}
 use Rattle.robots_warnings.specs.EmptyDisallows.{IsEmptyDisallow, is_empty_at}
-use Rattle.robots_warnings.specs.{Closed.is_closed, File.lines_of, Rules.begins_oddly}
+use Rattle.robots_warnings.specs.{File.lines_of, Rules.begins_oddly}
 use Rattle.robots_warnings.specs.Spellings.{unpaired, spelled}
 use Rattle.robots_warnings.specs.Table.{keeps_verdicts, topic_of}
 use Rattle.robots_warnings.specs.Warnings.{crawler_warnings, group_warnings, position_warnings, rule_warnings}
@@ -162,8 +162,8 @@ module _ (agents urls : List (List ℕ)) (file : List ℕ)
   empty_is number = empty_disallows (name file) file (labels file) number (labels_are file)
 
   abbrev about : Label → List WarningValue
-  about label = rule_warnings (conflict is_empty agents lines) (overruled is_empty agents lines)
-      (is_closed agents lines) label.number
+  about label =
+      rule_warnings (conflict is_empty agents lines) (overruled is_empty agents lines) label.number
 
   -- neither warning about contradicting rules is given for the line
   abbrev IsUnwarned : ℕ → Type 0
@@ -177,11 +177,9 @@ module _ (agents urls : List (List ℕ)) (file : List ℕ)
       each_weaker (λ label. Each KeepsVerdicts (about label)) (λ label. IsUnwarned label.number)
       (λ (label : Label) all.
       let number = label.number in
-      let first = warned_beside cause.AllowedAndDisallowed number (conflict is_empty agents lines number) in
-      let second = warned_beside cause.EmptyDisallow number (overruled is_empty agents lines number) in (
+      let first = warned_beside cause.AllowedAndDisallowed number (conflict is_empty agents lines number) in (
         none_beside cause.AllowedAndDisallowed number _ refl (each_front KeepsVerdicts first _ all),
-        none_beside cause.EmptyDisallow number _ refl
-            (each_front KeepsVerdicts second _ (each_back KeepsVerdicts first _ all)),
+        none_beside cause.EmptyDisallow number _ refl (each_back KeepsVerdicts first _ all),
       ))
       (labels file)
       (each_flat KeepsVerdicts about (labels file)

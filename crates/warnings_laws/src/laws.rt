@@ -2,7 +2,7 @@
 ghost use Rattle.std.specs.Prelude.{◌&&◌, ◌||◌};
 ghost use Rattle.std.specs.Prelude.{[], All, Any, Bool, codes, Contains, false, if◌then◌else◌, IsSome, IsTrue};
 ghost use Rattle.std.specs.Prelude.{List, nat_eq, not, slice_get, Some, take, true, ℕ, ◌+◌, ◌↔◌, ◌∷◌, ◌≡◌, ◌≢◌};
-ghost use Rattle.std.specs.{List.count_by, List.starts_with, Str.byte, Str.is_utf8, Str.IsUtf8, Str.str_to_ascii_lowercase};
+ghost use Rattle.std.specs.{List.count_by, List.list_any, List.starts_with, Str.byte, Str.is_utf8, Str.IsUtf8, Str.str_to_ascii_lowercase};
 ghost use Rattle.texting_robots.specs.Callers.{Allow, AreLabelsOf, AreRulesFor, Disallow, escaped, file_limit};
 ghost use Rattle.texting_robots.specs.Callers.{file_lines, HoldsRule, is_named, IsDecidingLine, IsDenied};
 ghost use Rattle.texting_robots.specs.Callers.{IsRobotOfFile, IsVerdict, Label, LineValue, Matches};
@@ -16,7 +16,9 @@ ghost use Rattle.rfc9309_laws.specs.Matching.{all_stay, normal_uri};
 ghost use Rattle.warnings_laws.specs.{Syntax.IsRobotStated, Verdict.IsAsOneOf, Verdict.IsAsked, Verdict.IsStandardVerdict};
 ghost use Rattle.robots_warnings.specs.Conflicts.{IsConflict, IsOverruled, conflict, overruled, overruled_for};
 ghost use Rattle.robots_warnings.specs.EmptyDisallows.{IsEmptyDisallow, is_empty_at, stated_rules};
-ghost use Rattle.robots_warnings.specs.{Closed.is_closed_for, Contents.is_cut_to_root};
+ghost use Rattle.robots_warnings.specs.Closed.{line_closing, opened_paths, reach_of};
+ghost use Rattle.robots_warnings.specs.declared.closed.Reach.TheVariants.{Everything, Nothing};
+ghost use Rattle.robots_warnings.specs.Contents.{is_cut_to_root};
 ghost use Rattle.robots_warnings.specs.{NamesPastLimit.names_past_limit, Positions.is_above_agents};
 ghost use Rattle.robots_warnings.specs.{Repeated.repeated, Replaced.replacing, Replaced.star_count};
 ghost use Rattle.robots_warnings.specs.Rules.{begins_oddly, has_dollar_inside};
@@ -142,12 +144,23 @@ pub fn without_empty_disallows()
         → IsVerdict (unplaced rules) text answer ↔ IsVerdict (unplaced (stated_rules is_empty rules)) text answer }
 {}
 
-/// If `closes-everything` is given because of the rules of a crawler, every path is denied to the crawler, except
-/// `/robots.txt`.
+/// If `closes-everything` is given because of the rules of a crawler, every path is denied to the crawler, unless it begins
+/// with `/robots.txt` or with the path of a sitemap that the file lists.
 pub fn closes_everything()
     ensures { (agent : List ℕ) (lines : List LineValue) (rules : List PlacedRule) (number : ℕ) (text : List ℕ)
-        → is_closed_for lines number agent ≡ true → AreRulesFor agent lines rules
-        → byte "/" ∷ text ≢ robots_file → IsDenied (unplaced rules) (byte "/" ∷ text) }
+        → line_closing lines agent ≡ Some number → AreRulesFor agent lines rules
+        → list_any (starts_with nat_eq (byte "/" ∷ text)) (opened_paths lines) ≡ false
+        → IsDenied (unplaced rules) (byte "/" ∷ text) }
+{}
+
+/// If a report says that a crawler may fetch everything, no text is denied to it; if it says that it may fetch nothing, every
+/// path is, except `/robots.txt`.
+pub fn may_fetch()
+    ensures everything { (agent : List ℕ) (lines : List LineValue) (rules : List PlacedRule) (text : List ℕ)
+        → reach_of lines agent ≡ Everything → AreRulesFor agent lines rules → ¬ IsDenied (unplaced rules) text }
+    ensures nothing { (agent : List ℕ) (lines : List LineValue) (rules : List PlacedRule) (text : List ℕ)
+        → reach_of lines agent ≡ Nothing → AreRulesFor agent lines rules → byte "/" ∷ text ≢ robots_file
+        → IsDenied (unplaced rules) (byte "/" ∷ text) }
 {}
 
 /// A rule with `repeated-rule` decides no verdict, for any crawler. The labels may be those for another crawler.

@@ -13,5 +13,5 @@ returns c =
     (agents_at c.in_ok-closed.closed label.number)) labels ≡ site_warnings agents lines labels =
     λ i. flat_map (λ label. closing_warnings lines label.number
     (c.in_ok-closed.ensures label.number i)) labels in
-    subst (λ more. OnOk c.warn_of_lines.result (Adds c.args.found.now.items c.warn_of_lines.new.found.items more))
-    same c.warn_of_lines.ensures
+    subst (λ more. OnOk c.warn_of_lines.result
+    (Adds c.args.found.now.items c.warn_of_lines.new.found.items more)) same c.warn_of_lines.ensures
