@@ -14,8 +14,8 @@ use Rattle.robots_needless.specs.Deleted.{AreFoundIn, HaveSameRobot, IsLeftOf}
 use Rattle.robots_needless.specs.Needless.{AreFound, AreNeedless, lines_without, numbers_of}
 use Rattle.robots_needless.proofs.{LeftLemmas.left_within, LeftLemmas.same_robot, SettledLemmas.nothing_found}
 use Rattle.audit_core.specs.Audit.{AuditValue, IsAuditOf, AgentValue, IsAgentAudit, IsRuling, IsVerdictOn}
-use Rattle.audit_core.specs.Audit.{VerdictValue, agents_requested, group_of, labels_requested, rejects_some}
-use Rattle.audit_core.specs.Audit.{warnings_found, warnings_requested, labeling_agent}
+use Rattle.audit_core.specs.Audit.{VerdictValue, agents_requested, group_of, labels_requested, naming_line}
+use Rattle.audit_core.specs.Audit.{rejects_some, warnings_found, warnings_requested, labeling_agent}
 use Rattle.audit_core.specs.{Request.RequestValue, Asked.asked_target, Syntax.syntax_of}
 use Rattle.audit_core.specs.{Needless.needless_warning}
 use Rattle.std.specs.List.{All, AllByRecursion as Each, AllZip}
@@ -26,7 +26,7 @@ use Rattle.texting_robots.proofs.VerdictLemmas.{one_line_decides, one_verdict}
 use Rattle.texting_robots.proofs.HeldLemmas.{rejection_is_computed}
 use Rattle.texting_robots.proofs.{BestLemmas.each_text_answered, ExampleLemmas.overlong_decides}
 use Rattle.robots_needless.specs.declared.needless.NeedlessRule.{NeedlessRule}
-use Rattle.robots_warnings.specs.Facts.{is_too_large}
+use Rattle.robots_warnings.specs.{Closed.reach_of, Facts.is_too_large}
 use Rattle.texting_robots.specs.declared.decision.Decision.{Decision}
 use Rattle.rfc9309_laws.specs.Rfc9309.{Group, IsFile}
 use Rattle.rfc9309_laws.proofs.SyntaxLemmas.{each_front, passing}
@@ -207,43 +207,48 @@ first_overlong (rule ∷ rules) = by _ (overlong_decides rule.rule.0) (first_ove
       },
     )
 
-some_agent : (urls : List (List ℕ)) (lines : List LineValue) (agent : List ℕ)
-    → (value : AgentValue) × IsAgentAudit urls lines agent value
-some_agent urls lines agent = by (first_overlong (placed_rules agent lines))
+some_ruling : (urls : List (List ℕ)) (lines : List LineValue) (agent : List ℕ)
+    → (rejected : Option ℕ) × (verdicts : List VerdictValue) × IsRuling urls lines agent rejected verdicts
+some_ruling urls lines agent = by (first_overlong (placed_rules agent lines))
   where
     by : All IsShort (placed_rules agent lines)
         ⊎ ((line : ℕ) × IsFirstOverlong (placed_rules agent lines) line)
-        → (value : AgentValue) × IsAgentAudit urls lines agent value
+        → (rejected : Option ℕ) × (verdicts : List VerdictValue)
+        × IsRuling urls lines agent rejected verdicts
     by (inl none) =
         let rules = placed_rules agent lines in
         let (verdicts, are) = zip_some (IsVerdictOn rules) urls (λ url has. some_verdict rules url) in (
-          record {
-            agent = agent;
-            group = group_of agent lines;
-            delay = delay_for agent lines;
-            rejected = None;
-            verdicts = verdicts;
-          },
-          record {
-            agent_is = refl;
-            group_is = refl;
-            delay_is = refl;
-            ruling = (
-              λ rejected. none_unplaced (λ (rule : Rule). IsOverlong rule.0) rules none
-                  ((rejection_is_computed agent lines).0 rejected),
-              are,
-            );
-          },
+          None,
+          verdicts,
+          λ rejected. none_unplaced (λ (rule : Rule). IsOverlong rule.0) rules none
+              ((rejection_is_computed agent lines).0 rejected),
+          are,
         )
-    by (inr (line, is)) = (
+    by (inr (line, is)) = (Some line, [], is, refl)
+
+some_agent : (urls : List (List ℕ)) (lines : List LineValue) (agent : List ℕ)
+    → (value : AgentValue) × IsAgentAudit urls lines agent value
+some_agent urls lines agent =
+    let (rejected, verdicts, ruling) = some_ruling urls lines agent in (
       record {
         agent = agent;
         group = group_of agent lines;
+        group_line = naming_line agent lines;
+        rules = length (placed_rules agent lines);
+        reach = reach_of lines agent;
         delay = delay_for agent lines;
-        rejected = Some line;
-        verdicts = [];
+        rejected = rejected;
+        verdicts = verdicts;
       },
-      record { agent_is = refl; group_is = refl; delay_is = refl; ruling = (is, refl) },
+      record {
+        agent_is = refl;
+        group_is = refl;
+        line_is = refl;
+        rules_are = refl;
+        reach_is = refl;
+        delay_is = refl;
+        ruling = ruling;
+      },
     )
 
 pub some_audit : (requested : RequestValue) (file : List ℕ) → (audit : AuditValue)
@@ -254,6 +259,7 @@ some_audit requested file =
     let (agents, are) = zip_some (IsAgentAudit requested.urls lines) (agents_requested requested.agents lines)
     (λ agent has. some_agent requested.urls lines agent) in (
       record {
+        bytes = take file_limit file;
         labels = labels;
         agents = agents;
         warnings = warnings_requested requested file labels [];
@@ -266,6 +272,7 @@ some_audit requested file =
         needless_are = nothing_found (take file_limit file) [] refl;
         unrequested = λ off. refl;
         too_large = λ large. refl;
+        bytes_are = refl;
         labels_are = refl;
         agents_are = are;
         warnings_are = refl;
