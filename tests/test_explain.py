@@ -58,7 +58,7 @@ def test_explanation(name, tmp_path, monkeypatch):
     for line, _, example, corrected in parts:
         level, message = line.split()[0], line.split(": ", 1)[1]
         shown = re.sub(r"(?:URL|crawler) '.*?': | \([^)]*\)(?= \[)", "", given(example, tmp_path))
-        assert f"{level}: {re.sub(r' \([^)]*\)$', '', message)} [{name}]" in shown
+        assert f"{level}: {message} [{name}]" in shown
         assert not corrected or f"[{name}]" not in given(corrected, tmp_path)
     assert [line.split(":")[0] for line in below] in (["given"], ["given", "proved"])
 
