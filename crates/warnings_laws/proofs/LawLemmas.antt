@@ -222,11 +222,13 @@ some_ruling urls lines agent = by (first_overlong (placed_rules agent lines))
         let (verdicts, are) = zip_some (IsVerdictOn rules) urls (λ url has. some_verdict rules url) in (
           None,
           verdicts,
-          λ rejected. none_unplaced (λ (rule : Rule). IsOverlong rule.0) rules none
-              ((rejection_is_computed agent lines).0 rejected),
-          are,
+          (
+            λ rejected. none_unplaced (λ (rule : Rule). IsOverlong rule.0) rules none
+                ((rejection_is_computed agent lines).0 rejected),
+            are,
+          ),
         )
-    by (inr (line, is)) = (Some line, [], is, refl)
+    by (inr (line, is)) = (Some line, [], (is, refl))
 
 some_agent : (urls : List (List ℕ)) (lines : List LineValue) (agent : List ℕ)
     → (value : AgentValue) × IsAgentAudit urls lines agent value
