@@ -78,4 +78,5 @@ def test_an_error_has_no_colors():
 def test_the_file_adds_no_codes():
     """Codes in the names of files and in URLs are escaped, as without colors."""
     error, _ = audit(["--color=always", "-q", "-", "/%c3\x1b[31m"], TERMINAL, True)
-    assert error == warning_line("url-not-normal /%c3%1B[31m").replace("note", "\x1b[1;36mnote\x1b[0m", 1) + COLORED
+    plain = warning_lines(["url-not-normal /%c3%1B[31m", "2 missing-slash"])
+    assert error == plain.replace("note", "\x1b[1;36mnote\x1b[0m", 1).replace("error", "\x1b[1;31merror\x1b[0m", 1)

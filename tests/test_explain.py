@@ -33,7 +33,7 @@ def file_of(example):
     """The file that an example shows, and the arguments for which it is one."""
     file = spelled(re.sub("^    ", "", example, flags=re.M).removesuffix("\n"))
     named = re.match(rb"# robots_audit (.+)\n", file) or re.fullmatch(rb"robots_audit (.+)", file)
-    args = shlex.split(named[1].decode()) if named else ["-", "--agent", "FerrisBot"]
+    args = shlex.split(named[1].decode()) if named else ["-"]
     return file, args
 
 
@@ -41,7 +41,7 @@ def given(example, folder):
     """The warnings that are given for an example."""
     file, args = file_of(example)
     (folder / "robots.txt").write_bytes(file)
-    return run("robots_audit", args, file).err
+    return run("robots_audit", args, file, cwd=folder).err
 
 
 def test_list():
@@ -50,8 +50,7 @@ def test_list():
 
 
 @pytest.mark.parametrize("name", WARNINGS)
-def test_explanation(name, tmp_path, monkeypatch):
-    monkeypatch.chdir(tmp_path)
+def test_explanation(name, tmp_path):
     parts, below = explained(name)
     wanted = [(line, ABOUT[row["topic"]]) for row, line in listed() if row["name"] == name]
     assert [part[:2] for part in parts] == wanted
@@ -71,7 +70,7 @@ def test_examples_are_those_of_the_data():
             shown.append((args, re.sub(rb"\A(?:# )?robots_audit .+(?:\n|\Z)", b"", file)))
         rows = [row for row in ALL_WARNINGS if row["name"] == name]
         for row in rows:
-            assert (shlex.split(row.get("args", "- --agent FerrisBot")), spelled(row.get("file", ""))) in shown
+            assert (shlex.split(row.get("args", "-")), spelled(row.get("file", ""))) in shown
 
 
 def test_theorems_are_named():

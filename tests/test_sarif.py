@@ -61,7 +61,7 @@ def log(*args, file=ROBOTS, status=0, **options):
 
 def message(name):
     """The message of the first warning with this name."""
-    return WARNINGS[name][0][1]
+    return WARNINGS[name][-1][1]
 
 
 def read(message):
@@ -95,7 +95,7 @@ def test_results():
     ]
     assert list(results(log("-", file=b""))) == [("warning", "empty-file", message("empty-file"), "robots.txt", 1)]
     named = f"URL '/%c3': {message('url-not-normal')}"
-    assert list(results(log("-", "/%c3", file=b"#"))) == [("note", "url-not-normal", named, "robots.txt", 1)]
+    assert list(results(log("-", "/%c3", file=b"Sitemap: http://a"))) == [("note", "url-not-normal", named, "robots.txt", 1)]
 
 
 @pytest.mark.parametrize("url", ["/b{0}", "/b[ok](https://evil.example)", "/b\\[ok](1)", "/b{{}}\\\\[]\u00fc\u20ac\U0001f600"])
