@@ -10,7 +10,7 @@ returns c = if_ok c.compare.result (λ answer is. record {
     asked = c.in_ok-request.ensures;
     urls = rw c.get_str.ensures at c.in_ok-whole.ensures;
   };
-  older = c.deref-2.result.now;
-  newer = c.deref-3.result.now;
+  older = c.deref-4.result.now;
+  newer = c.deref-5.result.now;
   compared = is;
-}) c.compare.ensures.ok
+}) (rw (c.deref-2.ensures.value, c.deref-3.ensures.value) at c.compare.ensures.ok)
