@@ -5,9 +5,9 @@ The program texting_robots_tests makes the call of the library that its input na
 runs the program with enough memory.
 """
 
-import re
 import json
 import os
+import re
 import tempfile
 from itertools import count
 
