@@ -4,13 +4,17 @@ They share a process, as Twisted's reactor starts once.
 """
 
 import contextlib
+import itertools
 import json
 import resource
 import sys
+import time
 
 import scrapy
+from scrapy.core.downloader.handlers.http11 import HTTP11DownloadHandler
 from scrapy.crawler import CrawlerProcess
 
+from texting_robots.middleware import sitemaps_found
 from texting_robots.scrapy import RobotParser
 
 
@@ -38,12 +42,33 @@ class WithoutMemoryToDecide(RobotParser):
             return super().allowed(url, user_agent)
 
 
+class Stamped(HTTP11DownloadHandler):
+    """Tells the server when a request is sent."""
+
+    def download_request(self, request, *words):
+        request.headers["Sent"] = str(time.monotonic())
+        return super().download_request(request, *words)
+
+
 class Spider(scrapy.Spider):
+    """Follows all links, and if a setting says so, with a slot of its own for each request."""
+
     name = "small_site"
+    numbers = itertools.count()
 
     def parse(self, response):
         for link in response.css("a"):
-            yield response.follow(link, self.parse)
+            slot = {"download_slot": f"slot {next(self.numbers)}"} if self.settings.getbool("SLOTS_APART") else {}
+            yield response.follow(link, self.parse, meta=slot)
+
+    def log_sitemaps(self, sitemaps, robots_url, spider):
+        self.logger.warning("%s has %s", robots_url, sitemaps)
+
+    @classmethod
+    def from_crawler(cls, crawler, **words):
+        spider = super().from_crawler(crawler, **words)
+        crawler.signals.connect(spider.log_sitemaps, sitemaps_found)
+        return spider
 
 
 process = CrawlerProcess({"LOG_LEVEL": "WARNING", "TELNETCONSOLE_ENABLED": False, "RETRY_ENABLED": False, "ROBOTSTXT_OBEY": True})

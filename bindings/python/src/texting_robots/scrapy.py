@@ -47,6 +47,20 @@ class RobotParser(ScrapyRobotParser):
             _warn(self._spider, "robots.txt for %s: out of memory: it isn't fetched", url)
             return False
 
+    def delay(self, user_agent: str | bytes) -> float:
+        """How many seconds the crawler waits between two requests, or 0 if the file doesn't say."""
+        return self._robots.delay(product_token(_text(user_agent))) or 0.0
+
+    @property
+    def sitemaps(self) -> list[str]:
+        """The sitemaps, as the file has them."""
+        return self._robots.sitemaps
+
+    @property
+    def size(self) -> int:
+        """How many bytes of the file are kept."""
+        return len(self._robots._site.body)
+
     def _allowed(self, url: str, user_agent: str) -> bool:
         if user_agent.lstrip().startswith("Mozilla/") and not RobotParser._has_warned:
             RobotParser._has_warned = True
@@ -65,7 +79,7 @@ class _Closed(RobotParser):
     """The parser of a file that there is no memory for. Nothing is fetched."""
 
     def __init__(self) -> None:
-        pass
+        super().__init__(b"")
 
     def allowed(self, url: str | bytes, user_agent: str | bytes) -> bool:
         return False

@@ -1,0 +1,523 @@
+"""Crawls by Scrapy with the middleware, of sites on 127.0.0.1 that answer in many ways: what is fetched, what isn't, and when."""
+
+import contextlib
+import itertools
+import json
+import re
+import subprocess
+import sys
+import threading
+import time
+import types
+from http.server import BaseHTTPRequestHandler, ThreadingHTTPServer
+from pathlib import Path
+
+import package
+import pytest
+
+package.needs("scrapy")
+
+from scrapy.core.downloader import Slot  # noqa: E402
+from scrapy.exceptions import IgnoreRequest, NotConfigured, StopDownload  # noqa: E402
+from scrapy.http import Request, Response  # noqa: E402
+from scrapy.utils.test import get_crawler  # noqa: E402
+from twisted.internet.defer import Deferred, ensureDeferred  # noqa: E402
+from twisted.python.failure import Failure  # noqa: E402
+
+from texting_robots import middleware  # noqa: E402
+from texting_robots._pacing import Pace  # noqa: E402
+
+PAGES = ["/", "/private/x", "/private/y", "/public/a", "/public/b"]
+PUBLIC = ["/", "/public/a", "/public/b"]
+ALL_LINKS = dict.fromkeys(PAGES, PAGES)
+ONE_AFTER_ANOTHER = {"/": ["/private/x", "/public/a"], "/public/a": ["/private/y", "/public/b"]}
+RULES = b"User-agent: *\nDisallow: /private/\n"
+CLOSED = b"User-agent: *\nDisallow: /\n"
+SITEMAPS = [f"https://example.com/{number}.xml" for number in range(2)]
+MIDDLEWARE = {
+    "ROBOTSTXT_OBEY": True,
+    "USER_AGENT": "FerrisBot/1.0 (+https://example.com/bot)",
+    "DOWNLOAD_HANDLERS": {"http": "__main__.Stamped"},
+    "DOWNLOADER_MIDDLEWARES": {
+        "scrapy.downloadermiddlewares.robotstxt.RobotsTxtMiddleware": None,
+        "texting_robots.middleware.RobotsMiddleware": 100,
+    },
+}
+TOLERANCE = 0.1  # seconds, as a process on a busy machine may stop at any point
+
+
+class Site(ThreadingHTTPServer):
+    """A small site. Each of its answers to a request for robots.txt is the next one of a list, and the last one again and again."""
+
+    daemon_threads = True
+
+    def __init__(self, *answers, links=ALL_LINKS, settings=None):
+        super().__init__(("127.0.0.1", 0), Handler)
+        self.answers, self.links, self.settings = list(answers), links, settings or {}
+        self.got, self.closing, self.peer = [], threading.Event(), self
+
+    @property
+    def address(self):
+        return f"http://127.0.0.1:{self.server_address[1]}"
+
+    def pages(self):
+        """Which pages were fetched."""
+        return sorted({path for _, path in self.got if path in PAGES})
+
+    def paths(self):
+        return [path for _, path in self.got]
+
+
+@contextlib.contextmanager
+def served(sites):
+    """Serves the sites in threads."""
+    for site in sites:
+        threading.Thread(target=site.serve_forever, kwargs={"poll_interval": 0.05}, daemon=True).start()
+    try:
+        yield
+    finally:
+        for site in sites:
+            site.closing.set()
+            site.shutdown()
+            site.server_close()
+
+
+def crawled(sites):
+    """Crawls the sites side by side in one process, and returns its log."""
+    given = [[f"{site.address}/", MIDDLEWARE | site.settings] for site in sites]
+    words = [sys.executable, Path(__file__).with_name("crawl.py")]
+    ended = subprocess.run(words, input=json.dumps(given), capture_output=True, text=True, timeout=120, env=package.WITH_PACKAGE)
+    assert ended.returncode == 0, ended.stderr
+    return ended.stderr
+
+
+class Handler(BaseHTTPRequestHandler):
+    protocol_version = "HTTP/1.1"
+
+    def do_GET(self):
+        site = self.server
+        site.got.append((float(self.headers["Sent"]), self.path))
+        if self.path == "/robots.txt":
+            (site.answers.pop(0) if len(site.answers) > 1 else site.answers[0])(self)
+        elif self.path.startswith("/step/"):
+            redirects(int(self.path[6:]))(self)
+        else:
+            links = site.links.get(self.path, [])
+            answers(200, "".join(f'<a href="{link}">x</a>' for link in links).encode(), kind="text/html")(self)
+
+    def log_message(self, *_):
+        pass
+
+
+def answers(status, body=RULES, length=None, kind="text/plain", **fields):
+    """An answer with this status and body, or the first part of a body of this length."""
+
+    def answer(handler):
+        handler.send_response(status)
+        fields.update({"Content-Type": kind, "Content-Length": str(length or len(body))})
+        for name, value in fields.items():
+            handler.send_header(name, value)
+        handler.end_headers()
+        handler.wfile.write(body)
+        handler.close_connection = length is not None
+
+    return answer
+
+
+def redirects(times):
+    """So many redirects in a row, from one authority to another one and back; then the rules."""
+
+    def answer(handler):
+        target = f"{handler.server.peer.address}/step/{times - 1}"
+        (answers(301, b"", Location=target) if times else answers(200))(handler)
+
+    return answer
+
+
+def closes(handler):
+    """Nothing: the connection is closed."""
+    handler.close_connection = True
+
+
+def never(handler):
+    """Nothing, but the connection stays open."""
+    handler.server.closing.wait(60)
+    handler.close_connection = True
+
+
+def endless(handler):
+    """The rules, and then lines without an end."""
+    handler.send_response(200)
+    handler.end_headers()
+    handler.wfile.write(RULES)
+    with contextlib.suppress(OSError):
+        while not handler.server.closing.is_set():
+            handler.wfile.write(b"# filler\n" * 10_000)
+    handler.close_connection = True
+
+
+FAILS, HALF = answers(500, b""), answers(200, RULES, length=2 * len(RULES))
+LONG = RULES + b"# filler\n" * 60_000 + b"Disallow: /public/\n"
+WITH_SITEMAPS = RULES + "".join(f"Sitemap: {it}\n" for it in SITEMAPS).encode()
+
+# the answers for robots.txt, and which pages are fetched then
+MEANINGS = {
+    "200": (answers(200), PUBLIC),
+    "200 without a byte": (answers(200, b""), PAGES),
+    "200 with more than 512,000 bytes": (answers(200, LONG), PUBLIC),
+    "200 without an end": (endless, PUBLIC),
+    "five redirects": (redirects(5), PUBLIC),
+    "six redirects": (redirects(6), PAGES),
+    "301 without a location": (answers(301), []),
+    "301 to another scheme": (answers(301, Location="data:text/plain,"), []),
+    "206": (answers(206), []),
+    "304": (answers(304, b""), []),
+    "401": (answers(401, CLOSED), PAGES),
+    "403": (answers(403, CLOSED), PAGES),
+    "404": (answers(404, CLOSED), PAGES),
+    "429": (answers(429, b""), []),
+    "500": (FAILS, []),
+    "503": (answers(503), []),
+    "nothing": (closes, []),
+    "no answer": (never, []),
+    "half a body": (HALF, []),
+}
+# the same for several answers; each counts for a page and then expires
+LATER = {
+    "200, then 500": ([answers(200), FAILS], PUBLIC),
+    "200, then nothing": ([answers(200), closes], PUBLIC),
+    "200, then half a body": ([answers(200), HALF], PUBLIC),
+    "200, then 429": ([answers(200), answers(429, b"")], PUBLIC),
+    "200, 500, then 200": ([answers(200), FAILS, answers(200)], PUBLIC),
+    "200, then another file": ([answers(200), answers(200, CLOSED)], ["/"]),
+    "200, then 404": ([answers(200), answers(404, CLOSED)], PAGES),
+    "200, 404, then 500": ([answers(200), answers(404), FAILS], ["/", "/private/x", "/public/a"]),
+    "404, then 500": ([answers(404), FAILS], ["/"]),
+    "200 with sitemaps": ([answers(200, WITH_SITEMAPS)], PUBLIC),
+}
+EXPIRES = {"TEXTING_ROBOTS_LIFETIME": 0.1, "TEXTING_ROBOTS_RETRY": 0.1, "DOWNLOAD_DELAY": 0.3, "RANDOMIZE_DOWNLOAD_DELAY": False}
+
+# the delay that a file asks for, settings, and the delay that is kept
+DELAYS = {
+    "at random": (0.5, {}, 0.5),
+    "AutoThrottle": (0.5, {"AUTOTHROTTLE_ENABLED": True, "AUTOTHROTTLE_START_DELAY": 0.01, "AUTOTHROTTLE_TARGET_CONCURRENCY": 99}, 0.5),
+    "a slot for each request": (0.5, {"SLOTS_APART": True}, 0.5),
+    "a shorter DOWNLOAD_DELAY": (0.5, {"DOWNLOAD_DELAY": 0.1}, 0.5),
+    "a longer DOWNLOAD_DELAY": (0.1, {"DOWNLOAD_DELAY": 0.5, "RANDOMIZE_DOWNLOAD_DELAY": False}, 0.5),
+    "capped": (1000, {"TEXTING_ROBOTS_MAX_DELAY": 0.5}, 0.5),
+    "turned off": (1000, {"TEXTING_ROBOTS_MAX_DELAY": 0}, 0),
+}
+
+
+def with_delay(seconds):
+    return answers(200, RULES + f"Crawl-delay: {seconds}\n".encode())
+
+
+@pytest.fixture(scope="module")
+def crawls():
+    """The sites after all crawls, and the log."""
+    sites = {name: Site(answer, settings={"DOWNLOAD_TIMEOUT": 2}) for name, (answer, _) in MEANINGS.items()}
+    sites |= {name: Site(*several, links=ONE_AFTER_ANOTHER, settings=EXPIRES) for name, (several, _) in LATER.items()}
+    sites |= {name: Site(with_delay(seconds), settings=settings) for name, (seconds, settings, _) in DELAYS.items()}
+    slow = Site(with_delay(0.6))
+    links = {path: [slow.address + other, other] for path, other in itertools.pairwise(PUBLIC)}
+    sites["two in a slot"] = Site(with_delay(0.1), links=links)
+    for name in ("five redirects", "six redirects"):
+        sites[name].peer = peer = Site(FAILS)
+        peer.peer = sites[name]
+    with served([*sites.values(), slow, *(site.peer for site in sites.values() if site.peer is not site)]):
+        log = crawled(sites.values())
+    return sites | {"slow": slow}, log
+
+
+@pytest.mark.parametrize("name", MEANINGS)
+def test_what_is_fetched_after_an_answer(crawls, name):
+    assert crawls[0][name].pages() == MEANINGS[name][1]
+
+
+@pytest.mark.parametrize("name", LATER)
+def test_what_is_fetched_after_a_later_answer(crawls, name):
+    """The previous file counts while the server fails, and no longer than that."""
+    site = crawls[0][name]
+    assert site.pages() == LATER[name][1]
+    assert site.paths().count("/robots.txt") >= len(site.pages()) // 2 + 1
+
+
+def test_the_file_is_fetched_once_and_first(crawls):
+    for name in ("200", "403", "500"):
+        assert [index for index, path in enumerate(crawls[0][name].paths()) if path == "/robots.txt"] == [0]
+
+
+def test_redirects_lead_to_another_authority(crawls):
+    five, six = crawls[0]["five redirects"], crawls[0]["six redirects"]
+    assert five.peer.paths() == [f"/step/{number}" for number in (4, 2, 0)]
+    assert [path for path in five.paths() if "/step/" in path] == ["/step/3", "/step/1"]
+    assert six.peer.paths() + sorted(path for path in six.paths() if "/step/" in path) == [f"/step/{number}" for number in (5, 3, 1, 2, 4)]
+
+
+def gaps(moments):
+    return [later - earlier for earlier, later in itertools.pairwise(sorted(moments))]
+
+
+@pytest.mark.parametrize("name", DELAYS)
+def test_delays(crawls, name):
+    site, (asked, _, kept) = crawls[0][name], DELAYS[name]
+    moments = [moment for moment, _ in site.got]
+    assert site.pages() == PUBLIC and min(gaps(moments)) >= kept - TOLERANCE
+    assert moments[-1] - moments[0] < 20
+
+
+def test_a_slot_of_two_sites_keeps_the_longer_delay(crawls):
+    """From the first page on for which it is known."""
+    fast, slow = crawls[0]["two in a slot"], crawls[0]["slow"]
+    moments = sorted(moment for moment, _ in fast.got + slow.got)
+    assert fast.pages() == slow.pages() == PUBLIC
+    assert min(gaps(moments[moments.index(slow.got[1][0]) - 1 :])) >= 0.6 - TOLERANCE
+
+
+def test_sitemaps_come_once_for_a_file(crawls):
+    """Also if the file is fetched again."""
+    sites, log = crawls
+    assert re.findall(r"WARNING: (http\S*) has (\[.*)", log) == [(f"{sites['200 with sitemaps'].address}/robots.txt", str(SITEMAPS))]
+
+
+RESUMED = {"the same": (answers(200), PUBLIC), "closed": (answers(200, CLOSED), ["/"]), "fails": (FAILS, ["/"])}
+
+
+@pytest.fixture(scope="module")
+def resumed(tmp_path_factory):
+    """The sites of crawls that were stopped after a page and resumed, with another reactor of Scrapy."""
+    settings = {"CONCURRENT_REQUESTS": 1, "TWISTED_REACTOR": "twisted.internet.asyncioreactor.AsyncioSelectorReactor"}
+    sites = {}
+    for name, (answer, _) in RESUMED.items():
+        folder = str(tmp_path_factory.mktemp("job"))
+        sites[name] = Site(answers(200), answer, settings=settings | {"JOBDIR": folder, "CLOSESPIDER_PAGECOUNT": 1})
+    with served(sites.values()):
+        crawled(sites.values())
+        for site in sites.values():
+            del site.settings["CLOSESPIDER_PAGECOUNT"]
+        crawled(sites.values())
+    return sites
+
+
+@pytest.mark.parametrize("name", RESUMED)
+def test_a_resumed_crawl_fetches_the_file_again(resumed, name):
+    assert resumed[name].paths()[:3] == ["/robots.txt", "/", "/robots.txt"]
+    assert resumed[name].pages() == RESUMED[name][1]
+
+
+# ---- without a crawl
+
+
+class Engine:
+    """Answers requests as it is told to, or when it is told to."""
+
+    def __init__(self, answer):
+        self.answer, self.requests = answer, []
+        self.downloader = types.SimpleNamespace(slots={})
+
+    def download(self, request):
+        self.requests.append(request)
+        answer = self.answer(request)
+        if isinstance(answer, Deferred):
+            return answer
+        deferred = Deferred()
+        deferred.callback(answer)
+        return deferred
+
+    def urls(self):
+        return [request.url for request in self.requests]
+
+
+def ours(answer, **settings):
+    """A middleware whose engine answers this, with its crawler."""
+    crawler = get_crawler(settings_dict={"ROBOTSTXT_OBEY": True, "USER_AGENT": "FerrisBot/1.0"} | settings)
+    crawler.engine = Engine(answer)
+    return middleware.RobotsMiddleware.from_crawler(crawler), crawler
+
+
+def file(body=RULES, status=200, **fields):
+    return lambda request: Response(request.url, status, fields, body)
+
+
+def decided(asked):
+    """Whether the request is allowed."""
+    results = []
+    asked.addCallbacks(results.append, lambda failure: results.append(failure.trap(IgnoreRequest)))
+    return results[0] is None
+
+
+def allowed(robots, url, **words):
+    return decided(ensureDeferred(robots.process_request(Request(url, **words))))
+
+
+def test_requests_to_a_site_wait_for_one_file():
+    pending = Deferred()
+    robots, crawler = ours(lambda request: pending)
+    asked = [ensureDeferred(robots.process_request(Request(f"http://a.example{path}"))) for path in PAGES]
+    assert not any(it.called for it in asked) and crawler.engine.urls() == ["http://a.example/robots.txt"]
+    pending.callback(file()(crawler.engine.requests[0]))
+    assert [path for path, it in zip(PAGES, asked) if decided(it)] == PUBLIC
+    assert len(crawler.engine.requests) == 1
+
+
+def test_a_site_is_a_scheme_with_a_host_and_a_port():
+    robots, crawler = ours(file())
+    urls = ["http://a.example/", "HTTP://name@A.example:80/x?y#z", "https://a.example/", "http://a.example:8080/", "http://b.a.example/"]
+    assert all(allowed(robots, url) for url in [*urls, "ftp://a.example/x"])
+    schemes = ["http://a.example", "https://a.example", "http://a.example:8080", "http://b.a.example", "ftp://a.example"]
+    assert crawler.engine.urls() == [f"{it}/robots.txt" for it in schemes]
+
+
+def test_lifetime(monkeypatch):
+    now = [0.0]
+    monkeypatch.setattr(middleware.time, "monotonic", lambda: now[0])
+    robots, crawler = ours(file())
+
+    def after(seconds, answer):
+        now[0], crawler.engine.answer, before = now[0] + seconds, answer, len(crawler.engine.requests)
+        return allowed(robots, "http://a.example/"), allowed(robots, "http://a.example/private/"), len(crawler.engine.requests) - before
+
+    assert after(0, file(status=500)) == (False, False, 1)
+    assert after(299, file()) == (False, False, 0)
+    assert after(2, file()) == (True, False, 1)
+    assert after(86_399, file(CLOSED)) == (True, False, 0)
+    assert after(2, file(status=500)) == (True, False, 1)
+    assert after(299, file(CLOSED)) == (True, False, 0)
+    assert after(2, file(status=404)) == (True, True, 1)
+    assert after(86_399, file(CLOSED)) == (True, True, 0)
+    assert after(2, file(CLOSED)) == (False, False, 1)
+
+
+def test_the_file_that_was_not_used_for_longest_goes_first():
+    filler = b"#" * 9000
+    robots, crawler = ours(file(filler), TEXTING_ROBOTS_BUDGET=25_000)
+    for name, fetched in [("a", 1), ("b", 1), ("a", 0), ("c", 1), ("a", 0), ("c", 0), ("b", 1), ("a", 1)]:
+        before = len(crawler.engine.requests)
+        assert allowed(robots, f"http://{name}.example/") and len(crawler.engine.requests) - before == fetched, name
+    assert robots._size == sum(site.size for site in robots._sites.values()) <= 25_000
+
+
+def test_a_file_that_is_larger_than_the_budget_is_kept_alone():
+    robots, crawler = ours(file(b"#" * 9000), TEXTING_ROBOTS_BUDGET=1)
+    assert [allowed(robots, url) for url in ("http://a.example/", "http://a.example/x", "http://b.example/")] == [True] * 3
+    assert len(crawler.engine.requests) == 2 and list(robots._sites) == ["http://b.example/robots.txt"]
+
+
+def fails(error):
+    return lambda request: Failure(error)
+
+
+def test_stats(caplog):
+    robots, crawler = ours(file())
+    assert not allowed(robots, "http://a.example/private/") and allowed(robots, "http://a.example/")
+    crawler.engine.answer = file(status=503)
+    assert not allowed(robots, "http://b.example/")
+    for host, error in [("c", OSError("broken")), ("d", IgnoreRequest("refused")), ("e", MemoryError())]:
+        crawler.engine.answer = fails(error)
+        assert not allowed(robots, f"http://{host}.example/")
+    names = {"forbidden": 5, "request_count": 5, "response_count": 2, "response_status_count/200": 1, "response_status_count/503": 1}
+    names |= {"exception_count/<class 'OSError'>": 1, "exception_count/<class 'MemoryError'>": 1}
+    assert {name: count for name, count in crawler.stats.get_stats().items() if name.startswith("robotstxt/")} == {f"robotstxt/{name}": count for name, count in names.items()}
+    messages = [f"http://{host}.example/robots.txt can't be fetched: " for host in "bcde"]
+    assert [record.getMessage() for record in caplog.records if record.name == middleware.__name__ and record.levelname != "DEBUG"] == [
+        f"{start}{end}" for start, end in zip(messages, ["status 503", "broken", "refused", ""])
+    ]
+
+
+def test_what_goes_without_a_file():
+    robots, crawler = ours(file(CLOSED))
+    assert allowed(robots, "http://a.example/", meta={"dont_obey_robotstxt": True})
+    assert allowed(robots, "data:text/plain,") and allowed(robots, "file:///x") and crawler.engine.requests == []
+    assert not allowed(robots, "http://a.example/") and allowed(robots, "http://a.example/robots.txt")
+    with pytest.raises(NotConfigured):
+        ours(file(), ROBOTSTXT_OBEY=False)
+
+
+GROUPS = b"User-agent: *\nDisallow: /\nUser-agent: FerrisBot\nDisallow: /private/\nUser-agent: Other\nDisallow: /public/\n"
+
+
+def test_the_name_of_the_crawler():
+    """That of the setting, or of the request, or of the spider, or of all spiders."""
+
+    def groups(spider=None, headers=None, **settings):
+        robots, crawler = ours(file(GROUPS), **settings)
+        crawler.spider = spider
+        return [allowed(robots, f"http://a.example{path}", headers=headers) for path in ("/private/", "/public/")]
+
+    ferris, other, neither = [False, True], [True, False], [False, False]
+    assert groups() == ferris and groups(USER_AGENT="Nobody/1.0") == neither
+    assert groups(headers={"User-Agent": "Other/1.0"}) == groups(types.SimpleNamespace(user_agent="Other/1.0")) == other
+    assert groups(types.SimpleNamespace(user_agent="Other/1.0"), {"User-Agent": "Nobody"}) == neither
+    assert groups(headers={"User-Agent": "Nobody"}, ROBOTSTXT_USER_AGENT="Other") == other
+
+
+def test_a_newer_scrapy():
+    """Its engine has a coroutine, and it gives no spider."""
+    robots, crawler = ours(file())
+
+    async def download_async(request):
+        return file()(request)
+
+    crawler.engine.download_async, crawler.engine.download = download_async, None
+    assert allowed(robots, "http://a.example/") and not allowed(robots, "http://a.example/private/")
+
+
+def test_redirects_that_lead_nowhere():
+    for location in ["ftp://a.example/", "file:///etc/passwd", "http://[/", "data:,"]:
+        robots, crawler = ours(file(CLOSED, 301, Location=location))
+        assert not allowed(robots, "http://a.example/") and len(crawler.engine.requests) == 1
+
+
+def test_downloads_end_after_what_counts():
+    robots, crawler = ours(file())
+    assert allowed(robots, "http://a.example/")
+    (request,) = crawler.engine.requests
+    received = [(request, 600_000), (Request("http://a.example/"), 5_000_000), (request.copy(), 600_000), (request, 423_999)]
+    for it, length in received:
+        robots._bytes_received(bytes(length), it)
+    robots._bytes_received(b"x", request)
+    with pytest.raises(StopDownload):
+        robots._bytes_received(b"x", request)
+    flagged = [Response("http://a.example/robots.txt", 200, body=b"#" * length, flags=["download_stopped"]) for length in (511_999, 512_000)]
+    for response, complete in zip(flagged, [False, True]):
+        assert allowed(ours(lambda request: response)[0], "http://a.example/") is complete
+
+
+def test_a_slot_waits_for_all_its_sites():
+    slot, other, pace, longer = Slot(8, 0.1, False), Slot(8, 0.1, False), Pace(), Pace()
+    pace.enter(slot)
+    assert slot.download_delay() == 0.1
+    pace.keep(2)
+    assert slot.download_delay() == 2
+    longer.keep(3)
+    longer.enter(slot)
+    assert (slot.download_delay(), slot.delay) == (3, 0.1)
+    longer.keep(1)
+    assert slot.download_delay() == 2
+    slot.delay = 4
+    assert slot.download_delay() == 4
+    slot.lastseen, other.lastseen = 1_000_000_000, 999_999_999
+    slot.active.add("a request")
+    pace.enter(other)
+    assert other.download_delay() == 2 + 1 and slot.download_delay() == 4
+    pace.keep(0)
+    assert other.download_delay() == 0.1
+
+
+def test_a_delay_at_random_is_never_shorter():
+    slot, pace = Slot(8, 1, True), Pace()
+    pace.enter(slot)
+    pace.keep(1)
+    delays = [slot.download_delay() for _ in range(1000)]
+    assert min(delays) == 1 and max(delays) > 1.4
+
+
+def test_slots_that_no_longer_matter_are_forgotten():
+    pace, slots = Pace(), [Slot(8, 0, False) for _ in range(9)]
+    pace.keep(5)
+    slots[1].active.add("a request")
+    slots[2].lastseen = time.time()
+    for slot in slots:
+        pace.enter(slot)
+    assert pace._slots == [slots[8], slots[2], slots[1]]
