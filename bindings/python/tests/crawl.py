@@ -71,7 +71,8 @@ class Spider(scrapy.Spider):
         return spider
 
 
-process = CrawlerProcess({"LOG_LEVEL": "WARNING", "TELNETCONSOLE_ENABLED": False, "RETRY_ENABLED": False, "ROBOTSTXT_OBEY": True})
+SETTINGS = {"LOG_LEVEL": "WARNING", "TELNETCONSOLE_ENABLED": False, "RETRY_ENABLED": False, "ROBOTSTXT_OBEY": True}
+process = CrawlerProcess(SETTINGS | {"DOWNLOAD_HANDLERS": {"http": Stamped}})
 for url, settings in json.load(sys.stdin):
     process.crawl(type("OneSpider", (Spider,), {"custom_settings": settings}), start_urls=[url])
 process.start()

@@ -1,19 +1,13 @@
 """Crawls by Scrapy with the middleware, of sites on 127.0.0.1 that answer in many ways: what is fetched, what isn't, and when."""
 
-import contextlib
 import itertools
-import json
 import re
-import subprocess
-import sys
-import threading
 import time
 import types
-from http.server import BaseHTTPRequestHandler, ThreadingHTTPServer
-from pathlib import Path
 
 import package
 import pytest
+from sites import PAGES, PUBLIC, RULES, Site, answers, closes, crawled, endless, never, redirects, served
 
 package.needs("scrapy")
 
@@ -27,133 +21,17 @@ from twisted.python.failure import Failure  # noqa: E402
 from texting_robots import middleware  # noqa: E402
 from texting_robots._pacing import Pace  # noqa: E402
 
-PAGES = ["/", "/private/x", "/private/y", "/public/a", "/public/b"]
-PUBLIC = ["/", "/public/a", "/public/b"]
-ALL_LINKS = dict.fromkeys(PAGES, PAGES)
 ONE_AFTER_ANOTHER = {"/": ["/private/x", "/public/a"], "/public/a": ["/private/y", "/public/b"]}
-RULES = b"User-agent: *\nDisallow: /private/\n"
 CLOSED = b"User-agent: *\nDisallow: /\n"
 SITEMAPS = [f"https://example.com/{number}.xml" for number in range(2)]
 MIDDLEWARE = {
-    "ROBOTSTXT_OBEY": True,
     "USER_AGENT": "FerrisBot/1.0 (+https://example.com/bot)",
-    "DOWNLOAD_HANDLERS": {"http": "__main__.Stamped"},
     "DOWNLOADER_MIDDLEWARES": {
         "scrapy.downloadermiddlewares.robotstxt.RobotsTxtMiddleware": None,
         "texting_robots.middleware.RobotsMiddleware": 100,
     },
 }
 TOLERANCE = 0.1  # seconds, as a process on a busy machine may stop at any point
-
-
-class Site(ThreadingHTTPServer):
-    """A small site. Each of its answers to a request for robots.txt is the next one of a list, and the last one again and again."""
-
-    daemon_threads = True
-
-    def __init__(self, *answers, links=ALL_LINKS, settings=None):
-        super().__init__(("127.0.0.1", 0), Handler)
-        self.answers, self.links, self.settings = list(answers), links, settings or {}
-        self.got, self.closing, self.peer = [], threading.Event(), self
-
-    @property
-    def address(self):
-        return f"http://127.0.0.1:{self.server_address[1]}"
-
-    def pages(self):
-        """Which pages were fetched."""
-        return sorted({path for _, path in self.got if path in PAGES})
-
-    def paths(self):
-        return [path for _, path in self.got]
-
-
-@contextlib.contextmanager
-def served(sites):
-    """Serves the sites in threads."""
-    for site in sites:
-        threading.Thread(target=site.serve_forever, kwargs={"poll_interval": 0.05}, daemon=True).start()
-    try:
-        yield
-    finally:
-        for site in sites:
-            site.closing.set()
-            site.shutdown()
-            site.server_close()
-
-
-def crawled(sites):
-    """Crawls the sites side by side in one process, and returns its log."""
-    given = [[f"{site.address}/", MIDDLEWARE | site.settings] for site in sites]
-    words = [sys.executable, Path(__file__).with_name("crawl.py")]
-    ended = subprocess.run(words, input=json.dumps(given), capture_output=True, text=True, timeout=120, env=package.WITH_PACKAGE)
-    assert ended.returncode == 0, ended.stderr
-    return ended.stderr
-
-
-class Handler(BaseHTTPRequestHandler):
-    protocol_version = "HTTP/1.1"
-
-    def do_GET(self):
-        site = self.server
-        site.got.append((float(self.headers["Sent"]), self.path))
-        if self.path == "/robots.txt":
-            (site.answers.pop(0) if len(site.answers) > 1 else site.answers[0])(self)
-        elif self.path.startswith("/step/"):
-            redirects(int(self.path[6:]))(self)
-        else:
-            links = site.links.get(self.path, [])
-            answers(200, "".join(f'<a href="{link}">x</a>' for link in links).encode(), kind="text/html")(self)
-
-    def log_message(self, *_):
-        pass
-
-
-def answers(status, body=RULES, length=None, kind="text/plain", **fields):
-    """An answer with this status and body, or the first part of a body of this length."""
-
-    def answer(handler):
-        handler.send_response(status)
-        fields.update({"Content-Type": kind, "Content-Length": str(length or len(body))})
-        for name, value in fields.items():
-            handler.send_header(name, value)
-        handler.end_headers()
-        handler.wfile.write(body)
-        handler.close_connection = length is not None
-
-    return answer
-
-
-def redirects(times):
-    """So many redirects in a row, from one authority to another one and back; then the rules."""
-
-    def answer(handler):
-        target = f"{handler.server.peer.address}/step/{times - 1}"
-        (answers(301, b"", Location=target) if times else answers(200))(handler)
-
-    return answer
-
-
-def closes(handler):
-    """Nothing: the connection is closed."""
-    handler.close_connection = True
-
-
-def never(handler):
-    """Nothing, but the connection stays open."""
-    handler.server.closing.wait(60)
-    handler.close_connection = True
-
-
-def endless(handler):
-    """The rules, and then lines without an end."""
-    handler.send_response(200)
-    handler.end_headers()
-    handler.wfile.write(RULES)
-    with contextlib.suppress(OSError):
-        while not handler.server.closing.is_set():
-            handler.wfile.write(b"# filler\n" * 10_000)
-    handler.close_connection = True
 
 
 FAILS, HALF = answers(500, b""), answers(200, RULES, length=2 * len(RULES))
@@ -181,7 +59,9 @@ MEANINGS = {
     "nothing": (closes, []),
     "no answer": (never, []),
     "half a body": (HALF, []),
+    "half a body for Scrapy": (HALF, []),
 }
+SETTINGS = {"no answer": {"DOWNLOAD_TIMEOUT": 2}, "half a body for Scrapy": {"DOWNLOAD_FAIL_ON_DATALOSS": False}}
 # the same for several answers; each counts for a page and then expires
 LATER = {
     "200, then 500": ([answers(200), FAILS], PUBLIC),
@@ -209,6 +89,11 @@ DELAYS = {
 }
 
 
+def site(*several, settings=None, **words):
+    """A site that is crawled with the middleware."""
+    return Site(*several, settings=MIDDLEWARE | (settings or {}), **words)
+
+
 def with_delay(seconds):
     return answers(200, RULES + f"Crawl-delay: {seconds}\n".encode())
 
@@ -216,16 +101,16 @@ def with_delay(seconds):
 @pytest.fixture(scope="module")
 def crawls():
     """The sites after all crawls, and the log."""
-    sites = {name: Site(answer, settings={"DOWNLOAD_TIMEOUT": 2}) for name, (answer, _) in MEANINGS.items()}
-    sites |= {name: Site(*several, links=ONE_AFTER_ANOTHER, settings=EXPIRES) for name, (several, _) in LATER.items()}
-    sites |= {name: Site(with_delay(seconds), settings=settings) for name, (seconds, settings, _) in DELAYS.items()}
-    slow = Site(with_delay(0.6))
+    sites = {name: site(answer, settings=SETTINGS.get(name)) for name, (answer, _) in MEANINGS.items()}
+    sites |= {name: site(*several, links=ONE_AFTER_ANOTHER, settings=EXPIRES) for name, (several, _) in LATER.items()}
+    sites |= {name: site(with_delay(seconds), settings=settings) for name, (seconds, settings, _) in DELAYS.items()}
+    slow = site(with_delay(0.6))
     links = {path: [slow.address + other, other] for path, other in itertools.pairwise(PUBLIC)}
-    sites["two in a slot"] = Site(with_delay(0.1), links=links)
+    sites["two in a slot"] = site(with_delay(0.1), links=links)
     for name in ("five redirects", "six redirects"):
-        sites[name].peer = peer = Site(FAILS)
+        sites[name].peer = peer = site(FAILS)
         peer.peer = sites[name]
-    with served([*sites.values(), slow, *(site.peer for site in sites.values() if site.peer is not site)]):
+    with served([*sites.values(), slow, *(it.peer for it in sites.values() if it.peer is not it)]):
         log = crawled(sites.values())
     return sites | {"slow": slow}, log
 
@@ -238,9 +123,9 @@ def test_what_is_fetched_after_an_answer(crawls, name):
 @pytest.mark.parametrize("name", LATER)
 def test_what_is_fetched_after_a_later_answer(crawls, name):
     """The previous file counts while the server fails, and no longer than that."""
-    site = crawls[0][name]
-    assert site.pages() == LATER[name][1]
-    assert site.paths().count("/robots.txt") >= len(site.pages()) // 2 + 1
+    crawl = crawls[0][name]
+    assert crawl.pages() == LATER[name][1]
+    assert crawl.paths().count("/robots.txt") >= len(crawl.pages()) // 2 + 1
 
 
 def test_the_file_is_fetched_once_and_first(crawls):
@@ -261,9 +146,9 @@ def gaps(moments):
 
 @pytest.mark.parametrize("name", DELAYS)
 def test_delays(crawls, name):
-    site, (asked, _, kept) = crawls[0][name], DELAYS[name]
-    moments = [moment for moment, _ in site.got]
-    assert site.pages() == PUBLIC and min(gaps(moments)) >= kept - TOLERANCE
+    crawl, kept = crawls[0][name], DELAYS[name][2]
+    moments = [moment for moment, _ in crawl.got]
+    assert crawl.pages() == PUBLIC and min(gaps(moments)) >= kept - TOLERANCE
     assert moments[-1] - moments[0] < 20
 
 
@@ -291,11 +176,11 @@ def resumed(tmp_path_factory):
     sites = {}
     for name, (answer, _) in RESUMED.items():
         folder = str(tmp_path_factory.mktemp("job"))
-        sites[name] = Site(answers(200), answer, settings=settings | {"JOBDIR": folder, "CLOSESPIDER_PAGECOUNT": 1})
+        sites[name] = site(answers(200), answer, settings=settings | {"JOBDIR": folder, "CLOSESPIDER_PAGECOUNT": 1})
     with served(sites.values()):
         crawled(sites.values())
-        for site in sites.values():
-            del site.settings["CLOSESPIDER_PAGECOUNT"]
+        for it in sites.values():
+            del it.settings["CLOSESPIDER_PAGECOUNT"]
         crawled(sites.values())
     return sites
 
@@ -387,6 +272,7 @@ def test_lifetime(monkeypatch):
     assert after(2, file(status=404)) == (True, True, 1)
     assert after(86_399, file(CLOSED)) == (True, True, 0)
     assert after(2, file(CLOSED)) == (False, False, 1)
+    assert robots._size == sum(it.size for it in robots._sites.values())
 
 
 def test_the_file_that_was_not_used_for_longest_goes_first():
@@ -432,6 +318,16 @@ def test_what_goes_without_a_file():
     assert not allowed(robots, "http://a.example/") and allowed(robots, "http://a.example/robots.txt")
     with pytest.raises(NotConfigured):
         ours(file(), ROBOTSTXT_OBEY=False)
+
+
+def test_a_redirected_request_leaves_the_slot_of_the_site_that_it_comes_from():
+    """Scrapy lets it stay there, so the delays of both sites would count for both."""
+    robots, _ = ours(file())
+    for slot, kept in [("a.example", False), ("b.example", True), ("own", True)]:
+        meta = {"redirect_urls": ["http://b.example/", "https://a.example:8443/x"], "download_slot": slot}
+        request = Request("http://c.example/", meta=meta)
+        ensureDeferred(robots.process_request(request))
+        assert ("download_slot" in request.meta) is kept
 
 
 GROUPS = b"User-agent: *\nDisallow: /\nUser-agent: FerrisBot\nDisallow: /private/\nUser-agent: Other\nDisallow: /public/\n"

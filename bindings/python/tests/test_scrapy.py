@@ -1,16 +1,10 @@
 """Crawls by Scrapy of small sites on 127.0.0.1, with its own parsers for robots.txt and with this one: the table of the README."""
 
-import contextlib
-import json
 import re
-import subprocess
-import sys
-import threading
-from http.server import BaseHTTPRequestHandler, ThreadingHTTPServer
-from pathlib import Path
 
 import package
 import pytest
+from sites import PAGES, PUBLIC, RULES, Site, answers, crawled, served
 from support import tables
 
 package.needs("scrapy")
@@ -23,10 +17,8 @@ OURS, PROTEGO, URLLIB = "texting_robots.scrapy.RobotParser", "scrapy.robotstxt.P
 USER_AGENT = {"USER_AGENT": "FerrisBot/1.0 (+https://example.com/bot)"}
 BROWSER = {"USER_AGENT": "Mozilla/5.0 (compatible; FerrisBot/1.0)"}
 
-PAGES = ["/", "/private/x", "/private/y", "/public/a", "/public/b"]
-RESPECTED = ["/", "/public/a", "/public/b"]
-MEANINGS = {"yes": RESPECTED, "**no**": PAGES, "fetches nothing": []}
-RULES, FILLER = b"User-agent: *\nDisallow: /private/\n", b"# filler\n" * 66_666
+MEANINGS = {"yes": PUBLIC, "**no**": PAGES, "fetches nothing": []}
+FILLER = b"# filler\n" * 66_666
 OVERLONG = RULES + b"Disallow: /" + b"a" * 5000 + b"$\n"
 
 # the files of the table
@@ -51,41 +43,6 @@ MANY_RULES = RULES + b"".join(b"Disallow: /none/%d\n" % number for number in ran
 TWO_GROUPS = b"User-agent: *\nDisallow: /public/\nUser-agent: FerrisBot\nDisallow: /private/"
 
 
-def handler_of(robots, fetched, status):
-    """Serves the file with this status, and some pages that link to each other, and notes which of them are fetched."""
-    home = "".join(f'<a href="{page}">{page}</a>' for page in PAGES).encode()
-
-    class Handler(BaseHTTPRequestHandler):
-        def do_GET(self):
-            if self.path != "/robots.txt":
-                fetched.append(self.path)
-            body = robots if self.path == "/robots.txt" else home
-            self.send_response(status if self.path == "/robots.txt" else 200)
-            self.send_header("Content-Type", "text/plain" if self.path == "/robots.txt" else "text/html")
-            self.send_header("Content-Length", str(len(body)))
-            self.end_headers()
-            self.wfile.write(body)
-
-        def log_message(self, *_):
-            pass
-
-    return Handler
-
-
-@contextlib.contextmanager
-def site(robots, fetched, status):
-    """The address of a small site with this file, while it is served."""
-    server = ThreadingHTTPServer(("127.0.0.1", 0), handler_of(robots, fetched, status))
-    thread = threading.Thread(target=server.serve_forever, kwargs={"poll_interval": 0.05})
-    thread.start()
-    try:
-        yield f"http://127.0.0.1:{server.server_address[1]}/"
-    finally:
-        server.shutdown()
-        thread.join()
-        server.server_close()
-
-
 @pytest.fixture(scope="module")
 def crawls():
     """What is fetched for each file by each parser, and for two groups by each with a User-Agent like a browser's; and the log."""
@@ -94,16 +51,12 @@ def crawls():
     wanted["as a browser, with its name", OURS] = TWO_GROUPS, BROWSER | {"ROBOTSTXT_USER_AGENT": "FerrisBot"}
     wanted |= {("many rules", parser): (MANY_RULES, USER_AGENT) for parser in (OURS, *WITHOUT_MEMORY)}
     wanted |= {(name, OURS): (body, USER_AGENT) for name, body in zip(STATUSES, [RULES, b"<html>sorry</html>"])}
-    fetched = {case: [] for case in wanted}
-    with contextlib.ExitStack() as sites:
-        given = []
-        for case, (file, settings) in wanted.items():
-            address = sites.enter_context(site(file, fetched[case], STATUSES.get(case[0], 200)))
-            given.append([address, settings | {"ROBOTSTXT_PARSER": case[1]}])
-        words = [sys.executable, Path(__file__).with_name("crawl.py")]
-        ended = subprocess.run(words, input=json.dumps(given), capture_output=True, text=True, timeout=600, env=package.WITH_PACKAGE)
-    assert ended.returncode == 0, ended.stderr
-    return {case: sorted(set(pages)) for case, pages in fetched.items()}, ended.stderr  # the first page is fetched twice
+    sites = {}
+    for case, (file, settings) in wanted.items():
+        sites[case] = Site(answers(STATUSES.get(case[0], 200), file), settings=settings | {"ROBOTSTXT_PARSER": case[1]})
+    with served(sites.values()):
+        log = crawled(sites.values())
+    return {case: site.pages() for case, site in sites.items()}, log
 
 
 def test_the_table_of_the_readme_has_every_file():
@@ -124,7 +77,7 @@ def test_what_is_fetched_with_the_parsers_of_scrapy(crawls, name):
 def test_a_user_agent_like_a_browsers(crawls):
     """Protego looks for a group's name anywhere in the User-Agent; this parser takes its front, or ROBOTSTXT_USER_AGENT."""
     assert crawls[0]["as a browser", OURS] == ["/", "/private/x", "/private/y"]
-    assert crawls[0]["as a browser", PROTEGO] == crawls[0]["as a browser, with its name", OURS] == RESPECTED
+    assert crawls[0]["as a browser", PROTEGO] == crawls[0]["as a browser, with its name", OURS] == PUBLIC
 
 
 NO_TOKEN = "User-Agent %r: the group of this crawler isn't found in a robots.txt file, unless ROBOTSTXT_USER_AGENT is its product token"
@@ -142,7 +95,7 @@ def test_a_warning_that_such_a_user_agent_has_no_product_token(crawls, caplog, m
 def test_without_memory_nothing_is_fetched(crawls):
     """Scrapy would fetch everything after an error in `from_crawler`."""
     fetched, log = crawls
-    assert [fetched["many rules", parser] for parser in (OURS, *WITHOUT_MEMORY)] == [RESPECTED, [], []]
+    assert [fetched["many rules", parser] for parser in (OURS, *WITHOUT_MEMORY)] == [PUBLIC, [], []]
     for message in ["a robots.txt file can't be parsed, out of memory: nothing is fetched from its site", r"http://\S+: out of memory: it isn't fetched"]:
         assert len(re.findall(f"WARNING: .*{message}", log)) == 1
     assert "MemoryError" not in log
@@ -183,7 +136,7 @@ print("right")
 
 def test_scrapy_gives_the_parser_the_body_of_every_status(crawls):
     """As the README says: so the rules of a 404 count, and a 503 allows everything."""
-    assert [crawls[0][name, OURS] for name in STATUSES] == [RESPECTED, PAGES]
+    assert [crawls[0][name, OURS] for name in STATUSES] == [PUBLIC, PAGES]
 
 
 WARNING = "FerrisBot, the rule in line 3 is too long: the file can't be used for this crawler: nothing is fetched"

@@ -13,7 +13,7 @@ import logging
 import time
 from collections import OrderedDict
 from typing import Any, Final
-from urllib.parse import urljoin
+from urllib.parse import urljoin, urlsplit
 from weakref import WeakKeyDictionary, WeakValueDictionary
 
 from scrapy import signals
@@ -46,7 +46,6 @@ _META: Final = {
     "dont_redirect": True,
     "dont_cache": True,
     "allow_offsite": True,
-    "download_fail_on_dataloss": True,
     "download_maxsize": 1 << 30,
 }
 
@@ -109,6 +108,7 @@ class RobotsMiddleware:
         """Raises IgnoreRequest if the site's file denies the request."""
         if request.meta.get("dont_obey_robotstxt") or request.url.startswith(("data:", "file:")):
             return
+        _leave_slot(request)
         site = await self._site(_address(request))
         spider = self._crawler.spider
         default = getattr(spider, "user_agent", None) or self._default_user_agent
@@ -218,6 +218,13 @@ def _address(request: Any) -> str:
     except UrlError:
         parts = urlparse_cached(request)
         return f"{parts.scheme}://{parts.netloc}/robots.txt"
+
+
+def _leave_slot(request: Any) -> None:
+    """Takes a redirected request out of the slot of the site that it comes from, which would then keep the delays of both."""
+    urls = request.meta.get("redirect_urls")
+    if urls and request.meta.get("download_slot") == urlsplit(urls[-1]).hostname:
+        del request.meta["download_slot"]
 
 
 def _target(response: Any) -> str:
