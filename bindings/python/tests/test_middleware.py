@@ -1,5 +1,6 @@
 """Crawls by Scrapy with the middleware, of sites on 127.0.0.1 that answer in many ways: what is fetched, what isn't, and when."""
 
+import ast
 import itertools
 import re
 import time
@@ -24,13 +25,9 @@ from texting_robots._pacing import Pace  # noqa: E402
 ONE_AFTER_ANOTHER = {"/": ["/private/x", "/public/a"], "/public/a": ["/private/y", "/public/b"]}
 CLOSED = b"User-agent: *\nDisallow: /\n"
 SITEMAPS = [f"https://example.com/{number}.xml" for number in range(2)]
-MIDDLEWARE = {
-    "USER_AGENT": "FerrisBot/1.0 (+https://example.com/bot)",
-    "DOWNLOADER_MIDDLEWARES": {
-        "scrapy.downloadermiddlewares.robotstxt.RobotsTxtMiddleware": None,
-        "texting_robots.middleware.RobotsMiddleware": 100,
-    },
-}
+README = (package.PACKAGE / "README.md").read_text()
+DOWNLOADER_MIDDLEWARES = ast.literal_eval(re.search(r"^    DOWNLOADER_MIDDLEWARES = (\{.*?\})$", README, re.M | re.S)[1])
+MIDDLEWARE = {"USER_AGENT": "FerrisBot/1.0 (+https://example.com/bot)", "DOWNLOADER_MIDDLEWARES": DOWNLOADER_MIDDLEWARES}
 TOLERANCE = 0.1  # seconds, as a process on a busy machine may stop at any point
 
 
@@ -61,7 +58,11 @@ MEANINGS = {
     "half a body": (HALF, []),
     "half a body for Scrapy": (HALF, []),
 }
-SETTINGS = {"no answer": {"DOWNLOAD_TIMEOUT": 2}, "half a body for Scrapy": {"DOWNLOAD_FAIL_ON_DATALOSS": False}}
+SETTINGS = {
+    "200 with more than 512,000 bytes": {"DOWNLOAD_MAXSIZE": 100_000},
+    "no answer": {"DOWNLOAD_TIMEOUT": 2},
+    "half a body for Scrapy": {"DOWNLOAD_FAIL_ON_DATALOSS": False},
+}
 # the same for several answers; each counts for a page and then expires
 LATER = {
     "200, then 500": ([answers(200), FAILS], PUBLIC),
@@ -171,16 +172,17 @@ RESUMED = {"the same": (answers(200), PUBLIC), "closed": (answers(200, CLOSED), 
 
 @pytest.fixture(scope="module")
 def resumed(tmp_path_factory):
-    """The sites of crawls that were stopped after a page and resumed, with another reactor of Scrapy."""
-    settings = {"CONCURRENT_REQUESTS": 1, "TWISTED_REACTOR": "twisted.internet.asyncioreactor.AsyncioSelectorReactor"}
-    sites = {}
+    """The sites of crawls that were stopped after a page and resumed, with Scrapy's HTTP cache and another reactor."""
+    first, sites = {"CONCURRENT_REQUESTS": 1, "CLOSESPIDER_PAGECOUNT": 1}, {}
     for name, (answer, _) in RESUMED.items():
         folder = str(tmp_path_factory.mktemp("job"))
-        sites[name] = site(answers(200), answer, settings=settings | {"JOBDIR": folder, "CLOSESPIDER_PAGECOUNT": 1})
+        settings = {"JOBDIR": folder, "HTTPCACHE_ENABLED": True, "HTTPCACHE_DIR": f"{folder}/cache"}
+        settings["TWISTED_REACTOR"] = "twisted.internet.asyncioreactor.AsyncioSelectorReactor"
+        sites[name] = site(answers(200), answer, settings=settings | first)
     with served(sites.values()):
         crawled(sites.values())
         for it in sites.values():
-            del it.settings["CLOSESPIDER_PAGECOUNT"]
+            it.settings = {key: value for key, value in it.settings.items() if key not in first}
         crawled(sites.values())
     return sites
 

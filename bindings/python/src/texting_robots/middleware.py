@@ -21,7 +21,6 @@ from scrapy.exceptions import IgnoreRequest, NotConfigured, StopDownload
 from scrapy.http import Request
 from scrapy.http.request import NO_CALLBACK
 from scrapy.utils.defer import maybe_deferred_to_future
-from scrapy.utils.httpobj import urlparse_cached
 from twisted.internet.defer import Deferred
 
 from . import FILE_LIMIT, UrlError, robots_url
@@ -36,9 +35,9 @@ sitemaps_found: Final = object()
 arguments are ``sitemaps``, a list of URLs as the file has them, ``robots_url``, the file's address, and ``spider``."""
 
 _BROKEN_OFF: Final = frozenset({"dataloss", "download_stopped"})
-_SITE_BYTES: Final = 1000  # what a site takes without its file, about
+_SITE_BYTES: Final = 1000
 
-# no other middleware answers, follows or refuses this request, and it has no robots.txt file of its own
+# For a file: no other middleware answers, follows or refuses the request, no other file is asked about it, and a large one is cut.
 _MARK: Final = "texting_robots"
 _META: Final = {
     _MARK: True,
@@ -74,7 +73,8 @@ class RobotsMiddleware:
     - ``TEXTING_ROBOTS_LIFETIME = 86400``: after so many seconds a file is fetched again. The HTTP cache of Scrapy never has it.
     - ``TEXTING_ROBOTS_RETRY = 300``: so many seconds after the server failed, the file is asked for again.
     - ``TEXTING_ROBOTS_MAX_DELAY = 60``: a longer delay is cut to so many seconds. 0 keeps no delays.
-    - ``TEXTING_ROBOTS_BUDGET = 100_000_000``: so many bytes of files are kept; then the file goes that wasn't used for the longest time.
+    - ``TEXTING_ROBOTS_BUDGET = 100_000_000``: so many bytes of files are kept, with 1,000 more for each site. The first to go is what wasn't
+      used for the longest time.
 
     The delay holds in the downloader's slots, whatever ``DOWNLOAD_DELAY``, ``download_slot`` and AutoThrottle say, which may only make it
     longer. In a slot with several sites, the largest delay counts. Sitemaps come by the signal `sitemaps_found`.
@@ -216,7 +216,7 @@ def _address(request: Any) -> str:
     try:
         return robots_url(request.url)
     except UrlError:
-        parts = urlparse_cached(request)
+        parts = urlsplit(request.url)
         return f"{parts.scheme}://{parts.netloc}/robots.txt"
 
 
