@@ -208,8 +208,8 @@ def test_guide_shows_the_functions_of_another_allocator():
 # ---- code, commands and their output
 
 
-def test_readme_shows_the_example():
-    assert code(README, "rust")[0] in (CRATES / "texting_robots_tests/src/example.rt").read_text()
+def test_guide_shows_the_example():
+    assert code(GUIDE, "rust")[1] in (CRATES / "texting_robots_tests/src/example.rt").read_text()
 
 
 def test_guide_shows_its_program():

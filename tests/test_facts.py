@@ -139,7 +139,7 @@ def test_errors_of_the_guide_are_those_of_the_library():
 
 
 def test_keys_of_golden_cases():
-    table = [row for row in tables(DOCUMENTS["CONTRIBUTING.md"].split("\n## Golden cases\n")[1]) if row[0].startswith("`")]
+    table = [row for row in tables((ROOT / "tests/test_programs.py").read_text()) if row[0].startswith("`")]
     assert {name for row in table for name in re.findall(r"`([^`]+)`", row[0])} == KEYS
 
 
@@ -151,7 +151,7 @@ COLUMNS = {
     },
     "docs/COMPATIBILITY.md": {
         "File | URL | RFC 9309 | Google | Rust crate | Here | Warning", "Input | RFC 9309 | Google | Rust crate | Here",
-        "Section | Topic | Here", "URL | Rust crate | Here",
+        "Section | Requirement | Here", "URL | Rust crate | Here",
     },
 }  # fmt: skip
 

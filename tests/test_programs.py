@@ -1,6 +1,44 @@
-"""Golden tests of the programs: with these arguments and this input, a program writes exactly this and ends with this status.
+r"""Golden tests of the programs: with these arguments and this input, a program writes exactly this and ends with this status.
 
-The cases are the tables of tests/golden/PROGRAM/*.toml; CONTRIBUTING.md says how to write one. Larger inputs are made here.
+A case is a table in tests/golden/PROGRAM/*.toml, named by what it shows:
+
+```toml
+["a URL is denied"]
+args = '- -q --agent Ferris /a\x20b'
+file = '''
+User-agent: Ferris
+Disallow: /a b
+Allow: b'''
+out = '''
+group: Ferris
+delay: none
+deny 2 /a b'''
+warn = '''
+2 several-values space
+3 missing-slash'''
+status = 1
+```
+
+| Key | Meaning |
+|---|---|
+| `args` | the arguments, separated by spaces; a named file is the first one, so that `warn` can name it |
+| `file`, `from` | standard input, or the path of a file with it |
+| `agent`, `robots` | for `robots_verdict`: the input is this crawler, the URLs in `out`, and this file |
+| `out`, `err` | the lines of standard output and standard error; none if left out |
+| `warn` | instead of `err`, for each warning, also if the program counts it only, a line `[LINE] NAME [DETAIL]`; the detail is its URL, the name of one of several crawlers in quotes, or the directive that may be meant. Messages come from tests/warnings.toml |
+| `status` | the exit status, if it isn't 0 |
+| `like`, `more` | a case above, whose keys apply here too; more lines of standard output. Keys above all cases apply to each |
+| `pieces`, `room` | how many bytes are read at a time; how many standard output accepts, or `'closed'` |
+| `indented` | also runs the case with each line of `robots` indented |
+
+The detail in `warn` can also be the level, if the name has several; a word of the message, such as
+`comma`, `invisible` or `=`; the number in `(3 in all)` or `(see line 3)`; or for `needless-rule`,
+`never`, `nothing`, `allowed` or `covered`, and then the line. In JSON, a warning is written without
+its level, and with `[NAME]` or `[NAME DETAIL]` as its text. In strings, `\\` is a backslash, `\r`
+CR, `\xHH` a byte, and `\{N TEXT}` N times the TEXT.
+`pytest tests -k 'URL and denied'` runs the cases with these words in their names.
+
+Larger inputs are made here.
 """
 
 import json
@@ -17,9 +55,9 @@ import pytest
 from support import ROOT, WARNINGS, Result, cases_of, input_of, program, repeated, run, spelled, wanted_of, warning_lines
 
 def golden():
-    """The arguments of test_golden for each case, that of CONTRIBUTING.md too."""
+    """The arguments of test_golden for each case, that of this module's comment too."""
     files = {f"{path.parent.name} {path.stem}": path.read_text() for path in sorted(Path(ROOT, "tests/golden").glob("*/*.toml"))}
-    files["robots_audit CONTRIBUTING"] = re.search(r"^```toml\n(.*?)^```$", Path(ROOT, "CONTRIBUTING.md").read_text(), re.M | re.S)[1]
+    files["robots_audit example"] = re.search(r"^```toml\n(.*?)^```$", __doc__, re.M | re.S)[1]
     for file, text in files.items():
         for name, case in cases_of(text).items():
             yield pytest.param(file.split()[0], case, False, id=f"{file}: {name}")
@@ -85,7 +123,7 @@ def test_golden(name, case, indented, tmp_path):
 
 
 def test_all_golden_cases_are_run():
-    """Each table of each file, and the one in CONTRIBUTING.md."""
+    """Each table of each file, and the one in this module's comment."""
     tables = [name for path in Path(ROOT, "tests/golden").glob("*/*.toml") for name in re.findall(r"""^\[["'].*["']\]$""", path.read_text(), re.M)]
     folders = {path.name for path in Path(ROOT, "tests/golden").iterdir() if path.is_dir()}
     values = [it.values for it in golden()]

@@ -177,10 +177,11 @@ def python(request, releases, bare, tmp_path_factory):
     return python
 
 
-def test_lines_of_the_readme_in_python(python, bare, tmp_path):
-    (tmp_path / "README.md").write_text(PACKAGES["python"])
+@pytest.mark.parametrize("text, lines", [(PACKAGES["python"], 8), (README, 2)], ids=["package", "repository"])
+def test_lines_of_the_readme_in_python(python, bare, tmp_path, text, lines):
+    (tmp_path / "README.md").write_text(text)
     words = "import doctest, sys; failed, tried = doctest.testfile('README.md', module_relative=False); print(tried); sys.exit(failed)"
-    assert int(ran([python, "-c", words], tmp_path, bare)) >= 8
+    assert int(ran([python, "-c", words], tmp_path, bare)) >= lines
 
 
 PAGES = {"/robots.txt": b"# \xff\nUser-agent: FerrisBot\nDisallow: /private/\n", "/": b'<a href="/private/x">x</a> <a href="/public">y</a>'}
