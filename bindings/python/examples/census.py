@@ -17,7 +17,7 @@ The rows of each JSONL or WARC file, and of each --batch files of a folder, are 
 so that no process needs more memory for more sites. With --parts FOLDER, which all workers have to see, a run that was ended goes on: a
 part is used again if it is whole, and this program, the agents and paths, and the names, sizes and times of its sources are the same.
 FOLDER/NAME.json says what a part is made of; FOLDER/NAME.0.csv and so on are its rows: site, file, byte, and the results or, without a
-site, an error.
+site, an error. A run that is killed leaves a folder unfinished-.. there, which can be deleted.
 """
 
 from __future__ import annotations
@@ -50,7 +50,7 @@ from texting_robots import FILE_LIMIT, Matrix, OverlongRuleError, Robots, __vers
 
 AGENTS = "GPTBot,CCBot,ClaudeBot,Google-Extended,Bingbot,Googlebot,Bytespider,PerplexityBot"
 MOST = 4_000_000
-"""Of a record in a WARC file, and of the rows of a part, no more bytes are kept in memory, and no line of a record's head is longer."""
+"""No more bytes of a record in a WARC file, and of the rows of a part, are kept in memory, and no line of a record's head is longer."""
 AT_ONCE = 16
 """So many files are merged at once."""
 GZIP = b"\x1f\x8b"
@@ -78,9 +78,7 @@ def site_of(url):
         return None
     if not address[1].strip("."):
         raise ValueError("the URL has no host")
-    if len(host := urlsplit(robots_url(url)).hostname.rstrip(".")) > 1000:
-        raise ValueError("the host is too long")
-    return host
+    return urlsplit(robots_url(url)).hostname.rstrip(".")
 
 
 def site_named(host):
@@ -325,7 +323,7 @@ def pieces(rows):
     some, size = [], 0
     for row in rows:
         some.append(row)
-        size += 300 + len(row[3])
+        size += 300 + len(row[0] + row[1] + row[3])
         if size > MOST:
             yield some
             some, size = [], 0
@@ -334,6 +332,7 @@ def pieces(rows):
 
 def rows_in(paths):
     """The rows of files, in order."""
+    csv.field_size_limit(2**31 - 1)
     with contextlib.ExitStack() as opened:
         files = [opened.enter_context(open(path, newline="", encoding="utf-8")) for path in paths]
         yield from heapq.merge(*map(csv.reader, files), key=order)
@@ -346,7 +345,8 @@ def new_file(path, scratch):
     with open(unfinished, "x", newline="", encoding="utf-8") as file:
         yield file
         file.flush()
-        os.fsync(file.fileno())
+        if os.path.dirname(path) != scratch:
+            os.fsync(file.fileno())
     os.replace(unfinished, path)
 
 
@@ -513,7 +513,7 @@ def census(run, batches, words, show=lambda *_: None):
         for more, tally in run(groups, *words, work=merged):
             paths += more
             total.update(tally)
-        for path in earlier:
+        for path in set(earlier):
             if os.path.dirname(path) == words[-1]:
                 os.remove(path)
     return total, paths

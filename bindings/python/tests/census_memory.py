@@ -16,13 +16,11 @@ import time
 from functools import partial
 from pathlib import Path
 
-import package
-from test_census import census, response
-
-ROOT = package.PACKAGE.parent.parent
-sys.path.insert(0, str(ROOT / "bench"))
+ROOT = Path(__file__).resolve().parents[3]
+sys.path += [str(ROOT / "tests"), str(ROOT / "bench")]
 
 import corpus  # noqa: E402
+from test_census import census, response  # noqa: E402
 
 
 def files(chance, numbers):

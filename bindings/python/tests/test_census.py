@@ -550,6 +550,14 @@ def test_many_files_are_merged_in_rounds(sources, monkeypatch):
     assert counted(batches) == counted(reversed(batches)) == whole
 
 
+def test_many_agents_and_paths_and_a_long_host(tmp_path):
+    """The results of a site are longer than csv expects."""
+    (tmp_path / "a.warc").write_bytes(response("a", b"User-agent: *\nDisallow: /") + response("b" * 500_000, b""))
+    agents, paths = [[f"{word}{number}" for number in range(100)] for word in ("agent", "/path")]
+    sites, _, counts, rows, _ = counted([("warc", f"{tmp_path}/a.warc")] * 2, agents, paths)
+    assert (len(sites), len(counts), len(rows)) == (2, 10_000, 10_000) and set(counts.values()) == {1}
+
+
 def words_for(sources, folder):
     return [*sources.values(), "--batch", "20", "--parts", folder / "parts"]
 
