@@ -260,7 +260,7 @@ def overlong_line(body, agent, path):
 
 def printable(text):
     """The text with escapes for control characters, for those that change the direction of writing, and for lone surrogates."""
-    return "".join(it if it.isprintable() else it.encode("unicode_escape").decode() for it in text)
+    return text if text.isprintable() else "".join(it if it.isprintable() else it.encode("unicode_escape").decode() for it in text)
 
 
 def safe(text):
@@ -602,6 +602,8 @@ def parsed():
         words.error("--scheduler needs --parts, a folder that all workers see")
     try:
         Matrix(given.paths, given.agents)
+        if given.parts and any(Path(given.parts).resolve().is_relative_to(Path(source).resolve()) for source in given.sources):
+            raise ValueError(f"{given.parts} is in a source, so the parts would be read as files of sites")
         given.total = sum(1 for _ in batches(given))
         if given.parts:
             os.makedirs(given.parts, exist_ok=True)

@@ -10,6 +10,7 @@ import itertools
 import json
 import os
 import random
+import re
 import signal
 import subprocess
 import sys
@@ -431,6 +432,7 @@ def test_no_text_of_an_archive_steers_a_terminal_or_a_spreadsheet(tmp_path):
         (["--workers", "-1"], "no number of workers"),
         (["--scheduler", "tcp://127.0.0.1:1"], "--scheduler needs --parts"),
         (["--parts", "/dev/null"], "/dev/null"),
+        (["/usr", "--parts", "/usr/lib/parts"], "/usr/lib/parts is in a source"),
         (["missing.jsonl"], "missing.jsonl isn't a folder, or a file"),
         (["/dev/null"], "/dev/null isn't a folder, or a file"),
         (["--csv", "/no/folder/a.csv"], "/no/folder/a.csv"),
@@ -616,6 +618,12 @@ def test_a_part_that_could_not_be_read_is_read_again(tmp_path, monkeypatch):
         assert [error.split(":")[0] for _, error in counted(batches, parts=tmp_path / "parts")[4]] == ["unread", "damaged"]
     sites, _, _, _, errors = counted(batches, parts=tmp_path / "parts")
     assert (sites, errors) == (["b.example", "sound"], [])
+
+
+def test_a_small_run_of_the_measurement():
+    package.needs("distributed")
+    out = package.run([Path(__file__).with_name("census_memory.py"), "200"])
+    assert re.fullmatch(r"200 sites, [0-9]+ a second; MB at most: client [0-9]+, workers \[[0-9]+, [0-9]+\]\n", out)
 
 
 def test_memory_does_not_grow_with_the_sites(tmp_path, monkeypatch):
