@@ -525,7 +525,7 @@ def test_a_worker_that_is_killed_loses_nothing(sources):
 
         def run(*words, work=slow):
             for result in census.run_on(client, *words, work=work):
-                while pids:
+                if pids:
                     os.kill(pids.pop(), signal.SIGKILL)
                     pids.clear()
                 yield result
