@@ -1,7 +1,7 @@
 #!/usr/bin/env python3
 """Which sites keep which crawlers out of which paths, counted over many robots.txt files: in this process, or on workers of Dask.
 
-    python census.py SOURCE.. [--agents A,B] [--paths /,/search] [--csv FILE] [--svg FILE] [--workers N | --scheduler ADDRESS]
+    python census.py SOURCE.. [--agents A,B] [--paths /,/search] [--csv FILE] [--svg FILE] [--parts FOLDER] [--workers N | --scheduler ADDRESS]
 
 A SOURCE is a folder of files HOST/robots.txt, HOST.robots.txt, HOST.txt or HOST, also in folders below; a JSONL file with a line {"host":
 NAME, "body": BASE64} for each; or a WARC file, .warc or .warc.gz, of which complete responses for /robots.txt with a status 2xx count. A
