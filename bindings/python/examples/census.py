@@ -1,7 +1,7 @@
 #!/usr/bin/env python3
 """Which sites keep which crawlers out of which paths, counted over many robots.txt files: in this process, or on workers of Dask.
 
-    python census.py SOURCE.. [--agents A,B] [--paths /,/search] [--csv FILE] [--svg FILE] [--workers N | --scheduler ADDRESS]
+    python census.py SOURCE.. [--agents A,B] [--paths /,/search] [--csv FILE] [--svg FILE] [--parts FOLDER] [--workers N | --scheduler ADDRESS]
 
 A SOURCE is a folder of files HOST/robots.txt, HOST.robots.txt, HOST.txt or HOST, also in folders below; a JSONL file with a line {"host":
 NAME, "body": BASE64} for each; or a WARC file, .warc or .warc.gz, of which complete responses for /robots.txt with a status 2xx count. A
@@ -12,6 +12,12 @@ Workers read the sources themselves, so on a cluster they need the same paths, a
 of them, from its start, and a record ends where its length says, so that nothing in a body can be taken for a record. A record, or a file
 of a folder, that can't be understood is listed as damaged. A source that can't be read on, or of which a worker dies, is listed as unread,
 with the place of the last record that was read. The others are counted.
+
+The rows of each JSONL or WARC file, and of each --batch files of a folder, are a part. Parts are written to files, which are then merged,
+so that no process needs more memory for more sites. With --parts FOLDER, which all workers have to see, a run that was ended goes on: a
+part is used again if it is whole, and this program, the agents and paths, and the names, sizes and times of its sources are the same.
+FOLDER/NAME.json says what a part is made of; FOLDER/NAME.0.csv and so on are its rows: site, file, byte, and the results or, without a
+site, an error. A run that is killed leaves a folder unfinished-.. there, which can be deleted.
 """
 
 from __future__ import annotations
@@ -20,34 +26,42 @@ import argparse
 import base64
 import contextlib
 import csv
+import functools
 import gzip
+import hashlib
+import heapq
 import html
 import io
+import itertools
 import json
 import os
 import re
 import stat
 import sys
+import tempfile
 import time
+import uuid
 import zlib
 from collections import Counter
 from pathlib import Path
 from urllib.parse import urlsplit
 
-from texting_robots import FILE_LIMIT, Matrix, OverlongRuleError, Robots, robots_url
+from texting_robots import FILE_LIMIT, Matrix, OverlongRuleError, Robots, __version__, robots_url
 
 AGENTS = "GPTBot,CCBot,ClaudeBot,Google-Extended,Bingbot,Googlebot,Bytespider,PerplexityBot"
 MOST = 4_000_000
-"""Of a record in a WARC file no more bytes are kept, and no line of its head is longer."""
+"""No more bytes of a record in a WARC file, and of the rows of a part, are kept in memory, and no line of a record's head is longer."""
+AT_ONCE = 16
+"""So many files are merged at once."""
 GZIP = b"\x1f\x8b"
 ADDRESS = re.compile(r"(?i:https?)://(?:[^\s/?#\\@]*@)?([^\s/?#\\@]*)/robots\.txt")
 STATUS = re.compile(rb"HTTP/[0-9.]+ +([1-9][0-9][0-9])\b")
 CHUNK = re.compile(rb"([0-9A-Fa-f]{1,8})[ \t]*(?:;[^\n]*)?\r?\n")
 CONTROL = re.compile(rb"[\x00-\x08\x0e-\x1f\x7f]")
 
-# A batch is a tuple: 'files' and paths; 'jsonl', a path, and the range of bytes in which its lines begin; or 'warc' and a path. Each
-# reader yields the place of a record, a tuple of its path and its first byte (unpacked), with its site and body, with the reason for
-# which it is left out, or with the error that damages it. It raises an error after which it can't go on.
+# A batch is a tuple: 'files' and paths; or 'jsonl' or 'warc' and a path. Each reader yields the place of a record, a tuple of its path and
+# its first byte (unpacked), with its site and body, with the reason for which it is left out, or with the error that damages it. It raises
+# an error after which it can't go on.
 
 
 def attempt(read, *given):
@@ -94,13 +108,10 @@ def read_file(path):
     return site_named(os.path.basename(folder) if name == "robots.txt" else name.removesuffix(".txt").removesuffix(".robots")), body
 
 
-def json_lines(path, start, end):
+def json_lines(path):
     with open(path, "rb") as lines:
-        if start:
-            lines.seek(start - 1)
-            lines.readline()
-        while (place := lines.tell()) < end and (line := lines.readline()):
-            yield (path, place), attempt(read_json, line) if line.strip() else "empty lines"
+        while line := lines.readline():
+            yield (path, lines.tell() - len(line)), attempt(read_json, line) if line.strip() else "empty lines"
 
 
 def read_json(line):
@@ -228,7 +239,15 @@ def unpacked(body):
 READERS = {"files": files, "jsonl": json_lines, "warc": warc}
 
 
-# ---- what a batch says
+# ---- the parts, in files with a row for each site and each error, ordered by site and place
+
+
+def denials_of(body, matrix):
+    """Each path that a crawler is kept out of, with the line that says so."""
+    return [
+        (agent, path, "deny", line) if line else (agent, path, "unusable", overlong_line(body, agent, path))
+        for agent, path, line in matrix.denials(body)
+    ]
 
 
 def overlong_line(body, agent, path):
@@ -239,103 +258,199 @@ def overlong_line(body, agent, path):
         return error.line
 
 
-def rows_of(site, body, matrix):
-    """The rows of the CSV file for a site: each path that a crawler is kept out of, with the line that says so."""
-    return [
-        (site, agent, path, "deny", line) if line else (site, agent, path, "unusable", overlong_line(body, agent, path))
-        for agent, path, line in matrix.denials(body)
-    ]
+def printable(text):
+    """The text with escapes for control characters, for those that change the direction of writing, and for lone surrogates."""
+    return text if text.isprintable() else "".join(it if it.isprintable() else it.encode("unicode_escape").decode() for it in text)
 
 
-def lines_of(rows):
-    """Rows as lines of a CSV file, with an apostrophe before what a spreadsheet would take for a formula."""
-    lines = io.StringIO()
-    csv.writer(lines).writerows([f"'{it}" if str(it).startswith(("=", "+", "-", "@")) else it for it in row] for row in rows)
-    return lines.getvalue()
+def safe(text):
+    """The text, so that a spreadsheet doesn't take it for a formula."""
+    return f"'{text}" if text.startswith(("'", "=", "+", "-", "@")) else text
 
 
-def described(error):
-    return f"{type(error).__name__}: {error}"[:500]  # a text of the archive in it may be of any length
+def row_of(site, place, result):
+    return [safe(site), printable(place[0]), *(place[1:] or [""]), result]
 
 
-def keep_first(sites, left_out, site, record):
-    """Adds the record of a site, or keeps the one whose place is first."""
-    if site in sites:
-        left_out["more files of a site"] += 1
-    sites[site] = min(sites.get(site, record), record)
+def error_row(what, place, error, tally):
+    """A row without a site. A part with an error that may be gone in the next run is read again."""
+    tally[what] += 1
+    tally["again"] += what == "unread" or isinstance(error, OSError)
+    return row_of("", place, printable(f"{what}: {type(error).__name__}: {error}"[:500]))  # a text of the archive in it may be of any length
 
 
-def census_of(batch, agents, paths):
-    """Each site of a batch with its record: the place, the lines of the CSV file, so that little but text is left to collect, and the
-    results for a crawler and a path; how many records are left out, by the reason; and the errors, with what they do and the place."""
-    matrix, sites, left_out, errors, same = Matrix(sorted(paths), sorted(agents)), {}, Counter(), [], {}
-    place = batch[1:3]
+def add(tally, denials, by):
+    tally["sites"] += by
+    for agent, path, result, _ in denials:
+        tally[agent, path, result] += by
+
+
+def rows_of(batch, matrix, tally):
+    """A row for each site and each error of a batch. The tally counts them, the results for a crawler and a path, and what is left out."""
+    place = batch[1:2]
     try:
         for place, read in READERS[batch[0]](*batch[1:]):
-            rows = attempt(rows_of, *read, matrix) if isinstance(read, tuple) else read
-            if isinstance(rows, Exception):
-                errors.append(("damaged", place, described(rows)))
-            elif isinstance(rows, str):
-                left_out[rows] += 1
+            result = attempt(denials_of, read[1], matrix) if isinstance(read, tuple) else read
+            if isinstance(result, Exception):
+                yield error_row("damaged", place, result, tally)
+            elif isinstance(result, str):
+                tally["left out", result] += 1
             else:
-                results = tuple(row[1:4] for row in rows)
-                keep_first(sites, left_out, read[0], (place, lines_of(rows), same.setdefault(results, results)))
+                add(tally, result, 1)
+                yield row_of(read[0], place, json.dumps(result))
     except Exception as error:
-        errors.append(("unread", place, described(error)))
-    return sites, left_out, errors
+        yield error_row("unread", place, error, tally)
+
+
+def order(row):
+    return row[0], row[1], int(row[2] or 0)
+
+
+def firsts(rows, tally):
+    """The errors, and the first row of each site. The others are taken from the tally."""
+    last = ""
+    for row in rows:
+        if row[0] and row[0] == last:
+            add(tally, json.loads(row[3]), -1)
+            tally["left out", "more files of a site"] += 1
+        else:
+            yield row
+        last = row[0]
+
+
+def pieces(rows):
+    """Lists of rows, so long as memory has room for."""
+    some, size = [], 0
+    for row in rows:
+        some.append(row)
+        size += 300 + len(row[0] + row[1] + row[3])
+        if size > MOST:
+            yield some
+            some, size = [], 0
+    yield some
+
+
+def rows_in(paths):
+    """The rows of files, in order."""
+    csv.field_size_limit(2**31 - 1)
+    with contextlib.ExitStack() as opened:
+        files = [opened.enter_context(open(path, newline="", encoding="utf-8")) for path in paths]
+        yield from heapq.merge(*map(csv.reader, files), key=order)
+
+
+@contextlib.contextmanager
+def new_file(path, scratch):
+    """A file that has its name only once it is whole."""
+    unfinished = os.path.join(scratch, uuid.uuid4().hex)
+    with open(unfinished, "x", newline="", encoding="utf-8") as file:
+        yield file
+        file.flush()
+        if os.path.dirname(path) != scratch:
+            os.fsync(file.fileno())
+    os.replace(unfinished, path)
+
+
+def write_rows(rows, tally, scratch, path=None):
+    path = path or os.path.join(scratch, f"{uuid.uuid4().hex}.csv")
+    with new_file(path, scratch) as file:
+        csv.writer(file).writerows(firsts(rows, tally))
+    return path
+
+
+def merged(paths, *words):
+    """One file with the rows of several, and what this changes in the tally."""
+    tally = Counter()
+    return [write_rows(rows_in(paths), tally, words[-1])], tally
+
+
+def part_of(batch, agents, paths, program, parts, scratch):
+    """The files with the rows of a batch, and its tally: from the folder of parts, if an earlier run has made them of the same."""
+    made_of = [program, __version__, agents, paths, batch, [stamp(path) for path in batch[1:]]]
+    name = os.path.join(parts, hashlib.sha256(json.dumps(made_of).encode()).hexdigest()[:32])
+    with contextlib.suppress(FileNotFoundError), open(f"{name}.json", encoding="utf-8") as file:
+        _, count, items = json.load(file)
+        tally = Counter({tuple(key) if isinstance(key, list) else key: number for key, number in items})
+        return [f"{name}.{number}.csv" for number in range(count)], tally + Counter(kept=files_in(tally))
+    tally, written = Counter(), []
+    for rows in pieces(rows_of(batch, Matrix(sorted(paths), sorted(agents)), tally)):
+        written.append(write_rows(sorted(rows, key=order), tally, scratch, f"{name}.{len(written)}.csv"))
+    if not tally.pop("again", 0):
+        with new_file(f"{name}.json", scratch) as file:
+            json.dump([made_of, len(written), list(tally.items())], file)
+    return written, tally
+
+
+def stamp(path):
+    it = attempt(os.stat, path)
+    return None if isinstance(it, Exception) else [it.st_size, it.st_mtime_ns]
+
+
+def files_in(tally):
+    return tally["sites"] + tally["left out", "more files of a site"]
 
 
 def paths_below(source):
     """The files below a folder, and the folders that can't be read, which can't be read as files either."""
     unreadable = []
-    walked = os.walk(source, onerror=lambda error: unreadable.append(error.filename))
-    return sorted([os.path.join(folder, name) for folder, _, names in walked for name in names] + unreadable)
+    for folder, folders, names in os.walk(source, onerror=lambda error: unreadable.append(error.filename)):
+        folders.sort()
+        yield from (os.path.join(folder, name) for name in sorted(names))
+    yield from unreadable
 
 
 def batches_of(source, size):
-    """Batches of about so many records that together have each record of a source once; a WARC file is one batch."""
-    path = Path(source)
-    if path.is_dir():
+    """The batches of a source, for a folder of so many files."""
+    if os.path.isdir(source):
         paths = paths_below(source)
-        return [("files", *paths[start : start + size]) for start in range(0, len(paths), size)]
-    if not path.is_file():
+        while some := tuple(itertools.islice(paths, size)):
+            yield ("files", *some)
+    elif os.path.isfile(source):
+        yield "warc" if source.endswith((".warc", ".warc.gz")) else "jsonl", source
+    else:
         raise ValueError(f"{source} isn't a folder, or a file that can be read")
-    if path.name.endswith((".warc", ".warc.gz")):
-        return [("warc", source)]
-    step, length = size * 4096, path.stat().st_size
-    return [("jsonl", source, start, min(start + step, length)) for start in range(0, length, step)]
 
 
-# ---- where they run
+# ---- where they are written, and merged
 
 
-def run_here(batches, *words):
+def run_here(batches, *words, work=part_of):
     bytes(2**24)  # since so much has been freed, malloc keeps as much from one file to the next, and doesn't return it each time
     for batch in batches:
-        yield census_of(batch, *words)
+        yield work(batch, *words)
 
 
-def unread(batch, error):
-    """The result of a batch that no worker could read."""
-    places = [(path,) for path in batch[1:]] if batch[0] == "files" else [batch[1:3]]
-    return {}, Counter(), [("unread", place, described(error)) for place in places]
+def unread(batch, error, words, work):
+    """The part of a batch that no worker could read."""
+    if work is merged:
+        raise error
+    tally = Counter()
+    rows = [error_row("unread", place, error, tally) for place in zip(batch[1:])]
+    return [write_rows(sorted(rows, key=order), tally, words[-1])], tally
 
 
-def run_on(client, batches, *words, work=census_of):
-    """The results from the workers of a client. When one dies, so may others' batches with it: they are tried again at the end, one after
-    the other. One call that sends all batches is much faster than a call for each."""
+def run_on(client, batches, *words, work=part_of):
+    """The results from the workers of a client, which has only as many batches as keep them busy. When one dies, so may others' batches
+    with it: they are tried again at the end, one after the other."""
     from distributed import KilledWorker, as_completed
 
-    waiting = dict(zip(client.map(work, batches, *([word] * len(batches) for word in words), pure=False), batches))
-    suspects = []
-    for future in as_completed(waiting):
-        batch = waiting.pop(future)
+    batches, sent, suspects, done = iter(batches), {}, [], as_completed()
+
+    def send(count):
+        for batch in itertools.islice(batches, count):
+            future = client.submit(work, batch, *words, pure=False)
+            sent[future] = batch
+            done.add(future)
+
+    send(20 + 2 * sum(client.nthreads().values()))
+    for future in done:
+        batch = sent.pop(future)
+        send(1)
         try:
             yield future.result()
         except KilledWorker:
             suspects.append(batch)
         except Exception as error:
-            yield unread(batch, error)
+            yield unread(batch, error, words, work)
     for batch in suspects:
         yield from run_alone(client, batch, words, work)
 
@@ -349,7 +464,7 @@ def run_alone(client, batch, words, work):
             for path in batch[1:]:
                 yield from run_alone(client, ("files", path), words, work)
         else:
-            yield unread(batch, error)
+            yield unread(batch, error, words, work)
 
 
 @contextlib.contextmanager
@@ -364,43 +479,64 @@ def client_of(workers, scheduler):
     options = {"n_workers": workers, "threads_per_worker": 1, "processes": True, "host": "127.0.0.1", "dashboard_address": None}
     # Dask's settings let a worker return memory and take it again for most files, and look every 10 ms at what its threads do
     settings = {"distributed.nanny.pre-spawn-environ.MALLOC_TRIM_THRESHOLD_": 2**26, "distributed.worker.profile.enabled": False}
-    settings |= {"distributed.scheduler.allowed-failures": 0}
+    # and a cluster would give up a worker that isn't there 15 s after one of its name has died
+    settings |= {"distributed.scheduler.allowed-failures": 0, "distributed.deploy.lost-worker-timeout": 86400}
     with dask.config.set(settings), LocalCluster(**options) as cluster, Client(cluster) as client:
         yield client
 
 
-# ---- what is written
+def progress(total):
+    """A function that shows a tally after so many parts: at the end, and once a second."""
+    start = shown = time.monotonic()
+
+    def show(done, tally):
+        nonlocal shown
+        now, files = time.monotonic(), files_in(tally)
+        if done == total or now >= shown + 1:
+            shown, rate = now, (files - tally["kept"]) / (now - start)
+            end = "\r" if sys.stderr.isatty() and done < total else "\n"
+            print(f"{done} of {total} parts, {files} files, {rate:.0f} files a second", end=end, file=sys.stderr, flush=True)
+
+    return show
 
 
-def printable(text):
-    """The text with escapes for control characters, for those that change the direction of writing, and for lone surrogates."""
-    return "".join(it if it.isprintable() else it.encode("unicode_escape").decode() for it in text)
+def census(run, batches, words, show=lambda *_: None):
+    """The sum of the tallies, and the file with all rows, in a list. Neither depends on where and in which order the batches are read."""
+    total, paths = Counter(), []
+    for done, (more, tally) in enumerate(run(batches, *words), 1):
+        paths += more
+        total.update(tally)
+        show(done, total)
+    while len(paths) > 1:
+        earlier, paths = paths, []
+        groups = (earlier[start : start + AT_ONCE] for start in range(0, len(earlier), AT_ONCE))
+        for more, tally in run(groups, *words, work=merged):
+            paths += more
+            total.update(tally)
+        for path in set(earlier):
+            if os.path.dirname(path) == words[-1]:
+                os.remove(path)
+    return total, paths
 
 
-def census(results, batches=0):
-    """The sum of the results: how many sites there are, and how many records are left out; how many sites have each result for a crawler
-    and a path; the sites that keep a crawler out of a path, with their lines of the CSV file; and the errors. No order depends on where
-    they ran."""
-    sites, left_out, errors, done = {}, Counter(), [], 0
-    for more_sites, more_left_out, more_errors in results:
-        left_out, done = left_out + more_left_out, done + 1
-        for site, record in more_sites.items():
-            keep_first(sites, left_out, site, record)
-        errors += more_errors
-        if batches and sys.stderr.isatty():
-            width = min(40, 40 * done // batches)
-            print(f"\r[{'#' * width}{'.' * (40 - width)}] {len(sites)} sites", end="", file=sys.stderr, flush=True)
-    counts = Counter(result for _, _, results in sites.values() for result in results)
-    rows = sorted((site, lines) for site, (_, lines, _) in sites.items() if lines)
-    texts = [(what, printable(":".join(map(str, place))), printable(error)) for what, place, error in sorted(errors)]
-    return len(sites), left_out, counts, rows, texts
+# ---- what is shown
 
 
-def write_csv(path, rows, errors):
-    with open(path, "w", newline="", encoding="utf-8") as file:
-        file.write(lines_of([("site", "crawler", "path", "result", "line")]))
-        file.writelines(lines for _, lines in rows)
-        file.write(lines_of((place, "", "", f"{what}: {error}", "") for what, place, error in errors))
+def errors_in(paths, what):
+    """The places with such an error, and the error."""
+    for site, path, byte, result in rows_in(paths):
+        if site:
+            return
+        if result.startswith(what):
+            yield f"{path}:{byte}" if byte else path, result
+
+
+def write_csv(file, paths):
+    table = csv.writer(file)
+    table.writerow(["site", "crawler", "path", "result", "line"])
+    rows = ((site, json.loads(result)) for site, _, _, result in rows_in(paths) if site)
+    table.writerows((site, safe(agent), safe(path), *it) for site, results in rows for agent, path, *it in results)
+    table.writerows((safe(place), "", "", error, "") for place, error in errors_in(paths, ""))
 
 
 COLOURS = ["#4c72b0", "#dd8452", "#55a868", "#c44e52", "#8172b3", "#937860"]
@@ -427,17 +563,17 @@ def chart(sites, counts, agents, paths):
     return "\n".join([*parts, "</svg>", ""])
 
 
-def report(sites, left_out, counts, errors, agents, paths):
+def report(tally, rows, agents, paths):
     print(f"{'kept out of':20}" + "".join(f"{path:>12}" for path in [*paths, "unusable"]))
     for agent in agents:
         words = [*((path, "deny") for path in paths), (paths[0], "unusable")]
-        print(f"{agent:20}" + "".join(f"{counts[agent, path, result]:12}" for path, result in words))
-    unread, damaged = ([it for it in errors if it[0] == what] for what in ("unread", "damaged"))
-    print(f"{sites} sites with a robots.txt file, {len(damaged)} damaged, {len(unread)} unread")
-    for reason, count in sorted(left_out.items()):
-        print(f"left out: {count} {reason}")
-    for what, place, error in [*unread, *damaged[:20]]:
-        print(f"{what}: {place}: {error}")
+        print(f"{agent:20}" + "".join(f"{tally[agent, path, result]:12}" for path, result in words))
+    print(f"{tally['sites']} sites with a robots.txt file, {tally['damaged']} damaged, {tally['unread']} unread")
+    for reason in sorted(key[1] for key in tally if key[:-1] == ("left out",)):
+        print(f"left out: {tally['left out', reason]} {reason}")
+    for what, most in (("unread", None), ("damaged", 20)):
+        for place, error in itertools.islice(errors_in(rows, what), most):
+            print(error.replace(": ", f": {place}: ", 1))
 
 
 def items(text):
@@ -453,16 +589,24 @@ def parsed():
     words.add_argument("--paths", type=items, default="/,/search", help="paths or URLs, separated by commas; /,/search")
     words.add_argument("--csv", metavar="FILE", help="writes each path that a site keeps a crawler out of")
     words.add_argument("--svg", metavar="FILE", help="writes a bar chart")
-    words.add_argument("--batch", type=int, default=500, help="records in a batch, if it isn't a WARC file; 500")
+    words.add_argument("--batch", type=int, default=500, help="files of a folder in a part; 500")
+    words.add_argument("--parts", metavar="FOLDER", help="keeps the parts, and uses those that an earlier run has kept")
+    words.add_argument("--progress", action="store_true", help="shows what is done also if standard error is no terminal")
     where = words.add_mutually_exclusive_group()
     where.add_argument("--workers", type=int, default=0, help="workers of a LocalCluster; without, this process does it")
     where.add_argument("--scheduler", metavar="ADDRESS", help="the scheduler of a Dask cluster, as tcp://HOST:8786")
     given = words.parse_args()
     if given.batch < 1 or given.workers < 0:
         words.error("a batch has at least one record, and no number of workers is negative")
+    if given.scheduler and not given.parts:
+        words.error("--scheduler needs --parts, a folder that all workers see")
     try:
         Matrix(given.paths, given.agents)
-        given.batches = [batch for source in given.sources for batch in batches_of(source, given.batch)]
+        if given.parts and any(Path(given.parts).resolve().is_relative_to(Path(source).resolve()) for source in given.sources):
+            raise ValueError(f"{given.parts} is in a source, so the parts would be read as files of sites")
+        given.total = sum(1 for _ in batches(given))
+        if given.parts:
+            os.makedirs(given.parts, exist_ok=True)
         for path in filter(None, [given.csv, given.svg]):
             open(path, "a").close()
     except (OSError, ValueError) as error:
@@ -470,21 +614,27 @@ def parsed():
     return given
 
 
+def batches(given):
+    return (batch for source in given.sources for batch in batches_of(source, given.batch))
+
+
 def main():
     sys.stdout.reconfigure(errors="backslashreplace")
     given = parsed()
-    agents, paths, batches = given.agents, given.paths, given.batches
-    with client_of(given.workers, given.scheduler) if given.workers or given.scheduler else contextlib.nullcontext() as client:
-        start = time.perf_counter()
-        results = run_on(client, batches, agents, paths) if client else run_here(batches, agents, paths)
-        sites, left_out, counts, rows, errors = census(results, len(batches))
-        took = time.perf_counter() - start
-    print(f"\n{sites / took:.0f} sites a second", file=sys.stderr)
-    report(sites, left_out, counts, errors, agents, paths)
-    if given.csv:
-        write_csv(given.csv, rows, errors)
+    agents, paths, show = given.agents, given.paths, [progress(given.total)] if given.progress or sys.stderr.isatty() else []
+    program = hashlib.sha256(Path(__file__).read_bytes()).hexdigest()
+    with contextlib.ExitStack() as opened:
+        scratch = opened.enter_context(tempfile.TemporaryDirectory(prefix="unfinished-", dir=given.parts))
+        run = run_here
+        if given.workers or given.scheduler:
+            run = functools.partial(run_on, opened.enter_context(client_of(given.workers, given.scheduler)))
+        tally, rows = census(run, batches(given), (agents, paths, program, given.parts or scratch, scratch), *show)
+        report(tally, rows, agents, paths)
+        if given.csv:
+            with open(given.csv, "w", newline="", encoding="utf-8") as file:
+                write_csv(file, rows)
     if given.svg:
-        Path(given.svg).write_text(chart(sites, counts, agents, paths), encoding="utf-8")
+        Path(given.svg).write_text(chart(tally["sites"], tally, agents, paths), encoding="utf-8")
 
 
 if __name__ == "__main__":

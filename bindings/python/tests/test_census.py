@@ -3,13 +3,20 @@
 import base64
 import contextlib
 import csv
+import functools
 import gzip
 import io
+import itertools
 import json
 import os
 import random
+import re
 import signal
+import subprocess
 import sys
+import tempfile
+import time
+import tracemalloc
 import xml.dom.minidom
 from collections import Counter
 from itertools import count
@@ -43,9 +50,22 @@ SITES = [made(number) for number in range(200)]
 ROWS = sorted(row for *_, rows in SITES for row in rows)
 
 
-def read(rows):
-    """The rows in the lines of a CSV file."""
-    return [(*row[:4], int(row[4])) for row in csv.reader("".join(lines for _, lines in rows).splitlines())]
+def counted(batches, agents=AGENTS, paths=PATHS, run=census.run_here, parts=None):
+    """The sites, what is left out, the counts, the rows of the CSV file, and the errors with their places."""
+    with tempfile.TemporaryDirectory(dir=parts) as scratch:
+        tally, files = census.census(run, batches, (agents, paths, "a program", parts or scratch, scratch))
+        sites, errors = [row[0] for row in census.rows_in(files) if row[0]], list(census.errors_in(files, ""))
+        census.write_csv(table := io.StringIO(), files)
+    rows = [(*row[:4], int(row[4])) for row in csv.reader(table.getvalue().splitlines()[1:]) if row[4]]
+    assert (tally["sites"], tally["damaged"] + tally["unread"]) == (len(sites), len(errors))
+    left_out = {key[1]: count for key, count in tally.items() if key[:-1] == ("left out",)}
+    return sites, left_out, {key: count for key, count in tally.items() if key[2:] in [("deny",), ("unusable",)] and count}, rows, errors
+
+
+def counted_in(path, size=500):
+    """The sites of a source, what is left out of it, and its errors."""
+    sites, left_out, _, _, errors = counted(census.batches_of(str(path), size))
+    return sites, left_out, [error for _, error in errors]
 
 
 def record_of(kind, url, block, more=""):
@@ -103,33 +123,15 @@ LEFT_OUT = {"files": Counter(), "all.jsonl": Counter({"empty lines": 1}), "all.w
 ERRORS = {"files": ["damaged"], "all.jsonl": ["damaged"] * 5, "all.warc": ["damaged", "unread"], "all.warc.gz": ["damaged", "unread"]}
 
 
+COUNTS = Counter(row[1:4] for row in ROWS)
+
+
 @pytest.mark.parametrize("size", [1, 7, 500])
 @pytest.mark.parametrize("name", LEFT_OUT)
 def test_a_damaged_record_loses_nothing_else(sources, name, size):
-    batches = census.batches_of(sources[name], size)
-    sites, left_out, counts, rows, errors = census.census(census.run_here(batches, AGENTS, PATHS))
-    assert (sites, left_out, [what for what, *_ in errors]) == (len(SITES), LEFT_OUT[name], ERRORS[name]), errors
-    assert read(rows) == ROWS
-    assert counts == Counter(row[1:4] for row in ROWS)
-
-
-def test_ranges_have_each_line_once(sources):
-    """Also ranges that begin anywhere in a line."""
-    chance, path = random.Random(1), sources["all.jsonl"]
-    length = os.path.getsize(path)
-    whole = census.census(census.run_here([("jsonl", path, 0, length)], AGENTS, PATHS))
-    for _ in range(20):
-        cuts = [0, *sorted(chance.sample(range(1, length), 5)), length]
-        assert census.census(census.run_here([("jsonl", path, *ends) for ends in zip(cuts, cuts[1:])], AGENTS, PATHS)) == whole
-
-
-def counted(path, size=500):
-    """The sites of a source, what is left out of it, and its errors."""
-    sites, all_left_out, all_errors = {}, Counter(), []
-    for batch in census.batches_of(str(path), size):
-        more_sites, left_out, errors = census.census_of(batch, AGENTS, PATHS)
-        sites, all_left_out, all_errors = sites | more_sites, all_left_out + left_out, all_errors + [f"{what}: {error}" for what, _, error in errors]
-    return sorted(sites), dict(all_left_out), all_errors
+    sites, left_out, counts, rows, errors = counted(census.batches_of(sources[name], size))
+    assert (len(sites), left_out, [error.split(":")[0] for _, error in errors]) == (len(SITES), LEFT_OUT[name], ERRORS[name]), errors
+    assert (rows, counts) == (ROWS, COUNTS)
 
 
 SOUND = response("sound", b"Disallow: /")
@@ -159,14 +161,14 @@ def test_an_error_has_a_reason(tmp_path, data, sites, error, packed):
     """Also where gzip has packed all records together."""
     path = tmp_path / ("a.warc.gz" if packed else "a.warc")
     path.write_bytes(gzip.compress(data) if packed else data)
-    found, _, errors = counted(path)
+    found, _, errors = counted_in(path)
     assert (found, len(errors)) == (sites, 1) and errors[0].startswith(error)
 
 
 @pytest.mark.parametrize("after, error", [(b"", []), (bytes(100), []), (b"garbage", ["BadGzipFile"]), (b"\x1f\x8b\x08", ["EOFError"])])
 def test_what_follows_the_last_member(tmp_path, after, error):
     (tmp_path / "a.warc.gz").write_bytes(gzip.compress(VIDEO) + gzip.compress(SOUND) + after)
-    sites, _, errors = counted(tmp_path / "a.warc.gz")
+    sites, _, errors = counted_in(tmp_path / "a.warc.gz")
     assert (sites, [it.split(": ")[1] for it in errors]) == (["sound"], error)
 
 
@@ -175,7 +177,7 @@ def test_a_cut_file_has_the_records_before(tmp_path):
     path, whole = tmp_path / "a.warc.gz", b"".join(packed)
     for length in range(len(packed[0]), len(whole)):
         path.write_bytes(whole[:length])
-        sites, _, errors = counted(path)
+        sites, _, errors = counted_in(path)
         at_least = 1 + (length >= len(packed[0] + packed[1]))
         assert sites[:at_least] == ["site0", "site1"][:at_least] and (errors or length in (len(packed[0]), len(packed[0] + packed[1])))
 
@@ -260,7 +262,7 @@ def test_what_is_left_out_has_a_reason(record, reason):
 
 def test_an_error_is_short(tmp_path):
     (tmp_path / "a.warc").write_bytes(response("a", b"\0", more=b"Content-Encoding: " + b"a" * 1_000_000 + b"\r\n"))
-    [error] = counted(tmp_path / "a.warc")[2]
+    [error] = counted_in(tmp_path / "a.warc")[2]
     assert error.startswith("damaged: ValueError: the body is encoded as aaa") and len(error) < 1000
 
 
@@ -273,7 +275,7 @@ def test_many_small_members_of_a_body_take_no_time():
 def test_names_of_files(tmp_path, path):
     (tmp_path / path).parent.mkdir(parents=True, exist_ok=True)
     (tmp_path / path).write_bytes(b"Disallow: /")
-    assert counted(tmp_path) == (["a.example"], {}, [])
+    assert counted_in(tmp_path) == (["a.example"], {}, [])
 
 
 def test_a_host_counts_once(tmp_path):
@@ -285,10 +287,10 @@ def test_a_host_counts_once(tmp_path):
         (tmp_path / f"{number}.warc").write_bytes(record.replace(b"https://", host.encode()))
     batches = [batch for number in range(len(hosts)) for batch in census.batches_of(str(tmp_path / f"{number}.warc"), 500)]
     for ordered in [batches, batches[::-1]]:
-        sites, left_out, counts, rows, errors = census.census(census.run_here(ordered, AGENTS, ["/0", "/1", "/6", "/7", "/8"]))
-        assert (sites, left_out, errors) == (3, {"more files of a site": 6}, [])
+        sites, left_out, counts, rows, errors = counted(ordered, paths=["/0", "/1", "/6", "/7", "/8"])
+        assert (len(sites), left_out, errors) == (3, {"more files of a site": 6}, [])
         assert counts == {("GPTBot", "/0", "deny"): 1, ("GPTBot", "/6", "deny"): 1, ("GPTBot", "/7", "deny"): 1}
-        assert read(rows) == [(site, "GPTBot", path, "deny", 2) for site, path in [("a.example", "/0"), ("b.example", "/6"), ("xn--bcher-kva.example", "/7")]]
+        assert rows == [(site, "GPTBot", path, "deny", 2) for site, path in [("a.example", "/0"), ("b.example", "/6"), ("xn--bcher-kva.example", "/7")]]
 
 
 def test_hosts_of_files_and_lines_are_those_of_urls(tmp_path):
@@ -296,10 +298,10 @@ def test_hosts_of_files_and_lines_are_those_of_urls(tmp_path):
         (tmp_path / name).write_bytes(b"")
     lines = [json.dumps({"host": host, "body": ""}) for host in ["C.example.", "b\u00fccher.example", "a/b", " d.example", 7, None]]
     (tmp_path / "lines.jsonl").write_text("\n".join(lines))
-    assert counted(tmp_path / "lines.jsonl")[0] == ["c.example", "xn--bcher-kva.example"]
-    assert len(counted(tmp_path / "lines.jsonl")[2]) == 4
+    assert counted_in(tmp_path / "lines.jsonl")[0] == ["c.example", "xn--bcher-kva.example"]
+    assert len(counted_in(tmp_path / "lines.jsonl")[2]) == 4
     (tmp_path / "lines.jsonl").unlink()
-    assert counted(tmp_path) == (["a.example", "xn--bcher-kva.example"], {"more files of a site": 1}, [])
+    assert counted_in(tmp_path) == (["a.example", "xn--bcher-kva.example"], {"more files of a site": 1}, [])
 
 
 def test_what_is_no_file_and_a_folder_that_cannot_be_read_are_damaged(tmp_path, monkeypatch):
@@ -314,7 +316,7 @@ def test_what_is_no_file_and_a_folder_that_cannot_be_read_are_damaged(tmp_path, 
         return scandir(path)
 
     monkeypatch.setattr(os, "scandir", unless_closed)
-    sites, left_out, errors = counted(tmp_path)
+    sites, left_out, errors = counted_in(tmp_path)
     assert (sites, left_out, len(errors)) == (["a.example"], {}, 2) and "damaged: ValueError: it isn't a regular file" in errors
 
 
@@ -331,9 +333,9 @@ def test_a_source_that_cannot_be_read_ends_nothing(sources, tmp_path, monkeypatc
         path.write_bytes(b"\n")
     batches = [batch for path in [*paths, sources["all.warc"]] for batch in census.batches_of(str(path), 500)]
     monkeypatch.setattr(census, "open", unless_closed, raising=False)
-    sites, _, _, rows, errors = census.census(census.run_here(batches, AGENTS, PATHS))
-    assert (sites, read(rows)) == (len(SITES), ROWS)
-    assert [(what, place.split(":")[0]) for what, place, error in errors if "Permission" in error] == sorted(("unread", str(path)) for path in paths)
+    sites, _, _, rows, errors = counted(batches)
+    assert (len(sites), rows) == (len(SITES), ROWS)
+    assert [place.split(":")[0] for place, error in errors if error.startswith("unread: PermissionError")] == sorted(map(str, paths))
 
 
 def test_a_short_read_drops_no_rule(tmp_path, monkeypatch):
@@ -341,7 +343,7 @@ def test_a_short_read_drops_no_rule(tmp_path, monkeypatch):
     (tmp_path / "a.example.txt").write_bytes(b"User-agent: *\nDisallow: /")
     read_all = os.read
     monkeypatch.setattr(os, "read", lambda file, length: read_all(file, min(length, 16)))
-    assert read(census.census(census.run_here(census.batches_of(str(tmp_path), 500), ["CCBot"], ["/"]))[3]) == [("a.example", "CCBot", "/", "deny", 2)]
+    assert counted(census.batches_of(str(tmp_path), 500), ["CCBot"], ["/"])[3] == [("a.example", "CCBot", "/", "deny", 2)]
 
 
 # ---- the program, and workers
@@ -368,7 +370,7 @@ def test_the_program_prints_and_writes_the_same_with_workers(sources, tmp_path):
     assert "http" not in chart.replace("http://www.w3.org/2000/svg", "")
     assert run(tmp_path, *sources.values(), "--batch", "60", "--workers", "2") == alone
     with workers() as client:
-        assert run(tmp_path, *sources.values(), "--batch", "60", "--scheduler", client.scheduler.address) == alone
+        assert run(tmp_path, *sources.values(), "--batch", "60", "--scheduler", client.scheduler.address, "--parts", tmp_path) == alone
 
 
 def forged(name):
@@ -428,6 +430,9 @@ def test_no_text_of_an_archive_steers_a_terminal_or_a_spreadsheet(tmp_path):
         (["--batch", "0"], "at least one record"),
         (["--batch", "-5"], "at least one record"),
         (["--workers", "-1"], "no number of workers"),
+        (["--scheduler", "tcp://127.0.0.1:1"], "--scheduler needs --parts"),
+        (["--parts", "/dev/null"], "/dev/null"),
+        (["/usr", "--parts", "/usr/lib/parts"], "/usr/lib/parts is in a source"),
         (["missing.jsonl"], "missing.jsonl isn't a folder, or a file"),
         (["/dev/null"], "/dev/null isn't a folder, or a file"),
         (["--csv", "/no/folder/a.csv"], "/no/folder/a.csv"),
@@ -453,12 +458,23 @@ def test_a_chart_of_any_names():
     assert texts == ["Of 2 sites with a robots.txt file, how many keep a crawler out", "/b?c&d<e", "<a>", "1 (50.0 %)"]
 
 
-def test_a_terminal_shows_a_progress_bar(sources, capsys, monkeypatch):
-    batches = census.batches_of(sources["files"], 60)
-    monkeypatch.setattr(sys.stderr, "isatty", lambda: True)
-    census.census(census.run_here(batches, AGENTS, PATHS), len(batches))
-    bars = capsys.readouterr().err.split("\r")
-    assert bars[1].startswith("[##########....") and bars[-1] == f"[{'#' * 40}] 200 sites"
+@pytest.mark.parametrize("is_terminal, end", [(True, "\r"), (False, "\n")])
+def test_progress_is_shown_at_the_end_and_once_a_second(capsys, monkeypatch, is_terminal, end):
+    clock = itertools.count(100, 0.25)
+    monkeypatch.setattr(time, "monotonic", lambda: next(clock))
+    monkeypatch.setattr(sys.stderr, "isatty", lambda: is_terminal)
+    show = census.progress(10)
+    for done in range(1, 11):
+        show(done, Counter({"sites": 60 * done, "kept": 60, ("left out", "more files of a site"): 40 * done}))
+    rates = [(4, 400, 340), (8, 800, 370), (10, 1000, 376)]
+    lines = [f"{done} of 10 parts, {files} files, {rate} files a second" for done, files, rate in rates]
+    assert capsys.readouterr().err == lines[0] + end + lines[1] + end + lines[2] + "\n"
+
+
+def test_progress_is_shown_on_a_terminal_or_if_it_is_asked_for(sources):
+    words = [sys.executable, package.PACKAGE / "examples/census.py", sources["all.warc"]]
+    ends = [subprocess.run([*words, *more], capture_output=True, text=True, env=package.WITH_PACKAGE).stderr for more in ([], ["--progress"])]
+    assert ends[0] == "" and ends[1].startswith("1 of 1 parts, 200 files, ") and ends[1].count("\n") == 1
 
 
 @contextlib.contextmanager
@@ -476,13 +492,13 @@ def workers():
         signal.alarm(0)
 
 
-def deadly(batch, agents, paths):
-    """census_of, on a worker that dies at the site 0010 and at WARC files, and raises an error at JSONL."""
+def deadly(batch, *words):
+    """part_of, on a worker that dies at the site 0010 and at WARC files, and raises an error at JSONL."""
     if batch[0] == "warc" or any("site0010" in str(path) for path in batch):
         os.kill(os.getpid(), signal.SIGKILL)
     if batch[0] == "jsonl":
         raise OSError("it is closed")
-    return census.census_of(batch, agents, paths)
+    return census.part_of(batch, *words)
 
 
 def test_a_worker_that_dies_loses_only_what_it_died_of(sources, monkeypatch):
@@ -490,27 +506,140 @@ def test_a_worker_that_dies_loses_only_what_it_died_of(sources, monkeypatch):
     batches = [batch for source in sources.values() for batch in census.batches_of(source, 40)]
     monkeypatch.setattr(census, "READERS", {})
     with workers() as client:
-        sites, left_out, _, rows, errors = census.census(census.run_on(client, batches, AGENTS, PATHS, work=deadly))
-    assert (sites, left_out, read(rows)) == (len(SITES) - 1, Counter(), [row for row in ROWS if "site0010" not in row[0]])
-    died = [place for what, place, error in errors if what == "unread" and error.startswith("KilledWorker: ")]
+        sites, left_out, _, rows, errors = counted(batches, run=functools.partial(census.run_on, client, work=deadly))
+    assert (len(sites), left_out, rows) == (len(SITES) - 1, {}, [row for row in ROWS if "site0010" not in row[0]])
+    died = [place for place, error in errors if error.startswith("unread: KilledWorker: ")]
     assert died == sorted([sources["all.warc"], sources["all.warc.gz"], f"{sources['files']}/site0010.example.robots.txt"])
-    closed = [(what, error) for what, place, error in errors if place.startswith(sources["all.jsonl"])]
-    assert closed == [("unread", "OSError: it is closed")] * len(census.batches_of(sources["all.jsonl"], 40))
-    assert len(errors) == len(died) + len(closed) + 1
+    assert (sources["all.jsonl"], "unread: OSError: it is closed") in errors and len(errors) == len(died) + 2
 
 
-def slow(batch, agents, paths):
-    import time
-
+def slow(batch, *words):
     time.sleep(0.2)
-    return census.census_of(batch, agents, paths)
+    return census.part_of(batch, *words)
 
 
 def test_a_worker_that_is_killed_loses_nothing(sources):
     batches = [batch for source in sources.values() for batch in census.batches_of(source, 40)]
     with workers() as client:
-        pids, results = list(client.run(os.getpid).values()), census.run_on(client, batches, AGENTS, PATHS, work=slow)
-        first = next(results)
-        os.kill(pids[0], signal.SIGKILL)
-        found = census.census([first, *results])
-    assert found == census.census(census.run_here(batches, AGENTS, PATHS))
+        pids = list(client.run(os.getpid).values())
+
+        def run(*words, work=slow):
+            for result in census.run_on(client, *words, work=work):
+                if pids:
+                    os.kill(pids.pop(), signal.SIGKILL)
+                    pids.clear()
+                yield result
+
+        found = counted(batches, run=run)
+    assert found == counted(batches)
+
+
+# ---- parts
+
+
+def here(batches, *words, work=census.part_of):
+    return (work(batch, *words) for batch in batches)
+
+
+def test_many_files_are_merged_in_rounds(sources, monkeypatch):
+    """Also with workers, and if a source is in another one."""
+    batches = [batch for source in sources.values() for batch in census.batches_of(source, 40)]
+    batches += census.batches_of(f"{sources['files']}/deeper", 30)
+    whole = counted(batches)
+    assert whole[0] == sorted(site for site, *_ in SITES) and whole[1]["more files of a site"] == 700 and whole[2:4] == (COUNTS, ROWS)
+    monkeypatch.setattr(census, "MOST", 9000)
+    monkeypatch.setattr(census, "AT_ONCE", 2)
+    assert counted(batches) == counted(reversed(batches)) == whole
+
+
+def test_many_agents_and_paths_and_a_long_host(tmp_path):
+    """The results of a site are longer than csv expects."""
+    (tmp_path / "a.warc").write_bytes(response("a", b"User-agent: *\nDisallow: /") + response("b" * 500_000, b""))
+    agents, paths = [[f"{word}{number}" for number in range(100)] for word in ("agent", "/path")]
+    sites, _, counts, rows, _ = counted([("warc", f"{tmp_path}/a.warc")] * 2, agents, paths)
+    assert (len(sites), len(counts), len(rows)) == (2, 10_000, 10_000) and set(counts.values()) == {1}
+
+
+def words_for(sources, folder):
+    return [*sources.values(), "--batch", "20", "--parts", folder / "parts"]
+
+
+def parts_in(folder):
+    return {path: path.stat().st_ino for path in folder.glob("parts/*.*")}
+
+
+def test_a_run_that_is_killed_goes_on(sources, tmp_path):
+    """It uses the parts that were whole, of which none is one that was being written."""
+    alone = run(tmp_path, *sources.values(), "--batch", "20")
+    words = [sys.executable, package.PACKAGE / "examples/census.py", *words_for(sources, tmp_path), "--agents", ",".join(AGENTS)]
+    with subprocess.Popen(words, env=package.WITH_PACKAGE, stdout=subprocess.DEVNULL) as process:
+        while not list(tmp_path.glob("parts/*.json")):
+            time.sleep(0.001)
+        process.kill()
+    kept = {path: number for path, number in parts_in(tmp_path).items() if (path.parent / f"{path.name[:32]}.json").exists()}
+    assert run(tmp_path, *words_for(sources, tmp_path)) == alone
+    assert parts_in(tmp_path).items() >= kept.items() and len(parts_in(tmp_path)) > len(kept)
+
+
+def test_a_part_is_used_while_what_it_is_made_of_is_the_same(sources, tmp_path, monkeypatch):
+    folder, parts = tmp_path / "files", tmp_path / "parts"
+    folder.mkdir()
+    parts.mkdir()
+    for number in range(6):
+        (folder / f"{number}.example.txt").write_bytes(b"")
+    batches = [batch for size in (1, 3) for batch in census.batches_of(str(folder), size)]
+    whole = counted(batches, parts=parts)
+    kept = parts_in(tmp_path)
+    assert counted(batches, parts=parts) == whole and parts_in(tmp_path) == kept and len(kept) == 16
+    os.utime(folder / "0.example.txt", (1, 1))  # one part of size 1, and one of size 3, each with two files
+    assert counted(batches, parts=parts) == whole and len(parts_in(tmp_path)) == 20
+    (folder / "5.example.txt").write_bytes(b"User-agent: *\nDisallow: /")
+    assert len(counted(batches, parts=parts)[3]) == 6 and len(parts_in(tmp_path)) == 24
+    counted(batches, agents=["CCBot"], parts=parts)
+    assert len(parts_in(tmp_path)) == 40
+    monkeypatch.setattr(census, "__version__", "another")
+    counted(batches, parts=parts)
+    assert len(parts_in(tmp_path)) == 56
+
+
+def test_a_part_that_could_not_be_read_is_read_again(tmp_path, monkeypatch):
+    (tmp_path / "a.warc").write_bytes(SOUND)
+    (tmp_path / "b.example.txt").write_bytes(b"")
+    (tmp_path / "parts").mkdir()
+
+    def failing(path, *words, **options):
+        if "parts" in str(path):
+            return open(path, *words, **options)
+        raise OSError(5, "Input/output error", path)
+
+    batches = [("warc", f"{tmp_path}/a.warc"), ("files", f"{tmp_path}/b.example.txt")]
+    with monkeypatch.context() as patched:
+        patched.setattr(census, "open", failing, raising=False)
+        assert [error.split(":")[0] for _, error in counted(batches, parts=tmp_path / "parts")[4]] == ["unread", "damaged"]
+    sites, _, _, _, errors = counted(batches, parts=tmp_path / "parts")
+    assert (sites, errors) == (["b.example", "sound"], [])
+
+
+def test_a_small_run_of_the_measurement():
+    package.needs("distributed")
+    out = package.run([Path(__file__).with_name("census_memory.py"), "200"])
+    assert re.fullmatch(r"200 sites, [0-9]+ a second; MB at most: client [0-9]+, workers \[[0-9]+, [0-9]+\]\n", out)
+
+
+def test_memory_does_not_grow_with_the_sites(tmp_path, monkeypatch):
+    """census_memory.py shows it for 100,000 files and workers."""
+    monkeypatch.setattr(census, "MOST", 20_000)
+    monkeypatch.setattr(census, "AT_ONCE", 4)
+    peaks = []
+    for number in (200, 1000):
+        with open(tmp_path / "a.warc", "wb") as archive:
+            archive.writelines(response(f"site{site}.example", b"User-agent: GPTBot\nDisallow: /\n" * 9) for site in range(number))
+        with tempfile.TemporaryDirectory() as scratch:
+            tracemalloc.start()
+            tally, rows = census.census(here, [("warc", f"{tmp_path}/a.warc")], (AGENTS, PATHS, "a program", scratch, scratch))
+            with open(os.devnull, "w") as table:
+                census.write_csv(table, rows)
+            peaks.append(tracemalloc.get_traced_memory()[1])
+            tracemalloc.stop()
+        assert tally["sites"] == number
+    assert peaks[1] < 1.3 * peaks[0], peaks
