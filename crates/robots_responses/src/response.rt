@@ -9,7 +9,7 @@ pub const LIFETIME: u32 = 86_400;
 #[derive(Clone, Copy, Debug)]
 pub struct Response {
     /// The status, or `None` if there was no answer: no address, no connection, no end in time.
-    pub status: Option<u16>,
+    pub status: Option<u32>,
     /// How many redirects in a row led to this request: 0 for the site's own address.
     pub redirects: u32,
     /// Whether it has a `Location` that can be asked.

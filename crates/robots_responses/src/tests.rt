@@ -14,7 +14,7 @@ const NO_ANSWER: Response = Response {
 
 /// Statuses from the first to the last, with what they mean for a whole body without a `Location`, for one that breaks
 /// off, for a first redirect and a fifth, and for a sixth.
-type Row = (u16, u16, Meaning, Meaning, Meaning, Meaning);
+type Row = (u32, u32, Meaning, Meaning, Meaning, Meaning);
 
 const STATUSES: &[Row] = &[
     (0, 199, DenyAll, DenyAll, DenyAll, DenyAll),
@@ -30,7 +30,7 @@ const STATUSES: &[Row] = &[
     (500, 65_535, DenyAll, DenyAll, DenyAll, DenyAll),
 ];
 
-fn meaning_of(status: u16, redirects: u32, has_location: bool, is_complete: bool) -> Meaning {
+fn meaning_of(status: u32, redirects: u32, has_location: bool, is_complete: bool) -> Meaning {
     let response = Response {
         status: Some(status),
         redirects,
