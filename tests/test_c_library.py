@@ -14,7 +14,7 @@ from pathlib import Path
 
 import pytest
 from library import LIBRARY, archive, kit, make, random_case
-from support import CC, ROOT, SIZES, Result, cases_of, compiled, input_of, program, run, shown, spelled, wanted_of
+from support import CC, CRATES, ROOT, SIZES, Result, cases_of, compiled, input_of, program, run, shown, spelled, wanted_of
 
 STRICT = ["-Wpedantic", "-Werror", f"-I{LIBRARY}"]
 
@@ -415,6 +415,13 @@ def test_python_site(robots):
     with robots.Site(long_rules(4097)) as site:
         assert site.matrix(["Other", "Bot"], ["/b", "/a"]) == [[-6, -6], [robots.NO_RESULT] * 2]
         assert status_of(robots, robots.Robot, "Bot", site) == (robots.OVERLONG_RULE, 2)
+
+
+def test_one_file_denies_everything():
+    """The proved one is also in the header and in the Rust crate for it."""
+    file = re.search(r"Site::new\(alloc, b(\"[^\"]+\")\)", (CRATES / "robots_responses/src/site.rt").read_text())[1]
+    assert f"#define ROBOTS_DENY_ALL_FILE {file}\n" in (LIBRARY / "robots.h").read_text()
+    assert f"pub const ROBOTS_DENY_ALL_FILE: &str = {file};\n" in (ROOT / "bindings/rust/sys/src/lib.rs").read_text()
 
 
 # ---- random files
