@@ -275,7 +275,7 @@ def test_program_built_by_cmake(request, tmp_path, folder, target):
 
 def test_texts_of_statuses(robots):
     """bindings/c/robots.c and examples/robots.py have the same ones, in the order of the statuses."""
-    header = (LIBRARY / "robots.h").read_text()
+    header = re.search(r"^enum robots_status \{.*?^\};", (LIBRARY / "robots.h").read_text(), re.M | re.S)[0]
     numbers = {name: int(number) for name, number in re.findall(r"^    (ROBOTS_\w+) = (-?\d+)\b", header, re.M)}
     source = (ROOT / "bindings/c/robots.c").read_text()
     texts = {numbers[name]: text for name, text in re.findall(r'case (ROBOTS_\w+): return "([^"]*)";', source)}
