@@ -197,6 +197,29 @@ static struct outcome keep_shared(void) {
     return outcome;
 }
 
+/* What RFC 9309, 2.3.1 says about responses, and the files for those that bring none. */
+static void try_responses(void) {
+    static const struct {
+        uint32_t status, redirects;
+        bool has_location, is_complete;
+        int meaning;
+    } cases[] = {
+        {0, 0, false, false, ROBOTS_DENY_ALL},   {199, 0, false, true, ROBOTS_DENY_ALL},  {200, 0, false, true, ROBOTS_PARSE},
+        {200, 0, false, false, ROBOTS_DENY_ALL}, {204, 6, true, true, ROBOTS_PARSE},      {206, 0, false, true, ROBOTS_DENY_ALL},
+        {299, 0, false, true, ROBOTS_PARSE},     {300, 0, true, true, ROBOTS_FOLLOW},     {301, 0, false, true, ROBOTS_DENY_ALL},
+        {301, 4, true, false, ROBOTS_FOLLOW},    {301, 5, true, true, ROBOTS_ALLOW_ALL},  {304, 0, true, true, ROBOTS_DENY_ALL},
+        {399, 0, true, true, ROBOTS_FOLLOW},     {400, 0, true, false, ROBOTS_ALLOW_ALL}, {403, 0, false, true, ROBOTS_ALLOW_ALL},
+        {429, 0, false, true, ROBOTS_DENY_ALL},  {499, 0, false, true, ROBOTS_ALLOW_ALL}, {500, 0, true, true, ROBOTS_DENY_ALL},
+        {65736, 0, false, true, ROBOTS_DENY_ALL}};
+    for (size_t i = 0; i < sizeof cases / sizeof *cases; i++)
+        tell("a response", robots_response_meaning(cases[i].status, cases[i].redirects, cases[i].has_location, cases[i].is_complete)
+            == cases[i].meaning);
+    int64_t out[3];
+    size_t line;
+    bool decided = robots_decide("Bot", 3, ROBOTS_STRING(ROBOTS_DENY_ALL_FILE), ROBOTS_STRING("/\na\n/robots.txt"), out, 3, &line) == ROBOTS_OK;
+    tell("a file that denies everything", decided && out[0] == -2 && out[1] == -2 && out[2] == 0);
+}
+
 /* URLs with the places where they end. Line 1 of the file denies any URL with a line feed, which is escaped as %0A. */
 static void try_batch(void) {
     static const struct {
@@ -414,6 +437,7 @@ static void try_examples(void) {
     tell("handles on the same robot and site", is(keep_shared(), ROBOTS_OK));
     tell("results and their lines", robots_may_fetch(0) == 1 && robots_may_fetch(3) == 1 && robots_may_fetch(-2) == 0
         && robots_line(0) == 0 && robots_line(3) == 3 && robots_line(-2) == 2);
+    try_responses();
     tell("the version", robots_version() == ROBOTS_VERSION);
 }
 

@@ -47,7 +47,7 @@ def build_archive():
 
 def archive():
     """The path of the library, which is built if its sources have changed."""
-    if not is_built(ARCHIVE, "robots_c", "printable_text", "texting_robots"):
+    if not is_built(ARCHIVE, "robots_c", "printable_text", "robots_responses", "texting_robots"):
         build_archive()
     return ARCHIVE
 

@@ -14,7 +14,7 @@ from pathlib import Path
 
 import pytest
 from library import LIBRARY, archive, kit, make, random_case
-from support import CC, ROOT, SIZES, Result, cases_of, compiled, input_of, program, run, shown, spelled, wanted_of
+from support import CC, CRATES, ROOT, SIZES, Result, cases_of, compiled, input_of, program, run, shown, spelled, wanted_of
 
 STRICT = ["-Wpedantic", "-Werror", f"-I{LIBRARY}"]
 
@@ -275,7 +275,7 @@ def test_program_built_by_cmake(request, tmp_path, folder, target):
 
 def test_texts_of_statuses(robots):
     """bindings/c/robots.c and examples/robots.py have the same ones, in the order of the statuses."""
-    header = (LIBRARY / "robots.h").read_text()
+    header = re.search(r"^enum robots_status \{.*?^\};", (LIBRARY / "robots.h").read_text(), re.M | re.S)[0]
     numbers = {name: int(number) for name, number in re.findall(r"^    (ROBOTS_\w+) = (-?\d+)\b", header, re.M)}
     source = (ROOT / "bindings/c/robots.c").read_text()
     texts = {numbers[name]: text for name, text in re.findall(r'case (ROBOTS_\w+): return "([^"]*)";', source)}
@@ -415,6 +415,13 @@ def test_python_site(robots):
     with robots.Site(long_rules(4097)) as site:
         assert site.matrix(["Other", "Bot"], ["/b", "/a"]) == [[-6, -6], [robots.NO_RESULT] * 2]
         assert status_of(robots, robots.Robot, "Bot", site) == (robots.OVERLONG_RULE, 2)
+
+
+def test_one_file_denies_everything():
+    """The proved one is also in the header and in the Rust crate for it."""
+    file = re.search(r"Site::new\(alloc, b(\"[^\"]+\")\)", (CRATES / "robots_responses/src/site.rt").read_text())[1]
+    assert f"#define ROBOTS_DENY_ALL_FILE {file}\n" in (LIBRARY / "robots.h").read_text()
+    assert f"pub const ROBOTS_DENY_ALL_FILE: &str = {file};\n" in (ROOT / "bindings/rust/sys/src/lib.rs").read_text()
 
 
 # ---- random files

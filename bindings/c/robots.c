@@ -26,6 +26,7 @@ PROVED(robots_site_is_named);
 PROVED(robots_site_share);
 PROVED(robots_site_close);
 PROVED(robots_address);
+PROVED(robots_response_meaning);
 PROVED(robots_may_fetch);
 PROVED(robots_line);
 
@@ -188,6 +189,10 @@ int32_t robots_address(const char *url, size_t url_len, char *out, size_t out_le
     size_t length = 0;
     int32_t status = proved_robots_address(AT(url, url_len), AT(out, out_len), &length);
     return with_length(status, len, length);
+}
+
+int robots_response_meaning(uint32_t status, uint32_t redirects, bool has_location, bool is_complete) {
+    return proved_robots_response_meaning(status, redirects, has_location, is_complete);
 }
 
 int robots_may_fetch(int64_t result) { return proved_robots_may_fetch(result); }

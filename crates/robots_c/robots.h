@@ -50,12 +50,13 @@
  * and a site one that robots_site_open or robots_site_share opened; each is closed once, when no call uses it, in any order. Robots and
  * sites don't need each other, nor the texts that they were opened with. No call keeps a pointer to a text.
  *
- * PROOF. crates/robots_c/src/lib.rt has a contract for each call, from the file's bytes to every number written. That NULL and
+ * PROOF. crates/robots_c/src has a contract for each call, from the file's bytes to every number written. That NULL and
  * uninitialized outputs are allowed isn't in the contracts: bindings/c/robots.c replaces NULL by an address, and single outputs by
  * variables of its own, and that is tested. docs/PROOFS.md states what is proved and what is tested. The compiled library is for Linux on
  * x86-64-v2 processors (SSE4.2, POPCNT). */
 #ifndef ROBOTS_H
 #define ROBOTS_H
+#include <stdbool.h>
 #include <stddef.h>
 #include <stdint.h>
 #include <string.h>
@@ -91,6 +92,20 @@ enum robots_status {
                                    * stars counted as one: the file can't be used for this crawler. What to do then is its policy. */
     ROBOTS_INVALID_ENDS = -7      /* the places where URLs end decrease, or one is after the end of the text */
 };
+
+/* What a crawler does after a response to its request for a robots.txt file (RFC 9309, 2.3.1): see robots_response_meaning. */
+enum robots_meaning {
+    ROBOTS_PARSE = 0,     /* parse the body, which is the site's file */
+    ROBOTS_FOLLOW = 1,    /* ask at the address in `Location`; what comes from there counts for the site that was asked first */
+    ROBOTS_ALLOW_ALL = 2, /* there is no file: everything may be fetched, as by the file of length 0 */
+    ROBOTS_DENY_ALL = 3   /* the file can't be reached: keep an earlier one, or fetch nothing, as by ROBOTS_DENY_ALL_FILE */
+};
+
+/* A file that denies everything but /robots.txt to every crawler. */
+#define ROBOTS_DENY_ALL_FILE "User-agent: *\nDisallow: *\n"
+
+#define ROBOTS_REDIRECT_LIMIT 5 /* redirects in a row that are followed, to any host */
+#define ROBOTS_LIFETIME 86400   /* seconds for which a file is used, unless the next can't be reached (RFC 9309, 2.4) */
 
 /* A file as one crawler reads it: its rules and delay. */
 typedef struct robots robots;
@@ -199,6 +214,12 @@ void robots_site_close(robots_site *site);
 /* Writes the address of the robots.txt file of the site of an http or https URL, in ASCII with no NUL at its end, and its length to *len.
  * At ROBOTS_BUFFER_TOO_SMALL *len is the length that is needed. */
 ROBOTS_CHECK int32_t robots_address(const char *url, size_t url_len, char *out, size_t out_len, size_t *len) ROBOTS_NONNULL(5);
+
+/* What a response means, as a number of robots_meaning. `status` is the final one, and 0 if there was no answer; `redirects` is how many
+ * in a row led to this request; `has_location` is whether the response has a `Location` that can be asked, and `is_complete` whether its
+ * body came to the end or had ROBOTS_FILE_LIMIT bytes. 429 and whatever the standard doesn't name, as 206, 304 and a redirect without
+ * `Location`, means that the file can't be reached. */
+int robots_response_meaning(uint32_t status, uint32_t redirects, bool has_location, bool is_complete);
 
 /* Whether the crawler may fetch the URL with this result: 1 if it may, and 0 if it may not. */
 int robots_may_fetch(int64_t result);

@@ -6,6 +6,7 @@
 #include <stdlib.h>
 
 static const int64_t NO_RESULT = ROBOTS_NO_RESULT;
+static const char *const DENY_ALL_FILE = ROBOTS_DENY_ALL_FILE;
 
 /* Whether the processor has what the library is compiled for, x86-64-v2. This file itself is compiled for every x86-64. */
 static int processor_fits(void)

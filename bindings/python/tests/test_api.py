@@ -12,7 +12,8 @@ import package
 import pytest
 
 import texting_robots
-from texting_robots import FILE_LIMIT, AgentError, Matrix, OverlongRuleError, Robots, RobotsError, UrlError, Verdict, product_token, robots_url
+from texting_robots import FILE_LIMIT, LIFETIME, REDIRECT_LIMIT, AgentError, Matrix, Meaning, OverlongRuleError, Robots, RobotsError, UrlError
+from texting_robots import Verdict, meaning, product_token, robots_url
 
 SHOP = b"""\
 User-agent: *
@@ -30,7 +31,8 @@ OVERLONG = b"User-agent: *\nDisallow: /a\nUser-agent: LongBot\nAllow: /\nDisallo
 
 
 def test_examples_of_the_docstrings():
-    assert doctest.testmod(texting_robots).failed == doctest.testmod(texting_robots._robots).failed == 0
+    for module in (texting_robots, texting_robots._robots, texting_robots._responses):
+        assert doctest.testmod(module).failed == 0
 
 
 def test_verdicts():
@@ -91,6 +93,28 @@ def test_a_file_has_as_many_bytes_as_there_are():
     body = BytesOfAnotherLength(SHOP)
     assert Matrix(["/search"], ["FerrisBot"]).denials(body) == [("FerrisBot", "/search", 2)]
     assert Robots(body).verdict("/search", "FerrisBot") == Verdict(False, 2)
+
+
+def test_responses():
+    """By RFC 9309, 2.3.1."""
+    assert {meaning(status) for status in (200, 204, 205, 207, 299)} == {Meaning.PARSE}
+    assert {meaning(status) for status in (400, 401, 403, 404, 410, 428, 430, 499)} == {Meaning.ALLOW_ALL}
+    unreachable = {meaning(status) for status in (None, 0, 100, 199, 206, 300, 301, 304, 429, 500, 503, 599, 600, 65_736)}
+    assert unreachable == {meaning(200, is_complete=False), meaning(304, has_location=True)} == {Meaning.DENY_ALL}
+    for status in (300, 301, 302, 303, 307, 308, 399):
+        after = [meaning(status, redirects=count, has_location=True) for count in range(7)]
+        assert after == [Meaning.FOLLOW] * REDIRECT_LIMIT + [Meaning.ALLOW_ALL] * 2
+    assert (REDIRECT_LIMIT, LIFETIME) == (5, 24 * 60 * 60)
+
+
+@pytest.mark.parametrize("agent", ["FerrisBot", "*", ""])
+def test_all_or_nothing(agent):
+    class Own(Robots):
+        pass
+
+    urls = ["https://example.com/a?b", "/", "example.com", "/robots.txt"]
+    for robots, answers in [(Own.allow_all(), [True] * 4), (Own.deny_all(), [False, False, False, True])]:
+        assert type(robots) is Own and [robots.allowed(url, agent) for url in urls] == answers
 
 
 def test_a_verdict_is_true_if_it_allows():

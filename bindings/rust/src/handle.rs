@@ -132,6 +132,11 @@ impl Drop for Robot {
     }
 }
 
+/// A number of `robots_meaning`.
+pub(crate) fn meaning(status: u32, redirects: u32, has_location: bool, is_complete: bool) -> i32 {
+    unsafe { sys::robots_response_meaning(status, redirects, has_location, is_complete) }
+}
+
 pub(crate) fn address(url: &str) -> Result<String, Error> {
     written(256, |out, room, len| unsafe { sys::robots_address(url.as_ptr().cast(), url.len(), out, room, len) })
 }

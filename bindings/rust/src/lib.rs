@@ -6,8 +6,10 @@ use std::time::Duration;
 
 mod error;
 mod handle;
+mod response;
 
 pub use error::Error;
+pub use response::{Meaning, Response, LIFETIME, REDIRECT_LIMIT};
 /// The name of this call in `texting_robots`.
 pub use robots_url as get_robots_url;
 
@@ -124,6 +126,24 @@ impl Site {
     pub fn new(txt: &[u8]) -> Result<Site, Error> {
         let lines = handle::Site::open(txt)?;
         Ok(Site { sitemaps: lines.sitemaps(txt.len().min(FILE_LIMIT))?, lines })
+    }
+
+    /// A file that allows everything to every crawler.
+    ///
+    /// # Errors
+    ///
+    /// [`Error::OutOfMemory`].
+    pub fn allow_all() -> Result<Site, Error> {
+        Site::new(b"")
+    }
+
+    /// A file that denies everything but `/robots.txt` to every crawler.
+    ///
+    /// # Errors
+    ///
+    /// [`Error::OutOfMemory`].
+    pub fn deny_all() -> Result<Site, Error> {
+        Site::new(texting_robots_c_sys::ROBOTS_DENY_ALL_FILE.as_bytes())
     }
 
     /// What [`Robot::new`] returns for this file. The robot doesn't need the site any more.

@@ -2,7 +2,9 @@
 
 use std::time::Duration;
 
-use texting_robots_c::{get_robots_url, robots_url, Decision, Error, Robot, Site, FILE_LIMIT};
+use texting_robots_c::{
+    get_robots_url, robots_url, Decision, Error, Meaning, Response, Robot, Site, FILE_LIMIT, LIFETIME,
+};
 use texting_robots_c_sys as sys;
 
 const SHOP: &str = "\
@@ -150,6 +152,31 @@ fn any_bytes() {
     let past_the_limit = [vec![b'#'; FILE_LIMIT], b"\nUser-agent: a\nDisallow: /\n".to_vec()].concat();
     assert!(robot("a", past_the_limit).allowed("/"));
     assert_eq!(robot("é", "User-agent: é\nDisallow: /é").decision("https://example.com/%C3%A9"), Ok(denied(2)));
+}
+
+/// By RFC 9309, 2.3.1.
+#[test]
+fn responses() {
+    let meaning = |status, redirects, is_complete| {
+        Response { status, redirects, has_location: redirects > 0, is_complete }.meaning()
+    };
+    assert_eq!(
+        [204, 404, 429].map(|status| meaning(Some(status), 0, true)),
+        [Meaning::Parse, Meaning::AllowAll, Meaning::DenyAll]
+    );
+    assert_eq!(
+        [1, 4, 5].map(|redirects| meaning(Some(301), redirects, true)),
+        [Meaning::Follow, Meaning::Follow, Meaning::AllowAll]
+    );
+    assert_eq!(
+        [meaning(Some(200), 0, false), meaning(None, 0, true), meaning(Some(301), 0, true)],
+        [Meaning::DenyAll; 3]
+    );
+    assert_eq!(LIFETIME.as_secs(), 24 * 60 * 60);
+    for (site, allowed) in [(Site::allow_all().unwrap(), true), (Site::deny_all().unwrap(), false)] {
+        let robot = site.robot("FerrisBot").unwrap();
+        assert_eq!(["/", "example.com", "/robots.txt"].map(|url| robot.allowed(url)), [allowed, allowed, true]);
+    }
 }
 
 #[test]

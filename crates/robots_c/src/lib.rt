@@ -27,6 +27,7 @@ mod handle;
 mod kept;
 mod matrix;
 mod overlong;
+mod response;
 mod shared;
 mod site;
 mod texts;

@@ -14,6 +14,7 @@
     'FerrisBot'
 """
 
+from ._responses import LIFETIME, REDIRECT_LIMIT, Meaning, meaning
 from ._robots import (
     FILE_LIMIT,
     AgentError,
@@ -29,13 +30,17 @@ from ._robots import (
 
 __all__ = [
     "FILE_LIMIT",
+    "LIFETIME",
+    "REDIRECT_LIMIT",
     "AgentError",
     "Matrix",
+    "Meaning",
     "OverlongRuleError",
     "Robots",
     "RobotsError",
     "UrlError",
     "Verdict",
+    "meaning",
     "product_token",
     "robots_url",
 ]

@@ -110,6 +110,16 @@ class Robots:
         """The constructor by Protego's name."""
         return cls(body)
 
+    @classmethod
+    def allow_all(cls) -> Self:
+        """A file that allows everything to every crawler."""
+        return cls(b"")
+
+    @classmethod
+    def deny_all(cls) -> Self:
+        """A file that denies everything but ``/robots.txt`` to every crawler."""
+        return cls(ffi.string(lib.DENY_ALL_FILE))
+
     def allowed(self, url: str, agent: str) -> bool:
         """Whether the crawler may fetch the URL."""
         return self._result(url, agent) >= 0

@@ -15,6 +15,15 @@ pub const ROBOTS_NO_DELAY: i32 = -4;
 pub const ROBOTS_NO_ADDRESS: i32 = -5;
 pub const ROBOTS_OVERLONG_RULE: i32 = -6;
 pub const ROBOTS_INVALID_ENDS: i32 = -7;
+
+pub const ROBOTS_PARSE: i32 = 0;
+pub const ROBOTS_FOLLOW: i32 = 1;
+pub const ROBOTS_ALLOW_ALL: i32 = 2;
+pub const ROBOTS_DENY_ALL: i32 = 3;
+pub const ROBOTS_DENY_ALL_FILE: &str = "User-agent: *\nDisallow: *\n";
+pub const ROBOTS_REDIRECT_LIMIT: u32 = 5;
+pub const ROBOTS_LIFETIME: u64 = 86400;
+
 pub const ROBOTS_NO_RESULT: i64 = i64::MIN;
 
 /// A file as one crawler reads it: its rules and delay.
@@ -69,6 +78,8 @@ extern "C" {
     pub fn robots_site_close(site: *mut robots_site);
 
     pub fn robots_address(url: *const c_char, url_len: usize, out: *mut c_char, out_len: usize, len: *mut usize) -> i32;
+
+    pub fn robots_response_meaning(status: u32, redirects: u32, has_location: bool, is_complete: bool) -> i32;
 
     pub fn robots_may_fetch(result: i64) -> i32;
     pub fn robots_line(result: i64) -> i64;

@@ -1,0 +1,37 @@
+//! What a response means, as a number.
+ghost use Rattle.std.specs.Prelude.{◌≡◌};
+ghost use Rattle.robots_c.specs.Response.{SaysMeaning, number_of};
+
+use robots_responses::{Meaning, Response};
+
+/// The number of a meaning.
+fn number_of(meaning: Meaning) -> i32
+    ensures { result ≡ number_of meaning }
+{
+    match meaning {
+        Meaning::Parse => 0,
+        Meaning::Follow => 1,
+        Meaning::AllowAll => 2,
+        Meaning::DenyAll => 3,
+    }
+}
+
+/// What the response to a request for a robots.txt file means: a number of `robots_meaning` in the header. A status
+/// that none has, such as 0, stands for no answer.
+#[unsafe(no_mangle)]
+pub extern "C" fn robots_response_meaning(
+    status: u32,
+    redirects: u32,
+    has_location: bool,
+    is_complete: bool,
+) -> i32
+    ensures { SaysMeaning status redirects has_location is_complete result }
+{
+    let response = Response {
+        status: Some(status),
+        redirects,
+        has_location,
+        is_complete,
+    };
+    number_of(response.meaning())
+}
