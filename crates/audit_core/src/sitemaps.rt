@@ -3,7 +3,7 @@ ghost use Rattle.std.specs.Prelude.{◌≡◌, ◌++◌, ◌∷◌, [], IfOk, On
 ghost use Rattle.texting_robots.specs.Callers.{by_value, label_by_value, sitemaps_in};
 ghost use Rattle.robots_warnings.specs.File.{lines_of};
 
-use crate::agents::as_text;
+use robots_warnings::urls::as_text;
 use std::alloc::{AllocError, Global};
 use texting_robots::labels::LabeledLine;
 use texting_robots::parser::Line;

@@ -187,8 +187,9 @@ pub(crate) static MESSAGES: [(Cause, &str); 84] = [
         "this rule isn't needed: if all needless rules are deleted, the verdicts stay the same, since another one of its kind matches everything that it matches; delete it together with the others, or correct it"),
 ];
 
-/// For each warning, in the order of [`WARNINGS`](crate::table::WARNINGS), a file that triggers it for FerrisBot, or as
-/// robots.txt in the command in its first line, or a command. In a file, `\xFF` is a byte, and `\{512000 a}` is 512,000 times an `a`.
+/// For each warning, in the order of [`WARNINGS`](crate::table::WARNINGS), a file that triggers it in a report on all crawlers,
+/// or as robots.txt in the command in its first line, or a command. In a file, `\xFF` is a byte, and `\{512000 a}` is 512,000
+/// times an `a`.
 #[rattlefmt::skip]
 pub(crate) static EXAMPLES: [(Cause, &str); 84] = [
     // the file
