@@ -94,7 +94,7 @@ OF_A_CRAWLER = {"googlebot-group", "google-ignores-star"}
 OF_GROUP = {"googlebot-group"}
 FIELDS = ("User-agent", "Allow", "Disallow", "Sitemap", "Crawl-delay")
 OF_RULES = {"replaces-star"}
-OF_A_LINE = {"allowed-and-disallowed", "empty-disallow"}
+OF_A_LINE = {"allowed-and-disallowed", "empty-disallow", "sitemap-denied"}
 NEEDLESS = ["never", "nothing", "allowed", "covered"]  # in the order of the messages of `needless-rule`
 WORDS = {"space", "comma", "tag", "invisible", "="}  # each in one message of a name, or in an earlier one than in others
 

@@ -9,7 +9,8 @@ use Rattle.std.proofs.lemmas.Bool.{agree_below, agree_below_at, and_parts, cases
 use Rattle.std.proofs.lemmas.Grind.{flat_map-append}
 use Rattle.std.proofs.lemmas.Str.{encode_ascii, encodes-chars, inside_one, scalars-chars}
 use Rattle.printable_text.specs.Sanitize.{IsPrintable, is_printable, is_printable_byte}
-use Rattle.printable_text.proofs.SanitizeLemmas.{append_printable, ascii_printable, char_printable, nil_printable}
+use Rattle.printable_text.proofs.SanitizeLemmas.{append_printable, ascii_printable, char_printable}
+use Rattle.printable_text.proofs.SanitizeLemmas.{nil_printable}
 
 -- if the byte is printable, then so is its escaped form
 abbrev stays_printable : (ℕ → List ℕ) → ℕ → Bool

@@ -1,11 +1,11 @@
 -- The audit of a file: its lines, what applies to each requested crawler, and the warnings.
 use Rattle.std.specs.Prelude.{◌≡◌, ℕ, Bool, false, true, List, [], ◌∷◌, ◌++◌, Option, Some, None, codes}
-use Rattle.std.specs.Prelude.{count_by, filter, is_none, is_some, length, map, not, sum_by, take}
-use Rattle.std.specs.Prelude.{if◌then◌else◌}
+use Rattle.std.specs.Prelude.{count_by, filter, flat_map, if◌then◌else◌, is_none, is_some, length, map, not}
+use Rattle.std.specs.Prelude.{option_map, sum_by, take, zip}
 use Rattle.std.specs.{List.AllZip, List.list_all, List.list_any, List.position_from, Str.is_utf8}
-use Rattle.texting_robots.specs.Callers.{IsFirstOverlong, IsRejected, LineValue, Label, PlacedRule, UserAgent}
-use Rattle.texting_robots.specs.Callers.{delay_for, file_limit, group_name, is_agent_named, is_named}
-use Rattle.texting_robots.specs.Callers.{lines_read, placed_rules}
+use Rattle.texting_robots.specs.Callers.{IsFirstOverlong, IsRejected, Label, LineValue, PlacedRule, Sitemap}
+use Rattle.texting_robots.specs.Callers.{UserAgent, delay_for, file_limit, group_name, is_agent_named}
+use Rattle.texting_robots.specs.Callers.{is_named, lines_read, placed_rules}
 use Rattle.texting_robots.specs.{Agents.is_among, Group.is_agent, Decision.IsDecisionOn}
 use Rattle.texting_robots.specs.declared.decision.Decision.{Decision}
 use Rattle.audit_core.specs.declared.group.Group.{Group}
@@ -13,9 +13,11 @@ use Rattle.audit_core.specs.declared.group.Group.TheVariants.{Everyone, Named, N
 use Rattle.robots_needless.specs.Deleted.{AreFoundIn}
 use Rattle.robots_needless.specs.declared.needless.NeedlessRule.{NeedlessRule}
 use Rattle.robots_warnings.specs.declared.closed.Reach.{Reach}
-use Rattle.robots_warnings.specs.Closed.{reach_of}
-use Rattle.robots_warnings.specs.Facts.{facts_of, is_too_large}
-use Rattle.robots_warnings.specs.{File.labels_for, Warnings.warnings, WarningValue.WarningValue}
+use Rattle.robots_warnings.specs.declared.table.Cause.TheVariants.{SitemapDenied}
+use Rattle.robots_warnings.specs.declared.warning.Detail.TheVariants.{Line}
+use Rattle.robots_warnings.specs.{Closed.line_closing, Closed.reach_of, Facts.facts_of, Facts.is_too_large}
+use Rattle.robots_warnings.specs.{File.labels_for, Urls.is_absolute_url, Warnings.warnings}
+use Rattle.robots_warnings.specs.{WarningValue.WarningValue}
 use Rattle.audit_core.specs.Needless.{needless_warning}
 use Rattle.audit_core.specs.{Asked.asked_target, Chosen.chosen, Syntax.syntax_of, Request.RequestValue}
 use Rattle.audit_core.specs.declared.syntax.Syntax.{Syntax}
@@ -93,6 +95,40 @@ pub record IsAgentAudit (urls : List (List ℕ)) (lines : List LineValue) (agent
   pub delay_is : value.delay ≡ delay_for agent lines
   pub ruling : IsRuling urls lines agent value.rejected value.verdicts
 
+-- ---- sitemaps
+
+-- the number of this line and its sitemap, if it has one that is an absolute http(s) URL
+abbrev pub sitemap_at : ℕ → LineValue → List (ℕ × List ℕ)
+sitemap_at number (Sitemap url) = if is_absolute_url url then (number, url) ∷ [] else []
+sitemap_at number _ = []
+
+-- all such sitemaps, or none if the whole site is closed to `*`
+abbrev pub sitemaps_asked : List LineValue → List Label → List (ℕ × List ℕ)
+sitemaps_asked lines labels =
+    if is_some (line_closing lines (codes "*")) then []
+    else flat_map (λ label. sitemap_at label.number label.line) labels
+
+-- the warning about the sitemap in this line, if this verdict denies it, with the line of the rule that does
+abbrev pub sitemap_warning : ℕ × VerdictValue → List WarningValue
+sitemap_warning (number, verdict) =
+    if verdict.decision.allowed then []
+    else record {
+      line = Some number;
+      cause = SitemapDenied;
+      about = None;
+      detail = option_map Line verdict.decision.line;
+    } ∷ []
+
+-- these are the warnings about the sitemaps that the rules for `*` deny
+pub record AreOfSitemaps (lines : List LineValue) (labels : List Label) (found : List WarningValue) : Type 0
+  where
+    pub overlong : Option ℕ
+    pub verdicts : List VerdictValue
+    pub ruling : IsRuling (map (λ sitemap. sitemap.1) (sitemaps_asked lines labels)) lines (codes "*")
+        overlong verdicts
+    pub found_are : found
+        ≡ flat_map sitemap_warning (zip (map (λ sitemap. sitemap.0) (sitemaps_asked lines labels)) verdicts)
+
 -- ---- a file
 
 pub record AuditValue : Type 0 where
@@ -111,16 +147,20 @@ labeling_agent None = codes "*"
 abbrev pub labels_requested : RequestValue → List ℕ → List Label
 labels_requested requested file = labels_for (labeling_agent requested.agent) (lines_read file)
 
--- all warnings about the file and the request, and then those about the needless rules that were found
+-- all warnings about the file and the request, and then those about the needless rules that were found, and
+-- these about sitemaps
 abbrev pub warnings_found : RequestValue → List ℕ → List Label → List NeedlessRule → List WarningValue
-warnings_found requested file labels needless =
-    warnings (is_none requested.agent) (agents_requested requested.agents (lines_read file))
-    requested.urls file (facts_of file labels) labels (lines_read file) ++ map needless_warning needless
+    → List WarningValue
+warnings_found requested file labels needless sitemaps =
+    (warnings (is_none requested.agent) (agents_requested requested.agents (lines_read file))
+    requested.urls file (facts_of file labels) labels (lines_read file) ++ map needless_warning needless)
+    ++ sitemaps
 
 -- the warnings that the request doesn't exclude
 abbrev pub warnings_requested : RequestValue → List ℕ → List Label → List NeedlessRule → List WarningValue
-warnings_requested requested file labels needless =
-    chosen requested.only requested.ignored (warnings_found requested file labels needless)
+    → List WarningValue
+warnings_requested requested file labels needless sitemaps =
+    chosen requested.only requested.ignored (warnings_found requested file labels needless sitemaps)
 
 -- the file is rejected for at least one of these crawlers
 abbrev pub rejects_some : List AgentValue → Bool
@@ -134,14 +174,16 @@ pub record IsAuditOf (requested : RequestValue) (file : List ℕ) (audit : Audit
   pub needless_are : AreFoundIn (take file_limit file) needless
   pub unrequested : requested.has_needless ≡ false → needless ≡ []
   pub too_large : is_too_large file ≡ true → needless ≡ []
+  pub sitemaps : List WarningValue
+  pub sitemaps_are : AreOfSitemaps (lines_read file) (labels_requested requested file) sitemaps
   pub bytes_are : audit.bytes ≡ take file_limit file
   pub labels_are : audit.labels ≡ labels_requested requested file
   pub agents_are : AllZip (IsAgentAudit requested.urls (lines_read file))
       (agents_requested requested.agents (lines_read file)) audit.agents
   pub warnings_are : audit.warnings ≡ warnings_requested requested file (labels_requested requested file)
-      needless
+      needless sitemaps
   pub syntax_is : audit.syntax ≡ syntax_of requested.agent (is_too_large file) (rejects_some audit.agents)
-      (warnings_found requested file (labels_requested requested file) needless)
+      (warnings_found requested file (labels_requested requested file) needless sitemaps)
 
 -- ---- denied URLs
 

@@ -7,8 +7,8 @@ use Rattle.robots_warnings.specs.{Table.is_not_about_syntax, Table.keeps_verdict
 use Rattle.std.proofs.Common.{refl}
 use Rattle.printable_text.specs.Text.{PartValue, ReportLine, line_from, only, part_text}
 use Rattle.audit_core.specs.declared.syntax.{Syntax.Syntax, TheConstants.VERDICTS_SENTENCE}
-use Rattle.audit_core.specs.declared.syntax.Syntax.TheVariants.{Standard, StandardVerdicts, StandardWithoutWarnings}
-use Rattle.audit_core.specs.declared.syntax.Syntax.TheVariants.{Unstated}
+use Rattle.audit_core.specs.declared.syntax.Syntax.TheVariants.{Standard, StandardVerdicts}
+use Rattle.audit_core.specs.declared.syntax.Syntax.TheVariants.{StandardWithoutWarnings, Unstated}
 
 -- a warning with this reason is about syntax
 unfoldable pub is_about_syntax : Cause → Bool
@@ -21,10 +21,10 @@ has_syntax_warning warnings = list_any (λ (warning : WarningValue). is_about_sy
 abbrev pub keep_verdicts : List WarningValue → Bool
 keep_verdicts warnings = list_all (λ (warning : WarningValue). keeps_verdicts warning.cause) warnings
 
--- what all warnings about a file, reported or not, tell about its syntax and its verdicts; nothing is stated for a single
--- crawler, since the rules of other groups aren't checked; nor if the file is larger than the size limit,
--- since the rest isn't read; nor if it is rejected for a crawler, as that would look like a file without
--- faults; nor if a warning is about syntax
+-- what all warnings about a file, reported or not, tell about its syntax and its verdicts; nothing is stated
+-- for a single crawler, since the rules of other groups aren't checked; nor if the file is larger than the
+-- size limit, since the rest isn't read; nor if it is rejected for a crawler, as that would look like a file
+-- without faults; nor if a warning is about syntax
 abbrev pub syntax_of : Option (List ℕ) → (is_too_large is_rejected : Bool) → List WarningValue → Syntax
 syntax_of agent is_too_large is_rejected warnings =
     if ((is_some agent || is_too_large) || is_rejected) || has_syntax_warning warnings then Unstated

@@ -1,27 +1,16 @@
 //! The crawlers that a report covers: those that were requested, or `*` and each that the file names.
-ghost use Rattle.std.specs.Prelude.{◌≡◌, ◌++◌, ◌∷◌, [], IfOk, MatchOption, OnOk, false, if◌then◌else◌, true, map};
-ghost use Rattle.std.specs.Str.{is_utf8};
+ghost use Rattle.std.specs.Prelude.{◌≡◌, ◌++◌, ◌∷◌, [], IfOk, OnOk, if◌then◌else◌, map};
 ghost use Rattle.texting_robots.specs.Callers.{by_value, label_by_value};
 ghost use Rattle.audit_core.specs.Audit.{agents_requested, crawlers_in};
 ghost use Rattle.robots_warnings.specs.File.{lines_of};
 ghost use Rattle.audit_core.specs.Internal.Agents.{AddsAgent};
 
 use robots_warnings::names::{Names, add_name};
+use robots_warnings::urls::as_text;
 use std::alloc::{AllocError, Global};
 use std::collections::BTreeSet;
 use texting_robots::labels::LabeledLine;
 use texting_robots::parser::Line;
-
-/// The bytes as a string, or `None` if they aren't UTF-8.
-pub fn as_text<'a>(bytes: &'a [u8]) -> Option<&'a str>
-    ensures { MatchOption result (is_utf8 bytes.now ≡ false)
-        (λ text. (is_utf8 bytes.now ≡ true) × (text.now ≡ bytes.now)) }
-{
-    match std::str::from_utf8(bytes) {
-        Ok(text) => Some(text),
-        Err(_) => None,
-    }
-}
 
 /// Appends the name to the list if `holds` is true.
 fn add_if<'a>(names: &mut Vec<&'a str>, holds: bool, name: &'a str) -> Result<(), AllocError>

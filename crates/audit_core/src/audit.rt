@@ -1,11 +1,13 @@
 //! The audit of a file: its lines, what applies to each requested crawler, and the warnings.
-ghost use Rattle.std.specs.Prelude.{◌≡◌, ◌++◌, IfErr, IfOk, is_none, length, map, option_map, take};
+ghost use Rattle.std.specs.Prelude.{◌≡◌, ◌++◌, IfErr, IfOk, List, is_none, length, map, option_map, take};
 ghost use Rattle.std.specs.List.{AllZip};
 ghost use Rattle.texting_robots.specs.Callers.{file_limit, file_lines, lines_read, label_by_value, placed_rules};
-ghost use Rattle.audit_core.specs.Audit.{IsAgentAudit, IsAuditOf, IsRuling, IsVerdictOn, agents_requested, all_allowed};
-ghost use Rattle.audit_core.specs.Audit.{allows_all, labeling_agent, rejects_some};
+ghost use Rattle.audit_core.specs.Audit.{AreOfSitemaps, IsAgentAudit, IsAuditOf, IsRuling, IsVerdictOn};
+ghost use Rattle.audit_core.specs.Audit.{agents_requested, all_allowed, allows_all, labeling_agent};
+ghost use Rattle.audit_core.specs.Audit.{rejects_some};
 ghost use Rattle.audit_core.specs.{Request.requested_by, Needless.needless_warning, Internal.IsReading};
-ghost use Rattle.robots_warnings.specs.{File.lines_of, File.labels_for, Warnings.warnings};
+ghost use Rattle.robots_warnings.specs.{File.lines_of, File.labels_for, WarningValue.WarningValue};
+ghost use Rattle.robots_warnings.specs.Warnings.{warnings};
 
 use crate::agents::agents_requested;
 use crate::asked::decision_on;
@@ -14,6 +16,7 @@ use crate::fault::Fault;
 use crate::group::{Group, group_of, naming_line};
 use crate::needless::{add_needless, needless_rules};
 use crate::request::Request;
+use crate::sitemaps::warn_of_sitemaps;
 use crate::syntax::{Syntax, syntax_of};
 use robots_needless::needless::NeedlessRule;
 use robots_warnings::closed::{Reach, reach_of};
@@ -137,7 +140,7 @@ fn verdicts_on<'a>(
 }
 
 /// The line of the crawler's first overlong rule, if it has one, or else the verdicts on the URLs.
-fn ruling<'a>(
+pub(crate) fn ruling<'a>(
     alloc: Global,
     agent: &str,
     file: &[u8],
@@ -254,6 +257,30 @@ fn warnings_of<'a>(
     Ok(found)
 }
 
+/// These warnings, and then those about the sitemaps that the rules for `*` deny.
+fn all_warnings<'a>(
+    alloc: Global,
+    request: &Request<'a>,
+    agents: &[&'a str],
+    file: &[u8],
+    facts: FileFacts,
+    labels: &[LabeledLine<'_>],
+    site: &Site,
+    needless: &[NeedlessRule],
+) -> Result<Vec<Warning<'a>>, Fault>
+    requires { site.now ≡ take file_limit file.now }
+    ensures ok { IfOk result (λ found. (sitemaps : List WarningValue)
+        × AreOfSitemaps (lines_read file.now) (map label_by_value labels.now) sitemaps
+        × (found.items ≡ (warnings (is_none (requested_by request.now).agent)
+        (map (λ agent. agent.now) agents.now) (requested_by request.now).urls file.now facts
+        (map label_by_value labels.now) (file_lines site.now) ++ map needless_warning needless.now) ++ sitemaps)) }
+    ensures fault { IfErr result (λ fault. fault ≡ Fault.Memory) }
+{
+    let mut found = warnings_of(alloc, request, agents, file, facts, labels, site, needless)?;
+    warn_of_sitemaps(alloc, &mut found, file, labels, site)?;
+    Ok(found)
+}
+
 /// Audits a file for the crawlers and URLs of the request.
 pub fn audit_of<'a>(
     alloc: Global,
@@ -269,7 +296,7 @@ pub fn audit_of<'a>(
     let site = Site::new(alloc, file)?;
     let agents = agent_audits(alloc, &names, file, &labels, &site, &request.urls)?;
     let needless = needless_rules(alloc, request.has_needless, facts.is_too_large, &site)?;
-    let mut warnings = warnings_of(
+    let mut warnings = all_warnings(
         alloc, request, &names, file, facts, &labels, &site, &needless,
     )?;
     let is_rejected = rejects_some(&agents);

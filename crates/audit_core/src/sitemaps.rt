@@ -1,10 +1,18 @@
-//! The sitemaps that a file lists.
-ghost use Rattle.std.specs.Prelude.{◌≡◌, ◌++◌, ◌∷◌, [], IfOk, OnOk, map};
-ghost use Rattle.texting_robots.specs.Callers.{by_value, label_by_value, sitemaps_in};
-ghost use Rattle.robots_warnings.specs.File.{lines_of};
+//! The sitemaps that a file lists, and the warnings about those that the rules for `*` deny.
+ghost use Rattle.std.specs.Prelude.{◌≡◌, ◌++◌, ◌∷◌, [], IfErr, IfOk, List, OnOk, flat_map, map, take, zip};
+ghost use Rattle.texting_robots.specs.Callers.{by_value, file_limit, file_lines, label_by_value, lines_read};
+ghost use Rattle.texting_robots.specs.Callers.{sitemaps_in};
+ghost use Rattle.robots_warnings.specs.{File.lines_of, Internal.Adds, WarningValue.WarningValue};
+ghost use Rattle.audit_core.specs.Audit.{AreOfSitemaps, sitemap_at, sitemap_warning, sitemaps_asked};
 
-use crate::agents::as_text;
+use crate::audit::{Verdict, ruling};
+use crate::fault::Fault;
+use robots_warnings::closed::is_closed;
+use robots_warnings::table::Cause;
+use robots_warnings::urls::{as_text, is_absolute_url};
+use robots_warnings::warning::{Detail, Warning};
 use std::alloc::{AllocError, Global};
+use texting_robots::Site;
 use texting_robots::labels::LabeledLine;
 use texting_robots::parser::Line;
 
@@ -36,4 +44,118 @@ pub fn sitemaps_of<'a>(
         add_sitemap(&mut sitemaps, labeled.line)?;
     }
     Ok(sitemaps)
+}
+
+/// Appends the number of the line and its sitemap, if it has one that is an absolute http(s) URL.
+fn ask_about<'a>(
+    alloc: Global,
+    numbers: &mut Vec<usize>,
+    urls: &mut Vec<&'a str>,
+    labeled: &LabeledLine<'a>,
+) -> Result<(), AllocError>
+    ensures numbers { OnOk result (numbers.new.items ≡ numbers.old.items
+        ++ map (λ sitemap. sitemap.0) (sitemap_at labeled.now.number (by_value labeled.now.line))) }
+    ensures urls { OnOk result (map (λ url. url.now) urls.new.items ≡ map (λ url. url.now) urls.old.items
+        ++ map (λ sitemap. sitemap.1) (sitemap_at labeled.now.number (by_value labeled.now.line))) }
+{
+    let Line::Sitemap(value) = labeled.line else {
+        return Ok(());
+    };
+    let Some(url) = as_text(value) else {
+        return Ok(());
+    };
+    if is_absolute_url(alloc, value)? {
+        numbers.push(labeled.number)?;
+        urls.push(url)?;
+    }
+    Ok(())
+}
+
+/// Appends those of all lines, or none if the whole site is closed to `*`.
+#[tactic(auto, using(crate::proofs::ListLemmas::asked_next))]
+fn ask_about_all<'a>(
+    alloc: Global,
+    numbers: &mut Vec<usize>,
+    urls: &mut Vec<&'a str>,
+    site: &Site,
+    labels: &[LabeledLine<'a>],
+) -> Result<(), AllocError>
+    ensures numbers { OnOk result (numbers.new.items ≡ numbers.old.items
+        ++ map (λ sitemap. sitemap.0)
+        (sitemaps_asked (file_lines site.now) (map label_by_value labels.now))) }
+    ensures urls { OnOk result (map (λ url. url.now) urls.new.items ≡ map (λ url. url.now) urls.old.items
+        ++ map (λ sitemap. sitemap.1)
+        (sitemaps_asked (file_lines site.now) (map label_by_value labels.now))) }
+{
+    if is_closed(alloc, site, "*")? {
+        return Ok(());
+    }
+    for labeled in labels {
+        ask_about(alloc, numbers, urls, labeled)?;
+    }
+    Ok(())
+}
+
+/// Appends the warning about the sitemap in the line with this number, if this verdict denies it.
+fn warn_of_verdict(
+    found: &mut Vec<Warning<'_>>,
+    number: usize,
+    verdict: &Verdict<'_>,
+) -> Result<(), AllocError>
+    ensures { OnOk result (Adds found.old.items found.new.items (sitemap_warning (number, verdict.now))) }
+{
+    if verdict.decision.allowed {
+        return Ok(());
+    }
+    let detail = match verdict.decision.line {
+        Some(line) => Some(Detail::Line(line)),
+        None => None,
+    };
+    Ok(found.push(Warning {
+        line: Some(number),
+        cause: Cause::SitemapDenied,
+        about: None,
+        detail,
+    })?)
+}
+
+/// Appends the warnings about the sitemaps in the lines with these numbers, with these verdicts.
+fn warn_of_verdicts(
+    found: &mut Vec<Warning<'_>>,
+    numbers: &[usize],
+    verdicts: &[Verdict<'_>],
+) -> Result<(), AllocError>
+    ensures { OnOk result (Adds found.old.items found.new.items
+        (flat_map sitemap_warning (zip numbers.now verdicts.now))) }
+{
+    let mut rest = verdicts;
+    for number in numbers {
+        let [verdict, after @ ..] = rest else {
+            return Ok(());
+        };
+        warn_of_verdict(found, *number, verdict)?;
+        rest = after;
+    }
+    Ok(())
+}
+
+/// Appends the warnings about the sitemaps that the rules for `*` deny. The labels are those of the file's lines.
+pub(crate) fn warn_of_sitemaps(
+    alloc: Global,
+    found: &mut Vec<Warning<'_>>,
+    file: &[u8],
+    labels: &[LabeledLine<'_>],
+    site: &Site,
+) -> Result<(), Fault>
+    requires { site.now ≡ take file_limit file.now }
+    ensures ok { OnOk result ((sitemaps : List WarningValue)
+        × AreOfSitemaps (lines_read file.now) (map label_by_value labels.now) sitemaps
+        × Adds found.old.items found.new.items sitemaps) }
+    ensures fault { IfErr result (λ fault. fault ≡ Fault.Memory) }
+{
+    let mut numbers = Vec::new(alloc);
+    let mut urls = Vec::new(alloc);
+    ask_about_all(alloc, &mut numbers, &mut urls, site, labels)?;
+    let (_, verdicts) = ruling(alloc, "*", file, site, &urls)?;
+    Ok(warn_of_verdicts(found, &numbers, &verdicts)?)
 }

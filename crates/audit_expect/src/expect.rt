@@ -10,12 +10,11 @@ ghost use Rattle.audit_core.specs.Crawler.{is_word};
 ghost use Rattle.audit_expect.specs.Internal.Expect.{HasNone, IsFirstSeparator, expectation_value};
 
 use crate::entries::malformed;
-use audit_core::agents::as_text;
 use audit_core::crawler::is_crawler_name;
 use audit_core::fault::{Fault, Flaw};
 use robots_warnings::facts::without_mark;
 use robots_warnings::rules::{after_byte, before_byte, somewhere};
-use robots_warnings::urls::is_absolute_url;
+use robots_warnings::urls::{as_text, is_absolute_url};
 use std::alloc::{AllocError, Global};
 
 /// What has to be allowed or denied.

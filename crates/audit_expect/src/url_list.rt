@@ -9,11 +9,11 @@ ghost use Rattle.audit_expect.specs.UrlList.{first_malformed, trimmed, url_flaw,
 
 use crate::entries::{malformed, without_entries};
 use crate::expect::{cut, is_comment, is_path_or_url};
-use audit_core::agents::as_text;
 use audit_core::crawler::is_crawler_name;
 use audit_core::fault::{Entry, Fault, Flaw, argument};
 use audit_core::request::Request;
 use robots_warnings::facts::without_mark;
+use robots_warnings::urls::as_text;
 use std::alloc::Global;
 
 /// The line without white space at its start and end.

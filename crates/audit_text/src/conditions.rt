@@ -9,7 +9,7 @@ pub(crate) type Named = (&'static str, &'static str);
 
 /// When warnings are given.
 #[rattlefmt::skip]
-static CONDITIONS: [(&str, &str); 61] = [
+static CONDITIONS: [(&str, &str); 62] = [
     // the file
     ("looks-like-html",
         "the file has no directive, and its first character is <, not counting a byte order mark, spaces, tabs and line ends; then no line has a warning of its own"),
@@ -89,6 +89,8 @@ static CONDITIONS: [(&str, &str); 61] = [
     ("sitemap-not-absolute", "the value of a sitemap isn't an http(s) URL that can be parsed"),
     ("sitemap-host",
         "the host of an absolute http(s) URL is an IP address, localhost, undefined or null, or the URL has a third slash in place of a host"),
+    ("sitemap-denied",
+        "the value of a sitemap is an http(s) URL that can be parsed, and a rule for * denies its path and query; not if the whole site is closed to * or the file is rejected for it; its host isn't compared with that of the file, which isn't known; the number is the line of that rule"),
     // any line
     ("one-line",
         "after the first colon of a line and before a comment there is User-agent: anywhere, or Allow:, Disallow:, Sitemap: or Crawl-delay: after a space, a tab, a star, a literal \\n or \\r, or, with a capital letter, directly after a letter or digit"),
@@ -159,7 +161,7 @@ static THEOREMS: [(&str, &str); 17] = [
 
 /// The examples of some warnings, corrected so that the warning isn't given.
 #[rattlefmt::skip]
-static CORRECTIONS: [(Cause, &str); 70] = [
+static CORRECTIONS: [(Cause, &str); 71] = [
     (Cause::LooksLikeHtml, "User-agent: *\nDisallow: /search"),
     (Cause::NoDirectives, "User-agent: *\nDisallow: /search"),
     (Cause::EmptyFile, "User-agent: *\nDisallow:"),
@@ -210,6 +212,7 @@ static CORRECTIONS: [(Cause, &str); 70] = [
     (Cause::DelayOverADay, "User-agent: *\nCrawl-delay: 10"),
     (Cause::SitemapNotAbsolute, "User-agent: *\nDisallow: /a\nSitemap: https://example.com/s.xml"),
     (Cause::SitemapHost, "User-agent: *\nDisallow: /a\nSitemap: https://example.com/s.xml"),
+    (Cause::SitemapDenied, "User-agent: *\nDisallow: /s\nAllow: /s.xml\nSitemap: https://example.com/s.xml"),
     (Cause::OneLine, "User-agent: *\nDisallow: /a"),
     (Cause::ControlInComment, "# a"),
     (Cause::RuleBeforeUserAgent, "User-agent: *\nDisallow: /a"),

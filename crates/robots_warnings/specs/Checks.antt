@@ -15,8 +15,9 @@ use Rattle.robots_warnings.specs.Contents.{is_cut_short, is_cut_to_root, tail_of
 use Rattle.robots_warnings.specs.FieldNames.{begins_inner_field, is_misspelled, is_without_colon, meant_by}
 use Rattle.robots_warnings.specs.Positions.{are_joined, is_above_agents, is_empty_group, is_other_delay}
 use Rattle.robots_warnings.specs.Positions.{is_split, name_star}
-use Rattle.robots_warnings.specs.Rules.{before_byte, begins_dot_segment, begins_wildcard, has, has_dollar_inside}
-use Rattle.robots_warnings.specs.Rules.{has_more_after_dollar, has_odd_character, has_odd_start}
+use Rattle.robots_warnings.specs.Rules.{before_byte, begins_dot_segment, begins_wildcard, has}
+use Rattle.robots_warnings.specs.Rules.{has_dollar_inside, has_more_after_dollar, has_odd_character}
+use Rattle.robots_warnings.specs.Rules.{has_odd_start}
 use Rattle.robots_warnings.specs.Rules.{has_quote_at_end, holds_otherwise, is_expression, is_quoted}
 use Rattle.robots_warnings.specs.Rules.{is_url_in_path, somewhere}
 use Rattle.robots_warnings.specs.Targets.{has_odd_target}
@@ -157,11 +158,11 @@ value_checks is_in_scope (CrawlDelay (Some micros)) = (cause.DelayOverADay, nat_
 value_checks is_in_scope (Sitemap value) = sitemap_checks value
 value_checks is_in_scope (Raw body) = if is_blank body then [] else (meant_by body, true) ∷ []
 
--- what a directive with a colon has besides its value: the white space around it, a comment, and how a
--- delay is
--- written
+-- what a directive with a colon has besides its value: the white space around it, a comment, and how a delay
+-- is written
 abbrev pub raw_checks : Bool → LineValue → (tail comment : List ℕ) → List Check
-raw_checks is_in_scope (UserAgent value) tail comment = (cause.SpaceAroundValue, has_odd_space value tail) ∷ []
+raw_checks is_in_scope (UserAgent value) tail comment =
+    (cause.SpaceAroundValue, has_odd_space value tail) ∷ []
 raw_checks is_in_scope (Allow value) tail comment = raw_rule_checks is_in_scope value tail comment
 raw_checks is_in_scope (Disallow value) tail comment = raw_rule_checks is_in_scope value tail comment
 raw_checks is_in_scope (CrawlDelay delay) tail comment = (cause.DelayNotation, has_odd_delay tail) ∷ []

@@ -123,8 +123,8 @@ begins_sign text =
     || (starts_with nat_eq text (codes "(?")
     || (slice_index text 0 == byte "\\" && is_ascii_alphanumeric (slice_index text 1))))
 
--- the value starts with `^` or `.*`; it has an alternative, such as `(a|b)`: a `)` after a `|` after a `(`; it
--- contains a range, `(?`, such a `.*` or a character class; or it ends with a `+` after a dot, `]` or `)`;
+-- the value starts with `^` or `.*`; it has an alternative, such as `(a|b)`: a `)` after a `|` after a `(`;
+-- it contains a range, `(?`, such a `.*` or a character class; or it ends with a `+` after a dot, `]` or `)`;
 -- others are part of names such as `/canal+`
 abbrev pub is_expression : List ℕ → Bool
 is_expression value =
@@ -152,8 +152,8 @@ has_more_after_dollar value =
 abbrev pub needs_no_escape : ℕ → Bool
 needs_no_escape b = is_ascii_alphanumeric b || has b (codes "-._~")
 
--- a reserved character of RFC 3986, but not `*` or `$`, which are special in a rule, nor `#`, which no path or
--- query has, nor `'`, which is written `%27` in the query of a URL
+-- a reserved character of RFC 3986, but not `*` or `$`, which are special in a rule, nor `#`, which no path
+-- or query has, nor `'`, which is written `%27` in the query of a URL
 abbrev pub is_delimiter : ℕ → Bool
 is_delimiter b = has b (codes ":/?[]@!&()+,;=")
 

@@ -62,8 +62,8 @@ abbrev pub is_meaning : Topic → Bool
 is_meaning Meaning = true
 is_meaning _ = false
 
--- the warning isn't about the syntax of a file, but about the request, or what a file of the standard's grammar
--- means
+-- the warning isn't about the syntax of a file, but about the request, or what a file of the standard's
+-- grammar means
 abbrev pub is_not_about_syntax : Cause → Bool
 is_not_about_syntax cause = not (is_syntax (topic_of cause))
 

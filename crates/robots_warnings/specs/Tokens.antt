@@ -35,7 +35,8 @@ begins_crawler_word text =
 abbrev pub begins_names : List ℕ → Bool
 begins_names text =
     begins_in_any_case (codes "bot ") text
-    && (somewhere begins_crawler_word (drop 4 text) && not (str_eq_ignore_ascii_case (drop 4 text) (codes "bot")))
+    && (somewhere begins_crawler_word (drop 4 text)
+    && not (str_eq_ignore_ascii_case (drop 4 text) (codes "bot")))
 
 -- the value is written as names of real crawlers that aren't product tokens are, such as `MJ12bot`,
 -- `Offline Explorer` and, with a star at its end, `Mediapartners-Google*`, and doesn't seem to be several

@@ -269,6 +269,14 @@ fn line_closing(
     closing_line(alloc, exempt, site, agent)
 }
 
+/// Whether a rule closes the site to the crawler.
+pub fn is_closed(alloc: Global, site: &Site, agent: &str) -> Result<bool, AllocError>
+    ensures { IfOk result (λ is. is ≡ is_some (line_closing (file_lines site.now) agent.now)) }
+{
+    let exempt = exempt_patterns(alloc, site)?;
+    Ok(line_closing(alloc, &exempt, site, agent)?.is_some())
+}
+
 /// Appends the crawler to those of the line, if there is one.
 fn add_closed<'a>(
     alloc: Global,

@@ -1,19 +1,22 @@
 //! Known crawlers: which group the vendor of each applies to it, and which one a similar name may mean.
-ghost use Rattle.std.specs.Prelude.{◌≡◌, [], IfOk, map, option_map, slice_index_or};
-ghost use Rattle.std.specs.Prelude.{string_bytes};
+ghost use Rattle.std.specs.Prelude.{◌≡◌, [], IfOk, OnOk, map, option_map, slice_index_or, string_bytes};
 ghost use Rattle.std.specs.List.{list_any, position_from};
 ghost use Rattle.std.specs.Str.{str_eq_ignore_ascii_case};
-ghost use Rattle.texting_robots.specs.Callers.{by_value, file_lines};
+ghost use Rattle.texting_robots.specs.Callers.{by_value, file_lines, label_by_value};
 ghost use Rattle.robots_warnings.specs.Crawlers.{crawlers, gets_other, is_given, is_known, is_line_at_vendor};
 ghost use Rattle.robots_warnings.specs.Crawlers.{is_meant, is_named_at_vendor, is_near, is_other_for};
 ghost use Rattle.robots_warnings.specs.Crawlers.{meant, meant_in, most_edits, name_for, other_group, other_in};
 ghost use Rattle.robots_warnings.specs.Crawlers.{row_at, wrong_names};
-ghost use Rattle.robots_warnings.specs.Internal.{row_value};
+ghost use Rattle.robots_warnings.specs.Internal.{Adds, row_value};
+ghost use Rattle.robots_warnings.specs.Warnings.{name_warning, name_warnings, vendor_warning, vendor_warnings};
 
 use crate::file::first;
+use crate::table::Cause;
 use crate::tokens::token_front;
+use crate::warning::{Detail, Found, Warning};
 use std::alloc::{AllocError, Global};
 use strsim::generic_levenshtein;
+use texting_robots::labels::LabeledLine;
 use texting_robots::parser::{Line, file_lines};
 use texting_robots::site::Site;
 
@@ -310,4 +313,85 @@ pub(crate) fn meant_in(alloc: Global, line: Line<'_>) -> Result<Option<usize>, A
         Line::UserAgent(value) => meant(alloc, value),
         _ => Ok(None),
     }
+}
+
+/// Appends the warning about the name in a user-agent line, if there is a known crawler that may be meant.
+fn warn_of_name(
+    alloc: Global,
+    found: &mut Found<'_>,
+    labeled: &LabeledLine<'_>,
+) -> Result<(), AllocError>
+    ensures { OnOk result (Adds found.old.items found.new.items (name_warning (label_by_value labeled.now))) }
+{
+    let Some(crawler) = meant_in(alloc, labeled.line)? else {
+        return Ok(());
+    };
+    found.push(Warning {
+        line: Some(labeled.number),
+        cause: Cause::MisspelledName,
+        about: None,
+        detail: Some(Detail::Meant(crawler)),
+    })?;
+    Ok(())
+}
+
+/// Appends the warnings about the names in user-agent lines.
+pub(crate) fn warn_of_names(
+    alloc: Global,
+    found: &mut Found<'_>,
+    labels: &[LabeledLine<'_>],
+) -> Result<(), AllocError>
+    ensures { OnOk result (Adds found.old.items found.new.items (name_warnings (map label_by_value labels.now))) }
+{
+    for labeled in labels {
+        warn_of_name(alloc, found, labeled)?;
+    }
+    Ok(())
+}
+
+/// Appends the warning about the known crawler at this index, if it is among these and its vendor applies another group.
+fn warn_of_vendor(
+    found: &mut Found<'_>,
+    everywhere: bool,
+    site: &Site,
+    agents: &[&str],
+    number: usize,
+    crawler: &Crawler,
+) -> Result<(), AllocError>
+    ensures { OnOk result (Adds found.old.items found.new.items
+        (vendor_warning everywhere (map (λ agent. agent.now) agents.now) (file_lines site.now) number (row_value crawler.now))) }
+{
+    let (name, group) = *crawler;
+    if !is_given(agents, name) || !gets_other(site, name, group) {
+        return Ok(());
+    }
+    let (cause, detail) = if group.is_empty() {
+        (Cause::GoogleIgnoresStar, None)
+    } else {
+        (Cause::GooglebotGroup, Some(Detail::Group(number)))
+    };
+    found.push(Warning {
+        line: None,
+        cause,
+        about: if everywhere { Some(name) } else { None },
+        detail,
+    })?;
+    Ok(())
+}
+
+/// Appends the warnings about those of the known crawlers in these rows that are among these, each once.
+pub(crate) fn warn_of_vendors(
+    found: &mut Found<'_>,
+    everywhere: bool,
+    site: &Site,
+    agents: &[&str],
+    rows: &[Crawler],
+) -> Result<(), AllocError>
+    ensures { OnOk result (Adds found.old.items found.new.items
+        (vendor_warnings everywhere (map (λ agent. agent.now) agents.now) (file_lines site.now) 0 (map row_value rows.now))) }
+{
+    for (number, crawler) in rows.iter().enumerate() {
+        warn_of_vendor(found, everywhere, site, agents, number, crawler)?;
+    }
+    Ok(())
 }

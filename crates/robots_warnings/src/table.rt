@@ -1,7 +1,7 @@
 //! Every warning: its level, its topic, its name, which is shown in `[..]` and is the `name` in JSON, and
 //! its message, which states what is wrong, what happens, and what to do. The conditions are in `checks` and, of warnings
 //! that compare lines or look at all of a crawler's rules, in the functions that `warnings` calls. Only `robots_audit` gives
-//! those about rules that can be deleted, which `robots_needless` finds.
+//! those about sitemaps that are denied, and about rules that can be deleted, which `robots_needless` finds.
 ghost use Rattle.std.specs.Prelude.{◌≡◌, ◌<◌, IfOk, bytes_eq, length, map};
 ghost use Rattle.std.specs.List.{list_any};
 ghost use Rattle.robots_warnings.specs.Internal.{IsAt, IsRowAt};
@@ -87,6 +87,7 @@ pub enum Cause {
     // a sitemap
     SitemapNotAbsolute,
     SitemapHost,
+    SitemapDenied,
     // any line
     OneLine,
     ControlInComment,
@@ -129,7 +130,7 @@ pub enum Topic {
 
 /// The warnings with their levels, topics and names.
 #[rattlefmt::skip]
-pub static WARNINGS: [(Cause, Level, Topic, &str); 84] = [
+pub static WARNINGS: [(Cause, Level, Topic, &str); 85] = [
     // the file
     (Cause::LooksLikeHtml, Level::Error, Topic::Syntax, "looks-like-html"),
     (Cause::LooksLikeUtf16, Level::Error, Topic::Syntax, "looks-like-utf-16"),
@@ -200,6 +201,7 @@ pub static WARNINGS: [(Cause, Level, Topic, &str); 84] = [
     // a sitemap
     (Cause::SitemapNotAbsolute, Level::Warning, Topic::Syntax, "sitemap-not-absolute"),
     (Cause::SitemapHost, Level::Warning, Topic::Meaning, "sitemap-host"),
+    (Cause::SitemapDenied, Level::Note, Topic::Meaning, "sitemap-denied"),
     // any line
     (Cause::OneLine, Level::Error, Topic::Meaning, "one-line"),
     (Cause::ControlInComment, Level::Note, Topic::Syntax, "control-in-comment"),

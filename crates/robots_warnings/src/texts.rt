@@ -3,7 +3,7 @@ use crate::table::Cause;
 
 /// For each warning, in the order of [`WARNINGS`](crate::table::WARNINGS), its message.
 #[rattlefmt::skip]
-pub(crate) static MESSAGES: [(Cause, &str); 84] = [
+pub(crate) static MESSAGES: [(Cause, &str); 85] = [
     // the file
     (Cause::LooksLikeHtml,
         "no usable line found; the text starts with <, so it may be an HTML page; serve a plain-text robots.txt instead"),
@@ -135,6 +135,8 @@ pub(crate) static MESSAGES: [(Cause, &str); 84] = [
         "the sitemap isn't a valid URL that starts with http:// or https://; write, for example, https://example.com/sitemap.xml"),
     (Cause::SitemapHost,
         "the sitemap is at no public host (there is none, an IP address, localhost, undefined or null), so search engines can't fetch it; write the site's own, for example: https://example.com/sitemap.xml"),
+    (Cause::SitemapDenied,
+        "a rule for * denies this sitemap, if it is on the host of this file, so crawlers may not read it; allow it by a longer Allow, or correct the rule"),
     // any line
     (Cause::OneLine,
         "another field name follows in the same line, where it isn't recognized; write each User-agent, Allow, Disallow, Crawl-delay and Sitemap on a line of its own"),
@@ -187,10 +189,11 @@ pub(crate) static MESSAGES: [(Cause, &str); 84] = [
         "this rule isn't needed: if all needless rules are deleted, the verdicts stay the same, since another one of its kind matches everything that it matches; delete it together with the others, or correct it"),
 ];
 
-/// For each warning, in the order of [`WARNINGS`](crate::table::WARNINGS), a file that triggers it for FerrisBot, or as
-/// robots.txt in the command in its first line, or a command. In a file, `\xFF` is a byte, and `\{512000 a}` is 512,000 times an `a`.
+/// For each warning, in the order of [`WARNINGS`](crate::table::WARNINGS), a file that triggers it in a report on all crawlers,
+/// or as robots.txt in the command in its first line, or a command. In a file, `\xFF` is a byte, and `\{512000 a}` is 512,000
+/// times an `a`.
 #[rattlefmt::skip]
-pub(crate) static EXAMPLES: [(Cause, &str); 84] = [
+pub(crate) static EXAMPLES: [(Cause, &str); 85] = [
     // the file
     (Cause::LooksLikeHtml, "<html>\n</html>"),
     (Cause::LooksLikeUtf16, "\\xFF\\xFED\\x00"),
@@ -261,6 +264,7 @@ pub(crate) static EXAMPLES: [(Cause, &str); 84] = [
     // a sitemap
     (Cause::SitemapNotAbsolute, "User-agent: *\nSitemap: /s.xml"),
     (Cause::SitemapHost, "User-agent: *\nSitemap: http://localhost/s.xml"),
+    (Cause::SitemapDenied, "User-agent: *\nDisallow: /s\nSitemap: https://example.com/s.xml"),
     // any line
     (Cause::OneLine, "User-agent: * Disallow: /"),
     (Cause::ControlInComment, "# \\x01"),

@@ -23,7 +23,7 @@ pub fn begins_as_url(text: &[u8]) -> bool
 }
 
 /// The value as a text, if it is UTF-8.
-pub(crate) fn as_text<'a>(value: &'a [u8]) -> Option<&'a str>
+pub fn as_text<'a>(value: &'a [u8]) -> Option<&'a str>
     ensures { MatchOption result (is_utf8 value.now ≡ false)
         (λ text. (is_utf8 value.now ≡ true) × (text.now ≡ value.now)) }
 {

@@ -4,12 +4,13 @@ ghost use Rattle.texting_robots.specs.Callers.{bodies_read, by_value, file_lines
 ghost use Rattle.robots_warnings.specs.Checks.{directive_checks, is_directive, raw_checks, rule_checks, value_checks};
 ghost use Rattle.robots_warnings.specs.Contents.{comment_of, tail_of};
 ghost use Rattle.robots_warnings.specs.EmptyDisallows.{is_empty_at};
-ghost use Rattle.robots_warnings.specs.Internal.{Adds, row_value};
+ghost use Rattle.robots_warnings.specs.Internal.{Adds};
 ghost use Rattle.robots_warnings.specs.Internal.Rules.{warnings_at};
 ghost use Rattle.robots_warnings.specs.Spellings.{unpaired};
 ghost use Rattle.robots_warnings.specs.Warnings.{crawler_warnings, file_lines_warnings, general_warnings};
-ghost use Rattle.robots_warnings.specs.Warnings.{group_warnings, line_warnings, name_warning, name_warnings, vendor_warning, vendor_warnings};
-ghost use Rattle.robots_warnings.specs.Warnings.{past_limit_warnings, position_warnings, url_warnings, warned, warned_at, warned_beside, warnings};
+ghost use Rattle.robots_warnings.specs.Warnings.{group_warnings, line_warnings, past_limit_warnings};
+ghost use Rattle.robots_warnings.specs.Warnings.{position_warnings, url_warnings, warned, warned_at};
+ghost use Rattle.robots_warnings.specs.Warnings.{warned_beside, warnings};
 
 use crate::checks::{
     Check, content_checks, field_checks, file_checks, form_checks, is_in_scope_of, position_checks,
@@ -18,7 +19,7 @@ use crate::checks::{
 use crate::closed::warn_of_closed;
 use crate::conflicts::{RuleLines, rule_lines};
 use crate::contents::{has_odd_delay, has_odd_space, split_content};
-use crate::crawlers::{Crawler, crawlers, gets_other, is_given, meant_in};
+use crate::crawlers::{crawlers, warn_of_names, warn_of_vendors};
 use crate::empty_disallows::empty_disallows;
 use crate::facts::{FileFacts, suppresses_line_warnings};
 use crate::field_names::{is_without_colon, meant_by};
@@ -359,87 +360,6 @@ fn warn_of_crawlers(
     let empty = empty_disallows(alloc, read.labels, read.bytes)?;
     let lines = rule_lines(alloc, read.site, agents, &empty)?;
     warn_of_numbers(found, read.labels, &lines)
-}
-
-/// Appends the warning about the name in a user-agent line, if there is a known crawler that may be meant.
-fn warn_of_name(
-    alloc: Global,
-    found: &mut Found<'_>,
-    labeled: &LabeledLine<'_>,
-) -> Result<(), AllocError>
-    ensures { OnOk result (Adds found.old.items found.new.items (name_warning (label_by_value labeled.now))) }
-{
-    let Some(crawler) = meant_in(alloc, labeled.line)? else {
-        return Ok(());
-    };
-    found.push(Warning {
-        line: Some(labeled.number),
-        cause: Cause::MisspelledName,
-        about: None,
-        detail: Some(Detail::Meant(crawler)),
-    })?;
-    Ok(())
-}
-
-/// Appends the warnings about the names in user-agent lines.
-fn warn_of_names(
-    alloc: Global,
-    found: &mut Found<'_>,
-    labels: &[LabeledLine<'_>],
-) -> Result<(), AllocError>
-    ensures { OnOk result (Adds found.old.items found.new.items (name_warnings (map label_by_value labels.now))) }
-{
-    for labeled in labels {
-        warn_of_name(alloc, found, labeled)?;
-    }
-    Ok(())
-}
-
-/// Appends the warning about the known crawler at this index, if it is among these and its vendor applies another group.
-fn warn_of_vendor(
-    found: &mut Found<'_>,
-    everywhere: bool,
-    site: &Site,
-    agents: &[&str],
-    number: usize,
-    crawler: &Crawler,
-) -> Result<(), AllocError>
-    ensures { OnOk result (Adds found.old.items found.new.items
-        (vendor_warning everywhere (map (λ agent. agent.now) agents.now) (file_lines site.now) number (row_value crawler.now))) }
-{
-    let (name, group) = *crawler;
-    if !is_given(agents, name) || !gets_other(site, name, group) {
-        return Ok(());
-    }
-    let (cause, detail) = if group.is_empty() {
-        (Cause::GoogleIgnoresStar, None)
-    } else {
-        (Cause::GooglebotGroup, Some(Detail::Group(number)))
-    };
-    found.push(Warning {
-        line: None,
-        cause,
-        about: if everywhere { Some(name) } else { None },
-        detail,
-    })?;
-    Ok(())
-}
-
-/// Appends the warnings about those of the known crawlers in these rows that are among these, each once.
-fn warn_of_vendors(
-    found: &mut Found<'_>,
-    everywhere: bool,
-    site: &Site,
-    agents: &[&str],
-    rows: &[Crawler],
-) -> Result<(), AllocError>
-    ensures { OnOk result (Adds found.old.items found.new.items
-        (vendor_warnings everywhere (map (λ agent. agent.now) agents.now) (file_lines site.now) 0 (map row_value rows.now))) }
-{
-    for (number, crawler) in rows.iter().enumerate() {
-        warn_of_vendor(found, everywhere, site, agents, number, crawler)?;
-    }
-    Ok(())
 }
 
 /// Appends this warning about the rules that their group lacks in this spelling.

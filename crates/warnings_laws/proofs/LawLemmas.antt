@@ -6,16 +6,17 @@ use Rattle.std.proofs.Common.{◌≡◌, ◌≢◌, ◌≤◌, ◌↔◌, ℕ, B
 use Rattle.std.proofs.Common.{codes, length, ltb-false, refl, subst, subst₂, sym, take, take_all, ◌⊎◌, suc}
 use Rattle.std.proofs.Common.{map, not, ◌==◌}
 use Rattle.std.proofs.lemmas.Bool.{cases_Bool, false_from_ne_true, false≢true, ne_eqb, not-false, or_parts}
-use Rattle.texting_robots.specs.Callers.{IsVerdict, LineValue, PlacedRule, agents_in, placed_rules}
+use Rattle.texting_robots.specs.Callers.{IsVerdict, Label, LineValue, PlacedRule, agents_in, placed_rules}
 use Rattle.texting_robots.specs.Callers.{file_limit, rules_for, IsFirstOverlong, IsOverlong, IsRejected, Rule}
 use Rattle.texting_robots.specs.Callers.{delay_for, lines_read, unplaced, IsRobotOfFile, RobotValue}
 use Rattle.texting_robots.specs.Decision.{IsDecisionOn}
 use Rattle.robots_needless.specs.Deleted.{AreFoundIn, HaveSameRobot, IsLeftOf}
 use Rattle.robots_needless.specs.Needless.{AreFound, AreNeedless, lines_without, numbers_of}
 use Rattle.robots_needless.proofs.{LeftLemmas.left_within, LeftLemmas.same_robot, SettledLemmas.nothing_found}
-use Rattle.audit_core.specs.Audit.{AuditValue, IsAuditOf, AgentValue, IsAgentAudit, IsRuling, IsVerdictOn}
-use Rattle.audit_core.specs.Audit.{VerdictValue, agents_requested, group_of, labels_requested, naming_line}
-use Rattle.audit_core.specs.Audit.{rejects_some, warnings_found, warnings_requested, labeling_agent}
+use Rattle.audit_core.specs.Audit.{AgentValue, AreOfSitemaps, AuditValue, IsAgentAudit, IsAuditOf, IsRuling}
+use Rattle.audit_core.specs.Audit.{IsVerdictOn, VerdictValue, agents_requested, group_of, labeling_agent}
+use Rattle.audit_core.specs.Audit.{labels_requested, naming_line, rejects_some, sitemap_warning}
+use Rattle.audit_core.specs.Audit.{sitemaps_asked, warnings_found, warnings_requested}
 use Rattle.audit_core.specs.{Request.RequestValue, Asked.asked_target, Syntax.syntax_of}
 use Rattle.audit_core.specs.{Needless.needless_warning}
 use Rattle.std.specs.List.{All, AllByRecursion as Each, AllZip}
@@ -39,7 +40,7 @@ use Rattle.audit_core.specs.Syntax.{keep_verdicts}
 use Rattle.audit_core.specs.declared.syntax.Syntax.TheVariants.{Standard, StandardVerdicts}
 use Rattle.audit_core.specs.declared.syntax.Syntax.TheVariants.{StandardWithoutWarnings, Unstated}
 use Rattle.audit_core.specs.declared.syntax.Syntax.{Syntax}
-use Rattle.std.specs.Prelude.{is_some, ◌||◌}
+use Rattle.std.specs.Prelude.{flat_map, is_some, zip, ◌||◌}
 use Rattle.warnings_laws.proofs.SyntaxLemmas.{ArePassed, robot_stated, silence}
 use Rattle.warnings_laws.proofs.{VerdictLemmas.verdicts_stated}
 use Rattle.warnings_laws.specs.Syntax.{IsNotAboutSyntax, IsRobotStated, IsSilentOn, warnings_of}
@@ -145,10 +146,20 @@ agent_once : (urls : List (List ℕ)) (lines : List LineValue) (agent : List ℕ
     → IsAgentAudit urls lines agent one → IsAgentAudit urls lines agent two → one ≡ two
 agent_once urls lines agent one two is too = grind (arith, ruling_once)
 
+sitemaps_once : (lines : List LineValue) (labels : List Label) (one two : List WarningValue)
+    → AreOfSitemaps lines labels one → AreOfSitemaps lines labels two → one ≡ two
+sitemaps_once lines labels one two is too = grind (arith, ruling_once)
+
 pub same_audit : (requested : RequestValue) (file : List ℕ) (audit other : AuditValue)
     → (is : IsAuditOf requested file audit) → (too : IsAuditOf requested file other)
     → is.needless ≡ too.needless → audit ≡ other
-same_audit requested file audit other is too same = grind (arith, zip_once, agent_once)
+same_audit requested file audit other is too same =
+    let lines = lines_read file in
+    let agents = zip_once (IsAgentAudit requested.urls lines) (agent_once requested.urls lines)
+    (agents_requested requested.agents lines) audit.agents other.agents is.agents_are too.agents_are in
+    let sitemaps = sitemaps_once lines (labels_requested requested file) is.sitemaps too.sitemaps
+    is.sitemaps_are too.sitemaps_are in
+    grind arith
 
 -- ---- existence
 
@@ -260,22 +271,28 @@ pub some_audit : (requested : RequestValue) (file : List ℕ) → (audit : Audit
 some_audit requested file =
     let lines = lines_read file in
     let labels = labels_requested requested file in
+    let asked = sitemaps_asked lines labels in
+    let (overlong, verdicts, ruling) = some_ruling (map (λ sitemap. sitemap.1) asked) lines (codes "*") in
+    let sitemaps = flat_map sitemap_warning (zip (map (λ sitemap. sitemap.0) asked) verdicts) in
     let (agents, are) = zip_some (IsAgentAudit requested.urls lines) (agents_requested requested.agents lines)
     (λ agent has. some_agent requested.urls lines agent) in (
       record {
         bytes = take file_limit file;
         labels = labels;
         agents = agents;
-        warnings = warnings_requested requested file labels [];
+        warnings = warnings_requested requested file labels [] sitemaps;
         syntax =
             syntax_of requested.agent (is_too_large file) (rejects_some agents)
-            (warnings_found requested file labels []);
+            (warnings_found requested file labels [] sitemaps);
       },
       record {
         needless = [];
         needless_are = nothing_found (take file_limit file) [] refl;
         unrequested = λ off. refl;
         too_large = λ large. refl;
+        sitemaps = sitemaps;
+        sitemaps_are =
+            record { overlong = overlong; verdicts = verdicts; ruling = ruling; found_are = refl };
         bytes_are = refl;
         labels_are = refl;
         agents_are = are;
@@ -318,7 +335,7 @@ kept false (warning ∷ warnings) is = elim (cases_Bool (keep_verdicts (warning 
       absurd (false≢true (rw (some, other) at is))
 ]
 
--- all warnings but those about needless rules, as `warnings_found` has them
+-- all warnings but those about needless rules and sitemaps, as `warnings_found` has them
 abbrev warnings_for : Option (List ℕ) → (agents urls : List (List ℕ)) → List ℕ → List WarningValue
 warnings_for agent agents urls file =
     let labels = labels_for (labeling_agent agent) (lines_read file) in
@@ -334,7 +351,7 @@ passed_on test (Some agent) agents urls file everyone all = absurd cc
 module _ (requested : RequestValue) (file : List ℕ) (audit : AuditValue) (is : IsAuditOf requested file audit)
   where
     abbrev found : List WarningValue
-    found = warnings_found requested file (labels_requested requested file) is.needless
+    found = warnings_found requested file (labels_requested requested file) is.needless is.sitemaps
 
     abbrev agents : List (List ℕ)
     agents = agents_requested requested.agents (lines_read file)
@@ -358,7 +375,10 @@ module _ (requested : RequestValue) (file : List ℕ) (audit : AuditValue) (is :
           passed_on test requested.agent agents requested.urls file known.0.0
           (each_front (λ warning. test warning.cause ≡ true)
           (warnings_for requested.agent agents requested.urls file)
-          (map needless_warning is.needless) passed)
+          (map needless_warning is.needless)
+          (each_front (λ warning. test warning.cause ≡ true)
+          (warnings_for requested.agent agents requested.urls file ++ map needless_warning is.needless)
+          is.sitemaps passed))
 
       silent : IsSilentOn agents requested.urls file
       silent = audited is_not_about_syntax (each_not found known.1)

@@ -1,6 +1,5 @@
 -- What is found among the rules of a crawler: their lines by their patterns, as they are compared, and sets
--- of
--- patterns.
+-- of patterns.
 use Rattle.std.specs.Prelude.{◌≡◌, ℕ, Bool, List, String, true, not, ◌||◌, ◌&&◌, length, map, nat_lt}
 use Rattle.std.specs.Prelude.{Option, Some, None, []}
 use Rattle.std.specs.HashSet.{HashSet, contains_text}

@@ -18,6 +18,7 @@ returns-clause-ok c =
     (map (λ name. name.now) c.in_ok-names.names.items) (rw c.deref-2.ensures.value at c.in_ok-names.ensures)
     c.deref-3.ensures.value
     c.in_ok-labels.ensures in
+    let (sitemaps, are, found) = c.in_ok-warnings.ensures.ok in
     let all = rw (
       c.deref-7.ensures.value,
       names,
@@ -28,13 +29,15 @@ returns-clause-ok c =
       c.in_ok-labels.ensures,
       c.labeling_agent.ensures,
       c.in_ok-site.ensures,
-    ) at c.in_ok-warnings.ensures in
+    ) at found in
     record {
       needless = c.in_ok-needless.needless.items;
       needless_are = rw c.in_ok-site.ensures at c.in_ok-needless.ensures.found;
       unrequested = c.in_ok-needless.ensures.unrequested;
       too_large = λ large. c.in_ok-needless.ensures.too_large
           (ap (λ facts. facts.is_too_large) c.facts_of-facts.ensures ∙ large);
+      sitemaps = sitemaps;
+      sitemaps_are = rw (c.deref-8.ensures.value, c.in_ok-labels.ensures, c.labeling_agent.ensures) at are;
       bytes_are = c.counted.ensures;
       labels_are = rw c.labeling_agent.ensures at c.in_ok-labels.ensures;
       agents_are = rw (c.deref-4.ensures.value, names, c.deref-6.ensures.value) at c.in_ok-agents.ensures.ok;

@@ -21,13 +21,13 @@ name_later value rows at row below is = rw (drop_more rows at row below) (cond-f
 
 pub returns-then-eq_ignore_ascii_case : goal.returns-then-eq_ignore_ascii_case
 returns-then-eq_ignore_ascii_case c =
-    sym (name_here c.args.value.now c.args.rows.now c.loop-row.row-index _ c.loop-row-test.true (search rules))
-    ∙ c.loop-row.invariant
+    sym (name_here c.args.value.now c.args.rows.now c.loop-row.row-index _ c.loop-row-test.true
+    (search rules)) ∙ c.loop-row.invariant
 
 abbrev nothing : Bor (List ℕ)
 nothing = record { ref_ptr = (0, 0); now = [] }
 
 pub loop-row-preserved : goal.loop-row-preserved
 loop-row-preserved c =
-    sym (name_later c.args.value.now c.args.rows.now c.loop-row.row-index (nothing, nothing) c.loop-row-test.true
-    (search rules)) ∙ c.loop-row.invariant
+    sym (name_later c.args.value.now c.args.rows.now c.loop-row.row-index (nothing, nothing)
+    c.loop-row-test.true (search rules)) ∙ c.loop-row.invariant

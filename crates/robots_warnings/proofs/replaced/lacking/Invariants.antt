@@ -7,5 +7,6 @@ use Rattle.robots_warnings.proofs.replaced.lacking.Given as goal
 abbrev pub invariant-loop-agent : goal.invariant-loop-agent
 invariant-loop-agent l = record {
   denied : HasDenied l.denied (star_rules (file_lines l.site));
-  names : HasThose l.names (is_lacking (map (λ agent. agent.now) (take l.agent-index l.agents)) (file_lines l.site));
+  names : HasThose l.names
+      (is_lacking (map (λ agent. agent.now) (take l.agent-index l.agents)) (file_lines l.site));
 }

@@ -1,7 +1,7 @@
 use Rattle.std.proofs.Common.{◌≡◌, ◌++◌, map, take}
 use Rattle.texting_robots.specs.Callers.{label_by_value}
 use Rattle.robots_warnings.specs.Warnings.{name_warnings}
-use Rattle.robots_warnings.proofs.warnings.warn_of_names.Given as goal
+use Rattle.robots_warnings.proofs.crawlers.warn_of_names.Given as goal
 
 abbrev pub invariant-loop-labeled : goal.invariant-loop-labeled
 invariant-loop-labeled l =

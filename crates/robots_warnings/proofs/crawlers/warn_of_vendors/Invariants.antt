@@ -1,7 +1,7 @@
 use Rattle.std.proofs.Common.{◌≡◌, ◌++◌, drop, map, string_bytes}
 use Rattle.texting_robots.specs.Callers.{file_lines}
 use Rattle.robots_warnings.specs.{Internal.row_value, Warnings.vendor_warnings}
-use Rattle.robots_warnings.proofs.warnings.warn_of_vendors.Given as goal
+use Rattle.robots_warnings.proofs.crawlers.warn_of_vendors.Given as goal
 
 -- those found and those of the remaining rows are all warnings
 abbrev pub invariant-loop-number : goal.invariant-loop-number

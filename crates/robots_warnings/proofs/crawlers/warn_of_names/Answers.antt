@@ -1,6 +1,6 @@
 use Rattle.robots_warnings.specs.Warnings.{name_warning}
 use Rattle.robots_warnings.proofs.StepLemmas.{warned_next}
-use Rattle.robots_warnings.proofs.warnings.warn_of_names.Goals as goal
+use Rattle.robots_warnings.proofs.crawlers.warn_of_names.Goals as goal
 
 pub loop-labeled-preserved : goal.loop-labeled-preserved
 loop-labeled-preserved c =
