@@ -179,7 +179,6 @@ MALFORMED = {
     "a host without a scheme": (b"allow Googlebot example.com/tea", 1, URL),
     "another scheme": (b"allow Googlebot ftp://example.com/tea", 1, URL),
     "a URL that can't be parsed": (b"allow Googlebot https://exa%mple.com/tea", 1, URL),
-    "the first of two": (b"deny\nallow Googlebot tea", 1, FORM),
 }
 
 
@@ -274,6 +273,12 @@ def test_failing_expectations_are_in_order(tmp_path):
 @pytest.mark.parametrize("text, line, why", MALFORMED.values(), ids=MALFORMED)
 def test_malformed_line(tmp_path, text, line, why):
     assert outcome(check(tmp_path, text)) == (2, "", f"robots_audit: expect.txt:{line}: {why}\n")
+
+
+def test_all_malformed_lines(tmp_path):
+    text = b"deny\nallow Googlebot tea\n# tea\nallow Googlebot /\n" + b"deny a\xff /\n" * 1_000
+    lines = [(1, FORM), (2, URL), *((number, NOT_UTF_8) for number in range(5, 1_005))]
+    assert outcome(check(tmp_path, text)) == (2, "", "".join(f"robots_audit: expect.txt:{line}: {why}\n" for line, why in lines))
 
 
 def test_files_by_name(tmp_path):

@@ -1,6 +1,6 @@
 -- The message for each error, and the exit status.
 use Rattle.std.specs.Prelude.{◌≡◌, ℕ, Bool, true, false, not, List, [], ◌∷◌, Result, Ok, Err, codes}
-use Rattle.std.specs.Prelude.{if◌then◌else◌, string_bytes}
+use Rattle.std.specs.Prelude.{if◌then◌else◌, map, string_bytes}
 use Rattle.std.proofs.Common.{refl}
 use Rattle.printable_text.specs.Sanitize.{sanitized_lines}
 use Rattle.robots_io.specs.declared.streams.{ReadFault.ReadFault, WriteFault.WriteFault}
@@ -12,7 +12,7 @@ use Rattle.printable_text.specs.Text.{label, line_from, only, value_text, word, 
 use Rattle.audit_core.specs.declared.answer.Outcome.{Outcome}
 use Rattle.audit_core.specs.declared.fault.{Entry.Entry, Fault.Fault, Flaw.Flaw}
 use Rattle.audit_core.specs.declared.fault.Entry.TheVariants.{Expectation, Url}
-use Rattle.audit_core.specs.declared.fault.Fault.TheVariants.{Argument, Closed, Empty, File, Malformed}
+use Rattle.audit_core.specs.declared.fault.Fault.TheVariants.{Argument, Closed, Empty, File, Format, Malformed}
 use Rattle.audit_core.specs.declared.fault.Fault.TheVariants.{Memory, NotUtf8, Read, StdinTwice}
 use Rattle.audit_core.specs.declared.fault.Fault.TheVariants.{UnknownWarning, Usage, Words, Write}
 use Rattle.audit_core.specs.declared.fault.Flaw.TheVariants as flaw
@@ -23,8 +23,8 @@ abbrev other_path : List ℕ
 other_path =
     codes "URL has a . or .. segment or a #, which crawlers resolve or drop; write the path that they ask for"
 
--- what is wrong with a line of the file of `--expect` or `--urls`, or with a crawler's name or a URL in
--- arguments
+-- what is wrong with a line of the file of `--expect` or `--urls`, with a crawler's name or a URL in
+-- arguments, or with a file that can't be a robots.txt file
 abbrev pub flaw_value : Flaw → Value
 flaw_value flaw.Form = word (codes "write \"allow AGENT URL\" or \"deny AGENT URL\"") refl
 flaw_value flaw.NotUtf8 = word (codes "the line isn't valid UTF-8") refl
@@ -35,6 +35,11 @@ flaw_value flaw.Url =
 flaw_value flaw.Name =
     word (codes "URL is neither a path that starts with / nor a URL; for a crawler, write --agent NAME") refl
 flaw_value flaw.Path = word other_path refl
+flaw_value flaw.Html = word (codes "this looks like HTML, not like a robots.txt file") refl
+flaw_value flaw.Utf16 =
+    word (codes "this looks like UTF-16, not like a robots.txt file; save it as UTF-8") refl
+flaw_value flaw.NoDirectives =
+    word (codes "this has no line of a robots.txt file, such as User-agent or Disallow") refl
 
 abbrev pub flaw_text : Flaw → List ℕ
 flaw_text which = value_text (flaw_value which)
@@ -57,10 +62,22 @@ fetch_part true =
     only (codes "; a URL isn't a file, try: curl -s https://example.com/robots.txt | robots_audit -") refl
 fetch_part false = Absent
 
--- the message for an error, after the name of the program; `clap` has messages of its own
+-- the number of a malformed line, and what is wrong with it
+abbrev pub MalformedLine : Type 0
+MalformedLine = ℕ × Flaw
+
+-- the message for a malformed line of the file with this name
+abbrev pub malformed_line : List ℕ → MalformedLine → ReportLine
+malformed_line file line =
+    line_from (Part (label (codes "robots_audit: ") refl) (Untrusted file)) refl
+    (Part (label (codes ":") refl) (Number line.0) ∷ Part (label (codes ": ") refl) (flaw_value line.1) ∷ [])
+
+-- the message for an error, after the name of the program; `clap` has messages of its own, and each malformed
+-- line has one
 abbrev pub fault_parts : Fault → List PartValue
 fault_parts (Words text) = []
 fault_parts Closed = []
+fault_parts (Malformed file lines) = []
 fault_parts Usage = only (codes ": missing FILE") refl ∷ usage ∷ []
 fault_parts NotUtf8 = only (codes ": arguments must be valid UTF-8") refl ∷ usage ∷ []
 fault_parts (UnknownWarning name) =
@@ -68,9 +85,6 @@ fault_parts (UnknownWarning name) =
 fault_parts (File name) =
     Part (label (codes ": cannot read ") refl) (Named (string_bytes name))
     ∷ fetch_part (begins_as_url (string_bytes name)) ∷ []
-fault_parts (Malformed file line which) =
-    Part (label (codes ": ") refl) (Untrusted (string_bytes file))
-    ∷ Part (label (codes ":") refl) (Number line) ∷ Part (label (codes ": ") refl) (flaw_value which) ∷ []
 fault_parts (Argument text which) =
     Part (label (codes ": ") refl) (Named (string_bytes text))
     ∷ Part (label (codes ": ") refl) (flaw_value which) ∷ []
@@ -79,6 +93,8 @@ fault_parts (Empty file entry) =
     ∷ Part (label (codes ": ") refl) (entry_value entry) ∷ []
 fault_parts StdinTwice =
     only (codes ": standard input can't be two files; give the name of one") refl ∷ usage ∷ []
+fault_parts Format =
+    only (codes ": --compare and --expect write text, json or github, not html or sarif") refl ∷ usage ∷ []
 fault_parts Read = only (codes ": cannot read standard input") refl ∷ []
 fault_parts Write = only (codes ": cannot write the report") refl ∷ []
 fault_parts Memory = only (codes ": out of memory") refl ∷ []
@@ -96,10 +112,11 @@ example_lines =
     line_from (only (codes "example: robots_audit robots.txt /search") refl) refl []
     ∷ line_from example_of_a_pipe refl [] ∷ []
 
--- the line for an error; the message of `clap` may have several lines, and there is none if the reader of the
--- output has closed it
+-- the line for an error; the message of `clap` may have several lines, each malformed line has one, and there
+-- is none if the reader of the output has closed it
 abbrev pub fault_text : Fault → List ℕ
 fault_text (Words text) = sanitized_lines (string_bytes text)
+fault_text (Malformed file lines) = written (map (malformed_line (string_bytes file)) lines.items)
 fault_text Closed = []
 fault_text Usage = written (fault_line Usage ∷ example_lines)
 fault_text fault = written (fault_line fault ∷ [])

@@ -1,8 +1,9 @@
 //! Errors, their messages, and the exit status.
-ghost use Rattle.std.specs.Prelude.{◌≡◌, ◌∷◌, [], IfOk, string_bytes};
-ghost use Rattle.printable_text.specs.{Raw.raw_line, Raw.raw_text, Text.part_text, Text.parts_text};
+ghost use Rattle.std.specs.Prelude.{◌≡◌, ◌++◌, ◌∷◌, [], IfOk, OnOk, map, string_bytes};
+ghost use Rattle.printable_text.specs.{Raw.raw_line, Raw.raw_text, Text.line_text, Text.part_text, Text.parts_text};
+ghost use Rattle.printable_text.specs.Text.{written};
 ghost use Rattle.audit_core.specs.Fault.{IsArgument, IsUnknown, entry_text, fault_parts, fault_text, fetch_part};
-ghost use Rattle.audit_core.specs.Fault.{flaw_text, status_after};
+ghost use Rattle.audit_core.specs.Fault.{flaw_text, malformed_line, status_after};
 
 use crate::answer::Outcome;
 use printable_text::parts::{Part, Value, push_line_of};
@@ -11,7 +12,8 @@ use robots_io::streams::{ReadFault, WriteFault};
 use robots_warnings::urls::begins_as_url;
 use std::alloc::{AllocError, AllocFailed, Global};
 
-/// What is wrong with a line of the file of `--expect` or `--urls`, or with a crawler's name or a URL in arguments.
+/// What is wrong with a line of the file of `--expect` or `--urls`, with a crawler's name or a URL in arguments, or with a
+/// file that can't be a robots.txt file.
 #[derive(Clone, Copy)]
 pub enum Flaw {
     /// It isn't of the form `allow AGENT URL` or `deny AGENT URL`.
@@ -26,7 +28,16 @@ pub enum Flaw {
     Name,
     /// The URL is a path that crawlers ask for in another form.
     Path,
+    /// The file has no directive, and looks like HTML.
+    Html,
+    /// The file has no directive, and looks like UTF-16.
+    Utf16,
+    /// The file has text, but no directive.
+    NoDirectives,
 }
+
+/// The number of a malformed line, and what is wrong with it.
+pub type MalformedLine = (usize, Flaw);
 
 /// What a file has a list of.
 #[derive(Clone, Copy)]
@@ -50,14 +61,16 @@ pub enum Fault {
     UnknownWarning(String),
     /// The file with this name can't be opened or read.
     File(String),
-    /// The line with this number, of the file with this name, is malformed.
-    Malformed(String, usize, Flaw),
-    /// This argument isn't the name of a crawler, or no URL.
+    /// These lines, of the file with this name, are malformed.
+    Malformed(String, Vec<MalformedLine>),
+    /// This argument isn't the name of a crawler, no URL, or the name of a file that can't be a robots.txt file.
     Argument(String, Flaw),
     /// The file with this name has none of these entries.
     Empty(String, Entry),
     /// Standard input would have to be both the robots.txt file and another one.
     StdinTwice,
+    /// A comparison or a check of expectations can't be written in this format.
+    Format,
     /// A read failed, or the input didn't end within the maximum number of reads.
     Read,
     /// The reader of the output has closed it, as `head` does. There is no message.
@@ -131,6 +144,10 @@ fn flaw_text(flaw: Flaw) -> &'static str
             "URL is neither a path that starts with / nor a URL; for a crawler, write --agent NAME",
         Flaw::Path =>
             "URL has a . or .. segment or a #, which crawlers resolve or drop; write the path that they ask for",
+        Flaw::Html => "this looks like HTML, not like a robots.txt file",
+        Flaw::Utf16 => "this looks like UTF-16, not like a robots.txt file; save it as UTF-8",
+        Flaw::NoDirectives =>
+            "this has no line of a robots.txt file, such as User-agent or Disallow",
     }
 }
 
@@ -171,12 +188,35 @@ fn fetch_part(is_url: bool) -> Part<'static>
     }
 }
 
-/// The message for an error, which follows the program's name. `clap` has messages of its own.
+/// The message for a malformed line of the file with this name.
+fn malformed_parts<'a>(file: &'a str, line: MalformedLine) -> [Part<'a>; 3]
+    ensures { raw_line result ≡ line_text (malformed_line file.entry.now line) }
+{
+    [
+        Part("robots_audit: ", Value::Untrusted(file.as_bytes())),
+        Part(":", Value::Number(line.0)),
+        Part(": ", Value::Word(flaw_text(line.1))),
+    ]
+}
+
+/// Appends a line for each of these malformed lines.
+fn push_malformed(text: &mut String, file: &str, lines: &[MalformedLine]) -> Result<(), AllocError>
+    ensures { OnOk result (string_bytes text.new ≡ string_bytes text.old
+        ++ written (map (malformed_line file.now) lines.now)) }
+{
+    for line in lines {
+        push_line_of(text, &malformed_parts(file, *line))?;
+    }
+    Ok(())
+}
+
+/// The message for an error, which follows the program's name. `clap` has messages of its own, and each malformed line
+/// has one.
 fn fault_parts(fault: &Fault) -> [Part<'_>; 3]
     ensures { raw_line result ≡ parts_text (fault_parts fault.now) }
 {
     match fault {
-        Fault::Words(_) | Fault::Closed => [NONE, NONE, NONE],
+        Fault::Words(_) | Fault::Closed | Fault::Malformed(_, _) => [NONE, NONE, NONE],
         Fault::Usage => [Part(": missing FILE", Value::Nothing), USAGE, NONE],
         Fault::NotUtf8 => [
             Part(": arguments must be valid UTF-8", Value::Nothing),
@@ -192,11 +232,6 @@ fn fault_parts(fault: &Fault) -> [Part<'_>; 3]
             Part(": cannot read ", Value::Named(name.as_bytes())),
             fetch_part(begins_as_url(name.as_bytes())),
             NONE,
-        ],
-        Fault::Malformed(file, line, flaw) => [
-            Part(": ", Value::Untrusted(file.as_bytes())),
-            Part(":", Value::Number(*line)),
-            Part(": ", Value::Word(flaw_text(*flaw))),
         ],
         Fault::Argument(text, flaw) => [
             Part(": ", Value::Named(text.as_bytes())),
@@ -216,6 +251,14 @@ fn fault_parts(fault: &Fault) -> [Part<'_>; 3]
             USAGE,
             NONE,
         ],
+        Fault::Format => [
+            Part(
+                ": --compare and --expect write text, json or github, not html or sarif",
+                Value::Nothing,
+            ),
+            USAGE,
+            NONE,
+        ],
         Fault::Read => [
             Part(": cannot read standard input", Value::Nothing),
             NONE,
@@ -230,13 +273,17 @@ fn fault_parts(fault: &Fault) -> [Part<'_>; 3]
     }
 }
 
-/// The message for an error: a line, or the message of `clap`.
+/// The message for an error: a line, one for each malformed line, or the message of `clap`.
 pub fn fault_text(alloc: Global, fault: &Fault) -> Result<String, AllocError>
     ensures { IfOk result (λ text. string_bytes text ≡ fault_text fault.now) }
 {
     let mut text = String::new(alloc);
     if let Fault::Words(words) = fault {
         push_sanitized_lines(&mut text, words.as_bytes())?;
+        return Ok(text);
+    }
+    if let Fault::Malformed(file, lines) = fault {
+        push_malformed(&mut text, file, lines)?;
         return Ok(text);
     }
     if let Fault::Closed = fault {

@@ -1,8 +1,8 @@
 -- How a text is cut into parts, and the expectations in it are found.
 use Rattle.std.proofs.Common.{◌≡◌, ◌≢◌, ◌∙◌, ℕ, zero, suc, ◌+◌, List, [], ◌∷◌, ◌++◌}
-use Rattle.std.proofs.Common.{Result, Ok, Err, ap, arith, drop, length, refl, sym, take}
+use Rattle.std.proofs.Common.{ap, arith, drop, length, refl, sym, take}
 use Rattle.std.proofs.lemmas.Bool.{cond-false, cond-true}
-use Rattle.audit_expect.specs.Expect.{MalformedLine, parts, with_byte}
+use Rattle.audit_expect.specs.Expect.{parts, with_byte}
 use Rattle.audit_expect.specs.Internal.Expect.{HasNone, IsFirstSeparator}
 
 no_length : (text : List ℕ) → length text ≡ 0 → text ≡ []
@@ -47,10 +47,3 @@ pub cut_nowhere : (separators text rest : List ℕ) → text ≢ [] → HasNone 
 cut_nowhere separators text rest some none empty =
     parts_whole separators text some none
     ∙ ap (λ rest. text ∷ parts separators rest) (sym (no_length rest empty))
-
--- ---- a text
-
--- the entries after these
-abbrev pub after_these : {X : Type 0} → List X → Result (List X) MalformedLine → Result (List X) MalformedLine
-after_these found (Ok others) = Ok (found ++ others)
-after_these found (Err malformed) = Err malformed

@@ -3,13 +3,13 @@ use Rattle.std.specs.Prelude.{◌≡◌, ℕ, nat_eq, suc, ◌==◌, Bool, false
 use Rattle.std.specs.Prelude.{Option}
 use Rattle.std.specs.Prelude.{Some, None, Result, Ok, Err, bytes_eq, codes, filter, if◌then◌else◌}
 use Rattle.std.specs.Prelude.{length, string_bytes}
-use Rattle.std.specs.{Result.result_err, List.list_any, List.starts_with, Str.byte, Str.is_utf8}
+use Rattle.std.specs.{List.list_any, List.starts_with, Option.option_to_list, Str.byte, Str.is_utf8}
 use Rattle.robots_warnings.specs.Rules.{after_byte, before_byte, has, somewhere}
 use Rattle.robots_warnings.specs.{Facts.mark, Facts.without_start, Urls.is_absolute_url}
 use Rattle.audit_core.specs.declared.fault.{Entry.Entry, Fault.Fault, Flaw.Flaw}
 use Rattle.audit_core.specs.declared.fault.Fault.TheVariants.{Empty, Malformed, Memory}
 use Rattle.audit_core.specs.declared.fault.Flaw.TheVariants.{Agent, Form, NotUtf8, Path, Url}
-use Rattle.audit_core.specs.Crawler.{is_crawler_name, is_word}
+use Rattle.audit_core.specs.{Crawler.is_crawler_name, Crawler.is_word, Fault.MalformedLine}
 
 -- ---- lines and words
 
@@ -55,37 +55,51 @@ words_with_name line =
 
 -- ---- entries, of which a line has at most one
 
--- the number of a malformed line, and what is wrong with it
-abbrev pub MalformedLine : Type 0
-MalformedLine = ℕ × Flaw
+-- what a line has: an entry, nothing, or something that is wrong
+abbrev pub LineOf : Type 0 → Type 0
+LineOf X = Result (Option X) MalformedLine
 
--- a line's entry before those of later lines; the first malformed line counts
-abbrev pub before_others : {X : Type 0} → Result (Option X) MalformedLine → Result (List X) MalformedLine
-    → Result (List X) MalformedLine
-before_others (Err malformed) others = Err malformed
-before_others (Ok None) others = others
-before_others (Ok (Some first)) (Ok others) = Ok (first ∷ others)
-before_others (Ok (Some first)) (Err malformed) = Err malformed
+abbrev pub entries_at : {X : Type 0} → LineOf X → List X
+entries_at (Ok entry) = option_to_list entry
+entries_at (Err malformed) = []
 
--- the entries of these lines, of which the first has this number, or the first malformed line; `entry` is the
--- entry of a line, if it has one, or what is wrong with the line
-abbrev pub entries_from : {X : Type 0} → (ℕ → List ℕ → Result (Option X) MalformedLine) → ℕ
-    → List (List ℕ) → Result (List X) MalformedLine
-entries_from entry number [] = Ok []
+abbrev pub malformed_at : {X : Type 0} → LineOf X → List MalformedLine
+malformed_at (Ok entry) = []
+malformed_at (Err malformed) = malformed ∷ []
+
+-- the entries of these lines, of which the first has this number; `entry` is what a line has
+abbrev pub entries_from : {X : Type 0} → (ℕ → List ℕ → LineOf X) → ℕ → List (List ℕ) → List X
+entries_from entry number [] = []
 entries_from entry number (line ∷ others) =
-    before_others (entry number line) (entries_from entry (suc number) others)
+    entries_at (entry number line) ++ entries_from entry (suc number) others
 
--- the error names the malformed line of a file with this name, or an allocation failed
-abbrev pub IsLineFault : List ℕ → Option MalformedLine → Fault → Type 0
-IsLineFault name malformed (Malformed file line flaw) =
-    (string_bytes file ≡ name) × (malformed ≡ Some (line, flaw))
-IsLineFault name malformed fault = fault ≡ Memory
+-- those of them that are malformed
+abbrev pub malformed_from : {X : Type 0} → (ℕ → List ℕ → LineOf X) → ℕ → List (List ℕ) → List MalformedLine
+malformed_from entry number [] = []
+malformed_from entry number (line ∷ others) =
+    malformed_at (entry number line) ++ malformed_from entry (suc number) others
 
--- the same for the first malformed line, or the file has no such entries
-abbrev pub IsEntryFault : {X : Type 0} → List ℕ → Entry → Result (List X) MalformedLine → Fault → Type 0
+-- the entries, unless there are malformed lines
+abbrev pub unless_malformed : {X : Type 0} → List X → List MalformedLine → Result (List X) (List MalformedLine)
+unless_malformed entries [] = Ok entries
+unless_malformed entries (malformed ∷ others) = Err (malformed ∷ others)
+
+-- the entries of these lines, or all malformed lines among them
+abbrev pub entries_of : {X : Type 0} → (ℕ → List ℕ → LineOf X) → List (List ℕ)
+    → Result (List X) (List MalformedLine)
+entries_of entry lines = unless_malformed (entries_from entry 1 lines) (malformed_from entry 1 lines)
+
+-- the error names all malformed lines of a file with this name, or an allocation failed
+abbrev pub IsLineFault : {X : Type 0} → List ℕ → Result (List X) (List MalformedLine) → Fault → Type 0
+IsLineFault name found (Malformed file malformed) =
+    (string_bytes file ≡ name) × (found ≡ Err malformed.items)
+IsLineFault name found fault = fault ≡ Memory
+
+-- the same, or the file has no such entries
+abbrev pub IsEntryFault : {X : Type 0} → List ℕ → Entry → Result (List X) (List MalformedLine) → Fault → Type 0
 IsEntryFault name entry found (Empty file other) =
     (string_bytes file ≡ name) × (found ≡ Ok []) × (other ≡ entry)
-IsEntryFault name entry found fault = IsLineFault name (result_err found) fault
+IsEntryFault name entry found fault = IsLineFault name found fault
 
 -- ---- expectations
 
@@ -123,7 +137,7 @@ is_asked_otherwise word =
 -- the expectation of a line with these words, whose first is `allow` or `deny`, or what is wrong with the
 -- line; what no crawler calls itself or asks for, such as a name with a version or a path without a slash at
 -- its start, could be allowed whatever the file says about the crawler or the page that is meant
-abbrev pub expects : ℕ → List ℕ → List ℕ → List ℕ → Result (Option ExpectationValue) MalformedLine
+abbrev pub expects : ℕ → List ℕ → List ℕ → List ℕ → LineOf ExpectationValue
 expects number word agent url =
     let allowed = bytes_eq word (codes "allow") in
     if not (allowed || bytes_eq word (codes "deny")) then Err (number, Form)
@@ -134,20 +148,20 @@ expects number word agent url =
     else Ok (Some (record { number = number; allowed = allowed; agent = agent; url = url }))
 
 -- a line with three words is an expectation, any other is malformed
-abbrev pub three_words : ℕ → List (List ℕ) → Result (Option ExpectationValue) MalformedLine
+abbrev pub three_words : ℕ → List (List ℕ) → LineOf ExpectationValue
 three_words number (word ∷ agent ∷ url ∷ []) = expects number word agent url
 three_words number _ = Err (number, Form)
 
 -- a line without words is blank, and one whose first word starts with `#` is a comment
-abbrev pub words_expect : ℕ → List (List ℕ) → Result (Option ExpectationValue) MalformedLine
+abbrev pub words_expect : ℕ → List (List ℕ) → LineOf ExpectationValue
 words_expect number [] = Ok None
 words_expect number (word ∷ others) =
     if is_comment word then Ok None else three_words number (word ∷ others)
 
 -- the expectation of the line with this number, if it has one, or what is wrong with the line
-abbrev pub expectation_in : ℕ → List ℕ → Result (Option ExpectationValue) MalformedLine
+abbrev pub expectation_in : ℕ → List ℕ → LineOf ExpectationValue
 expectation_in number line = words_expect number (words_with_name line)
 
--- the expectations in a text, possibly after a byte order mark, or its first malformed line
-abbrev pub expectations_in : List ℕ → Result (List ExpectationValue) MalformedLine
-expectations_in text = entries_from expectation_in 1 (lines (without_start mark text))
+-- the expectations in a text, possibly after a byte order mark, or all its malformed lines
+abbrev pub expectations_in : List ℕ → Result (List ExpectationValue) (List MalformedLine)
+expectations_in text = entries_of expectation_in (lines (without_start mark text))

@@ -2,8 +2,9 @@
 use Rattle.std.specs.Prelude.{◌≡◌, ◌⊎◌, ℕ, ◌-◌, ◌==◌, false, not, List, ◌++◌, Option, Some, None, Result, Ok}
 use Rattle.std.specs.Prelude.{Err, drop, if◌then◌else◌, length, take}
 use Rattle.std.specs.{Char.is_ascii_whitespace, List.find, List.prefix_len, List.suffix_len, Str.is_utf8}
-use Rattle.audit_core.specs.{Crawler.is_crawler_name, Crawler.is_word, Fault.IsArgument, Request.RequestValue}
-use Rattle.audit_expect.specs.Expect.{MalformedLine, entries_from, is_comment, is_path_or_url, lines}
+use Rattle.audit_core.specs.{Crawler.is_crawler_name, Crawler.is_word, Fault.IsArgument, Fault.MalformedLine}
+use Rattle.audit_core.specs.Request.{RequestValue}
+use Rattle.audit_expect.specs.Expect.{LineOf, entries_of, is_comment, is_path_or_url, lines}
 use Rattle.audit_core.specs.declared.fault.{Fault.Fault, Flaw.Flaw}
 use Rattle.audit_core.specs.declared.fault.Fault.TheVariants.{Memory}
 use Rattle.audit_core.specs.declared.fault.Flaw.TheVariants.{Name, NotUtf8, Url}
@@ -23,16 +24,16 @@ trimmed line = without_back (without_front line)
 
 -- the URL or path of the line with this number, if the line is neither blank nor a comment, which starts with
 -- `#` as no URL does; or that the line isn't UTF-8, or neither a path nor an http(s) URL that can be parsed
-unfoldable pub url_in : ℕ → List ℕ → Result (Option (List ℕ)) MalformedLine
+unfoldable pub url_in : ℕ → List ℕ → LineOf (List ℕ)
 url_in number line =
     if is_comment (trimmed line) then Ok None
     else if not (is_utf8 (trimmed line)) then Err (number, NotUtf8)
     else if not (is_word (trimmed line)) then Ok None
     else if is_path_or_url (trimmed line) then Ok (Some (trimmed line)) else Err (number, Url)
 
--- the URLs in a text, possibly after a byte order mark, or the first malformed line
-abbrev pub urls_in : List ℕ → Result (List (List ℕ)) MalformedLine
-urls_in text = entries_from url_in 1 (lines (without_start mark text))
+-- the URLs in a text, possibly after a byte order mark, or all its malformed lines
+abbrev pub urls_in : List ℕ → Result (List (List ℕ)) (List MalformedLine)
+urls_in text = entries_of url_in (lines (without_start mark text))
 
 -- the request has these URLs as well, after its own
 abbrev pub with_urls : List (List ℕ) → RequestValue → RequestValue

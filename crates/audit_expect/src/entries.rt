@@ -1,18 +1,28 @@
-//! The errors for a file of `--expect` or `--urls` that can't be used, as a line is malformed or there are no entries.
-ghost use Rattle.std.specs.Prelude.{◌≡◌, Some};
-ghost use Rattle.audit_expect.specs.Expect.{IsLineFault};
-ghost use Rattle.audit_expect.specs.Internal.Expect.{IsWithoutEntries};
+//! The errors for a file of `--expect` or `--urls` that can't be used, as lines are malformed or there are no entries.
+ghost use Rattle.std.specs.Prelude.{◌≡◌, [], IfErr, OnOk};
+ghost use Rattle.audit_expect.specs.Internal.Expect.{AreMalformed, IsWithoutEntries};
 
-use audit_core::fault::{Entry, Fault, Flaw};
+use audit_core::fault::{Entry, Fault, MalformedLine};
 use std::alloc::{AllocError, Global};
 
-/// The error for a malformed line; `Fault::Memory` if an allocation fails.
-pub(crate) fn malformed(alloc: Global, name: &str, number: usize, flaw: Flaw) -> Fault
-    ensures { IsLineFault name.now (Some (number, flaw)) result }
+/// What a line has: an entry, nothing, or something that is wrong.
+pub(crate) type Line<T> = Result<Option<T>, MalformedLine>;
+
+/// Fails if the file with this name has malformed lines.
+pub(crate) fn check_lines(
+    alloc: Global,
+    name: &str,
+    malformed: Vec<MalformedLine>,
+) -> Result<(), Fault>
+    ensures ok { OnOk result (malformed.items ≡ []) }
+    ensures fault { IfErr result (AreMalformed name.now malformed.items) }
 {
+    if malformed.is_empty() {
+        return Ok(());
+    }
     match String::from_str(alloc, name) {
-        Ok(file) => Fault::Malformed(file, number, flaw),
-        Err(AllocError) => Fault::Memory,
+        Ok(file) => Err(Fault::Malformed(file, malformed)),
+        Err(AllocError) => Err(Fault::Memory),
     }
 }
 

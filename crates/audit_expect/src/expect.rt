@@ -1,17 +1,18 @@
 //! The expectations in the file of `--expect`, one per line, and how a text is cut into parts.
 ghost use Rattle.std.specs.Prelude.{◌≡◌, ◌≢◌, ◌<◌, ◌∷◌, ◌++◌, [], IfErr, IfOk, MatchOption, Ok, OnOk};
-ghost use Rattle.std.specs.Prelude.{if◌then◌else◌, length, map, option_map};
-ghost use Rattle.std.specs.{Option.option_to_list, Result.result_err, Str.byte};
+ghost use Rattle.std.specs.Prelude.{if◌then◌else◌, length, map};
+ghost use Rattle.std.specs.Str.{byte};
 ghost use Rattle.robots_warnings.specs.Rules.{has};
-ghost use Rattle.audit_expect.specs.Expect.{IsLineFault, begins_dot_segment, entries_from, expectation_in};
+ghost use Rattle.audit_expect.specs.Expect.{IsLineFault, begins_dot_segment, entries_at, entries_of, expectation_in};
 ghost use Rattle.audit_expect.specs.Expect.{expectations_in, expects, is_asked_otherwise, is_comment, is_in};
-ghost use Rattle.audit_expect.specs.Expect.{is_path, is_path_or_url, lines, parts, words, words_with_name};
+ghost use Rattle.audit_expect.specs.Expect.{is_path, is_path_or_url, lines, malformed_at, parts, words};
+ghost use Rattle.audit_expect.specs.Expect.{words_with_name};
 ghost use Rattle.audit_core.specs.Crawler.{is_word};
-ghost use Rattle.audit_expect.specs.Internal.Expect.{HasNone, IsFirstSeparator, expectation_value};
+ghost use Rattle.audit_expect.specs.Internal.Expect.{HasNone, IsFirstSeparator, expectation_value, line_by};
 
-use crate::entries::malformed;
+use crate::entries::{Line, check_lines};
 use audit_core::crawler::is_crawler_name;
-use audit_core::fault::{Fault, Flaw};
+use audit_core::fault::{Fault, Flaw, MalformedLine};
 use robots_warnings::facts::without_mark;
 use robots_warnings::rules::{after_byte, before_byte, somewhere};
 use robots_warnings::urls::{as_text, is_absolute_url};
@@ -155,75 +156,74 @@ fn is_asked_otherwise(word: &[u8]) -> bool
 /// The expectation of a line with these three words.
 fn expects<'a>(
     alloc: Global,
-    name: &str,
     number: usize,
     word: &[u8],
     agent: &'a [u8],
     url: &'a [u8],
-) -> Result<Option<Expectation<'a>>, Fault>
-    ensures ok { IfOk result (λ found. expects number word.now agent.now url.now
-        ≡ Ok (option_map expectation_value found)) }
-    ensures fault { IfErr result (IsLineFault name.now (result_err (expects number word.now agent.now url.now))) }
+) -> Result<Line<Expectation<'a>>, AllocError>
+    ensures { IfOk result (λ found. line_by expectation_value found ≡ expects number word.now agent.now url.now) }
 {
     let allowed = word == b"allow".as_slice();
     if !allowed && word != b"deny".as_slice() {
-        return Err(malformed(alloc, name, number, Flaw::Form));
+        return Ok(Err((number, Flaw::Form)));
     }
     let (Some(agent), Some(url)) = (as_text(agent), as_text(url)) else {
-        return Err(malformed(alloc, name, number, Flaw::NotUtf8));
+        return Ok(Err((number, Flaw::NotUtf8)));
     };
     if !is_crawler_name(agent) {
-        return Err(malformed(alloc, name, number, Flaw::Agent));
+        return Ok(Err((number, Flaw::Agent)));
     }
     if !is_path_or_url(alloc, url.as_bytes())? {
-        return Err(malformed(alloc, name, number, Flaw::Url));
+        return Ok(Err((number, Flaw::Url)));
     }
     if is_asked_otherwise(url.as_bytes()) {
-        return Err(malformed(alloc, name, number, Flaw::Path));
+        return Ok(Err((number, Flaw::Path)));
     }
-    Ok(Some(Expectation {
+    Ok(Ok(Some(Expectation {
         number,
         allowed,
         agent,
         url,
-    }))
+    })))
 }
 
-/// The expectation of the line with this number, if it has one.
+/// What the line with this number has.
 fn expectation_in<'a>(
     alloc: Global,
-    name: &str,
     number: usize,
     line: &'a [u8],
-) -> Result<Option<Expectation<'a>>, Fault>
-    ensures ok { IfOk result (λ found. expectation_in number line.now ≡ Ok (option_map expectation_value found)) }
-    ensures fault { IfErr result (IsLineFault name.now (result_err (expectation_in number line.now))) }
+) -> Result<Line<Expectation<'a>>, AllocError>
+    ensures { IfOk result (λ found. line_by expectation_value found ≡ expectation_in number line.now) }
 {
     let words = words(alloc, line)?;
     if words.is_empty() {
-        return Ok(None);
+        return Ok(Ok(None));
     }
     if is_comment(words[0]) {
-        return Ok(None);
+        return Ok(Ok(None));
     }
     if words.len() != 3 {
-        return Err(malformed(alloc, name, number, Flaw::Form));
+        return Ok(Err((number, Flaw::Form)));
     }
-    expects(alloc, name, number, words[0], words[1], words[2])
+    expects(alloc, number, words[0], words[1], words[2])
 }
 
-/// Appends the expectation of a line, if it has one.
+/// Appends what a line has.
 fn push_expectation<'a>(
     found: &mut Vec<Expectation<'a>>,
-    expectation: Option<Expectation<'a>>,
+    malformed: &mut Vec<MalformedLine>,
+    line: Line<Expectation<'a>>,
 ) -> Result<(), AllocError>
-    ensures { OnOk result (map expectation_value found.new.items ≡ map expectation_value found.old.items
-        ++ option_to_list (option_map expectation_value expectation.entry)) }
+    ensures found { OnOk result (map expectation_value found.new.items ≡ map expectation_value found.old.items
+        ++ entries_at (line_by expectation_value line.entry)) }
+    ensures malformed { OnOk result (malformed.new.items ≡ malformed.old.items
+        ++ malformed_at (line_by expectation_value line.entry)) }
 {
-    if let Some(expectation) = expectation {
-        found.push(expectation)?;
+    match line {
+        Ok(Some(expectation)) => Ok(found.push(expectation)?),
+        Ok(None) => Ok(()),
+        Err(line) => Ok(malformed.push(line)?),
     }
-    Ok(())
 }
 
 /// The expectations in the lines of a text.
@@ -232,19 +232,22 @@ fn line_expectations<'a>(
     name: &str,
     text: &'a [u8],
 ) -> Result<Vec<Expectation<'a>>, Fault>
-    ensures ok { IfOk result (λ found. entries_from expectation_in 1 (lines text.now)
+    ensures ok { IfOk result (λ found. entries_of expectation_in (lines text.now)
         ≡ Ok (map expectation_value found.items)) }
-    ensures fault { IfErr result (IsLineFault name.now (result_err (entries_from expectation_in 1 (lines text.now)))) }
+    ensures fault { IfErr result (IsLineFault name.now (entries_of expectation_in (lines text.now))) }
 {
     let mut found = Vec::new(alloc);
+    let mut malformed = Vec::new(alloc);
     let mut rest = text;
     let mut number = 1;
     while !rest.is_empty() {
         let (line, later) = cut(b"\n", rest);
-        push_expectation(&mut found, expectation_in(alloc, name, number, line)?)?;
+        let line = expectation_in(alloc, number, line)?;
+        push_expectation(&mut found, &mut malformed, line)?;
         rest = later;
         number += 1;
     }
+    check_lines(alloc, name, malformed)?;
     Ok(found)
 }
 
@@ -252,14 +255,14 @@ fn line_expectations<'a>(
 ///
 /// # Errors
 ///
-/// `Fault::Malformed` for the first malformed line, and `Fault::Memory` if an allocation fails.
+/// `Fault::Malformed` for all malformed lines, and `Fault::Memory` if an allocation fails.
 pub(crate) fn expectations_in<'a>(
     alloc: Global,
     name: &str,
     text: &'a [u8],
 ) -> Result<Vec<Expectation<'a>>, Fault>
     ensures ok { IfOk result (λ found. expectations_in text.now ≡ Ok (map expectation_value found.items)) }
-    ensures fault { IfErr result (IsLineFault name.now (result_err (expectations_in text.now))) }
+    ensures fault { IfErr result (IsLineFault name.now (expectations_in text.now)) }
 {
     line_expectations(alloc, name, without_mark(text))
 }

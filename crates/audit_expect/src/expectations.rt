@@ -370,7 +370,7 @@ fn parsed<'a>(alloc: Global, name: &str, text: &'a [u8]) -> Result<Vec<Expectati
 ///
 /// # Errors
 ///
-/// `Fault::Malformed` if a line of the text is malformed, `Fault::Empty` if there are no expectations in it, and
+/// `Fault::Malformed` for all malformed lines of the text, `Fault::Empty` if there are no expectations in it, and
 /// `Fault::Memory` if an allocation failed or a URL is too long for `url`. An expectation fails if the file is
 /// rejected for its crawler, which isn't an error.
 pub fn check(alloc: Global, name: &str, text: &[u8], file: &[u8]) -> Result<Answer, Fault>

@@ -1,20 +1,20 @@
 //! The URLs in the file of `--urls`, one per line, and those in arguments.
-ghost use Rattle.std.specs.Prelude.{◌≡◌, ◌==◌, IfErr, IfOk, None, Ok, OnOk, false, length, map, option_map};
-ghost use Rattle.std.specs.Result.{result_err};
+ghost use Rattle.std.specs.Prelude.{◌≡◌, ◌==◌, ◌++◌, IfErr, IfOk, None, Ok, OnOk, false, length, map};
 ghost use Rattle.audit_core.specs.Request.{requested_by};
 ghost use Rattle.audit_core.specs.declared.fault.Entry.TheVariants as entry;
-ghost use Rattle.audit_expect.specs.Expect.{IsEntryFault, IsLineFault, entries_from, lines};
+ghost use Rattle.audit_expect.specs.Expect.{IsEntryFault, IsLineFault, entries_at, entries_of, lines, malformed_at};
+ghost use Rattle.audit_expect.specs.Internal.Expect.{line_by};
 ghost use Rattle.audit_expect.specs.UrlList.{HasUrlsIn, IsUrlFault};
 ghost use Rattle.audit_expect.specs.UrlList.{first_malformed, trimmed, url_flaw, url_in, urls_in};
 
-use crate::entries::{malformed, without_entries};
+use crate::entries::{Line, check_lines, without_entries};
 use crate::expect::{cut, is_comment, is_path_or_url};
 use audit_core::crawler::is_crawler_name;
-use audit_core::fault::{Entry, Fault, Flaw, argument};
+use audit_core::fault::{Entry, Fault, Flaw, MalformedLine, argument};
 use audit_core::request::Request;
 use robots_warnings::facts::without_mark;
 use robots_warnings::urls::as_text;
-use std::alloc::Global;
+use std::alloc::{AllocError, Global};
 
 /// The line without white space at its start and end.
 fn trimmed<'a>(line: &'a [u8]) -> &'a [u8]
@@ -25,44 +25,56 @@ fn trimmed<'a>(line: &'a [u8]) -> &'a [u8]
 
 /// The URL or path of the line with this number, if the line is neither blank nor a comment.
 #[tactic(auto, unfolding(crate::specs::UrlList::url_in))]
-fn url_in<'a>(
-    alloc: Global,
-    name: &str,
-    number: usize,
-    line: &'a [u8],
-) -> Result<Option<&'a str>, Fault>
-    ensures ok { IfOk result (λ found. url_in number line.now ≡ Ok (option_map (λ url. url.now) found)) }
-    ensures fault { IfErr result (IsLineFault name.now (result_err (url_in number line.now))) }
+fn url_in<'a>(alloc: Global, number: usize, line: &'a [u8]) -> Result<Line<&'a str>, AllocError>
+    ensures { IfOk result (λ found. line_by (λ url. url.now) found ≡ url_in number line.now) }
 {
     let line = trimmed(line);
     if is_comment(line) {
-        return Ok(None);
+        return Ok(Ok(None));
     }
     match as_text(line) {
-        Some(url) if url.is_empty() => Ok(None),
-        Some(url) if is_path_or_url(alloc, line)? => Ok(Some(url)),
-        Some(_) => Err(malformed(alloc, name, number, Flaw::Url)),
-        None => Err(malformed(alloc, name, number, Flaw::NotUtf8)),
+        Some(url) if url.is_empty() => Ok(Ok(None)),
+        Some(url) if is_path_or_url(alloc, line)? => Ok(Ok(Some(url))),
+        Some(_) => Ok(Err((number, Flaw::Url))),
+        None => Ok(Err((number, Flaw::NotUtf8))),
+    }
+}
+
+/// Appends what a line has.
+fn push_url<'a>(
+    found: &mut Vec<&'a str>,
+    malformed: &mut Vec<MalformedLine>,
+    line: Line<&'a str>,
+) -> Result<(), AllocError>
+    ensures found { OnOk result (map (λ url. url.now) found.new.items ≡ map (λ url. url.now) found.old.items
+        ++ entries_at (line_by (λ url. url.now) line.entry)) }
+    ensures malformed { OnOk result (malformed.new.items ≡ malformed.old.items
+        ++ malformed_at (line_by (λ url. url.now) line.entry)) }
+{
+    match line {
+        Ok(Some(url)) => Ok(found.push(url)?),
+        Ok(None) => Ok(()),
+        Err(line) => Ok(malformed.push(line)?),
     }
 }
 
 /// The URLs in the lines of a text.
 fn line_urls<'a>(alloc: Global, name: &str, text: &'a [u8]) -> Result<Vec<&'a str>, Fault>
-    ensures ok { IfOk result (λ found. entries_from url_in 1 (lines text.now)
-        ≡ Ok (map (λ url. url.now) found.items)) }
-    ensures fault { IfErr result (IsLineFault name.now (result_err (entries_from url_in 1 (lines text.now)))) }
+    ensures ok { IfOk result (λ found. entries_of url_in (lines text.now) ≡ Ok (map (λ url. url.now) found.items)) }
+    ensures fault { IfErr result (IsLineFault name.now (entries_of url_in (lines text.now))) }
 {
     let mut found = Vec::new(alloc);
+    let mut malformed = Vec::new(alloc);
     let mut rest = text;
     let mut number = 1;
     while !rest.is_empty() {
         let (line, later) = cut(b"\n", rest);
-        if let Some(url) = url_in(alloc, name, number, line)? {
-            found.push(url)?;
-        }
+        let line = url_in(alloc, number, line)?;
+        push_url(&mut found, &mut malformed, line)?;
         rest = later;
         number += 1;
     }
+    check_lines(alloc, name, malformed)?;
     Ok(found)
 }
 
@@ -83,8 +95,8 @@ fn urls_in<'a>(alloc: Global, name: &str, text: &'a [u8]) -> Result<Vec<&'a str>
 ///
 /// # Errors
 ///
-/// `Fault::Malformed` if a line isn't UTF-8, or neither a path nor an http(s) URL that can be parsed, `Fault::Empty` if
-/// there are no URLs in the text, and `Fault::Memory` if an allocation fails.
+/// `Fault::Malformed` for all lines that aren't UTF-8, or neither a path nor an http(s) URL that can be parsed,
+/// `Fault::Empty` if there are no URLs in the text, and `Fault::Memory` if an allocation fails.
 pub fn with_urls<'a>(
     alloc: Global,
     request: Request<'a>,

@@ -1,9 +1,11 @@
 -- The expectations as the code finds them.
-use Rattle.std.specs.Prelude.{◌≡◌, ℕ, ◌<◌, true, false, List, length, slice_index, string_bytes}
+use Rattle.std.specs.Prelude.{◌≡◌, ◌==◌, ℕ, ◌<◌, true, false, Err, List, Ok, length, option_map, slice_index}
+use Rattle.std.specs.Prelude.{string_bytes}
 use Rattle.audit_core.specs.declared.fault.{Entry.Entry, Fault.Fault}
-use Rattle.audit_core.specs.declared.fault.Fault.TheVariants.{Empty, Memory}
+use Rattle.audit_core.specs.declared.fault.Fault.TheVariants.{Empty, Malformed, Memory}
+use Rattle.audit_core.specs.Fault.{MalformedLine}
 use Rattle.audit_expect.specs.declared.expect.Expectation.{Expectation}
-use Rattle.audit_expect.specs.Expect.{ExpectationValue, is_in}
+use Rattle.audit_expect.specs.Expect.{ExpectationValue, LineOf, is_in}
 
 abbrev pub expectation_value : Expectation → ExpectationValue
 expectation_value expectation = record {
@@ -12,6 +14,17 @@ expectation_value expectation = record {
   agent = expectation.agent.now;
   url = expectation.url.now;
 }
+
+-- what a line has, by value
+abbrev pub line_by : {X Y : Type 0} → (X → Y) → LineOf X → LineOf Y
+line_by value (Ok entry) = Ok (option_map value entry)
+line_by value (Err malformed) = Err malformed
+
+-- the error names these malformed lines of this file, of which there are some, or an allocation failed
+abbrev pub AreMalformed : List ℕ → List MalformedLine → Fault → Type 0
+AreMalformed name malformed (Malformed file lines) =
+    (string_bytes file ≡ name) × (lines.items ≡ malformed) × ((length malformed == 0) ≡ false)
+AreMalformed name malformed fault = fault ≡ Memory
 
 -- the first `end` bytes of the text contain no separator
 abbrev pub HasNone : List ℕ → List ℕ → ℕ → Type 0

@@ -1,0 +1,39 @@
+//! What can't be a robots.txt file: a side of a comparison, and what expectations are checked against.
+ghost use Rattle.std.specs.Prelude.{◌≡◌, IfErr, None, OnOk};
+ghost use Rattle.audit_core.specs.Content.{IsContentFault, content_flaw, flaw_of};
+
+use crate::fault::{Fault, Flaw, argument};
+use robots_warnings::facts::{FileFacts, facts_of};
+use robots_warnings::file::labels_for;
+use std::alloc::Global;
+
+/// What is wrong with a file with these facts.
+fn flaw_of(facts: FileFacts) -> Option<Flaw>
+    ensures { result ≡ flaw_of facts }
+{
+    if facts.is_html {
+        Some(Flaw::Html)
+    } else if facts.is_utf_16 {
+        Some(Flaw::Utf16)
+    } else if facts.is_other_text {
+        Some(Flaw::NoDirectives)
+    } else {
+        None
+    }
+}
+
+/// Fails if the file with this name has text, but no directive.
+///
+/// # Errors
+///
+/// `Fault::Argument` for such a file, and `Fault::Memory` if an allocation fails.
+pub fn check_content(alloc: Global, name: &str, file: &[u8]) -> Result<(), Fault>
+    ensures ok { OnOk result (content_flaw file.now ≡ None) }
+    ensures fault { IfErr result (IsContentFault name.now file.now) }
+{
+    let labels = labels_for(alloc, "*", file)?;
+    match flaw_of(facts_of(file, &labels)) {
+        Some(flaw) => Err(argument(alloc, name, flaw)),
+        None => Ok(()),
+    }
+}
