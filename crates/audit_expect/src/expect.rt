@@ -1,8 +1,7 @@
 //! The expectations in the file of `--expect`, one per line, and how a text is cut into parts.
 ghost use Rattle.std.specs.Prelude.{◌≡◌, ◌≢◌, ◌<◌, ◌∷◌, ◌++◌, [], IfErr, IfOk, MatchOption, Ok, OnOk};
 ghost use Rattle.std.specs.Prelude.{if◌then◌else◌, length, map, option_map};
-ghost use Rattle.std.specs.{Option.option_to_list, Result.result_err, Str.byte};
-ghost use Rattle.robots_warnings.specs.Rules.{has};
+ghost use Rattle.std.specs.{Option.option_to_list, Result.result_err};
 ghost use Rattle.audit_expect.specs.Expect.{IsLineFault, begins_dot_segment, entries_from, expectation_in};
 ghost use Rattle.audit_expect.specs.Expect.{expectations_in, expects, is_asked_otherwise, is_comment, is_in};
 ghost use Rattle.audit_expect.specs.Expect.{is_path, is_path_or_url, lines, parts, words, words_with_name};
@@ -14,7 +13,7 @@ use audit_core::agents::as_text;
 use audit_core::crawler::is_crawler_name;
 use audit_core::fault::{Fault, Flaw};
 use robots_warnings::facts::without_mark;
-use robots_warnings::rules::{after_byte, before_byte, somewhere};
+use robots_warnings::rules::{after_byte, before_byte, has, somewhere};
 use robots_warnings::urls::is_absolute_url;
 use std::alloc::{AllocError, Global};
 
@@ -138,19 +137,12 @@ fn begins_dot_segment(text: &[u8]) -> bool
         || (text == b"/.".as_slice() || text == b"/..".as_slice())
 }
 
-/// Whether the word has a `#`.
-fn has_hash(word: &[u8]) -> bool
-    ensures { result ≡ has (byte "#") word.now }
-{
-    word.iter().any(|byte| *byte == b'#')
-}
-
 /// Whether the word is a path that crawlers ask for in another form: without such segments, and without what begins
 /// with `#`.
 fn is_asked_otherwise(word: &[u8]) -> bool
     ensures { result ≡ is_asked_otherwise word.now }
 {
-    is_path(word) && (has_hash(word) || somewhere(before_byte(b'?', word), begins_dot_segment))
+    is_path(word) && (has(b'#', word) || somewhere(before_byte(b'?', word), begins_dot_segment))
 }
 
 /// The expectation of a line with these three words.
