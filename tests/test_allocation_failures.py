@@ -128,7 +128,7 @@ AUDIT_RUNS = {
     "more than twenty warnings with one name": ["--agent", "Ferris", JUNK],
     "needless rules": ["--needless", NEEDLESS],
     "colors": ["--color", "always", "--agent", "Ferris", "-", *URLS],
-    "warnings by name": ["--only", "noindex-line", "--only", "missing-slash", "--ignore", "noindex-line", "--strict", "--agent", "Ferris", "-", *URLS],
+    "warnings by name": ["--only", "noindex-line", "--only", "missing-slash", "--ignore", "host-line", "--strict", "--agent", "Ferris", "-", *URLS],
 }
 
 
@@ -152,6 +152,9 @@ def test_robots_audit(failing_heap, made, what, later):
     fail_each_allocation(program, right, Result(2, "", "robots_audit: out of memory\n"), later)
 
 
+HINT = "before a path to check, write FILE, or - for standard input"
+
+
 @pytest.fixture
 def long_file(tmp_path):
     """A file that takes several reads."""
@@ -163,7 +166,7 @@ def long_file(tmp_path):
 @pytest.mark.parametrize("is_named", [True, False], ids=["of a named file", "of standard input"])
 def test_robots_audit_reports_a_failed_read(failing_heap, long_file, is_named):
     args = ["--agent", "Ferris", long_file if is_named else "-", URLS[0]]
-    why = f"cannot read {long_file}" if is_named else "cannot read standard input"
+    why = f"cannot read {long_file}; {HINT}" if is_named else "cannot read standard input"
     program = Failing(failing_heap, "robots_audit", args, b"" if is_named else long_file.read_bytes())
     break_each(program, "READ", lambda result, right, number: result == Result(2, "", f"robots_audit: {why}\n"))
 
@@ -183,7 +186,7 @@ def test_robots_audit_reports_a_failed_read_of_one_of_two_files(failing_heap, lo
     files, unread = {long_file, other}, set()
 
     def is_reported(result, right, number):
-        named = {file for file in files if result == Result(2, "", f"robots_audit: cannot read {file}\n")}
+        named = {file for file in files if result == Result(2, "", f"robots_audit: cannot read {file}; {HINT}\n")}
         unread.update(named)
         return named != set()
 
@@ -290,7 +293,6 @@ def test_no_size_is_out_of_memory(what):
         assert (as_json.status, len(json.loads(as_json.out)["agents"][0]["verdicts"])) == (1, len(urls)), (size, as_json.err)
 
 
-USAGE = "usage: robots_audit [OPTIONS] FILE [URL].."
 DENIED = "group: everyone (the file has no User-agent line; all rules are applied)\ndelay: none\ndeny 1 /b\n"
 
 
@@ -312,8 +314,8 @@ OF_AN_AUDIT = {
         (1, "crawler a: group everyone -> none\ncrawler a: same rules, so no URL's verdict differs\n" * size, ""),
     ),
     "the number of chosen names": lambda size: (["-q", *["--only=host-line"] * size, "--agent=a", "-", "/b"], "Disallow: /", (1, DENIED, "")),
-    "a name that no warning has, explained": lambda size: (["--explain", "a" * size], "", error(f"unknown warning {'a' * size}; {USAGE}")),
-    "a name that no warning has": lambda size: (["--ignore", "a" * size, "-"], "", error(f"unknown warning {'a' * size}; {USAGE}")),
+    "a name that no warning has, explained": lambda size: (["--explain", "a" * size], "", error(f"unknown warning {'a' * size}; all are in --list-warnings")),
+    "a name that no warning has": lambda size: (["--ignore", "a" * size, "-"], "", error(f"unknown warning {'a' * size}; all are in --list-warnings")),
     "the name of a missing file": lambda size: (["a" * size], "", error(f"cannot read {'a' * size}")),
     "the name of missing URLs": lambda size: (["--urls", "a" * size, "-"], "", error(f"cannot read {'a' * size}")),
     "the name of missing expectations": lambda size: (["--expect", "a" * size, "-"], "", error(f"cannot read {'a' * size}")),
@@ -324,7 +326,7 @@ OF_AN_AUDIT = {
     ),
     "neither a path nor a URL": lambda size: (
         ["-", "b" * size], "",
-        error(f"{'b' * size}: URL is neither a path that starts with / nor a URL; for a crawler, write --agent NAME"),
+        error(f"{'b' * size}: URL is neither a path that starts with / nor a URL; for a crawler, write --agent NAME, for a file of URLs --urls FILE, for a level --strict=LEVEL"),
     ),
 }  # fmt: skip
 

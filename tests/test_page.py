@@ -160,7 +160,7 @@ SMALL = """<!DOCTYPE html><html lang="en"><head><meta charset="utf-8"/>
 <dt>Warnings</dt><dd>1<ul><li><a href="#L2">line 2</a>: {warning}</li></ul></dd></dl>
 <h2>URLs</h2><table class="urls"><caption>May the crawler fetch it?</caption>
 <thead><tr><th scope="col">URL</th><th scope="col">Verdict</th></tr></thead>
-<tbody><tr><th scope="row"><code dir="ltr">/a&lt;b</code></th><td class="allowed">allowed, no line</td></tr></tbody></table>
+<tbody><tr><th scope="row"><code dir="ltr">/a&amp;b</code></th><td class="allowed">allowed, no line</td></tr></tbody></table>
 <h2>File</h2><table class="lines"><caption>Lines, and whether they are in the group of Ferris</caption>
 <thead><tr><th scope="col">Line</th><th scope="col">Group</th><th scope="col">Directive</th><th scope="col">Value</th></tr></thead>
 <tbody><tr id="L1" class="own"><th scope="row">1</th><td>own</td><td>user-agent</td><td>*</td></tr>
@@ -172,7 +172,7 @@ def test_page_on_a_small_file():
     """Apart from the style, a page has no line ends."""
     warning = f"Error: {level_and_text('missing-slash')[1]} [missing-slash]"
     wanted = SMALL.replace("\n", "").format(policy=constant("POLICY"), style=STYLE, warning=warning)
-    assert page("--agent=Ferris", "-", "/a<b", file=b"User-agent: *\nDisallow: search\n") == wanted
+    assert page("--agent=Ferris", "-", "/a&b", file=b"User-agent: *\nDisallow: search\n") == wanted
 
 
 CRAWLERS = """
@@ -336,8 +336,8 @@ PAGES = {
     "neither URLs nor lines": (FERRIS, b""),
     "several bodies": (FERRIS, b"User-agent: *\n" + b"Disallow: x\nx\n" * 500),
     "a rejected file": ([*FERRIS, "/"], b"User-agent: *\nDisallow: /" + b"a" * 4096 + b"$\n"),
-    **{f"hostile text {at}": ([*FERRIS, "/<i>"], with_text(text)) for at, text in enumerate(HOSTILE)},
-    "hostile text of all crawlers": (["-", "/<i>"], b"".join(b"User-agent: " + text + b"\nDisallow: /\n" for text in HOSTILE)),
+    **{f"hostile text {at}": ([*FERRIS, "/&lt;i"], with_text(text)) for at, text in enumerate(HOSTILE)},
+    "hostile text of all crawlers": (["-", "/&lt;i"], b"".join(b"User-agent: " + text + b"\nDisallow: /\n" for text in HOSTILE)),
 }
 
 

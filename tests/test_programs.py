@@ -4,7 +4,7 @@ A case is a table in tests/golden/PROGRAM/*.toml, named by what it shows:
 
 ```toml
 ["a URL is denied"]
-args = '- -q --agent Ferris /a\x20b'
+args = '- -q --agent Ferris /a%20b'
 file = '''
 User-agent: Ferris
 Disallow: /a b
@@ -12,7 +12,7 @@ Allow: b'''
 out = '''
 group: Ferris
 delay: none
-deny 2 /a b'''
+deny 2 /a%20b'''
 warn = '''
 2 several-values space
 3 missing-slash'''

@@ -21,7 +21,7 @@ LISTED = {
     "one line": (b"/private/tea\n", "deny 2 /private/tea\n0 allowed, 1 denied\n"),
     "no last line end": (b"/tea\n/private/", "allow - /tea\ndeny 2 /private/\n1 allowed, 1 denied\n"),
     "CR LF": (b"/tea\r\n/private/\r\n", "allow - /tea\ndeny 2 /private/\n1 allowed, 1 denied\n"),
-    "white space and blank lines": (b"\n \t/tea \t\n\r\n  \n\t/private/ tea\r\n", "allow - /tea\ndeny 2 /private/ tea\n1 allowed, 1 denied\n"),
+    "white space and blank lines": (b"\n \t/tea \t\n\r\n  \n\t/private/tea\r\n", "allow - /tea\ndeny 2 /private/tea\n1 allowed, 1 denied\n"),
     "the same URL twice": (b"/tea\n/tea\n", "allow - /tea\nallow - /tea\n2 allowed, 0 denied\n"),
     "a byte order mark": (b"\xef\xbb\xbf/private/\n", "deny 2 /private/\n0 allowed, 1 denied\n"),
     "comments": (b"# tea \xe9\n/tea#cup\n \t# /private/\n", "allow - /tea#cup\n1 allowed, 0 denied\n"),
@@ -60,8 +60,6 @@ def test_urls_of_the_command_line_come_first(tmp_path):
 URL = "URL is neither a path that starts with / nor a valid http:// or https:// URL"
 NOT_URLS = {
     "a host": (b"/a\nexample.com/a\n", 2),
-    "an element of a sitemap": (b"<url><loc>https://example.com/</loc></url>", 1),
-    "a sitemap": (b'<?xml version="1.0"?>\n<urlset>', 1),
     "another scheme": (b"# none\n\nftp://example.com/\n", 3),
     "no host": (b"http://", 1),
     "a word": (b"/a\n/b\ntea", 3),
@@ -71,6 +69,35 @@ NOT_URLS = {
 @pytest.mark.parametrize("text, line", NOT_URLS.values(), ids=NOT_URLS)
 def test_a_line_that_is_neither_a_path_nor_a_url(tmp_path, text, line):
     assert outcome(check(tmp_path, text, "Ferris")) == (2, "", f"robots_audit: list.txt:{line}: {URL}\n")
+
+
+TAG = "< or > in a URL; write %3C or %3E, and each URL of a sitemap on a line of its own"
+SPACE = "white space in a URL; write it as %20, and another URL or a comment on a line of its own"
+COMMA = "another URL after a comma; write each URL as a line or an argument of its own"
+SLIPS = {
+    "a sitemap": (b'<?xml version="1.0"?>\n<urlset>', 1, TAG),
+    "an element of a sitemap": (b"<url><loc>https://example.com/</loc></url>", 1, TAG),
+    "markup after a path": (b"/a\n/b<br>", 2, TAG),
+    "the end of a tag": (b"/a>", 1, TAG),
+    "two paths": (b"/a /b", 1, SPACE),
+    "columns": (b"# none\nhttps://example.com/a\t12\n", 2, SPACE),
+    "a no-break space": ("/a\u00a0b".encode(), 1, SPACE),
+    "a no-break space at the end": ("/a\u00a0\n".encode(), 1, SPACE),
+    "lines that end with CR": (b"/a\r/b\r", 1, SPACE),
+    "a comment after a path": (b"/a\n/b # tea\n", 2, SPACE),
+    "two URLs": (b"https://example.com/a,https://example.com/b", 1, COMMA),
+    "a path and a URL": (b"/a,HTTP://example.com/b", 1, COMMA),
+}
+
+
+@pytest.mark.parametrize("text, line, why", SLIPS.values(), ids=SLIPS)
+def test_a_line_that_is_no_single_url(tmp_path, text, line, why):
+    assert outcome(check(tmp_path, text, "Ferris")) == (2, "", f"robots_audit: list.txt:{line}: {why}\n")
+
+
+def test_urls_with_a_comma(tmp_path):
+    out = "group: * (Ferris has no group of its own)\ndelay: none\nallow - /a,b\nallow - /a,/https\nallow - https://example.com/?a=b,c\n3 allowed, 0 denied\n"
+    assert outcome(check(tmp_path, b"/a,b\n/a,/https\nhttps://example.com/?a=b,c", "Ferris")) == (0, out, "")
 
 
 def test_urls_from_standard_input(tmp_path):
@@ -95,14 +122,19 @@ def test_no_urls(tmp_path, text, more):
     assert outcome(check(tmp_path, text, "Ferris", *more)) == (2, "", "robots_audit: list.txt: there are no URLs\n")
 
 
-FETCH = "a URL isn't a file, try: curl -s https://example.com/robots.txt | robots_audit -"
+CURL = "curl -s https://example.com/robots.txt | robots_audit -"
+FETCH = f"a URL isn't a file, try: {CURL}"
 UNREAD = {
     "missing": ("missing.txt", "missing.txt"),
     "a folder": (".", "."),
     "no name": ("", '""'),
     "a URL": ("https://example.com", f"https://example.com; {FETCH}"),
     "a URL in capitals": ("HTTP://example.com/a", f"HTTP://example.com/a; {FETCH}"),
-    "a host": ("example.com", "example.com"),
+    "a host": ("example.com", f"example.com; for a host, try: {CURL}"),
+    "a URL without a scheme": ("example.com/robots.txt", f"example.com/robots.txt; for a host, try: {CURL}"),
+    "a hidden file": (".hidden", ".hidden"),
+    "a level": ("note", "note; for a level, write --strict=LEVEL"),
+    "a path": ("/no/tea", "/no/tea; before a path to check, write FILE, or - for standard input"),
 }
 
 

@@ -1,11 +1,25 @@
 -- Which warnings are reported, chosen by name.
-use Rattle.std.specs.Prelude.{ℕ, ◌==◌, Bool, not, ◌||◌, ◌&&◌, List, bytes_eq, filter, length}
+use Rattle.std.specs.Prelude.{◌≡◌, ℕ, ◌==◌, Bool, true, not, ◌||◌, ◌&&◌, List, Contains, bytes_eq, filter}
+use Rattle.std.specs.Prelude.{length}
 use Rattle.std.specs.List.{list_any}
+use Rattle.audit_core.specs.Fault.{IsArgument}
+use Rattle.audit_core.specs.declared.fault.Fault.{Fault}
+use Rattle.audit_core.specs.declared.fault.Flaw.TheVariants as flaw
 use Rattle.robots_warnings.specs.{Table.name_of, WarningValue.WarningValue}
 
 -- the name is in the list
 abbrev pub is_among_names : List (List ℕ) → List ℕ → Bool
 is_among_names names name = list_any (λ other. bytes_eq other name) names
+
+-- the lists have a name in common
+abbrev pub share_a_name : (only ignored : List (List ℕ)) → Bool
+share_a_name only ignored = list_any (λ name. is_among_names ignored name) only
+
+-- the error shows such a name, or an allocation failed
+abbrev pub IsInBoth : (only ignored : List (List ℕ)) → Fault → Type 0
+IsInBoth only ignored fault =
+    (name : List ℕ) × Contains only name × (is_among_names ignored name ≡ true)
+    × IsArgument name flaw.Both fault
 
 -- warnings with this name are reported: `only` is empty or contains the name, and `ignored` doesn't contain
 -- it

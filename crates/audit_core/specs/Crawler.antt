@@ -1,9 +1,9 @@
 -- What crawlers call themselves: names in arguments and in the file of `--expect`.
 use Rattle.std.specs.Prelude.{◌≡◌, ◌⊎◌, ℕ, Bool, false, not, ◌&&◌, ◌||◌, ◌==◌, List, Contains, bytes_eq}
-use Rattle.std.specs.Prelude.{codes, length, [], ◌∷◌, Option, Some, None}
+use Rattle.std.specs.Prelude.{codes, if◌then◌else◌, length, [], ◌∷◌, Option, Some, None}
 use Rattle.std.specs.{List.list_all, List.list_any, Char.is_ascii_digit, Str.byte}
 use Rattle.robots_warnings.specs.{Rules.has, Tokens.has_space_around, Tokens.is_name_byte}
-use Rattle.audit_core.specs.declared.fault.Fault.{Fault}
+use Rattle.audit_core.specs.declared.fault.{Fault.Fault, Flaw.Flaw}
 use Rattle.audit_core.specs.Fault.{IsArgument}
 use Rattle.audit_core.specs.declared.fault.Fault.TheVariants.{Memory}
 use Rattle.audit_core.specs.declared.fault.Flaw.TheVariants as flaw
@@ -24,12 +24,16 @@ is_own_name name =
 abbrev pub is_crawler_name : List ℕ → Bool
 is_crawler_name name = bytes_eq name (codes "*") || is_own_name name
 
+-- what is wrong with a name that no crawler has
+abbrev pub name_flaw : List ℕ → Flaw
+name_flaw name = if has (byte ",") name then flaw.Names else flaw.Agent
+
 -- the error shows one of these names, which no crawler has, or an allocation failed
 abbrev pub IsNoCrawlerIn : List (List ℕ) → Fault → Type 0
 IsNoCrawlerIn names fault =
     (fault ≡ Memory)
     ⊎ ((name : List ℕ) × Contains names name × (is_crawler_name name ≡ false)
-    × IsArgument name flaw.Agent fault)
+    × IsArgument name (name_flaw name) fault)
 
 -- the crawler, if there is a single one
 abbrev pub single : List (List ℕ) → Option (List ℕ)

@@ -1,23 +1,32 @@
 -- The message for each error, and the exit status.
-use Rattle.std.specs.Prelude.{◌≡◌, ℕ, Bool, true, false, not, List, [], ◌∷◌, Result, Ok, Err, codes}
-use Rattle.std.specs.Prelude.{if◌then◌else◌, map, string_bytes}
+use Rattle.std.specs.Prelude.{◌≡◌, ℕ, nat_eq, Bool, true, false, not, ◌&&◌, ◌||◌, List, [], ◌∷◌, ◌++◌}
+use Rattle.std.specs.Prelude.{Option, Some, None, Result, Ok, Err, bytes_eq, codes, if◌then◌else◌, map}
+use Rattle.std.specs.Prelude.{string_bytes}
+use Rattle.std.specs.{List.ends_with, List.find, List.starts_with, Str.byte}
 use Rattle.std.proofs.Common.{refl}
 use Rattle.printable_text.specs.Sanitize.{sanitized_lines}
 use Rattle.robots_io.specs.declared.streams.{ReadFault.ReadFault, WriteFault.WriteFault}
 use Rattle.robots_io.specs.declared.streams.ReadFault.TheVariants as read
 use Rattle.robots_io.specs.declared.streams.WriteFault.TheVariants as write
-use Rattle.robots_warnings.specs.Urls.{begins_as_url}
+use Rattle.robots_warnings.specs.{Crawlers.is_near, Rules.before_byte, Rules.has, Table.all_causes}
+use Rattle.robots_warnings.specs.{Table.name_of, Urls.begins_as_url}
+use Rattle.robots_warnings.specs.declared.table.Cause.{Cause}
 use Rattle.printable_text.specs.Text.{Absent, Named, Number, Part, PartValue, ReportLine, Untrusted, Value}
 use Rattle.printable_text.specs.Text.{label, line_from, only, value_text, word, written}
 use Rattle.audit_core.specs.declared.answer.Outcome.{Outcome}
 use Rattle.audit_core.specs.declared.fault.{Entry.Entry, Fault.Fault, Flaw.Flaw}
 use Rattle.audit_core.specs.declared.fault.Entry.TheVariants.{Expectation, Url}
 use Rattle.audit_core.specs.declared.fault.Fault.TheVariants.{Argument, Closed, Empty, File, Format, Malformed}
-use Rattle.audit_core.specs.declared.fault.Fault.TheVariants.{Memory, NotUtf8, Read, StdinTwice}
+use Rattle.audit_core.specs.declared.fault.Fault.TheVariants.{Memory, NotUtf8, NoUrl, Read, StdinTwice}
 use Rattle.audit_core.specs.declared.fault.Fault.TheVariants.{UnknownWarning, Usage, Words, Write}
 use Rattle.audit_core.specs.declared.fault.Flaw.TheVariants as flaw
 
 -- ---- messages
+
+abbrev no_url : List ℕ
+no_url =
+    codes "URL is neither a path that starts with / nor a URL; for a crawler, write --agent NAME"
+    ++ codes ", for a file of URLs --urls FILE, for a level --strict=LEVEL"
 
 abbrev other_path : List ℕ
 other_path =
@@ -32,14 +41,22 @@ flaw_value flaw.Agent =
     word (codes "a crawler's name is a product token without a version, such as Googlebot") refl
 flaw_value flaw.Url =
     word (codes "URL is neither a path that starts with / nor a valid http:// or https:// URL") refl
-flaw_value flaw.Name =
-    word (codes "URL is neither a path that starts with / nor a URL; for a crawler, write --agent NAME") refl
+flaw_value flaw.Name = word no_url refl
 flaw_value flaw.Path = word other_path refl
 flaw_value flaw.Html = word (codes "this looks like HTML, not like a robots.txt file") refl
 flaw_value flaw.Utf16 =
     word (codes "this looks like UTF-16, not like a robots.txt file; save it as UTF-8") refl
 flaw_value flaw.NoDirectives =
     word (codes "this has no line of a robots.txt file, such as User-agent or Disallow") refl
+flaw_value flaw.Space =
+    word (codes "white space in a URL; write it as %20, and another URL or a comment on a line of its own") refl
+flaw_value flaw.Comma =
+    word (codes "another URL after a comma; write each URL as a line or an argument of its own") refl
+flaw_value flaw.Tag =
+    word (codes "< or > in a URL; write %3C or %3E, and each URL of a sitemap on a line of its own") refl
+flaw_value flaw.Names =
+    word (codes "a comma in a crawler's name; repeat --agent for each crawler") refl
+flaw_value flaw.Both = word (codes "--only and --ignore both name this warning") refl
 
 abbrev pub flaw_text : Flaw → List ℕ
 flaw_text which = value_text (flaw_value which)
@@ -56,11 +73,36 @@ entry_text entry = value_text (entry_value entry)
 abbrev pub usage : PartValue
 usage = only (codes "; usage: robots_audit [OPTIONS] FILE [URL]..") refl
 
--- what to do if the name of a file is a URL
-abbrev pub fetch_part : (is_url : Bool) → PartValue
-fetch_part true =
-    only (codes "; a URL isn't a file, try: curl -s https://example.com/robots.txt | robots_audit -") refl
-fetch_part false = Absent
+-- the name is that of a level
+abbrev pub is_level : List ℕ → Bool
+is_level name =
+    bytes_eq name (codes "error") || (bytes_eq name (codes "warning") || bytes_eq name (codes "note"))
+
+-- the name begins as that of a host does: before a slash it has a dot, but it isn't that of a text file
+abbrev pub begins_as_host : List ℕ → Bool
+begins_as_host name =
+    let host = before_byte (byte "/") name in
+    has (byte ".") host && not (starts_with nat_eq host (codes ".") || ends_with nat_eq host (codes ".txt"))
+
+-- what else the name of a file that can't be read may be, and how to give that
+abbrev pub file_hint : List ℕ → PartValue
+file_hint name =
+    if begins_as_url name
+    then only (codes "; a URL isn't a file, try: curl -s https://example.com/robots.txt | robots_audit -") refl
+    else if begins_as_host name
+    then only (codes "; for a host, try: curl -s https://example.com/robots.txt | robots_audit -") refl
+    else if is_level name then only (codes "; for a level, write --strict=LEVEL") refl
+    else if starts_with nat_eq name (codes "/")
+    then only (codes "; before a path to check, write FILE, or - for standard input") refl
+    else Absent
+
+-- the first warning with a name that is near this one
+abbrev pub near_warning : List ℕ → Option Cause
+near_warning name = find (λ cause. is_near name (name_of cause)) all_causes
+
+abbrev pub near_part : Option Cause → PartValue
+near_part None = Absent
+near_part (Some cause) = Part (label (codes "; a similar one is ") refl) (Untrusted (name_of cause))
 
 -- the number of a malformed line, and what is wrong with it
 abbrev pub MalformedLine : Type 0
@@ -79,12 +121,14 @@ fault_parts (Words text) = []
 fault_parts Closed = []
 fault_parts (Malformed file lines) = []
 fault_parts Usage = only (codes ": missing FILE") refl ∷ usage ∷ []
+fault_parts NoUrl = only (codes ": --denied needs URLs, as arguments or by --urls FILE") refl ∷ usage ∷ []
 fault_parts NotUtf8 = only (codes ": arguments must be valid UTF-8") refl ∷ usage ∷ []
-fault_parts (UnknownWarning name) =
-    Part (label (codes ": unknown warning ") refl) (Named (string_bytes name)) ∷ usage ∷ []
+fault_parts (UnknownWarning name near) =
+    Part (label (codes ": unknown warning ") refl) (Named (string_bytes name))
+    ∷ near_part near ∷ only (codes "; all are in --list-warnings") refl ∷ []
 fault_parts (File name) =
     Part (label (codes ": cannot read ") refl) (Named (string_bytes name))
-    ∷ fetch_part (begins_as_url (string_bytes name)) ∷ []
+    ∷ file_hint (string_bytes name) ∷ []
 fault_parts (Argument text which) =
     Part (label (codes ": ") refl) (Named (string_bytes text))
     ∷ Part (label (codes ": ") refl) (flaw_value which) ∷ []
@@ -150,9 +194,9 @@ abbrev pub fault_of_write : WriteFault → Fault
 fault_of_write write.Closed = Closed
 fault_of_write write.Write = Write
 
--- the error reports that no warning has this name, or an allocation failed
+-- the error reports that no warning has this name, and which one may be meant, or an allocation failed
 abbrev pub IsUnknown : List ℕ → Fault → Type 0
-IsUnknown name (UnknownWarning text) = string_bytes text ≡ name
+IsUnknown name (UnknownWarning text near) = (string_bytes text ≡ name) × (near ≡ near_warning name)
 IsUnknown name fault = fault ≡ Memory
 
 -- the error shows that this argument is malformed in this way, or an allocation failed

@@ -1,8 +1,10 @@
 //! Which warnings are reported, chosen by name.
-ghost use Rattle.std.specs.Prelude.{◌≡◌, map};
-ghost use Rattle.audit_core.specs.Chosen.{chosen, is_among_names, is_chosen};
+ghost use Rattle.std.specs.Prelude.{◌≡◌, IfErr, OnOk, false, map};
+ghost use Rattle.audit_core.specs.Chosen.{IsInBoth, chosen, is_among_names, is_chosen, share_a_name};
 
+use crate::fault::{Fault, Flaw, argument};
 use robots_warnings::warning::Warning;
+use std::alloc::Global;
 
 /// Whether the name is in the list.
 fn is_among_names(names: &[&str], name: &str) -> bool
@@ -22,6 +24,20 @@ fn is_chosen(only: &[&str], ignored: &[&str], name: &str) -> bool
     ensures { result ≡ is_chosen (map (λ name. name.now) only.now) (map (λ name. name.now) ignored.now) name.now }
 {
     (only.is_empty() || is_among_names(only, name)) && !is_among_names(ignored, name)
+}
+
+/// Fails with the first name in `only` that is in the other list, too.
+pub fn are_apart(alloc: Global, only: &[&str], ignored: &[&str]) -> Result<(), Fault>
+    ensures ok { OnOk result (share_a_name (map (λ name. name.now) only.now) (map (λ name. name.now) ignored.now)
+        ≡ false) }
+    ensures fault { IfErr result (IsInBoth (map (λ name. name.now) only.now) (map (λ name. name.now) ignored.now)) }
+{
+    for name in only {
+        if is_among_names(ignored, name) {
+            return Err(argument(alloc, name, Flaw::Both));
+        }
+    }
+    Ok(())
 }
 
 /// Keeps the warnings that are reported.

@@ -1,19 +1,12 @@
 //! The names of crawlers in arguments and in the file of `--expect`.
 ghost use Rattle.std.specs.Prelude.{◌≡◌, IfErr, IsTrue, OnOk, map, not, option_map};
-ghost use Rattle.std.specs.{Char.is_ascii_digit, List.list_all, List.list_any, Str.byte};
-ghost use Rattle.robots_warnings.specs.Rules.{has};
-ghost use Rattle.audit_core.specs.Crawler.{single, IsNoCrawlerIn, has_version, is_crawler_name, is_own_name};
+ghost use Rattle.std.specs.{Char.is_ascii_digit, List.list_all, List.list_any};
+ghost use Rattle.audit_core.specs.Crawler.{single, IsNoCrawlerIn, has_version, is_crawler_name, is_own_name, name_flaw};
 
 use crate::fault::{Fault, Flaw, argument};
+use robots_warnings::rules::has;
 use robots_warnings::tokens::{are_name_bytes, has_space_around};
 use std::alloc::Global;
-
-/// Whether the name has a dot.
-fn has_dot(name: &[u8]) -> bool
-    ensures { result ≡ has (byte ".") name.now }
-{
-    name.iter().any(|byte| *byte == b'.')
-}
 
 /// Whether the name has a digit.
 fn has_digit(name: &[u8]) -> bool
@@ -26,7 +19,7 @@ fn has_digit(name: &[u8]) -> bool
 fn has_version(name: &[u8]) -> bool
     ensures { result ≡ has_version name.now }
 {
-    has_dot(name) && has_digit(name)
+    has(b'.', name) && has_digit(name)
 }
 
 /// Whether the name has only letters, digits, `_`, `-`, dots and spaces, and no version.
@@ -42,6 +35,17 @@ pub fn is_crawler_name(name: &str) -> bool
     ensures { result ≡ is_crawler_name name.now }
 {
     name == "*" || is_own_name(name)
+}
+
+/// What is wrong with a name that no crawler has.
+fn name_flaw(name: &str) -> Flaw
+    ensures { result ≡ name_flaw name.now }
+{
+    if has(b',', name.as_bytes()) {
+        Flaw::Names
+    } else {
+        Flaw::Agent
+    }
 }
 
 /// The crawler, if there is a single one.
@@ -61,7 +65,7 @@ pub fn are_crawlers(alloc: Global, names: &[&str]) -> Result<(), Fault>
 {
     for name in names {
         if !is_crawler_name(name) {
-            return Err(argument(alloc, name, Flaw::Agent));
+            return Err(argument(alloc, name, name_flaw(name)));
         }
     }
     Ok(())

@@ -2,13 +2,17 @@
 ghost use Rattle.std.specs.Prelude.{◌≡◌, ◌++◌, ◌∷◌, [], IfOk, OnOk, map, string_bytes};
 ghost use Rattle.printable_text.specs.{Raw.raw_line, Raw.raw_text, Text.line_text, Text.part_text, Text.parts_text};
 ghost use Rattle.printable_text.specs.Text.{written};
-ghost use Rattle.audit_core.specs.Fault.{IsArgument, IsUnknown, entry_text, fault_parts, fault_text, fetch_part};
-ghost use Rattle.audit_core.specs.Fault.{flaw_text, malformed_line, status_after};
+ghost use Rattle.audit_core.specs.Fault.{IsArgument, IsUnknown, begins_as_host, entry_text, fault_parts, fault_text};
+ghost use Rattle.audit_core.specs.Fault.{file_hint, flaw_text, is_level, malformed_line, near_part, near_warning};
+ghost use Rattle.audit_core.specs.Fault.{status_after};
 
 use crate::answer::Outcome;
 use printable_text::parts::{Part, Value, push_line_of};
 use printable_text::sanitize::push_sanitized_lines;
 use robots_io::streams::{ReadFault, WriteFault};
+use robots_warnings::crawlers::is_near;
+use robots_warnings::rules::{before_byte, has};
+use robots_warnings::table::{Cause, causes};
 use robots_warnings::urls::begins_as_url;
 use std::alloc::{AllocError, AllocFailed, Global};
 
@@ -34,6 +38,16 @@ pub enum Flaw {
     Utf16,
     /// The file has text, but no directive.
     NoDirectives,
+    /// The URL has white space.
+    Space,
+    /// The URL has a comma, and then another URL.
+    Comma,
+    /// The URL has `<` or `>`.
+    Tag,
+    /// The name has a comma.
+    Names,
+    /// The options `--only` and `--ignore` have this name.
+    Both,
 }
 
 /// The number of a malformed line, and what is wrong with it.
@@ -55,10 +69,12 @@ pub enum Fault {
     Words(String),
     /// FILE is missing.
     Usage,
+    /// The option `--denied` is given, but no URL.
+    NoUrl,
     /// An argument isn't UTF-8.
     NotUtf8,
-    /// No warning has this name.
-    UnknownWarning(String),
+    /// No warning has this name; the warning with a similar name, if there is one.
+    UnknownWarning(String, Option<Cause>),
     /// The file with this name can't be opened or read.
     File(String),
     /// These lines, of the file with this name, are malformed.
@@ -141,13 +157,22 @@ fn flaw_text(flaw: Flaw) -> &'static str
         Flaw::Agent => "a crawler's name is a product token without a version, such as Googlebot",
         Flaw::Url => "URL is neither a path that starts with / nor a valid http:// or https:// URL",
         Flaw::Name =>
-            "URL is neither a path that starts with / nor a URL; for a crawler, write --agent NAME",
+            "URL is neither a path that starts with / nor a URL; for a crawler, write --agent NAME, for a \
+            file of URLs --urls FILE, for a level --strict=LEVEL",
         Flaw::Path =>
             "URL has a . or .. segment or a #, which crawlers resolve or drop; write the path that they ask for",
         Flaw::Html => "this looks like HTML, not like a robots.txt file",
         Flaw::Utf16 => "this looks like UTF-16, not like a robots.txt file; save it as UTF-8",
         Flaw::NoDirectives =>
             "this has no line of a robots.txt file, such as User-agent or Disallow",
+        Flaw::Space =>
+            "white space in a URL; write it as %20, and another URL or a comment on a line of its own",
+        Flaw::Comma =>
+            "another URL after a comma; write each URL as a line or an argument of its own",
+        Flaw::Tag =>
+            "< or > in a URL; write %3C or %3E, and each URL of a sitemap on a line of its own",
+        Flaw::Names => "a comma in a crawler's name; repeat --agent for each crawler",
+        Flaw::Both => "--only and --ignore both name this warning",
     }
 }
 
@@ -174,17 +199,49 @@ const USAGE: Part<'static> = Part(
 const EXAMPLES: &str = "example: robots_audit robots.txt /search\n\
     example: curl -s https://example.com/robots.txt | robots_audit --agent Googlebot -\n";
 
-/// How to audit a file that is at a URL.
-fn fetch_part(is_url: bool) -> Part<'static>
-    ensures { raw_text result ≡ part_text (fetch_part is_url) }
+/// Whether the name is that of a level.
+fn is_level(name: &[u8]) -> bool
+    ensures { result ≡ is_level name.now }
 {
-    if is_url {
-        Part(
-            "; a URL isn't a file, try: curl -s https://example.com/robots.txt | robots_audit -",
-            Value::Nothing,
-        )
+    name == b"error".as_slice() || (name == b"warning".as_slice() || name == b"note".as_slice())
+}
+
+/// Whether the name begins as that of a host does: it has a dot within, but isn't that of a text file.
+fn begins_as_host(name: &[u8]) -> bool
+    ensures { result ≡ begins_as_host name.now }
+{
+    let host = before_byte(b'/', name);
+    has(b'.', host) && !(host.starts_with(b".") || host.ends_with(b".txt"))
+}
+
+/// What else the name of a file that can't be read may be, and how to give that.
+fn file_hint(name: &[u8]) -> Part<'static>
+    ensures { raw_text result ≡ part_text (file_hint name.now) }
+{
+    let hint = if begins_as_url(name) {
+        "; a URL isn't a file, try: curl -s https://example.com/robots.txt | robots_audit -"
+    } else if begins_as_host(name) {
+        "; for a host, try: curl -s https://example.com/robots.txt | robots_audit -"
+    } else if is_level(name) {
+        "; for a level, write --strict=LEVEL"
+    } else if name.starts_with(b"/") {
+        "; before a path to check, write FILE, or - for standard input"
     } else {
-        NONE
+        ""
+    };
+    Part(hint, Value::Nothing)
+}
+
+/// The name of a warning that may be meant.
+fn near_part(near: Option<Cause>) -> Part<'static>
+    ensures { raw_text result ≡ part_text (near_part near) }
+{
+    match near {
+        Some(cause) => Part(
+            "; a similar one is ",
+            Value::Untrusted(cause.name().as_bytes()),
+        ),
+        None => NONE,
     }
 }
 
@@ -218,19 +275,27 @@ fn fault_parts(fault: &Fault) -> [Part<'_>; 3]
     match fault {
         Fault::Words(_) | Fault::Closed | Fault::Malformed(_, _) => [NONE, NONE, NONE],
         Fault::Usage => [Part(": missing FILE", Value::Nothing), USAGE, NONE],
+        Fault::NoUrl => [
+            Part(
+                ": --denied needs URLs, as arguments or by --urls FILE",
+                Value::Nothing,
+            ),
+            USAGE,
+            NONE,
+        ],
         Fault::NotUtf8 => [
             Part(": arguments must be valid UTF-8", Value::Nothing),
             USAGE,
             NONE,
         ],
-        Fault::UnknownWarning(name) => [
+        Fault::UnknownWarning(name, near) => [
             Part(": unknown warning ", Value::Named(name.as_bytes())),
-            USAGE,
-            NONE,
+            near_part(*near),
+            Part("; all are in --list-warnings", Value::Nothing),
         ],
         Fault::File(name) => [
             Part(": cannot read ", Value::Named(name.as_bytes())),
-            fetch_part(begins_as_url(name.as_bytes())),
+            file_hint(name.as_bytes()),
             NONE,
         ],
         Fault::Argument(text, flaw) => [
@@ -311,14 +376,25 @@ pub fn status_after(outcome: &Result<Outcome, Fault>) -> u8
     }
 }
 
-/// The error for a name that no warning has; `Fault::Memory` if an allocation fails.
-pub fn unknown(alloc: Global, name: &str) -> Fault
-    ensures { IsUnknown name.now result }
+/// The first warning with a name that is near this one.
+fn near_warning(alloc: Global, name: &[u8]) -> Result<Option<Cause>, AllocError>
+    ensures { IfOk result (λ found. found ≡ near_warning name.now) }
 {
-    match String::from_str(alloc, name) {
-        Ok(text) => Fault::UnknownWarning(text),
-        Err(AllocError) => Fault::Memory,
+    let all = causes(alloc)?;
+    for cause in &all {
+        if is_near(alloc, name, cause.name())? {
+            return Ok(Some(*cause));
+        }
     }
+    Ok(None)
+}
+
+/// The error for a name that no warning has.
+pub fn unknown(alloc: Global, name: &str) -> Result<Fault, AllocError>
+    ensures { IfOk result (IsUnknown name.now) }
+{
+    let near = near_warning(alloc, name.as_bytes())?;
+    Ok(Fault::UnknownWarning(String::from_str(alloc, name)?, near))
 }
 
 /// The error for an argument that is malformed in this way; `Fault::Memory` if an allocation fails.

@@ -7,7 +7,7 @@ pub mod agents;
 pub mod answer;
 pub mod asked;
 pub mod audit;
-mod chosen;
+pub mod chosen;
 pub mod color;
 pub mod content;
 pub mod crawler;

@@ -1,14 +1,17 @@
 -- The URLs in the file of `--urls`, one per line, and those in arguments.
 use Rattle.std.specs.Prelude.{◌≡◌, ◌⊎◌, ℕ, ◌-◌, ◌==◌, false, not, List, ◌++◌, Option, Some, None, Result, Ok}
-use Rattle.std.specs.Prelude.{Err, drop, if◌then◌else◌, length, take}
-use Rattle.std.specs.{Char.is_ascii_whitespace, List.find, List.prefix_len, List.suffix_len, Str.is_utf8}
+use Rattle.std.specs.Prelude.{◌&&◌, ◌||◌, Bool, Err, drop, if◌then◌else◌, is_some, length, slice_index}
+use Rattle.std.specs.Prelude.{take}
+use Rattle.std.specs.{Char.is_ascii_whitespace, List.find, List.prefix_len, List.suffix_len, Str.byte}
+use Rattle.std.specs.Str.{is_utf8}
 use Rattle.audit_core.specs.{Crawler.is_crawler_name, Crawler.is_word, Fault.IsArgument, Fault.MalformedLine}
 use Rattle.audit_core.specs.Request.{RequestValue}
 use Rattle.audit_expect.specs.Expect.{LineOf, entries_of, is_comment, is_path_or_url, lines}
 use Rattle.audit_core.specs.declared.fault.{Fault.Fault, Flaw.Flaw}
 use Rattle.audit_core.specs.declared.fault.Fault.TheVariants.{Memory}
-use Rattle.audit_core.specs.declared.fault.Flaw.TheVariants.{Name, NotUtf8, Url}
-use Rattle.robots_warnings.specs.Facts.{mark, without_start}
+use Rattle.audit_core.specs.declared.fault.Flaw.TheVariants.{Comma, Name, NotUtf8, Space, Tag, Url}
+use Rattle.robots_warnings.specs.{Facts.mark, Facts.without_start, Rules.has, Rules.somewhere}
+use Rattle.robots_warnings.specs.Urls.{begins_as_url}
 
 -- the line without ASCII white space at its start
 abbrev pub without_front : List ℕ → List ℕ
@@ -22,14 +25,36 @@ without_back line = take (length line - suffix_len is_ascii_whitespace line) lin
 abbrev pub trimmed : List ℕ → List ℕ
 trimmed line = without_back (without_front line)
 
+-- the text starts with white space of ASCII, or with a no-break space in UTF-8
+abbrev pub begins_space : List ℕ → Bool
+begins_space text =
+    is_ascii_whitespace (slice_index text 0) || (slice_index text 0 == 0xC2 && slice_index text 1 == 0xA0)
+
+-- the text starts with a comma, and then with `http://` or `https://`
+abbrev pub begins_next_url : List ℕ → Bool
+begins_next_url text = slice_index text 0 == byte "," && begins_as_url (drop 1 text)
+
+-- what is wrong with it: it has what URLs only have escaped and what several of them, a comment or a tag has;
+-- or it is neither a path nor an http(s) URL that can be parsed
+abbrev pub url_flaw : List ℕ → Option Flaw
+url_flaw url =
+    if has (byte "<") url || has (byte ">") url then Some Tag
+    else if somewhere begins_space url then Some Space
+    else if somewhere begins_next_url url then Some Comma
+    else if is_path_or_url url then None else Some Url
+
+abbrev pub unless_flawed : ℕ → List ℕ → Option Flaw → LineOf (List ℕ)
+unless_flawed number url None = Ok (Some url)
+unless_flawed number url (Some flaw) = Err (number, flaw)
+
 -- the URL or path of the line with this number, if the line is neither blank nor a comment, which starts with
--- `#` as no URL does; or that the line isn't UTF-8, or neither a path nor an http(s) URL that can be parsed
+-- `#` as no URL does; or that the line isn't UTF-8, or what is wrong with the URL
 unfoldable pub url_in : ℕ → List ℕ → LineOf (List ℕ)
 url_in number line =
     if is_comment (trimmed line) then Ok None
     else if not (is_utf8 (trimmed line)) then Err (number, NotUtf8)
     else if not (is_word (trimmed line)) then Ok None
-    else if is_path_or_url (trimmed line) then Ok (Some (trimmed line)) else Err (number, Url)
+    else unless_flawed number (trimmed line) (url_flaw (trimmed line))
 
 -- the URLs in a text, possibly after a byte order mark, or all its malformed lines
 abbrev pub urls_in : List ℕ → Result (List (List ℕ)) (List MalformedLine)
@@ -48,16 +73,17 @@ pub record HasUrlsIn (text : List ℕ) (requested extended : RequestValue) : Typ
 
 -- ---- URLs in arguments
 
--- the first of these that is neither a path nor an http(s) URL that can be parsed
-abbrev pub first_malformed : List (List ℕ) → Option (List ℕ)
-first_malformed urls = find (λ url. not (is_path_or_url url)) urls
+-- what is wrong with it: it may be the name of a crawler, which is no URL
+abbrev pub argument_flaw : List ℕ → Option Flaw
+argument_flaw text = if is_crawler_name text then Some Name else url_flaw text
 
--- what is wrong with it: it may be the name of a crawler
-abbrev pub url_flaw : List ℕ → Flaw
-url_flaw text = if is_crawler_name text then Name else Url
+-- the first of these with which something is wrong
+abbrev pub first_malformed : List (List ℕ) → Option (List ℕ)
+first_malformed urls = find (λ url. is_some (argument_flaw url)) urls
 
 -- the error shows the first malformed one of these URLs, or an allocation failed
 abbrev pub IsUrlFault : List (List ℕ) → Fault → Type 0
 IsUrlFault urls fault =
     (fault ≡ Memory)
-    ⊎ ((url : List ℕ) × (first_malformed urls ≡ Some url) × IsArgument url (url_flaw url) fault)
+    ⊎ ((url : List ℕ) × (which : Flaw) × (first_malformed urls ≡ Some url) × (argument_flaw url ≡ Some which)
+    × IsArgument url which fault)

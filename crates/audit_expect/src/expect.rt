@@ -1,8 +1,6 @@
 //! The expectations in the file of `--expect`, one per line, and how a text is cut into parts.
 ghost use Rattle.std.specs.Prelude.{◌≡◌, ◌≢◌, ◌<◌, ◌∷◌, ◌++◌, [], IfErr, IfOk, MatchOption, Ok, OnOk};
 ghost use Rattle.std.specs.Prelude.{if◌then◌else◌, length, map};
-ghost use Rattle.std.specs.Str.{byte};
-ghost use Rattle.robots_warnings.specs.Rules.{has};
 ghost use Rattle.audit_expect.specs.Expect.{IsLineFault, begins_dot_segment, entries_at, entries_of, expectation_in};
 ghost use Rattle.audit_expect.specs.Expect.{expectations_in, expects, is_asked_otherwise, is_comment, is_in};
 ghost use Rattle.audit_expect.specs.Expect.{is_path, is_path_or_url, lines, malformed_at, parts, words};
@@ -14,7 +12,7 @@ use crate::entries::{Line, check_lines};
 use audit_core::crawler::is_crawler_name;
 use audit_core::fault::{Fault, Flaw, MalformedLine};
 use robots_warnings::facts::without_mark;
-use robots_warnings::rules::{after_byte, before_byte, somewhere};
+use robots_warnings::rules::{after_byte, before_byte, has, somewhere};
 use robots_warnings::urls::{as_text, is_absolute_url};
 use std::alloc::{AllocError, Global};
 
@@ -138,19 +136,12 @@ fn begins_dot_segment(text: &[u8]) -> bool
         || (text == b"/.".as_slice() || text == b"/..".as_slice())
 }
 
-/// Whether the word has a `#`.
-fn has_hash(word: &[u8]) -> bool
-    ensures { result ≡ has (byte "#") word.now }
-{
-    word.iter().any(|byte| *byte == b'#')
-}
-
 /// Whether the word is a path that crawlers ask for in another form: without such segments, and without what begins
 /// with `#`.
 fn is_asked_otherwise(word: &[u8]) -> bool
     ensures { result ≡ is_asked_otherwise word.now }
 {
-    is_path(word) && (has_hash(word) || somewhere(before_byte(b'?', word), begins_dot_segment))
+    is_path(word) && (has(b'#', word) || somewhere(before_byte(b'?', word), begins_dot_segment))
 }
 
 /// The expectation of a line with these three words.

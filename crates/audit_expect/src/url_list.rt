@@ -1,10 +1,11 @@
 //! The URLs in the file of `--urls`, one per line, and those in arguments.
 ghost use Rattle.std.specs.Prelude.{◌≡◌, ◌==◌, ◌++◌, IfErr, IfOk, None, Ok, OnOk, false, length, map};
+ghost use Rattle.robots_warnings.specs.Rules.{somewhere};
 ghost use Rattle.audit_core.specs.Request.{requested_by};
 ghost use Rattle.audit_core.specs.declared.fault.Entry.TheVariants as entry;
 ghost use Rattle.audit_expect.specs.Expect.{IsEntryFault, IsLineFault, entries_at, entries_of, lines, malformed_at};
 ghost use Rattle.audit_expect.specs.Internal.Expect.{line_by};
-ghost use Rattle.audit_expect.specs.UrlList.{HasUrlsIn, IsUrlFault};
+ghost use Rattle.audit_expect.specs.UrlList.{HasUrlsIn, IsUrlFault, argument_flaw, begins_next_url, begins_space};
 ghost use Rattle.audit_expect.specs.UrlList.{first_malformed, trimmed, url_flaw, url_in, urls_in};
 
 use crate::entries::{Line, check_lines, without_entries};
@@ -13,7 +14,8 @@ use audit_core::crawler::is_crawler_name;
 use audit_core::fault::{Entry, Fault, Flaw, MalformedLine, argument};
 use audit_core::request::Request;
 use robots_warnings::facts::without_mark;
-use robots_warnings::urls::as_text;
+use robots_warnings::rules::{has, somewhere};
+use robots_warnings::urls::{as_text, begins_as_url};
 use std::alloc::{AllocError, Global};
 
 /// The line without white space at its start and end.
@@ -21,6 +23,58 @@ fn trimmed<'a>(line: &'a [u8]) -> &'a [u8]
     ensures { result.now ≡ trimmed line.now }
 {
     line.trim_ascii()
+}
+
+/// Whether the text starts with white space of ASCII, or with a no-break space.
+fn begins_space(text: &[u8]) -> bool
+    ensures { result ≡ begins_space text.now }
+{
+    match text {
+        [0xC2, 0xA0, ..] => true,
+        [first, ..] => first.is_ascii_whitespace(),
+        [] => false,
+    }
+}
+
+/// Whether the text starts with a comma, and then as a URL does.
+fn begins_next_url(text: &[u8]) -> bool
+    ensures { result ≡ begins_next_url text.now }
+{
+    match text {
+        [b',', url @ ..] => begins_as_url(url),
+        _ => false,
+    }
+}
+
+/// Whether the text has such white space.
+fn has_space(text: &[u8]) -> bool
+    ensures { result ≡ somewhere begins_space text.now }
+{
+    somewhere(text, begins_space)
+}
+
+/// Whether the text has such a comma.
+fn has_next_url(text: &[u8]) -> bool
+    ensures { result ≡ somewhere begins_next_url text.now }
+{
+    somewhere(text, begins_next_url)
+}
+
+/// What is wrong with a URL or path, if anything is.
+fn url_flaw(alloc: Global, url: &[u8]) -> Result<Option<Flaw>, AllocError>
+    ensures { IfOk result (λ flaw. flaw ≡ url_flaw url.now) }
+{
+    if has(b'<', url) || has(b'>', url) {
+        Ok(Some(Flaw::Tag))
+    } else if has_space(url) {
+        Ok(Some(Flaw::Space))
+    } else if has_next_url(url) {
+        Ok(Some(Flaw::Comma))
+    } else if is_path_or_url(alloc, url)? {
+        Ok(None)
+    } else {
+        Ok(Some(Flaw::Url))
+    }
 }
 
 /// The URL or path of the line with this number, if the line is neither blank nor a comment.
@@ -32,11 +86,15 @@ fn url_in<'a>(alloc: Global, number: usize, line: &'a [u8]) -> Result<Line<&'a s
     if is_comment(line) {
         return Ok(Ok(None));
     }
-    match as_text(line) {
-        Some(url) if url.is_empty() => Ok(Ok(None)),
-        Some(url) if is_path_or_url(alloc, line)? => Ok(Ok(Some(url))),
-        Some(_) => Ok(Err((number, Flaw::Url))),
-        None => Ok(Err((number, Flaw::NotUtf8))),
+    let Some(url) = as_text(line) else {
+        return Ok(Err((number, Flaw::NotUtf8)));
+    };
+    if url.is_empty() {
+        return Ok(Ok(None));
+    }
+    match url_flaw(alloc, line)? {
+        Some(flaw) => Ok(Err((number, flaw))),
+        None => Ok(Ok(Some(url))),
     }
 }
 
@@ -95,8 +153,9 @@ fn urls_in<'a>(alloc: Global, name: &str, text: &'a [u8]) -> Result<Vec<&'a str>
 ///
 /// # Errors
 ///
-/// `Fault::Malformed` for all lines that aren't UTF-8, or neither a path nor an http(s) URL that can be parsed,
-/// `Fault::Empty` if there are no URLs in the text, and `Fault::Memory` if an allocation fails.
+/// `Fault::Malformed` for all lines that aren't UTF-8, are neither a path nor an http(s) URL that can be parsed, or have
+/// what URLs only have escaped, `Fault::Empty` if there are no URLs in the text, and `Fault::Memory` if an allocation
+/// fails.
 pub fn with_urls<'a>(
     alloc: Global,
     request: Request<'a>,
@@ -112,18 +171,17 @@ pub fn with_urls<'a>(
     Ok(extended)
 }
 
-/// What is wrong with an argument that is neither a path nor a URL.
-fn url_flaw(text: &str) -> Flaw
-    ensures { result ≡ url_flaw text.now }
+/// What is wrong with an argument, which may be the name of a crawler, if anything is.
+fn argument_flaw(alloc: Global, text: &str) -> Result<Option<Flaw>, AllocError>
+    ensures { IfOk result (λ flaw. flaw ≡ argument_flaw text.now) }
 {
     if is_crawler_name(text) {
-        Flaw::Name
-    } else {
-        Flaw::Url
+        return Ok(Some(Flaw::Name));
     }
+    url_flaw(alloc, text.as_bytes())
 }
 
-/// Fails with the first of these URLs that is neither a path nor an http(s) URL that can be parsed.
+/// Fails with the first of these arguments that is no URL or path, or has what URLs only have escaped.
 ///
 /// # Errors
 ///
@@ -133,8 +191,8 @@ pub fn are_paths_or_urls(alloc: Global, urls: &[&str]) -> Result<(), Fault>
     ensures fault { IfErr result (IsUrlFault (map (λ url. url.now) urls.now)) }
 {
     for url in urls {
-        if !is_path_or_url(alloc, url.as_bytes())? {
-            return Err(argument(alloc, url, url_flaw(url)));
+        if let Some(flaw) = argument_flaw(alloc, url)? {
+            return Err(argument(alloc, url, flaw));
         }
     }
     Ok(())

@@ -9,7 +9,7 @@ ghost use Rattle.audit_text.specs.Explain.{heading, indented, indented_byte, lis
 
 use crate::conditions::{Named, conditions, corrections, theorems};
 use audit_core::answer::{Answer, text_answer};
-use audit_core::fault::Fault;
+use audit_core::fault::{Fault, unknown};
 use printable_text::parts::{Part, Value, push_line_of};
 use robots_warnings::table::{Cause, causes, is_name};
 use std::alloc::{AllocError, Global};
@@ -203,7 +203,7 @@ pub fn explain(alloc: Global, name: &str) -> Result<Answer, Fault>
     ensures fault { IfErr result (IsUnexplained name.now) }
 {
     if !is_name(name) {
-        return Err(Fault::UnknownWarning(String::from_str(alloc, name)?));
+        return Err(unknown(alloc, name)?);
     }
     Ok(text_answer(alloc, explanation(alloc, name)?))
 }

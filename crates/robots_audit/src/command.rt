@@ -22,16 +22,22 @@ use std::alloc::{AllocError, Global};
 
 /// The end of the help.
 const AFTER_HELP: &str = "\
+With --expect, give only FILE; with --compare only FILE, URLs, --urls and --agent; with --list-warnings or
+--explain nothing else.
+
 Exit status, the first that applies:
-  2  after an error, or if the file is rejected for a crawler
+  2  if the program couldn't do its work, or the file is rejected for a crawler
   3  with --strict, if a warning at its level is reported: mend the file before you trust verdicts
   1  if a URL is denied, an expectation fails or something differs
-  0  otherwise
+  0  otherwise, also after a warning of level error, which needs --strict
 
 Examples:
   robots_audit robots.txt
   curl -s https://example.com/robots.txt | robots_audit --agent Googlebot - /search
-  robots_audit --compare old.txt robots.txt /search /products/tea";
+  robots_audit --denied --urls urls.txt robots.txt
+  robots_audit --compare old.txt robots.txt /search /products/tea
+  robots_audit --expect expect.txt robots.txt
+  robots_audit --strict=error robots.txt > /dev/null";
 
 /// The program's options and arguments.
 pub fn command<'a>(alloc: Global) -> Result<Command<'a>, AllocError> {
@@ -144,7 +150,7 @@ fn known(alloc: Global, names: &[&str]) -> Result<(), Fault>
 {
     for name in names {
         if !is_name(name) {
-            return Err(unknown(alloc, name));
+            return Err(unknown(alloc, name)?);
         }
     }
     Ok(())
@@ -189,7 +195,7 @@ fn has_totals(is_denied_only: bool, urls: Option<&str>) -> bool
 
 /// The request that the arguments contain, without the URLs in a file; `has_colors` is whether warnings have colors
 /// without `--color` or with `--color auto`. Fails if FILE is missing, if standard input would be read twice, if no
-/// crawler or no warning has a given name, if an argument is neither a URL nor a path, or if an allocation fails.
+/// crawler or no warning has a given name, if an argument is malformed, or if an allocation fails.
 pub fn requested<'a>(
     alloc: Global,
     matches: &ArgMatches<'a>,

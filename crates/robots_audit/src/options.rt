@@ -90,7 +90,7 @@ const PARAMETERS: &[Parameter] = &[
         short: Some('q'),
         long: Some("quiet"),
         value: Value::Absent,
-        help: "Don't list the lines of the file",
+        help: "Don't list the lines of the file, in text or JSON; all else is reported",
         excludes: &[],
     },
     Parameter {
@@ -130,7 +130,8 @@ const PARAMETERS: &[Parameter] = &[
         short: None,
         long: Some("strict"),
         value: Value::OneOfAfterEquals("LEVEL", &["error", "warning", "note"], "warning"),
-        help: "Exit with status 3 if there is a warning at this level (default: warning) or a more serious one",
+        help: "Exit with status 3 if there is a warning at this level (default: warning) or a more serious one; \
+            LEVEL needs the =",
         excludes: &[],
     },
     Parameter {

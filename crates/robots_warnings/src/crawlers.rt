@@ -237,7 +237,7 @@ fn most_edits(name: &str) -> usize
 }
 
 /// Whether the value begins with the letter that the name begins with, and is made of it by so many edits.
-fn is_near(alloc: Global, value: &[u8], name: &str) -> Result<bool, AllocError>
+pub fn is_near(alloc: Global, value: &[u8], name: &str) -> Result<bool, AllocError>
     ensures { IfOk result (λ answer. answer ≡ is_near value.now name.now) }
 {
     let (most, name) = (most_edits(name), name.as_bytes());

@@ -12,7 +12,7 @@ use crate::urls::{as_text, begins_as_url};
 use memchr::memchr;
 
 /// Whether the text contains the byte.
-pub(crate) fn has(byte: u8, text: &[u8]) -> bool
+pub fn has(byte: u8, text: &[u8]) -> bool
     ensures { result ≡ has byte text.now }
 {
     text.iter().any(|other| *other == byte)
