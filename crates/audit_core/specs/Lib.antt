@@ -7,6 +7,7 @@ pub mod Asked
 pub mod Audit
 pub mod Chosen
 pub mod Color
+pub mod Counts
 pub mod Syntax
 pub mod Needless
 pub mod Findings

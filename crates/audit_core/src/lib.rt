@@ -9,6 +9,7 @@ pub mod asked;
 pub mod audit;
 mod chosen;
 pub mod color;
+pub mod counts;
 pub mod crawler;
 pub mod fault;
 pub mod findings;
