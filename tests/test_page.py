@@ -15,6 +15,7 @@ SOURCE, STYLE = page_style.SOURCE.read_text(), page_style.STYLE.read_text()
 
 EXAMPLE = (ROOT / "examples/robots.txt").read_bytes()
 URLS = ["https://example.com/search/tea", "/drafts/tea", "/a?x=1&y=2"]
+VERSION = (ROOT / "VERSION").read_text().strip()
 FERRIS = ["--agent=FerrisBot", "-"]
 
 # What an HTML parser or a terminal could take for something else than text.
@@ -144,6 +145,7 @@ def rows_of(found):
     rows = []
     for line in found["lines"]:
         value = delay(line["value"]) if line["kind"] == "crawl-delay" else line["value"] or ""
+        value += f"  {line['comment']}" if line["comment"] else ""
         cells = [str(line["number"]), line["membership"], line["kind"], value]
         rows.append(({"id": f"L{line['number']}", "class": line["membership"]}, cells))
         rows += [({"class": it["level"]}, [words(it)]) for it in found["warnings"] if it["line"] == line["number"]]
@@ -155,33 +157,39 @@ SMALL = """<!DOCTYPE html><html lang="en"><head><meta charset="utf-8"/>
 <meta name="viewport" content="width=device-width, initial-scale=1"/>
 <style>{style}</style><title>robots.txt for Ferris</title></head>
 <body><main><h1>robots.txt for Ferris</h1>
-<dl><dt>Group</dt><dd>* (Ferris has no group of its own)</dd><dt>Crawl delay</dt><dd>none</dd>
+<dl><dt>File</dt><dd><code dir="ltr">robots.txt</code></dd>
+<dt>Date</dt><dd>27 &amp; 28 November</dd>
+<dt>Group</dt><dd>* (Ferris has no group of its own), <a href="#L1">line 1</a></dd>
+<dt>Rules</dt><dd>1</dd><dt>Crawl delay</dt><dd>none</dd><dt>May fetch</dt><dd class=""></dd>
 <dt>Sitemaps</dt><dd><ul></ul></dd>
-<dt>Warnings</dt><dd>1<ul><li><a href="#L2">line 2</a>: {warning}</li></ul></dd></dl>
+<dt>Warnings</dt><dd>1 error<ul><li><a href="#L2">line 2</a>: {warning}</li></ul></dd></dl>
 <h2>URLs</h2><table class="urls"><caption>May the crawler fetch it?</caption>
 <thead><tr><th scope="col">URL</th><th scope="col">Verdict</th></tr></thead>
 <tbody><tr><th scope="row"><code dir="ltr">/a&amp;b</code></th><td class="allowed">allowed, no line</td></tr></tbody></table>
 <h2>File</h2><table class="lines"><caption>Lines, and whether they are in the group of Ferris</caption>
 <thead><tr><th scope="col">Line</th><th scope="col">Group</th><th scope="col">Directive</th><th scope="col">Value</th></tr></thead>
 <tbody><tr id="L1" class="own"><th scope="row">1</th><td>own</td><td>user-agent</td><td>*</td></tr>
-<tr id="L2" class="own"><th scope="row">2</th><td>own</td><td>disallow</td><td>search</td></tr>
-<tr class="error"><td colspan="4">{warning}</td></tr></tbody></table></main></body></html>"""
+<tr id="L2" class="own"><th scope="row">2</th><td>own</td><td>disallow</td><td>search  # &lt;b&gt;</td></tr>
+<tr class="error"><td colspan="4">{warning}</td></tr></tbody></table><footer>robots_audit {version}</footer></main></body></html>"""
 
 
 def test_page_on_a_small_file():
     """Apart from the style, a page has no line ends."""
     warning = f"Error: {level_and_text('missing-slash')[1]} [missing-slash]"
-    wanted = SMALL.replace("\n", "").format(policy=constant("POLICY"), style=STYLE, warning=warning)
-    assert page("--agent=Ferris", "-", "/a&b", file=b"User-agent: *\nDisallow: search\n") == wanted
+    wanted = SMALL.replace("\n", "").format(policy=constant("POLICY"), style=STYLE, warning=warning, version=VERSION)
+    assert page("--agent=Ferris", "--date", "27 & 28 November", "-", "/a&b", file=b"User-agent: *\nDisallow: search # <b>\n") == wanted
 
 
 CRAWLERS = """
 <h2>Crawlers</h2><div class="scroll" tabindex="0"><table class="agents"><caption>What each crawler may fetch</caption>
-<thead><tr><th scope="col">Crawler</th><th scope="col">Group</th><th scope="col">Crawl delay</th>
+<thead><tr><th scope="col">Crawler</th><th scope="col">Group</th>
+<th scope="col">Rules</th><th scope="col">Crawl delay</th><th scope="col">May fetch</th>
 <th scope="col"><code dir="ltr">/b</code></th></tr></thead><tbody>
-<tr><th scope="row"><code dir="ltr">Long</code></th><td>Long; rejected: <a href="#L5">line 5</a></td><td>none</td></tr>
-<tr><th scope="row"><code dir="ltr">B</code></th><td>* (B has no group of its own)</td><td>2.5 s</td>
-<td class="denied">denied, <a href="#L2">line 2</a></td></tr></tbody></table></div><h2>File</h2>
+<tr><th scope="row"><code dir="ltr">Long</code></th><td>Long, <a href="#L4">line 4</a>; rejected: <a href="#L5">line 5</a></td>
+<td>1</td><td>none</td><td class=""></td></tr>
+<tr><th scope="row"><code dir="ltr">B</code></th><td>* (B has no group of its own), <a href="#L1">line 1</a></td>
+<td>1</td><td>2.5 s</td><td class=""></td>
+<td class="denied"><code dir="ltr">/b</code>denied, <a href="#L2">line 2</a></td></tr></tbody></table></div><h2>File</h2>
 """
 
 
@@ -222,11 +230,58 @@ def test_page_has_the_verdicts_of_the_json():
 
 def test_page_about_all_crawlers():
     elements, found = Reader(page("-", *URLS)).elements, audit("-", *URLS)
-    rows = [["Crawler", "Group", "Crawl delay", *URLS]]
+    rows = [["Crawler", "Group", "Rules", "Crawl delay", "May fetch", *URLS]]
     for it in found["agents"]:
-        rows.append([it["agent"], it["agent"], delay(it["delay"]), *map(verdict, it["verdicts"])])
+        verdicts = [one["url"] + verdict(one) for one in it["verdicts"]]
+        rows.append([it["agent"], f"{it['agent']}, line {it['group_line']}", str(it["rules"]), delay(it["delay"]), it["may_fetch"] or "", *verdicts])
+    assert [row[4] for row in rows] == ["May fetch", "", "nothing"]
     assert [cells for _, cells in children(elements, "tr")][: len(rows)] == rows
     assert [row for row in children(elements, "tr") if row[0]] == rows_of({**audit("--agent=*", "-"), "warnings": found["warnings"]})
+
+
+def entries_of(*args, **options):
+    """The entries of the summary."""
+    elements = Reader(page(*args, **options)).elements
+    return dict(zip(texts(elements, "dt"), texts(elements, "dd"), strict=True))
+
+
+FILES = {
+    b"": ("0", "everything"),
+    b"User-agent: *\nAllow: /a\nAllow: /b": ("2", "everything"),
+    b"User-agent: *\nDisallow: /": ("1", "nothing"),
+    b"User-agent: *\nDisallow: /a": ("1", ""),
+}
+
+
+@pytest.mark.parametrize("file", FILES)
+def test_page_says_what_a_crawler_may_fetch(file):
+    entries = entries_of("--agent=Ferris", "-", file=file)
+    assert (entries["Rules"], entries["May fetch"]) == FILES[file]
+    (row,) = [cells for _, cells in children(Reader(page("-", file=file)).elements, "tr") if cells[0] == "*"]
+    assert (row[2], row[4]) == FILES[file]
+
+
+def test_page_has_the_name_of_the_file_and_the_version(tmp_path):
+    (tmp_path / "a<b.txt").write_bytes(EXAMPLE)
+    ended = run("robots_audit", ["--html", "a<b.txt"], cwd=tmp_path)
+    elements = Reader(ended.out).elements
+    assert texts(elements, "dd")[0] == "a<b.txt" and texts(elements, "footer") == [f"robots_audit {VERSION}"]
+    assert entries_of("-")["File"] == "robots.txt"
+
+
+@pytest.mark.parametrize("date, text", [("2026-11-27", "2026-11-27"), ("", '""'), ("a\nb\x1b[31m\u202e", "a%0Ab%1B[31m%E2%80%AE")])
+def test_page_has_the_date(date, text):
+    assert entries_of("-", "--date", date)["Date"] == text
+    assert "Date" not in entries_of("-")
+
+
+def test_page_has_the_numbers_of_warnings():
+    """They are those of the last line of the text."""
+    for file in (EXAMPLE, b"User-agent: *\nDisallow: a\nDisallow: b\nhello\n", b"hello\n", b"User-agent: *\nDisallow: /a"):
+        listed = run("robots_audit", ["-"], file).err.splitlines()
+        numbers = listed[-1].removeprefix("robots.txt: ") if listed else ""
+        elements = Reader(page("-", file=file)).elements
+        assert entries_of("-", file=file)["Warnings"] == numbers + "".join(texts(elements, "li")[len(audit("-", file=file)["sitemaps"]) :])
 
 
 @pytest.mark.parametrize("agents", [["-"], FERRIS], ids=["all crawlers", "one crawler"])
@@ -313,7 +368,7 @@ def test_text_of_a_file_becomes_no_element(text):
 @pytest.mark.parametrize("text", [text.replace(b"\0", b"").decode() for text in HOSTILE if b"\xff" not in text])
 @pytest.mark.parametrize("args", [FERRIS, ["-"]], ids=["one crawler", "all crawlers"])
 def test_name_and_url_become_no_element(text, args):
-    pages = [page("--only", "host-line", *args, f"/{it}", file=f"User-agent: {it}\nDisallow: /\n".encode()) for it in (text, "harmless/1")]
+    pages = [page("--only", "host-line", f"--date={it}", *args, f"/{it}", file=f"User-agent: {it}\nDisallow: /\n".encode()) for it in (text, "harmless/1")]
     assert shape(Reader(pages[0]).elements) == shape(Reader(pages[1]).elements)
 
 
@@ -330,6 +385,11 @@ def browser(tmp_path_factory):
     opened.close()
 
 
+NAMES = ["*", "SlowBot", "GPTBot", "Long", "Google-Extended", "facebookexternalhit", "a" * 200, "B"]
+
+# the right end of the widest element
+RIGHT_END = "Math.max(...[...document.querySelectorAll('main *')].map(it => it.getBoundingClientRect().right))"
+
 PAGES = {
     "one crawler": ([*FERRIS, *URLS], EXAMPLE),
     "all crawlers": (["-", *URLS], EXAMPLE),
@@ -337,6 +397,7 @@ PAGES = {
     "several bodies": (FERRIS, b"User-agent: *\n" + b"Disallow: x\nx\n" * 500),
     "a rejected file": ([*FERRIS, "/"], b"User-agent: *\nDisallow: /" + b"a" * 4096 + b"$\n"),
     **{f"hostile text {at}": ([*FERRIS, "/&lt;i"], with_text(text)) for at, text in enumerate(HOSTILE)},
+    "many crawlers": ([*(f"--agent={name}" for name in NAMES), "-", *URLS, "/" + "a1-%20" * 80], EXAMPLE + b"User-agent: Long\nDisallow: /$" + b"a" * 4096),
     "hostile text of all crawlers": (["-", "/&lt;i"], b"".join(b"User-agent: " + text + b"\nDisallow: /\n" for text in HOSTILE)),
 }
 
@@ -353,6 +414,7 @@ def test_browser_reads_the_page(browser, tmp_path, name):
         assert browser.elements() == Reader(path.read_text()).elements
         assert browser.messages() == [] and browser.requests() == [path.as_uri()]
         assert browser.value("document.documentElement.scrollWidth") <= width
+        assert width > 640 or browser.value(RIGHT_END) <= width
         assert browser.value("getComputedStyle(document.querySelector('main')).maxWidth") == "1024px"
         assert browser.value("document.compatMode + document.characterSet") == "CSS1CompatUTF-8"
 

@@ -8,6 +8,7 @@ pub mod Audit
 pub mod Chosen
 pub mod Color
 pub mod Content
+pub mod Counts
 pub mod Syntax
 pub mod Needless
 pub mod Findings

@@ -10,6 +10,7 @@ pub mod audit;
 pub mod chosen;
 pub mod color;
 pub mod content;
+pub mod counts;
 pub mod crawler;
 pub mod fault;
 pub mod findings;

@@ -51,6 +51,8 @@ pub struct Request<'a> {
     pub is_quiet: bool,
     /// How the report is written.
     pub format: Format,
+    /// The date that a page has; `None` for none.
+    pub date: Option<&'a str>,
     /// Whether the levels of warnings on standard error have colors.
     pub has_colors: bool,
     /// A warning at this level, or at a more serious one, leads to exit status 3; `None` if no warning does.
@@ -75,7 +77,17 @@ pub struct Request<'a> {
 
 impl<'a> Request<'a> {
     ghost use Rattle.std.specs.Prelude.{◌≡◌};
-    ghost use Rattle.audit_core.specs.Request.{has_rows, requested_by};
+    ghost use Rattle.audit_core.specs.Request.{has_rows, requested_by, shown_name};
+
+    /// The name of the file in a report.
+    pub fn shown_name(&self) -> &'a str
+        ensures { result.now ≡ shown_name (requested_by self.now).file }
+    {
+        match self.file {
+            Some(name) => name,
+            None => "robots.txt",
+        }
+    }
 
     /// Whether the report has rows.
     pub fn has_rows(&self) -> bool

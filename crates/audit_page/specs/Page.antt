@@ -4,22 +4,26 @@
 -- The parts are `unfoldable`, so that a proof about a function that writes a part names the parts in it.
 use Rattle.std.specs.Prelude.{◌≡◌, ℕ, zero, suc, ◌+◌, ◌-◌, ◌/◌, ◌==◌, nat_lt, Bool, true, false, not, List}
 use Rattle.std.specs.Prelude.{[], ◌∷◌, ◌++◌, Option, Some, None, codes, drop, filter, if◌then◌else◌, length}
-use Rattle.std.specs.Prelude.{take}
+use Rattle.std.specs.Prelude.{take, zip}
 use Rattle.std.proofs.Common.{refl}
 use Rattle.std.proofs.lemmas.Bool.{and_parts}
-use Rattle.texting_robots.specs.Callers.{Label, LineValue, sitemaps_in}
+use Rattle.texting_robots.specs.Callers.{Label, LineValue, file_bodies, sitemaps_in}
 use Rattle.html_writer.specs.Html.{Html, tag_close}
 use Rattle.printable_text.specs.Sanitize.{ends_apart}
-use Rattle.printable_text.specs.Text.{Number, Untrusted, Value, Word, fixed_level, is_fixed, word}
+use Rattle.printable_text.specs.Text.{Fixed, Named, Nothing, Number, Untrusted, Value, Word, fixed_level}
+use Rattle.printable_text.specs.Text.{is_fixed, word}
 use Rattle.printable_text.specs.declared.level.Level.{Level}
 use Rattle.printable_text.specs.declared.level.Level.TheVariants.{Error, Note, Warning}
 use Rattle.robots_warnings.specs.Message.{reported_parts}
+use Rattle.robots_warnings.specs.declared.closed.Reach.{Reach}
 use Rattle.robots_warnings.specs.{File.lines_of, Table.level_of, WarningValue.WarningValue}
 use Rattle.robots_warnings.specs.declared.table.Cause.{Cause}
 use Rattle.audit_core.specs.Audit.{AgentValue, AuditValue, VerdictValue, labeling_agent}
-use Rattle.audit_core.specs.Rows.{kind_of, line_value, membership_value}
-use Rattle.audit_core.specs.Texts.{delay_value, group_end, group_reason, group_value}
-use Rattle.audit_core.specs.{Request.RequestValue, Syntax.has_standard_verdicts}
+use Rattle.audit_core.specs.Counts.{count_parts}
+use Rattle.audit_core.specs.Rows.{comment_of, kind_of, line_value, membership_value}
+use Rattle.audit_core.specs.Texts.{delay_value, group_end, group_reason, group_value, may_fetch}
+use Rattle.audit_core.specs.Request.{RequestValue, shown_name}
+use Rattle.audit_core.specs.{Syntax.has_standard_verdicts, declared.version.TheConstants.VERSION}
 use Rattle.audit_core.specs.Syntax.{is_standard, sentence}
 use Rattle.audit_core.specs.declared.syntax.{Syntax.Syntax, TheConstants.VERDICTS_SENTENCE}
 use Rattle.audit_core.specs.declared.syntax.Syntax.TheVariants.{Standard, StandardVerdicts, StandardWithoutWarnings}
@@ -83,16 +87,22 @@ abbrev pub deciding_line : Option ℕ → Tree
 deciding_line None = text (fixed (codes "no line") refl)
 deciding_line (Some number) = line_link number
 
+-- the URL, if the cell has it
+abbrev pub cell_name : (has_url : Bool) → List ℕ → Tree
+cell_name true url = code url
+cell_name false url = nothing
+
 -- a cell with a verdict and the line that decides
-unfoldable pub verdict_cell : VerdictValue → Tree
-verdict_cell verdict =
+unfoldable pub verdict_cell : (has_url : Bool) → VerdictValue → Tree
+verdict_cell has_url verdict =
     let name = shown (verdict_word verdict.decision.allowed) in
     tag (codes "td") (class name) refl
-    (text name ⊕ text (fixed (codes ", ") refl) ⊕ deciding_line verdict.decision.line)
+    (cell_name has_url verdict.url ⊕ text name ⊕ text (fixed (codes ", ") refl)
+    ⊕ deciding_line verdict.decision.line)
 
 -- a row with a URL and its verdict
 unfoldable pub url_row : VerdictValue → Tree
-url_row verdict = row (row_name (code verdict.url) ⊕ verdict_cell verdict)
+url_row verdict = row (row_name (code verdict.url) ⊕ verdict_cell false verdict)
 
 unfoldable pub url_head : Tree
 url_head =
@@ -120,25 +130,58 @@ abbrev pub rejection : Option ℕ → Tree
 rejection None = nothing
 rejection (Some line) = text (fixed REJECTED.now refl) ⊕ line_link line
 
--- the group that applies to a crawler, and whether the file is rejected for it
+-- the first line that names a group, if one does
+abbrev pub group_place : Option ℕ → Tree
+group_place None = nothing
+group_place (Some line) = text (fixed (codes ", ") refl) ⊕ line_link line
+
+-- the group that applies to a crawler, its line, and whether the file is rejected for the crawler
 unfoldable pub group_note : AgentValue → Tree
 group_note agent =
     text (message (group_value agent.agent agent.group)
     (group_reason agent.agent agent.group ∷ group_end agent.agent agent.group ∷ []))
-    ⊕ rejection agent.rejected
+    ⊕ group_place agent.group_line ⊕ rejection agent.rejected
+
+-- what a crawler may fetch, if that is everything or nothing
+abbrev pub fetch_value : Option Fixed → Value
+fetch_value None = Nothing
+fetch_value (Some word) = Word word
+
+abbrev pub fetch_words : (rejected : Option ℕ) → Reach → Words
+fetch_words rejected reach = shown (fetch_value (may_fetch rejected reach))
+
+unfoldable pub fetch_entry : (rejected : Option ℕ) → Reach → Tree
+fetch_entry rejected reach =
+    tag (codes "dt") [] refl (text (fixed (codes "May fetch") refl))
+    ⊕ tag (codes "dd") (class (fetch_words rejected reach)) refl (text (fetch_words rejected reach))
+
+-- how many rules apply to a crawler
+unfoldable pub rule_entry : ℕ → Tree
+rule_entry rules = entry (fixed (codes "Rules") refl) (text (shown (Number rules)))
 
 unfoldable pub delay_entry : Option ℕ → Tree
 delay_entry delay = entry (fixed (codes "Crawl delay") refl) (text (shown (delay_value delay)))
 
--- the group and the delay of a crawler
+-- what applies to a crawler
 unfoldable pub agent_entries : AgentValue → Tree
-agent_entries agent = entry (fixed (codes "Group") refl) (group_note agent) ⊕ delay_entry agent.delay
+agent_entries agent =
+    entry (fixed (codes "Group") refl) (group_note agent)
+    ⊕ rule_entry agent.rules ⊕ delay_entry agent.delay ⊕ fetch_entry agent.rejected agent.reach
+
+-- these in a row
+unfoldable pub fetch_cell : (rejected : Option ℕ) → Reach → Tree
+fetch_cell rejected reach =
+    tag (codes "td") (class (fetch_words rejected reach)) refl (text (fetch_words rejected reach))
+
+unfoldable pub fact_cells : (rules : ℕ) (delay : Option ℕ) → Tree
+fact_cells rules delay = cell (shown (Number rules)) ⊕ cell (shown (delay_value delay))
 
 -- a row about a crawler; without verdicts if the file is rejected for it
 unfoldable pub agent_row : AgentValue → Tree
 agent_row agent =
     row (row_name (code agent.agent) ⊕ tag (codes "td") [] refl (group_note agent)
-    ⊕ cell (shown (delay_value agent.delay)) ⊕ each verdict_cell agent.verdicts)
+    ⊕ fact_cells agent.rules agent.delay ⊕ fetch_cell agent.rejected agent.reach
+    ⊕ each (verdict_cell true) agent.verdicts)
 
 unfoldable pub url_column : List ℕ → Tree
 url_column url = column (code url)
@@ -147,7 +190,8 @@ url_column url = column (code url)
 unfoldable pub first_columns : Tree
 first_columns =
     column (text (fixed (codes "Crawler") refl)) ⊕ column (text (fixed (codes "Group") refl))
-    ⊕ column (text (fixed (codes "Crawl delay") refl))
+    ⊕ column (text (fixed (codes "Rules") refl)) ⊕ column (text (fixed (codes "Crawl delay") refl))
+    ⊕ column (text (fixed (codes "May fetch") refl))
 
 unfoldable pub agent_columns : List (List ℕ) → Tree
 agent_columns urls = columns (first_columns ⊕ each url_column urls)
@@ -237,10 +281,10 @@ some_rest count =
 abbrev pub rest_note : ℕ → Tree
 rest_note count = if count == 0 then nothing else some_rest count
 
--- the number of warnings, and the list
+-- the numbers of warnings, and the list
 unfoldable pub warning_list : (rows : ℕ) → List WarningValue → Tree
 warning_list rows warnings =
-    text (shown (Number (length warnings))) ⊕ tag (codes "ul") [] refl (warning_items rows warnings)
+    text (message Nothing (count_parts warnings)) ⊕ tag (codes "ul") [] refl (warning_items rows warnings)
     ⊕ rest_note (rest_count rows (later_warnings warnings))
 
 unfoldable pub warning_entry : (rows : ℕ) → List WarningValue → Tree
@@ -264,21 +308,35 @@ kind_value line =
     let both = and_parts (is_fixed kind.text) (ends_apart kind.text) kind.safe in
     Word (record { text = kind.text; safe = both.0 })
 
+-- a line, after its content
+abbrev pub FileLineValue : Type 0
+FileLineValue = List ℕ × Label
+
+-- the lines that were read
+abbrev pub file_lines : AuditValue → List FileLineValue
+file_lines audit = zip (file_bodies audit.bytes) audit.labels
+
 abbrev pub line_fields : Label → List Field
 line_fields label =
     field (codes "id") (labelled (codes "L") refl (Number label.number))
     ∷ class (shown (membership_value label.membership))
 
-unfoldable pub line_cells : Label → Tree
-line_cells label =
+abbrev pub comment_text : List ℕ → Tree
+comment_text comment =
+    if length comment == 0 then nothing else text (labelled (codes "  ") refl (Untrusted comment))
+
+-- whether the line is in the group, the name of its directive, and its value with a comment
+unfoldable pub line_cells : FileLineValue → Tree
+line_cells (body, label) =
     cell (shown (membership_value label.membership)) ⊕ cell (shown (kind_value label.line))
-    ⊕ cell (shown (line_value label.line))
+    ⊕ tag (codes "td") [] refl
+    (text (shown (line_value label.line)) ⊕ comment_text (comment_of label.line body))
 
 -- a row for a line, to which other parts link; each cell is displayed from left to right, as the page is
-unfoldable pub line_row : Label → Tree
-line_row label =
-    tag (codes "tr") (line_fields label) refl
-    (row_name (text (shown (Number label.number))) ⊕ line_cells label)
+unfoldable pub line_row : FileLineValue → Tree
+line_row line =
+    tag (codes "tr") (line_fields line.1) refl
+    (row_name (text (shown (Number line.1.number))) ⊕ line_cells line)
 
 -- the start tag of the row, and the number
 abbrev pub line_start : Label → List ℕ
@@ -305,24 +363,24 @@ abbrev pub about_line : List WarningValue → ℕ → List WarningValue
 about_line warnings number = filter (λ (warning : WarningValue). is_at number warning.line) warnings
 
 -- a line and the warnings about it; `about` are those about the line with a number
-unfoldable pub line_part : (about : ℕ → List WarningValue) → Label → Tree
-line_part about label = line_row label ⊕ each warning_row (about label.number)
+unfoldable pub line_part : (about : ℕ → List WarningValue) → FileLineValue → Tree
+line_part about line = line_row line ⊕ each warning_row (about line.1.number)
 
 -- how many lines a body of the table has; a browser lays out later what isn't visible yet
 abbrev pub body_lines : ℕ
 body_lines = 500
 
 -- so many bodies, one after the other
-abbrev pub bodies_of : ℕ → List Label → List (List Label)
-bodies_of zero labels = []
-bodies_of (suc more) labels = take body_lines labels ∷ bodies_of more (drop body_lines labels)
+abbrev pub bodies_of : ℕ → List FileLineValue → List (List FileLineValue)
+bodies_of zero lines = []
+bodies_of (suc more) lines = take body_lines lines ∷ bodies_of more (drop body_lines lines)
 
 -- the lines of each body; the last one may have fewer
-abbrev pub bodies : List Label → List (List Label)
-bodies labels = bodies_of ((length labels + (body_lines - 1)) / body_lines) labels
+abbrev pub bodies : List FileLineValue → List (List FileLineValue)
+bodies lines = bodies_of ((length lines + (body_lines - 1)) / body_lines) lines
 
-unfoldable pub line_body : (about : ℕ → List WarningValue) → List Label → Tree
-line_body about labels = tag (codes "tbody") [] refl (each (line_part about) labels)
+unfoldable pub line_body : (about : ℕ → List WarningValue) → List FileLineValue → Tree
+line_body about lines = tag (codes "tbody") [] refl (each (line_part about) lines)
 
 -- `agent` is the crawler whose group is marked
 unfoldable pub file_caption : List ℕ → Tree
@@ -337,7 +395,7 @@ line_columns =
 unfoldable pub file_content : Option (List ℕ) → AuditValue → Tree
 file_content agent audit =
     file_caption (labeling_agent agent) ⊕ line_columns
-    ⊕ each (line_body (about_line audit.warnings)) (bodies audit.labels)
+    ⊕ each (line_body (about_line audit.warnings)) (bodies (file_lines audit))
 
 -- the file with its warnings
 unfoldable pub file_table : Option (List ℕ) → AuditValue → Tree
@@ -391,22 +449,39 @@ syntax_entry syntax =
     ⊕ (if has_standard_verdicts syntax
     then entry (fixed VERDICTS.now refl) (text (fixed VERDICTS_SENTENCE.now refl)) else nothing)
 
+unfoldable pub file_entry : List ℕ → Tree
+file_entry name = entry (fixed (codes "File") refl) (code name)
+
+unfoldable pub some_date : List ℕ → Tree
+some_date date = entry (fixed (codes "Date") refl) (text (shown (Named date)))
+
+-- the date, if one is given
+abbrev pub date_entry : Option (List ℕ) → Tree
+date_entry None = nothing
+date_entry (Some date) = some_date date
+
 -- the summary at the top
-unfoldable pub summary : Option (List ℕ) → AuditValue → Tree
-summary agent audit =
+unfoldable pub summary : RequestValue → AuditValue → Tree
+summary requested audit =
     tag (codes "dl") [] refl
-    (crawler_entries agent audit.agents ⊕ sitemap_entry audit.labels ⊕ syntax_entry audit.syntax
-    ⊕ warning_entry (length audit.labels) audit.warnings)
+    (file_entry (shown_name requested.file) ⊕ date_entry requested.date
+    ⊕ crawler_entries requested.agent audit.agents ⊕ sitemap_entry audit.labels
+    ⊕ syntax_entry audit.syntax ⊕ warning_entry (length audit.labels) audit.warnings)
 
 -- the verdicts, as a table of URLs, or of crawlers and URLs
 abbrev pub verdict_part : Option (List ℕ) → List (List ℕ) → List AgentValue → Tree
 verdict_part None urls agents = heading (fixed CRAWLERS.now refl) ⊕ agent_table urls agents
 verdict_part (Some agent) urls agents = each url_part agents
 
+-- the version of the program
+unfoldable pub page_end : Tree
+page_end =
+    tag (codes "footer") [] refl (text (fixed (codes "robots_audit ") refl) ⊕ text (fixed VERSION.now refl))
+
 unfoldable pub page_content : RequestValue → AuditValue → Tree
 page_content requested audit =
-    page_heading requested.agent ⊕ summary requested.agent audit
-    ⊕ verdict_part requested.agent requested.urls audit.agents ⊕ file_table requested.agent audit
+    page_heading requested.agent ⊕ summary requested audit
+    ⊕ verdict_part requested.agent requested.urls audit.agents ⊕ file_table requested.agent audit ⊕ page_end
 
 -- the page on an audit
 unfoldable pub page_tree : RequestValue → AuditValue → Tree

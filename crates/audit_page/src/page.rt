@@ -5,7 +5,8 @@ ghost use Rattle.std.specs.Prelude.{◌≡◌, ◌++◌, IfOk, OnOk, length, map
 ghost use Rattle.texting_robots.specs.Callers.{label_by_value};
 ghost use Rattle.html_writer.specs.Html.{document};
 ghost use Rattle.audit_core.specs.Request.{requested_by};
-ghost use Rattle.audit_page.specs.Page.{page, page_content, page_head, page_tree, summary, syntax_entry};
+ghost use Rattle.audit_page.specs.Page.{date_entry, file_entry, page, page_content, page_head};
+ghost use Rattle.audit_page.specs.Page.{page_tree, summary, syntax_entry};
 ghost use Rattle.audit_page.specs.Tree.{written};
 
 mod by_line;
@@ -23,7 +24,7 @@ use audit_core::syntax::{Syntax, VERDICTS_SENTENCE};
 use file::{push_file_table, push_sitemap_entry};
 use html_writer::write::{push_doctype, push_element, push_end, push_start};
 use parts::{Page, push, push_start_with};
-use pieces::{head_start, page_heading, title};
+use pieces::{cell_name, head_start, page_end, page_heading, some_date, title};
 use std::alloc::{AllocError, Global};
 use style::VERDICTS;
 use texting_robots::labels::LabeledLine;
@@ -60,6 +61,28 @@ fn push_syntax_entry(page: &mut Page, syntax: Syntax) -> Result<(), AllocError>
     Ok(())
 }
 
+/// Appends the name of the file.
+#[tactic(auto, using(crate::proofs::TreeLemmas::joined), unfolding(crate::specs::Page::file_entry))]
+fn push_file_entry(page: &mut Page, name: &str) -> Result<(), AllocError>
+    ensures { OnOk result (page.new.out.items ≡ page.old.out.items ++ written (file_entry name.now)) }
+{
+    push_element(&mut page.out, "dt", b"File")?;
+    push_start(&mut page.out, "dd")?;
+    push(page, &cell_name(name.as_bytes()))?;
+    push_end(&mut page.out, "dd")
+}
+
+/// Appends the date, if one is given.
+fn push_date_entry(page: &mut Page, date: Option<&str>) -> Result<(), AllocError>
+    ensures { OnOk result (page.new.out.items ≡ page.old.out.items
+        ++ written (date_entry (option_map (λ date. date.now) date.entry))) }
+{
+    match date {
+        Some(date) => push(page, &some_date(date.as_bytes())),
+        None => Ok(()),
+    }
+}
+
 /// How many rows the table of lines has.
 fn row_count(labels: &[LabeledLine<'_>]) -> usize
     ensures { result ≡ length (map label_by_value labels.now) }
@@ -72,14 +95,16 @@ fn row_count(labels: &[LabeledLine<'_>]) -> usize
 fn push_summary(
     alloc: Global,
     page: &mut Page,
-    agent: Option<&str>,
+    request: &Request<'_>,
     audit: &Audit<'_>,
 ) -> Result<(), AllocError>
     ensures { OnOk result (page.new.out.items ≡ page.old.out.items
-        ++ written (summary (option_map (λ agent. agent.now) agent.entry) audit.now)) }
+        ++ written (summary (requested_by request.now) audit.now)) }
 {
     push_start(&mut page.out, "dl")?;
-    push_crawler_entries(page, agent, &audit.agents)?;
+    push_file_entry(page, request.shown_name())?;
+    push_date_entry(page, request.date)?;
+    push_crawler_entries(page, request.agent, &audit.agents)?;
     push_sitemap_entry(alloc, page, &audit.labels)?;
     push_syntax_entry(page, audit.syntax)?;
     push_warning_entry(alloc, page, row_count(&audit.labels), &audit.warnings)?;
@@ -98,9 +123,10 @@ fn push_content(
         ++ written (page_content (requested_by request.now) audit.now)) }
 {
     push(page, &page_heading(request.agent))?;
-    push_summary(alloc, page, request.agent, audit)?;
+    push_summary(alloc, page, request, audit)?;
     push_verdict_part(page, request.agent, &request.urls, &audit.agents)?;
-    push_file_table(alloc, page, request.agent, audit)
+    push_file_table(alloc, page, request.agent, audit)?;
+    push(page, &page_end())
 }
 
 /// Appends the page.

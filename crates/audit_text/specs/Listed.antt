@@ -2,7 +2,7 @@
 -- and level. For the others it has their number.
 use Rattle.std.specs.Prelude.{ℕ, ◌-◌, ◌==◌, ◌&&◌, Bool, List, [], bytes_eq, count_by, map}
 use Rattle.std.specs.Bool.{nat_lt}
-use Rattle.audit_text.specs.Counts.{rank}
+use Rattle.audit_core.specs.Counts.{rank}
 use Rattle.audit_text.specs.Joined.{joined, placed}
 use Rattle.audit_text.specs.declared.listed.More.{More}
 use Rattle.printable_text.specs.declared.level.Level.{Level}

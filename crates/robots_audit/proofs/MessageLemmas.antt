@@ -6,14 +6,14 @@ use Rattle.clap.specs.declared.parser.matches.ArgMatches.{ArgMatches}
 use Rattle.printable_text.specs.{Sanitize.IsPrintable, Color.IsColored, Color.IsForTerminal}
 use Rattle.printable_text.proofs.SanitizeLemmas.{nil_printable}
 use Rattle.printable_text.proofs.ColorLemmas.{colored_same, for_terminal, with_colors}
-use Rattle.audit_core.specs.Request.{RequestValue, requested_by}
+use Rattle.audit_core.specs.Request.{RequestValue, requested_by, shown_name}
 use Rattle.audit_core.specs.{Answer.IsText, Audit.AuditValue, Color.requested_colors}
 use Rattle.audit_core.specs.declared.answer.Answer.{Answer}
 use Rattle.audit_core.specs.declared.request.Format.{Format}
 use Rattle.audit_core.specs.declared.request.Format.TheVariants.{Text}
 use Rattle.audit_text.proofs.ReportLemmas.{listed_colored, listed_for_terminal}
 use Rattle.robots_audit.specs.Answer.{Answers, AnswersAudit, AnswersOptions, HasUrls, IsAsked, message}
-use Rattle.robots_audit.specs.Answer.{message_in, shown_name, without_colors}
+use Rattle.robots_audit.specs.Answer.{message_in, without_colors}
 use Rattle.robots_audit.specs.Command.{value_of}
 
 pub message_colored : (requested : RequestValue) (audit : AuditValue)

@@ -4,12 +4,12 @@ use Rattle.printable_text.specs.Sanitize.{IsPrintable}
 use Rattle.printable_text.proofs.PartLemmas.{written_printable}
 use Rattle.audit_core.specs.declared.request.Format.{Format}
 use Rattle.audit_core.specs.declared.request.Format.TheVariants.{Github, Html, Json, Sarif, Text}
-use Rattle.audit_core.specs.{Audit.AuditValue, Request.RequestValue, Request.has_rows}
+use Rattle.audit_core.specs.{Audit.AuditValue, Request.RequestValue, Request.has_rows, Request.shown_name}
 use Rattle.audit_text.proofs.GithubLemmas.{github_printable}
 use Rattle.audit_json.proofs.{JsonLemmas.json_printable, SarifLemmas.sarif_printable}
 use Rattle.audit_page.proofs.PageLemmas.{page_printable}
 use Rattle.audit_text.specs.Report.{report_lines}
-use Rattle.robots_audit.specs.Answer.{output, output_in, reported, shown_name, total_lines}
+use Rattle.robots_audit.specs.Answer.{output, output_in, reported, total_lines}
 
 output_in_printable : (format : Format) (requested : RequestValue) (audit : AuditValue)
     → IsPrintable (output_in format requested audit)

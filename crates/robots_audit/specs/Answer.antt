@@ -8,7 +8,7 @@ use Rattle.printable_text.specs.{Lines.ended, Level.reaches, Text.ReportLine, Te
 use Rattle.printable_text.specs.declared.level.Level.{Level}
 use Rattle.robots_warnings.specs.{Table.is_name, Table.level_of, WarningValue.WarningValue}
 use Rattle.audit_core.specs.Audit.{AuditValue, IsAuditOf, all_allowed, rejects_some, shown}
-use Rattle.audit_core.specs.Request.{RequestValue, has_rows, requested_by}
+use Rattle.audit_core.specs.Request.{RequestValue, has_rows, requested_by, shown_name}
 use Rattle.audit_core.specs.{Answer.IsText, Findings.findings}
 use Rattle.audit_core.specs.declared.answer.{Answer.Answer, Outcome.Outcome}
 use Rattle.audit_core.specs.declared.fault.Fault.{Fault}
@@ -24,11 +24,6 @@ use Rattle.audit_json.specs.{Json.json_text, Sarif.sarif_text}
 use Rattle.audit_page.specs.Page.{page}
 
 -- ---- the report and the warnings
-
--- the name of the file in a report, so that editors can open it
-abbrev pub shown_name : Option (List ℕ) → List ℕ
-shown_name None = codes "robots.txt"
-shown_name (Some name) = name
 
 -- the last line has the numbers of allowed and denied URLs, with `--urls` or `--denied`
 abbrev pub total_lines : (has_totals : Bool) → AuditValue → List ReportLine

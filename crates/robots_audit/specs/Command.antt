@@ -100,6 +100,7 @@ pub record IsRequestOf (by_default : Bool) (matches : ArgMatches) (request : Req
   pub file : option_map (λ name. name.now) request.file ≡ file_read (value_of matches (codes "file"))
   pub quiet : IsOn matches (codes "quiet") request.is_quiet
   pub format : IsFormatOf matches request.format
+  pub date : option_map (λ date. date.now) request.date ≡ value_of matches (codes "date")
   pub denied : IsOn matches (codes "denied") request.is_denied_only
   pub totals : request.has_totals ≡ (request.is_denied_only || is_some (value_of matches (codes "urls")))
   pub needless : IsOn matches (codes "needless") request.has_needless

@@ -214,6 +214,7 @@ pub fn requested<'a>(
             matches.get_flag("html"),
             matches.get_str("format"),
         ),
+        date: matches.get_str("date"),
         has_colors: requested_colors(matches.get_str("color"), has_colors),
         strict: strict_level(matches.get_str("strict")),
         agent: single(&agents),

@@ -11,6 +11,8 @@ enum Value {
     Absent,
     /// One text.
     Text(&'static str),
+    /// One text; the option needs this other one, which follows what the text is called.
+    TextWith(&'static str, &'static str),
     /// Any number of texts.
     Texts(&'static str),
     /// One text each time that the option is given.
@@ -40,7 +42,8 @@ const OF_QUERIES: &[&str] = &["url", "agent", "urls"];
 
 /// The options of an audit that are about warnings and the form of the report.
 const OF_REPORTS: &[&str] = &[
-    "denied", "quiet", "format", "json", "html", "color", "strict", "needless", "only", "ignore",
+    "denied", "quiet", "format", "json", "html", "date", "color", "strict", "needless", "only",
+    "ignore",
 ];
 
 /// The arguments in their order, and the options in that of the help.
@@ -115,6 +118,14 @@ const PARAMETERS: &[Parameter] = &[
         long: Some("html"),
         value: Value::Absent,
         help: "The same as --format html",
+        excludes: &[&["format", "json"]],
+    },
+    Parameter {
+        id: "date",
+        short: None,
+        long: Some("date"),
+        value: Value::TextWith("TEXT", "html"),
+        help: "With --html: write this date on the page",
         excludes: &[&["format", "json"]],
     },
     Parameter {
@@ -209,10 +220,11 @@ fn with_names<'a>(arg: Arg<'a>, short: Option<char>, long: Option<&'a str>) -> A
 }
 
 /// The option or argument with this value.
-fn with_value<'a>(arg: Arg<'a>, value: Value) -> Arg<'a> {
-    match value {
+fn with_value<'a>(arg: Arg<'a>, value: Value) -> Result<Arg<'a>, AllocError> {
+    Ok(match value {
         Value::Absent => arg.action(ArgAction::SetTrue),
         Value::Text(name) => arg.value_name(name),
+        Value::TextWith(name, other) => arg.value_name(name).requires_arg(other)?,
         Value::Texts(name) => arg.value_name(name).num_args(0..),
         Value::Repeated(name) => arg.value_name(name).action(ArgAction::Append),
         Value::OneOf(name, words) => arg.value_name(name).value_parser(ValueParser::Names(words)),
@@ -222,7 +234,7 @@ fn with_value<'a>(arg: Arg<'a>, value: Value) -> Arg<'a> {
             .num_args(0..=1)
             .require_equals(true)
             .default_missing_value(missing),
-    }
+    })
 }
 
 /// The option or argument, which excludes all of these.
@@ -237,7 +249,7 @@ impl Parameter {
     /// The option or argument for `clap`.
     fn arg<'a>(&self, alloc: Global) -> Result<Arg<'a>, AllocError> {
         let arg = Arg::new(alloc, self.id).help(self.help);
-        let arg = with_value(with_names(arg, self.short, self.long), self.value);
+        let arg = with_value(with_names(arg, self.short, self.long), self.value)?;
         excluding(arg, self.excludes)
     }
 }

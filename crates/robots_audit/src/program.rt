@@ -1,7 +1,7 @@
 //! The audit of a file and the report on it, without the command line, input and output.
-ghost use Rattle.std.specs.Prelude.{◌≡◌, IfErr, IfOk, Some, map, option_map, string_bytes};
+ghost use Rattle.std.specs.Prelude.{◌≡◌, IfErr, IfOk, Some, string_bytes};
 ghost use Rattle.robots_audit.specs.Answer.{IsAudited, IsFileUnreadable, has_all_urls};
-ghost use Rattle.robots_audit.specs.Answer.{is_warned, leaves_out_allowed, output, message, shown_name};
+ghost use Rattle.robots_audit.specs.Answer.{is_warned, leaves_out_allowed, output, message};
 ghost use Rattle.audit_core.specs.Request.{requested_by};
 
 use audit_core::answer::{Answer, Outcome};
@@ -41,16 +41,6 @@ fn is_warned(strict: Option<Level>, warnings: &[Warning<'_>]) -> bool
     }
 }
 
-/// The name of the file in a report.
-fn shown_name<'a>(file: Option<&'a str>) -> &'a str
-    ensures { result.now ≡ shown_name (option_map (λ name. name.now) file.entry) }
-{
-    match file {
-        Some(name) => name,
-        None => "robots.txt",
-    }
-}
-
 /// Whether reports in this format have all URLs, even with `--denied`.
 fn has_all_urls(format: Format) -> bool
     ensures { result ≡ has_all_urls format }
@@ -81,10 +71,8 @@ fn output(alloc: Global, request: &Request<'_>, audit: Audit<'_>) -> Result<Vec<
         }
         Format::Json => Ok(json_text(alloc, request.has_rows(), &reported)?.into_bytes()),
         Format::Html => page_text(alloc, request, &reported),
-        Format::Github => github_text(alloc, shown_name(request.file), &reported),
-        Format::Sarif => {
-            Ok(sarif_text(alloc, shown_name(request.file), &reported)?.into_bytes())
-        }
+        Format::Github => github_text(alloc, request.shown_name(), &reported),
+        Format::Sarif => { Ok(sarif_text(alloc, request.shown_name(), &reported)?.into_bytes()) }
     }
 }
 
@@ -96,7 +84,7 @@ fn message(alloc: Global, request: &Request<'_>, audit: &Audit<'_>) -> Result<St
         Format::Text => listed_lines(
             alloc,
             request.has_colors,
-            shown_name(request.file),
+            request.shown_name(),
             &audit.warnings,
         ),
         _ => Ok(String::new(alloc)),

@@ -1,10 +1,10 @@
 //! The file of a page, with its warnings, and its sitemaps.
 #![tactic(auto, using(crate::proofs::TreeLemmas::joined))]
 
-ghost use Rattle.std.specs.Prelude.{◌≡◌, ◌++◌, OnOk, map, option_map};
-ghost use Rattle.texting_robots.specs.Callers.{label_by_value};
-ghost use Rattle.audit_page.specs.Page.{about_line, bodies, file_content, file_table, line_body, line_part};
-ghost use Rattle.audit_page.specs.Page.{line_row, sitemap_entry, sitemap_item, sitemap_list, warning_row};
+ghost use Rattle.std.specs.Prelude.{◌≡◌, ◌++◌, IfOk, OnOk, map, option_map, zip};
+ghost use Rattle.texting_robots.specs.Callers.{file_bodies, label_by_value};
+ghost use Rattle.audit_page.specs.Page.{about_line, bodies, file_content, file_lines, file_table};
+ghost use Rattle.audit_page.specs.Page.{line_body, line_part, line_row, sitemap_entry, sitemap_item, sitemap_list, warning_row};
 ghost use Rattle.audit_page.specs.{Internal.list_at, Tree.all, Tree.written};
 
 use crate::page::by_line::by_line;
@@ -18,10 +18,29 @@ use audit_core::sitemaps::sitemaps_of;
 use html_writer::write::{push_element, push_end, push_start};
 use robots_warnings::warning::Warning;
 use std::alloc::{AllocError, Global};
+use std::marker::Model;
 use texting_robots::labels::LabeledLine;
+use texting_robots::parser::file_bodies;
 
 /// How many lines a body of the table has. A browser lays out later what isn't visible yet.
 const BODY_LINES: usize = 500;
+
+/// A line, with its content.
+#[derive(Drop)]
+pub(crate) struct FileLine<'a> {
+    pub(crate) body: &'a [u8],
+    pub(crate) label: &'a LabeledLine<'a>,
+}
+
+impl<'a> Model for FileLine<'a> {
+    ghost use Rattle.audit_page.specs.Page.{FileLineValue};
+
+    ghost Value = { FileLineValue };
+
+    ghost use Rattle.audit_page.specs.Internal.{line_of};
+
+    ghost view = { line_of };
+}
 
 /// Appends a sitemap.
 fn push_sitemap_item(page: &mut Page, value: &[u8]) -> Result<(), AllocError>
@@ -71,11 +90,11 @@ pub(crate) fn push_sitemap_entry(
 
 /// Appends the row of a line.
 #[tactic(auto, using(crate::proofs::TreeLemmas::joined), unfolding(crate::specs::Page::line_row))]
-fn push_line_row(page: &mut Page, label: &LabeledLine<'_>) -> Result<(), AllocError>
-    ensures { OnOk result (page.new.out.items ≡ page.old.out.items ++ written (line_row (label_by_value label.now))) }
+fn push_line_row(page: &mut Page, line: &FileLine<'_>) -> Result<(), AllocError>
+    ensures { OnOk result (page.new.out.items ≡ page.old.out.items ++ written (line_row line.now)) }
 {
-    push(page, &line_start(label))?;
-    push(page, &line_cells(label))
+    push(page, &line_start(line.label))?;
+    push(page, &line_cells(line))
 }
 
 /// Appends the rows of the warnings in the list with this index, if there is one.
@@ -98,26 +117,26 @@ fn push_listed_rows(
 fn push_line_part(
     page: &mut Page,
     lists: &[Vec<Warning<'_>>],
-    label: &LabeledLine<'_>,
+    line: &FileLine<'_>,
 ) -> Result<(), AllocError>
     ensures { OnOk result (page.new.out.items ≡ page.old.out.items
-        ++ written (line_part (list_at lists.now) (label_by_value label.now))) }
+        ++ written (line_part (list_at lists.now) line.now)) }
 {
-    push_line_row(page, label)?;
-    push_listed_rows(page, lists, label.number)
+    push_line_row(page, line)?;
+    push_listed_rows(page, lists, line.label.number)
 }
 
 /// Appends the rows of these lines, with those of the warnings in their lists.
 fn push_line_parts(
     page: &mut Page,
     lists: &[Vec<Warning<'_>>],
-    labels: &[LabeledLine<'_>],
+    lines: &[FileLine<'_>],
 ) -> Result<(), AllocError>
     ensures { OnOk result (page.new.out.items ≡ page.old.out.items
-        ++ all (line_part (list_at lists.now)) (map label_by_value labels.now)) }
+        ++ all (line_part (list_at lists.now)) lines.now) }
 {
-    for label in labels {
-        push_line_part(page, lists, label)?;
+    for line in lines {
+        push_line_part(page, lists, line)?;
     }
     Ok(())
 }
@@ -127,13 +146,13 @@ fn push_line_parts(
 fn push_line_body(
     page: &mut Page,
     lists: &[Vec<Warning<'_>>],
-    labels: &[LabeledLine<'_>],
+    lines: &[FileLine<'_>],
 ) -> Result<(), AllocError>
     ensures { OnOk result (page.new.out.items ≡ page.old.out.items
-        ++ written (line_body (list_at lists.now) (map label_by_value labels.now))) }
+        ++ written (line_body (list_at lists.now) lines.now)) }
 {
     push_start(&mut page.out, "tbody")?;
-    push_line_parts(page, lists, labels)?;
+    push_line_parts(page, lists, lines)?;
     push_end(&mut page.out, "tbody")
 }
 
@@ -141,12 +160,12 @@ fn push_line_body(
 fn push_listed_bodies(
     page: &mut Page,
     lists: &[Vec<Warning<'_>>],
-    labels: &[LabeledLine<'_>],
+    lines: &[FileLine<'_>],
 ) -> Result<(), AllocError>
     ensures { OnOk result (page.new.out.items ≡ page.old.out.items
-        ++ all (line_body (list_at lists.now)) (bodies (map label_by_value labels.now))) }
+        ++ all (line_body (list_at lists.now)) (bodies lines.now)) }
 {
-    let mut rest = labels;
+    let mut rest = lines;
     while !rest.is_empty() {
         push_line_body(page, lists, first(rest, BODY_LINES))?;
         rest = after(rest, BODY_LINES);
@@ -159,13 +178,34 @@ fn push_line_bodies(
     alloc: Global,
     page: &mut Page,
     warnings: &[Warning<'_>],
-    labels: &[LabeledLine<'_>],
+    lines: &[FileLine<'_>],
 ) -> Result<(), AllocError>
     ensures { OnOk result (page.new.out.items ≡ page.old.out.items
-        ++ all (line_body (about_line warnings.now)) (bodies (map label_by_value labels.now))) }
+        ++ all (line_body (about_line warnings.now)) (bodies lines.now)) }
 {
     let lists = by_line(alloc, warnings)?;
-    push_listed_bodies(page, &lists, labels)
+    push_listed_bodies(page, &lists, lines)
+}
+
+/// The lines of the file with these bytes. The labels are those of the lines.
+fn file_lines<'a>(
+    alloc: Global,
+    bytes: &'a [u8],
+    labels: &'a [LabeledLine<'a>],
+) -> Result<Vec<FileLine<'a>>, AllocError>
+    ensures { IfOk result (λ lines. lines.items
+        ≡ zip (file_bodies bytes.now) (map label_by_value labels.now)) }
+{
+    let mut lines = Vec::with_capacity(alloc, labels.len())?;
+    let mut rest = labels;
+    for body in file_bodies(bytes) {
+        let [label, after @ ..] = rest else {
+            return Ok(lines);
+        };
+        lines.push(FileLine { body, label })?;
+        rest = after;
+    }
+    Ok(lines)
 }
 
 /// Appends the content of the table of lines.
@@ -181,7 +221,8 @@ fn push_file_content(
 {
     push(page, &file_caption(labeling_agent(agent).as_bytes()))?;
     push(page, &line_columns())?;
-    push_line_bodies(alloc, page, &audit.warnings, &audit.labels)
+    let lines = file_lines(alloc, audit.bytes, &audit.labels)?;
+    push_line_bodies(alloc, page, &audit.warnings, &lines)
 }
 
 /// Appends the file with its warnings.

@@ -1,20 +1,28 @@
 //! Pieces of a page that are written at once: markup with values.
-#![tactic(auto, using(crate::proofs::TreeLemmas::joined), unfolding(html_writer::specs::Html::tag_open, html_writer::specs::Html::tag_close, html_writer::specs::Html::void_close, html_writer::specs::Html::end_tag, html_writer::specs::Html::style_bytes, html_writer::specs::Html::escaped_bytes, crate::specs::Tree::field_bytes, crate::specs::Page::agent_caption, crate::specs::Page::first_columns, crate::specs::Page::code, crate::specs::Page::delay_entry, crate::specs::Page::file_caption, crate::specs::Page::line_columns, crate::specs::Page::line_link, crate::specs::Page::line_cells, crate::specs::Page::head_start, crate::specs::Page::page_heading, crate::specs::Page::sitemap_item, crate::specs::Page::some_rest, crate::specs::Page::url_column, crate::specs::Page::url_head))]
+#![tactic(auto, using(crate::proofs::TreeLemmas::joined), unfolding(html_writer::specs::Html::tag_open, html_writer::specs::Html::tag_close, html_writer::specs::Html::void_close, html_writer::specs::Html::end_tag, html_writer::specs::Html::style_bytes, html_writer::specs::Html::escaped_bytes, crate::specs::Tree::field_bytes, crate::specs::Page::agent_caption, crate::specs::Page::first_columns, crate::specs::Page::code, crate::specs::Page::fact_cells, crate::specs::Page::delay_entry, crate::specs::Page::rule_entry, crate::specs::Page::fetch_cell, crate::specs::Page::fetch_entry, crate::specs::Page::file_caption, crate::specs::Page::line_columns, crate::specs::Page::line_link, crate::specs::Page::line_cells, crate::specs::Page::head_start, crate::specs::Page::page_end, crate::specs::Page::page_heading, crate::specs::Page::sitemap_item, crate::specs::Page::some_date, crate::specs::Page::some_rest, crate::specs::Page::url_column, crate::specs::Page::url_head))]
 
 ghost use Rattle.std.specs.Prelude.{◌≡◌, ◌++◌, codes, option_map};
 ghost use Rattle.texting_robots.specs.Callers.{label_by_value};
 ghost use Rattle.audit_core.specs.Rows.{line_value};
-ghost use Rattle.audit_core.specs.Texts.{delay_value};
+ghost use Rattle.printable_text.specs.{Raw.raw_value, Text.value_text};
+ghost use Rattle.audit_core.specs.Texts.{delay_value, may_fetch};
 ghost use Rattle.html_writer.specs.Html.{end_tag};
 ghost use Rattle.audit_page.specs.Internal.{raw_part, raw_parts};
-ghost use Rattle.audit_page.specs.Page.{agent_caption, first_columns, cell, code, delay_entry, file_caption, head_start, line_cells, line_columns, line_link, line_start};
-ghost use Rattle.audit_page.specs.Page.{page_heading, row_name, scroll_start, sitemap_item, some_rest, title_words, url_column, url_head};
-ghost use Rattle.audit_page.specs.Tree.{shown, words_written, written};
+ghost use Rattle.audit_page.specs.Page.{agent_caption, code, comment_text, delay_entry, fact_cells};
+ghost use Rattle.audit_page.specs.Page.{fetch_cell, fetch_entry, fetch_value, file_caption, first_columns};
+ghost use Rattle.audit_page.specs.Page.{head_start, rule_entry};
+ghost use Rattle.audit_page.specs.Page.{line_cells, line_columns, line_link, line_start, page_end};
+ghost use Rattle.audit_page.specs.Page.{page_heading, row_name, scroll_start, sitemap_item, some_date};
+ghost use Rattle.audit_page.specs.Page.{some_rest, title_words, url_column, url_head};
+ghost use Rattle.audit_page.specs.Tree.{words_written, written};
 
+use crate::page::file::FileLine;
 use crate::page::style::{CSS, POLICY};
-use audit_core::rows::{kind_text, line_value, membership_word};
-use audit_core::texts::delay_value;
+use audit_core::rows::{comment_of, kind_text, line_value, membership_word};
+use audit_core::texts::{delay_value, may_fetch};
+use audit_core::version::VERSION;
 use printable_text::parts::{Part, Value};
+use robots_warnings::closed::Reach;
 use texting_robots::labels::LabeledLine;
 
 /// The title of a page.
@@ -81,6 +89,16 @@ pub(crate) fn row_name<'a>(name: &'a [u8]) -> [Part<'a>; 2]
     ]
 }
 
+/// A URL before its verdict, or the name of the file.
+pub(crate) fn cell_name<'a>(url: &'a [u8]) -> [Part<'a>; 2]
+    ensures { raw_parts result ≡ written (code url.entry.now) }
+{
+    [
+        Part("<code dir=\"ltr\">", Value::Untrusted(url)),
+        Part("</code>", Value::Nothing),
+    ]
+}
+
 /// The head of the table of URLs.
 pub(crate) fn url_head() -> [Part<'static>; 2]
     ensures { raw_parts result ≡ written url_head }
@@ -121,7 +139,7 @@ pub(crate) fn agent_caption() -> [Part<'static>; 1]
 }
 
 /// The first columns of the table of crawlers.
-pub(crate) fn first_columns() -> [Part<'static>; 2]
+pub(crate) fn first_columns() -> [Part<'static>; 3]
     ensures { raw_parts result ≡ written first_columns }
 {
     [
@@ -129,7 +147,11 @@ pub(crate) fn first_columns() -> [Part<'static>; 2]
             "<th scope=\"col\">Crawler</th><th scope=\"col\">Group</th>",
             Value::Nothing,
         ),
-        Part("<th scope=\"col\">Crawl delay</th>", Value::Nothing),
+        Part(
+            "<th scope=\"col\">Rules</th><th scope=\"col\">Crawl delay</th>",
+            Value::Nothing,
+        ),
+        Part("<th scope=\"col\">May fetch</th>", Value::Nothing),
     ]
 }
 
@@ -140,7 +162,51 @@ pub(crate) fn scroll_start() -> [Part<'static>; 1]
     [Part("<div class=\"scroll\" tabindex=\"0\">", Value::Nothing)]
 }
 
-/// The delay of a crawler in the summary.
+/// What a crawler may fetch, if that is everything or nothing.
+fn fetch_value(rejected: Option<usize>, reach: Reach) -> Value<'static>
+    ensures { raw_value result ≡ value_text (fetch_value (may_fetch rejected reach)) }
+{
+    match may_fetch(rejected, reach) {
+        Some(word) => Value::Word(word),
+        None => Value::Nothing,
+    }
+}
+
+/// The same in the summary.
+pub(crate) fn fetch_entry(rejected: Option<usize>, reach: Reach) -> [Part<'static>; 3]
+    ensures { raw_parts result ≡ written (fetch_entry rejected reach) }
+{
+    let fetch = fetch_value(rejected, reach);
+    [
+        Part("<dt>May fetch</dt><dd class=\"", fetch),
+        Part("\">", fetch),
+        Part("</dd>", Value::Nothing),
+    ]
+}
+
+/// The same in a row.
+pub(crate) fn fetch_cell(rejected: Option<usize>, reach: Reach) -> [Part<'static>; 3]
+    ensures { raw_parts result ≡ written (fetch_cell rejected reach) }
+{
+    let fetch = fetch_value(rejected, reach);
+    [
+        Part("<td class=\"", fetch),
+        Part("\">", fetch),
+        Part("</td>", Value::Nothing),
+    ]
+}
+
+/// How many rules apply to a crawler, in the summary.
+pub(crate) fn rule_entry(rules: usize) -> [Part<'static>; 2]
+    ensures { raw_parts result ≡ written (rule_entry rules) }
+{
+    [
+        Part("<dt>Rules</dt><dd>", Value::Number(rules)),
+        Part("</dd>", Value::Nothing),
+    ]
+}
+
+/// Its delay in the summary.
 pub(crate) fn delay_entry(delay: Option<u64>) -> [Part<'static>; 2]
     ensures { raw_parts result ≡ written (delay_entry delay) }
 {
@@ -150,13 +216,34 @@ pub(crate) fn delay_entry(delay: Option<u64>) -> [Part<'static>; 2]
     ]
 }
 
-/// The delay of a crawler in a table.
-pub(crate) fn delay_cell(delay: Option<u64>) -> [Part<'static>; 2]
-    ensures { raw_parts result ≡ written (cell (shown (delay_value delay))) }
+/// Both in a row.
+pub(crate) fn fact_cells(rules: usize, delay: Option<u64>) -> [Part<'static>; 3]
+    ensures { raw_parts result ≡ written (fact_cells rules delay) }
 {
     [
-        Part("<td>", delay_value(delay)),
+        Part("<td>", Value::Number(rules)),
+        Part("</td><td>", delay_value(delay)),
         Part("</td>", Value::Nothing),
+    ]
+}
+
+/// The date in the summary.
+pub(crate) fn some_date<'a>(date: &'a [u8]) -> [Part<'a>; 2]
+    ensures { raw_parts result ≡ written (some_date date.entry.now) }
+{
+    [
+        Part("<dt>Date</dt><dd>", Value::Named(date)),
+        Part("</dd>", Value::Nothing),
+    ]
+}
+
+/// The version of the program, at the end of a page.
+pub(crate) fn page_end() -> [Part<'static>; 2]
+    ensures { raw_parts result ≡ written page_end }
+{
+    [
+        Part("<footer>robots_audit ", Value::Word(VERSION)),
+        Part("</footer>", Value::Nothing),
     ]
 }
 
@@ -224,14 +311,27 @@ pub(crate) fn line_start(label: &LabeledLine<'_>) -> [Part<'static>; 4]
     ]
 }
 
-/// The cells of a line, and the end of its row.
-pub(crate) fn line_cells<'a>(label: &LabeledLine<'a>) -> [Part<'a>; 4]
-    ensures { raw_parts result ≡ written (line_cells (label_by_value label.now)) ++ end_tag (codes "tr") }
+/// A comment in the row of its line, if there is one.
+fn comment_part<'a>(comment: &'a [u8]) -> Part<'a>
+    ensures { raw_part result ≡ written (comment_text comment.entry.now) }
 {
+    if comment.is_empty() {
+        Part("", Value::Nothing)
+    } else {
+        Part("  ", Value::Untrusted(comment))
+    }
+}
+
+/// The cells of a line, and the end of its row.
+pub(crate) fn line_cells<'a>(line: &FileLine<'a>) -> [Part<'a>; 5]
+    ensures { raw_parts result ≡ written (line_cells line.now) ++ end_tag (codes "tr") }
+{
+    let label = line.label;
     [
         Part("<td>", Value::Word(membership_word(label.membership))),
         Part("</td><td>", Value::Word(kind_text(label.line))),
         Part("</td><td>", line_value(label.line)),
+        comment_part(comment_of(label.line, line.body)),
         Part("</td></tr>", Value::Nothing),
     ]
 }

@@ -23,10 +23,12 @@ h2 { font-size: 1.15rem; margin: 2rem 0 .5rem }
 h1, dd, td, th, li, p, caption { overflow-wrap: anywhere }
 a { color: var(--link) }
 code, .lines td:nth-child(4) { font: .9em/1.5 ui-monospace, monospace; white-space: pre-wrap }
-code, .lines td:nth-child(4) { word-break: break-all }
+.urls code, .agents td code, .agents thead code { word-break: break-all }
 dl { margin: 0; display: grid; grid-template-columns: max-content minmax(0, 1fr); gap: .35rem 1rem }
 dt { color: var(--dim) }
 dd, p { margin: 0 }
+dt:has(+ dd:empty), dd:empty { display: none }
+footer { color: var(--dim); font-size: .875rem; margin-top: 1.5rem }
 ul { margin: 0; padding-left: 1.1rem }
 ul:empty { padding: 0 }
 ul:empty::before { content: 'none' }
@@ -48,16 +50,23 @@ tbody th { font-weight: 400 }
 .lines tr { grid-template-columns: 4.75rem 6.5rem 7rem minmax(0, 1fr) }
 .lines th { color: var(--dim) }
 .lines tbody th { text-align: right; padding-right: .9rem; white-space: nowrap }
-.agents tr { display: flex; width: max-content; min-width: 100% }
+.agents { width: max-content; min-width: 100%; line-height: 1.5rem }
+.agents code { line-height: inherit }
+.agents tr { display: flex; border: 0 }
+.agents tr, .agents tr > :first-child { box-shadow: inset 0 -1px var(--line) }
 .agents th, .agents td { flex: 0 0 10rem }
+.agents tr > :nth-child(3) { flex-basis: 4.5rem }
+.agents tr > :nth-child(4), .agents tr > :nth-child(5) { flex-basis: 8rem }
+.agents thead code { display: block; max-height: 9rem; overflow-y: auto }
+.agents td code { display: none }
 .agents tr > :first-child { position: sticky; left: 0; background: var(--bg) }
 .agents tr > :first-child { border-right: 1px solid var(--line) }
 .agents thead tr > :first-child { background: var(--head) }
 .scroll { overflow-x: auto; border: 1px solid var(--line) }
 .scroll caption { padding: .4rem .5rem; position: sticky; left: 0; width: max-content; max-width: 100% }
 
-.allowed { color: var(--yes); font-weight: 600 }
-.denied { color: var(--no); font-weight: 600 }
+.allowed, .everything { color: var(--yes); font-weight: 600 }
+.denied, .nothing { color: var(--no); font-weight: 600 }
 td a { font-weight: 400 }
 .own { box-shadow: inset 4px 0 var(--link) }
 .other td, .ungrouped td { color: var(--dim) }
@@ -78,7 +87,24 @@ tr:target { background: var(--hit) }
   .lines tr > :nth-child(4) { grid-column: 2 / -1; padding-top: 0 }
   .lines td:nth-child(4):empty { display: none }
   .lines tbody th { padding-right: .5rem }
-  .agents th, .agents td { flex-basis: 7.5rem }
+}
+
+/* A crawler with what applies to it, and the verdicts below its name. */
+@media (max-width: 40rem), print {
+  .scroll { overflow: visible }
+  .agents thead { display: none }
+  .agents { width: auto; line-height: inherit }
+  .agents tr, .agents th, .agents td { display: block; padding: .1rem .5rem }
+  .agents tr { padding: .4rem 0 .5rem; border-bottom: 1px solid var(--line); box-shadow: none }
+  .agents tr > :first-child { position: static; border: 0; box-shadow: none }
+  .agents th code { font-weight: 600 }
+  .agents td:nth-child(2)::before { content: 'Group: ' }
+  .agents td:nth-child(3)::before { content: 'Rules: ' }
+  .agents td:nth-child(4)::before { content: 'Crawl delay: ' }
+  .agents td:nth-child(5)::before { content: 'May fetch: ' }
+  .agents td:nth-child(-n+5)::before { color: var(--dim); font-weight: 400 }
+  .agents td:empty { display: none }
+  .agents td code { display: inline; margin-right: .5rem; color: var(--fg); font-weight: 400 }
 }
 @media print {
   :root {
@@ -90,16 +116,14 @@ tr:target { background: var(--hit) }
   .lines tbody, .urls tbody tr, .agents tbody tr { content-visibility: visible }
   tr, p { break-inside: avoid }
   h2, caption { break-after: avoid }
-  .scroll { overflow: visible; border: 0 }
-  .agents tr { width: auto; flex-wrap: wrap }
-  .agents tr > :first-child { position: static; border: 0 }
+  .scroll { border: 0 }
   a { text-decoration: none }
 }
 ";
 
 /// The policy of a page, which permits its own style only, by the SHA-256 hash that a test computes again.
 pub(crate) const POLICY: &str = "default-src 'none'; \
-    style-src 'sha256-yN+WmBgc/jHSLuGfzx19HAWifLwj+6ta5WHKSD/06xY='; \
+    style-src 'sha256-Tn+YEkj+8i/Lm5ww9lcCo1YWE6yKCtgpBKwQYoT6XOs='; \
     base-uri 'none'; form-action 'none'";
 
 // Texts of a page. A longer text that is appended alone has a name, since the prover's search is limited in depth.

@@ -1,15 +1,17 @@
 //! The verdicts of a page, and what else applies to its crawlers.
 #![tactic(auto, using(crate::proofs::TreeLemmas::joined))]
 
-ghost use Rattle.std.specs.Prelude.{◌≡◌, ◌++◌, OnOk, map, option_map};
-ghost use Rattle.audit_page.specs.Page.{agent_columns, agent_content, agent_entries, agent_row, agent_table, crawler_entries, deciding_line};
-ghost use Rattle.audit_page.specs.Page.{group_note, rejection, url_body, url_column, url_part, url_row, url_table, verdict_cell, verdict_part};
+ghost use Rattle.std.specs.Prelude.{◌≡◌, ◌++◌, OnOk, map, option_map, true};
+ghost use Rattle.audit_page.specs.Page.{agent_columns, agent_content, agent_entries, agent_row, agent_table};
+ghost use Rattle.audit_page.specs.Page.{cell_name, crawler_entries, deciding_line, group_note, group_place};
+ghost use Rattle.audit_page.specs.Page.{rejection, url_body, url_column, url_part, url_row, url_table};
+ghost use Rattle.audit_page.specs.Page.{verdict_cell, verdict_part};
 ghost use Rattle.audit_page.specs.Tree.{all, written};
 
 use crate::page::parts::{Page, push, push_start_with};
 use crate::page::pieces::{
-    agent_caption, delay_cell, delay_entry, first_columns, line_link, row_name, scroll_start,
-    url_column, url_head,
+    agent_caption, cell_name, delay_entry, fact_cells, fetch_cell, fetch_entry, first_columns,
+    line_link, row_name, rule_entry, scroll_start, url_column, url_head,
 };
 use crate::page::style::{CRAWLERS, REJECTED};
 use audit_core::audit::{AgentAudit, Verdict};
@@ -27,11 +29,25 @@ fn push_deciding_line(page: &mut Page, line: Option<usize>) -> Result<(), AllocE
     }
 }
 
+/// Appends the URL, if the cell has it.
+fn push_cell_name(page: &mut Page, has_url: bool, url: &str) -> Result<(), AllocError>
+    ensures { OnOk result (page.new.out.items ≡ page.old.out.items ++ written (cell_name has_url url.now)) }
+{
+    if has_url {
+        return push(page, &cell_name(url.as_bytes()));
+    }
+    Ok(())
+}
+
 /// Appends a cell with a verdict and the line that decides.
 #[tactic(auto, using(crate::proofs::TreeLemmas::joined), unfolding(crate::specs::Page::verdict_cell))]
-fn push_verdict_cell(page: &mut Page, verdict: &Verdict<'_>) -> Result<(), AllocError>
+fn push_verdict_cell(
+    page: &mut Page,
+    has_url: bool,
+    verdict: &Verdict<'_>,
+) -> Result<(), AllocError>
     ensures { OnOk result (page.new.out.items ≡ page.old.out.items
-        ++ written (verdict_cell verdict.now)) }
+        ++ written (verdict_cell has_url verdict.now)) }
 {
     let name = if verdict.decision.allowed {
         "allowed"
@@ -39,19 +55,20 @@ fn push_verdict_cell(page: &mut Page, verdict: &Verdict<'_>) -> Result<(), Alloc
         "denied"
     };
     push_start_with(page, "td", "class", name)?;
+    push_cell_name(page, has_url, verdict.url)?;
     push_text(&mut page.out, name.as_bytes())?;
     push_text(&mut page.out, b", ")?;
     push_deciding_line(page, verdict.decision.line)?;
     push_end(&mut page.out, "td")
 }
 
-/// Appends a cell for each verdict.
+/// Appends a cell for each verdict, with its URL.
 fn push_verdict_cells(page: &mut Page, verdicts: &[Verdict<'_>]) -> Result<(), AllocError>
     ensures { OnOk result (page.new.out.items ≡ page.old.out.items
-        ++ all verdict_cell verdicts.now) }
+        ++ all (verdict_cell true) verdicts.now) }
 {
     for verdict in verdicts {
-        push_verdict_cell(page, verdict)?;
+        push_verdict_cell(page, true, verdict)?;
     }
     Ok(())
 }
@@ -64,7 +81,7 @@ fn push_url_rows(page: &mut Page, verdicts: &[Verdict<'_>]) -> Result<(), AllocE
     for verdict in verdicts {
         push_start(&mut page.out, "tr")?;
         push(page, &row_name(verdict.url.as_bytes()))?;
-        push_verdict_cell(page, verdict)?;
+        push_verdict_cell(page, false, verdict)?;
         push_end(&mut page.out, "tr")?;
     }
     Ok(())
@@ -125,7 +142,18 @@ fn push_rejection(page: &mut Page, rejected: Option<usize>) -> Result<(), AllocE
     push(page, &line_link(line))
 }
 
-/// Appends the group that applies to a crawler, and whether the file is rejected for it.
+/// Appends the first line that names a group, if one does.
+fn push_group_place(page: &mut Page, line: Option<usize>) -> Result<(), AllocError>
+    ensures { OnOk result (page.new.out.items ≡ page.old.out.items ++ written (group_place line)) }
+{
+    let Some(line) = line else {
+        return Ok(());
+    };
+    push_text(&mut page.out, b", ")?;
+    push(page, &line_link(line))
+}
+
+/// Appends the group that applies to a crawler, its line, and whether the file is rejected for the crawler.
 #[tactic(auto, using(crate::proofs::TreeLemmas::joined), unfolding(crate::specs::Page::group_note))]
 fn push_group_note(page: &mut Page, agent: &AgentAudit<'_>) -> Result<(), AllocError>
     ensures { OnOk result (page.new.out.items ≡ page.old.out.items ++ written (group_note agent.now)) }
@@ -133,20 +161,30 @@ fn push_group_note(page: &mut Page, agent: &AgentAudit<'_>) -> Result<(), AllocE
     page.text.clear();
     push_group_text(&mut page.text, agent.agent, agent.group)?;
     push_text(&mut page.out, page.text.as_bytes())?;
+    push_group_place(page, agent.group_line)?;
     push_rejection(page, agent.rejected)
 }
 
-/// Appends the group and the delay of each crawler.
+/// Appends what applies to a crawler.
 #[tactic(auto, using(crate::proofs::TreeLemmas::joined), unfolding(crate::specs::Page::agent_entries))]
+fn push_agent_entry(page: &mut Page, agent: &AgentAudit<'_>) -> Result<(), AllocError>
+    ensures { OnOk result (page.new.out.items ≡ page.old.out.items ++ written (agent_entries agent.now)) }
+{
+    push_element(&mut page.out, "dt", b"Group")?;
+    push_start(&mut page.out, "dd")?;
+    push_group_note(page, agent)?;
+    push_end(&mut page.out, "dd")?;
+    push(page, &rule_entry(agent.rules))?;
+    push(page, &delay_entry(agent.delay))?;
+    push(page, &fetch_entry(agent.rejected, agent.reach))
+}
+
+/// Appends what applies to each crawler.
 fn push_agent_entries(page: &mut Page, agents: &[AgentAudit<'_>]) -> Result<(), AllocError>
     ensures { OnOk result (page.new.out.items ≡ page.old.out.items ++ all agent_entries agents.now) }
 {
     for agent in agents {
-        push_element(&mut page.out, "dt", b"Group")?;
-        push_start(&mut page.out, "dd")?;
-        push_group_note(page, agent)?;
-        push_end(&mut page.out, "dd")?;
-        push(page, &delay_entry(agent.delay))?;
+        push_agent_entry(page, agent)?;
     }
     Ok(())
 }
@@ -161,7 +199,8 @@ fn push_agent_row(page: &mut Page, agent: &AgentAudit<'_>) -> Result<(), AllocEr
     push_start(&mut page.out, "td")?;
     push_group_note(page, agent)?;
     push_end(&mut page.out, "td")?;
-    push(page, &delay_cell(agent.delay))?;
+    push(page, &fact_cells(agent.rules, agent.delay))?;
+    push(page, &fetch_cell(agent.rejected, agent.reach))?;
     push_verdict_cells(page, &agent.verdicts)?;
     push_end(&mut page.out, "tr")
 }

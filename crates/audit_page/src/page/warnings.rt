@@ -2,17 +2,19 @@
 #![tactic(auto, using(crate::proofs::TreeLemmas::joined))]
 
 ghost use Rattle.std.specs.Prelude.{◌≡◌, ◌++◌, IfOk, IsTrue, OnOk};
-ghost use Rattle.printable_text.specs.Text.{value_text};
+ghost use Rattle.printable_text.specs.Text.{Nothing, value_text};
+ghost use Rattle.audit_core.specs.Counts.{count_parts};
 ghost use Rattle.audit_page.specs.Page.{level_front, line_name, later_warnings, of_cause, rest_count, rest_note, warning_entry, warning_item};
 ghost use Rattle.audit_page.specs.Page.{warning_list, warning_place, warning_row, warning_words, without_row};
-ghost use Rattle.audit_page.specs.Tree.{all, words_written, written};
+ghost use Rattle.audit_page.specs.Tree.{all, message, words_written, written};
 
 use crate::page::parts::{KnownRow, Page, push, push_start_with};
 use crate::page::pieces::{line_link, some_rest};
 use crate::page::slices::{after, first};
+use audit_core::counts::count_parts;
 use html_writer::write::{push_element, push_end, push_start, push_text};
 use printable_text::level::Level;
-use printable_text::parts::{Part, Value};
+use printable_text::parts::{Part, Value, push_parts};
 use robots_warnings::table::Cause;
 use robots_warnings::warning::{Warning, push_reported};
 use std::alloc::{AllocError, Global};
@@ -127,7 +129,18 @@ fn rest_count(rows: usize, warnings: &[Warning<'_>], others: &[Warning<'_>]) -> 
     warnings.len().saturating_sub(others.len())
 }
 
-/// Appends the number of warnings, and the list.
+/// Appends how many warnings there are of each level.
+fn push_counts(page: &mut Page, warnings: &[Warning<'_>]) -> Result<(), AllocError>
+    ensures { OnOk result (page.new.out.items ≡ page.old.out.items
+        ++ words_written (message Nothing (count_parts warnings.now))) }
+{
+    let nothing = Part("", Value::Nothing);
+    page.text.clear();
+    push_parts(&mut page.text, &count_parts(nothing, nothing, warnings))?;
+    push_text(&mut page.out, page.text.as_bytes())
+}
+
+/// Appends the numbers of warnings, and the list.
 #[tactic(auto, using(crate::proofs::TreeLemmas::joined), unfolding(crate::specs::Page::warning_list))]
 fn push_warning_list(
     page: &mut Page,
@@ -139,7 +152,7 @@ fn push_warning_list(
     ensures { OnOk result (page.new.out.items ≡ page.old.out.items
         ++ written (warning_list rows warnings.now)) }
 {
-    push(page, &[Part("", Value::Number(warnings.len()))])?;
+    push_counts(page, warnings)?;
     push_start(&mut page.out, "ul")?;
     push_warning_items(page, rows, first(warnings, LISTED_WARNINGS))?;
     push_warning_items(page, rows, others)?;
