@@ -1,15 +1,16 @@
 -- Rules that leave nothing, or nearly nothing, of a site to a crawler.
 use Rattle.std.proofs.Common.{◌≡◌, ℕ, ◌+◌, ◌==◌, Bool, false, true, List, [], ◌∷◌, ap, arith, inl, inr, refl}
-use Rattle.std.proofs.Common.{suc, sym, ◌∙◌, ◌&&◌, ◌||◌, nat_le, nat_lt, not, ◌++◌, ◌<◌, Bor, append_assoc}
+use Rattle.std.proofs.Common.{subst, suc, sym, ◌∙◌, ◌&&◌, ◌||◌, nat_le, nat_lt, not, ◌++◌, ◌<◌, Bor, append_assoc}
 use Rattle.std.proofs.Common.{Option, cond, drop, filter, if◌then◌else◌, length, map, slice_index_or}
 use Rattle.std.proofs.lemmas.List.{drop_more, Elements.filter_map-append, Folds.list_any-append}
-use Rattle.std.proofs.lemmas.Bool.{and_parts, cases_Bool, false≢true, ne_eqb}
+use Rattle.std.proofs.lemmas.Bool.{and_parts, cases_Bool, eqb-true, false≢true, ne_eqb, or_cases}
 use Rattle.std.proofs.lemmas.Bool.Decides.{nat_tests}
 use Rattle.std.specs.{List.filter_map, List.list_all, List.list_any, Str.byte}
 use Rattle.texting_robots.specs.Callers.{LineValue, PlacedRule, escaped, sitemaps_in}
 use Rattle.texting_robots.specs.{Escape.is_escaped, Executable.sitemap_in}
 use Rattle.robots_warnings.specs.Closed.{closes, is_anything, is_closing, is_rival, is_star_or_dollar}
-use Rattle.robots_warnings.specs.Closed.{is_literally, is_number, is_whole_site, opened_path}
+use Rattle.robots_warnings.specs.Closed.{is_literally, is_number, is_root, is_whole_site, opened_path}
+use Rattle.robots_warnings.specs.Closed.{without_stars}
 use Rattle.robots_warnings.specs.Internal.Rules.{IsNeeded}
 
 -- ---- escaped patterns
@@ -44,12 +45,26 @@ none_escaped (b ∷ value) = elim (cases_Bool (is_escaped b)) [
   | inr good ↦ rw good (some_bytes _ ∙ sym (some_bytes (length value)))
 ]
 
-pub whole_site_escaped : (value : List ℕ) → is_whole_site (escaped value) ≡ is_whole_site value
-whole_site_escaped [] = refl
-whole_site_escaped (b ∷ value) = elim (cases_Bool (is_escaped b)) [
-  | inl bad ↦ rw (bad, differs b (byte "/") refl bad, differs b (byte "*") refl bad) refl
-  | inr good ↦ rw (good, none_escaped value, anything_escaped value, stars_escaped value) refl
+root_escaped : (value : List ℕ) → is_root (escaped value) ≡ is_root value
+root_escaped [] = refl
+root_escaped (b ∷ value) = elim (cases_Bool (is_escaped b)) [
+  | inl bad ↦ rw (bad, differs b (byte "/") refl bad) refl
+  | inr good ↦ rw (good, none_escaped value, anything_escaped value) refl
 ]
+
+stars_left_out : (value : List ℕ) → without_stars (escaped value) ≡ escaped (without_stars value)
+stars_left_out [] = refl
+stars_left_out (b ∷ value) = elim (cases_Bool (is_escaped b)) [
+  | inl bad ↦ rw (differs b (byte "*") refl bad, bad) refl
+  | inr good ↦ elim (cases_Bool (b == byte "*")) [
+    | inl star ↦ rw (good, star) (stars_left_out value)
+    | inr other ↦ rw (good, other) (rw good refl)
+  ]
+]
+
+pub whole_site_escaped : (value : List ℕ) → is_whole_site (escaped value) ≡ is_whole_site value
+whole_site_escaped value =
+    rw (anything_escaped value, stars_left_out value, root_escaped (without_stars value)) refl
 
 -- a pattern of the whole site has no escaped byte
 stars_stay : (pattern : List ℕ) → list_all is_star_or_dollar pattern ≡ true → escaped pattern ≡ pattern
@@ -64,10 +79,39 @@ stars_stay (b ∷ pattern) stars =
       | inr good ↦ rw (good, stars_stay pattern later) refl
     ]
 
+anything_stays : (pattern : List ℕ) → is_anything pattern ≡ true → escaped pattern ≡ pattern
+anything_stays [] is = refl
+anything_stays (b ∷ pattern) is =
+    let (first, stars) = and_parts (b == byte "*") _ is in
+    stars_stay (b ∷ pattern) (rw first stars)
+
+rest_stays : (pattern : List ℕ) → (length pattern == 0 || is_anything pattern) ≡ true
+    → escaped pattern ≡ pattern
+rest_stays [] rest = refl
+rest_stays (b ∷ pattern) rest = anything_stays (b ∷ pattern) (rw (some_bytes (length pattern)) at rest)
+
+root_stays : (pattern : List ℕ) → is_root pattern ≡ true → escaped pattern ≡ pattern
+root_stays [] root = refl
+root_stays (b ∷ pattern) root =
+    let (is, rest) = and_parts (b == byte "/") _ root in
+    subst (λ b. escaped (b ∷ pattern) ≡ b ∷ pattern) (sym (eqb-true b (byte "/") is))
+    (ap (λ rest. byte "/" ∷ rest) (rest_stays pattern rest))
+
+stars_stay_before : (pattern : List ℕ) → escaped (without_stars pattern) ≡ without_stars pattern
+    → escaped pattern ≡ pattern
+stars_stay_before [] rest = refl
+stars_stay_before (b ∷ pattern) rest = elim (cases_Bool (b == byte "*")) [
+  | inl star ↦
+      subst (λ b. escaped (b ∷ pattern) ≡ b ∷ pattern) (sym (eqb-true b (byte "*") star))
+      (ap (λ rest. byte "*" ∷ rest) (stars_stay_before pattern (rw star at rest)))
+  | inr other ↦ rw other at rest
+]
+
 pub whole_site_stays : (pattern : List ℕ) → is_whole_site pattern ≡ true → escaped pattern ≡ pattern
-whole_site_stays [] whole = refl
-whole_site_stays (b ∷ []) whole = grind (arith, nat_tests)
-whole_site_stays (b ∷ (c ∷ pattern)) whole = grind (arith, nat_tests, stars_stay)
+whole_site_stays pattern whole = elim (or_cases (is_anything pattern) _ whole) [
+  | inl any ↦ anything_stays pattern any
+  | inr root ↦ stars_stay_before pattern (root_stays (without_stars pattern) root)
+]
 
 -- ---- sitemaps
 

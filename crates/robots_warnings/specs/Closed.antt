@@ -4,7 +4,7 @@ use Rattle.std.specs.Prelude.{bytes_eq, codes, filter, if◌then◌else◌, is_s
 use Rattle.std.specs.{List.list_all, List.filter_map, List.list_any, Str.byte, Str.str_eq_ignore_ascii_case}
 use Rattle.texting_robots.specs.Callers.{LineValue, PlacedRule, is_named, placed_rules, prepared, robots_file}
 use Rattle.texting_robots.specs.Callers.{sitemaps_in}
-use Rattle.robots_warnings.specs.Conflicts.{first_line}
+use Rattle.robots_warnings.specs.{Conflicts.first_line, Crawlers.other_group}
 use Rattle.robots_warnings.specs.declared.closed.TheConstants.{SEARCH_ENGINES}
 use Rattle.robots_warnings.specs.declared.closed.Reach.{Reach}
 use Rattle.robots_warnings.specs.declared.closed.Reach.TheVariants.{Everything, Nothing, Part}
@@ -19,11 +19,18 @@ abbrev pub is_anything : List ℕ → Bool
 is_anything [] = false
 is_anything (b ∷ pattern) = b == byte "*" && list_all is_star_or_dollar pattern
 
--- `/`, or such a pattern, possibly after `/`: it matches every text that starts with a slash
+-- `/`, or such a pattern after `/`
+abbrev pub is_root : List ℕ → Bool
+is_root [] = false
+is_root (b ∷ pattern) = b == byte "/" && (length pattern == 0 || is_anything pattern)
+
+abbrev pub without_stars : List ℕ → List ℕ
+without_stars [] = []
+without_stars (b ∷ pattern) = if b == byte "*" then without_stars pattern else b ∷ pattern
+
+-- such a pattern, possibly after stars: it matches every text that starts with a slash
 abbrev pub is_whole_site : List ℕ → Bool
-is_whole_site [] = false
-is_whole_site (b ∷ pattern) =
-    (b == byte "/" && (length pattern == 0 || is_anything pattern)) || is_anything (b ∷ pattern)
+is_whole_site pattern = is_anything pattern || is_root (without_stars pattern)
 
 -- ---- a crawler
 
@@ -48,13 +55,17 @@ closing_line is_exempt rules = first_line (closes is_exempt rules) rules
 abbrev pub is_allow : PlacedRule → Bool
 is_allow placed = placed.rule.1
 
--- what a crawler may fetch. `Everything` is only said if each of its rules is an Allow, and `Nothing` if a
--- rule closes the site and no Allow is exempt; `Part` says nothing
-abbrev pub reach_of : List LineValue → List ℕ → Reach
-reach_of lines agent =
-    let rules = placed_rules agent lines in
+-- what a crawler may fetch by these rules. `Everything` is only said if each of them is an Allow, and
+-- `Nothing` if one closes the site and no Allow is exempt; `Part` says nothing
+abbrev pub reach_by : List PlacedRule → Reach
+reach_by rules =
     if list_all is_allow rules then Everything
     else if is_some (closing_line (λ pattern. false) rules) then Nothing else Part
+
+-- nothing is said of a crawler to which its vendor applies another group
+abbrev pub reach_of : List LineValue → List ℕ → Reach
+reach_of lines agent =
+    if is_some (other_group lines agent) then Part else reach_by (placed_rules agent lines)
 
 -- ---- what may stay open
 

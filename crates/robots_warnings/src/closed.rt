@@ -4,11 +4,12 @@ ghost use Rattle.std.specs.Prelude.{is_some, length, map, nat_lt, option_map, sl
 ghost use Rattle.std.specs.{HashSet.contains_text, List.filter_map, List.list_all, List.list_any, Str.str_eq_ignore_ascii_case};
 ghost use Rattle.texting_robots.specs.Callers.{PlacedRule, by_value, file_lines, label_by_value, placed_rules, sitemaps_in};
 ghost use Rattle.robots_warnings.specs.Closed.{closed_at, closes, closing_line, is_allow, is_anything, is_closing};
-ghost use Rattle.robots_warnings.specs.Closed.{is_literally, is_major, is_number, is_rival, is_star_or_dollar};
-ghost use Rattle.robots_warnings.specs.Closed.{is_whole_site, line_closing, opened_path, reach_of};
+ghost use Rattle.robots_warnings.specs.Closed.{is_literally, is_major, is_number, is_rival, is_root, is_star_or_dollar};
+ghost use Rattle.robots_warnings.specs.Closed.{is_whole_site, line_closing, opened_path, reach_of, without_stars};
 ghost use Rattle.robots_warnings.specs.Internal.{Adds, Rules.HasExempt, Rules.IsNeeded, Rules.agents_at};
 ghost use Rattle.robots_warnings.specs.Warnings.{closing_warnings, others, site_warnings};
 
+use crate::crawlers::other_group;
 use crate::table::Cause;
 use crate::targets::prepared;
 use crate::urls::as_text;
@@ -67,14 +68,33 @@ fn is_anything(value: &[u8]) -> bool
     }
 }
 
-/// Whether the value is `/`, or a star and then only stars and `$`, possibly after `/`.
-pub(crate) fn is_whole_site(value: &[u8]) -> bool
-    ensures { result ≡ is_whole_site value.now }
+/// Whether the value is `/`, possibly before a star and then only stars and `$`.
+fn is_root(value: &[u8]) -> bool
+    ensures { result ≡ is_root value.now }
 {
     match value {
         [b'/', rest @ ..] => rest.is_empty() || is_anything(rest),
-        _ => is_anything(value),
+        _ => false,
     }
+}
+
+/// The value without leading stars.
+fn without_stars<'a>(value: &'a [u8]) -> &'a [u8]
+    ensures { result.now ≡ without_stars value.now }
+{
+    let mut rest = value;
+    while let [b'*', after @ ..] = rest {
+        rest = after;
+    }
+    rest
+}
+
+/// Whether the value matches every path: it is `/`, or a star and then only stars and `$`, or both, possibly after
+/// stars.
+pub(crate) fn is_whole_site(value: &[u8]) -> bool
+    ensures { result ≡ is_whole_site value.now }
+{
+    is_anything(value) || is_root(without_stars(value))
 }
 
 /// Whether the rule is a Disallow of the whole site.
@@ -164,10 +184,13 @@ fn is_shut(alloc: Global, site: &Site, agent: &str) -> Result<bool, AllocError>
     Ok(closing_line(alloc, &none, site, agent)?.is_some())
 }
 
-/// What the crawler may fetch.
+/// What the crawler may fetch. It is `Part` if its vendor applies another group.
 pub fn reach_of(alloc: Global, site: &Site, agent: &str) -> Result<Reach, AllocError>
     ensures { IfOk result (λ reach. reach ≡ reach_of (file_lines site.now) agent.now) }
 {
+    if other_group(site, agent).is_some() {
+        return Ok(Reach::Part);
+    }
     if is_open(site, agent) {
         return Ok(Reach::Everything);
     }

@@ -25,10 +25,11 @@ use texting_robots::site::Site;
 /// group.
 pub(crate) type Crawler = (&'static str, &'static str);
 
-/// The known crawlers. Above each block is where its vendor, or those of its crawlers, say so.
+/// The known crawlers. Above each block is where its vendor, or those of its crawlers, say so; where none says which
+/// group it applies, the standard does.
 #[rattlefmt::skip]
 static CRAWLERS: [(&str, &str); 108] = [
-    // all that have no group of their own
+    // RFC 9309, 2.2.1: all that have no group of their own
     ("*", "*"),
     // https://developers.google.com/search/docs/crawling-indexing/google-common-crawlers
     ("Googlebot", "*"), ("Googlebot-Image", "Googlebot"), ("Googlebot-News", "Googlebot"),
@@ -56,7 +57,7 @@ static CRAWLERS: [(&str, &str); 108] = [
     // https://webmaster.petalsearch.com/site/petalbot
     ("Slurp", "*"), ("SeznamBot", "*"), ("Qwantbot", "*"), ("Qwantify", "*"), ("MojeekBot", "*"),
     ("PetalBot", "*"),
-    // other search engines
+    // RFC 9309, 2.2.1: other search engines
     ("Yeti", "*"), ("360Spider", "*"), ("YisouSpider", "*"), ("coccocbot-web", "*"), ("Exabot", "*"),
     // https://platform.openai.com/docs/bots
     ("GPTBot", "*"), ("ChatGPT-User", "*"), ("OAI-SearchBot", "*"),
@@ -72,7 +73,7 @@ static CRAWLERS: [(&str, &str); 108] = [
     // https://docs.mistral.ai/robots, https://webz.io/bot.html, https://imagesift.com/about
     ("Amazonbot", "*"), ("CCBot", "*"), ("AI2Bot", "*"), ("MistralAI-User", "*"), ("omgili", "*"),
     ("omgilibot", "*"), ("ImagesiftBot", "*"),
-    // other crawlers for language models
+    // RFC 9309, 2.2.1: other crawlers for language models
     ("Bytespider", "*"), ("TikTokSpider", "*"), ("cohere-ai", "*"), ("Diffbot", "*"), ("YouBot", "*"),
     ("Timpibot", "*"), ("img2dataset", "*"), ("ICC-Crawler", "*"),
     // https://ahrefs.com/robot, https://www.semrush.com/bot/, https://mj12bot.com,
@@ -83,10 +84,10 @@ static CRAWLERS: [(&str, &str); 108] = [
     ("serpstatbot", "*"), ("SEOkicks", "*"), ("BLEXBot", "*"),
     // https://help.pinterest.com/en/business/article/pinterest-crawler, https://api.slack.com/robots
     ("Pinterest", "*"), ("Pinterestbot", "*"), ("Slackbot", "*"),
-    // other previews of links
+    // RFC 9309, 2.2.1: other previews of links
     ("Twitterbot", "*"), ("LinkedInBot", "*"), ("Discordbot", "*"), ("TelegramBot", "*"), ("WhatsApp", "*"),
     ("redditbot", "*"),
-    // archives, and crawlers for other purposes
+    // RFC 9309, 2.2.1: archives, and crawlers for other purposes
     ("ia_archiver", "*"), ("archive.org_bot", "*"), ("heritrix", "*"), ("TurnitinBot", "*"),
     ("proximic", "*"), ("GrapeshotCrawler", "*"), ("Nutch", "*"), ("Scrapy", "*"),
 ];

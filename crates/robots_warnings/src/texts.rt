@@ -34,7 +34,7 @@ pub(crate) static MESSAGES: [(Cause, &str); 85] = [
     (Cause::HostName,
         "Host isn't supported here and is ignored; redirect the other host names to this one"),
     (Cause::HostLine,
-        "Host isn't supported here and is ignored, and there is no host name or URL in the line; delete it"),
+        "Host isn't supported here and is ignored, and the line has no plain host name; delete it"),
     (Cause::RequestRateLine,
         "Request-rate isn't supported here and is ignored; use Crawl-delay with the seconds between requests, for example: Crawl-delay: 10"),
     (Cause::VisitTimeLine,
@@ -134,7 +134,7 @@ pub(crate) static MESSAGES: [(Cause, &str); 85] = [
     (Cause::SitemapNotAbsolute,
         "the sitemap isn't a valid URL that starts with http:// or https://; write, for example, https://example.com/sitemap.xml"),
     (Cause::SitemapHost,
-        "the sitemap is at no public host (there is none, an IP address, localhost, undefined or null), so search engines can't fetch it; write the site's own, for example: https://example.com/sitemap.xml"),
+        "the sitemap is at no public host (there is none, an IP address, localhost, undefined or null), so search engines may not fetch it; write the site's own, for example: https://example.com/sitemap.xml"),
     (Cause::SitemapDenied,
         "a rule for * denies this sitemap, if it is on the host of this file, so crawlers may not read it; allow it by a longer Allow, or correct the rule"),
     // any line

@@ -13,7 +13,7 @@ use Rattle.robots_warnings.specs.Closed.{closes, closing_line, is_allow, is_exem
 use Rattle.robots_warnings.specs.Closed.{is_star_or_dollar, line_closing, opened_paths, reach_of}
 use Rattle.robots_warnings.specs.declared.closed.Reach.{Reach}
 use Rattle.robots_warnings.specs.declared.closed.Reach.TheVariants.{Everything, Nothing, Part}
-use Rattle.robots_warnings.specs.Conflicts.{line_if}
+use Rattle.robots_warnings.specs.{Conflicts.line_if, Crawlers.other_group}
 use Rattle.texting_robots.proofs.{HeldLemmas.computed_are, BestLemmas.placed_of}
 use Rattle.texting_robots.proofs.PatternLemmas.{in_front, plain_wildcards}
 use Rattle.robots_needless.proofs.TogetherLemmas.{unplaced_of}
@@ -144,6 +144,16 @@ nothing_if false false is = is
 abbrev is_shut : List ℕ → List LineValue → Bool
 is_shut agent lines = is_some (closing_line (λ pattern. false) (placed_rules agent lines))
 
+-- what is said of a crawler is said by its rules
+everything_by : (other : Bool) (reach : Reach) → (if other then Part else reach) ≡ Everything
+    → reach ≡ Everything
+everything_by true reach is = absurd (false≢true (ap is_everything is))
+everything_by false reach is = is
+
+nothing_by : (other : Bool) (reach : Reach) → (if other then Part else reach) ≡ Nothing → reach ≡ Nothing
+nothing_by true reach is = absurd (false≢true (ap is_nothing is))
+nothing_by false reach is = is
+
 pub fetches_everything : (agent : List ℕ) (lines : List LineValue) (rules : List PlacedRule) (text : List ℕ)
     → reach_of lines agent ≡ Everything → AreRulesFor agent lines rules → ¬ IsDenied (unplaced rules) text
 fetches_everything agent lines rules text is are (differs, pattern, has, matches, longest) =
@@ -153,7 +163,7 @@ fetches_everything agent lines rules text is are (differs, pattern, has, matches
     let isnt = list_all_at is_allow all k denies below
     (ap is_allow at ∙ ap (λ (rule : Rule). rule.1) same) in
     false≢true (sym isnt ∙ sym (everything_if (list_all is_allow all) (is_shut agent lines))
-    ∙ ap is_everything is)
+    ∙ ap is_everything (everything_by (is_some (other_group lines agent)) _ is))
 
 pub fetches_nothing : (agent : List ℕ) (lines : List LineValue) (rules : List PlacedRule) (text : List ℕ)
     → reach_of lines agent ≡ Nothing → AreRulesFor agent lines rules → byte "/" ∷ text ≢ robots_file
@@ -161,5 +171,6 @@ pub fetches_nothing : (agent : List ℕ) (lines : List LineValue) (rules : List 
 fetches_nothing agent lines rules text is are differs =
     let all = list_all is_allow (placed_rules agent lines) in
     closed_denies (λ pattern. false) agent lines rules text
-    (nothing_if all (is_shut agent lines) (ap is_nothing is)) are differs
+    (nothing_if all (is_shut agent lines)
+    (ap is_nothing (nothing_by (is_some (other_group lines agent)) _ is))) are differs
     (λ pattern exempt. absurd (false≢true exempt))

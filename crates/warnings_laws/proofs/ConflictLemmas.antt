@@ -1,7 +1,7 @@
 -- What `hash-cuts-rule` and `allowed-and-disallowed` imply; and about first lines, which others have, too.
 use Rattle.std.proofs.lemmas.Grind.{common_steps}
 use Rattle.std.proofs.Common.{rules, Some, bytes_eq, codes, if◌then◌else◌, ◌∙◌}
-use Rattle.std.proofs.lemmas.Bool.{and_parts, not-true}
+use Rattle.std.proofs.lemmas.Bool.{and_parts, cases_Bool, not-true}
 use Rattle.std.proofs.Common.{◌≡◌, ℕ, ◌==◌, ◌&&◌, ◌||◌, Bool, true, false, List, [], ◌∷◌, Contains}
 use Rattle.std.proofs.Common.{append-nil, ap, arith, inl, inr, length, not, refl, subst, suc, sym, ◌⊎◌, Any}
 use Rattle.std.proofs.Common.{None, Option}
@@ -11,7 +11,8 @@ use Rattle.std.proofs.lemmas.List.Folds.{list_any-from_Any}
 use Rattle.texting_robots.specs.Callers.{AreRulesFor, LineValue, Matches, PlacedRule, Rule, escaped}
 use Rattle.texting_robots.specs.Callers.{placed_rules, HoldsRule, IsDecidingLine}
 use Rattle.texting_robots.specs.Pattern.{MatchesWith}
-use Rattle.robots_warnings.specs.Closed.{is_anything, is_star_or_dollar, is_whole_site}
+use Rattle.robots_warnings.specs.Closed.{is_anything, is_root, is_star_or_dollar, is_whole_site}
+use Rattle.robots_warnings.specs.Closed.{without_stars}
 use Rattle.robots_warnings.specs.Conflicts.{IsConflict, allow_beside, at_line, compared, conflict_for}
 use Rattle.robots_warnings.specs.Conflicts.{first_line, first_of, is_like, line_if}
 use Rattle.robots_warnings.specs.Contents.{is_cut_to_root}
@@ -54,18 +55,30 @@ rest_matches (c ∷ pattern) text rest = elim (or_cases (length (c ∷ pattern) 
   | inr any ↦ anything_matches (c ∷ pattern) text any
 ]
 
+root_matches : (pattern text : List ℕ) → is_root pattern ≡ true → Matches pattern (byte "/" ∷ text)
+unfolding MatchesWith
+root_matches [] text root = cc
+root_matches (b ∷ pattern) text root =
+    let (is, rest) = and_parts (b == byte "/") _ root in
+    subst (λ b. Matches (b ∷ pattern) (byte "/" ∷ text)) (sym (eqb-true b (byte "/") is))
+    (text, refl, rest_matches pattern text rest)
+
+stars_match_before : (pattern text : List ℕ) → Matches (without_stars pattern) text → Matches pattern text
+unfolding MatchesWith
+stars_match_before [] text rest = rest
+stars_match_before (b ∷ pattern) text rest = elim (cases_Bool (b == byte "*")) [
+  | inl star ↦
+      subst (λ b. Matches (b ∷ pattern) text) (sym (eqb-true b (byte "*") star))
+      (text, ([], refl), stars_match_before pattern text (rw star at rest))
+  | inr other ↦ rw other at rest
+]
+
 pub whole_site_matches : (pattern text : List ℕ) → is_whole_site pattern ≡ true
     → Matches pattern (byte "/" ∷ text)
-unfolding MatchesWith
-whole_site_matches [] text whole = cc
-whole_site_matches (b ∷ pattern) text whole =
-    elim (or_cases (b == byte "/" && (length pattern == 0 || is_anything pattern)) _ whole) [
-      | inl slash ↦
-          let (is, rest) = and_parts (b == byte "/") _ slash in
-          subst (λ b. Matches (b ∷ pattern) (byte "/" ∷ text)) (sym (eqb-true b (byte "/") is))
-          (text, refl, rest_matches pattern text rest)
-      | inr any ↦ anything_matches (b ∷ pattern) (byte "/" ∷ text) any
-    ]
+whole_site_matches pattern text whole = elim (or_cases (is_anything pattern) _ whole) [
+  | inl any ↦ anything_matches pattern (byte "/" ∷ text) any
+  | inr root ↦ stars_match_before pattern _ (root_matches (without_stars pattern) text root)
+]
 
 pub cut_to_root_matches : (value tail comment path : List ℕ) → is_cut_to_root value tail comment ≡ true
     → Matches (escaped value) (byte "/" ∷ path)
