@@ -311,7 +311,7 @@ OF_AN_AUDIT = {
     "the number of crawlers": lambda size: (["-q", *["--agent=a"] * size, "-", "/b"], "Disallow: /", (1, denied_to(size), "")),
     "the number of compared crawlers": lambda size: (
         ["--compare", "/dev/null", *["--agent=a"] * size, "-"], "User-agent: b",
-        (1, "crawler a: group everyone -> none\ncrawler a: same rules, so no URL's verdict differs\n" * size, ""),
+        (1, "old: /dev/null (empty), new: -\n" + "crawler a: group everyone -> none\ncrawler a: same rules, so no URL's verdict differs\n" * size, ""),
     ),
     "the number of chosen names": lambda size: (["-q", *["--only=host-line"] * size, "--agent=a", "-", "/b"], "Disallow: /", (1, DENIED, "")),
     "a name that no warning has, explained": lambda size: (["--explain", "a" * size], "", error(f"unknown warning {'a' * size}; all are in --list-warnings")),
@@ -364,7 +364,7 @@ OF_LARGE_FILES = {
     "standard input": (["-q", "--agent=a", "-", "/b"], b"Disallow: /\n", DENIED),
     "URLs": (["-q", "SMALL", "--agent=a", "--urls", "LARGE"], b"/b\n", DENIED + "0 allowed, 1 denied\n"),
     "expectations": (["SMALL", "--expect", "LARGE"], b"allow a /b\n", "LARGE:1: a must be allowed /b, but line 1 denies it\n"),
-    "an older version": (["SMALL", "--compare", "LARGE", "--agent=a", "/b"], b"Allow: /\n", "crawler a /b: allow 1 -> deny 1\n"),
+    "an older version": (["SMALL", "--compare", "LARGE", "--agent=a", "/b"], b"Allow: /\n", "crawler a /b: allow 1 -> deny 1, closed\n"),
 }
 
 

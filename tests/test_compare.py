@@ -1,5 +1,7 @@
 """`robots_audit --compare`: what differs between two versions of a file, for each crawler and URL."""
 
+import re
+
 import pytest
 from support import run
 
@@ -37,7 +39,7 @@ crawler *: + Disallow: /products (line 3)
 """
 
 USAGE = "usage: robots_audit [OPTIONS] FILE [URL].."
-SAME_TEXT = "no group, delay or rule differs, so no URL's verdict does; sitemaps aren't compared\n"
+SAME_TEXT = "no group, delay or rule differs, so no URL's verdict does\n"
 NOTHING = f"crawler Ferris: {SAME_TEXT}"
 ALL = f"all compared crawlers: {SAME_TEXT}"
 OTHERS = f"other compared crawlers: {SAME_TEXT}"
@@ -50,7 +52,7 @@ REASON = "a pattern with $ longer than 4,096 bytes isn't supported; shorten it\n
 
 # two versions of a file, and the lines about Ferris and the URL /a
 DIFFERENCES = {
-    "another kind": (b"Disallow: /a", b"Allow: /a", "crawler Ferris: - Disallow: /a (line 1)\ncrawler Ferris: + Allow: /a (line 1)\ncrawler Ferris /a: deny 1 -> allow 1\n"),
+    "another kind": (b"Disallow: /a", b"Allow: /a", "crawler Ferris: - Disallow: /a (line 1)\ncrawler Ferris: + Allow: /a (line 1)\ncrawler Ferris /a: deny 1 -> allow 1, opened\n"),
     "a rule in another line": (b"Disallow: /a", b"# tea\nDisallow: /a", ""),
     "rules in another order": (b"Disallow: /a\nDisallow: /b", b"Disallow: /b\nDisallow: /a", ""),
     "another rule of the same length in front": (b"Disallow: /a\nDisallow: /*", b"Disallow: /*\nDisallow: /a", ""),
@@ -62,7 +64,8 @@ DIFFERENCES = {
     "escaped": (b"", b"Disallow: /\xc3\xa4", "crawler Ferris: + Disallow: /%C3%A4 (line 1)\n"),
     "an empty Disallow": (b"", b"Disallow:", "crawler Ferris: + Allow: / (line 1)\ncrawler Ferris /a: allow -> allow 1\n"),
     "a rule that isn't UTF-8": (b"", b"Disallow: /\xe4", ""),
-    "a comment, a sitemap and a stray line": (b"Disallow: /b", b"Disallow: /b # tea\nSitemap: https://e.com/s\ntea", ""),
+    "a comment and a stray line": (b"Disallow: /b", b"Disallow: /b # tea\ntea", ""),
+    "a sitemap": (b"Disallow: /b", b"Disallow: /b\nSitemap: https://e.com/s", NOTHING + "sitemap added: https://e.com/s\n"),
     "a group of everyone": (b"", b"User-agent: *\nDisallow: /b", "crawler Ferris: group everyone -> *\ncrawler Ferris: + Disallow: /b (line 2)\n"),
     "no group": (b"User-agent: Ferris", b"User-agent: Other", "crawler Ferris: group Ferris -> none\n" + SAME),
     "a delay": (b"", b"Crawl-delay: 10", "crawler Ferris: delay none -> 10 s\n" + SAME),
@@ -85,34 +88,41 @@ def outcome(result):
     return result.status, result.out, result.err
 
 
+def reported(result, old="old.txt", new="-"):
+    """The same without the first line, which names the files."""
+    first, _, lines = result.out.partition("\n")
+    assert first == f"old: {old}, new: {new}"
+    return result.status, lines, result.err
+
+
 def test_one_crawler(tmp_path):
     urls = ["/search/tea", "/", "https://shop.example/search/milk", "/cart"]
     lines = """crawler Googlebot /search/tea: allow 3 -> allow
-crawler Googlebot https://shop.example/search/milk: deny 2 -> allow
-crawler Googlebot /cart: allow -> deny 6
+crawler Googlebot https://shop.example/search/milk: deny 2 -> allow, opened
+crawler Googlebot /cart: allow -> deny 6, closed
 """
-    assert outcome(compare(tmp_path, OLD, NEW, "--agent=Googlebot", *urls)) == (1, GOOGLEBOT + lines, "")
+    assert reported(compare(tmp_path, OLD, NEW, "--agent=Googlebot", *urls)) == (1, GOOGLEBOT + lines, "")
 
 
 def test_a_url_is_asked_without_its_fragment(tmp_path):
     """In a path, `#` is a byte like others."""
     lines = """crawler Ferris: - Disallow: /a$ (line 1)
-crawler Ferris https://e.com/a#b: deny 1 -> allow
-crawler Ferris https://e.com/a#c: deny 1 -> allow
+crawler Ferris https://e.com/a#b: deny 1 -> allow, opened
+crawler Ferris https://e.com/a#c: deny 1 -> allow, opened
 """
     (tmp_path / "list.txt").write_bytes(b"https://e.com/a#c\n/a#c\n")
     words = ["--urls", "list.txt", "https://e.com/a#b", "/a#b"]
-    assert outcome(for_ferris(tmp_path, b"Disallow: /a$", b"", *words)) == (1, lines, "")
+    assert reported(for_ferris(tmp_path, b"Disallow: /a$", b"", *words), new="- (empty)") == (1, lines, "")
 
 
 def test_urls_in_a_file(tmp_path):
     """They come after those of the command line, and only those whose verdict differs have a line."""
     (tmp_path / "list.txt").write_bytes(b"# pages\n/\n /cart \r\nhttps://shop.example/search/milk\n")
     lines = """crawler Googlebot /search/tea: allow 3 -> allow
-crawler Googlebot /cart: allow -> deny 6
-crawler Googlebot https://shop.example/search/milk: deny 2 -> allow
+crawler Googlebot /cart: allow -> deny 6, closed
+crawler Googlebot https://shop.example/search/milk: deny 2 -> allow, opened
 """
-    assert outcome(compare(tmp_path, OLD, NEW, "--urls", "list.txt", "--agent=Googlebot", "/search/tea")) == (1, GOOGLEBOT + lines, "")
+    assert reported(compare(tmp_path, OLD, NEW, "--urls", "list.txt", "--agent=Googlebot", "/search/tea")) == (1, GOOGLEBOT + lines, "")
 
 
 @pytest.mark.parametrize("text, why", [(b"# none\n", "list.txt: there are no URLs"), (b"/a\n\xff\n", "list.txt:2: the line isn't valid UTF-8"), (b"/a\ntea\n", f"list.txt:2: {URL}")], ids=["no URL", "not UTF-8", "neither a path nor a URL"])
@@ -124,7 +134,7 @@ def test_file_of_urls_that_is_none(tmp_path, text, why):
 def test_urls_from_standard_input(tmp_path):
     (tmp_path / "new.txt").write_bytes(NEW)
     result = compare(tmp_path, OLD, b"/search/tea\n", "--urls", "-", "--agent=GPTBot", file="new.txt")
-    assert outcome(result) == (0, NOTHING.replace("Ferris", "GPTBot"), "")
+    assert reported(result, new="new.txt") == (0, NOTHING.replace("Ferris", "GPTBot"), "")
 
 
 @pytest.mark.parametrize("words", [["--compare", "old.txt", "--urls", "-", "-"], ["--compare", "-", "--urls", "-", "new.txt"], ["--compare", "-", "--urls", "list.txt", "-"]])
@@ -136,17 +146,18 @@ def test_standard_input_is_read_once(tmp_path, words):
 
 
 def test_all_crawlers(tmp_path):
-    assert outcome(compare(tmp_path, OLD, NEW)) == (1, STAR + GOOGLEBOT + OTHERS, "")
+    assert reported(compare(tmp_path, OLD, NEW)) == (1, STAR + GOOGLEBOT + OTHERS, "")
 
 
 def test_all_crawlers_and_a_url(tmp_path):
-    lines = STAR + "crawler * /search/tea: allow 3 -> deny 2\n" + GOOGLEBOT + "crawler Googlebot /search/tea: allow 3 -> allow\n" + OTHERS
-    assert outcome(compare(tmp_path, OLD, NEW, "/search/tea")) == (1, lines, "")
+    lines = STAR + "crawler * /search/tea: allow 3 -> deny 2, closed\n" + GOOGLEBOT + "crawler Googlebot /search/tea: allow 3 -> allow\n" + OTHERS
+    assert reported(compare(tmp_path, OLD, NEW, "/search/tea")) == (1, lines, "")
 
 
 @pytest.mark.parametrize("old, new, lines", DIFFERENCES.values(), ids=DIFFERENCES)
 def test_difference(tmp_path, old, new, lines):
-    assert outcome(for_ferris(tmp_path, old, new, "/a")) == ((1, lines, "") if lines else (0, NOTHING, ""))
+    names = [name + " (empty)" * (not re.search(b"(?i)allow|agent|delay", text[:512_000])) for name, text in (("old.txt", old), ("-", new))]
+    assert reported(for_ferris(tmp_path, old, new, "/a"), *names) == ((1, lines, "") if lines else (0, NOTHING, ""))
 
 
 NO_DIFFERENCE = {
@@ -161,45 +172,69 @@ NO_DIFFERENCE = {
 
 @pytest.mark.parametrize("words, line", NO_DIFFERENCE.values(), ids=NO_DIFFERENCE)
 def test_no_difference(tmp_path, words, line):
-    assert outcome(compare(tmp_path, OLD, OLD, *words)) == (0, line, "")
+    assert reported(compare(tmp_path, OLD, OLD, *words)) == (0, line, "")
 
 
 def test_another_crawler_is_not_spoken_of(tmp_path):
-    assert outcome(compare(tmp_path, OLD, NEW, "--agent=GPTBot")) == (0, f"crawler GPTBot: {SAME_TEXT}", "")
+    assert reported(compare(tmp_path, OLD, NEW, "--agent=GPTBot")) == (0, f"crawler GPTBot: {SAME_TEXT}", "")
     lines = STAR.replace("crawler *", "crawler Ferris") + OTHERS
-    assert outcome(compare(tmp_path, OLD, NEW, "--agent=Ferris", "--agent=GPTBot")) == (1, lines, "")
+    assert reported(compare(tmp_path, OLD, NEW, "--agent=Ferris", "--agent=GPTBot")) == (1, lines, "")
 
 
-def test_sitemaps_are_not_compared(tmp_path):
-    assert outcome(for_ferris(tmp_path, OLD + b"Sitemap: https://e.com/s\n", OLD)) == (0, NOTHING, "")
+def test_sitemaps_are_compared_as_sets(tmp_path):
+    """In whatever case, order and number; one that isn't UTF-8 is none."""
+    sitemaps = [b"Sitemap: https://e.com/" + name + b"\n" for name in (b"s", b"t", b"S", b"\xff")]
+    old, new = OLD + sitemaps[0] * 2 + sitemaps[1], sitemaps[1] * 2 + OLD + sitemaps[0] + sitemaps[3]
+    assert reported(for_ferris(tmp_path, old, new)) == (0, NOTHING, "")
+    lines = "sitemap removed: https://e.com/s\nsitemap removed: https://e.com/t\nsitemap added: https://e.com/S\n"
+    assert reported(for_ferris(tmp_path, old, OLD + sitemaps[2] * 3)) == (1, NOTHING + lines, "")
+
+
+NOT_ROBOTS = {
+    "a page": (b"\n <!doctype html>\n<p>not found</p>", "this looks like HTML, not like a robots.txt file"),
+    "UTF-16": (b"\xff\xfe" + "Disallow: /a".encode("utf-16-le"), "this looks like UTF-16, not like a robots.txt file; save it as UTF-8"),
+    "another text": (b"# a shop\nno such page", "this has no line of a robots.txt file, such as User-agent or Disallow"),
+}
+
+
+@pytest.mark.parametrize("text, why", NOT_ROBOTS.values(), ids=NOT_ROBOTS)
+def test_a_file_that_is_no_robots_file(tmp_path, text, why):
+    assert outcome(compare(tmp_path, text, NEW, "/a")) == (2, "", f"robots_audit: old.txt: {why}\n")
+    assert outcome(compare(tmp_path, OLD, text, "/a")) == (2, "", f"robots_audit: -: {why}\n")
+    assert outcome(compare(tmp_path, text, text)) == (2, "", f"robots_audit: old.txt: {why}\n")
+
+
+@pytest.mark.parametrize("text", [b"", b"\n\n", b"\xef\xbb\xbf# none"], ids=["nothing", "blank lines", "a comment"])
+def test_a_file_without_directives_is_compared(tmp_path, text):
+    assert reported(for_ferris(tmp_path, text, text), "old.txt (empty)", "- (empty)") == (0, NOTHING, "")
 
 
 def test_rejected_files(tmp_path):
     old = f"the old file is rejected for Ferris: line 2: {REASON}"
     new = f"the new file is rejected for Ferris: line 2: {REASON}"
-    assert outcome(for_ferris(tmp_path, TOO_LONG, OLD, "/a")) == (2, old, "")
-    assert outcome(for_ferris(tmp_path, OLD, TOO_LONG, "/a")) == (2, new, "")
-    assert outcome(for_ferris(tmp_path, TOO_LONG, TOO_LONG, "/a")) == (2, old + new, "")
+    assert reported(for_ferris(tmp_path, TOO_LONG, OLD, "/a")) == (2, old, "")
+    assert reported(for_ferris(tmp_path, OLD, TOO_LONG, "/a")) == (2, new, "")
+    assert reported(for_ferris(tmp_path, TOO_LONG, TOO_LONG, "/a")) == (2, old + new, "")
 
 
 def test_other_crawlers_than_one_for_which_a_file_is_rejected(tmp_path):
     line = f"the new file is rejected for *: line 2: {REASON}"
     new = TOO_LONG + b"User-agent: GPTBot\nDisallow: /"
-    assert outcome(compare(tmp_path, OLD, new)) == (2, line + OTHERS, "")
+    assert reported(compare(tmp_path, OLD, new)) == (2, line + OTHERS, "")
 
 
 def test_untrusted_text(tmp_path):
-    lines = "crawler Ferris: + Disallow: /%07 (line 1)\ncrawler Ferris /%07: allow -> deny 1\n"
-    assert outcome(for_ferris(tmp_path, b"", b"Disallow: /\x07", "/\x07")) == (1, lines, "")
+    lines = "crawler Ferris: + Disallow: /%07 (line 1)\ncrawler Ferris /%07: allow -> deny 1, closed\n"
+    assert reported(for_ferris(tmp_path, b"", b"Disallow: /\x07", "/\x07"), "old.txt (empty)") == (1, lines, "")
     new = b"User-agent: *\nDisallow: /a\nUser-agent: a\x1bb\nDisallow: /b"
     lines = "crawler a%1Bb: group * -> a%1Bb\ncrawler a%1Bb: - Disallow: /a (line 2)\ncrawler a%1Bb: + Disallow: /b (line 4)\n"
-    assert outcome(compare(tmp_path, b"User-agent: *\nDisallow: /a", new)) == (1, lines + OTHERS, "")
+    assert reported(compare(tmp_path, b"User-agent: *\nDisallow: /a", new)) == (1, lines + OTHERS, "")
 
 
 def test_no_command_of_a_workflow(tmp_path):
     """GitHub takes `##[` for a command, anywhere in a line."""
-    lines = "crawler Ferris: + Disallow: / (line 1)\ncrawler Ferris /%23%23[error]x: allow -> deny 1\ncrawler Ferris /#[: allow -> deny 1\n"
-    assert outcome(for_ferris(tmp_path, b"", b"Disallow: /", "/##[error]x", "/#[")) == (1, lines, "")
+    lines = "crawler Ferris: + Disallow: / (line 1)\ncrawler Ferris /%23%23[error]x: allow -> deny 1, closed\ncrawler Ferris /#[: allow -> deny 1, closed\n"
+    assert reported(for_ferris(tmp_path, b"", b"Disallow: /", "/##[error]x", "/#["), "old.txt (empty)") == (1, lines, "")
 
 
 def test_a_name_that_looks_like_a_command(tmp_path):
@@ -207,12 +242,12 @@ def test_a_name_that_looks_like_a_command(tmp_path):
     name = "crawler ::error title=tea::milk"
     lines = "crawler *: group everyone -> none\ncrawler *: same rules, so no URL's verdict differs\n"
     lines += f"{name}: group everyone -> ::error title=tea::milk\n{name}: + Disallow: / (line 2)\n"
-    assert outcome(compare(tmp_path, b"", new)) == (1, lines, "")
+    assert reported(compare(tmp_path, b"", new), "old.txt (empty)") == (1, lines, "")
 
 
 def test_files_by_name(tmp_path):
     (tmp_path / "robots.txt").write_bytes(OLD)
-    assert outcome(for_ferris(tmp_path, OLD, NEW, file="robots.txt")) == (0, NOTHING, "")
+    assert reported(for_ferris(tmp_path, OLD, NEW, file="robots.txt"), new="robots.txt") == (0, NOTHING, "")
     assert outcome(for_ferris(tmp_path, OLD, NEW, file="missing")) == (2, "", "robots_audit: cannot read missing\n")
     missing = run("robots_audit", ["--compare", "missing.txt", "-"], NEW, cwd=tmp_path)
     assert outcome(missing) == (2, "", "robots_audit: cannot read missing.txt\n")
@@ -229,7 +264,7 @@ def test_folders_in_place_of_files(tmp_path):
 def test_older_file_from_standard_input(tmp_path):
     (tmp_path / "robots.txt").write_bytes(NEW)
     result = run("robots_audit", ["--compare", "-", "robots.txt", "--agent=Googlebot"], OLD, cwd=tmp_path)
-    assert outcome(result) == (1, GOOGLEBOT, "")
+    assert reported(result, "-", "robots.txt") == (1, GOOGLEBOT, "")
     message = f"robots_audit: standard input can't be two files; give the name of one; {USAGE}\n"
     assert outcome(run("robots_audit", ["--compare", "-", "-"], OLD)) == (2, "", message)
 
@@ -268,7 +303,7 @@ def test_many_rules(tmp_path):
         return b"".join(b"Disallow: /%b%05d\n" % (front, n) for n in range(25_000))
 
     old, new = rules(b"a"), rules(b"b")
-    assert outcome(for_ferris(tmp_path, old, old)) == (0, NOTHING, "")
+    assert reported(for_ferris(tmp_path, old, old)) == (0, NOTHING, "")
     result = for_ferris(tmp_path, old, new)
-    assert (result.status, result.out.count("\n")) == (1, 50_000)
-    assert result.out.splitlines()[24_999] == "crawler Ferris: - Disallow: /a24999 (line 25000)"
+    assert (result.status, result.out.count("\n")) == (1, 50_001)
+    assert result.out.splitlines()[25_000] == "crawler Ferris: - Disallow: /a24999 (line 25000)"

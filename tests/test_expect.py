@@ -281,6 +281,26 @@ def test_all_malformed_lines(tmp_path):
     assert outcome(check(tmp_path, text)) == (2, "", "".join(f"robots_audit: expect.txt:{line}: {why}\n" for line, why in lines))
 
 
+NOT_ROBOTS = {
+    "a page": (b"<html>\n", "this looks like HTML, not like a robots.txt file"),
+    "UTF-16": (b"\xfe\xff\0#", "this looks like UTF-16, not like a robots.txt file; save it as UTF-8"),
+    "another text": (b"not found", "this has no line of a robots.txt file, such as User-agent or Disallow"),
+}
+
+
+@pytest.mark.parametrize("text, why", NOT_ROBOTS.values(), ids=NOT_ROBOTS)
+def test_a_file_that_is_no_robots_file(tmp_path, text, why):
+    (tmp_path / "page.html").write_bytes(text)
+    for file in ("-", "page.html"):
+        assert outcome(check(tmp_path, HOLDING, robots=text, file=file)) == (2, "", f"robots_audit: {file}: {why}\n")
+
+
+@pytest.mark.parametrize("text", [b"", b"# nothing", b"\n \n"], ids=["empty", "a comment", "blank lines"])
+def test_a_file_without_directives(tmp_path, text):
+    """It is valid, and allows everything."""
+    assert outcome(check(tmp_path, b"allow GPTBot /tea", robots=text)) == (0, "1 expectation holds\n", "")
+
+
 def test_files_by_name(tmp_path):
     (tmp_path / "robots.txt").write_bytes(ROBOTS)
     assert outcome(check(tmp_path, HOLDING, robots=b"User-agent: *\nDisallow: /", file="robots.txt")) == (0, HOLD, "")

@@ -1,43 +1,103 @@
--- The report on two files: how it is written.
-use Rattle.std.proofs.Common.{◌≡◌, ℕ, zero, suc, ◌<◌, List, [], ◌∷◌, ◌++◌, arith, drop, length, length-append}
-use Rattle.std.proofs.Common.{map, refl}
-use Rattle.std.specs.List.{AllZip}
+-- The decisions on URLs, and the sitemaps, that only one of the files has.
+use Rattle.std.proofs.Common.{◌≡◌, ◌∙◌, ℕ, zero, suc, ◌+◌, ◌<◌, ◌||◌, Bool, Bor, List, [], ◌∷◌, ◌++◌, ap}
+use Rattle.std.proofs.Common.{append-nil, append_assoc, arith, bytes_eq, cond, drop, flat_map, length, map}
+use Rattle.std.proofs.Common.{not, refl, slice_index_or, sym, take, true}
+use Rattle.std.specs.Prelude.{if◌then◌else◌}
+use Rattle.std.specs.BTreeSet.{BTreeSet, Updates, contains}
 use Rattle.std.proofs.Math.Seq.{drop-nil}
-use Rattle.texting_robots.specs.Callers.{LineValue}
+use Rattle.std.proofs.lemmas.{List.drop_more, List.map_more, List.take_more, Map.Text.is_eq-slice_cmp}
+use Rattle.std.proofs.lemmas.List.Concat.{flat_map-append}
 use Rattle.printable_text.specs.Text.{ReportLine, written}
+use Rattle.printable_text.proofs.PartLemmas.{written_append}
+use Rattle.texting_robots.specs.Callers.{PlacedRule}
+use Rattle.robots_warnings.specs.Internal.Names.{Key, key_cmp}
+use Rattle.robots_warnings.proofs.NameLemmas.{any_last, either}
 use Rattle.audit_core.specs.Audit.{VerdictValue}
-use Rattle.audit_compare.specs.Compare.{ComparedValue, IsCompared, verdict_changes}
+use Rattle.audit_compare.specs.Compare.{ComparedValue, agent_lines, is_listed, new_texts, url_changes}
+use Rattle.audit_compare.specs.Internal.Compare.{AddsText}
 use Rattle.audit_compare.proofs.RuleSetLemmas.{no_verdicts}
 
--- ---- lines
+-- ---- URLs
 
 -- from an index on, one of the lists has no verdicts
-pub none_left : (compared : ComparedValue) (older newer : List VerdictValue) (at : ℕ)
+pub none_left : (removed added : List PlacedRule) (older newer : List VerdictValue) (at : ℕ)
     → (at < length older → at < length newer → ⊥)
-    → verdict_changes compared (drop at older) (drop at newer) ≡ []
-none_left compared [] newer at over = rw (drop-nil at) refl
-none_left compared (one ∷ older) [] at over =
-    rw (drop-nil at) (no_verdicts compared (drop at (one ∷ older)))
-none_left compared (one ∷ older) (other ∷ newer) zero over = absurd (over (omega arith) (omega arith))
-none_left compared (one ∷ older) (other ∷ newer) (suc at) over =
-    none_left compared older newer at (λ below within. over (omega arith) (omega arith))
+    → url_changes removed added (drop at older) (drop at newer) ≡ []
+none_left removed added [] newer at over = rw (drop-nil at) refl
+none_left removed added (one ∷ older) [] at over =
+    rw (drop-nil at) (no_verdicts removed added (drop at (one ∷ older)))
+none_left removed added (one ∷ older) (other ∷ newer) zero over =
+    absurd (over (omega arith) (omega arith))
+none_left removed added (one ∷ older) (other ∷ newer) (suc at) over =
+    none_left removed added older newer at (λ below within. over (omega arith) (omega arith))
 
--- ---- the report on a crawler
+-- ---- sitemaps
 
--- no lines were appended to a text
-pub none_appended : (text : List ℕ) (lines : List ReportLine) → length (text ++ written lines) ≡ length text
-    → lines ≡ []
-none_appended text [] same = refl
-none_appended text (line ∷ lines) same = absurd (grind (arith, length-append))
+-- a set of texts after the insertion of a text
+pub text_added : (old new : BTreeSet Key) (key : Key) (text : List ℕ) (is_new : Bool) → key.items ≡ text
+    → is_new ≡ not (contains key_cmp old key) → Updates key_cmp old new key true
+    → AddsText old new text is_new
+text_added old new key text is_new is added updates = record {
+  was = λ texts has. added ∙ ap not (has.each key ∙ ap (is_listed texts) is);
+  has = λ texts has. record {
+    each = λ other.
+        updates.0 other
+        ∙ ap (λ (t : Bool). cond t true (contains key_cmp old other)) (is_eq-slice_cmp key.items other.items)
+        ∙ either (contains key_cmp old other) (bytes_eq key.items other.items)
+        ∙ ap (λ (has : Bool). has || bytes_eq key.items other.items) (has.each other)
+        ∙ ap (λ (items : List ℕ). is_listed texts other.items || bytes_eq items other.items) is
+        ∙ sym (any_last (λ one. bytes_eq one other.items) texts text);
+  };
+}
 
--- ---- the reports on several crawlers
+-- the texts up to an index, and the one there
+pub texts_more : (front : List (List ℕ)) (items : List (Bor (List ℕ))) (at : ℕ) (d : Bor (List ℕ))
+    → at < length items
+    → (front ++ map (λ text. text.now) (take at items)) ++ (slice_index_or items at d).now ∷ []
+    ≡ front ++ map (λ text. text.now) (take (at + 1) items)
+texts_more front items at d below = rw (append_assoc, map_more (λ text. text.now) items at d below)
 
--- the names are those of the crawlers that were compared
-pub names_compared : (urls : List (List ℕ)) (older newer : List LineValue) (agents : List (List ℕ))
-    (compared : List ComparedValue) → AllZip (IsCompared urls older newer) agents compared
-    → map (λ (one : ComparedValue). one.agent) compared ≡ agents
-names_compared urls older newer [] [] all = refl
-names_compared urls older newer [] (one ∷ compared) all = absurd all
-names_compared urls older newer (agent ∷ agents) [] all = absurd all
-names_compared urls older newer (agent ∷ agents) (one ∷ compared) (is, all) =
-    rw (is.agent_is, names_compared urls older newer agents compared all) refl
+-- the new texts up to an index, and those from it on, after the one there
+pub found_more : (front : List (List ℕ)) (items : List (Bor (List ℕ))) (at : ℕ) (d : Bor (List ℕ))
+    (found new whole : List (List ℕ)) (is_new : Bool) → at < length items
+    → is_new
+    ≡ not (is_listed (front ++ map (λ text. text.now) (take at items)) (slice_index_or items at d).now)
+    → new ≡ found ++ (if is_new then (slice_index_or items at d).now ∷ [] else [])
+    → found
+    ++ new_texts (front ++ map (λ text. text.now) (take at items)) (map (λ text. text.now) (drop at items))
+    ≡ whole
+    → new
+    ++ new_texts (front ++ map (λ text. text.now) (take (at + 1) items))
+    (map (λ text. text.now) (drop (at + 1) items))
+    ≡ whole
+found_more front items at d found new whole is_new below was added before =
+    rw (added, was, ← texts_more front items at d below, append_assoc)
+    (rw (drop_more items at d below) at before)
+
+-- ---- the report
+
+-- a text with lines, and then with more lines
+pub written_after : (front old new : List ℕ) (lines more : List ReportLine) → old ≡ front ++ written lines
+    → new ≡ old ++ written more → new ≡ front ++ written (lines ++ more)
+written_after front old new lines more before now =
+    let assoc : (front ++ written lines) ++ written more ≡ front ++ (written lines ++ written more) =
+    rw append_assoc refl in
+    now ∙ ap (λ (t : List ℕ). t ++ written more) before ∙ assoc
+    ∙ ap (λ (t : List ℕ). front ++ t) (sym (written_append lines more))
+
+-- the text with the lines about one more crawler
+pub lines_more : (front text new : List ℕ) (crawlers : List ComparedValue) (at : ℕ) (item : ComparedValue)
+    → at < length crawlers → item ≡ slice_index_or crawlers at item
+    → text ≡ front ++ written (flat_map agent_lines (take at crawlers))
+    → new ≡ text ++ written (agent_lines item)
+    → new ≡ front ++ written (flat_map agent_lines (take (at + 1) crawlers))
+lines_more front text new crawlers at item below is before now =
+    let first = flat_map agent_lines (take at crawlers) in
+    let here = slice_index_or crawlers at item in
+    let last : flat_map agent_lines (take (at + 1) crawlers) ≡ first ++ agent_lines item =
+    ap (flat_map agent_lines) (take_more crawlers at item below)
+    ∙ flat_map-append agent_lines (take at crawlers) (here ∷ [])
+    ∙ ap (λ (lines : List ReportLine). first ++ lines) (append-nil (agent_lines here))
+    ∙ ap (λ (one : ComparedValue). first ++ agent_lines one) (sym is) in
+    written_after front text new first (agent_lines item) before now
+    ∙ ap (λ (lines : List ReportLine). front ++ written lines) (sym last)

@@ -1,11 +1,10 @@
 -- Rules that other rules lack, and the verdicts by the same rules.
-use Rattle.std.proofs.Common.{◌≡◌, ◌∙◌, ◌↔◌, ◌||◌, ◌&&◌, ℕ, zero, suc, Bool, true, false, List, [], ◌∷◌, ◌++◌}
-use Rattle.std.proofs.Common.{Contains, None, Option, Some, ap, arith, not, refl, ⊎_elim, length-append}
-use Rattle.std.proofs.Common.{subst, ◌==◌, if◌then◌else◌, length, map, sym}
+use Rattle.std.proofs.Common.{◌≡◌, ◌∙◌, ◌↔◌, ◌||◌, ℕ, zero, suc, Bool, true, false, List, [], ◌∷◌}
+use Rattle.std.proofs.Common.{Contains, None, Option, Some, ap, arith, not, refl, ⊎_elim}
+use Rattle.std.proofs.Common.{subst, ◌==◌, if◌then◌else◌, length, sym}
 use Rattle.std.proofs.Math.Bool.{beq}
 use Rattle.std.specs.List.{AllZip}
-use Rattle.std.proofs.lemmas.{Bool.and_parts, Bool.or_cases, Grind.common_steps, List.length-map}
-use Rattle.std.proofs.lemmas.Bool.Decides.{nat_tests}
+use Rattle.std.proofs.lemmas.{Bool.and_parts, Bool.or_cases, Grind.common_steps}
 use Rattle.std.proofs.lemmas.List.Folds.{Any-from_list_any}
 use Rattle.std.proofs.lemmas.Slice.Eq.{bytes_eq-Decides}
 use Rattle.texting_robots.specs.Callers.{IsDenied, IsVerdict, LineValue, PlacedRule, Rule, placed_rules}
@@ -15,9 +14,8 @@ use Rattle.texting_robots.specs.declared.decision.Decision.{Decision}
 use Rattle.texting_robots.proofs.VerdictLemmas.{one_verdict}
 use Rattle.audit_core.specs.{Asked.asked_target, Audit.IsRuling, Audit.IsVerdictOn, Audit.VerdictValue}
 use Rattle.audit_core.proofs.ListLemmas.{none_of}
-use Rattle.audit_compare.specs.Compare.{ComparedValue, IsCompared, delay_changes, differences, group_changes}
-use Rattle.audit_compare.specs.Compare.{has_rule, has_same_rules, is_rejected, is_same_decision, is_same_rule}
-use Rattle.audit_compare.specs.Compare.{is_unchanged, rule_line, rules_lacked, rules_only_in, verdict_changes}
+use Rattle.audit_compare.specs.Compare.{ComparedValue, IsCompared, has_rule, has_same_rules, is_same_decision}
+use Rattle.audit_compare.specs.Compare.{is_same_rule, is_unchanged, rules_lacked, rules_only_in, url_changes}
 
 -- ---- verdicts
 
@@ -85,27 +83,9 @@ same_rules_decide_alike agent older newer text allowed removed added =
 
 -- ---- what a report says
 
-no_rules_in : {X : Type 0} (group delay removed added after : List X)
-    → (length (group ++ delay ++ removed ++ added ++ after) == 0) ≡ true
-    → (length removed == 0 && length added == 0) ≡ true
-no_rules_in group delay removed added after is = grind (arith, nat_tests, length-append)
-
 unchanged_has_same : (compared : ComparedValue) → is_unchanged compared ≡ true
     → has_same_rules compared ≡ true
-unchanged_has_same compared is =
-    let agent = compared.agent in
-    let older = compared.older in
-    let newer = compared.newer in
-    let none = and_parts (not (is_rejected compared)) (length (differences compared) == 0) is in
-    let removed = map (rule_line agent false) compared.removed in
-    let added = map (rule_line agent true) compared.added in
-    rw (
-      ← length-map compared.removed (rule_line agent false),
-      ← length-map compared.added (rule_line agent true),
-    )
-    (no_rules_in
-    (group_changes agent older.group newer.group) (delay_changes agent older.delay newer.delay) removed added
-    (verdict_changes compared older.verdicts newer.verdicts) none.1)
+unchanged_has_same compared is = (and_parts _ (has_same_rules compared) is).1
 
 -- no rule was removed, and none was added
 neither : (compared : ComparedValue) → has_same_rules compared ≡ true
@@ -118,10 +98,10 @@ beq_self : (b : Bool) → beq b b ≡ true
 beq_self true = refl
 beq_self false = refl
 
-pub no_verdicts : (compared : ComparedValue) (older : List VerdictValue)
-    → verdict_changes compared older [] ≡ []
-no_verdicts compared [] = refl
-no_verdicts compared (_ ∷ _) = refl
+pub no_verdicts : (removed added : List PlacedRule) (older : List VerdictValue)
+    → url_changes removed added older [] ≡ []
+no_verdicts removed added [] = refl
+no_verdicts removed added (_ ∷ _) = refl
 
 module _ (urls : List (List ℕ)) (older newer : List LineValue) (agent : List ℕ) (compared : ComparedValue)
     (is : IsCompared urls older newer agent compared) where
@@ -142,7 +122,8 @@ module _ (urls : List (List ℕ)) (older newer : List LineValue) (agent : List �
 
   module _ (same : has_same_rules compared ≡ true) where
     same_decision : (text : List ℕ) (one other : Decision) → IsDecisionOn (placed_rules agent older) text one
-        → IsDecisionOn (placed_rules agent newer) text other → is_same_decision compared one other ≡ true
+        → IsDecisionOn (placed_rules agent newer) text other
+        → is_same_decision compared.removed compared.added one other ≡ true
     same_decision text one other decided too =
         let none = neither compared same in
         let verdict = one_verdict (rules_for agent newer) text one.allowed other.allowed
@@ -152,7 +133,7 @@ module _ (urls : List (List ℕ)) (older newer : List LineValue) (agent : List �
     none_differs : (given : List (List ℕ)) (ones others : List VerdictValue)
         → AllZip (IsVerdictOn (placed_rules agent older)) given ones
         → AllZip (IsVerdictOn (placed_rules agent newer)) given others
-        → verdict_changes compared ones others ≡ []
+        → url_changes compared.removed compared.added ones others ≡ []
     none_differs given [] others are too = refl
     none_differs given (one ∷ ones) [] are too = refl
     none_differs [] (one ∷ ones) (other ∷ others) are too = absurd are
@@ -161,13 +142,15 @@ module _ (urls : List (List ℕ)) (older newer : List LineValue) (agent : List �
         (none_differs given ones others more rest)
 
     none_ruled : (one other : Option ℕ) (ones others : List VerdictValue) → IsRuling urls older agent one ones
-        → IsRuling urls newer agent other others → verdict_changes compared ones others ≡ []
+        → IsRuling urls newer agent other others
+        → url_changes compared.removed compared.added ones others ≡ []
     none_ruled None None ones others (accepted, are) (also, too) = none_differs urls ones others are too
     none_ruled (Some line) other ones others (first, none) too = rw none refl
-    none_ruled None (Some line) ones others are (first, none) = rw none (no_verdicts compared ones)
+    none_ruled None (Some line) ones others are (first, none) =
+        rw none (no_verdicts compared.removed compared.added ones)
 
     -- no URL is listed for a crawler that has the same rules in both files
-    pub none_listed : verdict_changes compared compared.older.verdicts compared.newer.verdicts ≡ []
+    pub none_listed : compared.changes ≡ []
     none_listed =
-        none_ruled compared.older.rejected compared.newer.rejected compared.older.verdicts
+        is.changes_are ∙ none_ruled compared.older.rejected compared.newer.rejected compared.older.verdicts
         compared.newer.verdicts is.older_is.ruling is.newer_is.ruling

@@ -1,15 +1,16 @@
 -- Two versions of a robots.txt file compared: for each crawler the group, the delay and the rules that
--- differ, and the URLs with another verdict or another deciding rule.
+-- differ, and the URLs with another verdict or another deciding rule; and the sitemaps that only one lists.
 use Rattle.std.specs.Prelude.{◌≡◌, ℕ, ◌==◌, Bool, true, false, not, ◌&&◌, ◌||◌, List, [], ◌∷◌, ◌++◌, Option}
 use Rattle.std.specs.Prelude.{Some, None, bytes_eq, codes, filter, flat_map, if◌then◌else◌, is_some, length}
-use Rattle.std.specs.Prelude.{map, nat_eq, refl, string_bytes}
+use Rattle.std.specs.Prelude.{map, nat_eq, refl}
 use Rattle.std.specs.{List.AllZip, List.list_all, List.list_any, Option.option_eq}
 use Rattle.std.proofs.Math.Bool.{beq}
-use Rattle.texting_robots.specs.Callers.{LineValue, PlacedRule, Rule, lines_read, placed_rules}
+use Rattle.texting_robots.specs.Callers.{LineValue, PlacedRule, Rule, lines_read, placed_rules, sitemaps_in}
 use Rattle.texting_robots.specs.declared.decision.Decision.{Decision}
-use Rattle.printable_text.specs.Text.{Absent, Label, Number, Part, PartValue, ReportLine, Untrusted, Value}
-use Rattle.printable_text.specs.Text.{label, line_from, only, starts_line, word, written}
-use Rattle.audit_core.specs.declared.answer.Answer.{Answer}
+use Rattle.printable_text.specs.Text.{Absent, Fixed, Label, Number, Part, PartValue, ReportLine, Untrusted}
+use Rattle.printable_text.specs.Text.{Value, Word, label, line_from, only, starts_line, word}
+use Rattle.robots_warnings.specs.declared.facts.LineKinds.{LineKinds}
+use Rattle.robots_warnings.specs.Facts.{kinds_of}
 use Rattle.audit_core.specs.declared.group.Group.{Group}
 use Rattle.audit_core.specs.declared.group.Group.TheVariants.{Everyone, Named, Nobody, Star}
 use Rattle.audit_core.specs.Audit.{AgentValue, IsAgentAudit, VerdictValue, agents_requested}
@@ -33,15 +34,49 @@ rules_lacked others rules = filter (λ (placed : PlacedRule). not (has_rule othe
 abbrev pub rules_only_in : List LineValue → List LineValue → List ℕ → List PlacedRule
 rules_only_in lines others agent = rules_lacked (placed_rules agent others) (placed_rules agent lines)
 
+-- ---- decisions on URLs
+
+-- a URL, and the decisions on it
+pub record UrlChangeValue : Type 0 where
+  pub url : List ℕ
+  pub older : Decision
+  pub newer : Decision
+
+-- one of the rules is in this line
+abbrev pub is_in_line_of : List PlacedRule → Option ℕ → Bool
+is_in_line_of rules line = list_any (λ (placed : PlacedRule). option_eq nat_eq line (Some placed.line)) rules
+
+-- both decisions allow or both deny, the rule that decided wasn't removed, and the one that decides now
+-- wasn't added; a rule in another line is the same
+abbrev pub is_same_decision : (removed added : List PlacedRule) → Decision → Decision → Bool
+is_same_decision removed added older newer =
+    beq older.allowed newer.allowed
+    && not (is_in_line_of removed older.line || is_in_line_of added newer.line)
+
+-- the decisions on a URL, if they differ
+abbrev pub change_at : (removed added : List PlacedRule) → VerdictValue → VerdictValue → List UrlChangeValue
+change_at removed added one other =
+    if is_same_decision removed added one.decision other.decision then []
+    else record { url = one.url; older = one.decision; newer = other.decision } ∷ []
+
+-- the same for each URL
+abbrev pub url_changes : (removed added : List PlacedRule) → List VerdictValue → List VerdictValue
+    → List UrlChangeValue
+url_changes removed added (one ∷ older) (other ∷ newer) =
+    change_at removed added one other ++ url_changes removed added older newer
+url_changes removed added _ _ = []
+
 -- ---- what both files mean for a crawler
 
--- a crawler, what each file means for it, and the rules of each file that the other one lacks
+-- a crawler, what each file means for it, the rules of each file that the other one lacks, and the URLs on
+-- which the decisions differ
 pub record ComparedValue : Type 0 where
   pub agent : List ℕ
   pub older : AgentValue
   pub newer : AgentValue
   pub removed : List PlacedRule
   pub added : List PlacedRule
+  pub changes : List UrlChangeValue
 
 -- the lines are those of the older file, and of the newer one
 pub record IsCompared (urls : List (List ℕ)) (older newer : List LineValue) (agent : List ℕ)
@@ -51,6 +86,55 @@ pub record IsCompared (urls : List (List ℕ)) (older newer : List LineValue) (a
   pub newer_is : IsAgentAudit urls newer agent compared.newer
   pub removed_are : compared.removed ≡ rules_only_in older newer agent
   pub added_are : compared.added ≡ rules_only_in newer older agent
+  pub changes_are : compared.changes
+      ≡ url_changes compared.removed compared.added compared.older.verdicts compared.newer.verdicts
+
+-- ---- what both files list
+
+-- one of the texts is this one
+abbrev pub is_listed : List (List ℕ) → List ℕ → Bool
+is_listed texts text = list_any (λ other. bytes_eq other text) texts
+
+-- those of the texts that are neither among the others nor above, in order
+abbrev pub new_texts : (others texts : List (List ℕ)) → List (List ℕ)
+new_texts others [] = []
+new_texts others (text ∷ texts) =
+    (if not (is_listed others text) then text ∷ [] else []) ++ new_texts (others ++ text ∷ []) texts
+
+-- the sitemaps that these lines list, and the other lines don't
+abbrev pub sitemaps_only_in : List LineValue → List LineValue → List (List ℕ)
+sitemaps_only_in lines others = new_texts (sitemaps_in others) (sitemaps_in lines)
+
+-- a file with these kinds of lines has no directive
+abbrev pub is_empty : LineKinds → Bool
+is_empty kinds = not (kinds.user_agent || kinds.rule || kinds.extra)
+
+-- the name of a file, and whether the file has no directive
+pub record SideValue : Type 0 where
+  pub name : List ℕ
+  pub is_empty : Bool
+
+abbrev pub side_of : (name file : List ℕ) → SideValue
+side_of name file = record { name = name; is_empty = is_empty (kinds_of (lines_read file)) }
+
+-- both files, what they mean for each crawler, and the sitemaps of each that the other one lacks
+pub record ComparisonValue : Type 0 where
+  pub older : SideValue
+  pub newer : SideValue
+  pub crawlers : List ComparedValue
+  pub removed : List (List ℕ)
+  pub added : List (List ℕ)
+
+-- the comparison of the file `older` with the file `newer`, for these crawlers, or if there are none for `*`
+-- and each that one of the files names
+pub record IsComparison (agents : List (List ℕ)) (urls : List (List ℕ))
+    (older_name older newer_name newer : List ℕ) (comparison : ComparisonValue) : Type 0 where
+  pub older_is : comparison.older ≡ side_of older_name older
+  pub newer_is : comparison.newer ≡ side_of newer_name newer
+  pub all : AllZip (IsCompared urls (lines_read older) (lines_read newer))
+      (agents_requested agents (lines_read older ++ lines_read newer)) comparison.crawlers
+  pub removed_are : comparison.removed ≡ sitemaps_only_in (lines_read older) (lines_read newer)
+  pub added_are : comparison.added ≡ sitemaps_only_in (lines_read newer) (lines_read older)
 
 -- ---- the lines about a crawler
 
@@ -110,17 +194,6 @@ rule_line agent is_added placed =
 
 -- ---- verdicts
 
--- one of the rules is in this line
-abbrev pub is_in_line_of : List PlacedRule → Option ℕ → Bool
-is_in_line_of rules line = list_any (λ (placed : PlacedRule). option_eq nat_eq line (Some placed.line)) rules
-
--- both decisions allow or both deny, the rule that decided wasn't removed, and the one that decides now
--- wasn't added; a rule in another line is the same
-abbrev pub is_same_decision : ComparedValue → Decision → Decision → Bool
-is_same_decision compared older newer =
-    beq older.allowed newer.allowed
-    && not (is_in_line_of compared.removed older.line || is_in_line_of compared.added newer.line)
-
 abbrev pub verdict_word : (allowed : Bool) → Value
 verdict_word true = word (codes "allow") refl
 verdict_word false = word (codes "deny") refl
@@ -130,23 +203,23 @@ abbrev pub deciding : Option ℕ → PartValue
 deciding None = Absent
 deciding (Some line) = Part (label (codes " ") refl) (Number line)
 
--- such as `crawler Googlebot /products/tea: allow -> deny 3`
-abbrev pub url_line : List ℕ → List ℕ → Decision → Decision → ReportLine
-url_line agent url older newer =
-    about agent (Part (label (codes " ") refl) (Untrusted url)
-    ∷ Part (label (codes ": ") refl) (verdict_word older.allowed) ∷ deciding older.line
-    ∷ Part arrow (verdict_word newer.allowed) ∷ deciding newer.line ∷ [])
+-- what the change of a verdict does to a URL
+abbrev pub change_word : (older newer : Bool) → Option Fixed
+change_word true false = Some (record { text = codes "closed"; safe = refl })
+change_word false true = Some (record { text = codes "opened"; safe = refl })
+change_word older newer = None
 
--- the decisions on a URL, if they differ
-abbrev pub url_changes : ComparedValue → List ℕ → Decision → Decision → List ReportLine
-url_changes compared url older newer =
-    if is_same_decision compared older newer then [] else url_line compared.agent url older newer ∷ []
+abbrev pub change_part : Option Fixed → PartValue
+change_part None = Absent
+change_part (Some word) = Part (label (codes ", ") refl) (Word word)
 
--- the same for each URL
-abbrev pub verdict_changes : ComparedValue → List VerdictValue → List VerdictValue → List ReportLine
-verdict_changes compared (one ∷ older) (other ∷ newer) =
-    url_changes compared one.url one.decision other.decision ++ verdict_changes compared older newer
-verdict_changes compared _ _ = []
+-- such as `crawler Googlebot /products/tea: allow -> deny 3, closed`
+abbrev pub url_line : List ℕ → UrlChangeValue → ReportLine
+url_line agent change =
+    about agent (Part (label (codes " ") refl) (Untrusted change.url)
+    ∷ Part (label (codes ": ") refl) (verdict_word change.older.allowed) ∷ deciding change.older.line
+    ∷ Part arrow (verdict_word change.newer.allowed) ∷ deciding change.newer.line
+    ∷ change_part (change_word change.older.allowed change.newer.allowed) ∷ [])
 
 -- ---- the report
 
@@ -157,15 +230,22 @@ differences compared =
     ++ delay_changes compared.agent compared.older.delay compared.newer.delay
     ++ map (rule_line compared.agent false) compared.removed
     ++ map (rule_line compared.agent true) compared.added
-    ++ verdict_changes compared compared.older.verdicts compared.newer.verdicts
+    ++ map (url_line compared.agent) compared.changes
 
 -- one of the files is rejected for the crawler
 abbrev pub is_rejected : ComparedValue → Bool
 is_rejected compared = is_some compared.older.rejected || is_some compared.newer.rejected
 
--- nothing differs for the crawler, and no file is rejected for it
+-- no rule was removed, and none was added
+abbrev pub has_same_rules : ComparedValue → Bool
+has_same_rules compared = length compared.removed == 0 && length compared.added == 0
+
+-- no file is rejected for the crawler, and no group, delay or rule differs; by the theorem
+-- `same_rules_decide_alike` no verdict differs then
 abbrev pub is_unchanged : ComparedValue → Bool
-is_unchanged compared = not (is_rejected compared) && length (differences compared) == 0
+is_unchanged compared =
+    ((not (is_rejected compared) && is_same_group compared.older.group compared.newer.group)
+    && option_eq nat_eq compared.older.delay compared.newer.delay) && has_same_rules compared
 
 abbrev pub file_part : (is_new : Bool) → PartValue
 file_part true = only (codes "the new file is ") refl
@@ -188,11 +268,7 @@ rejection is_new audit = rejection_of is_new audit.agent audit.rejected
 abbrev pub rejection_lines : ComparedValue → List ReportLine
 rejection_lines compared = rejection false compared.older ++ rejection true compared.newer
 
--- no rule was added or removed
-abbrev pub has_same_rules : ComparedValue → Bool
-has_same_rules compared = length compared.removed == 0 && length compared.added == 0
-
--- that this is so; by the theorem `same_rules_decide_alike` no verdict differs then
+-- that no rule was removed or added, if that is so
 abbrev pub same_rules : ComparedValue → List ReportLine
 same_rules compared =
     if has_same_rules compared
@@ -206,39 +282,62 @@ agent_lines compared =
     else if is_unchanged compared then [] else differences compared ++ same_rules compared
 
 abbrev pub unchanged_part : PartValue
-unchanged_part =
-    only (codes ": no group, delay or rule differs, so no URL's verdict does; sitemaps aren't compared") refl
+unchanged_part = only (codes ": no group, delay or rule differs, so no URL's verdict does") refl
 
 -- that several crawlers are unchanged, which are all that were compared, or the others
 abbrev pub several_line : (all : Bool) → ReportLine
 several_line true = line_from (only (codes "all compared crawlers") refl) refl (unchanged_part ∷ [])
 several_line false = line_from (only (codes "other compared crawlers") refl) refl (unchanged_part ∷ [])
 
--- of these crawlers, which are all that were compared, those on which nothing else is reported; `all` is
--- whether they are all
-abbrev pub unchanged_line : List (List ℕ) → (all : Bool) → ReportLine
-unchanged_line (agent ∷ []) all = about agent (unchanged_part ∷ [])
-unchanged_line agents all = several_line all
+-- of these crawlers, those on which nothing else is reported
+abbrev pub unchanged_line : List ComparedValue → ReportLine
+unchanged_line (compared ∷ []) = about compared.agent (unchanged_part ∷ [])
+unchanged_line crawlers = several_line (list_all is_unchanged crawlers)
 
--- that all of these crawlers are unchanged, or that some are, on which nothing else is reported
-abbrev pub unchanged_lines : List (List ℕ) → (all some : Bool) → List ReportLine
-unchanged_lines agents all some = if some then unchanged_line agents all ∷ [] else []
+-- the same, if there are some
+abbrev pub unchanged_lines : List ComparedValue → List ReportLine
+unchanged_lines crawlers = if list_any is_unchanged crawlers then unchanged_line crawlers ∷ [] else []
 
-abbrev pub report_lines : List ComparedValue → List ReportLine
-report_lines compared =
-    flat_map agent_lines compared
-    ++ unchanged_lines (map (λ (one : ComparedValue). one.agent) compared) (list_all is_unchanged compared)
-    (list_any is_unchanged compared)
+-- that a file has no directive
+abbrev pub empty_part : (is_empty : Bool) → PartValue
+empty_part true = only (codes " (empty)") refl
+empty_part false = Absent
 
--- the report on these crawlers, or if there are none on `*` and each that one of the files names; whether a
--- file is rejected for one of them, and whether all of them are unchanged. There are no warnings
-pub record IsComparison (agents : List (List ℕ)) (urls : List (List ℕ)) (older newer : List ℕ)
-    (answer : Answer) : Type 0 where
-  pub compared : List ComparedValue
-  pub all : AllZip (IsCompared urls (lines_read older) (lines_read newer))
-      (agents_requested agents (lines_read older ++ lines_read newer)) compared
-  pub report : answer.report.items ≡ written (report_lines compared)
-  pub rejected : answer.outcome.is_rejected ≡ list_any is_rejected compared
-  pub unchanged : answer.outcome.has_passed ≡ list_all is_unchanged compared
-  pub unwarned : answer.outcome.is_warned ≡ false
-  pub silent : string_bytes answer.outcome.warnings ≡ []
+-- such as `old: old.txt (empty), new: robots.txt`
+abbrev pub sides_line : SideValue → SideValue → ReportLine
+sides_line older newer =
+    line_from (Part (label (codes "old: ") refl) (Untrusted older.name)) refl
+    (empty_part older.is_empty ∷ Part (label (codes ", new: ") refl) (Untrusted newer.name)
+    ∷ empty_part newer.is_empty ∷ [])
+
+abbrev pub sitemap_label : (is_added : Bool) → Label
+sitemap_label true = label (codes "sitemap added: ") refl
+sitemap_label false = label (codes "sitemap removed: ") refl
+
+abbrev pub sitemap_begins : (is_added : Bool) → (text : List ℕ)
+    → starts_line (Part (sitemap_label is_added) (Untrusted text)) ≡ true
+sitemap_begins true text = refl
+sitemap_begins false text = refl
+
+abbrev pub sitemap_line : (is_added : Bool) → List ℕ → ReportLine
+sitemap_line is_added text =
+    line_from (Part (sitemap_label is_added) (Untrusted text)) (sitemap_begins is_added text) []
+
+abbrev pub report_lines : ComparisonValue → List ReportLine
+report_lines comparison =
+    sides_line comparison.older comparison.newer ∷ flat_map agent_lines comparison.crawlers
+    ++ unchanged_lines comparison.crawlers
+    ++ map (sitemap_line false) comparison.removed
+    ++ map (sitemap_line true) comparison.added
+
+-- ---- the outcome
+
+-- one of the files is rejected for one of the crawlers
+abbrev pub rejects_some : ComparisonValue → Bool
+rejects_some comparison = list_any is_rejected comparison.crawlers
+
+-- all crawlers are unchanged, and both files list the same sitemaps
+abbrev pub differs_nowhere : ComparisonValue → Bool
+differs_nowhere comparison =
+    (list_all is_unchanged comparison.crawlers && length comparison.removed == 0)
+    && length comparison.added == 0

@@ -1,2 +1,3 @@
+pub mod Annotations
 pub mod Compare
 pub mod Internal

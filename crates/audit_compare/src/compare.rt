@@ -1,30 +1,84 @@
-//! Two versions of a robots.txt file compared, and the report on what differs.
-ghost use Rattle.std.specs.Prelude.{◌≡◌, ◌++◌, ◌∷◌, [], IfErr, IfOk, List, OnOk, map, string_bytes};
+//! Two versions of a robots.txt file compared.
+ghost use Rattle.std.specs.Prelude.{◌≡◌, ◌++◌, IfErr, IfOk, map};
+ghost use Rattle.std.specs.List.{AllZip};
 ghost use Rattle.texting_robots.specs.Callers.{lines_read};
-ghost use Rattle.printable_text.specs.{Raw.raw_text, Text.line_text, Text.part_text, Text.written};
 ghost use Rattle.audit_core.specs.Audit.{agents_requested as specified_agents};
-ghost use Rattle.audit_compare.specs.Compare.{ComparedValue, IsComparison, agent_lines, is_rejected};
-ghost use Rattle.audit_compare.specs.Compare.{is_unchanged, unchanged_line, unchanged_lines, unchanged_part};
-ghost use Rattle.audit_compare.specs.Internal.Compare.{IsFound, IsReportOn, IsVersion, compared_value};
+ghost use Rattle.audit_compare.specs.Compare.{IsCompared, IsComparison, differs_nowhere, is_empty, rejects_some, side_of};
+ghost use Rattle.audit_compare.specs.Internal.Compare.{IsVersion};
 
 use crate::compared::{Compared, Version, compared_for, read_version};
-use crate::differences::{crawler, push_differences, push_rejections, push_same_rules};
+use crate::differences::{all_unchanged, is_rejected};
+use crate::sitemaps::sitemaps_only_in;
 use audit_core::agents::agents_requested;
-use audit_core::answer::{Answer, Outcome};
 use audit_core::fault::Fault;
-use printable_text::parts::{Part, Value, push_line_of};
+use robots_warnings::facts::{LineKinds, facts_of};
 use std::alloc::{AllocError, Global};
+use std::marker::Model;
 
-/// What is reported on several crawlers.
+/// A file that is compared.
+#[derive(Clone, Copy)]
+pub struct NamedFile<'a> {
+    pub name: &'a str,
+    pub bytes: &'a [u8],
+}
+
+/// What is said of a file that is compared.
 #[derive(Drop)]
-struct Comparison {
-    report: String,
-    /// Whether one of the files is rejected for one of them.
-    is_rejected: bool,
-    /// Whether one of them is unchanged.
-    some_unchanged: bool,
-    /// Whether all of them are unchanged.
-    all_unchanged: bool,
+pub struct Side<'a> {
+    pub name: &'a str,
+    /// Whether the file has no directive.
+    pub is_empty: bool,
+}
+
+impl<'a> Model for Side<'a> {
+    ghost use Rattle.audit_compare.specs.Compare.{SideValue};
+
+    ghost Value = { SideValue };
+
+    ghost use Rattle.audit_compare.specs.Internal.Compare.{side_of};
+
+    ghost view = { side_of };
+}
+
+/// What differs between two files.
+#[derive(Drop)]
+pub struct Comparison<'a> {
+    pub older: Side<'a>,
+    pub newer: Side<'a>,
+    pub crawlers: Vec<Compared<'a>>,
+    /// The sitemaps that only the older file lists.
+    pub removed: Vec<&'a [u8]>,
+    /// Those that only the newer one lists.
+    pub added: Vec<&'a [u8]>,
+}
+
+impl<'a> Model for Comparison<'a> {
+    ghost use Rattle.audit_compare.specs.Compare.{ComparisonValue};
+
+    ghost Value = { ComparisonValue };
+
+    ghost use Rattle.audit_compare.specs.Internal.Compare.{comparison_of};
+
+    ghost view = { comparison_of };
+}
+
+/// Whether a file with these kinds of lines has no directive.
+fn is_empty(kinds: LineKinds) -> bool
+    ensures { result ≡ is_empty kinds }
+{
+    !(kinds.user_agent || kinds.rule || kinds.extra)
+}
+
+/// What is said of the file with this name.
+fn side_of<'a>(name: &'a str, version: &Version<'_>) -> Side<'a>
+    requires { IsVersion version.now }
+    ensures { result ≡ side_of name.entry.now version.now.bytes.now }
+{
+    let facts = facts_of(version.bytes, &version.labels);
+    Side {
+        name,
+        is_empty: is_empty(facts.kinds),
+    }
 }
 
 /// The given crawlers, or if there are none `*` and each that one of the files names.
@@ -46,110 +100,30 @@ fn agents_of<'a>(
     agents_requested(alloc, agents, &labels)
 }
 
-/// Whether one of the files is rejected for the crawler.
-fn is_rejected(compared: &Compared<'_>) -> bool
-    ensures { result ≡ is_rejected (compared_value compared.now) }
-{
-    compared.older.rejected.is_some() || compared.newer.rejected.is_some()
-}
-
-/// Appends what is reported on a crawler, and returns whether that is nothing.
-fn push_report_on(text: &mut String, compared: &Compared<'_>) -> Result<bool, AllocError>
-    ensures text { OnOk result (string_bytes text.new ≡ string_bytes text.old
-        ++ written (agent_lines (compared_value compared.now))) }
-    ensures same { IfOk result (λ same. same ≡ is_unchanged (compared_value compared.now)) }
-{
-    if is_rejected(compared) {
-        push_rejections(text, compared)?;
-        return Ok(false);
-    }
-    let start = text.len();
-    push_differences(text, compared)?;
-    if text.len() == start {
-        return Ok(true);
-    }
-    push_same_rules(text, compared)?;
-    Ok(false)
-}
-
-impl Comparison {
-    /// Adds the report on one more crawler.
-    fn add(&mut self, compared: &Compared<'_>) -> Result<(), AllocError>
-        ensures { (before : List ComparedValue) → IsFound before self.old
-            → OnOk result (IsFound (before ++ compared_value compared.now ∷ []) self.new) }
-    {
-        let is_unchanged = push_report_on(&mut self.report, compared)?;
-        self.is_rejected |= is_rejected(compared);
-        self.some_unchanged |= is_unchanged;
-        self.all_unchanged &= is_unchanged;
-        Ok(())
-    }
-}
-
-/// The reports on these crawlers.
-fn reports<'a>(
+/// What both files mean for each of these crawlers.
+fn crawlers_of<'a>(
     alloc: Global,
     agents: &[&'a str],
     older: &Version<'_>,
     newer: &Version<'_>,
     urls: &[&'a str],
-) -> Result<Comparison, Fault>
+) -> Result<Vec<Compared<'a>>, Fault>
     requires older { IsVersion older.now }
     requires newer { IsVersion newer.now }
-    ensures ok { IfOk result (IsReportOn (map (λ url. url.now) urls.now)
-        older.now.bytes.now newer.now.bytes.now (map (λ agent. agent.now) agents.now)) }
+    ensures ok { IfOk result (λ crawlers. AllZip (IsCompared (map (λ url. url.now) urls.now)
+        (lines_read older.now.bytes.now) (lines_read newer.now.bytes.now))
+        (map (λ agent. agent.now) agents.now) crawlers.items) }
     ensures fault { IfErr result (λ fault. fault ≡ Fault.Memory) }
 {
-    let mut found = Comparison {
-        report: String::new(alloc),
-        is_rejected: false,
-        some_unchanged: false,
-        all_unchanged: true,
-    };
+    let mut crawlers = Vec::with_capacity(alloc, agents.len())?;
     for agent in agents {
-        let compared = compared_for(alloc, agent, older, newer, urls)?;
-        found.add(&compared)?;
+        crawlers.push(compared_for(alloc, agent, older, newer, urls)?)?;
     }
-    Ok(found)
-}
-
-/// What is said of crawlers on which nothing else is reported.
-const UNCHANGED: Part<'static> = Part(
-    ": no group, delay or rule differs, so no URL's verdict does; sitemaps aren't compared",
-    Value::Nothing,
-);
-
-/// The crawlers on which nothing else is reported; `agents` are all that were compared, and `all` is whether those are
-/// all.
-fn unchanged_subject<'a>(agents: &[&'a str], all: bool) -> Part<'a>
-    ensures { raw_text result ++ part_text unchanged_part
-        ≡ line_text (unchanged_line (map (λ agent. agent.now) agents.now) all) }
-{
-    match agents {
-        [agent] => crawler(agent),
-        _ if all => Part("all compared crawlers", Value::Nothing),
-        _ => Part("other compared crawlers", Value::Nothing),
-    }
-}
-
-/// Appends that all of these crawlers are unchanged, or that some are.
-fn push_unchanged(
-    text: &mut String,
-    agents: &[&str],
-    all: bool,
-    some: bool,
-) -> Result<(), AllocError>
-    ensures { OnOk result (string_bytes text.new ≡ string_bytes text.old
-        ++ written (unchanged_lines (map (λ agent. agent.now) agents.now) all some)) }
-{
-    if !some {
-        return Ok(());
-    }
-    push_line_of(text, &[unchanged_subject(agents, all), UNCHANGED])
+    Ok(crawlers)
 }
 
 /// Compares two files: what differs for the given crawlers, or if there are none for `*` and each crawler that one of the
-/// files names, and for each URL. The outcome says whether a file is rejected for a crawler, and whether nothing differs.
+/// files names, and for each URL, and which sitemaps only one of them lists.
 ///
 /// # Errors
 ///
@@ -159,26 +133,40 @@ pub fn compare<'a>(
     alloc: Global,
     agents: &[&'a str],
     urls: &[&'a str],
-    older: &'a [u8],
-    newer: &'a [u8],
-) -> Result<Answer, Fault>
-    ensures ok { IfOk result (IsComparison (map (λ agent. agent.now) agents.now)
-        (map (λ url. url.now) urls.now) older.now newer.now) }
+    older: NamedFile<'a>,
+    newer: NamedFile<'a>,
+) -> Result<Comparison<'a>, Fault>
+    ensures ok { IfOk result (IsComparison (map (λ agent. agent.now) agents.now) (map (λ url. url.now) urls.now)
+        older.entry.name.now older.entry.bytes.now newer.entry.name.now newer.entry.bytes.now) }
     ensures fault { IfErr result (λ fault. fault ≡ Fault.Memory) }
 {
-    let older = read_version(alloc, older)?;
-    let newer = read_version(alloc, newer)?;
-    let names = agents_of(alloc, agents, &older, &newer)?;
-    let mut found = reports(alloc, &names, &older, &newer, urls)?;
-    let (all, some) = (found.all_unchanged, found.some_unchanged);
-    push_unchanged(&mut found.report, &names, all, some)?;
-    Ok(Answer {
-        report: found.report.into_bytes(),
-        outcome: Outcome {
-            is_rejected: found.is_rejected,
-            has_passed: found.all_unchanged,
-            is_warned: false,
-            warnings: String::new(alloc),
-        },
+    let old = read_version(alloc, older.bytes)?;
+    let new = read_version(alloc, newer.bytes)?;
+    let names = agents_of(alloc, agents, &old, &new)?;
+    let crawlers = crawlers_of(alloc, &names, &old, &new, urls)?;
+    let removed = sitemaps_only_in(alloc, &old.labels, &new.labels)?;
+    let added = sitemaps_only_in(alloc, &new.labels, &old.labels)?;
+    Ok(Comparison {
+        older: side_of(older.name, &old),
+        newer: side_of(newer.name, &new),
+        crawlers,
+        removed,
+        added,
     })
+}
+
+/// Whether one of the files is rejected for one of the crawlers.
+pub fn rejects_some(comparison: &Comparison<'_>) -> bool
+    ensures { result ≡ rejects_some comparison.now }
+{
+    comparison.crawlers.iter().any(is_rejected)
+}
+
+/// Whether all crawlers are unchanged, and both files list the same sitemaps.
+pub fn differs_nowhere(comparison: &Comparison<'_>) -> bool
+    ensures { result ≡ differs_nowhere comparison.now }
+{
+    all_unchanged(&comparison.crawlers)
+        && comparison.removed.is_empty()
+        && comparison.added.is_empty()
 }

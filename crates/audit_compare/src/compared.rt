@@ -1,18 +1,21 @@
 //! What two versions of a file mean for a crawler.
-ghost use Rattle.std.specs.Prelude.{◌≡◌, IfErr, IfOk, map};
+ghost use Rattle.std.specs.Prelude.{◌≡◌, ◌++◌, IfErr, IfOk, OnOk, map};
 ghost use Rattle.texting_robots.specs.Callers.{file_lines, lines_read};
 ghost use Rattle.audit_core.specs.Audit.{IsAgentAudit};
-ghost use Rattle.audit_compare.specs.Compare.{IsCompared, rules_only_in};
-ghost use Rattle.audit_compare.specs.Internal.Compare.{IsVersion, compared_value};
+ghost use Rattle.audit_compare.specs.Compare.{IsCompared, change_at, is_in_line_of, is_same_decision, rules_only_in};
+ghost use Rattle.audit_compare.specs.Compare.{url_changes};
+ghost use Rattle.audit_compare.specs.Internal.Compare.{IsVersion};
 
 use crate::rule_sets::{RuleSet, rules_lacked};
-use audit_core::audit::{AgentAudit, agent_audit};
+use audit_core::audit::{AgentAudit, Verdict, agent_audit};
 use audit_core::fault::Fault;
 use audit_core::rules::{Rule, rules_for};
 use robots_warnings::file::labels_for;
 use std::alloc::{AllocError, Global};
+use std::marker::Model;
 use texting_robots::Site;
 use texting_robots::labels::LabeledLine;
+use texting_robots::robot::Decision;
 
 /// One of the two files.
 #[derive(Drop)]
@@ -22,13 +25,45 @@ pub(crate) struct Version<'a> {
     pub(crate) site: Site,
 }
 
-/// What each file means for a crawler, and the rules that only one of them has.
+/// A URL on which the decisions differ.
 #[derive(Drop)]
-pub(crate) struct Compared<'a> {
-    pub(crate) older: AgentAudit<'a>,
-    pub(crate) newer: AgentAudit<'a>,
-    pub(crate) removed: Vec<Rule>,
-    pub(crate) added: Vec<Rule>,
+pub struct UrlChange<'a> {
+    pub url: &'a str,
+    pub older: Decision,
+    pub newer: Decision,
+}
+
+impl<'a> Model for UrlChange<'a> {
+    ghost use Rattle.audit_compare.specs.Compare.{UrlChangeValue};
+
+    ghost Value = { UrlChangeValue };
+
+    ghost use Rattle.audit_compare.specs.Internal.Compare.{change_of};
+
+    ghost view = { change_of };
+}
+
+/// What each file means for a crawler, and what differs.
+#[derive(Drop)]
+pub struct Compared<'a> {
+    pub agent: &'a str,
+    pub older: AgentAudit<'a>,
+    pub newer: AgentAudit<'a>,
+    /// The rules that only the older file has.
+    pub removed: Vec<Rule>,
+    /// Those that only the newer one has.
+    pub added: Vec<Rule>,
+    pub changes: Vec<UrlChange<'a>>,
+}
+
+impl<'a> Model for Compared<'a> {
+    ghost use Rattle.audit_compare.specs.Compare.{ComparedValue};
+
+    ghost Value = { ComparedValue };
+
+    ghost use Rattle.audit_compare.specs.Internal.Compare.{compared_of};
+
+    ghost view = { compared_of };
 }
 
 /// The rules that only one of the files has.
@@ -89,6 +124,73 @@ fn audit_for<'a>(
     agent_audit(alloc, agent, bytes, &version.labels, site, urls)
 }
 
+/// Whether one of the rules is in this line.
+fn is_in_line_of(rules: &[Rule], line: Option<usize>) -> bool
+    ensures { result ≡ is_in_line_of rules.now line }
+{
+    rules.iter().any(|rule| line == Some(rule.line))
+}
+
+/// Whether both decisions allow or both deny, the rule that decided wasn't removed, and the one that decides now wasn't
+/// added.
+fn is_same_decision(rules: &RuleChanges, older: &Decision, newer: &Decision) -> bool
+    ensures { result ≡ is_same_decision rules.now.removed.items rules.now.added.items older.now newer.now }
+{
+    let is_removed = is_in_line_of(&rules.removed, older.line);
+    let is_added = is_in_line_of(&rules.added, newer.line);
+    older.allowed == newer.allowed && !(is_removed || is_added)
+}
+
+/// Adds the decisions on a URL, if they differ.
+fn add_change<'a>(
+    found: &mut Vec<UrlChange<'a>>,
+    rules: &RuleChanges,
+    older: &Verdict<'a>,
+    newer: &Verdict<'a>,
+) -> Result<(), AllocError>
+    ensures { OnOk result (found.new.items ≡ found.old.items
+        ++ change_at rules.now.removed.items rules.now.added.items older.now newer.now) }
+{
+    if is_same_decision(rules, &older.decision, &newer.decision) {
+        return Ok(());
+    }
+    Ok(found.push(UrlChange {
+        url: older.url,
+        older: older.decision,
+        newer: newer.decision,
+    })?)
+}
+
+/// The decisions that differ.
+fn url_changes<'a>(
+    alloc: Global,
+    rules: &RuleChanges,
+    older: &[Verdict<'a>],
+    newer: &[Verdict<'a>],
+) -> Result<Vec<UrlChange<'a>>, AllocError>
+    ensures { IfOk result (λ found. found.items
+        ≡ url_changes rules.now.removed.items rules.now.added.items older.now newer.now) }
+{
+    let mut found = Vec::new(alloc);
+    for at in 0..older.len().min(newer.len()) {
+        add_change(&mut found, rules, &older[at], &newer[at])?;
+    }
+    Ok(found)
+}
+
+/// The decisions that differ between what two files mean for a crawler.
+fn changes_of<'a>(
+    alloc: Global,
+    rules: &RuleChanges,
+    older: &AgentAudit<'a>,
+    newer: &AgentAudit<'a>,
+) -> Result<Vec<UrlChange<'a>>, AllocError>
+    ensures { IfOk result (λ found. found.items
+        ≡ url_changes rules.now.removed.items rules.now.added.items older.now.verdicts newer.now.verdicts) }
+{
+    url_changes(alloc, rules, &older.verdicts, &newer.verdicts)
+}
+
 /// What both files mean for the crawler.
 pub(crate) fn compared_for<'a>(
     alloc: Global,
@@ -99,17 +201,20 @@ pub(crate) fn compared_for<'a>(
 ) -> Result<Compared<'a>, Fault>
     requires older { IsVersion older.now }
     requires newer { IsVersion newer.now }
-    ensures ok { IfOk result (λ compared. IsCompared (map (λ url. url.now) urls.now)
-        (lines_read older.now.bytes.now) (lines_read newer.now.bytes.now) agent.now (compared_value compared)) }
+    ensures ok { IfOk result (IsCompared (map (λ url. url.now) urls.now)
+        (lines_read older.now.bytes.now) (lines_read newer.now.bytes.now) agent.now) }
     ensures fault { IfErr result (λ fault. fault ≡ Fault.Memory) }
 {
     let older_audit = audit_for(alloc, agent, older, urls)?;
     let newer_audit = audit_for(alloc, agent, newer, urls)?;
-    let changes = rule_changes(alloc, agent, &older.site, &newer.site)?;
+    let rules = rule_changes(alloc, agent, &older.site, &newer.site)?;
+    let changes = changes_of(alloc, &rules, &older_audit, &newer_audit)?;
     Ok(Compared {
+        agent,
         older: older_audit,
         newer: newer_audit,
-        removed: changes.removed,
-        added: changes.added,
+        removed: rules.removed,
+        added: rules.added,
+        changes,
     })
 }

@@ -1,20 +1,20 @@
 //! The lines about what differs between two files for a crawler.
-ghost use Rattle.std.specs.Prelude.{◌≡◌, ◌++◌, OnOk, map, string_bytes};
+ghost use Rattle.std.specs.Prelude.{◌≡◌, ◌++◌, OnOk, map, option_map, string_bytes};
+ghost use Rattle.std.specs.List.{list_all};
 ghost use Rattle.printable_text.specs.Raw.{raw_line, raw_text, raw_value};
 ghost use Rattle.printable_text.specs.Text.{line_text, part_text, value_text, written};
-ghost use Rattle.audit_compare.specs.Compare.{crawler, deciding, delay_changes, delay_line, differences, file_part, group_changes, group_line};
-ghost use Rattle.audit_compare.specs.Compare.{has_same_rules, is_in_line_of, is_same_decision, is_same_group, rejection, rejection_lines};
-ghost use Rattle.audit_compare.specs.Compare.{rule_line, same_rules, url_changes, url_line, verdict_changes, verdict_word};
-ghost use Rattle.audit_compare.specs.Internal.Compare.{compared_value};
+ghost use Rattle.audit_compare.specs.Compare.{change_part, change_word, crawler, deciding, delay_changes, delay_line};
+ghost use Rattle.audit_compare.specs.Compare.{differences, file_part, group_changes, group_line, has_same_rules, is_rejected};
+ghost use Rattle.audit_compare.specs.Compare.{is_same_group, is_unchanged, kind_word, rejection, rejection_lines, rule_line};
+ghost use Rattle.audit_compare.specs.Compare.{same_rules, url_line, verdict_word};
 
-use crate::compared::Compared;
-use audit_core::audit::{AgentAudit, Verdict};
+use crate::compared::{Compared, UrlChange};
+use audit_core::audit::AgentAudit;
 use audit_core::group::Group;
 use audit_core::rules::Rule;
 use audit_core::texts::{delay_value, group_value, rejected_parts};
 use printable_text::parts::{Part, Value, push_line_of};
 use std::alloc::AllocError;
-use texting_robots::robot::Decision;
 
 /// What a line about a crawler begins with.
 pub(crate) fn crawler(agent: &str) -> Part<'_>
@@ -50,16 +50,17 @@ fn group_line(agent: &str, older: Group, newer: Group) -> [Part<'_>; 3]
 /// Appends the groups, if they differ.
 fn push_group_changes(
     text: &mut String,
+    agent: &str,
     older: &AgentAudit<'_>,
     newer: &AgentAudit<'_>,
 ) -> Result<(), AllocError>
     ensures { OnOk result (string_bytes text.new ≡ string_bytes text.old
-        ++ written (group_changes older.now.agent older.now.group newer.now.group)) }
+        ++ written (group_changes agent.now older.now.group newer.now.group)) }
 {
     if is_same_group(older.group, newer.group) {
         return Ok(());
     }
-    push_line_of(text, &group_line(older.agent, older.group, newer.group))
+    push_line_of(text, &group_line(agent, older.group, newer.group))
 }
 
 /// The line about the delays.
@@ -77,16 +78,23 @@ fn delay_line(agent: &str, older: Option<u64>, newer: Option<u64>) -> [Part<'_>;
 fn push_delay_changes(
     text: &mut String,
     agent: &str,
-    older: Option<u64>,
-    newer: Option<u64>,
+    older: &AgentAudit<'_>,
+    newer: &AgentAudit<'_>,
 ) -> Result<(), AllocError>
     ensures { OnOk result (string_bytes text.new ≡ string_bytes text.old
-        ++ written (delay_changes agent.now older newer)) }
+        ++ written (delay_changes agent.now older.now.delay newer.now.delay)) }
 {
-    if older == newer {
+    if older.delay == newer.delay {
         return Ok(());
     }
-    push_line_of(text, &delay_line(agent, older, newer))
+    push_line_of(text, &delay_line(agent, older.delay, newer.delay))
+}
+
+/// The name of a rule's kind.
+pub fn kind_word(is_allow: bool) -> &'static str
+    ensures { result.now ≡ value_text (kind_word is_allow) }
+{
+    if is_allow { "Allow" } else { "Disallow" }
 }
 
 /// The line about a rule that was added, or one that was removed.
@@ -97,7 +105,7 @@ fn rule_line<'a>(agent: &'a str, is_added: bool, rule: &'a Rule) -> [Part<'a>; 5
         crawler(agent),
         Part(
             if is_added { ": + " } else { ": - " },
-            Value::Word(if rule.is_allow { "Allow" } else { "Disallow" }),
+            Value::Word(kind_word(rule.is_allow)),
         ),
         Part(": ", Value::Untrusted(rule.pattern.as_bytes())),
         Part(" (line ", Value::Number(rule.line)),
@@ -121,23 +129,6 @@ fn push_rule_lines(
     Ok(())
 }
 
-/// Whether one of the rules is in this line.
-fn is_in_line_of(rules: &[Rule], line: Option<usize>) -> bool
-    ensures { result ≡ is_in_line_of rules.now line }
-{
-    rules.iter().any(|rule| line == Some(rule.line))
-}
-
-/// Whether both decisions allow or both deny, the rule that decided wasn't removed, and the one that decides now wasn't
-/// added.
-fn is_same_decision(compared: &Compared<'_>, older: &Decision, newer: &Decision) -> bool
-    ensures { result ≡ is_same_decision (compared_value compared.now) older.now newer.now }
-{
-    let is_removed = is_in_line_of(&compared.removed, older.line);
-    let is_added = is_in_line_of(&compared.added, newer.line);
-    older.allowed == newer.allowed && !(is_removed || is_added)
-}
-
 /// The number of the line that decides, if there is one.
 fn deciding(line: Option<usize>) -> Part<'static>
     ensures { raw_text result ≡ part_text (deciding line) }
@@ -155,50 +146,54 @@ fn verdict_word(allowed: bool) -> Value<'static>
     Value::Word(if allowed { "allow" } else { "deny" })
 }
 
+/// What the change of a verdict does to a URL.
+pub fn change_word(older: bool, newer: bool) -> Option<&'static str>
+    ensures { option_map (λ word. word.now) result ≡ option_map (λ word. word.text) (change_word older newer) }
+{
+    match (older, newer) {
+        (true, false) => Some("closed"),
+        (false, true) => Some("opened"),
+        _ => None,
+    }
+}
+
+/// The same at the end of a line.
+fn change_part(older: bool, newer: bool) -> Part<'static>
+    ensures { raw_text result ≡ part_text (change_part (change_word older newer)) }
+{
+    match (older, newer) {
+        (true, false) => Part(", ", Value::Word("closed")),
+        (false, true) => Part(", ", Value::Word("opened")),
+        _ => Part("", Value::Nothing),
+    }
+}
+
 /// The line about a URL.
-fn url_line<'a>(agent: &'a str, url: &'a str, older: &Decision, newer: &Decision) -> [Part<'a>; 6]
-    ensures { raw_line result ≡ line_text (url_line agent.now url.now older.now newer.now) }
+pub fn url_line<'a>(agent: &'a str, change: &UrlChange<'a>) -> [Part<'a>; 7]
+    ensures { raw_line result ≡ line_text (url_line agent.now change.now) }
 {
     [
         crawler(agent),
-        Part(" ", Value::Untrusted(url.as_bytes())),
-        Part(": ", verdict_word(older.allowed)),
-        deciding(older.line),
-        Part(" -> ", verdict_word(newer.allowed)),
-        deciding(newer.line),
+        Part(" ", Value::Untrusted(change.url.as_bytes())),
+        Part(": ", verdict_word(change.older.allowed)),
+        deciding(change.older.line),
+        Part(" -> ", verdict_word(change.newer.allowed)),
+        deciding(change.newer.line),
+        change_part(change.older.allowed, change.newer.allowed),
     ]
 }
 
-/// Appends the decisions on a URL, if they differ.
-fn push_url_changes(
+/// Appends the lines about URLs.
+fn push_url_lines(
     text: &mut String,
-    compared: &Compared<'_>,
-    older: &Verdict<'_>,
-    newer: &Verdict<'_>,
-) -> Result<(), AllocError>
-    ensures { OnOk result (string_bytes text.new ≡ string_bytes text.old ++ written (url_changes
-        (compared_value compared.now) older.now.url older.now.decision newer.now.decision)) }
-{
-    let (one, other) = (&older.decision, &newer.decision);
-    if is_same_decision(compared, one, other) {
-        return Ok(());
-    }
-    push_line_of(text, &url_line(compared.older.agent, older.url, one, other))
-}
-
-/// Appends the decisions that differ.
-fn push_verdict_changes(
-    text: &mut String,
-    compared: &Compared<'_>,
-    older: &[Verdict<'_>],
-    newer: &[Verdict<'_>],
+    agent: &str,
+    changes: &[UrlChange<'_>],
 ) -> Result<(), AllocError>
     ensures { OnOk result (string_bytes text.new ≡ string_bytes text.old
-        ++ written (verdict_changes (compared_value compared.now)
-        older.now newer.now)) }
+        ++ written (map (url_line agent.now) changes.now)) }
 {
-    for at in 0..older.len().min(newer.len()) {
-        push_url_changes(text, compared, &older[at], &newer[at])?;
+    for change in changes {
+        push_line_of(text, &url_line(agent, change))?;
     }
     Ok(())
 }
@@ -206,38 +201,63 @@ fn push_verdict_changes(
 /// Appends everything that differs for a crawler.
 pub(crate) fn push_differences(text: &mut String, compared: &Compared<'_>) -> Result<(), AllocError>
     ensures { OnOk result (string_bytes text.new ≡ string_bytes text.old
-        ++ written (differences (compared_value compared.now))) }
+        ++ written (differences compared.now)) }
 {
-    let (older, newer) = (&compared.older, &compared.newer);
-    push_group_changes(text, older, newer)?;
-    push_delay_changes(text, older.agent, older.delay, newer.delay)?;
-    push_rule_lines(text, older.agent, false, &compared.removed)?;
-    push_rule_lines(text, older.agent, true, &compared.added)?;
-    push_verdict_changes(text, compared, &older.verdicts, &newer.verdicts)?;
+    let agent = compared.agent;
+    push_group_changes(text, agent, &compared.older, &compared.newer)?;
+    push_delay_changes(text, agent, &compared.older, &compared.newer)?;
+    push_rule_lines(text, agent, false, &compared.removed)?;
+    push_rule_lines(text, agent, true, &compared.added)?;
+    push_url_lines(text, agent, &compared.changes)?;
     Ok(())
 }
 
-/// Whether no rule was added or removed.
+/// Whether one of the files is rejected for the crawler.
+pub(crate) fn is_rejected(compared: &Compared<'_>) -> bool
+    ensures { result ≡ is_rejected compared.now }
+{
+    compared.older.rejected.is_some() || compared.newer.rejected.is_some()
+}
+
+/// Whether no rule was removed, and none was added.
 fn has_same_rules(compared: &Compared<'_>) -> bool
-    ensures { result ≡ has_same_rules (compared_value compared.now) }
+    ensures { result ≡ has_same_rules compared.now }
 {
     compared.removed.is_empty() && compared.added.is_empty()
 }
 
-/// Appends that no rule was added or removed, if that is so.
+/// Whether no file is rejected for the crawler, and no group, delay or rule differs.
+pub(crate) fn is_unchanged(compared: &Compared<'_>) -> bool
+    ensures { result ≡ is_unchanged compared.now }
+{
+    let (older, newer) = (&compared.older, &compared.newer);
+    !is_rejected(compared)
+        && is_same_group(older.group, newer.group)
+        && older.delay == newer.delay
+        && has_same_rules(compared)
+}
+
+/// Whether this is so of all of these crawlers.
+pub(crate) fn all_unchanged(crawlers: &[Compared<'_>]) -> bool
+    ensures { result ≡ list_all is_unchanged crawlers.now }
+{
+    crawlers.iter().all(is_unchanged)
+}
+
+/// Appends that no rule was removed or added, if that is so.
 pub(crate) fn push_same_rules(text: &mut String, compared: &Compared<'_>) -> Result<(), AllocError>
     ensures { OnOk result (string_bytes text.new ≡ string_bytes text.old
-        ++ written (same_rules (compared_value compared.now))) }
+        ++ written (same_rules compared.now)) }
 {
     if !has_same_rules(compared) {
         return Ok(());
     }
     let what = Part(": same rules, so no URL's verdict differs", Value::Nothing);
-    push_line_of(text, &[crawler(compared.older.agent), what])
+    push_line_of(text, &[crawler(compared.agent), what])
 }
 
 /// What a line about one of the files begins with.
-fn file_text(is_new: bool) -> &'static str
+pub(crate) fn file_text(is_new: bool) -> &'static str
     ensures { result.now ≡ part_text (file_part is_new) }
 {
     if is_new {
@@ -264,7 +284,7 @@ fn push_rejection(text: &mut String, is_new: bool, audit: &AgentAudit<'_>) -> Re
 /// Appends which of the files are rejected for a crawler.
 pub(crate) fn push_rejections(text: &mut String, compared: &Compared<'_>) -> Result<(), AllocError>
     ensures { OnOk result (string_bytes text.new ≡ string_bytes text.old
-        ++ written (rejection_lines (compared_value compared.now))) }
+        ++ written (rejection_lines compared.now)) }
 {
     push_rejection(text, false, &compared.older)?;
     push_rejection(text, true, &compared.newer)

@@ -1,15 +1,15 @@
 //! Theorems about comparisons, each written as the contract of an empty function.
 ghost use Rattle.std.specs.Prelude.{[], Bool, List, true, ℕ, ◌||◌, ◌↔◌, ◌≡◌};
 ghost use Rattle.texting_robots.specs.Callers.{IsVerdict, LineValue, rules_for};
-ghost use Rattle.audit_compare.specs.Compare.{ComparedValue, has_same_rules, is_unchanged, IsCompared};
-ghost use Rattle.audit_compare.specs.Compare.{report_lines, rules_only_in, verdict_changes};
+ghost use Rattle.audit_compare.specs.Compare.{ComparedValue, ComparisonValue, has_same_rules, is_unchanged};
+ghost use Rattle.audit_compare.specs.Compare.{IsCompared, report_lines, rules_only_in};
 ghost use Rattle.printable_text.specs.{Text.written, Sanitize.IsPrintable};
 
 /// The report of `--compare` contains neither invalid UTF-8 nor a control character other than LF, a
 /// bidirectional control character or a line separator, whatever the bytes of the files, the crawlers' names
 /// and the URLs are.
 pub fn no_comparison_steers_a_terminal()
-    ensures { (compared : List ComparedValue) → IsPrintable (written (report_lines compared)) }
+    ensures { (comparison : ComparisonValue) → IsPrintable (written (report_lines comparison)) }
 {}
 
 /// If a crawler has the same rules in two files, in whatever lines, both files give each text the same verdict. So they do
@@ -23,6 +23,5 @@ pub fn same_rules_decide_alike()
         → (is_unchanged compared || has_same_rules compared) ≡ true
         → IsVerdict (rules_for agent older) text allowed ↔ IsVerdict (rules_for agent newer) text allowed }
     ensures listed { (urls : List (List ℕ)) (older newer : List LineValue) (agent : List ℕ) (compared : ComparedValue)
-        → IsCompared urls older newer agent compared → has_same_rules compared ≡ true
-        → verdict_changes compared compared.older.verdicts compared.newer.verdicts ≡ [] }
+        → IsCompared urls older newer agent compared → has_same_rules compared ≡ true → compared.changes ≡ [] }
 {}

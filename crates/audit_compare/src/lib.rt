@@ -1,8 +1,11 @@
 //! Two versions of a robots.txt file compared, and the report on what differs.
 #![tactic(auto)]
 
+pub mod annotations;
 pub mod compare;
-mod compared;
-mod differences;
+pub mod compared;
+pub mod differences;
 pub mod laws;
+pub mod report;
 mod rule_sets;
+mod sitemaps;

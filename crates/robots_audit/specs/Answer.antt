@@ -9,14 +9,15 @@ use Rattle.printable_text.specs.declared.level.Level.{Level}
 use Rattle.robots_warnings.specs.{Table.is_name, Table.level_of, WarningValue.WarningValue}
 use Rattle.audit_core.specs.Audit.{AuditValue, IsAuditOf, all_allowed, rejects_some, shown}
 use Rattle.audit_core.specs.Request.{RequestValue, has_rows, requested_by, shown_name}
-use Rattle.audit_core.specs.{Answer.IsText, Findings.findings}
+use Rattle.audit_core.specs.{Answer.IsText, Content.content_flaw, Findings.findings}
 use Rattle.audit_core.specs.declared.answer.{Answer.Answer, Outcome.Outcome}
 use Rattle.audit_core.specs.declared.fault.Fault.{Fault}
 use Rattle.audit_core.specs.declared.fault.Fault.TheVariants.{File, Memory, Words}
 use Rattle.audit_core.specs.declared.request.{Format.Format, Request.Request}
 use Rattle.audit_core.specs.declared.request.Format.TheVariants.{Github, Html, Json, Sarif, Text}
 use Rattle.robots_audit.specs.Command.{HasFile, IsOn, IsRequestOf, value_of}
-use Rattle.audit_compare.specs.Compare.{IsComparison}
+use Rattle.audit_compare.specs.Compare.{ComparisonValue, IsComparison, differs_nowhere}
+use Rattle.audit_compare.specs.Compare.{rejects_some as rejects_one, report_lines as comparison_lines}
 use Rattle.audit_expect.specs.{Expectations.IsAnswer, UrlList.HasUrlsIn}
 use Rattle.audit_text.specs.Report.{listed_lines, report_lines, total_line}
 use Rattle.audit_text.specs.{Github.github_text, Explain.explanation, Explain.list_text}
@@ -93,7 +94,23 @@ pub record IsAudited (requested : RequestValue) (file : List ℕ) (answer : Answ
   pub report : answer.report.items ≡ output requested audit
   pub outcome : IsOutcomeOf requested audit answer.outcome
 
+-- the answer to a comparison of two files with these names and bytes; there are no warnings
+pub record IsCompared (requested : RequestValue) (older_name older newer_name newer : List ℕ)
+    (answer : Answer) : Type 0 where
+  pub comparison : ComparisonValue
+  pub of : IsComparison requested.agents requested.urls older_name older newer_name newer comparison
+  pub report : answer.report.items ≡ written (comparison_lines comparison)
+  pub rejected : answer.outcome.is_rejected ≡ rejects_one comparison
+  pub unchanged : answer.outcome.has_passed ≡ differs_nowhere comparison
+  pub unwarned : answer.outcome.is_warned ≡ false
+  pub silent : string_bytes answer.outcome.warnings ≡ []
+
 -- ---- arguments
+
+-- the name of the robots.txt file as it is given
+abbrev pub given_name : Option (List ℕ) → List ℕ
+given_name None = codes "-"
+given_name (Some name) = name
 
 -- The toolchain has no words for the content of a file or of standard input. So these say that there are some
 -- bytes, which were read, for which the answer is the right one.
@@ -116,20 +133,23 @@ pub record AnswersAudit (by_default : Bool) (matches : ArgMatches) (answer : Ans
   pub file : List ℕ
   pub audited : IsAudited requested file answer
 
--- a check of the expectations in the file with this name
+-- a check of the expectations in the file with this name, against a file that can be a robots.txt file
 pub record AnswersExpectations (matches : ArgMatches) (name : List ℕ) (answer : Answer) : Type 0 where
   pub has_file : HasFile matches
   pub text : List ℕ
   pub file : List ℕ
+  pub can_be : content_flaw file ≡ None
   pub checked : IsAnswer name text file answer
 
--- a comparison of two files
-pub record AnswersComparison (matches : ArgMatches) (answer : Answer) : Type 0 where
+-- a comparison of the file with this name with the one that the arguments name; both can be robots.txt files
+pub record AnswersComparison (matches : ArgMatches) (name : List ℕ) (answer : Answer) : Type 0 where
   pub requested : RequestValue
   pub asked : IsAsked false matches requested
   pub older : List ℕ
   pub newer : List ℕ
-  pub compared : IsComparison requested.agents requested.urls older newer answer
+  pub older_can_be : content_flaw older ≡ None
+  pub newer_can_be : content_flaw newer ≡ None
+  pub compared : IsCompared requested name older (given_name requested.file) newer answer
 
 -- what the options `--explain`, `--expect` and `--compare` request, in this order, or else an audit
 abbrev pub AnswersOptions : (explain expect compare : Option (List ℕ)) → (by_default : Bool) → ArgMatches
@@ -137,7 +157,7 @@ abbrev pub AnswersOptions : (explain expect compare : Option (List ℕ)) → (by
 AnswersOptions (Some name) expect compare by_default matches answer =
     (is_name name ≡ true) × IsText (explanation name) answer
 AnswersOptions None (Some name) compare by_default matches answer = AnswersExpectations matches name answer
-AnswersOptions None None (Some name) by_default matches answer = AnswersComparison matches answer
+AnswersOptions None None (Some name) by_default matches answer = AnswersComparison matches name answer
 AnswersOptions None None None by_default matches answer = AnswersAudit by_default matches answer
 
 -- the answer to these arguments; `by_default` is whether warnings have colors without `--color`

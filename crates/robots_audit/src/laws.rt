@@ -11,7 +11,7 @@ ghost use Rattle.audit_core.specs.declared.answer.Answer.{Answer};
 ghost use Rattle.printable_text.specs.{Color.IsColored, Color.IsForTerminal, PlainLine.IsPlainLine};
 ghost use Rattle.printable_text.specs.{Text.line_text, Sanitize.has_command, Sanitize.IsPrintable};
 ghost use Rattle.audit_core.specs.declared.fault.Fault.{Fault};
-ghost use Rattle.audit_compare.specs.Compare.{ComparedValue, report_lines};
+ghost use Rattle.audit_compare.specs.Compare.{ComparisonValue, report_lines};
 ghost use Rattle.audit_expect.specs.Expectations.{CheckedValue, IsReport, result_lines};
 ghost use Rattle.audit_text.specs.Explain.{explanation, list_text};
 ghost use Rattle.audit_text.specs.Report.{listed_lines, report_lines as audit_lines, total_line};
@@ -47,7 +47,7 @@ pub fn no_other_report_steers_a_terminal()
 pub fn no_line_is_a_command()
     ensures audit { (requested : RequestValue) (audit : AuditValue) → Each IsPlainLine (map line_text (audit_lines requested audit)) }
     ensures totals { (agents : List AgentValue) → IsPlainLine (line_text (total_line agents)) }
-    ensures comparison { (compared : List ComparedValue) → Each IsPlainLine (map line_text (report_lines compared)) }
+    ensures comparison { (comparison : ComparisonValue) → Each IsPlainLine (map line_text (report_lines comparison)) }
 {}
 
 /// Nor do a line of `--expect` and a line about a warning on standard error contain `##[`. They begin with the name of a

@@ -19,13 +19,13 @@
 //! for a crawler of a report or of a comparison.
 #![tactic(auto)]
 
-ghost use Rattle.std.specs.Prelude.{◌≡◌, ◌≢◌, IfErr, IfOk, IsErr, option_map, string_bytes, true};
+ghost use Rattle.std.specs.Prelude.{◌≡◌, ◌≢◌, IfErr, IfOk, IsErr, None, option_map, string_bytes, true};
 ghost use Rattle.std.specs.Process.{exit_status};
 ghost use Rattle.printable_text.specs.Color.{IsForTerminal};
 ghost use Rattle.audit_core.specs.Fault.{fault_text, message_after, status_after};
 ghost use Rattle.audit_core.specs.declared.fault.Fault.TheVariants.{Memory};
 ghost use Rattle.clap.specs.Values.{kind_of};
-ghost use Rattle.audit_core.specs.Request.{requested_by};
+ghost use Rattle.audit_core.specs.{Content.content_flaw, Request.requested_by};
 ghost use Rattle.robots_audit.specs.Answer.{Answers, AnswersAudit, AnswersComparison, AnswersExpectations};
 ghost use Rattle.robots_audit.specs.Answer.{HasUrls, HasWords};
 
@@ -34,9 +34,10 @@ mod laws;
 mod options;
 mod program;
 
-use audit_compare::compare::compare;
+use audit_compare::compare::NamedFile;
 use audit_core::answer::{Answer, Outcome, text_answer, write_answer};
 use audit_core::color::colors_by_default;
+use audit_core::content::check_content;
 use audit_core::fault::{Fault, fault_text, status_after};
 use audit_core::request::Request;
 use audit_expect::expectations::check;
@@ -45,7 +46,7 @@ use audit_text::explain::{explain, list_warnings};
 use clap::ArgMatches;
 use clap::error::ErrorKind as WordsKind;
 use command::{check_files, command, file_read, requested};
-use program::{audited, unread};
+use program::{audited, comparison, given_name, unread};
 use robots_io::streams::{ReadFault, read_all};
 use std::alloc::{AllocError, Global};
 use std::env;
@@ -82,6 +83,15 @@ fn read(rt: &HostRuntime, name: Option<&str>) -> Result<Vec<u8>, Fault> {
         Some(name) => read_named(rt, name),
         None => Ok(read_all(rt.alloc(), &mut rt.stdin())?),
     }
+}
+
+/// The bytes of the file with this name, or of standard input for `-`. Fails if that can't be a robots.txt file.
+fn read_robots(rt: &HostRuntime, name: &str) -> Result<Vec<u8>, Fault>
+    ensures { IfOk result (λ bytes. content_flaw bytes.items ≡ None) }
+{
+    let bytes = read(rt, Some(name))?;
+    check_content(rt.alloc(), name, &bytes)?;
+    Ok(bytes)
 }
 
 /// The bytes of the file of `--urls`; none without this option.
@@ -124,20 +134,26 @@ fn checked(rt: &HostRuntime, matches: &ArgMatches<'_>, expected: &str) -> Result
 {
     check_files(matches)?;
     let text = read(rt, Some(expected))?;
-    let file = read(rt, matches.get_str("file"))?;
+    let file = read_robots(rt, given_name(matches.get_str("file")))?;
     check(rt.alloc(), expected, &text, &file)
 }
 
 /// Compares the file `older` with the file that the arguments name.
 fn compared(rt: &HostRuntime, matches: &ArgMatches<'_>, older: &str) -> Result<Answer, Fault>
-    ensures { IfOk result (AnswersComparison matches.now) }
+    ensures { IfOk result (AnswersComparison matches.now older.now) }
 {
     let request = requested(rt.alloc(), matches, false)?;
     let text = url_text(rt, matches)?;
     let whole = extended(rt.alloc(), request, matches.get_str("urls"), &text)?;
-    let older = read(rt, Some(older))?;
-    let newer = read(rt, whole.file)?;
-    compare(rt.alloc(), &whole.agents, &whole.urls, &older, &newer)
+    let name = given_name(whole.file);
+    let old = read_robots(rt, older)?;
+    let new = read_robots(rt, name)?;
+    let old_file = NamedFile {
+        name: older,
+        bytes: &old,
+    };
+    let new_file = NamedFile { name, bytes: &new };
+    comparison(rt.alloc(), &whole, old_file, new_file)
 }
 
 /// The answer to the parsed arguments; `has_colors` is as for `requested`.

@@ -1,9 +1,15 @@
 //! The audit of a file and the report on it, without the command line, input and output.
-ghost use Rattle.std.specs.Prelude.{◌≡◌, IfErr, IfOk, Some, string_bytes};
-ghost use Rattle.robots_audit.specs.Answer.{IsAudited, IsFileUnreadable, has_all_urls};
+ghost use Rattle.std.specs.Prelude.{◌≡◌, IfErr, IfOk, Some, map, option_map, string_bytes};
+ghost use Rattle.robots_audit.specs.Answer.{IsAudited, IsCompared, IsFileUnreadable, given_name, has_all_urls};
 ghost use Rattle.robots_audit.specs.Answer.{is_warned, leaves_out_allowed, output, message};
+ghost use Rattle.printable_text.specs.Text.{written};
+ghost use Rattle.audit_compare.specs.Compare.{IsComparison, report_lines as comparison_lines};
 ghost use Rattle.audit_core.specs.Request.{requested_by};
 
+use audit_compare::compare::{
+    Comparison, NamedFile, compare, differs_nowhere, rejects_some as rejects_one,
+};
+use audit_compare::report::comparison_text;
 use audit_core::answer::{Answer, Outcome};
 use audit_core::audit::{Audit, all_allowed, audit_of, rejects_some};
 use audit_core::fault::Fault;
@@ -110,6 +116,64 @@ pub fn audited<'a>(alloc: Global, request: &Request<'a>, file: &'a [u8]) -> Resu
     };
     let report = output(alloc, request, audit)?;
     Ok(Answer { report, outcome })
+}
+
+/// Compares two files for the crawlers and URLs of the request.
+fn compared_for<'a>(
+    alloc: Global,
+    request: &Request<'a>,
+    older: NamedFile<'a>,
+    newer: NamedFile<'a>,
+) -> Result<Comparison<'a>, Fault>
+    ensures ok { IfOk result (IsComparison (requested_by request.now).agents (requested_by request.now).urls
+        older.entry.name.now older.entry.bytes.now newer.entry.name.now newer.entry.bytes.now) }
+    ensures fault { IfErr result (λ fault. fault ≡ Fault.Memory) }
+{
+    compare(alloc, &request.agents, &request.urls, older, newer)
+}
+
+/// The report on a comparison.
+fn comparison_output(alloc: Global, found: &Comparison<'_>) -> Result<Vec<u8>, AllocError>
+    ensures { IfOk result (λ report. report.items ≡ written (comparison_lines found.now)) }
+{
+    Ok(comparison_text(alloc, found)?.into_bytes())
+}
+
+/// Compares two files for the crawlers and URLs of the request, and writes the report. A file that is rejected for a
+/// crawler isn't an error: the outcome says so.
+///
+/// # Errors
+///
+/// `Fault::Memory` if an allocation fails or a URL is too long for `url`.
+pub fn comparison<'a>(
+    alloc: Global,
+    request: &Request<'a>,
+    older: NamedFile<'a>,
+    newer: NamedFile<'a>,
+) -> Result<Answer, Fault>
+    ensures ok { IfOk result (IsCompared (requested_by request.now) older.entry.name.now older.entry.bytes.now
+        newer.entry.name.now newer.entry.bytes.now) }
+    ensures fault { IfErr result (λ fault. fault ≡ Fault.Memory) }
+{
+    let found = compared_for(alloc, request, older, newer)?;
+    let outcome = Outcome {
+        is_rejected: rejects_one(&found),
+        has_passed: differs_nowhere(&found),
+        is_warned: false,
+        warnings: String::new(alloc),
+    };
+    let report = comparison_output(alloc, &found)?;
+    Ok(Answer { report, outcome })
+}
+
+/// The name of the robots.txt file as it is given.
+pub fn given_name<'a>(file: Option<&'a str>) -> &'a str
+    ensures { result.now ≡ given_name (option_map (λ name. name.now) file.entry) }
+{
+    match file {
+        Some(name) => name,
+        None => "-",
+    }
 }
 
 /// The error for a file with this name that can't be opened or read.

@@ -1,16 +1,17 @@
 -- The comparison of two files as the code does it.
-use Rattle.std.specs.Prelude.{◌≡◌, ℕ, Bool, List, flat_map, if◌then◌else◌, map, string_bytes, take}
-use Rattle.std.specs.{BTreeSet.contains_text, List.AllZip, List.list_all, List.list_any}
+use Rattle.std.specs.Prelude.{◌≡◌, ℕ, Bool, List, [], ◌∷◌, ◌++◌, if◌then◌else◌, map, not, take}
+use Rattle.std.specs.{BTreeSet.BTreeSet, BTreeSet.contains, BTreeSet.contains_text}
 use Rattle.texting_robots.specs.Callers.{PlacedRule, Rule, file_limit, label_by_value, lines_read}
-use Rattle.robots_warnings.specs.File.{lines_of}
-use Rattle.printable_text.specs.Text.{written}
-use Rattle.audit_compare.specs.declared.compare.Comparison.{Comparison}
-use Rattle.audit_compare.specs.declared.compared.{Compared.Compared, Version.Version}
+use Rattle.robots_warnings.specs.{File.lines_of, Internal.Names.Key, Internal.Names.key_cmp}
+use Rattle.audit_compare.specs.declared.compare.{Comparison.TheInside.Inside as InsideComparison}
+use Rattle.audit_compare.specs.declared.compare.{Side.TheInside.Inside as InsideSide}
+use Rattle.audit_compare.specs.declared.compared.{Compared.TheInside.Inside as InsideCompared}
+use Rattle.audit_compare.specs.declared.compared.{UrlChange.TheInside.Inside as InsideChange, Version.Version}
 use Rattle.audit_compare.specs.declared.rule_sets.RuleSet.{RuleSet}
-use Rattle.audit_compare.specs.Compare.{ComparedValue, IsCompared, agent_lines, has_rule, is_rejected}
-use Rattle.audit_compare.specs.Compare.{is_unchanged}
+use Rattle.audit_compare.specs.Compare.{ComparedValue, ComparisonValue, SideValue, UrlChangeValue, has_rule}
+use Rattle.audit_compare.specs.Compare.{is_listed}
 
--- ---- sets of rules
+-- ---- sets
 
 -- whether the set contains the rule
 abbrev pub contains_rule : RuleSet → Rule → Bool
@@ -21,6 +22,15 @@ contains_rule set rule =
 pub record HasRules (rules : List PlacedRule) (set : RuleSet) : Type 0 where
   pub each : (rule : Rule) → contains_rule set rule ≡ has_rule rules rule
 
+-- the set contains exactly these texts
+pub record HasTexts (texts : List (List ℕ)) (set : BTreeSet Key) : Type 0 where
+  pub each : (key : Key) → contains key_cmp set key ≡ is_listed texts key.items
+
+-- the text was inserted into the old set, and is new if the old set didn't contain it
+pub record AddsText (old new : BTreeSet Key) (text : List ℕ) (is_new : Bool) : Type 0 where
+  pub was : (texts : List (List ℕ)) → HasTexts texts old → is_new ≡ not (is_listed texts text)
+  pub has : (texts : List (List ℕ)) → HasTexts texts old → HasTexts (texts ++ text ∷ []) new
+
 -- ---- files
 
 -- the parts are those of the file with these bytes
@@ -28,28 +38,29 @@ pub record IsVersion (version : Version) : Type 0 where
   pub site : version.site ≡ take file_limit version.bytes.now
   pub lines : lines_of (map label_by_value version.labels.items) ≡ lines_read version.bytes.now
 
--- ---- reports
+-- ---- values
 
-abbrev pub compared_value : Compared → ComparedValue
-compared_value compared = record {
-  agent = compared.older.agent;
+abbrev pub change_of : InsideChange → UrlChangeValue
+change_of change = record { url = change.url.now; older = change.older; newer = change.newer }
+
+abbrev pub compared_of : InsideCompared → ComparedValue
+compared_of compared = record {
+  agent = compared.agent.now;
   older = compared.older;
   newer = compared.newer;
   removed = compared.removed.items;
   added = compared.added.items;
+  changes = compared.changes.items;
 }
 
--- what is found on these crawlers: the lines about each, whether a file is rejected for one of them, and
--- whether some or all are unchanged
-pub record IsFound (compared : List ComparedValue) (found : Comparison) : Type 0 where
-  pub text : string_bytes found.report ≡ written (flat_map agent_lines compared)
-  pub rejected : found.is_rejected ≡ list_any is_rejected compared
-  pub some : found.some_unchanged ≡ list_any is_unchanged compared
-  pub every : found.all_unchanged ≡ list_all is_unchanged compared
+abbrev pub side_of : InsideSide → SideValue
+side_of side = record { name = side.name.now; is_empty = side.is_empty }
 
--- the crawlers with these names are compared
-pub record IsReportOn (urls : List (List ℕ)) (older newer : List ℕ) (agents : List (List ℕ))
-    (found : Comparison) : Type 0 where
-  pub compared : List ComparedValue
-  pub all : AllZip (IsCompared urls (lines_read older) (lines_read newer)) agents compared
-  pub is : IsFound compared found
+abbrev pub comparison_of : InsideComparison → ComparisonValue
+comparison_of comparison = record {
+  older = comparison.older;
+  newer = comparison.newer;
+  crawlers = comparison.crawlers.items;
+  removed = map (λ text. text.now) comparison.removed.items;
+  added = map (λ text. text.now) comparison.added.items;
+}

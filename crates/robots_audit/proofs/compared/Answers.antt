@@ -3,14 +3,17 @@ use Rattle.robots_audit.proofs.AnswerLemmas.{if_ok}
 use Rattle.robots_audit.proofs.compared.Goals as goal
 
 pub returns : goal.returns
-returns c = if_ok c.compare.result (λ answer is. record {
+returns c = if_ok c.comparison.result (λ answer is. record {
   requested = requested_by c.in_ok-whole.whole;
   asked = record {
     request = c.in_ok-request.request;
     asked = c.in_ok-request.ensures;
     urls = rw c.get_str.ensures at c.in_ok-whole.ensures;
   };
-  older = c.deref-4.result.now;
-  newer = c.deref-5.result.now;
+  older = c.in_ok-old.old.items;
+  newer = c.in_ok-new.new.items;
+  older_can_be = c.in_ok-old.ensures;
+  newer_can_be = c.in_ok-new.ensures;
   compared = is;
-}) (rw (c.deref-2.ensures.value, c.deref-3.ensures.value) at c.compare.ensures.ok)
+}) (rw (c.given_name-name.ensures, c.deref-2.ensures.value, c.deref-3.ensures.value)
+    at c.comparison.ensures.ok)

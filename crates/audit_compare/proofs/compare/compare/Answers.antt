@@ -1,9 +1,4 @@
-use Rattle.std.proofs.Common.{ap, Bor, flat_map, List, map, refl, sym, ◌≡◌, ◌++◌, ◌∙◌, ℕ}
-use Rattle.std.specs.Global.{Vec}
-use Rattle.printable_text.specs.Text.{written}
-use Rattle.printable_text.proofs.PartLemmas.{written_append}
-use Rattle.audit_compare.specs.Compare.{agent_lines, unchanged_lines}
-use Rattle.audit_compare.proofs.CompareLemmas.{names_compared}
+use Rattle.std.proofs.Common.{ap, Bor, List, map, ◌≡◌, ◌∙◌, ℕ}
 use Rattle.audit_compare.proofs.compare.compare.Goals as goal
 
 same_names : (one other : List (Bor (List ℕ))) → one ≡ other
@@ -12,23 +7,16 @@ same_names one other same = ap (λ (names : List (Bor (List ℕ))). map (λ name
 
 pub returns-clause-ok : goal.returns-clause-ok
 returns-clause-ok c =
-    let on = c.in_ok-found.ensures.ok in
-    let is = on.is in
-    let found = c.in_ok-found.found in
-    let names = map (λ name. name.now) c.deref-2.result.now in
-    let compared = names_compared _ _ _ _ _ on.all
-    ∙ same_names _ _ (c.deref.ensures.value ∙ sym c.deref-2.ensures.value) in
-    let last = unchanged_lines names found.all_unchanged found.some_unchanged in
-    rw (← c.in_ok-older.ensures.bytes, ← c.in_ok-newer.ensures.bytes) (record {
-      compared = on.compared;
-      all = rw (same_names _ _ c.deref.ensures.value ∙ c.in_ok-names.ensures) at on.all;
-      report =
-          rw (sym is.every, sym is.some, compared)
-          (ap (λ (bytes : Vec ℕ). bytes.items) c.into_bytes.ensures.value ∙ c.in_ok-push_unchanged.ensures
-          ∙ ap (λ text. text ++ written last) is.text
-          ∙ sym (written_append (flat_map agent_lines on.compared) last));
-      rejected = is.rejected;
-      unchanged = is.every;
-      unwarned = refl;
-      silent = c.new.ensures.bytes;
+    let old = c.in_ok-old.ensures in
+    let new = c.in_ok-new.ensures in
+    rw (← old.bytes, ← new.bytes) (record {
+      older_is = c.side_of.ensures;
+      newer_is = c.side_of-2.ensures;
+      all = rw (same_names _ _ c.deref.ensures.value ∙ c.in_ok-names.ensures) at c.in_ok-crawlers.ensures.ok;
+      removed_are =
+          rw (c.deref-2.ensures.value, c.deref-3.ensures.value, old.parts.lines, new.parts.lines)
+          at c.in_ok-removed.ensures;
+      added_are =
+          rw (c.deref-4.ensures.value, c.deref-5.ensures.value, old.parts.lines, new.parts.lines)
+          at c.in_ok-added.ensures;
     })

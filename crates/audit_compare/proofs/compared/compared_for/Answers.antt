@@ -1,10 +1,12 @@
+use Rattle.std.proofs.Common.{refl}
 use Rattle.audit_compare.proofs.compared.compared_for.Goals as goal
 
 pub returns-clause-ok : goal.returns-clause-ok
 returns-clause-ok c = record {
-  agent_is = c.in_ok-older_audit.ensures.ok.agent_is;
+  agent_is = refl;
   older_is = c.in_ok-older_audit.ensures.ok;
   newer_is = c.in_ok-newer_audit.ensures.ok;
-  removed_are = rw (c.requires.older.site, c.requires.newer.site) at c.in_ok-changes.ensures.removed;
-  added_are = rw (c.requires.older.site, c.requires.newer.site) at c.in_ok-changes.ensures.added;
+  removed_are = rw (c.requires.older.site, c.requires.newer.site) at c.in_ok-rules.ensures.removed;
+  added_are = rw (c.requires.older.site, c.requires.newer.site) at c.in_ok-rules.ensures.added;
+  changes_are = c.in_ok-changes.ensures;
 }

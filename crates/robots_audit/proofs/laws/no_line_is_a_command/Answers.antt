@@ -7,5 +7,5 @@ pub returns : goal.returns
 returns c = record {
   audit = λ requested audit. lines_plain (audit_lines requested audit);
   totals = λ agents. line_plain (total_line agents);
-  comparison = λ compared. lines_plain (report_lines compared);
+  comparison = λ comparison. lines_plain (report_lines comparison);
 }
