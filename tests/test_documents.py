@@ -273,6 +273,8 @@ AUDIT_ERRORS = {
     "standard input can't be two files; give the name of one; " + USAGE: {"args": ["--urls", "-", "-"]},
     "unknown warning NAME; all are in --list-warnings": {"args": ["--ignore", "NAME", "-"]},
     "unknown warning hostline; a similar one is host-line; all are in --list-warnings": {"args": ["--only", "hostline", "-"]},
+    "--denied needs URLs, as arguments or by --urls FILE; " + USAGE: {"args": ["--denied", "-"]},
+    "host-line: --only and --ignore both name this warning": {"args": ["--only", "host-line", "--ignore", "host-line", "-"]},
     "A,B: a comma in a crawler's name; repeat --agent for each crawler": {"args": ["--agent", "A,B", "-"]},
     "cannot read NAME": {"args": ["NAME"]},
     "cannot read example.com; for a host, try: " + CURL: {"args": ["example.com"]},

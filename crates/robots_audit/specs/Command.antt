@@ -1,7 +1,7 @@
 -- The request that the arguments contain, specified by what `clap` found in them.
 use Rattle.std.specs.Prelude.{◌≡◌, ◌⊎◌, ℕ, Bool, true, false, List, [], Option, Some, None}
 use Rattle.std.specs.Prelude.{Contains, IsTrue, Result, Ok, Err, bytes_eq, codes, if◌then◌else◌, is_none}
-use Rattle.std.specs.Prelude.{is_some, map, ◌&&◌, ◌||◌, option_map}
+use Rattle.std.specs.Prelude.{is_some, map, not, ◌&&◌, ◌||◌, option_map}
 use Rattle.std.specs.{List.list_all, Option.option_map_or}
 use Rattle.clap.specs.Words.{first_value, found_of, matched_of, one_text, raw_values}
 use Rattle.clap.specs.declared.parser.matches.ArgMatches.{ArgMatches}
@@ -9,12 +9,12 @@ use Rattle.audit_core.specs.Color.{requested_colors}
 use Rattle.audit_core.specs.declared.request.{Format.Format, Request.Request}
 use Rattle.audit_core.specs.declared.request.Format.TheVariants.{Html, Json, Text}
 use Rattle.audit_core.specs.declared.fault.Fault.{Fault}
-use Rattle.audit_core.specs.declared.fault.Fault.TheVariants.{Memory, StdinTwice, Usage}
+use Rattle.audit_core.specs.declared.fault.Fault.TheVariants.{Memory, NoUrl, StdinTwice, Usage}
 use Rattle.printable_text.specs.declared.level.Level.{Level}
 use Rattle.printable_text.specs.declared.level.Level.TheVariants as level
 use Rattle.robots_warnings.specs.Table.{is_name}
 use Rattle.audit_core.specs.{Crawler.IsNoCrawlerIn, Crawler.is_crawler_name, Crawler.single}
-use Rattle.audit_core.specs.{Fault.IsUnknown, Request.format_named}
+use Rattle.audit_core.specs.{Chosen.IsInBoth, Chosen.share_a_name, Fault.IsUnknown, Request.format_named}
 use Rattle.audit_expect.specs.UrlList.{IsUrlFault, first_malformed}
 
 -- the first value of an option or argument
@@ -68,23 +68,35 @@ IsFormatOf matches format = (is_json is_html : Bool) × IsOn matches (codes "jso
     × IsOn matches (codes "html") is_html
     × (format ≡ requested_format is_json is_html (value_of matches (codes "format")))
 
--- FILE is given, and standard input is read at most once
+-- URLs are given, as arguments or in a file
+abbrev pub has_urls : ArgMatches → Bool
+has_urls matches = is_some (value_of matches (codes "url")) || is_some (value_of matches (codes "urls"))
+
+-- `--denied` is given, but no URL
+abbrev pub LacksUrls : ArgMatches → Bool → Type 0
+LacksUrls matches answer =
+    (is_denied : Bool) × IsOn matches (codes "denied") is_denied
+    × (answer ≡ (is_denied && not (has_urls matches)))
+
+-- FILE is given, standard input is read at most once, and `--denied` is only given if there are URLs
 pub record HasFile (matches : ArgMatches) : Type 0 where
   pub given : is_some (value_of matches (codes "file")) ≡ true
   pub once : reads_stdin_twice matches ≡ false
+  pub listed : LacksUrls matches false
 
--- the error for the one or the other
+-- the error if one of these doesn't hold
 abbrev pub IsFileFault : ArgMatches → Fault → Type 0
 IsFileFault matches fault =
     ((value_of matches (codes "file") ≡ None) × (fault ≡ Usage))
-    ⊎ ((reads_stdin_twice matches ≡ true) × (fault ≡ StdinTwice))
+    ⊎ (((reads_stdin_twice matches ≡ true) × (fault ≡ StdinTwice))
+    ⊎ (LacksUrls matches true × (fault ≡ NoUrl)))
 
 -- the values of `--agent`; crawlers have such names
 pub record AreAgentsOf (matches : ArgMatches) (agents : List (List ℕ)) : Type 0 where
   pub all : agents ≡ values_of matches (codes "agent")
   pub named : IsTrue (list_all is_crawler_name agents)
 
--- the arguments after FILE; each is a path or a URL
+-- the arguments after FILE; each is a path or a URL, as they are asked for
 pub record AreUrlsOf (matches : ArgMatches) (urls : List (List ℕ)) : Type 0 where
   pub all : urls ≡ values_of matches (codes "url")
   pub formed : first_malformed urls ≡ None
@@ -112,14 +124,16 @@ pub record IsRequestOf (by_default : Bool) (matches : ArgMatches) (request : Req
       ≡ single (map (λ agent. agent.now) request.agents.items)
   pub only : AreNamesOf matches (codes "only") (map (λ name. name.now) request.only.items)
   pub ignored : AreNamesOf matches (codes "ignore") (map (λ name. name.now) request.ignored.items)
+  pub apart : share_a_name (values_of matches (codes "only")) (values_of matches (codes "ignore")) ≡ false
 
 -- the error reports one of these names, which no warning has, or an allocation failed
 abbrev pub IsUnknownIn : List (List ℕ) → Fault → Type 0
 IsUnknownIn names fault =
     (fault ≡ Memory) ⊎ ((name : List ℕ) × Contains names name × (is_name name ≡ false) × IsUnknown name fault)
 
--- a request, or an error: FILE is missing, standard input would be read twice, no crawler or no warning has a
--- given name, an argument is neither a path nor a URL, or an allocation failed
+-- a request, or an error: FILE is missing, standard input would be read twice, no URL is given for `--denied`,
+-- no crawler or no warning has a given name, an argument is malformed, `--only` and `--ignore` have the same
+-- name, or an allocation failed
 abbrev pub Asks : (by_default : Bool) → ArgMatches → Result Request Fault → Type 0
 Asks by_default matches (Ok request) = IsRequestOf by_default matches request
 Asks by_default matches (Err fault) =
@@ -127,4 +141,5 @@ Asks by_default matches (Err fault) =
     ⊎ (IsNoCrawlerIn (values_of matches (codes "agent")) fault
     ⊎ (IsUrlFault (values_of matches (codes "url")) fault
     ⊎ (IsUnknownIn (values_of matches (codes "only")) fault
-    ⊎ IsUnknownIn (values_of matches (codes "ignore")) fault)))
+    ⊎ (IsUnknownIn (values_of matches (codes "ignore")) fault
+    ⊎ IsInBoth (values_of matches (codes "only")) (values_of matches (codes "ignore")) fault))))

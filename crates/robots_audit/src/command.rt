@@ -4,11 +4,12 @@ ghost use Rattle.std.specs.List.{list_all};
 ghost use Rattle.robots_warnings.specs.Table.{is_name};
 ghost use Rattle.audit_core.specs.Crawler.{IsNoCrawlerIn};
 ghost use Rattle.audit_expect.specs.UrlList.{IsUrlFault};
-ghost use Rattle.robots_audit.specs.Command.{AreAgentsOf, AreNamesOf, AreUrlsOf, Asks, file_read, HasFile};
-ghost use Rattle.robots_audit.specs.Command.{IsFileFault, is_stdin, IsUnknownIn, level_named, reads_stdin_twice};
+ghost use Rattle.robots_audit.specs.Command.{AreAgentsOf, AreNamesOf, AreUrlsOf, Asks, HasFile, LacksUrls, file_read};
+ghost use Rattle.robots_audit.specs.Command.{IsFileFault, has_urls, is_stdin, IsUnknownIn, level_named, reads_stdin_twice};
 ghost use Rattle.robots_audit.specs.Command.{requested_format, values_of};
 
 use crate::options::with_options;
+use audit_core::chosen::are_apart;
 use audit_core::color::requested_colors;
 use audit_core::crawler::{are_crawlers, single};
 use audit_core::fault::{Fault, unknown};
@@ -23,7 +24,7 @@ use std::alloc::{AllocError, Global};
 /// The end of the help.
 const AFTER_HELP: &str = "\
 With --expect, give only FILE; with --compare only FILE, URLs, --urls and --agent; with --list-warnings or
---explain nothing else.
+--explain nothing else. With --denied, give URLs or --urls.
 
 Exit status, the first that applies:
   2  if the program couldn't do its work, or the file is rejected for a crawler
@@ -81,7 +82,23 @@ fn reads_stdin_twice(matches: &ArgMatches<'_>) -> bool
     has_no_file && (urls || expected || older) || urls && older
 }
 
-/// Fails if FILE is missing, or if standard input would be read twice.
+/// Whether URLs are given, as arguments or in a file.
+fn has_urls(matches: &ArgMatches<'_>) -> bool
+    ensures { result ≡ has_urls matches.now }
+{
+    matches.get_str("url").is_some() || matches.get_str("urls").is_some()
+}
+
+/// Whether `--denied` is given, but no URL.
+fn lacks_urls(matches: &ArgMatches<'_>) -> bool
+    ensures { LacksUrls matches.now result }
+{
+    let is_denied = matches.get_flag("denied");
+    let has_urls = has_urls(matches);
+    is_denied && !has_urls
+}
+
+/// Fails if FILE is missing, if standard input would be read twice, or if `--denied` has no URL to list.
 pub fn check_files(matches: &ArgMatches<'_>) -> Result<(), Fault>
     ensures ok { OnOk result (HasFile matches.now) }
     ensures fault { IfErr result (IsFileFault matches.now) }
@@ -89,6 +106,7 @@ pub fn check_files(matches: &ArgMatches<'_>) -> Result<(), Fault>
     match matches.get_str("file") {
         None => Err(Fault::Usage),
         Some(_) if reads_stdin_twice(matches) => Err(Fault::StdinTwice),
+        Some(_) if lacks_urls(matches) => Err(Fault::NoUrl),
         Some(_) => Ok(()),
     }
 }
@@ -195,7 +213,8 @@ fn has_totals(is_denied_only: bool, urls: Option<&str>) -> bool
 
 /// The request that the arguments contain, without the URLs in a file; `has_colors` is whether warnings have colors
 /// without `--color` or with `--color auto`. Fails if FILE is missing, if standard input would be read twice, if no
-/// crawler or no warning has a given name, if an argument is malformed, or if an allocation fails.
+/// URL is given for `--denied`, if no crawler or no warning has a given name, if an argument is malformed, if `--only`
+/// and `--ignore` have the same name, or if an allocation fails.
 pub fn requested<'a>(
     alloc: Global,
     matches: &ArgMatches<'a>,
@@ -205,6 +224,10 @@ pub fn requested<'a>(
 {
     check_files(matches)?;
     let agents = agents_of(alloc, matches)?;
+    let urls = urls_of(alloc, matches)?;
+    let only = names_of(alloc, matches, "only")?;
+    let ignored = names_of(alloc, matches, "ignore")?;
+    are_apart(alloc, &only, &ignored)?;
     let is_denied_only = matches.get_flag("denied");
     Ok(Request {
         file: file_read(matches.get_str("file")),
@@ -219,9 +242,9 @@ pub fn requested<'a>(
         strict: strict_level(matches.get_str("strict")),
         agent: single(&agents),
         agents,
-        urls: urls_of(alloc, matches)?,
-        only: names_of(alloc, matches, "only")?,
-        ignored: names_of(alloc, matches, "ignore")?,
+        urls,
+        only,
+        ignored,
         is_denied_only,
         has_totals: has_totals(is_denied_only, matches.get_str("urls")),
         has_needless: matches.get_flag("needless"),

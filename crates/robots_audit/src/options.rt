@@ -166,7 +166,7 @@ const PARAMETERS: &[Parameter] = &[
         short: None,
         long: Some("ignore"),
         value: Value::Repeated("NAME"),
-        help: "Leave out warnings with this name; may be repeated",
+        help: "Leave out warnings with this name, not one of --only; may be repeated",
         excludes: &[],
     },
     Parameter {
