@@ -160,7 +160,7 @@ SMALL = """<!DOCTYPE html><html lang="en"><head><meta charset="utf-8"/>
 <dl><dt>File</dt><dd><code dir="ltr">robots.txt</code></dd>
 <dt>Date</dt><dd>27 &amp; 28 November</dd>
 <dt>Group</dt><dd>* (Ferris has no group of its own), <a href="#L1">line 1</a></dd>
-<dt>Rules</dt><dd>1</dd><dt>Crawl delay</dt><dd>none</dd><dt>May fetch</dt><dd class=""></dd>
+<dt>Rules</dt><dd>1</dd><dt>Crawl delay</dt><dd>none</dd><dt>May fetch</dt><dd class="see rules">see rules</dd>
 <dt>Sitemaps</dt><dd><ul></ul></dd>
 <dt>Warnings</dt><dd>1 error<ul><li><a href="#L2">line 2</a>: {warning}</li></ul></dd></dl>
 <h2>URLs</h2><table class="urls"><caption>May the crawler fetch it?</caption>
@@ -186,9 +186,9 @@ CRAWLERS = """
 <th scope="col">Rules</th><th scope="col">Crawl delay</th><th scope="col">May fetch</th>
 <th scope="col"><code dir="ltr">/b</code></th></tr></thead><tbody>
 <tr><th scope="row"><code dir="ltr">Long</code></th><td>Long, <a href="#L4">line 4</a>; rejected: <a href="#L5">line 5</a></td>
-<td>1</td><td>none</td><td class=""></td></tr>
+<td>1</td><td>none</td><td class="see rules">see rules</td></tr>
 <tr><th scope="row"><code dir="ltr">B</code></th><td>* (B has no group of its own), <a href="#L1">line 1</a></td>
-<td>1</td><td>2.5 s</td><td class=""></td>
+<td>1</td><td>2.5 s</td><td class="see rules">see rules</td>
 <td class="denied"><code dir="ltr">/b</code>denied, <a href="#L2">line 2</a></td></tr></tbody></table></div><h2>File</h2>
 """
 
@@ -234,7 +234,7 @@ def test_page_about_all_crawlers():
     for it in found["agents"]:
         verdicts = [one["url"] + verdict(one) for one in it["verdicts"]]
         rows.append([it["agent"], f"{it['agent']}, line {it['group_line']}", str(it["rules"]), delay(it["delay"]), it["may_fetch"] or "", *verdicts])
-    assert [row[4] for row in rows] == ["May fetch", "", "nothing"]
+    assert [row[4] for row in rows] == ["May fetch", "see rules", "nothing"]
     assert [cells for _, cells in children(elements, "tr")][: len(rows)] == rows
     assert [row for row in children(elements, "tr") if row[0]] == rows_of({**audit("--agent=*", "-"), "warnings": found["warnings"]})
 

@@ -142,9 +142,9 @@ group_note agent =
     (group_reason agent.agent agent.group ∷ group_end agent.agent agent.group ∷ []))
     ⊕ group_place agent.group_line ⊕ rejection agent.rejected
 
--- what a crawler may fetch, if that is everything or nothing
+-- what a crawler may fetch, if that is everything or nothing; else its rules say it
 abbrev pub fetch_value : Option Fixed → Value
-fetch_value None = Nothing
+fetch_value None = Word (record { text = codes "see rules"; safe = refl })
 fetch_value (Some word) = Word word
 
 abbrev pub fetch_words : (rejected : Option ℕ) → Reach → Words
@@ -281,10 +281,15 @@ some_rest count =
 abbrev pub rest_note : ℕ → Tree
 rest_note count = if count == 0 then nothing else some_rest count
 
+-- how many warnings there are of each level
+abbrev pub count_words : List WarningValue → Words
+count_words warnings =
+    if length warnings == 0 then fixed (codes "none") refl else message Nothing (count_parts warnings)
+
 -- the numbers of warnings, and the list
 unfoldable pub warning_list : (rows : ℕ) → List WarningValue → Tree
 warning_list rows warnings =
-    text (message Nothing (count_parts warnings)) ⊕ tag (codes "ul") [] refl (warning_items rows warnings)
+    text (count_words warnings) ⊕ tag (codes "ul") [] refl (warning_items rows warnings)
     ⊕ rest_note (rest_count rows (later_warnings warnings))
 
 unfoldable pub warning_entry : (rows : ℕ) → List WarningValue → Tree

@@ -162,13 +162,13 @@ pub(crate) fn scroll_start() -> [Part<'static>; 1]
     [Part("<div class=\"scroll\" tabindex=\"0\">", Value::Nothing)]
 }
 
-/// What a crawler may fetch, if that is everything or nothing.
+/// What a crawler may fetch, if that is everything or nothing; else its rules say it.
 fn fetch_value(rejected: Option<usize>, reach: Reach) -> Value<'static>
     ensures { raw_value result ≡ value_text (fetch_value (may_fetch rejected reach)) }
 {
     match may_fetch(rejected, reach) {
         Some(word) => Value::Word(word),
-        None => Value::Nothing,
+        None => Value::Word("see rules"),
     }
 }
 

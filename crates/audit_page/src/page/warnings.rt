@@ -5,7 +5,7 @@ ghost use Rattle.std.specs.Prelude.{◌≡◌, ◌++◌, IfOk, IsTrue, OnOk};
 ghost use Rattle.printable_text.specs.Text.{Nothing, value_text};
 ghost use Rattle.audit_core.specs.Counts.{count_parts};
 ghost use Rattle.audit_page.specs.Page.{level_front, line_name, later_warnings, of_cause, rest_count, rest_note, warning_entry, warning_item};
-ghost use Rattle.audit_page.specs.Page.{warning_list, warning_place, warning_row, warning_words, without_row};
+ghost use Rattle.audit_page.specs.Page.{count_words, warning_list, warning_place, warning_row, warning_words, without_row};
 ghost use Rattle.audit_page.specs.Tree.{all, message, words_written, written};
 
 use crate::page::parts::{KnownRow, Page, push, push_start_with};
@@ -132,8 +132,11 @@ fn rest_count(rows: usize, warnings: &[Warning<'_>], others: &[Warning<'_>]) -> 
 /// Appends how many warnings there are of each level.
 fn push_counts(page: &mut Page, warnings: &[Warning<'_>]) -> Result<(), AllocError>
     ensures { OnOk result (page.new.out.items ≡ page.old.out.items
-        ++ words_written (message Nothing (count_parts warnings.now))) }
+        ++ words_written (count_words warnings.now)) }
 {
+    if warnings.is_empty() {
+        return push_text(&mut page.out, b"none");
+    }
     let nothing = Part("", Value::Nothing);
     page.text.clear();
     push_parts(&mut page.text, &count_parts(nothing, nothing, warnings))?;
