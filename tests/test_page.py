@@ -249,7 +249,7 @@ FILES = {
     b"": ("0", "everything"),
     b"User-agent: *\nAllow: /a\nAllow: /b": ("2", "everything"),
     b"User-agent: *\nDisallow: /": ("1", "nothing"),
-    b"User-agent: *\nDisallow: /a": ("1", ""),
+    b"User-agent: *\nDisallow: /a": ("1", "see rules"),
 }
 
 
@@ -279,7 +279,7 @@ def test_page_has_the_numbers_of_warnings():
     """They are those of the last line of the text."""
     for file in (EXAMPLE, b"User-agent: *\nDisallow: a\nDisallow: b\nhello\n", b"hello\n", b"User-agent: *\nDisallow: /a"):
         listed = run("robots_audit", ["-"], file).err.splitlines()
-        numbers = listed[-1].removeprefix("robots.txt: ") if listed else ""
+        numbers = listed[-1].removeprefix("robots.txt: ") if listed else "none"
         elements = Reader(page("-", file=file)).elements
         assert entries_of("-", file=file)["Warnings"] == numbers + "".join(texts(elements, "li")[len(audit("-", file=file)["sitemaps"]) :])
 
