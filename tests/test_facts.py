@@ -123,13 +123,9 @@ def test_crawler_with_another_group_has_its_note(name):
 def test_crates_and_modules_of_the_architecture():
     crates = re.findall(r"^(\w+)(?: staticlib)?:", (ROOT / "crates.txt").read_text(), re.M)
     documented = [name for row in tables(ARCHITECTURE) for name in re.findall(r"`([^`]+)`", row[0])]
-    content = {row[0].strip("`"): row[1] for row in tables(ARCHITECTURE)}
-    assert set(crates) - {"texting_robots"} <= set(documented)
-    modules = {path.relative_to(CRATES / "texting_robots/src").with_suffix("").as_posix() for path in (CRATES / "texting_robots/src").rglob("*.rt")}
-    assert not [name for name in modules - {"lib", "laws"} if name.rpartition("/")[2] not in documented]
-    for crate in (name for name in crates if name.startswith("audit_")):
-        modules = {path.stem for path in (CRATES / crate / "src").glob("*.rt")} - {"lib", "laws"}
-        assert modules <= set(re.findall(r"`(\w+)`", content[crate])), crate
+    assert set(crates) <= set(documented)
+    modules = [path for crate in crates for path in (CRATES / crate / "src").rglob("*.rt")]
+    assert not [path for path in modules if not path.read_text().startswith("//! ")]
 
 
 def test_errors_of_the_guide_are_those_of_the_library():
