@@ -233,7 +233,7 @@ def test_page_about_all_crawlers():
     rows = [["Crawler", "Group", "Rules", "Crawl delay", "May fetch", *URLS]]
     for it in found["agents"]:
         verdicts = [one["url"] + verdict(one) for one in it["verdicts"]]
-        rows.append([it["agent"], f"{it['agent']}, line {it['group_line']}", str(it["rules"]), delay(it["delay"]), it["may_fetch"] or "", *verdicts])
+        rows.append([it["agent"], f"{it['agent']}, line {it['group_line']}", str(it["rules"]), delay(it["delay"]), it["may_fetch"] or "see rules", *verdicts])
     assert [row[4] for row in rows] == ["May fetch", "see rules", "nothing"]
     assert [cells for _, cells in children(elements, "tr")][: len(rows)] == rows
     assert [row for row in children(elements, "tr") if row[0]] == rows_of({**audit("--agent=*", "-"), "warnings": found["warnings"]})
@@ -368,7 +368,11 @@ def test_text_of_a_file_becomes_no_element(text):
 @pytest.mark.parametrize("text", [text.replace(b"\0", b"").decode() for text in HOSTILE if b"\xff" not in text])
 @pytest.mark.parametrize("args", [FERRIS, ["-"]], ids=["one crawler", "all crawlers"])
 def test_name_and_url_become_no_element(text, args):
-    pages = [page("--only", "host-line", f"--date={it}", *args, f"/{it}", file=f"User-agent: {it}\nDisallow: /\n".encode()) for it in (text, "harmless/1")]
+    """A URL has neither white space nor `<` and `>`: the program rejects those."""
+    pages = []
+    for it in (text, "harmless/1"):
+        url = "/" + re.sub(r"[<>\s]", "", it)
+        pages.append(page("--only", "host-line", f"--date={it}", *args, url, file=f"User-agent: {it}\nDisallow: /\n".encode()))
     assert shape(Reader(pages[0]).elements) == shape(Reader(pages[1]).elements)
 
 

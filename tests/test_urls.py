@@ -75,7 +75,7 @@ TAG = "< or > in a URL; write %3C or %3E, and each URL of a sitemap on a line of
 SPACE = "white space in a URL; write it as %20, and another URL or a comment on a line of its own"
 COMMA = "another URL after a comma; write each URL as a line or an argument of its own"
 SLIPS = {
-    "a sitemap": (b'<?xml version="1.0"?>\n<urlset>', 1, TAG),
+    "a sitemap": (b'<?xml version="1.0"?>', 1, TAG),
     "an element of a sitemap": (b"<url><loc>https://example.com/</loc></url>", 1, TAG),
     "markup after a path": (b"/a\n/b<br>", 2, TAG),
     "the end of a tag": (b"/a>", 1, TAG),
@@ -111,7 +111,7 @@ def test_standard_input_is_read_once():
     assert outcome(run("robots_audit", ["--urls", "-", "-"], ROBOTS)) == (2, "", message)
 
 
-@pytest.mark.parametrize("text, line", [(b"\xff", 1), (b"/a\n\n/\xe9 \n/\xff\n", 3)])
+@pytest.mark.parametrize("text, line", [(b"\xff", 1), (b"/a\n\n/\xe9 \n/b\n", 3)])
 def test_a_url_that_is_not_utf_8(tmp_path, text, line):
     assert outcome(check(tmp_path, text, "Ferris")) == (2, "", f"robots_audit: list.txt:{line}: the line isn't valid UTF-8\n")
 
