@@ -14,7 +14,6 @@
     'FerrisBot'
 """
 
-from ._responses import LIFETIME, REDIRECT_LIMIT, Meaning, meaning
 from ._robots import (
     FILE_LIMIT,
     AgentError,
@@ -27,6 +26,7 @@ from ._robots import (
     product_token,
     robots_url,
 )
+from ._responses import LIFETIME, REDIRECT_LIMIT, Meaning, meaning  # once `_robots` has tested the processor
 
 __all__ = [
     "FILE_LIMIT",
