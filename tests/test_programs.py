@@ -139,13 +139,14 @@ def test_golden_cases_have_each_warning():
 @pytest.mark.parametrize("start, misses", [("/a", "\t\\^{}"), ("/a?x", "\t'`")], ids=["path", "query"])
 def test_a_rule_with_a_byte_that_urls_escape_is_warned_about(start, misses):
     """Each ASCII byte that means itself in a rule: the warning comes exactly if the rule misses the very URL that it spells; else there may be
-    the note of this name."""
+    the note of this name. Bytes that the program rejects in a URL are written as crawlers send them: without a tab, and escaped."""
     warned = ""
+    sent = {"\t": "", "\f": "%0C", " ": "%20", "<": "%3C", ">": "%3E"}
     for byte in map(chr, range(1, 128)):
         if byte in "\n\r#$*":
             continue
         rule = f"{start}{byte}/"
-        args = ["--only", "unencoded-character", "--agent", "Ferris", "-", f"http://example.com{rule}"]
+        args = ["--only", "unencoded-character", "--agent", "Ferris", "-", f"http://example.com{start}{sent.get(byte, byte)}/"]
         result = run("robots_audit", args, f"User-agent: *\nDisallow: {rule}".encode())
         if result.status == 0:
             assert result.err == warning_lines(["2 unencoded-character"])
