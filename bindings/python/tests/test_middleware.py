@@ -197,7 +197,7 @@ def test_a_resumed_crawl_fetches_the_file_again(resumed, name):
 
 
 class Engine:
-    """Answers requests as it is told to, or when it is told to."""
+    """Answers requests at once, or when the test asks it to."""
 
     def __init__(self, answer):
         self.answer, self.requests = answer, []
