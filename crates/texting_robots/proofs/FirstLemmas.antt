@@ -2,9 +2,10 @@
 use Rattle.std.proofs.Common.{◌≡◌, ◌≢◌, inl, inr, ℕ, zero, suc, ◌-◌, ◌+◌, ◌*◌}
 use Rattle.std.proofs.Common.{◌<◌, ◌≤◌, count_by, cond, leb, Bool, true, List, [], ◌∷◌}
 use Rattle.std.proofs.Common.{All, AllPairs, length, get_or, min, string_bytes, refl, sym, arith}
+use Rattle.std.proofs.Common.{subst, ◌∙◌}
 use Rattle.std.proofs.{Math.Nat.mul-le-mul_left, lemmas.List.Elements.All-map, lemmas.List.Sums.sum_by-cons}
 use Rattle.std.proofs.lemmas.Bool.{cases_lt, cases_order, le-leb}
-use Rattle.std.proofs.lemmas.List.{get_or-map, get_or_default, length-drop}
+use Rattle.std.proofs.lemmas.List.{get_or-map, get_or_default, get_or_read, length-drop}
 use Rattle.std.proofs.lemmas.List.{length-map, length-take}
 use Rattle.texting_robots.specs.declared.{segments.Span.Span, rules.Entry.Entry, rules.Unsorted.Unsorted}
 use Rattle.texting_robots.specs.Internal.Entries.{AreEntries, HaveMasks, GoesBefore, IsEntryOf, IsFirstMatch}
@@ -15,7 +16,8 @@ use Rattle.texting_robots.specs.Internal.Segments.{IsSpan, part_of}
 use Rattle.texting_robots.specs.Decision.{IsDecidingRule, IsLongestMatch, LooksForRules, as_long_as}
 use Rattle.texting_robots.specs.{Rules.PlacedRule, Rules.unplaced, View.LooksAtMost, View.ViewValue}
 use Rattle.texting_robots.specs.Verdict.{IsVerdict, robots_file}
-use Rattle.texting_robots.specs.Pattern.{Matches}
+use Rattle.texting_robots.specs.{Cost.looks_of, Pattern.Matches}
+use Rattle.texting_robots.proofs.CostLemmas.{cost_grows, cost_more, cost_upto}
 use Rattle.texting_robots.proofs.PrefilterLemmas.{beginning_within, within_both}
 use Rattle.texting_robots.proofs.BestLemmas.{IsAbove, IsBest, IsPreferred, NoMatch, best_decides}
 use Rattle.texting_robots.proofs.BestLemmas.{deciding_longest, longer, rank_of, verdict_by}
@@ -37,13 +39,12 @@ at_most_more : (old new : ViewValue) (few many : ℕ) → few ≤ many → Looks
 at_most_more old new few many more is =
     record { text = is.text; looks = is.looks; cost = omega arith }
 
--- the rules before this index were tried: none matches, and together they took at most 2 × (text length) ×
--- `at` looks
+-- the rules before this index were tried: none matches, and together they took no more than they cost
 pub record AreTried (all : Unsorted) (old new : ViewValue) (at : ℕ) : Type 0 where
   pub text : new.text ≡ old.text
   pub before : (k : ℕ) → k < at → MatchesAt all k old.text → ⊥
   pub grows : old.looks ≤ new.looks
-  pub cost : new.looks ≤ old.looks + 2 * length old.text * at
+  pub spent : new.looks ≤ old.looks + cost_upto all (length old.text) at
 
 -- a text that an entry's pattern matches has all bigrams of the entry's mask
 mask_within : (all : Unsorted) (entry : Entry) → IsEntryOf all entry → (text : List ℕ)
@@ -61,7 +62,7 @@ pub apart_tried : (all : Unsorted) (old new : ViewValue) (from to : ℕ) → Are
     → to ≤ length all.entries.items → AreApart all.masks.items (pair_set new.text) from to
     → AreTried all old new from → AreTried all old new to
 apart_tried all old new from to are masked up within apart tried =
-    let more = mul-le-mul_left (2 * length old.text) up in
+    let more = cost_grows all (length old.text) to from up in
     record {
       text = tried.text;
       before = λ k below matches. elim (cases_lt k from) [
@@ -73,7 +74,29 @@ apart_tried all old new from to are masked up within apart tried =
             differs (rw tried.text within)
       ];
       grows = tried.grows;
-      cost = omega (arith, more);
+      spent = omega (arith, more);
+    }
+
+-- one more rule was tried
+pub tried_more : (all : Unsorted) (old now new : ViewValue) (at : ℕ) (entry : Entry)
+    → at < length all.entries.items → entry ≡ get_or all.entries.items at entry
+    → ¬ Matches (pattern_of all entry) old.text → new.text ≡ now.text → now.looks ≤ new.looks
+    → new.looks ≤ now.looks + (1 + looks_of (pattern_of all entry) (length old.text))
+    → AreTried all old now at → AreTried all old new (at + 1)
+tried_more all old now new at entry within is other same grows spent tried =
+    let more = cost_more all (length old.text) at entry within is in
+    record {
+      text = same ∙ tried.text;
+      before = λ k below matches. elim (cases_lt k at) [
+        | inl early ↦ tried.before k early matches
+        | inr late ↦
+            let here : k ≡ at = omega arith in
+            other (subst (λ (e : Entry). Matches (pattern_of all e) old.text)
+            (sym (get_or_read all.entries.items at entry within is no_entry))
+            (subst (λ n. MatchesAt all n old.text) here matches))
+      ];
+      grows = omega (arith, tried.grows);
+      spent = omega (arith, tried.spent, more);
     }
 
 -- ---- the first that matches

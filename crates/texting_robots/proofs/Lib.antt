@@ -31,6 +31,7 @@ pub mod AllocationFreeLemmas
 pub mod PatternLemmas
 pub mod StarLemmas
 pub mod SegmentLemmas
+pub mod CostLemmas
 pub mod PrefilterLemmas
 pub mod PlacingLemmas
 pub mod BorderLemmas

@@ -50,6 +50,7 @@ permuted_alike rules others moved =
         looks_permuted rules others old new moved,
         looks_permuted others rules old new back,
       );
+      costs = λ n. sym (sum_by-IsPermutation _ rules others moved);
     }
 
 pub answer_alike : (agent : List ℕ) (lines : List LineValue) (rules others : List PlacedRule)

@@ -1,10 +1,12 @@
 -- Cutting a pattern into segments from left to right, and what the segments decide.
 use Rattle.std.proofs.Common.{◌≡◌, ◌≢◌, ◌↔◌, ◌==◌, ℕ, ◌+◌, ◌-◌, Bool}
 use Rattle.std.proofs.Common.{true, false, not, List, [], ◌∷◌, ◌++◌, All, length, take, drop, refl, sym, ap}
-use Rattle.std.proofs.Common.{subst, ◌∙◌}
+use Rattle.std.proofs.Common.{subst, ◌∙◌, ◌⊎◌, inl, inr}
 use Rattle.std.proofs.Common.{append_assoc, append-nil, take-append-drop, length-append, arith}
 use Rattle.std.specs.List.{position_or_len, prefix_len}
-use Rattle.std.proofs.lemmas.List.{drop_at, take_at, Prefix.end_rest, Prefix.front_rest}
+use Rattle.std.proofs.Math.Seq.{get_or-append_seam}
+use Rattle.std.proofs.lemmas.List.{drop_at, take_at, Folds.length-prefix_len}
+use Rattle.std.proofs.lemmas.List.{Prefix.end_rest, Prefix.front_rest}
 use Rattle.std.proofs.lemmas.List.Elements.{All-cons, All-nil, All-weaker}
 use Rattle.url.proofs.InputLemmas.{All-take-prefix_len, Passes, StopsAt, StopsAt-drop-prefix_len}
 use Rattle.texting_robots.specs.declared.segments.{Ends.Ends, Ending.Ending, Segment.Segment, Span.Span}
@@ -13,9 +15,8 @@ use Rattle.texting_robots.specs.Internal.Border.{IsTable}
 use Rattle.texting_robots.specs.Internal.Segments.{AddsSegments, AreLeft, AreSegments, after_stars, part_of}
 use Rattle.texting_robots.specs.Internal.Segments.{Closes}
 use Rattle.texting_robots.specs.Internal.Segments.{EndsAs, IsAtWildcard, IsCutAtWildcard, IsEnding, IsLeft}
-use Rattle.texting_robots.specs.Internal.Segments.{IsSegment}
+use Rattle.texting_robots.specs.Internal.Segments.{IsNotLast, IsSegment, IsSpan, IsUnsearched, Somewhere}
 use Rattle.texting_robots.specs.Internal.Segments.{is_wildcard}
-use Rattle.texting_robots.specs.Internal.Segments.{IsSpan, Somewhere}
 use Rattle.texting_robots.specs.Pattern.{IsSuffix, Matches, star}
 use Rattle.texting_robots.proofs.PatternLemmas.{closes_decides, end_matches, grows_at_wildcard, in_front}
 use Rattle.texting_robots.proofs.PatternLemmas.{wildcard_matches_none, plain_wildcards, somewhere, star_stars}
@@ -48,6 +49,7 @@ cut_at_first pattern k first = record {
       (All-weaker (Passes other) (λ b. is_wildcard b ≡ false) (λ b plain. not_true (is_wildcard b) plain) _
       (All-take-prefix_len other pattern));
   parts = sym (take-append-drop k pattern);
+  len = rw first (length-prefix_len other pattern);
   at_wildcard = rw first (stops _ (StopsAt-drop-prefix_len other pattern));
 }
   where
@@ -142,6 +144,7 @@ pub record IsRest (pattern borders left : List ℕ) (segments : List Segment) (e
   pub known : All (IsSegment pattern borders) segments
   pub is_ending : IsEnding pattern ending
   pub in_order : AreLeft pattern ending segments left
+  pub searched : IsUnsearched segments ending ⊎ ((following : List ℕ) × (left ≡ star ∷ following))
 
 -- The pattern is cut up to here: any cut of the rest extends to a cut of the complete pattern.
 pub record IsCutUpto (pattern : List ℕ) (first_len : ℕ) (old_segments segments : List Segment)
@@ -173,6 +176,11 @@ cut_first p segment left segments borders cut =
         put_tables = refl;
         are_segments = record {
           first = omega arith;
+          plain = cut.len;
+          unsearched = λ other. elim rest.searched [
+            | inl none ↦ none
+            | inr (following, at) ↦ absurd (other (rw (e, at) (get_or-append_seam segment star following 0)))
+          ];
           known = rest.known;
           ending = rest.is_ending;
           rest = left;
@@ -192,20 +200,25 @@ module _ {p : List ℕ} {first_len : ℕ} {old_segments segments : List Segment}
 
   -- if the rest of the pattern matches as this ending does, the cut is complete
   done : (ending : Ending) → IsEnding p ending → ((t : List ℕ) → Matches left t ↔ EndsAs p ending t)
-      → AddsWith ending
-  done ending is_ending decides =
+      → IsNotLast ending ⊎ ((following : List ℕ) × (left ≡ star ∷ following)) → AddsWith ending
+  done ending is_ending decides last =
       let none = All-nil (IsSegment p (borders ++ [])) in
       let rest : IsRest p (borders ++ []) left [] ending =
-      record { known = none; is_ending = is_ending; in_order = decides } in
+      record {
+        known = none;
+        is_ending = is_ending;
+        in_order = decides;
+        searched = elim last [ inl other ↦ inl (refl, other) | inr at ↦ inr at ];
+      } in
       rw (← append-nil segments, ← append-nil borders) (upto.completes [] [] ending rest)
 
   -- the rest is empty
   pub cut_open : left ≡ [] → AddsWith Open
-  cut_open none = done Open tt (λ t. rw none (λ _. tt, λ _. end_matches true t))
+  cut_open none = done Open tt (λ t. rw none (λ _. tt, λ _. end_matches true t)) (inl tt)
 
   -- the rest is a dollar that closes
   pub cut_closed : Closes left → AddsWith Closed
-  cut_closed closes = done Closed tt (λ t. closes_decides left t closes)
+  cut_closed closes = done Closed tt (λ t. closes_decides left t closes) (inl tt)
 
   -- the rest begins with a dollar that doesn't close
   pub cut_never : left ≢ [] → ((q : List ℕ) → left ≢ star ∷ q)
@@ -214,7 +227,7 @@ module _ {p : List ℕ} {first_len : ℕ} {old_segments segments : List Segment}
       done Never tt (λ t. (
         wildcard_matches_none left t upto.at_wildcard some no_star other,
         λ none. absurd none,
-      ))
+      )) (inl tt)
 
   module _ {next segment rest : List ℕ} (is : IsFromStar left next segment rest) where
     next_in_p : IsSuffix next p
@@ -229,6 +242,7 @@ module _ {p : List ℕ} {first_len : ℕ} {old_segments segments : List Segment}
     -- the segment is before a dollar that closes
     pub cut_last : Closes rest → AddsWith (Last span)
     cut_last closes = done (Last span) is_span.0 (λ t. rw is_span.1 (star_is_last is closes t))
+        (inr (is.following, is.star_first))
 
     -- the segment and its table were added
     pub cut_more : (at : ℕ) (table : List ℕ) → at ≡ length borders → ¬ Closes rest
@@ -251,6 +265,7 @@ module _ {p : List ℕ} {first_len : ℕ} {old_segments segments : List Segment}
                 known = All-cons (IsSegment p all) added more put known;
                 is_ending = h.is_ending;
                 in_order = (rest, is_left, h.in_order);
+                searched = inr (is.following, is.star_first);
               } in
               let adds = upto.completes (added ∷ more) (table ++ tables) ending whole in
               rw (append_assoc segments, append_assoc borders) adds;

@@ -58,6 +58,8 @@ module _ (p : List ℕ) (ends : Ends) (segments : List Segment) (borders more : 
   tables_kept : AreSegments p ends segments borders → AreSegments p ends segments (borders ++ more)
   tables_kept are = record {
     first = are.first;
+    plain = are.plain;
+    unsearched = are.unsearched;
     known = All-weaker (IsSegment p borders) (IsSegment p (borders ++ more)) segment_kept segments are.known;
     ending = are.ending;
     rest = are.rest;

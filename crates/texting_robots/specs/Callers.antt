@@ -32,7 +32,8 @@ pub use Rattle.texting_robots.specs.AllocationFree.{IsAllocationFree}
 -- verdicts
 pub use Rattle.texting_robots.specs.Verdict.{IsDenied, IsVerdict, robots_file}
 pub use Rattle.texting_robots.specs.Decision.{IsBetter, IsDecidingRule, IsDecidingLine, IsLongestMatch}
-pub use Rattle.texting_robots.specs.Decision.{LooksForRules, as_long_as}
+pub use Rattle.texting_robots.specs.Decision.{LooksForRules, as_long_as, IsDecisionOn}
+pub use Rattle.texting_robots.specs.Cost.{cost_of, looks_of}
 pub use Rattle.texting_robots.specs.View.{LooksAtMost, ViewValue, seen_of}
 pub use Rattle.texting_robots.specs.MainTheorem.{IsAnswerOf}
 -- errors

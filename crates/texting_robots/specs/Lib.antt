@@ -15,6 +15,7 @@ pub mod Verdict
 pub mod Decision
 pub mod Order
 pub mod View
+pub mod Cost
 pub mod Robot
 pub mod Prepared
 pub mod AllocationFree

@@ -1,5 +1,5 @@
 -- Patterns of rules, and what they match.
-use Rattle.std.specs.Prelude.{◌≡◌, ℕ, ◌<◌, Bool, true, false, ◌==◌, ◌&&◌, List, []}
+use Rattle.std.specs.Prelude.{◌≡◌, ℕ, ◌<◌, Bool, true, false, ◌==◌, ◌&&◌, ◌||◌, List, []}
 use Rattle.std.specs.Prelude.{◌∷◌, ◌++◌, MatchBool, Contains, length, slice_index}
 use Rattle.std.specs.Prelude.{if◌then◌else◌}
 
@@ -8,6 +8,10 @@ star = 42
 
 abbrev pub dollar : ℕ
 dollar = 36
+
+-- a star or a dollar
+abbrev pub is_wildcard : ℕ → Bool
+is_wildcard b = (b == star) || (b == dollar)
 
 -- how many bytes a collapsed pattern with `$` may have
 abbrev pub longest_with_dollar : ℕ

@@ -1,8 +1,8 @@
 -- What contracts state about a robot.
-use Rattle.std.specs.Prelude.{◌↔◌, ℕ, Bool, List, Option}
+use Rattle.std.specs.Prelude.{◌≡◌, ◌↔◌, ℕ, Bool, List, Option}
 use Rattle.texting_robots.specs.Rules.{AreRulesFor, AreSitemapsOf, IsDelayFor, IsRejected, PlacedRule}
 use Rattle.texting_robots.specs.Rules.{unplaced}
-use Rattle.texting_robots.specs.{Decision.IsDecidingLine, Decision.LooksForRules, Line.HasLines}
+use Rattle.texting_robots.specs.{Cost.cost_of, Decision.IsDecidingLine, Decision.LooksForRules, Line.HasLines}
 use Rattle.texting_robots.specs.{Line.LineValue, Verdict.IsVerdict, View.ViewValue}
 
 -- how many bytes of a file are used
@@ -30,10 +30,11 @@ IsRobotOfFile agent file robot = HasLines file (λ lines. IsRobotOf agent lines 
 abbrev pub IsFileRejected : List ℕ → List ℕ → Type 0
 IsFileRejected agent file = HasLines file (IsRejected agent)
 
--- the two lists have the same verdicts, deciding lines and bounds on looks
+-- the two lists have the same verdicts, deciding lines, bounds on looks, and costs
 pub record AnswerAlike (rules others : List PlacedRule) : Type 0 where
   pub verdicts : (text : List ℕ) (answer : Bool)
       → IsVerdict (unplaced rules) text answer ↔ IsVerdict (unplaced others) text answer
   pub deciding : (text : List ℕ) (line : Option ℕ)
       → IsDecidingLine rules text line ↔ IsDecidingLine others text line
   pub looks : (old new : ViewValue) → LooksForRules rules old new ↔ LooksForRules others old new
+  pub costs : (n : ℕ) → cost_of rules n ≡ cost_of others n

@@ -17,6 +17,11 @@ pub enum Error {
     Memory,
 }
 
+/// A query gave up, since it might have taken more looks than its budget.
+#[derive(Debug, Drop, Error)]
+#[error("Query is too costly")]
+pub struct TooCostly;
+
 impl From<AllocError> for Error {
     ghost use Rattle.std.specs.Prelude.{◌≡◌};
     ghost use Rattle.texting_robots.specs.declared.error.Error.TheVariants.{Memory};

@@ -1,6 +1,6 @@
 //! Texts that patterns are matched against, with or without counted looks. A look is one comparison of a byte of the
 //! text.
-ghost use Rattle.std.specs.Prelude.{◌≡◌, ◌≢◌, ℕ, ◌+◌, ◌<◌, ◌≤◌, ◌↔◌, ◌++◌, List, [], IfNone, IfSome, IsTrue, MatchOption, codes, drop, length};
+ghost use Rattle.std.specs.Prelude.{◌≡◌, ◌≢◌, ℕ, ◌+◌, ◌-◌, ◌<◌, ◌≤◌, ◌↔◌, ◌++◌, List, [], IfNone, IfSome, IsTrue, MatchOption, codes, drop, length};
 ghost use Rattle.std.specs.Option.{option_map_or};
 ghost use Rattle.memchr.specs.Find.{OccursAt};
 ghost use Rattle.texting_robots.specs.Internal.Border.{IsTable};
@@ -66,7 +66,10 @@ pub(crate) trait Haystack {
         ensures some { IfSome result (λ rest. is_rest rest (seen self.old).text
             × ((seen self.old).text ≡ segment.now ++ left rest (seen self.old).text)) }
         ensures cost { PassesTo (seen self.old) (seen self.new) (seen self.old).text
-            (option_map_or (λ rest. left rest (seen self.old).text) result []) };
+            (option_map_or (λ rest. left rest (seen self.old).text) result []) }
+        ensures looks { (seen self.new).looks ≤ (seen self.old).looks + length segment.now }
+        ensures short { length (seen self.old).text < length segment.now
+            → (seen self.new).looks ≡ (seen self.old).looks };
 
     /// What is left after the first occurrence of the segment in `rest`. `table` is the failure table of the segment.
     fn find(&mut self, rest: Self::Rest, segment: &[u8], table: &[usize]) -> Option<Self::Rest>
@@ -160,6 +163,7 @@ fn occurs_at(view: &mut View<'_>, at: usize, segment: &[u8]) -> bool
     ensures looks { view.old.looks ≤ view.new.looks }
     ensures by_segment { view.new.looks ≤ view.old.looks + length segment.now }
     ensures by_text { view.new.looks + at ≤ view.old.looks + length view.old.text }
+    ensures short { length view.old.text - at < length segment.now → view.new.looks ≡ view.old.looks }
 {
     if segment.len() > view.len() - at {
         return false;

@@ -1,9 +1,10 @@
 //! Whether a pattern matches a text: its segments are searched for from left to right.
-ghost use Rattle.std.specs.Prelude.{◌≡◌, ◌*◌, ◌↔◌, [], IsTrue, length};
+ghost use Rattle.std.specs.Prelude.{◌≡◌, ◌+◌, ◌*◌, ◌≤◌, ◌↔◌, [], IsTrue, length};
+ghost use Rattle.texting_robots.specs.Cost.{looks_of};
 ghost use Rattle.texting_robots.specs.Pattern.{Matches};
 ghost use Rattle.texting_robots.specs.Internal.Haystack.{PassesTo};
-ghost use Rattle.texting_robots.specs.Internal.Segments.{EndsAs, IsEnding};
-ghost use Rattle.texting_robots.specs.View.{LooksAtMost};
+ghost use Rattle.texting_robots.specs.Internal.Segments.{EndsAs, IsEnding, IsNotLast};
+ghost use Rattle.texting_robots.specs.View.{LooksAtMost, seen_of};
 
 use crate::haystack::Haystack;
 use crate::segments::{Ending, Pattern};
@@ -13,6 +14,8 @@ impl<'a> Pattern<'a> {
     pub(crate) fn matches<A: Haystack>(&self, haystack: &mut A) -> bool
         ensures answer { IsTrue result ↔ Matches self.now (A.seen haystack.old).text }
         ensures looks { LooksAtMost (A.seen haystack.old) (A.seen haystack.new) (2 * length (A.seen haystack.old).text) }
+        ensures cost { (A.seen haystack.new).looks ≤ (A.seen haystack.old).looks
+            + looks_of self.now (length (A.seen haystack.old).text) }
     {
         let Some(mut rest) = haystack.begins_with(&self.bytes[..self.ends.first_len]) else {
             return false;
@@ -27,6 +30,20 @@ impl<'a> Pattern<'a> {
         }
         ends_as(haystack, rest, self.bytes, self.ends.ending)
     }
+
+    /// How many looks [`Pattern::matches`] takes at most on a text of this length. It is at most `u64::MAX`.
+    pub(crate) fn most_looks(&self, len: usize) -> u64
+        ensures { result ≡ seen_of (looks_of self.now len) }
+    {
+        let first = self.ends.first_len;
+        if len < first {
+            return 0;
+        }
+        if self.bytes[first..].starts_with(b"*") {
+            return (len as u64).saturating_mul(2);
+        }
+        first as u64
+    }
 }
 
 /// Whether what is left of the text fits the ending of the pattern.
@@ -35,6 +52,7 @@ fn ends_as<A: Haystack>(haystack: &mut A, rest: A::Rest, pattern: &[u8], ending:
     requires ending { IsEnding pattern.now ending }
     ensures answer { IsTrue result ↔ EndsAs pattern.now ending (A.left rest (A.seen haystack.old).text) }
     ensures cost { PassesTo (A.seen haystack.old) (A.seen haystack.new) (A.left rest (A.seen haystack.old).text) [] }
+    ensures unsearched { IsNotLast ending → (A.seen haystack.new).looks ≡ (A.seen haystack.old).looks }
 {
     match ending {
         Ending::Open => true,

@@ -1,16 +1,18 @@
 //! The robot: what a robots.txt file means for one crawler.
-ghost use Rattle.std.specs.Prelude.{◌≡◌, IfErr, IfOk, IsOk, string_bytes, take};
-ghost use Rattle.texting_robots.specs.Decision.{IsDecidingLine, LooksForRules};
+ghost use Rattle.std.specs.Prelude.{◌≡◌, ◌≢◌, ◌+◌, ◌<◌, ◌≤◌, ◌^◌, IfErr, IfOk, IsOk, None, length, string_bytes, take};
+ghost use Rattle.texting_robots.specs.Cost.{cost_of};
+ghost use Rattle.texting_robots.specs.Decision.{IsDecidingLine, IsDecisionOn, LooksForRules};
 ghost use Rattle.texting_robots.specs.Error.{IsMemoryErrorOr};
 ghost use Rattle.texting_robots.specs.Line.{HasLines};
 ghost use Rattle.texting_robots.specs.AllocationFree.{IsAllocationFree};
 ghost use Rattle.texting_robots.specs.Prepared.{prepared, target_of};
 ghost use Rattle.texting_robots.specs.Robot.{IsFileRejected, IsRobotOfFile, file_limit};
 ghost use Rattle.texting_robots.specs.Rules.{HasNoRulesOrSitemaps, unplaced};
-ghost use Rattle.texting_robots.specs.Verdict.{IsVerdict};
+ghost use Rattle.texting_robots.specs.Verdict.{IsVerdict, robots_file};
+ghost use Rattle.texting_robots.specs.View.{LooksAtMost, seen_of};
 
 pub use crate::decision::Decision;
-use crate::error::Error;
+use crate::error::{Error, TooCostly};
 use crate::prepared::{prepare, target};
 use crate::reading::{Rejection, read_file};
 use crate::rules::Rules;
@@ -166,6 +168,7 @@ impl Robot {
     pub fn allowed_view(&self, view: &mut View<'_>) -> bool
         ensures verdict { IsVerdict (unplaced self.now.rules) view.old.text result }
         ensures looks { LooksForRules self.now.rules view.old view.new }
+        ensures cost { view.new.looks ≤ view.old.looks + cost_of self.now.rules (length view.old.text) }
     {
         self.decision(view).allowed
     }
@@ -176,7 +179,35 @@ impl Robot {
         ensures verdict { IsVerdict (unplaced self.now.rules) view.old.text result.allowed }
         ensures line { IsDecidingLine self.now.rules view.old.text result.line }
         ensures looks { LooksForRules self.now.rules view.old view.new }
+        ensures cost { view.new.looks ≤ view.old.looks + cost_of self.now.rules (length view.old.text) }
     {
         self.rules.decide(view)
+    }
+
+    /// What [`Robot::decision`] costs at most for a text of this length: its looks, and one for each rule. It is at
+    /// most `u64::MAX`.
+    pub fn cost(&self, len: usize) -> u64
+        ensures { result ≡ seen_of (cost_of self.now.rules len) }
+    {
+        self.rules.cost(len)
+    }
+
+    /// The result of [`Robot::decision`], unless that may take more looks than the budget. Here each rule that is tried
+    /// counts as a look, too. It doesn't allocate. Use it for files that may be hostile.
+    ///
+    /// # Errors
+    ///
+    /// `TooCostly` if the next rule might take more looks than are left of the budget. There is no verdict then. A new
+    /// view and a budget of at least [`Robot::cost`] never lead to it.
+    pub fn decision_within(&self, view: &mut View<'_>, budget: u64) -> Result<Decision, TooCostly>
+        ensures decision { IfOk result (IsDecisionOn self.now.rules view.old.text) }
+        ensures looks { LooksAtMost view.old view.new budget }
+        ensures visits { IfOk result (λ _. view.old.text ≢ robots_file
+            → IsDecidingLine self.now.rules view.old.text None
+            → view.old.looks + length self.now.rules ≤ view.new.looks) }
+        ensures ample { cost_of self.now.rules (length view.old.text) ≤ budget
+            → view.old.looks + cost_of self.now.rules (length view.old.text) < 2 ^ 64 → IsOk result }
+    {
+        self.rules.decide_within(view, budget)
     }
 }

@@ -61,9 +61,17 @@ impl<'a> View<'a> {
         ensures text { self.new.text ≡ self.old.text }
         ensures looks { self.new.looks ≡ self.old.looks + 1 }
     {
+        self.count_one();
+        self.text.as_bytes()[at] == byte
+    }
+
+    /// Counts one look.
+    pub(crate) fn count_one(&mut self)
+        ensures text { self.new.text ≡ self.old.text }
+        ensures looks { self.new.looks ≡ self.old.looks + 1 }
+    {
         self.looks = self.looks.one_more();
         self.count = self.count.saturating_add(1);
-        self.text.as_bytes()[at] == byte
     }
 
     /// Whether the text is `/robots.txt`. This isn't a look.

@@ -3,6 +3,7 @@ use crate::helpers::{BOB, TextParts, check_equal, indented, long_text, robot_of}
 use crate::patterns::regex_of;
 use std::process::Abort;
 use texting_robots::view::View;
+use texting_robots::{Decision, Robot};
 
 /// A file and a match target, whether it may be fetched, and the least and the greatest number of looks.
 type LookCase = (TextParts, TextParts, bool, (u64, u64));
@@ -60,6 +61,41 @@ const PATTERNS: &[(&str, &str, u64)] = &[
     ("/*b$", "/aaaaaaab", 2),
 ];
 
+/// A file, a length of match targets, and the cost: one for each rule, and for each that isn't too long one look at
+/// each byte before its first star or dollar, or two at each byte of the target if that is a star.
+const COSTS: &[(TextParts, usize, u64)] = &[
+    (THREE, 0, 3),
+    (THREE, 5, 3 + 5),
+    (THREE, 6, 3 + 5 + 6),
+    (THREE, 7, 3 + 5 + 6 + 2 * 7),
+    (THREE, 10, 3 + 5 + 6 + 2 * 10),
+    (&[("Disallow: /a$", 1)], 1, 1),
+    (&[("Disallow: /a$", 1)], 2, 3),
+    (&[("Disallow: /a$*", 1)], 100, 3),
+    (&[("Disallow: *", 1)], 100, 201),
+    (&[("Disallow: /b\n", 1000)], 1001, 3_000),
+    (&[("Disallow: /*aaaab\n", 1000)], 1001, 2_003_000),
+    (&[("Disallow: *\n", 2)], usize::MAX, u64::MAX),
+    (&[("User-agent: other\nDisallow: /b", 1)], 10, 0),
+];
+
+/// Checks that a query with a budget has the result of one without, and never takes more than the budget: it answers
+/// for the cost, and gives up for less than it took.
+fn check_budget(rt: &(impl Abort + AllocGlobal), robot: &Robot, text: &str, want: Decision) {
+    let cost = robot.cost(text.len());
+    let mut view = View::new(text);
+    let decision = robot.decision_within(&mut view, cost).ok();
+    check_equal(rt, text, &decision, &Some(want));
+    let seen = view.seen();
+    assert!(rt; seen <= cost, "{text:.60}: {seen} of {cost}");
+    for budget in [0, seen / 2, seen.saturating_sub(1)] {
+        let mut view = View::new(text);
+        let gave_up = robot.decision_within(&mut view, budget).is_err();
+        check_equal(rt, text, &gave_up, &(budget < seen));
+        assert!(rt; view.seen() <= budget, "{text:.60}: {seen} of {budget}");
+    }
+}
+
 /// Checks the verdict of a robot for this file by each function that counts looks, and counts them.
 fn check_looks(
     rt: &(impl Abort + AllocGlobal),
@@ -79,6 +115,7 @@ fn check_looks(
     for seen in [view.seen(), other.seen()] {
         assert!(rt; least <= seen && seen <= most, "{text:.60}: {seen} looks");
     }
+    check_budget(rt, &robot, text, robot.decision_prepared(text));
 }
 
 /// The file of each case is also read indented.
@@ -90,6 +127,15 @@ fn looks_of_robots_are_counted(rt: HostRuntime) {
         check_looks(&rt, file.as_bytes(), &text, *allowed, *looks);
         let longer = indented(&rt, file.as_bytes());
         check_looks(&rt, &longer, &text, *allowed, *looks);
+    }
+}
+
+#[test]
+fn costs_are_added_up(rt: HostRuntime) {
+    for (file, len, cost) in COSTS {
+        let file = long_text(&rt, "file", file);
+        let robot = robot_of(&rt, "file", BOB, file.as_bytes());
+        check_equal(&rt, &file, &robot.cost(*len), cost);
     }
 }
 

@@ -1,8 +1,8 @@
 -- What the segments of a pattern match, given by the rest of the pattern after each of them.
-use Rattle.std.specs.Prelude.{◌≡◌, ◌↔◌, ℕ, ◌+◌, ◌-◌, ◌≤◌}
-use Rattle.std.specs.Prelude.{◌==◌, ◌||◌, Bool, true, false, List, []}
-use Rattle.std.specs.Prelude.{◌∷◌, ◌++◌, All, drop, length, slice_range, take}
-use Rattle.std.specs.List.{prefix_len}
+use Rattle.std.specs.Prelude.{◌≡◌, ◌≢◌, ◌↔◌, ℕ, ◌+◌, ◌-◌, ◌≤◌}
+use Rattle.std.specs.Prelude.{◌==◌, true, false, List, []}
+use Rattle.std.specs.Prelude.{◌∷◌, ◌++◌, All, drop, length, slice_index, slice_range, take}
+use Rattle.std.specs.List.{position_or_len, prefix_len}
 use Rattle.texting_robots.specs.declared.segments.Span.{Span}
 use Rattle.texting_robots.specs.declared.segments.Segment.{Segment}
 use Rattle.texting_robots.specs.declared.segments.Ending.{Ending}
@@ -10,10 +10,7 @@ use Rattle.texting_robots.specs.declared.segments.Ending.TheVariants.{Open, Clos
 use Rattle.texting_robots.specs.declared.segments.Ends.{Ends}
 use Rattle.texting_robots.specs.Internal.Border.{IsTable}
 use Rattle.texting_robots.specs.Pattern.{dollar, IsSuffix, Matches, star}
-
--- a star or a dollar
-abbrev pub is_wildcard : ℕ → Bool
-is_wildcard b = (b == star) || (b == dollar)
+pub use Rattle.texting_robots.specs.Pattern.{is_wildcard}
 
 -- the pattern is empty, or begins with a wildcard
 abbrev pub IsAtWildcard : List ℕ → Type 0
@@ -24,6 +21,7 @@ IsAtWildcard (b ∷ q) = is_wildcard b ≡ true
 pub record IsCutAtWildcard (pattern segment rest : List ℕ) : Type 0 where
   pub plain : All (λ b. is_wildcard b ≡ false) segment
   pub parts : pattern ≡ segment ++ rest
+  pub len : length segment ≡ position_or_len is_wildcard pattern
   pub at_wildcard : IsAtWildcard rest
 
 -- what follows the leading stars
@@ -93,10 +91,23 @@ AreLeft pattern ending [] left = (text : List ℕ) → Matches left text ↔ End
 AreLeft pattern ending (segment ∷ segments) left =
     (rest : List ℕ) × IsLeft left (part_of pattern segment.span) rest × AreLeft pattern ending segments rest
 
+-- no bytes have to be at the end
+abbrev pub IsNotLast : Ending → Type 0
+IsNotLast Open = Unit {0}
+IsNotLast Closed = Unit {0}
+IsNotLast (Last span) = ⊥
+IsNotLast Never = Unit {0}
+
+-- nothing but the first segment is compared
+abbrev pub IsUnsearched : List Segment → Ending → Type 0
+IsUnsearched segments ending = (segments ≡ []) × IsNotLast ending
+
 -- the pattern is its first segment, these segments with their failure tables, and its ending
 pub record AreSegments (pattern : List ℕ) (ends : Ends) (segments : List Segment)
     (borders : List ℕ) : Type 0 where
   pub first : ends.first_len ≤ length pattern
+  pub plain : ends.first_len ≡ position_or_len is_wildcard pattern
+  pub unsearched : slice_index pattern ends.first_len ≢ star → IsUnsearched segments ends.ending
   pub known : All (IsSegment pattern borders) segments
   pub ending : IsEnding pattern ends.ending
   pub rest : List ℕ

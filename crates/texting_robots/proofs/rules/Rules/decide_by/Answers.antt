@@ -1,32 +1,18 @@
-use Rattle.std.proofs.Common.{inr, sym, ap}
-use Rattle.std.proofs.lemmas.{Bool.iff_false, List.get_or_read, List.length-map}
-use Rattle.texting_robots.specs.{declared.rules.Entry.Entry, Internal.Entries.no_entry}
-use Rattle.texting_robots.proofs.FirstLemmas.{first_decides, first_line, first_looks, none_occurs}
+use Rattle.std.proofs.Common.{inr}
+use Rattle.std.proofs.lemmas.{Bool.iff_false, List.length-map}
+use Rattle.texting_robots.proofs.FirstLemmas.{first_looks, none_occurs}
 use Rattle.texting_robots.proofs.BestLemmas.{none_denies}
 use Rattle.texting_robots.proofs.rules.Rules.decide_by.Goals as goal
 
 pub returns-in-Some-clause-verdict : goal.returns-in-Some-clause-verdict
 returns-in-Some-clause-verdict g c =
-    let all = c.self.inside.unsorted in
-    let text = (g.A.Haystack.seen c.args.haystack.now).text in
-    let found = c.in-Some.ensures.some in
-    let is = get_or_read all.entries.items c.in-Some.at _ found.0 c.index-entry.ensures no_entry in
-    rw (is, ← c.self.view_is)
-    (first_decides all c.self.invariant.0.known c.self.invariant.1 text c.in-Some.at found
-    (iff_false c.is_robots_file.ensures c.if-is_robots_file.false))
+    rw (← c.self.view_is) (c.decision_at.ensures _
+    (iff_false c.is_robots_file.ensures c.if-is_robots_file.false) c.in-Some.ensures.some).verdict
 
 pub returns-in-Some-clause-line : goal.returns-in-Some-clause-line
 returns-in-Some-clause-line g c =
-    let all = c.self.inside.unsorted in
-    let text = (g.A.Haystack.seen c.args.haystack.now).text in
-    let found = c.in-Some.ensures.some in
-    let is = get_or_read all.entries.items c.in-Some.at _ found.0 c.index-entry.ensures no_entry in
-    rw (← c.self.view_is) (
-      iff_false c.is_robots_file.ensures c.if-is_robots_file.false,
-      _,
-      first_line all c.self.invariant.0.known c.self.invariant.1 text c.in-Some.at found,
-      ap (λ (e : Entry). e.line) (sym is),
-    )
+    rw (← c.self.view_is) (c.decision_at.ensures _
+    (iff_false c.is_robots_file.ensures c.if-is_robots_file.false) c.in-Some.ensures.some).deciding
 
 pub returns-in-Some-clause-looks : goal.returns-in-Some-clause-looks
 returns-in-Some-clause-looks g c =

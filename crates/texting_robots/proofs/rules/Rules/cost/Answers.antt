@@ -1,0 +1,21 @@
+use Rattle.std.proofs.Common.{◌≡◌, ◌+◌, ◌<◌, ap, arith, get_or, length}
+use Rattle.std.proofs.lemmas.List.{get_or_default}
+use Rattle.texting_robots.specs.{Cost.looks_of, Internal.Entries.no_entry, Internal.Entries.pattern_of}
+use Rattle.texting_robots.{specs.View.seen_of, proofs.CostLemmas.cost_more, proofs.CostLemmas.cost_upto}
+use Rattle.texting_robots.proofs.rules.Rules.cost.Goals as goal
+
+pub loop-entry-preserved : goal.loop-entry-preserved
+loop-entry-preserved c =
+    let all = c.self.inside.unsorted in
+    let at = c.loop-entry.entry-index in
+    let n = c.args.len in
+    let entry = get_or all.entries.items at no_entry in
+    let items = c.deref-entry-items.ensures.value in
+    let below : at < length all.entries.items = omega (arith, ap length items, c.loop-entry-test.true) in
+    let pattern = rw items at c.pattern.ensures in
+    let most : c.most_looks-looks.result ≡ seen_of (looks_of (pattern_of all entry) n) =
+    rw pattern at c.most_looks-looks.ensures in
+    let more = cost_more all n at entry below (get_or_default all.entries.items at no_entry entry below) in
+    let is : c.saturating_add-cost.result ≡ seen_of (cost_upto all n (at + 1)) =
+    omega (arith, c.loop-entry.invariant, most, more, c.saturating_add.ensures,
+    c.saturating_add-cost.ensures) in is

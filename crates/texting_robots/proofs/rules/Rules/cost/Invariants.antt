@@ -1,0 +1,7 @@
+use Rattle.std.proofs.Common.{◌≡◌}
+use Rattle.texting_robots.specs.View.{seen_of}
+use Rattle.texting_robots.proofs.CostLemmas.{cost_upto}
+use Rattle.texting_robots.proofs.rules.Rules.cost.Given as goal
+
+abbrev pub invariant-loop-entry : goal.invariant-loop-entry
+invariant-loop-entry l = l.cost ≡ seen_of (cost_upto l.self-inside.unsorted l.len l.entry-index)

@@ -1,0 +1,20 @@
+use Rattle.std.proofs.Common.{ap, sym}
+use Rattle.std.proofs.lemmas.List.{get_or_read}
+use Rattle.texting_robots.specs.{declared.rules.Entry.Entry, Internal.Entries.no_entry}
+use Rattle.texting_robots.proofs.FirstLemmas.{first_decides, first_line}
+use Rattle.texting_robots.proofs.rules.Unsorted.decision_at.Goals as goal
+
+pub returns : goal.returns
+returns c = λ text differs found.
+    let all = c.args.self.now in
+    let sorted = c.requires.sorted in
+    let is = get_or_read all.entries.items c.args.at _ found.0 c.index-entry.ensures no_entry in
+    record {
+      verdict = rw is (first_decides all c.requires.known.known sorted text c.args.at found differs);
+      deciding = (
+        differs,
+        _,
+        first_line all c.requires.known.known sorted text c.args.at found,
+        ap (λ (e : Entry). e.line) (sym is),
+      );
+    }

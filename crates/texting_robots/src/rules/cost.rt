@@ -1,0 +1,82 @@
+//! What a query costs at most, and a query with a budget.
+ghost use Rattle.std.specs.Prelude.{◌≡◌, ◌≢◌, ◌+◌, ◌<◌, ◌≤◌, ◌^◌, IfErr, IfNone, IfOk, IfSome, IsOk, None, length, max};
+ghost use Rattle.std.specs.Option.{option_map_or};
+ghost use Rattle.texting_robots.specs.Cost.{cost_of};
+ghost use Rattle.texting_robots.specs.Decision.{IsDecidingLine, IsDecisionOn};
+ghost use Rattle.texting_robots.specs.Internal.Entries.{AreEntries, IsFirstMatch, NoneMatches, rules_in};
+ghost use Rattle.texting_robots.specs.Verdict.{robots_file};
+ghost use Rattle.texting_robots.specs.View.{LooksAtMost, seen_of};
+
+use super::{NO_RULE, Rules, Unsorted};
+use crate::decision::Decision;
+use crate::error::TooCostly;
+use crate::view::View;
+
+impl Unsorted {
+    /// The index of the first rule that matches the text. Each rule that is tried counts as a look. It gives up at a
+    /// rule if more looks than the limit might be counted then.
+    fn first_within(&self, view: &mut View<'_>, limit: u64) -> Result<Option<usize>, TooCostly>
+        requires { AreEntries self.now }
+        ensures none { IfOk result (λ found. IfNone found (NoneMatches self.now view.old.text)) }
+        ensures some { IfOk result (λ found. IfSome found (IsFirstMatch self.now view.old.text)) }
+        ensures text { view.new.text ≡ view.old.text }
+        ensures grows { view.old.looks ≤ view.new.looks }
+        ensures visits { IfOk result (λ found. view.old.looks
+            + option_map_or (λ at. at + 1) found (length self.now.entries.items) ≤ view.new.looks) }
+        ensures looks { view.new.looks ≤ max view.old.looks limit }
+        ensures costly { IfErr result (λ _. limit
+            < view.old.looks + cost_of (rules_in self.now) (length view.old.text)) }
+    {
+        let len = view.len();
+        for at in 0..self.entries.len() {
+            let pattern = self.pattern(&self.entries[at]);
+            if view.seen().saturating_add(pattern.most_looks(len)) >= limit {
+                return Err(TooCostly);
+            }
+            view.count_one();
+            if pattern.matches(view) {
+                return Ok(Some(at));
+            }
+        }
+        Ok(None)
+    }
+}
+
+impl Rules {
+    /// How many looks a query takes at most for a text of this length, and one for each rule. It is at most `u64::MAX`.
+    pub(crate) fn cost(&self, len: usize) -> u64
+        ensures { result ≡ seen_of (cost_of self.now len) }
+    {
+        let mut cost: u64 = 0;
+        for entry in &self.unsorted.entries {
+            let looks = self.unsorted.pattern(entry).most_looks(len);
+            cost = cost.saturating_add(1).saturating_add(looks);
+        }
+        cost
+    }
+
+    /// The verdict on the view's text and the deciding line, unless this may take more looks than the budget. Each rule
+    /// that is tried counts as a look.
+    #[inline(never)]
+    pub(crate) fn decide_within(
+        &self,
+        view: &mut View<'_>,
+        budget: u64,
+    ) -> Result<Decision, TooCostly>
+        ensures decision { IfOk result (IsDecisionOn self.now view.old.text) }
+        ensures looks { LooksAtMost view.old view.new budget }
+        ensures visits { IfOk result (λ _. view.old.text ≢ robots_file → IsDecidingLine self.now view.old.text None
+            → view.old.looks + length self.now ≤ view.new.looks) }
+        ensures ample { cost_of self.now (length view.old.text) ≤ budget
+            → view.old.looks + cost_of self.now (length view.old.text) < 2 ^ 64 → IsOk result }
+    {
+        if view.is_robots_file() {
+            return Ok(NO_RULE);
+        }
+        let limit = view.seen().saturating_add(budget);
+        match self.unsorted.first_within(view, limit)? {
+            Some(at) => Ok(self.unsorted.decision_at(at)),
+            None => Ok(NO_RULE),
+        }
+    }
+}
