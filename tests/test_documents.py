@@ -6,9 +6,10 @@ import os
 import re
 import shlex
 import subprocess
+from pathlib import Path
 
 import pytest
-from support import ALL_WARNINGS, CRATES, DOCUMENTS, ROOT, WARNINGS, run, shown, spelled, tables
+from support import ALL_WARNINGS, CRATES, DOCUMENTS, ROOT, WARNINGS, program, run, shown, spelled, tables
 
 LIBRARY = CRATES / "texting_robots"
 README, GUIDE, PROGRAMS, PROOFS, CONTRACTS = map(DOCUMENTS.get, ["README.md", *(f"docs/{name}.md" for name in ("GUIDE", "PROGRAMS", "PROOFS", "CONTRACTS"))])
@@ -231,6 +232,18 @@ def test_readme_shows_what_the_first_command_prints():
     examples = shown(section(README, "Audit a file").split("It prints")[1].split("`+` marks")[0]).splitlines()
     assert len(examples) > 5
     assert [line for line in examples if line not in lines] == []
+
+
+@pytest.mark.parametrize("command", [line for line in (shown(README) + shown(PROGRAMS)).splitlines() if re.match("(robots_audit|curl) ", line)])
+def test_command_runs(command, tmp_path):
+    """In a folder with the files that it names; curl is a script here that fetches nothing."""
+    files = {"robots.txt": "User-agent: *\nDisallow: /search\n", "old.txt": "User-agent: *\nAllow: /\n", "urls.txt": "/search/tea\n", "expect.txt": "deny B /search\n"}
+    for name, text in {**files, "curl": "#!/bin/sh\ncat robots.txt\n"}.items():
+        (tmp_path / name).write_text(text)
+    (tmp_path / "curl").chmod(0o755)
+    (tmp_path / "robots_audit").symlink_to(program("robots_audit"))
+    result = run(Path("/bin/bash"), ["-ec", command], cwd=tmp_path, env={"PATH": f"{tmp_path}:{os.environ['PATH']}"})
+    assert result.status in (0, 1) and "robots_audit: " not in result.err
 
 
 def test_proofs_name_the_toolchain():
