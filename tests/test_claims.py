@@ -5,9 +5,8 @@ claims with these names: python3 tests/test_claims.py"""
 import re
 
 import pytest
-from support import CRATES, ROOT
+from support import CRATES, PAGES, ROOT
 
-PAGES = {path.relative_to(ROOT).as_posix(): path.read_text() for path in sorted([*ROOT.glob("*.md"), *ROOT.glob("docs/*.md"), *ROOT.glob("bindings/*/README.md")])}
 CLAIM = re.compile(r"\b(proved|tested)\b", re.I)
 STATED = {name for path in CRATES.glob("*/src/**/*.rt") for name in re.findall(r"\bfn (\w+)[^{]*?\bensures\b", path.read_text())}
 FORMAL = [path.read_text() for folder in ("specs", "proofs") for path in CRATES.glob(f"*/{folder}/**/*.antt")]
@@ -20,7 +19,7 @@ def parts(text):
     for part in re.split(r"\n\n+(?!- )|(?<!:)\n\n+", text):
         if part.startswith("| "):
             heading, _, *rows = part.splitlines()
-            yield from (row + "".join(CLAIM.findall(heading)) for row in rows)
+            yield from (" ".join([*CLAIM.findall(heading), row]) for row in rows)
         else:
             yield from re.split(r"\n(?=- )" if part.startswith("- ") else r"(?<=\.)\s(?=[A-Z])", part)
 
@@ -45,7 +44,8 @@ def test_claims_name_what_shows_them(name):
 
 
 def test_claims_are_seen():
-    assert [names for _, _, names in claims("No claim.\n\nIt is proved. It is tested (`tests/wild`).\n\n| A | Proved |\n|---|---|\n| `Robot::new` | b |\n")] == [[], ["tests/wild"], ["Robot::new"]]
+    text = "No claim.\n\nIt is proved. It is tested (`tests/wild`).\n\n| A | Proved |\n|---|---|\n| `Robot::new` | b |\n"
+    assert [names for _, _, names in claims(text)] == [[], ["tests/wild"], ["Robot::new"]]
 
 
 if __name__ == "__main__":

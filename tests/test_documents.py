@@ -9,7 +9,7 @@ import subprocess
 from pathlib import Path
 
 import pytest
-from support import ALL_WARNINGS, CRATES, DOCUMENTS, ROOT, WARNINGS, program, run, shown, spelled, tables
+from support import ALL_WARNINGS, CRATES, DOCUMENTS, PAGES, ROOT, WARNINGS, program, run, shown, spelled, tables
 
 LIBRARY = CRATES / "texting_robots"
 README, GUIDE, PROGRAMS, PROOFS, CONTRACTS = map(DOCUMENTS.get, ["README.md", *(f"docs/{name}.md" for name in ("GUIDE", "PROGRAMS", "PROOFS", "CONTRACTS"))])
@@ -170,8 +170,7 @@ def test_documents_name_warnings_and_options_that_exist(name):
 
 
 def test_documents_are_short():
-    sizes = {path.relative_to(ROOT): path.stat().st_size for path in [*ROOT.glob("*.md"), *ROOT.glob("docs/*.md"), *ROOT.glob("bindings/*/*.md")]}
-    assert len(README.encode()) <= 7_000 and sum(sizes.values()) <= 92_000, sizes
+    assert len(README.encode()) <= 7_000 and sum(len(text.encode()) for text in PAGES.values()) <= 92_000
 
 
 @pytest.mark.parametrize("name", DOCUMENTS)
