@@ -14,14 +14,17 @@ STATED |= {name for text in FORMAL for name in re.findall(r"^ *(?:(?:abbrev|unfo
 
 
 def parts(text):
-    """Sentences, items of lists, lists with the lines that introduce them, and rows of tables with the claim of their heading."""
-    text = re.sub(r"^```.*?^```$", "", re.sub(r"^(?: {4}|#).*$|\]\(.*?\)", "", text, flags=re.M), flags=re.M | re.S)
-    for part in re.split(r"\n\n+(?!- )|(?<!:)\n\n+", text):
+    """Sentences, items of lists, lists with the line that introduces them, and rows of tables with the claim of their heading."""
+    text = re.sub(r"^```.*?^```$", "", re.sub(r"^(?: {4}|#).*$", "", text, flags=re.M), flags=re.M | re.S)
+    text = re.sub(r"\[([^]]*)\]\([^)]*\)", r"\1", re.sub(r"\n{3,}", "\n\n", text))
+    for part in re.split(r"\n\n(?!- )|(?<!:)\n\n", text):
         if part.startswith("| "):
             heading, _, *rows = part.splitlines()
             yield from (" ".join([*CLAIM.findall(heading), row]) for row in rows)
+        elif part.startswith("- "):
+            yield from part.split("\n- ")
         else:
-            yield from re.split(r"\n(?=- )" if part.startswith("- ") else r"(?<=\.)\s(?=[A-Z])", part)
+            yield from [part] if "\n- " in part else re.split(r"(?<=\.)\s(?=[A-Z])", part)
 
 
 def shows(claim, span):
