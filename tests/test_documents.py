@@ -1,15 +1,15 @@
 """What documents show is what the sources and the programs have: contracts, code, commands with their output, options, warnings, errors,
-examples, links and names. The messages of warnings are compared by every golden case, since those name a warning and take its message
-from docs/PROGRAMS.md."""
+examples, links and names. tests/test_facts.py has what no program prints, tests/test_claims.py what is called proved or tested."""
 
 import json
 import os
 import re
 import shlex
 import subprocess
+from pathlib import Path
 
 import pytest
-from support import ALL_WARNINGS, CRATES, DOCUMENTS, ROOT, WARNINGS, run, shown, spelled, tables
+from support import ALL_WARNINGS, CRATES, DOCUMENTS, PAGES, ROOT, WARNINGS, program, run, shown, spelled, tables
 
 LIBRARY = CRATES / "texting_robots"
 README, GUIDE, PROGRAMS, PROOFS, CONTRACTS = map(DOCUMENTS.get, ["README.md", *(f"docs/{name}.md" for name in ("GUIDE", "PROGRAMS", "PROOFS", "CONTRACTS"))])
@@ -169,6 +169,10 @@ def test_documents_name_warnings_and_options_that_exist(name):
     assert options <= set(re.findall(r"`(--[a-z-]+)", "".join(row[0] for row in tables(PROGRAMS))))
 
 
+def test_documents_are_short():
+    assert len(README.encode()) <= 7_000 and sum(len(text.encode()) for text in PAGES.values()) <= 92_000
+
+
 @pytest.mark.parametrize("name", DOCUMENTS)
 def test_prose_has_at_most_100_columns(name):
     assert not [line for line in prose(DOCUMENTS[name]) if len(line) > 100]
@@ -209,11 +213,13 @@ def test_guide_shows_the_functions_of_another_allocator():
 
 
 def test_guide_shows_the_example():
-    assert code(GUIDE, "rust")[1] in (CRATES / "texting_robots_tests/src/example.rt").read_text()
+    assert code(GUIDE, "rust")[0] in (CRATES / "texting_robots_tests/src/example.rt").read_text()
 
 
-def test_guide_shows_its_program():
-    assert code(GUIDE, "rust")[0] in (CRATES / "robots_examples/src/main.rt").read_text()
+def test_guide_runs_its_program():
+    words = shlex.split(re.search(r"^    rt run -- (.*)$", GUIDE, re.M)[1])
+    result = run("robots_examples", words, cwd=CRATES / "robots_examples")
+    assert (result.status, result.err) == (0, "") and words[-1] in result.out
 
 
 def test_readme_shows_what_the_first_command_prints():
@@ -225,6 +231,18 @@ def test_readme_shows_what_the_first_command_prints():
     examples = shown(section(README, "Audit a file").split("It prints")[1].split("`+` marks")[0]).splitlines()
     assert len(examples) > 5
     assert [line for line in examples if line not in lines] == []
+
+
+@pytest.mark.parametrize("command", [line for line in (shown(README) + shown(PROGRAMS)).splitlines() if re.match("(robots_audit|curl) ", line)])
+def test_command_runs(command, tmp_path):
+    """In a folder with the files that it names; curl is a script here that fetches nothing."""
+    files = {"robots.txt": "User-agent: *\nDisallow: /search\n", "old.txt": "User-agent: *\nAllow: /\n", "urls.txt": "/search/tea\n", "expect.txt": "deny B /search\n"}
+    for name, text in {**files, "curl": "#!/bin/sh\ncat robots.txt\n"}.items():
+        (tmp_path / name).write_text(text)
+    (tmp_path / "curl").chmod(0o755)
+    (tmp_path / "robots_audit").symlink_to(program("robots_audit"))
+    result = run(Path("/bin/bash"), ["-ec", command], cwd=tmp_path, env={"PATH": f"{tmp_path}:{os.environ['PATH']}"})
+    assert result.status in (0, 1) and "robots_audit: " not in result.err
 
 
 def test_proofs_name_the_toolchain():
@@ -286,12 +304,12 @@ AUDIT_ERRORS = {
     "out of memory": {"args": ["-"], "text": LONG_RULE, "fails": True},
 }
 VERDICT_ERRORS = {
-    "Read": {"stdin": "/"},
-    "Write": {"text": b"B\n\n", "stdout": "/dev/full"},
-    "NoEmptyLine": {"text": b"B\n/a\n"},
-    "HeaderNotUtf8": {"text": b"\xff\n\n"},
-    "InvalidRule": {"text": b"B\n\n" + LONG_RULE},
-    "Memory": {"text": b"B\n\n" + LONG_RULE, "fails": True},
+    "reading the input failed": {"stdin": "/"},
+    "writing the output failed": {"text": b"B\n\n", "stdout": "/dev/full"},
+    "no empty line after the URLs": {"text": b"B\n/a\n"},
+    "a header line isn't UTF-8": {"text": b"\xff\n\n"},
+    "a captured rule with $ is too long": {"text": b"B\n\n" + LONG_RULE},
+    "out of memory": {"text": b"B\n\n" + LONG_RULE, "fails": True},
 }
 
 
@@ -324,11 +342,12 @@ def test_usage_is_documented():
     assert USAGE in shown(PROGRAMS).splitlines() and CURL in shown(PROGRAMS).splitlines()
 
 
-@pytest.mark.parametrize("name", VERDICT_ERRORS)
-def test_verdict_error_has_the_documented_message(failing_heap, name):
-    (row,) = [row for row in tables(section(PROGRAMS, "`robots_verdict`")) if row[0] == f"`{name}`"]
-    result = run_into("robots_verdict", failing_heap, **VERDICT_ERRORS[name])
-    assert (result.status, result.err) == (int(row[2]), row[3].strip("`") + "\n")
+@pytest.mark.parametrize("text", VERDICT_ERRORS)
+def test_verdict_error_has_the_documented_status(failing_heap, text):
+    message = f"robots_verdict: {text}"
+    (status,) = [int(row[0]) for row in tables(section(PROGRAMS, "`robots_verdict`")) if row[1].startswith(f"`{message}`")]
+    result = run_into("robots_verdict", failing_heap, **VERDICT_ERRORS[text])
+    assert (result.status, result.err) == (status, message + "\n")
 
 
 def test_documented_options_are_those_of_help():

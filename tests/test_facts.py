@@ -50,8 +50,7 @@ def test_the_limit_of_the_header():
 def test_the_numbers_of_listed_warnings():
     assert [int(it) for it in re.findall(r"the first (\d+) warnings", joined(PROGRAMS))] == [constant("LISTED_WARNINGS")]
     assert constant("MOST") == 20
-    for text in (PROGRAMS, DOCUMENTS["CHANGELOG.md"]):
-        assert re.findall(r"more than (twenty|\d+) (?:more|warnings)|(?:they are )more than (twenty|\d+)", joined(text)) or "first twenty" in joined(text)
+    assert "with one name, the first twenty have a line" in joined(PROGRAMS)
 
 
 def test_the_number_of_worked_examples():
@@ -143,7 +142,7 @@ def test_keys_of_golden_cases():
 
 COLUMNS = {
     "docs/SPECIFICATION.md": {
-        "Term | Meaning", "Directive | Field names", "Line | Read as", "File | URL | Result", "URL | Match target",
+        "Directive | Field names", "Line | Read as", "File | URL | Result", "URL | Match target",
     },
     "docs/COMPATIBILITY.md": {
         "File | URL | RFC 9309 | Google | Rust crate | Here | Warning", "Input | RFC 9309 | Google | Rust crate | Here",

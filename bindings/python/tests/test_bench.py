@@ -1,13 +1,14 @@
 """The comparison with other parsers: its results, the differences that docs/COMPATIBILITY.md lists, and the files of docs/BENCHMARKS.md."""
 
+import statistics
 import subprocess
 import sys
 import urllib.robotparser
 
 import package
 import pytest
-from support import DOCUMENTS, ROOT, spelled, tables
-from test_documents import rows_under, section
+from support import DOCUMENTS, ROOT, tables
+from test_documents import bytes_in, rows_under, section
 
 from texting_robots import Robots
 
@@ -29,9 +30,10 @@ def results(text, url):
 @pytest.mark.parametrize("difference, parsers, file, url, there, here", rows_under("docs/COMPATIBILITY.md", *COLUMNS))
 def test_parser_differs_as_documented(difference, parsers, file, url, there, here):
     words = {True: "allowed", False: "denied"}
-    found = {parser: words[it] for parser, it in results(spelled(file.strip("`").replace("⏎", "\n")), url.strip("`")).items()}
-    wanted = {parser: (there if parser in parsers else here).split(":")[0] for parser in found}
-    assert found == wanted
+    text = bytes_in(file) if "ser-agent" in file else b"User-agent: *\n" + bytes_in(file)
+    found = {parser: words[it] for parser, it in results(text, url.strip("`")).items()}
+    named = {"Protego", "urllib.robotparser"} if parsers == "both" else parsers
+    assert found == {parser: (there if parser in named else here).split(":")[0] for parser in found}
 
 
 def test_other_parsers_have_the_same_results_but_for_listed_differences():
@@ -48,16 +50,24 @@ def test_another_result_that_is_not_listed_is_rejected(tmp_path):
     assert ended.returncode == 1 and "Not timed, as it has other results for blog: https://www.example.com/wp-admin/" in ended.stdout
 
 
+def rows_of_the_run():
+    return [row for row in tables(section(DOCUMENTS["docs/BENCHMARKS.md"], "One run")) if row[0] not in ("File", "---")]
+
+
 def test_the_document_has_the_files_of_the_corpus():
-    runs = DOCUMENTS["docs/BENCHMARKS.md"].split("\n### ")[1:]
-    files = [[it.name, f"{len(it.file):,}"] for it in corpus.cases()]
-    assert len(runs) > 1
-    for run in runs:
-        assert [row[:2] for row in tables(run) if row[0] not in ("File", "---")] == files
+    assert [row[:2] for row in rows_of_the_run()] == [[it.name, f"{len(it.file):,}"] for it in corpus.cases()]
 
 
 def test_the_document_has_only_listed_differences():
     listed = {it.values[0] for it in rows_under("docs/COMPATIBILITY.md", *COLUMNS)}
-    rows = [row for run in DOCUMENTS["docs/BENCHMARKS.md"].split("\n### ")[1:] for row in tables(run)[1:]]
-    assert {name for row in rows if ": " in row[4] for name in row[4].split(": ")[1].split(", ")} <= listed
-    assert section(DOCUMENTS["docs/COMPATIBILITY.md"], "Parsers for Python")
+    named = {name for row in rows_of_the_run() for why in row[6].split("; ") if why for name in why.split(": ")[1].split(", ")}
+    assert named and named <= listed
+
+
+def test_the_document_and_the_readme_have_the_medians():
+    medians = [round(statistics.median(float(row[column].replace(",", "")) for row in rows_of_the_run())) for column in (2, 3, 4, 5)]
+    first, later, urllib_first, urllib_later = medians
+    words = " ".join(DOCUMENTS["docs/BENCHMARKS.md"].split())
+    assert f"medians are {first} and {later} for Protego, and {urllib_first} and {urllib_later} for `urllib" in words
+    assert f"Protego takes {first} times" in words and f"`urllib.robotparser` {urllib_first} times" in words
+    assert f"| {first} | {urllib_first} |\n" in DOCUMENTS["README.md"]
