@@ -10,7 +10,7 @@ use Rattle.std.proofs.lemmas.List.{length-map, length-take}
 use Rattle.texting_robots.specs.declared.{segments.Span.Span, rules.Entry.Entry, rules.Unsorted.Unsorted}
 use Rattle.texting_robots.specs.Internal.Entries.{AreEntries, HaveMasks, GoesBefore, IsEntryOf, IsFirstMatch}
 use Rattle.texting_robots.specs.Internal.Entries.{MatchesAt, NoneMatches, no_entry, pattern_of, placed_at}
-use Rattle.texting_robots.specs.Internal.Entries.{rules_in, mask_in}
+use Rattle.texting_robots.specs.Internal.Entries.{rank_in, rules_in, mask_in}
 use Rattle.texting_robots.specs.Internal.Prefilter.{AreApart, AreWithin, pair_set}
 use Rattle.texting_robots.specs.Internal.Segments.{IsSpan, part_of}
 use Rattle.texting_robots.specs.Decision.{IsDecidingRule, IsLongestMatch, LooksForRules, as_long_as}
@@ -117,10 +117,10 @@ module _ (all : Unsorted) (known : All (IsEntryOf all) all.entries.items) where
       → get_or (rules_in all) k d ≡ placed k
   rule_is k d below = get_or-map (placed_at (string_bytes all.text)) all.entries.items k no_entry d below
 
-  ranked : (k : ℕ) → k < length all.entries.items → rank_of (placed k) ≡ (entry_at k).rank
+  ranked : (k : ℕ) → k < length all.entries.items → rank_of (placed k) ≡ rank_in (entry_at k)
   ranked k below =
       let is : IsEntryOf all (entry_at k) = known k no_entry below in
-      rw (part_length (string_bytes all.text) (entry_at k).pattern is.pattern) (sym is.ranked)
+      rw (part_length (string_bytes all.text) (entry_at k).pattern is.pattern) refl
 
   pub none_occurs : (text : List ℕ) → NoneMatches all text → NoMatch (rules_in all) text
   none_occurs text none rule (k, below, here) fits =

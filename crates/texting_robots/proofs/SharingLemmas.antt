@@ -6,7 +6,7 @@ use Rattle.std.proofs.lemmas.List.{take-append-le, take_all}
 use Rattle.std.proofs.lemmas.List.Elements.{All-head, All-push, All-tail, All-weaker}
 use Rattle.texting_robots.specs.declared.segments.{Ends.Ends, Segment.Segment, Span.Span}
 use Rattle.texting_robots.specs.declared.rules.Entry.{Entry}
-use Rattle.texting_robots.specs.Internal.{Entries.IsEntry, Entries.placed_at, Entries.rank}
+use Rattle.texting_robots.specs.Internal.{Entries.IsEntry, Entries.placed_at}
 use Rattle.texting_robots.specs.Internal.{Prefilter.ArePrefilter}
 use Rattle.texting_robots.specs.Internal.Segments.{AreSegments, IsSegment, IsSpan, part_of}
 
@@ -84,7 +84,6 @@ module _ (text more_text : List ℕ) (segments more_segments : List Segment)
         searched = span_kept segments more_segments entry.segments h.searched;
         is_cut = rw (one, two) (tables_kept _ _ _ borders more_borders h.is_cut);
         needed = rw one h.needed;
-        ranked = h.ranked;
       }
 
   pub entries_pushed : (entries : List Entry) (entry : Entry) → All IsOld entries → IsNow entry
@@ -99,20 +98,16 @@ module _ (text pattern : List ℕ) (segments searched : List Segment) (borders :
     pub searched_span : IsNew segments (segments ++ searched) entry.segments
     pub is_cut : AreSegments pattern entry.ends searched borders
     pub needed : ArePrefilter pattern entry.prefilter
-    pub ranked : entry.rank ≡ rank (length pattern) entry.is_allow
 
   pub entry_new : IsPushed → IsEntry (text ++ pattern) (segments ++ searched) borders entry
   entry_new is =
       let one = part_new text pattern entry.pattern is.pattern_span in
       let two = part_new segments searched entry.segments is.searched_span in
-      let sizes = length-append text pattern in
-      let len : entry.pattern.end - entry.pattern.start ≡ length pattern = omega arith in
       record {
         pattern = span_new text pattern entry.pattern is.pattern_span;
         searched = span_new segments searched entry.segments is.searched_span;
         is_cut = rw (one, two) is.is_cut;
         needed = rw one is.needed;
-        ranked = rw len is.ranked;
       }
 
 module _ (text more : List ℕ) (segments : List Segment) (borders : List ℕ) where

@@ -78,7 +78,7 @@ fn sixteen_hold_escaped(bytes: &[u8]) -> bool
 /// Whether some byte is escaped. Eight to 32 bytes are tested as two parts of equal length, which may overlap. It
 /// isn't inlined, so that [`push_escaped`] stays small.
 #[inline(never)]
-fn holds_escaped(bytes: &[u8]) -> bool
+pub(crate) fn holds_escaped(bytes: &[u8]) -> bool
     ensures { result ≡ list_any is_escaped bytes.now }
 {
     let len = bytes.len();

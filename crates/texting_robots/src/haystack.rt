@@ -12,10 +12,16 @@ ghost use Rattle.texting_robots.specs.Internal.Haystack.{PassesTo};
 use crate::prefilter::bigrams::BigramSet;
 use crate::prefilter::head::front;
 use crate::prefilter::{Prefilter, first_near};
-use crate::segments::Span;
 use crate::view::View;
 use memchr::memmem;
 use std::marker::Model;
+
+/// A range of rules to try.
+#[derive(Clone, Copy)]
+pub(crate) struct Near {
+    pub(crate) start: usize,
+    pub(crate) end: usize,
+}
 
 /// A text that patterns are matched against.
 pub(crate) trait Haystack {
@@ -44,7 +50,7 @@ pub(crate) trait Haystack {
 
     /// The range of rules to try next, between `from` and `end`. By their bigram masks, the rules before this range
     /// can't match the text. This takes no looks.
-    fn next(&mut self, masks: &[u64], from: usize, end: usize) -> Span
+    fn next(&mut self, masks: &[u64], from: usize, end: usize) -> Near
         requires from { from < end }
         requires masks { length masks.now ≤ end }
         ensures from { from ≤ result.start }
@@ -72,7 +78,7 @@ pub(crate) trait Haystack {
             → (seen self.new).looks ≡ (seen self.old).looks };
 
     /// What is left after the first occurrence of the segment in `rest`. `table` is the failure table of the segment.
-    fn find(&mut self, rest: Self::Rest, segment: &[u8], table: &[usize]) -> Option<Self::Rest>
+    fn find(&mut self, rest: Self::Rest, segment: &[u8], table: &[u32]) -> Option<Self::Rest>
         requires rest { is_rest rest (seen self.old).text }
         requires table { IsTable segment.now table.now }
         ensures none { IfNone result (OccursNowhere segment.now (left rest (seen self.old).text)) }
@@ -110,8 +116,8 @@ impl<'a> Haystack for View<'a> {
         false
     }
 
-    fn next(&mut self, _masks: &[u64], from: usize, end: usize) -> Span {
-        Span { start: from, end }
+    fn next(&mut self, _masks: &[u64], from: usize, end: usize) -> Near {
+        Near { start: from, end }
     }
 
     fn may_match(&mut self, _prefilter: Prefilter) -> bool {
@@ -126,7 +132,7 @@ impl<'a> Haystack for View<'a> {
         }
     }
 
-    fn find(&mut self, rest: usize, segment: &[u8], table: &[usize]) -> Option<usize> {
+    fn find(&mut self, rest: usize, segment: &[u8], table: &[u32]) -> Option<usize> {
         let len = self.len();
         let mut position = rest;
         let mut matched = 0;
@@ -140,7 +146,7 @@ impl<'a> Haystack for View<'a> {
             } else if matched == 0 {
                 position += 1;
             } else {
-                matched = table[matched - 1];
+                matched = table[matched - 1] as usize;
             }
         }
         Some(position)
@@ -238,9 +244,9 @@ impl<'a> Haystack for Uncounted<'a> {
         !masks.is_empty()
     }
 
-    fn next(&mut self, masks: &[u64], from: usize, end: usize) -> Span {
+    fn next(&mut self, masks: &[u64], from: usize, end: usize) -> Near {
         let start = first_near(masks, from, self.pairs().bits);
-        Span {
+        Near {
             start,
             end: start + (end - start).min(8),
         }
@@ -256,7 +262,7 @@ impl<'a> Haystack for Uncounted<'a> {
         self.text.strip_prefix(segment)
     }
 
-    fn find(&mut self, rest: &'a [u8], segment: &[u8], _table: &[usize]) -> Option<&'a [u8]> {
+    fn find(&mut self, rest: &'a [u8], segment: &[u8], _table: &[u32]) -> Option<&'a [u8]> {
         after_first(rest, segment)
     }
 

@@ -17,12 +17,14 @@ impl<'a> Pattern<'a> {
         ensures cost { (A.seen haystack.new).looks ≤ (A.seen haystack.old).looks
             + looks_of self.now (length (A.seen haystack.old).text) }
     {
-        let Some(mut rest) = haystack.begins_with(&self.bytes[..self.ends.first_len]) else {
+        let Some(mut rest) = haystack.begins_with(&self.bytes[..self.ends.first_len as usize])
+        else {
             return false;
         };
         for segment in self.segments {
-            let bytes = &self.bytes[segment.span.start..segment.span.end];
-            let table = &self.borders[segment.table..segment.table + bytes.len().saturating_sub(1)];
+            let bytes = segment.span.part(self.bytes);
+            let table = segment.table as usize;
+            let table = &self.borders[table..table + bytes.len().saturating_sub(1)];
             let Some(following) = haystack.find(rest, bytes, table) else {
                 return false;
             };
@@ -35,7 +37,7 @@ impl<'a> Pattern<'a> {
     pub(crate) fn most_looks(&self, len: usize) -> u64
         ensures { result ≡ seen_of (looks_of self.now len) }
     {
-        let first = self.ends.first_len;
+        let first = self.ends.first_len as usize;
         if len < first {
             return 0;
         }
@@ -57,7 +59,7 @@ fn ends_as<A: Haystack>(haystack: &mut A, rest: A::Rest, pattern: &[u8], ending:
     match ending {
         Ending::Open => true,
         Ending::Closed => haystack.is_at_end(rest),
-        Ending::Last(span) => haystack.ends_with(rest, &pattern[span.start..span.end]),
+        Ending::Last(span) => haystack.ends_with(rest, span.part(pattern)),
         Ending::Never => false,
     }
 }

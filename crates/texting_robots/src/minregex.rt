@@ -29,7 +29,7 @@ pub struct MinRegex {
     collapsed_text: String,
     ends: Ends,
     segments: Vec<Segment>,
-    borders: Vec<usize>,
+    borders: Vec<u32>,
 }
 
 impl Model for MinRegex {
@@ -51,7 +51,7 @@ impl MinRegex {
     /// # Errors
     ///
     /// `Error::InvalidRule` if the pattern contains `$` and has more than 4,096 bytes, each run of stars counted as
-    /// one. `Error::Memory` if an allocation fails.
+    /// one. `Error::Memory` if an allocation fails, or if an index into the pattern needs more than 32 bits.
     pub fn new(alloc: Global, pattern: &str) -> Result<Self, Error>
         ensures ok { IfOk result (λ regex. regex ≡ pattern.now) }
         ensures accepted { OnOk result (¬ IsOverlong pattern.now) }

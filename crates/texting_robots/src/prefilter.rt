@@ -22,10 +22,10 @@ impl Prefilter {
     pub(crate) fn of(pattern: &Pattern<'_>) -> Self
         ensures { ArePrefilter pattern.now result }
     {
-        let head = Head::of(pattern.bytes, pattern.ends.first_len);
+        let head = Head::of(pattern.bytes, pattern.ends.first_len as usize);
         let mut pairs = BigramSet::none();
         for segment in pattern.segments {
-            pairs = pairs.and(BigramSet::of(&pattern.bytes[segment.span.start..segment.span.end]));
+            pairs = pairs.and(BigramSet::of(segment.span.part(pattern.bytes)));
         }
         Prefilter {
             head,
@@ -40,7 +40,7 @@ fn ending_pairs(pattern: &[u8], ending: Ending) -> BigramSet
     ensures { result.bits ≡ ending_pairs pattern.now ending }
 {
     match ending {
-        Ending::Last(span) => BigramSet::of(&pattern[span.start..span.end]),
+        Ending::Last(span) => BigramSet::of(span.part(pattern)),
         _ => BigramSet::none(),
     }
 }

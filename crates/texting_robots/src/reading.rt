@@ -11,9 +11,11 @@ ghost use Rattle.texting_robots.specs.Internal.Group.{if_captured, placed, step,
 ghost use Rattle.texting_robots.specs.Internal.Robot.{IsComputedRobot, IsRejectionOf, rejection_at};
 
 use crate::error::Error;
+use crate::escape::holds_escaped;
 use crate::groups::{GroupTracker, group_for};
 use crate::parser::{Kind, LazyLine, Line, lazy_file_lines};
 use crate::rules::{Rules, Unsorted};
+use percent_encoding::ascii_str;
 use std::alloc::{AllocError, Global};
 use std::marker::Model;
 
@@ -66,11 +68,14 @@ pub(crate) struct RobotBuilder {
     pub(crate) rules: Unsorted,
 }
 
-/// The value as a string, if it is UTF-8.
+/// The value as a string, if it is UTF-8. Most values are ASCII, and nothing is decoded then.
 pub(crate) fn as_text<'a>(value: &'a [u8]) -> Option<&'a str>
     ensures { MatchOption result (is_utf8 value.now ≡ false)
         (λ text. (is_utf8 value.now ≡ true) × (text.now ≡ value.now)) }
 {
+    if !holds_escaped(value) {
+        return Some(ascii_str(value));
+    }
     match std::str::from_utf8(value) {
         Ok(text) => Some(text),
         Err(_) => None,

@@ -71,7 +71,7 @@ impl Robot {
     ///
     /// # Errors
     ///
-    /// As for [`Robot::new`].
+    /// As for [`Robot::new`]. `Error::Memory`, too, if an index into the rules needs more than 32 bits.
     pub fn with_limit(alloc: Global, agent: &str, txt: &[u8], limit: usize) -> Result<Self, Error>
         ensures robot { IfOk result (IsRobotOfFile agent.now (take limit txt.now)) }
         ensures rejected { IfErr result (IsMemoryErrorOr (IsFileRejected agent.now (take limit txt.now))) }

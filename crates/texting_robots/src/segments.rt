@@ -2,7 +2,7 @@
 ghost use Rattle.std.specs.Prelude.{◌≡◌, ℕ, ◌+◌, ◌-◌, ◌≤◌, ◌↔◌, ◌++◌, ◌==◌, IsTrue, IfOk, length, take};
 ghost use Rattle.std.specs.List.{list_all, position_or_len, prefix_len};
 ghost use Rattle.texting_robots.specs.Internal.Border.{IsTable};
-ghost use Rattle.texting_robots.specs.Internal.Segments.{AddsSegments, AreSegments, Closes, IsCutAtWildcard, is_wildcard};
+ghost use Rattle.texting_robots.specs.Internal.Segments.{AddsSegments, AreSegments, Closes, IsCutAtWildcard, IsSpan, is_wildcard, part_of};
 ghost use Rattle.texting_robots.specs.Pattern.{IsOverlong, collapsed, star};
 
 use crate::lanes::{LANES, all_are, first_lane};
@@ -20,19 +20,48 @@ const DOLLAR: u8 = b'$';
 /// How many bytes a pattern with `$` may have, each run of stars counted as one.
 const LONGEST_WITH_DOLLAR: usize = 4096;
 
-/// A range of indexes of a list.
+/// A range of indexes of a list. They are kept in four bytes each, so that rules are small.
 #[derive(Clone, Copy)]
 pub(crate) struct Span {
-    pub(crate) start: usize,
-    pub(crate) end: usize,
+    pub(crate) start: u32,
+    pub(crate) end: u32,
 }
 
 impl Span {
+    /// The range with these ends, unless they need more than 32 bits.
+    pub(crate) fn between(start: usize, end: usize) -> Result<Self, AllocError>
+        ensures { IfOk result (λ span. span ≡ record { start = start; end = end }) }
+    {
+        Ok(Span {
+            start: narrow(start)?,
+            end: narrow(end)?,
+        })
+    }
+
     /// How many elements it has.
-    pub(crate) fn len(&self) -> usize
+    pub(crate) fn len(&self) -> u32
         ensures { result ≡ self.now.end - self.now.start }
     {
         self.end.saturating_sub(self.start)
+    }
+
+    /// The elements of the range.
+    #[inline(always)]
+    pub(crate) fn part<'a, T>(&self, items: &'a [T]) -> &'a [T]
+        requires { IsSpan items.now self.now }
+        ensures { result.now ≡ part_of items.now self.now }
+    {
+        &items[self.start as usize..self.end as usize]
+    }
+}
+
+/// The number in four bytes. What needs more doesn't fit into memory as rules are kept.
+pub(crate) fn narrow(number: usize) -> Result<u32, AllocError>
+    ensures { IfOk result (λ narrow. narrow ≡ number) }
+{
+    match u32::try_from(number) {
+        Ok(narrow) => Ok(narrow),
+        Err(_) => Err(AllocError),
     }
 }
 
@@ -41,7 +70,7 @@ impl Span {
 #[derive(Clone, Copy)]
 pub(crate) struct Segment {
     pub(crate) span: Span,
-    pub(crate) table: usize,
+    pub(crate) table: u32,
 }
 
 /// What has to follow the segments that are searched for.
@@ -60,7 +89,7 @@ pub(crate) enum Ending {
 /// How many bytes precede the first star or dollar, and what has to follow the segments that are searched for.
 #[derive(Clone, Copy)]
 pub(crate) struct Ends {
-    pub(crate) first_len: usize,
+    pub(crate) first_len: u32,
     pub(crate) ending: Ending,
 }
 
@@ -70,7 +99,7 @@ pub(crate) struct Pattern<'a> {
     pub(crate) bytes: &'a [u8],
     pub(crate) ends: Ends,
     pub(crate) segments: &'a [Segment],
-    pub(crate) borders: &'a [usize],
+    pub(crate) borders: &'a [u32],
 }
 
 impl<'a> Model for Pattern<'a> {
@@ -90,7 +119,7 @@ impl<'a> Pattern<'a> {
         bytes: &'a [u8],
         ends: Ends,
         segments: &'a [Segment],
-        borders: &'a [usize],
+        borders: &'a [u32],
     ) -> Self
         requires { AreSegments bytes.now ends segments.now borders.now }
         ensures { result ≡ bytes.now }
@@ -127,12 +156,12 @@ fn wildcard_in_sixteen(pattern: &[u8]) -> usize
 }
 
 /// The index of the first star or dollar, or the length if there is none. Eight to 32 bytes are compared as two parts
-/// of equal length, which may overlap.
+/// of equal length, which may overlap. Of more bytes the first sixteen are compared first.
 fn first_wildcard(pattern: &[u8]) -> usize
     ensures { result ≡ position_or_len is_wildcard pattern.now }
 {
     let len = pattern.len();
-    if len < 8 || len > 32 {
+    if len < 8 {
         return memchr2(STAR, DOLLAR, pattern).unwrap_or(len);
     }
     if len < 16 {
@@ -145,6 +174,10 @@ fn first_wildcard(pattern: &[u8]) -> usize
     let first = wildcard_in_sixteen(pattern);
     if first < 16 {
         return first;
+    }
+    if len > 32 {
+        let rest = pattern.split_at(16).1;
+        return 16 + memchr2(STAR, DOLLAR, rest).unwrap_or(rest.len());
     }
     len - 16 + wildcard_in_sixteen(&pattern[len - 16..])
 }
@@ -222,7 +255,7 @@ pub(crate) fn is_overlong(pattern: &[u8]) -> bool
 
 /// Appends the failure table of a segment. It has the length of the longest border of each prefix, except the empty one
 /// and the segment itself. A border is a shorter prefix that is also a suffix.
-fn push_borders(borders: &mut Vec<usize>, segment: &[u8]) -> Result<(), AllocError>
+fn push_borders(borders: &mut Vec<u32>, segment: &[u8]) -> Result<(), AllocError>
     ensures { IfOk result (λ _. (table : _) × (borders.new.items ≡ borders.old.items ++ table)
         × IsTable segment.now table) }
 {
@@ -237,11 +270,11 @@ fn push_borders(borders: &mut Vec<usize>, segment: &[u8]) -> Result<(), AllocErr
         if segment[position] == segment[matched] {
             matched += 1;
         } else if matched > 0 {
-            matched = borders[table + matched - 1];
+            matched = borders[table + matched - 1] as usize;
             continue;
         }
         position += 1;
-        borders.push(matched)?;
+        borders.push(narrow(matched)?)?;
     }
     Ok(())
 }
@@ -250,25 +283,22 @@ fn push_borders(borders: &mut Vec<usize>, segment: &[u8]) -> Result<(), AllocErr
 pub(crate) fn push_segments(
     pattern: &[u8],
     segments: &mut Vec<Segment>,
-    borders: &mut Vec<usize>,
+    borders: &mut Vec<u32>,
 ) -> Result<Ends, AllocError>
     ensures { IfOk result (λ ends. AddsSegments pattern.now ends segments.old.items segments.new.items
         borders.old.items borders.new.items) }
 {
     let (segment, mut left) = cut_at_wildcard(pattern);
-    let first_len = segment.len();
+    let first_len = narrow(segment.len())?;
     while let Some(following) = left.strip_prefix(b"*") {
         let (_, following) = following.split_at(stars_len(following));
         let (segment, rest) = cut_at_wildcard(following);
-        let span = Span {
-            start: pattern.len() - following.len(),
-            end: pattern.len() - rest.len(),
-        };
+        let span = Span::between(pattern.len() - following.len(), pattern.len() - rest.len())?;
         if closes(rest) {
             let ending = Ending::Last(span);
             return Ok(Ends { first_len, ending });
         }
-        let table = borders.len();
+        let table = narrow(borders.len())?;
         push_borders(borders, segment)?;
         segments.push(Segment { span, table })?;
         left = rest;

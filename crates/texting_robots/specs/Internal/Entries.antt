@@ -30,7 +30,6 @@ pub record IsEntry (text : List ℕ) (segments : List Segment) (borders : List �
   pub searched : IsSpan segments entry.segments
   pub is_cut : AreSegments (part_of text entry.pattern) entry.ends (part_of segments entry.segments) borders
   pub needed : ArePrefilter (part_of text entry.pattern) entry.prefilter
-  pub ranked : entry.rank ≡ rank (len_of entry) entry.is_allow
 
 abbrev pub IsEntryOf : Unsorted → Entry → Type 0
 IsEntryOf all entry = IsEntry (string_bytes all.text) all.segments.items all.borders.items entry
@@ -53,7 +52,7 @@ rules_in all = map (placed_at (string_bytes all.text)) all.entries.items
 -- ---- the order
 
 abbrev pub rank_in : Entry → ℕ
-rank_in entry = entry.rank
+rank_in entry = rank (len_of entry) entry.is_allow
 
 abbrev pub line_in : Entry → ℕ
 line_in entry = entry.line
@@ -64,8 +63,8 @@ entry_cmp = then_cmp (flip_args (on rank_in nat_cmp)) (on line_in nat_cmp)
 
 -- the higher rank is first, and for the same rank the earlier line
 pub record GoesBefore (first second : Entry) : Type 0 where
-  pub higher : second.rank ≤ first.rank
-  pub earlier : second.rank ≡ first.rank → first.line ≤ second.line
+  pub higher : rank_in second ≤ rank_in first
+  pub earlier : rank_in second ≡ rank_in first → first.line ≤ second.line
 
 -- ---- the first matching rule
 
@@ -78,9 +77,8 @@ no_entry =
       pattern = none;
       segments = none;
       ends = record { first_len = 0; ending = Open };
-      is_allow = false;
-      rank = 0;
       line = 0;
+      is_allow = false;
     }
 
 -- the bigrams of the prefilter, and those of at most nine bytes before the first wildcard

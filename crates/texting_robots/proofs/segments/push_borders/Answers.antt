@@ -9,7 +9,7 @@ pub loop-position-smaller-then-matched-gt0 : goal.loop-position-smaller-then-mat
 loop-position-smaller-then-matched-gt0 c =
     let i = c.loop-position.invariant in
     let matched = c.loop-position.matched in
-    let entry = c.index-matched.ensures in
+    let entry = c.index.ensures in
     let longest = adds_entry i.adds matched (omega arith) (omega arith) _ (omega arith) _ entry in
     omega (arith, longest.proper)
 
@@ -17,7 +17,7 @@ pub loop-position-preserved-then-matched-gt0 : goal.loop-position-preserved-then
 loop-position-preserved-then-matched-gt0 c =
     let i = c.loop-position.invariant in
     let matched = c.loop-position.matched in
-    let entry = c.index-matched.ensures in
+    let entry = c.index.ensures in
     let longest = adds_entry i.adds matched (omega arith) (omega arith) _ (omega arith) _ entry in
     record {
       table = i.table;
@@ -43,5 +43,5 @@ loop-position-preserved c =
       table = i.table;
       within = omega arith;
       first = open_farther first (position + 1 + 1) (omega arith);
-      adds = rw c.in_ok-push-2.ensures.items (adds_more i.adds (longest_border first));
+      adds = rw (c.in_ok-push-2.ensures.items, c.in_ok-narrow.ensures) (adds_more i.adds (longest_border first));
     }

@@ -8,7 +8,7 @@ use Rattle.texting_robots.proofs.SegmentLemmas.{IsFromStar}
 use Rattle.texting_robots.proofs.segments.push_segments.Goals as goal
 
 pub loop-following-init : goal.loop-following-init
-loop-following-init c = cut_first _ _ _ _ _ c.cut_at_wildcard.ensures
+loop-following-init c = rw c.in_ok-first_len.ensures (cut_first _ _ _ _ _ c.cut_at_wildcard.ensures)
 
 pub returns-then-closes : goal.returns-then-closes
 returns-then-closes c =
@@ -20,7 +20,7 @@ returns-then-closes c =
       skips = c.split_at.ensures.back ∙ ap (λ n. drop n following.now) c.stars_len.ensures.value;
       cut = c.cut_at_wildcard-in-Some.ensures;
     } in
-    cut_last c.loop-following.invariant is (c.closes.ensures.0 c.if-closes.true)
+    rw c.in_ok-span.ensures (cut_last c.loop-following.invariant is (c.closes.ensures.0 c.if-closes.true))
 
 pub loop-following-preserved : goal.loop-following-preserved
 loop-following-preserved c =
@@ -34,9 +34,10 @@ loop-following-preserved c =
       cut = c.cut_at_wildcard-in-Some.ensures;
     } in
     let (table, put, is_table) = c.in_ok-push_borders.ensures in
-    let at : c.len-table.result ≡ length c.loop-following.borders.items = omega arith in
+    let at : c.in_ok-table.table ≡ length c.loop-following.borders.items
+    = omega (arith, c.in_ok-table.ensures) in
     let next = cut_more i is _ table at (iff_false c.closes.ensures c.if-closes.false) is_table in
-    rw (c.in_ok-push.ensures.items, put) next
+    rw (c.in_ok-push.ensures.items, put, c.in_ok-span.ensures) next
 
 pub returns-then-is_empty : goal.returns-then-is_empty
 returns-then-is_empty c =

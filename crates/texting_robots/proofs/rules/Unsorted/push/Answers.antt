@@ -1,4 +1,4 @@
-use Rattle.std.proofs.Common.{◌≡◌, ℕ, ◌-◌, List, length, slice_range, string_bytes, ap}
+use Rattle.std.proofs.Common.{ℕ, List, length, slice_range, string_bytes, ap}
 use Rattle.std.proofs.Common.{subst, ◌∙◌, arith, length-append}
 use Rattle.texting_robots.specs.{Internal.Prefilter.ArePrefilter, Internal.Segments.AreSegments}
 use Rattle.texting_robots.specs.{Escape.escaped}
@@ -23,7 +23,6 @@ returns-clause-known c =
     let put = ap length text ∙ length-append old_text more in
     let size = ap length text in
     let before = ap length reserved.text in
-    let len : c.len-end_byte.result - c.len-first_byte.result ≡ length more = omega arith in
     let same = ap (λ (t : List ℕ). slice_range t c.len-first_byte.result (length t))
     (c.as_bytes.ensures.value ∙ text)
     ∙ after_old old_text more c.len-first_byte.result (omega arith) in
@@ -38,13 +37,12 @@ returns-clause-known c =
           (entries_pushed old_text more old.segments.items added.segments old.borders.items added.tables
           old.entries.items _ c.requires.known
           (rw (← added.put_tables) (entry_new old_text more old.segments.items added.segments _ _ (record {
-            pattern_span = record { start = omega arith; end = omega arith };
-            searched_span = record { start = omega arith; end = omega arith };
+            pattern_span = rw c.in_ok-between.ensures (record { start = omega arith; end = omega arith });
+            searched_span = rw c.in_ok-between-2.ensures (record { start = omega arith; end = omega arith });
             is_cut = cut;
             needed = needed;
-            ranked = rw (← len) c.rank_of.ensures;
           }))));
-      masks = omega (arith, c.in_ok-reserve_one.ensures, c.len.ensures);
+      masks = omega (arith, c.requires.masks, c.in_ok-push.ensures.lower_bound, as_many);
     }
 
 pub returns-clause-added : goal.returns-clause-added
@@ -56,6 +54,6 @@ returns-clause-added c =
     let more = escaped c.args.value.now in
     let size = ap length text in
     let before = ap length reserved.text in
-    rw (c.in_ok-push.ensures.items, reserved.entries, text)
+    rw (c.in_ok-push.ensures.items, reserved.entries, text, ← c.in_ok-narrow.ensures)
     (rules_pushed old_text more old.segments.items old.borders.items old.entries.items _ c.requires.known
-    (record { start = omega arith; end = omega arith }))
+    (rw c.in_ok-between.ensures (record { start = omega arith; end = omega arith })))
