@@ -1,5 +1,5 @@
 -- The byte set in `escape.rt` escapes exactly the bytes that the specification escapes.
-use Rattle.std.proofs.Common.{◌≡◌, ℕ, ◌<◌, ◌≤◌, false, true, IsAscii, List, []}
+use Rattle.std.proofs.Common.{◌≡◌, ℕ, ◌<◌, ◌≤◌, false, IsAscii, List, []}
 use Rattle.std.proofs.Common.{◌∷◌, ◌++◌, refl, ap, inl, inr, arith}
 use Rattle.std.specs.List.{list_any}
 use Rattle.std.proofs.Math.Bool.{or-true}
@@ -43,7 +43,8 @@ plain_stays (b ∷ bytes) plain = elim (cases_Bool (is_escaped b)) [
 plain_low : (b : ℕ) → is_escaped b ≡ false → b < 128
 plain_low b stays = elim (cases_lt b 128) [
   | inl low ↦ low
-  | inr high ↦ let wrong = rw (le-ltb b 0x21 (omega arith), lt-ltb 0x7E b (omega arith), or-true) at stays in cc
+  | inr high ↦
+      let wrong = rw (le-ltb b 0x21 (omega arith), lt-ltb 0x7E b (omega arith), or-true) at stays in cc
 ]
 
 pub plain_ascii : (bytes : List ℕ) → list_any is_escaped bytes ≡ false → IsAscii bytes

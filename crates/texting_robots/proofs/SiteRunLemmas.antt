@@ -116,7 +116,8 @@ pub has_names : (lines : List LineValue) (names : List Named) → names ≡ name
     → not (length names == 0) ≡ list_any is_agent lines
 has_names lines [] are = sym (no_names lines (sym are))
 has_names lines (n ∷ names) are =
-    ap not (ne_eqb (suc (length names)) 0 (λ same. omega arith)) ∙ sym (some_names lines (λ none. filled names (are ∙ none)))
+    ap not (ne_eqb (suc (length names)) 0 (λ same. omega arith))
+    ∙ sym (some_names lines (λ none. filled names (are ∙ none)))
   where
     filled : {n : Named} (names : List Named) → n ∷ names ≡ [] → ⊥
     filled names is = cc

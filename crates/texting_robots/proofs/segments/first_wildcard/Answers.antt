@@ -33,7 +33,8 @@ pub returns-then-len-gt32 : goal.returns-then-len-gt32
 returns-then-len-gt32 c =
     let pattern = c.args.pattern.now in
     let seen = first_seen is_wildcard pattern 16 (omega arith) in
-    let rest = c.unwrap_or-then-len-gt32.ensures ∙ found_or_end is_wildcard _ _ c.memchr2-then-len-gt32.ensures in
+    let rest = c.unwrap_or-then-len-gt32.ensures
+    ∙ found_or_end is_wildcard _ _ c.memchr2-then-len-gt32.ensures in
     ap (λ k. 16 + k) (rw c.split_at.ensures.back at rest)
     ∙ sym (seen.1 (omega (arith, c.wildcard_in_sixteen-first.ensures)))
 

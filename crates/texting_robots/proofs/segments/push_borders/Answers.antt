@@ -43,5 +43,6 @@ loop-position-preserved c =
       table = i.table;
       within = omega arith;
       first = open_farther first (position + 1 + 1) (omega arith);
-      adds = rw (c.in_ok-push-2.ensures.items, c.in_ok-narrow.ensures) (adds_more i.adds (longest_border first));
+      adds = rw (c.in_ok-push-2.ensures.items, c.in_ok-narrow.ensures)
+          (adds_more i.adds (longest_border first));
     }

@@ -17,5 +17,11 @@ loop-entry-preserved c =
     rw pattern at c.most_looks-looks.ensures in
     let more = cost_more all n at entry below (get_or_default all.entries.items at no_entry entry below) in
     let is : c.saturating_add-cost.result ≡ seen_of (cost_upto all n (at + 1)) =
-    omega (arith, c.loop-entry.invariant, most, more, c.saturating_add.ensures,
-    c.saturating_add-cost.ensures) in is
+    omega (
+      arith,
+      c.loop-entry.invariant,
+      most,
+      more,
+      c.saturating_add.ensures,
+      c.saturating_add-cost.ensures,
+    ) in is
