@@ -41,7 +41,7 @@ tail_continues c is = grind (arith, nat_tests)
 one : (bytes : List ℕ) → rfc.IsUtf8OneNoctl bytes → IsCharText bytes
 one (a ∷ []) is = record {
   bytes = grind arith;
-  utf8 = read_whole (a ∷ []) a (value-1 1 a 0 0 0 (omega arith, omega arith));
+  utf8 = read_whole (a ∷ []) a (value-1 1 a 0 0 0 (omega arith));
 }
 one _ is = absurd is
 
@@ -59,7 +59,7 @@ two _ is = absurd is
 three : (bytes : List ℕ) → rfc.IsUtf8Three bytes → IsCharText bytes
 three (a ∷ b ∷ c ∷ []) is =
     let after : second a b ≡ true = grind (arith, nat_tests) in
-    let tail = tail_continues c (omega arith, omega arith) in
+    let tail = tail_continues c (omega arith) in
     record {
       bytes = grind arith;
       utf8 =
@@ -71,8 +71,8 @@ three _ is = absurd is
 four : (bytes : List ℕ) → rfc.IsUtf8Four bytes → IsCharText bytes
 four (a ∷ b ∷ c ∷ d ∷ []) is =
     let after : second a b ≡ true = grind (arith, nat_tests) in
-    let third = tail_continues c (omega arith, omega arith) in
-    let fourth = tail_continues d (omega arith, omega arith) in
+    let third = tail_continues c (omega arith) in
+    let fourth = tail_continues d (omega arith) in
     record {
       bytes = grind arith;
       utf8 =

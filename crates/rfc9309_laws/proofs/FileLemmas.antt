@@ -105,10 +105,9 @@ lines_listed [] = ([], repeats_none IsAddressLine)
 lines_listed (line ∷ lines) =
     let is = line.is in
     let (addresses, one) =
-    listed line.form (is.body ++ is.nl) (form_passes line.form is.body is.nl is.is_nl is.tested) in
+    listed line.form (is.body ++ is.nl) (form_passes is.nl is.is_nl line.form is.body is.tested) in
     let (more, rest) = lines_listed lines in
-    let first = repeats_one IsAddressLine addresses (is.body ++ is.nl) one in
-    (addresses ++ more, repeats_both (subst (rfc.Repeats IsAddressLine addresses) (sym is.whole) first) rest)
+    (addresses ++ more, repeats_both (repeats_one IsAddressLine addresses _ (rw is.whole one)) rest)
 
 -- ---- the effect of a text's source lines
 

@@ -253,7 +253,7 @@ tail_of (form ∷ forms) [] text all are = absurd all
 tail_of (form ∷ forms) (body ∷ bodies) text (is, all)
     (bytes, (end, ends, rest, whole, is_end, are_ends, are)) =
     let ended =
-    form_passes form body (end ∷ []) (is_nl end is_end) (form_tested body bytes form is) in
+    form_passes (end ∷ []) (is_nl end is_end) form body (form_tested body bytes form is) in
     let after = ends_before ends rest are_ends (tail_of forms bodies rest all are) in
     let joined : text ≡ (body ++ end ∷ []) ++ (ends ++ rest) = whole ∙ simp append_assoc in
     rw joined (form_before form forms (body ++ end ∷ []) (ends ++ rest) ended after)
@@ -328,7 +328,7 @@ formed (line ∷ lines) =
     ] in
     rw before.whole (record {
       forms = line.form ∷ later.forms;
-      each = (form_passes line.form line.is.body (lf ∷ []) (inr (inl refl)) line.is.tested, later.each);
+      each = (form_passes (lf ∷ []) (inr (inl refl)) line.form line.is.body line.is.tested, later.each);
       free = free_next line.form _ later.forms later.free;
     })
 

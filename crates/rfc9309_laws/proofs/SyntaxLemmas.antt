@@ -24,8 +24,7 @@ pub passing : {X : Type 0} (P : X → Type 0) (test : X → Bool) → ((x : X) �
     → Each P xs
 passing P test is [] all = tt
 passing P test is (x ∷ xs) all =
-    let both = and_parts (test x) _ all in
-    (is x both.0, passing P test is xs both.1)
+    let (first, rest) = and_parts _ _ all in (is x first, passing P test is xs rest)
 
 module _ {X : Type 0} (P : List X → List ℕ → Type 0) where
   pub repeats_none : Repeats P [] []
