@@ -14,13 +14,10 @@ use Rattle.rfc9309_laws.specs.LineForms.{Form, IsLine, Empty, Agent, Rule, Delay
 use Rattle.std.proofs.lemmas.{Bool.Decides.nat_tests, List.Folds.list_any-from_Any, Slice.Eq.bytes_eq-Decides}
 use Rattle.rfc9309_laws.specs.Rfc9309 as rfc
 
--- ---- a text and its parts
-
 split : (stop : ℕ) (text : List ℕ) → text ≡ text_before stop text ++ text_from stop text
 split stop [] = refl
 split stop (b ∷ text) = grind (arith, split stop text)
 
--- what is left begins with `stop`, if it isn't empty
 begins : (stop : ℕ) (text : List ℕ)
     → (text_from stop text ≡ []) ⊎ (text_from stop text ≡ stop ∷ text_after stop text)
 begins stop [] = inl refl
@@ -78,18 +75,12 @@ around text =
       back_blank = after;
     }
 
--- ---- a line with a colon
-
--- the parts up to the colon
-named : (body : List ℕ) → has_byte colon body ≡ true
-    → body ≡ (around (text_before colon body)).front
+named : (body : List ℕ) → has_byte colon body ≡ true → body ≡ (around (text_before colon body)).front
     ++ (name_in body ++ ((around (text_before colon body)).back ++ colon ∷ text_after colon body))
 named body has =
     split colon body ∙ ap (λ t. text_before colon body ++ t) (found colon body has)
     ∙ ap (λ t. t ++ (colon ∷ text_after colon body)) (around _).whole
     ∙ simp append_assoc
-
--- ---- values
 
 identifier : (word : List ℕ) → are_some is_identifier_byte word ≡ true → rfc.IsIdentifier word
 identifier [] is = cc
@@ -142,8 +133,6 @@ not_listed : (name : List ℕ) (names : List (List ℕ)) → list_any (bytes_eq 
 not_listed name names none (k, within, is) =
     let same = (bytes_eq-Decides name name).1 refl in
     false≢true (sym none ∙ list_any-from_Any (bytes_eq name) names (k, name, within, is, same))
-
--- ---- the forms
 
 -- a line with this terminator
 module _ (end : List ℕ) (nl : rfc.IsNl end) where

@@ -15,8 +15,6 @@ use Rattle.rfc9309_laws.specs.Rfc9309 as rfc
 use Rattle.rfc9309_laws.specs.Sample as sample
 use Rattle.rfc9309_laws.proofs.standard_samples_are_files.Goals as goal
 
--- ---- lines one after another
-
 -- a line with an item, or a line with none
 record Row {X : Type 0} (P : X → List ℕ → Type 0) (Q : List ℕ → Type 0) : Type 0 where
   items : List X
@@ -57,8 +55,6 @@ group token start is agents lines = record {
   written = refl;
   are_members = repeats lines;
 }
-
--- ---- the files
 
 feed : rfc.IsNl lf
 feed = inr (inl refl)
