@@ -161,11 +161,13 @@ named margin name blanks rest before is following =
       has = has_at colon front rest;
       name =
           ap stripped parts.before
-          ∙ stripped_is margin name blanks before (each_weaker IsNameByte _ (λ b byte. byte.1) name is) following;
+          ∙ stripped_is margin name blanks before (each_weaker IsNameByte _ (λ b byte. byte.1) name is)
+          following;
       after = ap (drop 1) parts.from;
       low = low_body front all;
       bare = λ bare.
-          each_append _ front _ (each_weaker IsFrontByte _ (λ b byte. byte.0) front all) (inr (omega arith), bare);
+          each_append _ front _ (each_weaker IsFrontByte _ (λ b byte. byte.0) front all)
+          (inr (omega arith), bare);
     }
   where
     low_body : (front : List ℕ) → Each IsFrontByte front → BeginsLow (front ++ colon ∷ rest)

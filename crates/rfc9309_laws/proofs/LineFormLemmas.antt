@@ -349,7 +349,8 @@ file_has_forms text groups wide =
     let all = file_made numbers groups (file.rest ++ file.nl) file.is_content in
     let lines = all.lines in
     let every =
-    each_append (λ b. b ≢ 0) file.bom file.rest (bom_no_nul file.bom file.is_bom) (no_nul file lines all.whole) in
+    each_append (λ b. b ≢ 0) file.bom file.rest (bom_no_nul file.bom file.is_bom)
+    (no_nul file lines all.whole) in
     let front : without_front text ≡ file.rest =
     ap without_front (file.whole ∙ sym (nothing_replaced (file.bom ++ file.rest) every))
     ∙ after_front file lines all.whole in

@@ -66,7 +66,8 @@ is_robotstxt : rfc.IsRobotstxt sample.bare_groups sample.bare_text
 unfolding is_utf8 chars encode
 is_robotstxt =
     let bots =
-    group {Line = rfc.IsRule} {Gap = rfc.IsEmptyLine} (codes "bot") _ (agent_passes cr_lf both (codes "user-agent: bot") refl)
+    group {Line = rfc.IsRule} {Gap = rfc.IsEmptyLine} (codes "bot") _
+    (agent_passes cr_lf both (codes "user-agent: bot") refl)
     (gap _ (form_passes lf feed Empty (codes "\t# more of it # here") refl)
     ∷ item _ _ (agent_passes cr (inl refl) (codes " User-Agent\t:\tother-bot_x ") refl) ∷ [])
     (item (rfc.Allow path) _ (record {
@@ -81,7 +82,8 @@ is_robotstxt =
     })
     ∷ gap _ (form_passes lf feed Empty [] refl) ∷ []) in
     let others =
-    group {Line = rfc.IsRule} {Gap = rfc.IsEmptyLine} (codes "*") _ (agent_passes lf feed (codes "USER-AGENT: *") refl) []
+    group {Line = rfc.IsRule} {Gap = rfc.IsEmptyLine} (codes "*") _
+    (agent_passes lf feed (codes "USER-AGENT: *") refl) []
     (item (rfc.Disallow (codes "/")) _ (record {
       value = codes "/";
       is_pattern = inl (pattern_with 47 47 [] refl refl, refl);
@@ -94,7 +96,8 @@ is_file : rfc.IsFile sample.wide_groups sample.wide_text
 unfolding is_utf8 chars encode
 is_file =
     let wide =
-    group {Line = rfc.IsMemberLine} {Gap = rfc.IsSkipped} (codes "Bot") _ (agent_passes lf feed (codes "user-agent: Bot") refl)
+    group {Line = rfc.IsMemberLine} {Gap = rfc.IsSkipped} (codes "Bot") _
+    (agent_passes lf feed (codes "user-agent: Bot") refl)
     (gap _ (inr (inl (form_passes lf feed Sitemap (codes "Sitemap: https://a/s") refl))) ∷ [])
     (item _ _ (inr (inl (
       pattern_with 42 42 (codes ".gif$") refl refl,
