@@ -25,7 +25,6 @@ pub record IsCharText (text : List ℕ) : Type 0 where
   pub bytes : Each IsCharByte text
   pub utf8 : IsUtf8 text
 
--- if all the bytes decode to one character, they are UTF-8
 read_whole : (bytes : List ℕ) (c : ℕ) → decoded bytes ≡ good c (length bytes) → IsUtf8 bytes
 read_whole bytes c e =
     let s = SpellsChar-decoded bytes c (ap (λ p. p.char) e) in
@@ -41,7 +40,7 @@ tail_continues c is = grind (arith, nat_tests)
 one : (bytes : List ℕ) → rfc.IsUtf8OneNoctl bytes → IsCharText bytes
 one (a ∷ []) is = record {
   bytes = grind arith;
-  utf8 = read_whole (a ∷ []) a (value-1 1 a 0 0 0 (omega arith, omega arith));
+  utf8 = read_whole (a ∷ []) a (value-1 1 a 0 0 0 (omega arith));
 }
 one _ is = absurd is
 
@@ -59,7 +58,7 @@ two _ is = absurd is
 three : (bytes : List ℕ) → rfc.IsUtf8Three bytes → IsCharText bytes
 three (a ∷ b ∷ c ∷ []) is =
     let after : second a b ≡ true = grind (arith, nat_tests) in
-    let tail = tail_continues c (omega arith, omega arith) in
+    let tail = tail_continues c (omega arith) in
     record {
       bytes = grind arith;
       utf8 =
@@ -71,8 +70,8 @@ three _ is = absurd is
 four : (bytes : List ℕ) → rfc.IsUtf8Four bytes → IsCharText bytes
 four (a ∷ b ∷ c ∷ d ∷ []) is =
     let after : second a b ≡ true = grind (arith, nat_tests) in
-    let third = tail_continues c (omega arith, omega arith) in
-    let fourth = tail_continues d (omega arith, omega arith) in
+    let third = tail_continues c (omega arith) in
+    let fourth = tail_continues d (omega arith) in
     record {
       bytes = grind arith;
       utf8 =
@@ -87,8 +86,7 @@ char_text bytes (inr (inl is)) = two bytes is
 char_text bytes (inr (inr (inl is))) = three bytes is
 char_text bytes (inr (inr (inr is))) = four bytes is
 
-pub text_append : (text later : List ℕ) → IsCharText text → IsCharText later
-    → IsCharText (text ++ later)
+pub text_append : (text later : List ℕ) → IsCharText text → IsCharText later → IsCharText (text ++ later)
 text_append text later is also = record {
   bytes = each_append _ text later is.bytes also.bytes;
   utf8 = IsUtf8-append text later is.utf8 also.utf8;
@@ -96,8 +94,6 @@ text_append text later is also = record {
 
 pub chars_text : (text : List ℕ) → rfc.IsMany rfc.IsUtf8CharNoctl text → IsCharText text
 chars_text = many (record { bytes = tt; utf8 = IsUtf8-nil }) text_append char_text
-
--- ---- characters
 
 wide : (c : ℕ) → scalar c ≡ true → 128 ≤ c → rfc.IsUtf8CharNoctl (encode_utf8 c)
 unfolding encode_utf8
@@ -133,8 +129,6 @@ comment_unit c is all = elim (cases_lt c 128) [
       ])
   | inr large ↦ inl (wide c is large)
 ]
-
--- ---- texts
 
 module _ (test : ℕ → Bool) (Part : List ℕ → Type 0)
     (unit : (c : ℕ) → scalar c ≡ true → list_all test (encode_utf8 c) ≡ true → Part (encode_utf8 c)) where

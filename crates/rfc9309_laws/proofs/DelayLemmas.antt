@@ -1,27 +1,22 @@
 -- Skipping delays changes no rules if the merged groups are unsplit (`is_unsplit`): each group with rules has
 -- all tokens of the groups without rules that come directly above it.
 use Rattle.std.proofs.Common.{◌≡◌, ℕ, Bool, true, false, not, ◌||◌, ◌&&◌, List, [], ◌∷◌, ◌++◌, ap, cond}
-use Rattle.std.proofs.Common.{filter, flat_map, inl, inr, refl, subst, sym, ◌∙◌, if◌then◌else◌}
+use Rattle.std.proofs.Common.{filter, flat_map, inl, inr, refl, subst, sym, ◌∙◌, if◌then◌else◌, arith}
 use Rattle.std.specs.{List.list_all, List.list_any, Str.str_to_ascii_lowercase}
-use Rattle.std.proofs.{Math.Bool.or_assoc}
 use Rattle.std.proofs.lemmas.{Bool.and_parts, Bool.cases_Bool, Slice.Eq.bytes_eq-Decides}
 use Rattle.std.proofs.lemmas.List.{Elements.filter-append, Folds.list_any-append}
 use Rattle.texting_robots.proofs.CapturedLemmas.{cond_same}
-use Rattle.rfc9309_laws.specs.Rfc9309.{Group, Member, has_token, is_rule, merged, put_before, Allow, Delay}
-use Rattle.rfc9309_laws.specs.Rfc9309.{Disallow, rules_for, standard_rules, without_delays}
+use Rattle.rfc9309_laws.specs.Rfc9309.{Group, Member, has_token, is_rule, merged, put_before, rules_for}
+use Rattle.rfc9309_laws.specs.Rfc9309.{standard_rules, without_delays}
 use Rattle.rfc9309_laws.proofs.{GroupLemmas.has, GroupLemmas.is_named, GroupLemmas.theirs, Sources.put_both}
-
--- ---- the condition
 
 abbrev is_some : List Member → Bool
 is_some [] = false
 is_some (member ∷ members) = true
 
--- one of the members is a rule
 abbrev pub has_rule : List Member → Bool
 has_rule members = is_some (filter is_rule members)
 
--- all of these are tokens of the group
 abbrev pub has_all : List (List ℕ) → Group → Bool
 has_all tokens group = list_all (λ token. has_token token group) tokens
 
@@ -36,22 +31,17 @@ is_unsplit above [] = true
 is_unsplit above (group ∷ later) =
     (not (has_rule group.members) || has_all above group) && is_unsplit (left_above above group) later
 
--- ---- groups without delays, merged
-
 abbrev bare : List Group → List Group
 bare groups = merged (without_delays groups)
 
 twice : (members : List Member) → filter is_rule (filter is_rule members) ≡ filter is_rule members
 twice [] = refl
-twice (Allow pattern ∷ members) = ap (λ rules. Allow pattern ∷ rules) (twice members)
-twice (Disallow pattern ∷ members) = ap (λ rules. Disallow pattern ∷ rules) (twice members)
-twice (Delay number ∷ members) = twice members
+twice (member ∷ members) = grind (arith, twice members)
 
 bare_put : (tokens : List (List ℕ)) (members : List Member) (groups : List Group)
     → bare (put_before tokens members groups) ≡ put_before tokens (filter is_rule members) (bare groups)
 bare_put tokens [] [] = refl
-bare_put tokens [] (next ∷ later) =
-    sym (put_both _ _ _ _)
+bare_put tokens [] (next ∷ later) = sym (put_both _ _ _ _)
 bare_put tokens (member ∷ members) groups = refl
 
 bare_merged : (groups : List Group) → bare (merged groups) ≡ bare groups
@@ -64,17 +54,11 @@ module _ (name : List ℕ) where
   any_put : (tokens : List (List ℕ)) (members : List Member) (groups : List Group)
       → list_any (has name) (put_before tokens members groups)
       ≡ (list_any (is_named name) tokens || list_any (has name) groups)
-  any_put tokens [] [] = refl
-  any_put tokens [] (next ∷ later) = rw (list_any-append, or_assoc) refl
-  any_put tokens (member ∷ members) groups = refl
+  any_put tokens members groups = grind (arith, list_any-append)
 
   any_bare : (groups : List Group) → list_any (has name) (bare groups) ≡ list_any (has name) groups
   any_bare [] = refl
-  any_bare (group ∷ later) =
-      any_put group.tokens _ _
-      ∙ ap (λ b. has name group || b) (any_bare later)
-
-  -- ---- the rules of the groups with a name
+  any_bare (group ∷ later) = any_put group.tokens _ _ ∙ rw (any_bare later)
 
   abbrev held : List Group → List Member
   held groups = flat_map (λ group. cond (has name group) (filter is_rule group.members) []) groups
@@ -82,15 +66,12 @@ module _ (name : List ℕ) where
   held_rules : (groups : List Group) → filter is_rule (theirs name groups) ≡ held groups
   held_rules [] = refl
   held_rules (group ∷ later) = elim (cases_Bool (has name group)) [
-    | inl is ↦
-        rw is (filter-append _ group.members _
-        ∙ ap (λ rules. filter is_rule group.members ++ rules) (held_rules later))
+    | inl is ↦ rw (is, filter-append is_rule group.members _, held_rules later)
     | inr isnt ↦ rw isnt (held_rules later)
   ]
 
   held_put_none : (groups : List Group) → held (put_before [] [] groups) ≡ held groups
-  held_put_none [] = refl
-  held_put_none (group ∷ later) = refl
+  held_put_none groups = grind arith
 
   -- if all of these are tokens of the group, they add no name to it
   named_too : (above : List (List ℕ)) (group : Group) → has_all above group ≡ true
@@ -103,7 +84,7 @@ module _ (name : List ℕ) where
         | inl is ↦
             let same = (bytes_eq-Decides _ _).0 is in
             rw is (sym (subst (λ text. has text group ≡ true) same both.0))
-        | inr isnt ↦ rw isnt refl
+        | inr isnt ↦ rw isnt
       ]
 
   -- a group with these rules, and those that come after it
@@ -126,7 +107,7 @@ module _ (name : List ℕ) where
 
   held_bare : (above : List (List ℕ)) (groups : List Group) → is_unsplit above groups ≡ true
       → held (put_before above [] (bare groups)) ≡ held groups
-  held_bare above [] is = rw (cond_same {X = List Member} _ []) refl
+  held_bare above [] is = rw (cond_same {X = List Member} _ [])
   held_bare above (group ∷ later) is =
       held_step above group _ later _ is
       (λ tokens. held_bare tokens later) (twice group.members)
@@ -146,8 +127,6 @@ all_bare agent groups is =
       | inr none ↦ rw (any_bare name groups, none) (sym (rules_bare _ groups is))
     ]
 
--- if the merged groups are unsplit, the rules are those of the standard
 pub rules_unsplit : (agent : List ℕ) (groups : List Group) → is_unsplit [] (merged groups) ≡ true
     → rules_for agent (merged groups) ≡ standard_rules agent groups
-rules_unsplit agent groups is =
-    all_bare agent (merged groups) is ∙ ap (rules_for agent) (bare_merged groups)
+rules_unsplit agent groups is = all_bare agent (merged groups) is ∙ ap (rules_for agent) (bare_merged groups)

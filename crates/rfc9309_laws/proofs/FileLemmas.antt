@@ -8,7 +8,7 @@ use Rattle.texting_robots.specs.{Line.nul_as_lf, Line.without_front, Internal.Cu
 use Rattle.rfc9309_laws.proofs.SyntaxLemmas.{each_front, repeats_both, repeats_none, repeats_one}
 use Rattle.rfc9309_laws.proofs.ReadLemmas.{after_bom, file_sources, low_of_front, BeginsLow, IsBefore}
 use Rattle.rfc9309_laws.proofs.ReadLemmas.{bare_no_nul, end_bytes, last_end_adds_none, line_before}
-use Rattle.rfc9309_laws.proofs.ReadLemmas.{line_sources, low_append, sources_in, sources_of, file_same}
+use Rattle.rfc9309_laws.proofs.ReadLemmas.{before_sources, low_append, sources_in, sources_of, file_same}
 use Rattle.rfc9309_laws.proofs.ReadLemmas.{lines_in}
 use Rattle.rfc9309_laws.proofs.{HasFormLemmas.form_passes, OtherLemmas.empty_line, OtherLemmas.other_line}
 use Rattle.rfc9309_laws.proofs.KeyedLemmas.{AreFree, HasNoRule, IsLineOf}
@@ -22,8 +22,6 @@ use Rattle.std.proofs.lemmas.Grind.{flat_map-append}
 use Rattle.texting_robots.proofs.{CutFromFront.bodies_nil, TrimLemmas.each_append}
 use Rattle.rfc9309_laws.specs.Rfc9309 as rfc
 use Rattle.texting_robots.specs.Line as library
-
--- ---- lines
 
 pub record Line : Type 0 where
   pub form : Form
@@ -51,26 +49,20 @@ line_bodies line rest =
 lines_read : (lines : List Line) → sources_of (joined lines) ≡ sources_from lines
 lines_read [] = ap sources_in bodies_nil
 lines_read (line ∷ lines) =
-    let is = line.is in
-    let rest : List ℕ = joined lines in
-    ap (λ text. sources_of (text ++ rest)) is.whole
-    ∙ ap sources_of (append_assoc is.body is.nl rest)
-    ∙ line_sources is.body is.nl rest is.bare is.is_nl
-    ∙ ap (λ sources. sources ++ sources_of rest) is.sourced
+    before_sources _ _ _ (line_bodies line (joined lines))
+    ∙ ap (λ sources. sources ++ sources_of (joined lines)) line.is.sourced
     ∙ ap (λ sources. line.sources ++ sources) (lines_read lines)
 
 pub each_read : (lines : List Line) → Each IsRead (sources_from lines)
 each_read [] = tt
-each_read (line ∷ lines) =
-    each_append _ _ _ line.is.read (each_read lines)
+each_read (line ∷ lines) = each_append _ _ _ line.is.read (each_read lines)
 
 -- no byte is NUL, and the first one is ASCII
 abbrev AreBytes : List ℕ → Type 0
 AreBytes text = Each (λ b. b ≢ 0) text × BeginsLow text
 
 bytes_append : (text later : List ℕ) → AreBytes text → AreBytes later → AreBytes (text ++ later)
-bytes_append text later is also =
-    (each_append (λ b. b ≢ 0) _ _ is.0 also.0, low_append _ _ is.1 also.1)
+bytes_append text later is also = (each_append (λ b. b ≢ 0) _ _ is.0 also.0, low_append _ _ is.1 also.1)
 
 lines_bytes : (lines : List Line) → AreBytes (joined lines)
 lines_bytes [] = (tt, tt)
@@ -82,8 +74,7 @@ lines_bytes (line ∷ lines) =
 
 pub lines_free : (lines : List Line) → HasNoRule (sources_from lines) → AreFree (forms_of lines)
 lines_free [] none = tt
-lines_free (line ∷ lines) none =
-    line.is.counted _ _ (lines_free lines) none
+lines_free (line ∷ lines) none = line.is.counted _ _ (lines_free lines) none
 
 -- each line lists a sitemap or none
 abbrev IsAddressLine : List (List ℕ) → List ℕ → Type 0
@@ -105,12 +96,9 @@ lines_listed [] = ([], repeats_none IsAddressLine)
 lines_listed (line ∷ lines) =
     let is = line.is in
     let (addresses, one) =
-    listed line.form (is.body ++ is.nl) (form_passes line.form is.body is.nl is.is_nl is.tested) in
+    listed line.form (is.body ++ is.nl) (form_passes is.nl is.is_nl line.form is.body is.tested) in
     let (more, rest) = lines_listed lines in
-    let first = repeats_one IsAddressLine addresses (is.body ++ is.nl) one in
-    (addresses ++ more, repeats_both (subst (rfc.Repeats IsAddressLine addresses) (sym is.whole) first) rest)
-
--- ---- the effect of a text's source lines
+    (addresses ++ more, repeats_both (repeats_one IsAddressLine addresses _ (rw is.whole one)) rest)
 
 -- the text consists of lines; adding their source lines before others has the effect of `make` on the result
 -- of those others
@@ -125,18 +113,16 @@ onto_both put [] ys following = refl
 onto_both put (x ∷ xs) ys following = ap (put x) (onto_both put xs ys _)
 
 module _ {A : Type 0} {put : Source → A → A} where
-  -- the text is a single line
   pub line_makes : {make : A → A} {form : Form} {sources : List Source} {text : List ℕ}
       → IsLineOf form sources text → ((following : A) → onto put sources following ≡ make following)
       → Makes put make text
-  line_makes {form = form} {sources = sources} {text = text} is same = record {
-    lines = record { form = form; sources = sources; text = text; is = is } ∷ [];
+  line_makes {sources = sources} is same = record {
+    lines = record { form = _; sources = _; text = _; is = is } ∷ [];
     same = λ following. ap (λ all. onto put all following) (append-nil sources) ∙ same following;
-    whole = sym (append-nil text);
+    whole = sym (append-nil _);
   }
 
-  pub both_make : {first second : A → A} {text later : List ℕ} → Makes put first text
-      → Makes put second later
+  pub both_make : {first second : A → A} {text later : List ℕ} → Makes put first text → Makes put second later
       → Makes put (λ following. first (second following)) (text ++ later)
   both_make {second = second} is also =
       let sources = flat_map-append (λ (line : Line). line.sources) is.lines also.lines in
@@ -170,9 +156,7 @@ module _ {A : Type 0} {put : Source → A → A} where
       units_make (unit ∷ units) (inr (is, none), all) =
           rw none (both_make (other unit.bytes is) (units_make units all))
 
--- ---- a file that consists of lines
-
-module _ (Content : List ℕ → Type 0) (text : List ℕ) (file : rfc.IsFileOf Content text) (lines : List Line)
+module _ {Content : List ℕ → Type 0} {text : List ℕ} (file : rfc.IsFileOf Content text) (lines : List Line)
     (whole : file.rest ++ file.nl ≡ joined lines) where
   bytes : AreBytes (file.rest ++ file.nl)
   bytes = subst AreBytes (sym whole) (lines_bytes lines)
@@ -195,29 +179,20 @@ module _ (Content : List ℕ → Type 0) (text : List ℕ) (file : rfc.IsFileOf 
 abbrev Writes : (Parts → Parts) → List ℕ → Type 0
 Writes make text = Makes with_source make text
 
--- ---- the lines of a file
-
 skipped : (text : List ℕ) → rfc.IsSkipped text → Writes (λ parts. parts) text
-skipped text (inl is) =
-    line_makes (empty_line text is) (λ parts. refl)
-skipped text (inr (inl (address, is))) =
-    line_makes (sitemap_line address text is) (λ parts. refl)
-skipped text (inr (inr is)) =
-    line_makes (other_line text is) (λ parts. refl)
+skipped text (inl is) = line_makes (empty_line _ is) (λ parts. refl)
+skipped text (inr (inl (address, is))) = line_makes (sitemap_line _ _ is) (λ parts. refl)
+skipped text (inr (inr is)) = line_makes (other_line _ is) (λ parts. refl)
 
 token_made : (token text : List ℕ) → rfc.IsStartGroupLine token text → Writes (with_token token) text
-token_made token text is =
-    line_makes (token_line _ text is) (λ parts. refl)
+token_made token text is = line_makes (token_line _ _ is) (λ parts. refl)
 
 member_made : (member : rfc.Member) (text : List ℕ) → rfc.IsMemberLine member text
     → Writes (with_member member) text
 member_made member text is =
     let (form, read) = member_line member text is in line_makes read.is_line read.written
 
--- ---- groups, and delays before them
-
-group_made : (group : rfc.Group) (text : List ℕ) → rfc.IsWideGroup group text
-    → Writes (with_group group) text
+group_made : (group : rfc.Group) (text : List ℕ) → rfc.IsWideGroup group text → Writes (with_group group) text
 group_made group text is =
     let all =
     both_make (token_made is.token is.start is.is_start) (
@@ -229,7 +204,6 @@ group_made group text is =
       whole = all.whole;
     })
 
--- the line of a delay with this number
 abbrev IsNumberLine : List ℕ → List ℕ → Type 0
 IsNumberLine number text = rfc.IsDelayLine (rfc.Delay number) text
 
@@ -245,7 +219,6 @@ lead_numbers unit (inl (rfc.Delay number, is)) = (number ∷ [], inl (number, is
 lead_numbers unit (inl (rfc.Allow pattern, is)) = absurd is
 lead_numbers unit (inl (rfc.Disallow pattern, is)) = absurd is
 
--- lines of delays, and others, have some numbers
 numbered : (units : List (List ℕ)) → Each rfc.IsLeadUnit units
     → (numbers : List (List ℕ)) × rfc.Repeats HasNumbers numbers (flat_map (λ unit. unit) units)
 numbered [] all = ([], repeats_none _)
@@ -281,8 +254,6 @@ no_rules : (numbers : List (List ℕ)) → filter rfc.is_rule (map rfc.Delay num
 no_rules [] = refl
 no_rules (number ∷ numbers) = no_rules numbers
 
--- ---- the file
-
 -- the file's source lines are read correctly and define its groups, with only these delays before them; and
 -- the file lists some sitemaps
 pub record FileRead (numbers : List (List ℕ)) (groups : List rfc.Group) (text : List ℕ) : Type 0 where
@@ -303,7 +274,7 @@ pub file_with : (text : List ℕ) (numbers : List (List ℕ)) (groups : List rfc
     → IsFileWith numbers groups text → FileRead numbers groups text
 file_with text numbers groups file =
     let all = file_made numbers groups (file.rest ++ file.nl) file.is_content in
-    let sources = sources_are _ text file all.lines all.whole in
+    let sources = sources_are file all.lines all.whole in
     let parts : parts_in (file_sources text) ≡ parts_of (map rfc.Delay numbers) (rfc.merged groups) =
     ap parts_in sources ∙ all.same (parts_of [] []) ∙ ap (onto with_delay numbers) (groups_put groups)
     ∙ delays_put numbers _
@@ -327,7 +298,6 @@ file_with text numbers groups file =
       );
     }
 
--- the same, for some delays
 pub file_read : (text : List ℕ) (groups : List rfc.Group) → rfc.IsFile groups text
     → (numbers : List (List ℕ)) × FileRead numbers groups text
 file_read text groups file =
@@ -341,24 +311,22 @@ groups_written text numbers groups is = ap (λ (p : Parts). p.groups) is.parts
 abbrev Lists : (List (List ℕ) → List (List ℕ)) → List ℕ → Type 0
 Lists make text = Makes with_address make text
 
-sitemap_lists : (address text : List ℕ) → rfc.IsSitemapLine address text
-    → Lists (◌∷◌ address) text
+sitemap_lists : (address text : List ℕ) → rfc.IsSitemapLine address text → Lists (◌∷◌ address) text
 sitemap_lists address text is = line_makes (sitemap_line _ _ is) (λ following. refl)
 
 unlisted : (text : List ℕ) → rfc.IsUnlisted text → Lists (λ following. following) text
-unlisted text (inl (token, is)) = line_makes (token_line token text is) (λ following. refl)
+unlisted text (inl (token, is)) = line_makes (token_line _ _ is) (λ following. refl)
 unlisted text (inr (inl (member, is))) =
     let (form, read) = member_line member text is in line_makes read.is_line read.unlisted
-unlisted text (inr (inr (inl is))) = line_makes (empty_line text is) (λ following. refl)
-unlisted text (inr (inr (inr is))) = line_makes (other_line text is) (λ following. refl)
+unlisted text (inr (inr (inl is))) = line_makes (empty_line _ is) (λ following. refl)
+unlisted text (inr (inr (inr is))) = line_makes (other_line _ is) (λ following. refl)
 
--- the addresses in source lines
 abbrev addresses_in : List Source → List (List ℕ)
 addresses_in sources = onto with_address sources []
 
 each_put : (addresses : List (List ℕ)) → onto ◌∷◌ addresses [] ≡ addresses
 each_put [] = refl
-each_put (address ∷ addresses) = ap (λ following. address ∷ following) (each_put _)
+each_put (address ∷ addresses) = rw (each_put addresses)
 
 trims_read : (sources : List Source) → Each IsRead sources
     → AllZip IsTrimOf (sitemaps_in (lines_in sources)) (addresses_in sources)
@@ -368,11 +336,10 @@ trims_read (_ ∷ sources) (_, all) = trims_read sources all
 
 module _ (text : List ℕ) (addresses : List (List ℕ)) (file : rfc.ListsSitemaps addresses text) where
   file_lists : Lists (onto ◌∷◌ addresses) (file.rest ++ file.nl)
-  file_lists =
-      items_make ◌∷◌ rfc.IsSitemapLine rfc.IsUnlisted sitemap_lists unlisted file.is_content
+  file_lists = items_make ◌∷◌ rfc.IsSitemapLine rfc.IsUnlisted sitemap_lists unlisted file.is_content
 
   read : file_sources text ≡ sources_from file_lists.lines
-  read = sources_are _ text file file_lists.lines file_lists.whole
+  read = sources_are file file_lists.lines file_lists.whole
 
   pub addresses_are : addresses_in (file_sources text) ≡ addresses
   addresses_are = ap addresses_in read ∙ file_lists.same [] ∙ each_put _

@@ -1,9 +1,8 @@
 -- A crawler gets the rules and the delay that the source lines define for it.
 use Rattle.std.proofs.Common.{◌≡◌, ℕ, Bool, true, false, not, ◌||◌, List, [], ◌∷◌, ◌++◌, Option, Some, None}
 use Rattle.std.proofs.Common.{flat_map, filter, cond, bytes_eq, sym, refl, ap, ◌∙◌, subst, append-nil}
-use Rattle.std.proofs.Common.{slice_get, ◌&&◌}
+use Rattle.std.proofs.Common.{slice_get, ◌&&◌, arith}
 use Rattle.std.specs.List.{AllZip, AllByRecursion as Each, list_any, cons_option, filter_map, last_or}
-use Rattle.std.proofs.Math.Bool.{or-false, or_assoc, or_comm}
 use Rattle.texting_robots.specs.Executable.{rule_in, rules_for, captured_delays, delay_for}
 use Rattle.texting_robots.specs.Line.{LineValue, UserAgent, Allow, CrawlDelay, Disallow, delay_in}
 use Rattle.texting_robots.specs.Group.{group_name, is_agent, is_agent_named, is_group}
@@ -27,11 +26,6 @@ run named = record { captured = named; named = named }
 
 abbrev pub closed : Bool → GroupTracker
 closed captured = record { captured = captured; named = false }
-
-or_swapped : (a b c : Bool) → (a || (b || c)) ≡ ((b || a) || c)
-or_swapped a b c = sym (or_assoc a b c) ∙ ap (λ d. d || c) (or_comm a b)
-
--- ---- what the lines of members give
 
 module _ {X : Type 0} (given : LineValue → Option X) (wanted : Member → Bool) (R : Member → X → Type 0)
   where
@@ -59,11 +53,9 @@ module _ {X : Type 0} (given : LineValue → Option X) (wanted : Member → Bool
     pub line_found : (group : Bool) (member : Member) (found : Option X) (members : List Member)
         (rest : List X) → (group ≡ true → Gives member found) → (group ≡ false → found ≡ None)
         → AreFound members rest → AreFound (cond group (member ∷ members) members) (cons_option found rest)
-    line_found true member found members rest gives none all =
-        one_found _ _ _ _ (gives refl) all
+    line_found true member found members rest gives none all = one_found _ _ _ _ (gives refl) all
     line_found false member found members rest gives none all = rw (none refl) all
 
--- rules are what the lines of rules give
 pub rules_given : IsGiven rule_in is_rule IsReadAs
 rules_given = record { none = none; some = some }
   where
@@ -75,9 +67,7 @@ rules_given = record { none = none; some = some }
     gives (rfc.Delay number) (Some rule) is = absurd is
 
     none : (line : LineValue) → is_group line ≡ false → rule_in line ≡ None
-    none (Allow value) is = cc
-    none (Disallow value) is = cc
-    none _ is = refl
+    none line is = grind arith
 
     some : (line : LineValue) (text : List ℕ) → is_group line ≡ true → IsRead (line, text)
         → Gives rule_in is_rule IsReadAs (member_in line text) (rule_in line)
@@ -86,24 +76,16 @@ rules_given = record { none = none; some = some }
     some (CrawlDelay delay) text is read = refl
     some line text is read = cc
 
--- the members of these groups
 abbrev pub members_in : List Group → List Member
 members_in groups = flat_map (λ group. group.members) groups
-
-first_if : (is : Bool) (group : Group) (groups : List Group)
-    → cond is group.members [] ++ members_in groups ≡ members_in (cond is (group ∷ groups) groups)
-first_if true group groups = refl
-first_if false group groups = refl
 
 module _ (name : List ℕ) where
   abbrev pub is_named : List ℕ → Bool
   is_named token = bytes_eq (str_to_ascii_lowercase token) name
 
-  -- one of the group's product tokens is the name
   abbrev pub has : Group → Bool
   has group = list_any is_named group.tokens
 
-  -- the members of the groups with the name
   abbrev pub theirs : List Group → List Member
   theirs groups = members_in (filter has groups)
 
@@ -116,44 +98,28 @@ module _ (name : List ℕ) where
 
   pub captured_closed : (is : Bool) (members : List Member) (groups : List Group)
       → captured (closed is) members groups ≡ cond is members [] ++ theirs groups
-  captured_closed is [] [] = rw (cond_same {X = List Member} is []) refl
-  captured_closed is [] (next ∷ later) =
-      rw (cond_same {X = List _} is []) (first_if (has next) _ _)
-  captured_closed is (member ∷ members) groups = refl
+  captured_closed is members groups = grind arith
 
   -- after a user-agent line, the first group also counts as the name's if its token is the name
   pub captured_after : (walk : GroupTracker) (token : List ℕ) (members : List Member) (groups : List Group)
       → captured walk [] (put_before (token ∷ []) members groups)
       ≡ captured (run (is_named token || walk.named)) members groups
-  captured_after walk token [] [] = rw (cond_same {X = List Member} _ []) refl
-  captured_after walk token [] (next ∷ later) =
-      ap (λ b. cond b next.members [] ++ theirs later) (or_swapped walk.named (is_named token) (has next))
-  captured_after walk token (member ∷ members) groups =
-      ap (λ b. cond b (member ∷ members) [] ++ theirs groups)
-      (or_swapped walk.named (is_named token) false ∙ or-false _)
-
-  -- ---- which groups have the name
+  captured_after walk token members groups = grind arith
 
   any_put : (token : List ℕ) (members : List Member) (groups : List Group)
       → (is_named token || list_any has groups)
       ≡ list_any has (put_before (token ∷ []) members groups)
-  any_put token [] [] = sym (or_assoc (is_named token) false false)
-  any_put token [] (next ∷ later) = sym (or_assoc (is_named token) _ _)
-  any_put token (member ∷ members) groups = sym (or_assoc (is_named token) _ _)
+  any_put token members groups = grind arith
 
   any_named : (sources : List Source)
       → list_any (is_agent_named name) (lines_in sources) ≡ list_any has (parts_in sources).groups
   any_named [] = refl
   any_named ((UserAgent token, text) ∷ sources) =
-      ap (λ b. is_named token || b) (any_named sources)
-      ∙ any_put token (parts_in sources).ungrouped (parts_in sources).groups
+      rw (any_named sources) (any_put token (parts_in sources).ungrouped (parts_in sources).groups)
   any_named (_ ∷ sources) = any_named sources
-
--- ---- what the `GroupTracker` finds
 
 module _ {X : Type 0} (given : LineValue → Option X) (wanted : Member → Bool) (R : Member → X → Type 0)
     (is_given : IsGiven given wanted R) (name : List ℕ) where
-  -- what the `GroupTracker` finds from this state on
   abbrev found : GroupTracker → List Source → List X
   found walk sources = given_captured given name walk (lines_in sources)
 
@@ -206,15 +172,13 @@ module _ {X : Type 0} (given : LineValue → Option X) (wanted : Member → Bool
       (λ group. is_given.some line text group is) (is_given.none line)
       (walk_finds (after (is_group line) walk) sources all)
 
--- the groups with the group name are the groups for the crawler
 named_groups : (agent : List ℕ) (groups : List Group) (lines : List LineValue) (some : Bool)
     → list_any (is_agent_named (str_to_ascii_lowercase agent)) lines ≡ some
     → list_any (has_token agent) groups ≡ some
     → filter (has (group_name agent lines)) groups ≡ groups_for agent groups
-named_groups agent groups lines true named has = rw (named, has) refl
-named_groups agent groups lines false named has = rw (named, has) refl
+named_groups agent groups lines true named has = rw (named, has)
+named_groups agent groups lines false named has = rw (named, has)
 
--- the groups with the group name in source lines are the groups for the crawler
 pub groups_with_name : (agent : List ℕ) (sources : List Source)
     → filter (has (group_name agent (lines_in sources))) (parts_in sources).groups
     ≡ groups_for agent (parts_in sources).groups
@@ -241,14 +205,11 @@ module _ (agent : List ℕ) (sources : List Source)
     where
       grouped : (is : Bool) (members : List Member)
           → filter is_rule (cond is (parts_in sources).ungrouped [] ++ members) ≡ filter is_rule members
-      grouped true members =
-          filter-append is_rule (parts_in sources).ungrouped members
-          ∙ ap (λ rules. rules ++ filter is_rule members) none
+      grouped true members = rw (filter-append is_rule (parts_in sources).ungrouped members, none)
       grouped false members = refl
 
   -- if no rule comes before the first token, a crawler gets the rules that the groups define for it
-  pub rules_written : Each IsRead sources
-      → AllZip IsReadAs (rfc.rules_for agent (parts_in sources).groups)
+  pub rules_written : Each IsRead sources → AllZip IsReadAs (rfc.rules_for agent (parts_in sources).groups)
       (rules_for agent (lines_in sources))
   rules_written all =
       let lines = lines_in sources in
@@ -256,18 +217,14 @@ module _ (agent : List ℕ) (sources : List Source)
       subst (λ members. AllZip IsReadAs members (given_captured rule_in own_name (start_of lines) lines))
       rules_captured (walk_finds rule_in is_rule IsReadAs rules_given own_name (start_of lines) sources all))
 
--- delays are what the lines of delays give
 delays_given : IsGiven delay_in is_delay IsDelayOf
 delays_given = record { none = none; some = some }
   where
     none : (line : LineValue) → is_group line ≡ false → delay_in line ≡ None
-    none (CrawlDelay delay) is = cc
-    none _ is = refl
+    none line is = grind arith
 
     allowed : (text value : List ℕ) → is_delay (allowed_in text value) ≡ false
-    allowed (b ∷ text) value = refl
-    allowed [] [] = refl
-    allowed [] (b ∷ value) = refl
+    allowed text value = grind arith
 
     some : (line : LineValue) (text : List ℕ) → is_group line ≡ true → IsRead (line, text)
         → Gives delay_in is_delay IsDelayOf (member_in line text) (delay_in line)
@@ -276,8 +233,6 @@ delays_given = record { none = none; some = some }
     some (CrawlDelay None) text is read = absurd read
     some (CrawlDelay (Some delay)) text is read = (refl, read)
     some line text is read = cc
-
--- ---- the first and the last of some delays
 
 first_as : (members : List Member) (delays : List ℕ) → AllZip IsDelayOf members delays
     → IsDelayAs (slice_get members 0) (slice_get delays 0)
@@ -292,15 +247,12 @@ last_as : (member : Option Member) (delay : Option ℕ) (members : List Member) 
 last_as member delay [] [] is all = is
 last_as member delay [] (d ∷ delays) is all = absurd all
 last_as member delay (m ∷ members) [] is all = absurd all
-last_as member delay (m ∷ members) (d ∷ delays) is all =
-    last_as _ _ members _ (d, all.0, refl) all.1
+last_as member delay (m ∷ members) (d ∷ delays) is all = last_as _ _ members _ (d, all.0, refl) all.1
 
 or_as : (member other : Option Member) (delay more : Option ℕ) → IsDelayAs member delay
     → IsDelayAs other more → IsDelayAs (option_or member other) (option_or delay more)
 or_as None other delay more is also = rw is also
 or_as (Some member) other delay more (micros, is, same) also = rw same (micros, is, refl)
-
--- ---- delays above the first user-agent line
 
 above_found : (sources : List Source) → Each IsRead sources
     → AllZip IsDelayOf (filter is_delay (parts_in sources).ungrouped)
@@ -318,18 +270,13 @@ has_any (group ∷ groups) = true
 
 put_some : (tokens : List (List ℕ)) (members : List Member) (groups : List Group)
     → true ≡ has_any (put_before tokens members groups)
-put_some tokens [] [] = refl
-put_some tokens [] (next ∷ later) = refl
-put_some tokens (member ∷ members) groups = refl
+put_some tokens members groups = grind arith
 
-any_group : (sources : List Source)
-    → list_any is_agent (lines_in sources) ≡ has_any (parts_in sources).groups
+any_group : (sources : List Source) → list_any is_agent (lines_in sources) ≡ has_any (parts_in sources).groups
 any_group [] = refl
 any_group ((UserAgent token, text) ∷ sources) =
     put_some _ (parts_in sources).ungrouped (parts_in sources).groups
 any_group (_ ∷ sources) = any_group sources
-
--- ---- the delay that counts
 
 chosen : (agent name : List ℕ) (groups : List Group) (above : List Member) (found lead : List ℕ) (is : Bool)
     → is ≡ has_any groups
@@ -338,11 +285,11 @@ chosen : (agent name : List ℕ) (groups : List Group) (above : List Member) (fo
     → filter (has name) groups ≡ groups_for agent groups
     → IsDelayAs (delay_among agent groups (filter is_delay above))
     (option_or (slice_get found 0) (cond is (last_or None lead) None))
-chosen agent name [] above found lead true same all leads named = absurd cc
+chosen agent name [] above found lead true same all leads named = cc
 chosen agent name [] above found lead false same all leads named =
     let first = first_as _ found (rw append-nil at all) in
     rw (option_or_none (slice_get found 0)) first
-chosen agent name (group ∷ groups) above found lead false same all leads named = absurd cc
+chosen agent name (group ∷ groups) above found lead false same all leads named = cc
 chosen agent name (group ∷ groups) above found lead true same all leads named =
     or_as _ _
     (slice_get found 0) (last_or None lead)

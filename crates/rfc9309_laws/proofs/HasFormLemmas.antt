@@ -8,64 +8,42 @@ use Rattle.rfc9309_laws.proofs.ValueLemmas.{identifier_byte}
 use Rattle.rfc9309_laws.specs.HasForm.{are_some, colon, has_byte, has_form, hash, is_blank, is_comment_text}
 use Rattle.rfc9309_laws.specs.HasForm.{is_digit, is_identifier_byte, is_keyed, is_number, is_pattern}
 use Rattle.rfc9309_laws.specs.HasForm.{is_product_token, kept_before, lower, name_in, stripped, text_after}
-use Rattle.rfc9309_laws.specs.HasForm.{text_before, text_from, value_in, without_leading, without_trailing}
+use Rattle.rfc9309_laws.specs.HasForm.{is_value_text, text_before, text_from, value_in, without_leading}
+use Rattle.rfc9309_laws.specs.HasForm.{without_trailing}
 use Rattle.rfc9309_laws.specs.LineForms.{Form, IsLine, Empty, Agent, Rule, Delay, Sitemap, Other}
 use Rattle.std.proofs.lemmas.{Bool.Decides.nat_tests, List.Folds.list_any-from_Any, Slice.Eq.bytes_eq-Decides}
 use Rattle.rfc9309_laws.specs.Rfc9309 as rfc
 
--- ---- a text and its parts
-
 split : (stop : ℕ) (text : List ℕ) → text ≡ text_before stop text ++ text_from stop text
 split stop [] = refl
-split stop (b ∷ text) = elim (cases_Bool (b == stop)) [
-  | inl is ↦ rw is refl
-  | inr other ↦ rw other (ap (λ t. b ∷ t) (split _ _))
-]
+split stop (b ∷ text) = grind (arith, split stop text)
 
--- what is left begins with `stop`, if it isn't empty
 begins : (stop : ℕ) (text : List ℕ)
     → (text_from stop text ≡ []) ⊎ (text_from stop text ≡ stop ∷ text_after stop text)
 begins stop [] = inl refl
-begins stop (b ∷ text) = elim (cases_Bool (b == stop)) [
-  | inl is ↦ rw is (inr (ap (λ c. c ∷ text) (eqb-true b _ is)))
-  | inr other ↦ rw other (begins _ text)
-]
+begins stop (b ∷ text) = grind (arith, nat_tests, begins stop text)
 
 found : (stop : ℕ) (text : List ℕ) → has_byte stop text ≡ true
     → text_from stop text ≡ stop ∷ text_after stop text
-found stop [] is = absurd (false≢true is)
-found stop (b ∷ text) is = elim (cases_Bool (b == stop)) [
-  | inl same ↦ rw same (ap (λ c. c ∷ text) (eqb-true b stop same))
-  | inr other ↦ rw other (found _ text (rw other at is))
-]
+found stop [] is = cc
+found stop (b ∷ text) is = grind (arith, nat_tests, found stop text)
 
 pub blank : (b : ℕ) → is_blank b ≡ true → rfc.IsWs b
 blank b is = grind (arith, nat_tests)
 
 -- the kept bytes, and spaces and tabs after them
-record IsBefore (kept text : List ℕ) : Type 0 where
-  back : List ℕ
-  whole : text ≡ kept ++ back
-  back_blank : Each rfc.IsWs back
+abbrev IsBefore : (kept text : List ℕ) → Type 0
+IsBefore kept text = (back : List ℕ) × Each rfc.IsWs back × (text ≡ kept ++ back)
 
 kept : (b : ℕ) (some text : List ℕ) → IsBefore some text → IsBefore (kept_before b some) (b ∷ text)
-kept b [] text is = elim (cases_Bool (is_blank b)) [
-  | inl white ↦ rw white (record {
-    back = b ∷ text;
-    whole = refl;
-    back_blank = (blank b white, subst (Each rfc.IsWs) (sym is.whole) is.back_blank);
-  })
-  | inr solid ↦ rw solid (record {
-    back = is.back;
-    whole = ap (λ t. b ∷ t) is.whole;
-    back_blank = is.back_blank;
-  })
+kept b [] text (back, all, same) = elim (cases_Bool (is_blank b)) [
+  | inl white ↦ rw white (b ∷ text, (blank b white, subst (Each rfc.IsWs) (sym same) all), refl)
+  | inr solid ↦ rw solid (back, all, ap (λ t. b ∷ t) same)
 ]
-kept b (c ∷ some) text is =
-    record { back = is.back; whole = ap (λ t. b ∷ t) is.whole; back_blank = is.back_blank }
+kept b (c ∷ some) text (back, all, same) = (back, all, ap (λ t. b ∷ t) same)
 
 trailing : (text : List ℕ) → IsBefore (without_trailing text) text
-trailing [] = record { back = []; whole = refl; back_blank = tt }
+trailing [] = ([], tt, refl)
 trailing (b ∷ text) = kept b (without_trailing text) text (trailing text)
 
 pub leading : (text : List ℕ)
@@ -88,30 +66,24 @@ record IsAround (text : List ℕ) : Type 0 where
 around : (text : List ℕ) → IsAround text
 around text =
     let (front, all, whole) = leading text in
-    let rest = trailing (without_leading text) in
+    let (back, after, rest) = trailing (without_leading text) in
     record {
       front = front;
-      back = rest.back;
-      whole = whole ∙ ap (λ t. front ++ t) rest.whole;
+      back = back;
+      whole = whole ∙ ap (λ t. front ++ t) rest;
       front_blank = all;
-      back_blank = rest.back_blank;
+      back_blank = after;
     }
 
--- ---- a line with a colon
-
--- the parts up to the colon
-named : (body : List ℕ) → has_byte colon body ≡ true
-    → body ≡ (around (text_before colon body)).front
+named : (body : List ℕ) → has_byte colon body ≡ true → body ≡ (around (text_before colon body)).front
     ++ (name_in body ++ ((around (text_before colon body)).back ++ colon ∷ text_after colon body))
 named body has =
     split colon body ∙ ap (λ t. text_before colon body ++ t) (found colon body has)
     ∙ ap (λ t. t ++ (colon ∷ text_after colon body)) (around _).whole
     ∙ simp append_assoc
 
--- ---- values
-
 identifier : (word : List ℕ) → are_some is_identifier_byte word ≡ true → rfc.IsIdentifier word
-identifier [] is = absurd (false≢true is)
+identifier [] is = cc
 identifier (b ∷ word) is = passing rfc.IsIdentifierByte is_identifier_byte identifier_byte (b ∷ word) is
 
 product_token : (value : List ℕ) → is_product_token value ≡ true → rfc.IsProductToken value
@@ -120,39 +92,39 @@ product_token value is = elim (or_cases _ _ is) [
   | inr star ↦ inr ((bytes_eq-Decides _ _).0 star)
 ]
 
+pub pattern_with : (b c : ℕ) (text : List ℕ) → (b == c) ≡ true → is_value_text text ≡ true
+    → rfc.IsPatternWith (c ∷ []) (b ∷ text)
+pattern_with b c text same chars =
+    record { text = text; is_text = value_text _ chars; whole = ap (λ d. d ∷ text) (eqb-true b c same) }
+
 pattern : (value : List ℕ) → is_pattern value ≡ true → rfc.IsPattern value value ⊎ rfc.IsStarPattern value
 pattern [] is = inl (inr (tt, refl))
 pattern (b ∷ text) is =
-    let both = and_parts _ _ is in
-    let chars = value_text text both.1 in
-    elim (or_cases (b == 0x2F) (b == 0x2A) both.0) [
-      | inl slash ↦ inl (inl (
-        record { text = text; is_text = chars; whole = ap (λ c. c ∷ text) (eqb-true b 0x2F slash) },
-        refl,
-      ))
-      | inr star ↦ inr
-          (record { text = text; is_text = chars; whole = ap (λ c. c ∷ text) (eqb-true b 0x2A star) })
+    let (first, chars) = and_parts _ _ is in
+    elim (or_cases _ _ first) [
+      | inl slash ↦ inl (inl (pattern_with b 0x2F text slash chars, refl))
+      | inr star ↦ inr (pattern_with b 0x2A text star chars)
     ]
 
 digit : (b : ℕ) → is_digit b ≡ true → rfc.IsDigitByte b
-digit b is = (grind (arith, nat_tests), grind (arith, nat_tests))
+digit b is = grind (arith, nat_tests)
 
 digits : (text : List ℕ) → are_some is_digit text ≡ true → rfc.IsDigits text
-digits [] is = absurd (false≢true is)
+digits [] is = cc
 digits (b ∷ text) is = passing _ _ digit (b ∷ text) is
 
 number : (value : List ℕ) → is_number value ≡ true → rfc.IsNumber value
 number value is = elim (or_cases _ _ is) [
   | inl whole ↦ inl (digits value whole)
   | inr parts ↦
-      let point = and_parts _ _ parts in
-      let both = and_parts _ _ point.1 in
+      let (point, both) = and_parts _ _ parts in
+      let (before, after) = and_parts _ _ both in
       inr (record {
         units = text_before 0x2E value;
         fraction = text_after 0x2E value;
-        are_units = digits _ both.0;
-        is_fraction = digits _ both.1;
-        whole = split 0x2E _ ∙ ap (λ t. text_before 0x2E value ++ t) (found 0x2E value point.0);
+        are_units = digits _ before;
+        is_fraction = digits _ after;
+        whole = split 0x2E _ ∙ ap (λ t. text_before 0x2E value ++ t) (found 0x2E value point);
       })
 ]
 
@@ -161,8 +133,6 @@ not_listed : (name : List ℕ) (names : List (List ℕ)) → list_any (bytes_eq 
 not_listed name names none (k, within, is) =
     let same = (bytes_eq-Decides name name).1 refl in
     false≢true (sym none ∙ list_any-from_Any (bytes_eq name) names (k, name, within, is, same))
-
--- ---- the forms
 
 -- a line with this terminator
 module _ (end : List ℕ) (nl : rfc.IsNl end) where
@@ -181,13 +151,6 @@ module _ (end : List ℕ) (nl : rfc.IsNl end) where
     ];
     is_nl = nl;
   }
-
-  pub empty_passes : (body : List ℕ) → has_form Empty body ≡ true → rfc.IsEmptyLine (body ++ end)
-  empty_passes body is =
-      let (blanks, comment) = and_parts _ _ is in
-      subst rfc.IsEol
-      (sym (ap (λ t. t ++ end) (split hash body) ∙ append_assoc (text_before hash body) _ end))
-      (eol _ body (passing rfc.IsWs is_blank blank _ blanks) comment)
 
   pub keyed_passes : (word body : List ℕ) → is_keyed word body ≡ true
       → rfc.IsKeyed word (value_in body) (body ++ end)
@@ -227,14 +190,34 @@ module _ (end : List ℕ) (nl : rfc.IsNl end) where
       let (key, value) = and_parts _ _ is in
       (number _ value, keyed_passes _ body key)
 
-  pub sitemap_passes : (body : List ℕ) → has_form Sitemap body ≡ true
-      → rfc.IsSitemapLine (value_in body) (body ++ end)
-  sitemap_passes body is =
-      let (key, value) = and_parts _ _ is in
-      (value_text _ value, keyed_passes _ body key)
+  rule : (word body : List ℕ) → is_keyed word body ≡ true → is_pattern (value_in body) ≡ true
+      → rfc.IsRuleWith word (value_in body) (body ++ end)
+      ⊎ (rfc.IsStarPattern (value_in body) × rfc.IsKeyed word (value_in body) (body ++ end))
+  rule word body key value =
+      let line = keyed_passes word body key in
+      elim (pattern (value_in body) value) [
+        | inl plain ↦ inl (record { value = value_in body; is_pattern = plain; is_line = line })
+        | inr star ↦ inr (star, line)
+      ]
 
-  pub other_passes : (body : List ℕ) → has_form Other body ≡ true → rfc.IsOtherLine (body ++ end)
-  other_passes body is =
+  pub form_passes : (form : Form) (body : List ℕ) → has_form form body ≡ true → IsLine form (body ++ end)
+  form_passes Empty body is =
+      let (blanks, comment) = and_parts _ _ is in
+      subst rfc.IsEol
+      (sym (ap (λ t. t ++ end) (split hash body) ∙ append_assoc (text_before hash body) _ end))
+      (eol _ body (passing rfc.IsWs is_blank blank _ blanks) comment)
+  form_passes Agent body is = (value_in body, agent_passes body is)
+  form_passes Rule body is =
+      let (key, value) = and_parts _ _ is in
+      elim (or_cases _ _ key) [
+        | inl allow ↦ (rfc.Allow (value_in body), rule (codes "allow") body allow value)
+        | inr disallow ↦ (rfc.Disallow (value_in body), rule (codes "disallow") body disallow value)
+      ]
+  form_passes Delay body is = (rfc.Delay (value_in body), delay_passes body is)
+  form_passes Sitemap body is =
+      let (key, value) = and_parts _ _ is in
+      (value_in body, (value_text _ value, keyed_passes _ body key))
+  form_passes Other body is =
       let (front, value) = and_parts _ _ is in
       let (has, name) = and_parts _ _ front in
       let (letters, other) = and_parts _ _ name in
@@ -247,33 +230,9 @@ module _ (end : List ℕ) (nl : rfc.IsNl end) where
         nl = end;
         whole = ap (λ t. t ++ end) (named body has) ∙ simp append_assoc;
         margin_blank = around_name.front_blank;
-        is_name = identifier (name_in body) letters;
+        is_name = identifier _ letters;
         is_other = not_listed (lower (name_in body)) rfc.names_read (not-true _ other);
         blanks_blank = around_name.back_blank;
-        is_value = comment_text (text_after colon body) value;
+        is_value = comment_text _ value;
         is_nl = nl;
       }
-
-  rule : (word body : List ℕ) → is_keyed word body ≡ true → is_pattern (value_in body) ≡ true
-      → rfc.IsRuleWith word (value_in body) (body ++ end)
-      ⊎ (rfc.IsStarPattern (value_in body) × rfc.IsKeyed word (value_in body) (body ++ end))
-  rule word body key value =
-      let line = keyed_passes word body key in
-      elim (pattern (value_in body) value) [
-        | inl plain ↦ inl (record { value = value_in body; is_pattern = plain; is_line = line })
-        | inr star ↦ inr (star, line)
-      ]
-
-pub form_passes : (form : Form) (body end : List ℕ) → rfc.IsNl end → has_form form body ≡ true
-    → IsLine form (body ++ end)
-form_passes Empty body end nl is = empty_passes end nl body is
-form_passes Agent body end nl is = (value_in body, agent_passes end nl body is)
-form_passes Rule body end nl is =
-    let (key, value) = and_parts _ _ is in
-    elim (or_cases _ _ key) [
-      | inl allow ↦ (rfc.Allow (value_in body), rule end nl (codes "allow") body allow value)
-      | inr disallow ↦ (rfc.Disallow (value_in body), rule end nl (codes "disallow") body disallow value)
-    ]
-form_passes Delay body end nl is = (rfc.Delay (value_in body), delay_passes end nl body is)
-form_passes Sitemap body end nl is = (value_in body, sitemap_passes end nl body is)
-form_passes Other body end nl is = other_passes end nl body is

@@ -1,11 +1,11 @@
 -- What is known of a line of the grammar: it is content with a terminator, passes the test of its form, and
 -- is read as its source line. Lines with a field name, a
 -- colon and a value are such lines.
-use Rattle.std.proofs.Common.{◌≡◌, ◌≢◌, ◌⊎◌, inl, inr, ℕ, ◌<◌, ◌||◌, Bool, true, false, List, [], ◌∷◌}
-use Rattle.std.proofs.Common.{◌++◌, append-nil, ap, arith, bytes_eq, drop, map, refl, subst, sym, ◌∙◌}
-use Rattle.std.proofs.Common.{append_assoc, codes, filter, get_or}
+use Rattle.std.proofs.Common.{◌≡◌, ◌≢◌, ◌⊎◌, inl, inr, ℕ, ◌<◌, Bool, true, false, List, [], ◌∷◌, ◌++◌}
+use Rattle.std.proofs.Common.{append-nil, ap, arith, drop, map, refl, subst, sym, ◌∙◌, append_assoc, codes}
+use Rattle.std.proofs.Common.{filter, get_or}
 use Rattle.std.specs.{List.AllByRecursion as Each, List.list_all, List.Contains, Char.to_ascii_lowercase}
-use Rattle.std.proofs.lemmas.Bool.{and_from, eq-eqb, false_from_ne_true, ne_eqb}
+use Rattle.std.proofs.lemmas.Bool.{and_from, eq-eqb, false_from_ne_true, ne_eqb, or_left, or_right}
 use Rattle.std.proofs.lemmas.Str.{IsUtf8-append, IsUtf8-encode, IsUtf8-nil, encode_ascii, is_utf8-from_IsUtf8}
 use lib.Utf8.{low_scalar}
 use Rattle.texting_robots.specs.Statement.{IsBlank, IsStatement, field_names}
@@ -28,8 +28,6 @@ use Rattle.std.proofs.lemmas.{Bool.Decides.nat_tests, Slice.Eq.bytes_eq-Decides}
 use Rattle.texting_robots.specs.Internal.{Statement.IsOptionalComment, Line.line_with}
 use Rattle.rfc9309_laws.specs.Rfc9309 as rfc
 use Rattle.texting_robots.specs.declared.parser.statement.Kind.TheVariants as kind
-
--- ---- bytes
 
 -- a byte of a value: a bare byte that isn't `#`
 abbrev pub IsValueByte : ℕ → Type 0
@@ -58,25 +56,10 @@ pub blanks_low : (blanks : List ℕ) → Each IsBlank blanks → BeginsLow blank
 blanks_low [] all = tt
 blanks_low (b ∷ blanks) all = let is = all.0 in omega arith
 
--- ---- tests
-
 pub passes : (P : ℕ → Type 0) (test : ℕ → Bool) → ((b : ℕ) → P b → test b ≡ true) → (text : List ℕ)
     → Each P text → list_all test text ≡ true
 passes P test is [] all = refl
 passes P test is (b ∷ text) all = and_from _ _ (is b all.0) (passes P _ is text all.1)
-
-pub or_second : (x y : Bool) → y ≡ true → (x || y) ≡ true
-or_second true y is = refl
-or_second false y is = is
-
-pub or_first : (x y : Bool) → x ≡ true → (x || y) ≡ true
-or_first true y is = refl
-or_first false y is = absurd cc
-
-pub same_bytes : (text other : List ℕ) → text ≡ other → bytes_eq text other ≡ true
-same_bytes text other = (bytes_eq-Decides _ _).1
-
--- ---- the parts before and after a byte
 
 pub record ArePartsAt (stop : ℕ) (front rest text : List ℕ) : Type 0 where
   pub before : text_before stop text ≡ front
@@ -88,24 +71,21 @@ parts stop [] rest all is = is
 parts stop (b ∷ front) rest all is =
     let other = ne_eqb b stop all.0 in
     let later = parts stop front rest all.1 is in
-    record { before = rw other (ap (λ t. b ∷ t) later.before); from = rw other later.from }
+    record { before = rw (other, later.before); from = rw other later.from }
 
 pub parts_at : (stop : ℕ) (front rest : List ℕ) → Each (λ b. b ≢ stop) front
     → ArePartsAt stop front (stop ∷ rest) (front ++ stop ∷ rest)
 parts_at stop front rest all =
     let is = eq-eqb stop stop refl in
-    parts stop front (stop ∷ rest) all (record { before = rw is refl; from = rw is refl })
+    parts stop front (stop ∷ rest) all (record { before = rw is; from = rw is refl })
 
 pub has_at : (stop : ℕ) (front rest : List ℕ) → has_byte stop (front ++ stop ∷ rest) ≡ true
-has_at stop [] rest = rw (eq-eqb stop stop refl) refl
-has_at stop (b ∷ front) rest = or_second _ _ (has_at stop front _)
-
--- ---- spaces and tabs at both ends
+has_at stop [] rest = rw (eq-eqb stop stop refl)
+has_at stop (b ∷ front) rest = or_right _ _ (has_at stop front _)
 
 pub blank_passes : (b : ℕ) → rfc.IsWs b → is_blank b ≡ true
 blank_passes b is = grind (arith, nat_tests)
 
--- neither a space nor a tab
 abbrev pub IsSolid : ℕ → Type 0
 IsSolid b = is_blank b ≡ false
 
@@ -117,12 +97,11 @@ leading_gone (b ∷ front) text all = rw (blank_passes b all.0) (leading_gone fr
 trailing_gone : (kept back : List ℕ) → Each IsSolid kept → Each rfc.IsWs back
     → without_trailing (kept ++ back) ≡ kept
 trailing_gone [] [] all after = refl
-trailing_gone [] (b ∷ back) all after =
-    rw (trailing_gone [] back tt after.1, blank_passes b after.0) refl
+trailing_gone [] (b ∷ back) all after = rw (trailing_gone [] back tt after.1, blank_passes b after.0)
 trailing_gone (b ∷ kept) back all after = rw (trailing_gone kept back all.1 after) (last kept)
   where
     last : (kept : List ℕ) → kept_before b kept ≡ b ∷ kept
-    last [] = rw all.0 refl
+    last [] = rw all.0
     last (c ∷ kept) = refl
 
 pub stripped_is : (front kept back : List ℕ) → Each rfc.IsWs front → Each IsSolid kept
@@ -137,16 +116,13 @@ stripped_is front (b ∷ kept) back before all after =
 pub solid_char : (b : ℕ) → IsCharByte b → IsSolid b
 solid_char b is = grind (arith, nat_tests)
 
--- ---- the name of a line, before its colon
-
--- a byte of a name
 abbrev pub IsNameByte : ℕ → Type 0
 IsNameByte b = IsFrontByte b × IsSolid b
 
 pub identifier_name : (word : List ℕ) → Each rfc.IsIdentifierByte word → Each IsNameByte word
 identifier_name = each_weaker _ _ (λ b is.
     let bounds = identifier_bounds b is in
-    (grind arith, grind (arith, nat_tests)))
+    grind (arith, nat_tests))
 
 -- a byte whose lower case is an identifier byte may occur in a name
 name_letter : (b : ℕ) → rfc.IsIdentifierByte (to_ascii_lowercase b) → IsNameByte b
@@ -159,7 +135,7 @@ name_letter b is =
 pub name_letters : (key word : List ℕ) → map to_ascii_lowercase key ≡ word → Each rfc.IsIdentifierByte word
     → Each IsNameByte key
 name_letters [] word e all = tt
-name_letters (b ∷ key) [] e all = absurd cc
+name_letters (b ∷ key) [] e all = cc
 name_letters (b ∷ key) (c ∷ word) e all =
     let same : to_ascii_lowercase b ≡ c = cc in
     (name_letter b (subst rfc.IsIdentifierByte (sym same) all.0), name_letters key word (cc) all.1)
@@ -178,30 +154,25 @@ named margin name blanks rest before is following =
     let front : List ℕ = margin ++ (name ++ blanks) in
     let fronts = each_weaker rfc.IsWs IsFrontByte blank_front in
     let all : Each IsFrontByte front =
-    each_append IsFrontByte margin (name ++ blanks) (fronts margin before)
-    (each_append IsFrontByte name blanks (each_weaker IsNameByte IsFrontByte (λ b byte. byte.0) name is)
-    (fronts blanks following)) in
-    let parts =
-    parts_at colon front rest (each_weaker IsFrontByte (λ b. b ≢ colon) (λ b byte. byte.2) front all) in
+    each_append _ _ _ (fronts margin before)
+    (each_append _ _ _ (each_weaker IsNameByte _ (λ b byte. byte.0) name is) (fronts blanks following)) in
+    let parts = parts_at colon front rest (each_weaker IsFrontByte _ (λ b byte. byte.2) front all) in
     record {
       has = has_at colon front rest;
       name =
           ap stripped parts.before
-          ∙ stripped_is margin name blanks before (each_weaker IsNameByte IsSolid (λ b byte. byte.1) name is)
+          ∙ stripped_is margin name blanks before (each_weaker IsNameByte _ (λ b byte. byte.1) name is)
           following;
       after = ap (drop 1) parts.from;
       low = low_body front all;
       bare = λ bare.
-          each_append IsBare front (colon ∷ rest)
-          (each_weaker IsFrontByte IsBare (λ b byte. byte.0) front all)
+          each_append _ front _ (each_weaker IsFrontByte _ (λ b byte. byte.0) front all)
           (inr (omega arith), bare);
     }
   where
     low_body : (front : List ℕ) → Each IsFrontByte front → BeginsLow (front ++ colon ∷ rest)
     low_body [] all = omega arith
     low_body (b ∷ front) all = all.0.1
-
--- ---- values and comments
 
 pub char_passes : (b : ℕ) → IsCharByte b → is_value_byte b ≡ true
 char_passes b is = grind (arith, nat_tests)
@@ -220,7 +191,7 @@ bare_passes b is = grind (arith, nat_tests)
 comment_unit : (bytes : List ℕ) → rfc.IsCommentUnit bytes → Each IsBare bytes × IsUtf8 bytes
 comment_unit bytes (inl is) =
     let text = char_text bytes is in
-    (each_weaker IsCharByte IsBare (λ b is. (char_value b is).0) bytes text.bytes, text.utf8)
+    (each_weaker IsCharByte _ (λ b is. (char_value b is).0) _ text.bytes, text.utf8)
 comment_unit bytes (inr (inl (b, is, whole))) =
     rw whole (((blank_value b is).0, tt), ascii_utf8 b (omega arith))
 comment_unit bytes (inr (inr is)) = rw is (grind arith, ascii_utf8 hash (omega arith))
@@ -237,7 +208,6 @@ comment_text text is =
           (passes IsBare is_comment_byte bare_passes text bare),
     )
 
--- the comment of a line, or nothing
 pub record IsRemark (comment : List ℕ) : Type 0 where
   pub is : IsOptionalComment comment
   pub bare : Each IsBare comment
@@ -257,14 +227,11 @@ remark comment (inr is) =
       passes = text.1;
     })
 
--- a text without `#`, and a comment or nothing
 pub parts_comment : (region comment : List ℕ) → Each (λ b. b ≢ hash) region → IsOptionalComment comment
     → ArePartsAt hash region comment (region ++ comment)
 parts_comment region comment all (inl none) =
     parts hash region comment all (rw none (record { before = refl; from = refl }))
 parts_comment region comment all (inr (text, is)) = rw is (parts_at hash region text all)
-
--- ---- a line and what is known of it
 
 -- No rule is above the first user-agent line.
 abbrev pub AreFree : List Form → Type 0
@@ -297,8 +264,6 @@ pub record IsLineOf (form : Form) (sources : List Source) (text : List ℕ) : Ty
   pub read : Each IsRead sources
   pub counted : IsCounted form sources
 
--- ---- the directive
-
 -- the standard's field name for the kind, which is the first accepted one
 abbrev pub word_of : Kind → List ℕ
 word_of kind = get_or (field_names kind) 0 []
@@ -321,9 +286,9 @@ form_of _ = (Rule, is_pattern)
 form_passes : (kind : Kind) (body : List ℕ) → is_keyed (word_of kind) body ≡ true
     → (form_of kind).1 (value_in body) ≡ true → has_form (form_of kind).0 body ≡ true
 form_passes kind.Allow body key value =
-    and_from _ (is_pattern (value_in body)) (or_first (is_keyed (codes "allow") body) _ key) value
+    and_from _ (is_pattern (value_in body)) (or_left (is_keyed (codes "allow") body) _ key) value
 form_passes kind.Disallow body key value =
-    and_from _ (is_pattern (value_in body)) (or_second (is_keyed (codes "allow") body) _ key) value
+    and_from _ (is_pattern (value_in body)) (or_right (is_keyed (codes "allow") body) _ key) value
 form_passes kind body key value = and_from (is_keyed (word_of kind) body) _ key value
 
 -- a line with the kind's field name and a value of characters, whose trimmed value is `read`
@@ -343,16 +308,13 @@ module _ (kind : Kind) (value read text : List ℕ) (line : rfc.IsKeyed (word_of
 
   named_key : IsNamed line.key (region ++ eol.comment) body
   named_key =
-      named line.margin line.key line.blanks (region ++ eol.comment) line.margin_blank
-      (name_letters line.key (word_of kind) line.is_key (identifier (word_of kind) (word_letters kind)))
-      line.blanks_blank
+      named line.margin line.key line.blanks _ line.margin_blank
+      (name_letters _ _ line.is_key (identifier _ (word_letters kind))) line.blanks_blank
 
   are_values : Each IsValueByte region
   are_values =
-      each_append IsValueByte line.gap _ (blanks_value line.gap line.gap_blank)
-      (each_append IsValueByte value eol.blanks
-      (each_weaker IsCharByte IsValueByte char_value value chars.bytes)
-      (blanks_value eol.blanks eol.are_blanks))
+      each_append _ _ _ (blanks_value _ line.gap_blank)
+      (each_append _ _ _ (each_weaker IsCharByte _ char_value _ chars.bytes) (blanks_value _ eol.are_blanks))
 
   no_hash : Each (λ b. b ≢ hash) region
   no_hash = each_weaker _ (λ b. b ≢ hash) (λ b is. is.1) region are_values
@@ -361,13 +323,13 @@ module _ (kind : Kind) (value read text : List ℕ) (line : rfc.IsKeyed (word_of
   comment = remark eol.comment eol.is_comment
 
   at_hash : ArePartsAt hash region eol.comment (text_after colon body)
-  at_hash = rw named_key.after (parts_comment region eol.comment no_hash comment.is)
+  at_hash = rw named_key.after (parts_comment _ _ no_hash comment.is)
 
   value_is : value_in body ≡ value
   value_is =
       ap stripped at_hash.before
       ∙ stripped_is line.gap value eol.blanks line.gap_blank
-      (each_weaker IsCharByte IsSolid solid_char value chars.bytes) eol.are_blanks
+      (each_weaker IsCharByte _ solid_char _ chars.bytes) eol.are_blanks
 
   value_written : written body ≡ value
   unfolding written
@@ -376,7 +338,7 @@ module _ (kind : Kind) (value read text : List ℕ) (line : rfc.IsKeyed (word_of
   keyed_passes : is_keyed (word_of kind) body ≡ true
   keyed_passes =
       let is_word =
-      same_bytes (lower (name_in body)) (word_of kind) (ap lower named_key.name ∙ line.is_key) in
+      (bytes_eq-Decides (lower (name_in body)) (word_of kind)).1 (ap lower named_key.name ∙ line.is_key) in
       and_from _ _ (and_from (has_byte colon body) _ named_key.has is_word)
       (ap (λ t. is_comment_text (drop 1 t)) at_hash.from ∙ comment.passes)
 
@@ -401,9 +363,7 @@ module _ (kind : Kind) (value read text : List ℕ) (line : rfc.IsKeyed (word_of
         (blanks_after eol.blanks value read eol.are_blanks chars.utf8 trim);
   }
 
-  -- the line is read as `found`
-  pub keyed_line : (found : LineValue)
-      → ((body : List ℕ) → line_with kind read body ≡ found)
+  pub keyed_line : (found : LineValue) → ((body : List ℕ) → line_with kind read body ≡ found)
       → Each IsRead (filter is_not_raw ((found, value) ∷ []))
       → IsCounted (form_of kind).0 (filter is_not_raw ((found, value) ∷ []))
       → (form_of kind).1 value ≡ true
@@ -426,10 +386,9 @@ module _ (kind : Kind) (value read text : List ℕ) (line : rfc.IsKeyed (word_of
         tested = form_passes kind body keyed_passes (ap (form_of kind).1 value_is ∙ passes);
         bare =
             named_key.bare
-            (each_append IsBare region eol.comment (values_bare region are_values) comment.bare);
+            (each_append _ region _ (values_bare region are_values) comment.bare);
         low = named_key.low;
-        sourced =
-            ap (λ (source : Source). filter is_not_raw (source ∷ [])) source;
+        sourced = ap (λ (source : Source). filter is_not_raw (source ∷ [])) source;
         read = is_read;
         counted = counted;
       }

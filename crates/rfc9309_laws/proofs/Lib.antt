@@ -4,7 +4,6 @@
 -- (`FileLemmas`, `Sources`), and the `GroupTracker` finds the rules of these groups (`GroupLemmas`).
 pub mod MemberLemmas
 pub mod OtherLemmas
-pub mod Sample
 pub mod HasFormLemmas
 pub mod SyntaxLemmas
 pub mod CharLemmas
@@ -19,4 +18,3 @@ pub mod FileLemmas
 pub mod RobotLemmas
 pub mod NormalLemmas
 pub mod VerdictLemmas
-pub mod ExampleLemmas

@@ -7,7 +7,7 @@ use Rattle.std.proofs.Common.{◌≢◌, zero, suc, arith, subst}
 use Rattle.std.specs.{List.AllByRecursion as Each, List.AllZip, Prelude.Contains, Prelude.All}
 use Rattle.texting_robots.specs.{Cut.IsBodyByte, Cut.cr, Cut.lf, Internal.Cut.bodies_of, Line.without_front}
 use Rattle.texting_robots.proofs.CrLfLemmas.{body_step, step}
-use Rattle.rfc9309_laws.specs.{Rfc9309.IsLastNl, Rfc9309.IsNl, StandardRobot.IsFileBelow}
+use Rattle.rfc9309_laws.specs.{Rfc9309.IsLastNl}
 use Rattle.rfc9309_laws.specs.LineForms.{Form, IsLine, HasForm, Empty, Agent, Rule, Delay, Sitemap, Other}
 use Rattle.rfc9309_laws.specs.LineForms.{AreForms, AreRulesBelowAgents}
 use Rattle.rfc9309_laws.proofs.SyntaxLemmas.{repeats_both, repeats_none, repeats_one}
@@ -21,8 +21,6 @@ use Rattle.rfc9309_laws.proofs.FileLemmas.{Line, after_front, bodies_are, file_m
 use Rattle.rfc9309_laws.proofs.FileLemmas.{has_delays, joined, line_bodies, lines_free, no_nul, sources_are}
 use Rattle.rfc9309_laws.proofs.FileLemmas.{sources_from}
 use Rattle.rfc9309_laws.specs.Rfc9309 as rfc
-
--- ---- the contents of a text, and the terminators after them
 
 abbrev IsEndByte : ℕ → Type 0
 IsEndByte byte = (byte ≡ cr) ⊎ (byte ≡ lf)
@@ -42,7 +40,6 @@ AreEnded (body ∷ bodies) text = Each IsBodyByte body × IsEndedBefore (AreEnde
 abbrev IsCompleted : List (List ℕ) → List ℕ → Type 0
 IsCompleted bodies text = (nl : List ℕ) × IsLastNl nl × AreEnded bodies (text ++ nl)
 
--- one more line with this terminator
 new_line : (end : ℕ) (bodies : List (List ℕ)) (text : List ℕ) → IsEndByte end → AreEnded bodies text
     → AreEnded ([] ∷ bodies) (end ∷ text)
 new_line end bodies text is are = (tt, (end, [], text, refl, is, tt, are))
@@ -95,10 +92,7 @@ completed : (text : List ℕ) → IsCompleted (bodies_of text) text
 completed [] = rw bodies_nil ([], inl refl, refl)
 completed (b ∷ text) = rw (step b _) (after_step b _ text (completed _))
 
--- ---- rules above the first user-agent line
-
-past : (form : Form) (above : List Form) → form ≢ Agent → Contains (form ∷ above) Agent
-    → Contains above Agent
+past : (form : Form) (above : List Form) → form ≢ Agent → Contains (form ∷ above) Agent → Contains above Agent
 past form above isnt (zero, within, is) = absurd (isnt is)
 past form above isnt (suc k, within, is) = (k, omega arith, is)
 
@@ -112,8 +106,6 @@ are_free [] are = tt
 are_free (Agent ∷ forms) are = tt
 are_free (Rule ∷ forms) are = let (k, within, is) = are [] forms refl in absurd (omega arith)
 are_free (form ∷ forms) are = are_free _ (later form forms (λ e. cc) are)
-
--- ---- the end of a file
 
 abbrev AreMembers : List rfc.Member → List ℕ → Type 0
 AreMembers members text = rfc.Repeats (rfc.IsOneOr rfc.IsMemberLine rfc.IsSkipped) members text
@@ -154,7 +146,6 @@ unit_before unit text is are = record {
 }
 
 module _ {Free : Type 0} (line text : List ℕ) (tail : IsTail Free text) where
-  -- one more line that isn't a user-agent line
   line_before : {Before : Type 0} (members : List rfc.Member)
       → rfc.IsOneOr rfc.IsMemberLine rfc.IsSkipped members line
       → (Before → rfc.IsLeadUnit line × Free) → IsTail Before (line ++ text)
@@ -175,7 +166,6 @@ module _ {Free : Type 0} (line text : List ℕ) (tail : IsTail Free text) where
   skipped_before : rfc.IsSkipped line → IsTail Free (line ++ text)
   skipped_before is = line_before [] (inr (is, refl)) (λ free. (inr is, free))
 
-  -- one more user-agent line, which begins a group
   agent_before : (token : List ℕ) → rfc.IsStartGroupLine token line → IsTail (Unit {0}) (line ++ text)
   agent_before token is =
       let group : rfc.Group = record { tokens = token ∷ []; members = tail.members } in
@@ -220,11 +210,8 @@ form_before Sitemap forms line text (address, is) tail =
     skipped_before line text tail (inr (inl (address, is)))
 form_before Other forms line text is tail = skipped_before line text tail (inr (inr is))
 
--- ---- further bytes of a terminator, each of which is an empty line
-
 is_nl : (end : ℕ) → IsEndByte end → rfc.IsNl (end ∷ [])
-is_nl end (inl is) = inl (ap (λ b. b ∷ []) is)
-is_nl end (inr is) = inr (inl (ap (λ b. b ∷ []) is))
+is_nl end is = grind arith
 
 end_empty : (end : ℕ) → IsEndByte end → rfc.IsEmptyLine (end ∷ [])
 end_empty end is = record {
@@ -243,8 +230,6 @@ ends_before [] text are tail = tail
 ends_before (end ∷ ends) text are tail =
     skipped_before (end ∷ []) (ends ++ text) (ends_before ends _ are.1 tail) (inl (end_empty end are.0))
 
--- ---- the file
-
 tail_of : (forms : List Form) (bodies : List (List ℕ)) (text : List ℕ) → AllZip HasForm forms bodies
     → AreEnded bodies text → IsTail (AreFree forms) text
 tail_of [] [] text all none = rw none nothing
@@ -253,7 +238,7 @@ tail_of (form ∷ forms) [] text all are = absurd all
 tail_of (form ∷ forms) (body ∷ bodies) text (is, all)
     (bytes, (end, ends, rest, whole, is_end, are_ends, are)) =
     let ended =
-    form_passes form body (end ∷ []) (is_nl end is_end) (form_tested body bytes form is) in
+    form_passes (end ∷ []) (is_nl end is_end) form body (form_tested body bytes form is) in
     let after = ends_before ends rest are_ends (tail_of forms bodies rest all are) in
     let joined : text ≡ (body ++ end ∷ []) ++ (ends ++ rest) = whole ∙ simp append_assoc in
     rw joined (form_before form forms (body ++ end ∷ []) (ends ++ rest) ended after)
@@ -286,8 +271,6 @@ forms_make_file text forms are =
         };
       },
     )
-
--- ---- the forms of the contents
 
 free_next : (form : Form) (forms others : List Form) → (AreFree forms → AreFree others)
     → AreFree (form ∷ forms) → AreFree (form ∷ others)
@@ -328,11 +311,10 @@ formed (line ∷ lines) =
     ] in
     rw before.whole (record {
       forms = line.form ∷ later.forms;
-      each = (form_passes line.form line.is.body (lf ∷ []) (inr (inl refl)) line.is.tested, later.each);
+      each = (form_passes (lf ∷ []) (inr (inl refl)) line.form line.is.body line.is.tested, later.each);
       free = free_next line.form _ later.forms later.free;
     })
 
--- the forms without that of the last content
 without_last : (forms : List Form) (bodies : List (List ℕ)) → AllZip HasForm forms (bodies ++ [] ∷ [])
     → AreFormed forms bodies
 without_last [] [] each = absurd each
@@ -346,8 +328,6 @@ without_last (form ∷ forms) (body ∷ bodies) (is, each) =
       free = free_next form _ _ rest.free;
     }
 
--- ---- rules are below user-agent lines
-
 contains_next : (form : Form) (above : List Form) → Contains above Agent → Contains (form ∷ above) Agent
 contains_next form above (k, within, is) = (suc k, omega arith, is)
 
@@ -356,10 +336,7 @@ free_below : (forms above below : List Form) → AreFree forms → forms ≡ abo
 free_below forms [] below free e = absurd (rw e at free)
 free_below forms (Agent ∷ above) below free e = (zero, omega arith, refl)
 free_below forms (Rule ∷ above) below free e = absurd (rw e at free)
-free_below forms (form ∷ above) below free e =
-    contains_next _ _ (free_below _ above _ (rw e at free) refl)
-
--- ---- the file
+free_below forms (form ∷ above) below free e = contains_next _ _ (free_below _ above _ (rw e at free) refl)
 
 bom_no_nul : (bom : List ℕ) → rfc.IsBom bom → Each (λ b. b ≢ 0) bom
 bom_no_nul bom (inl none) = rw none tt
@@ -371,16 +348,14 @@ file_has_forms text groups wide =
     let (numbers, file) = has_delays text groups wide in
     let all = file_made numbers groups (file.rest ++ file.nl) file.is_content in
     let lines = all.lines in
-    let Content = IsFileBelow numbers groups in
     let every =
     each_append (λ b. b ≢ 0) file.bom file.rest (bom_no_nul file.bom file.is_bom)
-    (no_nul Content text file lines all.whole) in
+    (no_nul file lines all.whole) in
     let front : without_front text ≡ file.rest =
     ap without_front (file.whole ∙ sym (nothing_replaced (file.bom ++ file.rest) every))
-    ∙ after_front Content text file lines all.whole in
+    ∙ after_front file lines all.whole in
     let none : HasNoRule (sources_from lines) =
-    subst HasNoRule (sources_are Content text file lines all.whole)
-    (file_with text numbers groups file).none in
+    subst HasNoRule (sources_are file lines all.whole) (file_with text numbers groups file).none in
     let whole : AreFormed (forms_of lines) _ =
     subst (λ t. AreFormed (forms_of lines) (bodies_of t)) (sym all.whole) (formed lines) in
     let are : AreFormed (forms_of lines) (bodies_of file.rest) =
@@ -399,7 +374,7 @@ file_has_forms text groups wide =
       record {
         no_nul = subst (All (λ b. b ≢ 0)) (sym file.whole) (All-from_recursion (λ b. b ≢ 0) _ every);
         bom = (file.bom, file.is_bom, file.whole ∙ ap (λ t. file.bom ++ t) (sym front));
-        each = rw (bodies_are Content text file lines all.whole) are.each;
+        each = rw (bodies_are file lines all.whole) are.each;
         below = λ above below e.
             free_below are.forms above below (are.free (lines_free lines none)) e;
       },

@@ -1,7 +1,8 @@
 -- The lines of product tokens, rules, delays and sitemaps.
 use Rattle.std.proofs.Common.{◌≡◌, ◌≢◌, ◌⊎◌, inl, inr, ℕ, ◌==◌, ◌||◌, true, List, [], ◌∷◌, ◌++◌, All, Some}
 use Rattle.std.proofs.Common.{append-nil, append_assoc, ap, arith, codes, drop, get_or, refl, subst, sym, ◌∙◌}
-use Rattle.std.proofs.lemmas.{Bool.and_from, Bool.ne_eqb, Str.is_utf8-from_IsUtf8, Bool.Decides.nat_tests}
+use Rattle.std.proofs.lemmas.{Str.is_utf8-from_IsUtf8, Bool.Decides.nat_tests, Slice.Eq.bytes_eq-Decides}
+use Rattle.std.proofs.lemmas.Bool.{and_from, ne_eqb, or_left, or_right}
 use Rattle.std.proofs.lemmas.List.Elements.{All-from_recursion, All-nil}
 use Rattle.texting_robots.specs.{Line.UserAgent, Line.Allow, Line.CrawlDelay, Line.Disallow, Delay.Decimal}
 use Rattle.texting_robots.specs.{Delay.NamesDelay, Delay.Writes, Trim.IsTrimOf, Internal.Statement.trimmed}
@@ -9,8 +10,7 @@ use Rattle.texting_robots.specs.Internal.{Line.line_with, Line.delay_or_raw, Del
 use Rattle.texting_robots.proofs.DelayLemmas.{is_delay_of, one_delay, rounded_rounds}
 use Rattle.texting_robots.proofs.TrimLemmas.{each_append, trimmed_is_trim}
 use Rattle.rfc9309_laws.proofs.CharLemmas.{IsCharText, chars_text, text_append}
-use Rattle.rfc9309_laws.proofs.KeyedLemmas.{IsLineOf, keyed_line, has_at, or_first, or_second, parts_at}
-use Rattle.rfc9309_laws.proofs.KeyedLemmas.{passes, same_bytes, value_passes}
+use Rattle.rfc9309_laws.proofs.KeyedLemmas.{IsLineOf, keyed_line, has_at, parts_at, passes, value_passes}
 use Rattle.rfc9309_laws.proofs.ValueLemmas.{IsVisible, trim_some, trim_utf8, visible_trim, visible_utf8}
 use Rattle.rfc9309_laws.proofs.Sources.{Parts, Source, allowed_in, with_address, with_member, with_source}
 use Rattle.rfc9309_laws.proofs.SyntaxLemmas.{each_weaker}
@@ -23,8 +23,6 @@ use Rattle.texting_robots.specs.Line as library
 use Rattle.texting_robots.specs.declared.parser.statement.Kind.TheVariants as kind
 use Rattle.rfc9309_laws.specs.Rfc9309 as rfc
 
--- ---- product tokens
-
 -- visible, and not `#`
 abbrev pub IsPlain : ℕ → Type 0
 IsPlain byte = IsVisible byte × (byte ≢ 35)
@@ -34,10 +32,8 @@ identifier_plain b is = grind arith
 
 pub token_plain : (token : List ℕ) → rfc.IsProductToken token → Each IsPlain token
 token_plain [] is = tt
-token_plain (b ∷ token) (inl is) =
-    each_weaker _ _ identifier_plain (b ∷ token) is
-token_plain (b ∷ token) (inr is) =
-    subst (Each _) (sym is) (grind arith)
+token_plain (b ∷ token) (inl is) = each_weaker _ _ identifier_plain (b ∷ token) is
+token_plain (b ∷ token) (inr is) = subst (Each _) (sym is) (grind arith)
 
 -- plain bytes are characters, and trimming leaves them unchanged
 pub plain_text : (bytes : List ℕ) → Each IsPlain bytes → IsCharText bytes × IsTrimOf bytes bytes
@@ -58,9 +54,8 @@ name_passes [] is = absurd is
 name_passes (b ∷ name) is = passes _ _ identifier_passes (b ∷ name) is
 
 token_passes : (token : List ℕ) → rfc.IsProductToken token → is_product_token token ≡ true
-token_passes token (inl is) = rw (name_passes _ is) refl
-token_passes token (inr is) =
-    or_second _ _ (same_bytes _ _ is)
+token_passes token (inl is) = rw (name_passes _ is)
+token_passes token (inr is) = or_right _ _ ((bytes_eq-Decides _ _).1 is)
 
 pub token_line : (token text : List ℕ) → rfc.IsStartGroupLine token text
     → IsLineOf Agent ((UserAgent token, token) ∷ []) text
@@ -68,8 +63,6 @@ token_line token text (is, line) =
     let (chars, trim) = plain_text token (token_plain token is) in
     keyed_line kind.UserAgent token token text line chars trim _ (λ body. refl) (tt, tt)
     (λ following forms more none. tt) (token_passes token is)
-
--- ---- rules
 
 -- a line of this form, whose source line is that of the member
 pub record MemberRead (form : Form) (member : rfc.Member) (text : List ℕ) : Type 0 where
@@ -82,16 +75,11 @@ disallowed : (read body : List ℕ) → read ≢ [] → line_with kind.Disallow 
 disallowed [] body some = absurd (some refl)
 disallowed (b ∷ read) body some = refl
 
--- trimming characters gives UTF-8
 pub trim_is_utf8 : (text : List ℕ) → IsCharText text → is_utf8 (trimmed text) ≡ true
-trim_is_utf8 text chars =
-    is_utf8-from_IsUtf8 _ (trim_utf8 _ _ chars.utf8 (trimmed_is_trim _))
+trim_is_utf8 text chars = is_utf8-from_IsUtf8 _ (trim_utf8 _ _ chars.utf8 (trimmed_is_trim _))
 
 pub slash_plain : IsPlain 47
 slash_plain = grind arith
-
-pub star_plain : IsPlain 42
-star_plain = grind arith
 
 -- a pattern as it stands in a line: nothing, or a plain byte and characters
 pub record IsRuleValue (value : List ℕ) : Type 0 where
@@ -126,7 +114,6 @@ emptied word value text all line = record {
   is_eol = line.is_eol;
 }
 
--- an Allow or a Disallow, by its field name
 abbrev IsRuleLine : (word pattern text : List ℕ) → Type 0
 IsRuleLine word pattern text = IsRuleValue pattern × rfc.IsKeyed word pattern text
 
@@ -141,7 +128,7 @@ plain_rule word pattern text rule = elim rule.is_pattern [
 
 star_rule : (word pattern text : List ℕ) → rfc.IsStarPattern pattern × rfc.IsKeyed word pattern text
     → IsRuleLine word pattern text
-star_rule word pattern text (is, line) = (begun 42 pattern star_plain refl is, line)
+star_rule word pattern text (is, line) = (begun 42 pattern (grind arith) refl is, line)
 
 allow : (pattern read text : List ℕ) → IsTrimOf read pattern → allowed_in pattern read ≡ rfc.Allow pattern
     → IsRuleLine (codes "allow") pattern text → MemberRead Rule (rfc.Allow pattern) text
@@ -174,7 +161,7 @@ disallow_line [] text (_, line) =
           keyed_line kind.Disallow [] [] text line (plain_text [] tt).0 (visible_trim [] tt)
           (Allow slash)
           (λ body. refl)
-          (rw (is_utf8-from_IsUtf8 slash (plain_text slash (slash_plain, tt)).0.utf8) refl, tt)
+          (rw (is_utf8-from_IsUtf8 slash (plain_text slash (slash_plain, tt)).0.utf8), tt)
           (λ following forms more none. cc) refl;
       written = λ parts. refl;
       unlisted = λ following. refl;
@@ -203,8 +190,6 @@ rule_line (rfc.Disallow pattern) text (inr is) = disallow_line pattern text (sta
 rule_line (rfc.Delay number) text (inl is) = absurd is
 rule_line (rfc.Delay number) text (inr is) = absurd is
 
--- ---- delays
-
 abbrev decimal_of : List ℕ → List ℕ → Decimal
 decimal_of units fraction = record { whole = units; fraction = fraction; exponent = [] }
 
@@ -217,8 +202,7 @@ digits_pass (b ∷ digits) is = passes _ _ digit_passes (b ∷ digits) is
 
 no_point : (digits : List ℕ) → rfc.IsDigits digits → Each (λ b. b ≢ 0x2E) digits
 no_point [] is = tt
-no_point (b ∷ digits) is =
-    each_weaker _ (λ b. b ≢ 0x2E) (λ b digit e. omega arith) (b ∷ digits) is
+no_point (b ∷ digits) is = each_weaker _ (λ b. b ≢ 0x2E) (λ b digit e. omega arith) (b ∷ digits) is
 
 record Numbered (number : List ℕ) : Type 0 where
   delay : ℕ
@@ -265,10 +249,7 @@ whole_numbered (d ∷ ds) is =
       some = omega arith;
       is_point = inr (refl, refl);
       is_tail = inl (refl, refl);
-    }) digits.1 (or_first _ _ (digits_pass (d ∷ ds) is))
-
-point_plain : Each IsPlain (codes ".")
-point_plain = grind arith
+    }) digits.1 (or_left _ _ (digits_pass (d ∷ ds) is))
 
 parts_numbered : (units fraction : List ℕ) → rfc.IsDigits units → rfc.IsDigits fraction
     → Numbered (units ++ (codes "." ++ fraction))
@@ -288,8 +269,8 @@ parts_numbered (d ∷ ds) fraction is following =
       is_point = inl refl;
       is_tail = inl (refl, refl);
     }) (each_append IsPlain (d ∷ ds) _ units.1
-    (each_append IsPlain (codes ".") fraction point_plain digits.1))
-    (or_second _ _
+    (each_append IsPlain (codes ".") fraction (grind arith) digits.1))
+    (or_right _ _
     (and_from _ _ (has_at 0x2E (d ∷ ds) fraction) (and_from _ _
     (ap (are_some is_digit) parts.before ∙ digits_pass (d ∷ ds) is)
     (ap (λ t. are_some is_digit (drop 1 t)) parts.from ∙ digits_pass fraction following))))
@@ -317,14 +298,11 @@ delay_line (rfc.Delay number) text (is, line) =
       unlisted = λ following. refl;
     }
 
--- a line of a member, of one form or the other
 pub member_line : (member : rfc.Member) (text : List ℕ) → rfc.IsMemberLine member text
     → (form : Form) × MemberRead form member text
 member_line member text (inl is) = (Rule, rule_line member text (inl is))
 member_line member text (inr (inl is)) = (Rule, rule_line member text (inr is))
 member_line member text (inr (inr is)) = (Delay, delay_line member text is)
-
--- ---- sitemaps
 
 pub sitemap_line : (address text : List ℕ) → rfc.IsSitemapLine address text
     → IsLineOf Sitemap ((library.Sitemap (trimmed address), address) ∷ []) text
@@ -333,5 +311,5 @@ sitemap_line address text (is, line) =
     let value = trimmed address in
     let trim = trimmed_is_trim address in
     keyed_line kind.Sitemap address value text line chars trim _ (λ body. refl)
-    ((rw (trim_is_utf8 address chars) refl, trim), tt)
+    ((rw (trim_is_utf8 address chars), trim), tt)
     (λ following forms more none. more none) (value_passes address chars)

@@ -1,12 +1,11 @@
 -- Normal forms of URIs, and paths with an odd escape, which match none of them. On normal forms the library's
 -- matching is that of the standard.
 use Rattle.std.proofs.Common.{◌≡◌, ◌↔◌, ℕ, ◌+◌, ◌*◌, ◌<◌, ◌==◌, ◌&&◌, ◌||◌, ltb, Bool, true, false, inl, inr}
-use Rattle.std.proofs.Common.{List, [], ◌∷◌, ◌++◌, refl, sym, ap, ◌∙◌, subst, arith, append-nil}
-use Rattle.std.proofs.Common.{append_assoc}
+use Rattle.std.proofs.Common.{List, [], ◌∷◌, ◌++◌, refl, sym, ap, ◌∙◌, subst, arith, append-nil, append_assoc}
 use Rattle.std.specs.{Char.digit_value, Char.is_ascii_alphanumeric, Char.is_ascii_hexdigit}
 use Rattle.std.specs.{Char.is_ascii_lowercase, Char.to_ascii_uppercase, List.list_all, Prelude.slice_index}
 use Rattle.std.proofs.lemmas.Bool.{agree_below, agree_below_at, and_parts, and_right, both_ways, cases_Bool}
-use Rattle.std.proofs.lemmas.Bool.{eqb-true, lt-ltb, ltb-true, not-true, or_parts, false≢true}
+use Rattle.std.proofs.lemmas.Bool.{eqb-true, lt-ltb, ltb-true, not-true, or_parts}
 use Rattle.std.proofs.lemmas.{Bool.Decides.nat_tests, List.append-nil}
 use Rattle.texting_robots.specs.Escape.{escaped, escape_byte, is_escaped}
 use Rattle.texting_robots.specs.Pattern.{Consumes, IsSuffix, Matches, MatchesWith, dollar, star}
@@ -17,17 +16,15 @@ use Rattle.rfc9309_laws.specs.Matching.{normal_escape, normal_from, normal_octet
 use Rattle.rfc9309_laws.specs.Matching.{first_of, has_dollar, is_ended, later_of, without_end}
 use Rattle.std.specs.Fmt.{digit_glyph}
 
--- ---- hexadecimal digits
-
 pub hex_low : (b : ℕ) → is_ascii_hexdigit b ≡ true → b < 128
 hex_low b is = grind (arith, nat_tests)
 
 hex_unreserved : (b : ℕ) → is_ascii_hexdigit b ≡ true → is_unreserved b ≡ true
-hex_unreserved b is = let letter : is_ascii_alphanumeric b ≡ true = grind (arith, nat_tests) in rw letter refl
+hex_unreserved b is = let letter : is_ascii_alphanumeric b ≡ true = grind (arith, nat_tests) in rw letter
 
 hex_kept : (stays : Reading) (in_query : Bool) (b : ℕ) → is_ascii_hexdigit b ≡ true
     → is_kept stays in_query b ≡ true
-hex_kept stays in_query b is = rw (lt-ltb b 128 (hex_low b is), hex_unreserved b is) refl
+hex_kept stays in_query b is = rw (lt-ltb b 128 (hex_low b is), hex_unreserved b is)
 
 -- what no hexadecimal digit is
 pub hex_not : (test : ℕ → Bool) (b : ℕ)
@@ -38,9 +35,6 @@ hex_not test b none is =
     agree_below_at (λ c. is_ascii_hexdigit c && test c) (λ c. false) 128 b none (hex_low b is) in
     rw is at e
 
--- ---- texts, octet by octet and escape by escape
-
--- the text begins with an escape
 abbrev pub begins_escape : List ℕ → Bool
 begins_escape text = is_escape (slice_index text 0) (slice_index text 1) (slice_index text 2)
 
@@ -73,7 +67,7 @@ pub octet_first : (stays : Reading) (in_query : Bool) (b : ℕ) (text : List ℕ
 unfolding normal_from
 octet_first stays in_query b [] isnt = sym (append-nil _)
 octet_first stays in_query b (c ∷ []) isnt = refl
-octet_first stays in_query b (high ∷ low ∷ text) isnt = rw isnt refl
+octet_first stays in_query b (high ∷ low ∷ text) isnt = rw isnt
 
 abbrev pub has_odd_digits : ℕ → ℕ → Bool
 has_odd_digits high low =
@@ -82,16 +76,13 @@ has_odd_digits high low =
 
 module _ (high low : ℕ) (text : List ℕ) (one : is_ascii_hexdigit high ≡ true)
     (two : is_ascii_hexdigit low ≡ true) where
-  pub escape_first : (stays : Reading) (in_query : Bool)
-      → normal_from stays in_query (37 ∷ high ∷ low ∷ text)
+  pub escape_first : (stays : Reading) (in_query : Bool) → normal_from stays in_query (37 ∷ high ∷ low ∷ text)
       ≡ normal_escape high low ++ normal_from stays in_query text
   unfolding normal_from
-  escape_first stays in_query = rw (one, two) refl
+  escape_first stays in_query = rw (one, two)
 
   pub escape_odd : has_odd_escape (37 ∷ high ∷ low ∷ text) ≡ (has_odd_digits high low || has_odd_escape text)
-  escape_odd = rw (one, two, hex_not (λ c. c == 37) _ refl one, hex_not (λ c. c == 37) low refl two) refl
-
--- ---- an octet, and an escape
+  escape_odd = rw (one, two, hex_not (λ c. c == 37) _ refl one, hex_not (λ c. c == 37) low refl two)
 
 -- an octet whose normal form begins with it is left as it is
 octet_stays : (stays : Reading) (in_query : Bool) (b : ℕ) (rest text : List ℕ)
@@ -121,10 +112,8 @@ escape_stays high low rest text =
       | inr other ↦ rw other (λ e.
           let first : to_ascii_uppercase high ≡ high = cc in
           let second : to_ascii_uppercase low ≡ low = cc in
-          (rw (not_lowercase _ first, not_lowercase low second) refl, (cc)))
+          (rw (not_lowercase _ first, not_lowercase low second), (cc)))
     ]
-
--- ---- a URI in normal form has no odd escape
 
 -- each octet that is kept passes the test
 module _ (stays : Reading) (test : ℕ → Bool)
@@ -138,22 +127,19 @@ module _ (stays : Reading) (test : ℕ → Bool)
       let (is, rest) =
       octet_stays stays in_query b _ text (sym (octet_first stays in_query b text isnt) ∙ e) in
       let (all, even) = later rest in
-      (rw (kept in_query b is, all) refl, rw (isnt, even) refl))
+      (rw (kept in_query b is, all), rw (isnt, even)))
       (λ in_query high low text one two later e.
       let (digits, rest) =
       escape_stays high low _ text (sym (escape_first high low text one two stays in_query) ∙ e) in
       let (all, even) = later rest in
       let first = kept in_query high (hex_kept stays in_query high one) in
       let second = kept in_query low (hex_kept stays in_query low two) in (
-        rw (kept in_query 37 refl, first, second, all) refl,
-        escape_odd high low text one two ∙ rw (digits, even) refl,
+        rw (kept in_query 37 refl, first, second, all),
+        escape_odd high low text one two ∙ rw (digits, even),
       ))
 
-pub no_odd_escape : (stays : Reading) (uri : List ℕ) → normal_uri stays uri ≡ uri
-    → has_odd_escape uri ≡ false
+pub no_odd_escape : (stays : Reading) (uri : List ℕ) → normal_uri stays uri ≡ uri → has_odd_escape uri ≡ false
 no_odd_escape stays uri same = (fixed _ (λ _. true) (λ _ _ _. refl) _ uri same).1
-
--- ---- which URIs are in normal form
 
 octet_low : (b : ℕ) → is_uri_octet b ≡ true → b < 128
 octet_low b is = grind (arith, nat_tests)
@@ -163,15 +149,14 @@ kept_octets in_query b low = agree_below_at (is_kept (in_uri all_stay) in_query)
 
 octet_same : (in_query : Bool) (b : ℕ) → is_uri_octet b ≡ true
     → normal_octet (in_uri all_stay) in_query b ≡ b ∷ []
-octet_same in_query b is = rw (kept_octets in_query b (octet_low b is) ∙ is) refl
+octet_same in_query b is = rw (kept_octets in_query b (octet_low b is) ∙ is)
 
--- an escape that isn't odd
 pub escape_same : (high low : ℕ) → has_odd_digits high low ≡ false
     → normal_escape high low ≡ 37 ∷ high ∷ low ∷ []
 escape_same high low even =
     let (lower, needed) = or_parts _ _ even in
     let (one, two) = or_parts _ _ lower in
-    rw (needed, uppercase high one, uppercase low two) refl
+    rw (needed, uppercase high one, uppercase low two)
 
 normal_same : (in_query : Bool) (uri : List ℕ) → list_all is_uri_octet uri ≡ true
     → has_odd_escape uri ≡ false → normal_from (in_uri all_stay) in_query uri ≡ uri
@@ -193,7 +178,7 @@ pub normal_uris : (uri : List ℕ) → (normal_uri all_stay uri ≡ uri) ↔ (is
 normal_uris uri = (
   λ same.
       let (octets, even) = fixed _ _ passes false uri same in
-      rw (octets, even) refl,
+      rw (octets, even),
   λ is.
       let (octets, even) = and_parts _ _ is in
       normal_same false uri octets (not-true _ even),
@@ -203,12 +188,9 @@ normal_uris uri = (
     passes in_query b kept =
         sym (kept_octets in_query b (ltb-true b 128 (and_parts (ltb b 128) _ kept).0)) ∙ kept
 
--- ---- paths with an odd escape
-
 odd_suffix : (front text : List ℕ) → has_odd_escape (front ++ text) ≡ false → has_odd_escape text ≡ false
 odd_suffix [] text even = even
-odd_suffix (b ∷ front) text even =
-    odd_suffix front _ (or_parts _ _ even).1
+odd_suffix (b ∷ front) text even = odd_suffix front _ (or_parts _ _ even).1
 
 -- what follows a part of a pattern matches a suffix of the text
 later_match : (part pattern text : List ℕ) → MatchesWith true (part ++ pattern) text
@@ -228,7 +210,6 @@ later_match (b ∷ part) pattern text (rest, consumed, m) =
       ]
     ]
 
--- a digit matches itself
 digit_match : (b : ℕ) (path text : List ℕ) → is_ascii_hexdigit b ≡ true
     → MatchesWith true (escaped (b ∷ path)) text
     → (rest : List ℕ) × (text ≡ b ∷ rest) × MatchesWith true (escaped path) rest
@@ -263,10 +244,7 @@ never_matches =
     (sym (escape_odd high low rest one two) ∙ ap has_odd_escape (sym same) ∙ even) in
     escape_odd high low path one two ∙ rw digits (later rest no_more after)) false
 
--- ---- stars
-
-filling : (q tail t : List ℕ) → has_dollar q ≡ false
-    → MatchesWith true (q ++ tail) t
+filling : (q tail t : List ℕ) → has_dollar q ≡ false → MatchesWith true (q ++ tail) t
     ↔ ((strings : List (List ℕ)) × (rest : List ℕ) × (t ≡ filled q strings ++ rest)
     × MatchesWith true tail rest)
 unfolding MatchesWith filled
@@ -297,8 +275,6 @@ filling (b ∷ q) tail t free =
       )
     ]
 
--- ---- the dollar at the end
-
 -- the end of a pattern, which may be a dollar
 abbrev pub end_of : Bool → List ℕ
 end_of true = dollar ∷ []
@@ -315,27 +291,17 @@ escaped_parts (b ∷ c ∷ path) =
     ap (λ t. escape_byte b ++ t) (escaped_parts (c ∷ path)) ∙ sym (append_assoc (escape_byte b) _ _)
 
 -- it restricts what is left of the URI
-restricts : (ended : Bool) (rest : List ℕ)
-    → MatchesWith true (end_of ended) rest ↔ (ended ≡ true → rest ≡ [])
+restricts : (ended : Bool) (rest : List ℕ) → MatchesWith true (end_of ended) rest ↔ (ended ≡ true → rest ≡ [])
 unfolding MatchesWith
 restricts true rest = (λ (s, (e, gone), m) _. e, λ none. ([], (none refl, refl), tt))
-restricts false rest = (λ m is. absurd (false≢true is), λ _. tt)
+restricts false rest = (λ m is. cc, λ _. tt)
 
 glyph_plain : (d : ℕ) → (digit_glyph true d == dollar) ≡ false
 glyph_plain d = grind (arith, nat_tests)
 
--- escaping makes no dollar
 escaped_plain : (q : List ℕ) → has_dollar q ≡ false → has_dollar (escaped q) ≡ false
 escaped_plain [] free = refl
-escaped_plain (b ∷ q) free =
-    let (first, later) = or_parts (b == dollar) _ free in
-    let rest = escaped_plain q later in
-    elim (cases_Bool (is_escaped b)) [
-      | inl is ↦ rw (is, glyph_plain _, glyph_plain _) rest
-      | inr other ↦ rw (other, first) rest
-    ]
-
--- ---- matching
+escaped_plain (b ∷ q) free = grind (arith, glyph_plain, escaped_plain q)
 
 pub matches_so : (stays : Reading) (path spelling uri : List ℕ) → normal_uri stays uri ≡ uri
     → IsComparedAs stays path spelling → Matches (escaped spelling) uri ↔ IsMatch stays path uri

@@ -3,8 +3,8 @@ use Rattle.std.proofs.Common.{◌≡◌, ◌⊎◌, inl, inr, ℕ, true, false, 
 use Rattle.std.proofs.Common.{None, append-nil, append_assoc, ap, arith, bytes_eq, drop, filter, get_or, refl}
 use Rattle.std.proofs.Common.{subst, sym, ◌∙◌, ◌≢◌}
 use Rattle.std.specs.List.{AllByRecursion as Each, Contains, list_all, list_any}
-use Rattle.std.proofs.lemmas.{Bool.and_from, Bool.false_from_ne_true, Bool.false≢true, Bool.Decides.nat_tests}
-use Rattle.std.proofs.lemmas.{List.map-append, List.append_cancel_right, Map.Views.Contains-from_any}
+use Rattle.std.proofs.lemmas.{Bool.and_from, Bool.false_from_ne_true, Bool.Decides.nat_tests, List.map-append}
+use Rattle.std.proofs.lemmas.{List.append_cancel_right, Map.Views.Contains-from_any}
 use Rattle.texting_robots.specs.{Cut.IsBodyByte, Cut.cr, Cut.lf, declared.parser.statement.Kind.Kind}
 use Rattle.texting_robots.specs.Statement.{IsAfterBlanks, IsAfterColon, IsStatement}
 use Rattle.texting_robots.specs.Internal.Statement.{IsOptionalComment, kind_by, skip_blanks, statement_of}
@@ -26,11 +26,9 @@ use Rattle.std.proofs.lemmas.Slice.Eq.{bytes_eq-Decides}
 use Rattle.rfc9309_laws.proofs.SyntaxLemmas.{each_back, each_weaker}
 use Rattle.rfc9309_laws.specs.Rfc9309 as rfc
 
--- ---- empty lines and comments
-
 comment_no_key : (comment : List ℕ) → IsOptionalComment comment → kind_by (skip_blanks comment) ≡ None
-comment_no_key comment (inl none) = ap (λ c. kind_by (skip_blanks c)) none
-comment_no_key comment (inr (text, is)) = ap (λ c. kind_by (skip_blanks c)) is
+comment_no_key comment (inl none) = rw none
+comment_no_key comment (inr (text, is)) = rw is
 
 pub empty_line : (text : List ℕ) → rfc.IsEol text → IsLineOf Empty [] text
 empty_line text eol =
@@ -60,8 +58,6 @@ empty_line text eol =
       counted = λ following forms more none. more none;
     }
 
--- ---- lower case
-
 low_byte : (b : ℕ) → rfc.IsIdentifierByte b → rfc.IsIdentifierByte (to_ascii_lowercase b)
 low_byte b is = grind (arith, nat_tests)
 
@@ -73,7 +69,6 @@ pub letters : (word : List ℕ) → rfc.IsIdentifier word → Each rfc.IsIdentif
 letters [] is = absurd is
 letters (b ∷ word) is = is
 
--- the first byte is an identifier byte
 abbrev Begins : List ℕ → Type 0
 Begins [] = ⊥
 Begins (b ∷ text) = rfc.IsIdentifierByte b
@@ -83,10 +78,8 @@ word_begins [] rest is = absurd is
 word_begins (b ∷ word) rest is = is.0
 
 written_begins : (spelling : List ℕ) → IsWritten spelling → Begins spelling
-written_begins spelling (inl (is, has)) =
-    subst Begins (append-nil spelling) (word_begins spelling [] is)
-written_begins spelling (inr two) =
-    subst Begins (sym two.whole) (word_begins two.word _ two.is_word)
+written_begins spelling (inl (is, has)) = subst Begins (append-nil spelling) (word_begins spelling [] is)
+written_begins spelling (inr two) = subst Begins (sym two.whole) (word_begins two.word _ two.is_word)
 
 -- a string whose lower case begins with an identifier byte begins with neither a space nor a tab
 word_plain : (word rest : List ℕ) → Begins (lower word) → NoBlank (word ++ rest)
@@ -99,10 +92,8 @@ colon_stops [] text all = λ letter. (identifier_bounds 58 letter).2 refl
 colon_stops (b ∷ blanks) text all = blank_no_letter b all.0
 
 -- an identifier ends before what follows a field name
-tail_stops : (tail rest : List ℕ) → IsAfterColon tail rest ⊎ IsAfterBlanks tail rest
-    → Stops (lower rest)
-tail_stops tail rest (inl (blanks, all, whole)) =
-    subst Stops (sym (ap lower whole)) (colon_stops _ tail all)
+tail_stops : (tail rest : List ℕ) → IsAfterColon tail rest ⊎ IsAfterBlanks tail rest → Stops (lower rest)
+tail_stops tail rest (inl (blanks, all, whole)) = subst Stops (sym (ap lower whole)) (colon_stops _ tail all)
 tail_stops tail rest (inr ([], all, some, whole, plain)) = absurd (some refl)
 tail_stops tail rest (inr (b ∷ blanks, all, some, whole, plain)) =
     subst Stops (sym (ap lower whole)) (blank_no_letter b all.0)
@@ -118,8 +109,6 @@ no_letter (c ∷ []) text more b all letter e =
 no_letter (c ∷ d ∷ blanks) text more b all letter e =
     blank_no_letter d all.1.0
     (subst rfc.IsIdentifierByte (sym (ap (λ (l : List ℕ). get_or l 1 0) e)) letter)
-
--- ---- other records
 
 unlisted : (name : List ℕ) → (Contains rfc.names_read name → ⊥)
     → list_any (bytes_eq name) rfc.names_read ≡ false
@@ -177,8 +166,7 @@ module _ (text : List ℕ) (o : rfc.IsOtherLine text) where
             no_letter o.blanks o.value more two.letter o.blanks_blank two.is_letter words.1
       ]
 
-  no_statement : (found : Option (Kind × List ℕ)) → statement_of body ≡ found
-      → statement_of body ≡ None
+  no_statement : (found : Option (Kind × List ℕ)) → statement_of body ≡ found → statement_of body ≡ None
   no_statement None e = e
   no_statement (Some (kind, value)) e = absurd (unstated kind value (found_statement kind value body e))
 
@@ -210,8 +198,6 @@ module _ (text : List ℕ) (o : rfc.IsOtherLine text) where
         counted = λ following forms more none. more none;
       }
 
--- ---- all lines
-
 pub line_of : (form : Form) (text : List ℕ) → IsLine form text
     → (sources : List Source) × IsLineOf form sources text
 line_of Empty text is = ([], empty_line text is)
@@ -235,7 +221,6 @@ before_end body front nl bytes is e =
       | inr (inr two) ↦ absurd ((rw two at last).0 refl)
     ]
 
--- a content that has the form passes its test
 module _ (body : List ℕ) (bytes : Each IsBodyByte body) (form : Form) (is : HasForm form body) where
   abbrev line : (sources : List Source) × IsLineOf form sources (body ++ lf ∷ [])
   line = line_of form (body ++ lf ∷ []) is
@@ -246,10 +231,9 @@ module _ (body : List ℕ) (bytes : Each IsBodyByte body) (form : Form) (is : Ha
   pub form_tested : has_form form body ≡ true
   form_tested = subst (λ b. has_form form b ≡ true) content line.1.tested
 
--- only an empty line has an empty content
 pub only_empty : (form : Form) → HasForm form [] → form ≡ Empty
 only_empty form is = at form (form_tested [] tt form is)
   where
     at : (form : Form) → has_form form [] ≡ true → form ≡ Empty
     at Empty is = refl
-    at _ is = absurd (false≢true is)
+    at _ is = cc

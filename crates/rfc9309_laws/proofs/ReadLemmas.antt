@@ -2,7 +2,7 @@
 -- lack a terminator, and a byte order mark may come first.
 use Rattle.std.proofs.Common.{◌≡◌, ◌≢◌, ◌⊎◌, inl, inr, ℕ, ◌<◌, ◌≤◌, List, [], ◌∷◌, ◌++◌, map, filter, cond}
 use Rattle.std.proofs.Common.{not, sym, refl, ap, ◌∙◌, append-nil, arith, Bool}
-use Rattle.std.proofs.lemmas.{Bool.ne_eqb, Bool.cases_Bool, Bool.cond-false, List.Elements.filter-append}
+use Rattle.std.proofs.lemmas.{Bool.ne_eqb, List.Elements.filter-append}
 use Rattle.texting_robots.specs.Line.{is_raw, LineValue, nul_as_lf, without_front}
 use Rattle.texting_robots.specs.{Cut.cr, Cut.lf, Executable.file_bodies, Executable.file_lines, Laws.Same}
 use Rattle.rfc9309_laws.specs.Rfc9309.{IsLastNl, IsNl, IsBom}
@@ -14,13 +14,9 @@ use Rattle.rfc9309_laws.proofs.SyntaxLemmas.{each_weaker}
 use Rattle.std.specs.List.{AllByRecursion as Each}
 use Rattle.texting_robots.specs.Internal.{Cut.bodies_of, Line.line_of}
 
--- ---- the source lines of a text
-
--- the source lines of line contents
 abbrev pub sources_in : List (List ℕ) → List Source
 sources_in bodies = filter is_not_raw (map source_of bodies)
 
--- the source lines of a text
 abbrev pub sources_of : List ℕ → List Source
 sources_of text = sources_in (bodies_of text)
 
@@ -28,8 +24,6 @@ pub empty_adds_none : (bodies : List (List ℕ)) → sources_in ([] ∷ bodies) 
 empty_adds_none bodies =
     ap (λ line. cond (not (is_raw line)) ((line, written []) ∷ sources_in bodies) (sources_in bodies))
     (line_without_kind [] [] refl refl)
-
--- ---- bytes
 
 -- a tab, or a byte from 32 up
 abbrev pub IsBare : ℕ → Type 0
@@ -52,8 +46,6 @@ end_bytes nl (inl is) = rw is (grind arith)
 end_bytes nl (inr (inl is)) = rw is (grind arith)
 end_bytes nl (inr (inr is)) = rw is (grind arith)
 
--- ---- the contents of a text after one more line
-
 -- the content is before the others, of which an empty one may have been first
 pub record IsBefore (body : List ℕ) (bodies others : List (List ℕ)) : Type 0 where
   pub later : List (List ℕ)
@@ -63,8 +55,7 @@ pub record IsBefore (body : List ℕ) (bodies others : List (List ℕ)) : Type 0
 after_return : (bodies : List (List ℕ)) → IsBefore [] (body_return bodies) bodies
 after_return [] = record { later = []; whole = refl; same = inl refl }
 after_return ([] ∷ bodies) = record { later = bodies; whole = refl; same = inr refl }
-after_return ((b ∷ body) ∷ bodies) =
-    record { later = (b ∷ body) ∷ bodies; whole = refl; same = inl refl }
+after_return ((b ∷ body) ∷ bodies) = record { later = (b ∷ body) ∷ bodies; whole = refl; same = inl refl }
 
 end_before : (nl rest : List ℕ) → IsNl nl → IsBefore [] (bodies_of (nl ++ rest)) (bodies_of rest)
 end_before nl rest (inl is) = rw (is, step cr _) (after_return _)
@@ -84,34 +75,26 @@ line_before (b ∷ body) nl rest bare is =
       later = later.later;
       whole =
           step b _ ∙ ap (body_step b) later.whole
-          ∙ rw (ne_eqb b lf (λ e. omega arith), ne_eqb b cr (λ e. omega arith)) refl;
+          ∙ rw (ne_eqb b lf (λ e. omega arith), ne_eqb b cr (λ e. omega arith));
       same = later.same;
     }
 
-pub line_sources : (body nl rest : List ℕ) → Each IsBare body → IsNl nl
-    → sources_of (body ++ (nl ++ rest)) ≡ filter is_not_raw (source_of body ∷ []) ++ sources_of rest
-line_sources body nl rest bare is =
-    let line = line_before body nl rest bare is in
-    let first : List Source = filter is_not_raw (source_of body ∷ []) in
-    let later : sources_in line.later ≡ sources_of rest = elim line.same [
+pub before_sources : (body : List ℕ) (bodies others : List (List ℕ)) → IsBefore body bodies others
+    → sources_in bodies ≡ filter is_not_raw (source_of body ∷ []) ++ sources_in others
+before_sources body bodies others line =
+    let later : sources_in line.later ≡ sources_in others = elim line.same [
       | inl same ↦ ap sources_in same
       | inr more ↦ sym (ap sources_in more ∙ empty_adds_none line.later)
     ] in
-    ap sources_in line.whole
-    ∙ filter-append is_not_raw (source_of body ∷ []) (map source_of line.later)
-    ∙ ap (λ sources. first ++ sources) later
-
--- ---- a terminator after the last line
+    ap sources_in line.whole ∙ filter-append is_not_raw (source_of body ∷ []) (map source_of line.later)
+    ∙ ap (λ sources. filter is_not_raw (source_of body ∷ []) ++ sources) later
 
 -- the contents, and possibly an empty one more
 abbrev pub IsSameOrMore : List (List ℕ) → List (List ℕ) → Type 0
 IsSameOrMore bodies others = (bodies ≡ others) ⊎ (bodies ≡ others ++ [] ∷ [])
 
-return_more : (bodies : List (List ℕ))
-    → IsSameOrMore (body_return (bodies ++ [] ∷ [])) (body_return bodies)
-return_more [] = inl refl
-return_more ([] ∷ bodies) = inr refl
-return_more ((b ∷ body) ∷ bodies) = inr refl
+return_more : (bodies : List (List ℕ)) → IsSameOrMore (body_return (bodies ++ [] ∷ [])) (body_return bodies)
+return_more bodies = grind arith
 
 byte_more : (b : ℕ) (bodies : List (List ℕ))
     → IsSameOrMore (body_step b (bodies ++ [] ∷ [])) (body_step b bodies)
@@ -122,16 +105,14 @@ byte_more b bodies = elim (byte_cases b) [
 ]
   where
     at : (bodies : List (List ℕ)) → IsSameOrMore (body_byte b (bodies ++ [] ∷ [])) (body_byte b bodies)
-    at [] = inl refl
-    at (body ∷ bodies) = inr refl
+    at bodies = grind arith
 
 one_end : (nl : List ℕ) → IsNl nl → bodies_of nl ≡ [] ∷ []
-one_end nl (inl is) = rw (is, step cr [], bodies_nil) refl
-one_end nl (inr (inl is)) = rw (is, step lf [], bodies_nil) refl
-one_end nl (inr (inr is)) = rw (is, step cr _, step lf [], bodies_nil) refl
+one_end nl (inl is) = rw (is, step cr [], bodies_nil)
+one_end nl (inr (inl is)) = rw (is, step lf [], bodies_nil)
+one_end nl (inr (inr is)) = rw (is, step cr _, step lf [], bodies_nil)
 
-pub end_more : (text nl : List ℕ) → IsLastNl nl
-    → IsSameOrMore (bodies_of (text ++ nl)) (bodies_of text)
+pub end_more : (text nl : List ℕ) → IsLastNl nl → IsSameOrMore (bodies_of (text ++ nl)) (bodies_of text)
 end_more text nl (inl none) = rw (none, append-nil) (inl refl)
 end_more text nl (inr is) = at text
   where
@@ -142,7 +123,6 @@ end_more text nl (inr is) = at text
       | inr more ↦ rw more (byte_more b (bodies_of text))
     ])
 
--- a terminator after the last line changes no source line
 pub last_end_adds_none : (text nl : List ℕ) → IsLastNl nl → sources_of (text ++ nl) ≡ sources_of text
 last_end_adds_none text nl is = elim (end_more _ nl is) [
   | inl same ↦ ap sources_in same
@@ -156,9 +136,7 @@ last_end_adds_none text nl is = elim (end_more _ nl is) [
 
 pub nothing_replaced : (text : List ℕ) → Each (λ byte. byte ≢ 0) text → map nul_as_lf text ≡ text
 nothing_replaced [] all = refl
-nothing_replaced (b ∷ text) all =
-    ap (λ c. c ∷ map nul_as_lf text) (cond-false _ _ _ (ne_eqb b 0 all.0))
-    ∙ ap (λ t. b ∷ t) (nothing_replaced text all.1)
+nothing_replaced (b ∷ text) all = rw (ne_eqb b 0 all.0, nothing_replaced text all.1)
 
 low_front : (text : List ℕ) → BeginsLow text → without_front text ≡ text
 low_front [] low = refl
@@ -173,7 +151,7 @@ low_front (b ∷ text) low =
 pub after_bom : (bom text : List ℕ) → IsBom bom → Each (λ byte. byte ≢ 0) text → BeginsLow text
     → without_front (map nul_as_lf (bom ++ text)) ≡ text
 after_bom bom text (inl none) all low = rw (none, nothing_replaced text all) (low_front text low)
-after_bom bom text (inr is) all low = rw (is, nothing_replaced text all) refl
+after_bom bom text (inr is) all low = rw (is, nothing_replaced text all)
 
 pub low_of_front : (text more : List ℕ) → BeginsLow (text ++ more) → BeginsLow text
 low_of_front [] more low = tt
@@ -193,13 +171,8 @@ is_kept line = not (is_raw line)
 lines_kept : (bodies : List (List ℕ))
     → filter is_kept (map line_of bodies) ≡ filter is_kept (lines_in (sources_in bodies))
 lines_kept [] = refl
-lines_kept (body ∷ bodies) = elim (cases_Bool (is_kept (line_of body))) [
-  | inl kept ↦ rw (kept, kept) (ap (λ lines. line_of body ∷ lines) (lines_kept bodies))
-  | inr dropped ↦ rw dropped (lines_kept bodies)
-]
+lines_kept (body ∷ bodies) = grind (arith, lines_kept bodies)
 
 -- a crawler gets the same from a file as from its source lines
-pub file_same : (text agent : List ℕ)
-    → Same agent (file_lines text) agent (lines_in (file_sources text))
-file_same text agent =
-    raw_changes_nothing agent (file_lines text) _ (lines_kept _)
+pub file_same : (text agent : List ℕ) → Same agent (file_lines text) agent (lines_in (file_sources text))
+file_same text agent = raw_changes_nothing agent (file_lines text) _ (lines_kept _)

@@ -1,7 +1,6 @@
 -- The robot of a file in the standard's grammar has the rules, the delay and the sitemaps that the file
 -- states. A file in the standard's own grammar is also one in the extended grammar.
-use Rattle.std.proofs.Common.{inl, inr, ℕ, List, [], refl, sym, subst, append-nil, ◌≡◌, ◌∷◌, filter, map, ap}
-use Rattle.std.proofs.Common.{◌∙◌}
+use Rattle.std.proofs.Common.{inl, inr, ℕ, List, [], refl, sym, subst, append-nil, ◌≡◌, ◌∷◌, filter, map, ◌∙◌}
 use Rattle.texting_robots.specs.Executable.{delay_for, file_lines, placed_rules, rules_for}
 use Rattle.texting_robots.specs.Robot.{IsFileRejected, IsRobotOf, IsRobotOfFile, RobotValue, file_limit}
 use Rattle.texting_robots.specs.{Line.AreFileLinesOf, Trim.IsTrimOf}
@@ -19,7 +18,6 @@ use Rattle.rfc9309_laws.specs.{LineForms.AreForms, LineForms.Form, ReadAs.IsRead
 use Rattle.std.specs.{List.AllZip, Prelude.take}
 use Rattle.rfc9309_laws.specs.Rfc9309 as rfc
 
--- P implies Q
 abbrev pub IsWeaker : {X : Type 0} → (X → List ℕ → Type 0) → (X → List ℕ → Type 0) → Type 0
 IsWeaker {X} P Q = (x : X) (text : List ℕ) → P x text → Q x text
 
@@ -88,7 +86,7 @@ lines_are text = (each_text_has_its_lines _ _).1 refl
 
 all_delays : (numbers : List (List ℕ)) → filter is_delay (map rfc.Delay numbers) ≡ map rfc.Delay numbers
 all_delays [] = refl
-all_delays (number ∷ numbers) = ap (λ members. rfc.Delay number ∷ members) (all_delays numbers)
+all_delays (number ∷ numbers) = rw (all_delays numbers)
 
 pub robot_as : (agent text : List ℕ) (groups : List rfc.Group) (numbers addresses : List (List ℕ))
     (robot : RobotValue)
@@ -132,7 +130,6 @@ rejected_as agent text groups file rejected =
           (of_lines text _ rejected lines (lines_are text)),
     )
 
--- a file whose lines have the forms has groups, delays and sitemaps, and the robot is theirs
 pub forms_robot : (agent file : List ℕ) (forms : List Form) (robot : RobotValue)
     → AreForms forms (take file_limit file) → IsRobotOfFile agent (take file_limit file) robot
     → (groups : List rfc.Group) × (numbers : List (List ℕ)) × (addresses : List (List ℕ))

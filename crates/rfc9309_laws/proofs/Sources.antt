@@ -1,20 +1,16 @@
 -- Source lines: the line as the library reads it, with its value as written. The source lines of groups give
 -- back the groups, merged.
 use Rattle.std.proofs.Common.{◌≡◌, ℕ, Bool, false, not, List, [], ◌∷◌, Option, Some, None, ◌++◌, refl, ap}
-use Rattle.std.proofs.Common.{◌∙◌, append-nil, append_assoc, if◌then◌else◌, map}
+use Rattle.std.proofs.Common.{◌∙◌, append-nil, append_assoc, arith, if◌then◌else◌, map}
 use Rattle.texting_robots.specs.Line.{LineValue, UserAgent, Allow, CrawlDelay, Disallow, Sitemap, is_raw}
 use Rattle.texting_robots.specs.{Executable.rule_in, Executable.sitemap_in, Delay.IsDelay, Group.is_group}
 use Rattle.texting_robots.specs.{Trim.IsTrimOf, Rules.Rule, Internal.Line.line_of}
 use Rattle.rfc9309_laws.specs.{HasForm.value_in, ReadAs.IsReadAs}
 use Rattle.rfc9309_laws.specs.Rfc9309 as rfc
 
--- ---- the value as written
-
 -- the value, between the colon and a comment
 unfoldable pub written : List ℕ → List ℕ
 written body = value_in body
-
--- ---- source lines
 
 abbrev pub Source : Type 0
 Source = LineValue × List ℕ
@@ -22,7 +18,6 @@ Source = LineValue × List ℕ
 abbrev pub source_of : List ℕ → Source
 source_of body = (line_of body, written body)
 
--- the line isn't ignored
 abbrev pub is_not_raw : Source → Bool
 is_not_raw source = not (is_raw source.0)
 
@@ -54,8 +49,6 @@ IsReadLine line text = Unit {0}
 -- what the library reads in the line is what its value as written defines
 abbrev pub IsRead : Source → Type 0
 IsRead source = IsReadLine source.0 source.1
-
--- ---- what source lines define
 
 -- adds the items one before the other to what follows them, beginning with the last item
 abbrev pub onto : {X A : Type 0} → (X → A → A) → List X → A → A
@@ -93,13 +86,11 @@ abbrev address_before : LineValue → List ℕ → List (List ℕ) → List (Lis
 address_before (Sitemap value) address following = address ∷ following
 address_before line text following = following
 
--- adds the address of a sitemap, as written
 abbrev pub with_address : Source → List (List ℕ) → List (List ℕ)
 with_address source following = address_before source.0 source.1 following
 
 abbrev pub with_group : rfc.Group → Parts → Parts
-with_group group parts =
-    with_tokens group.tokens (parts_of (group.members ++ parts.ungrouped) parts.groups)
+with_group group parts = with_tokens group.tokens (parts_of (group.members ++ parts.ungrouped) parts.groups)
 
 abbrev pub with_delay : List ℕ → Parts → Parts
 with_delay number parts = with_member (rfc.Delay number) parts
@@ -109,13 +100,10 @@ members_put : (members : List rfc.Member) (parts : Parts)
 members_put [] parts = refl
 members_put (member ∷ members) parts = ap (with_member _) (members_put members _)
 
--- adding tokens twice is the same as adding them at once
 pub put_both : (tokens more : List (List ℕ)) (members : List rfc.Member) (later : List rfc.Group)
     → rfc.put_before tokens [] (rfc.put_before more members later)
     ≡ rfc.put_before (tokens ++ more) members later
-put_both tokens more [] [] = refl
-put_both tokens more [] (next ∷ later) = rw append_assoc refl
-put_both tokens more (member ∷ members) later = refl
+put_both tokens more members later = grind (arith, append_assoc)
 
 tokens_put : (token : List ℕ) (tokens : List (List ℕ)) (parts : Parts)
     → onto with_token (token ∷ tokens) parts ≡ with_tokens (token ∷ tokens) parts
@@ -139,7 +127,6 @@ groups_put (group ∷ later) =
     ap (with_group _) (groups_put later)
     ∙ ap (λ m. with_tokens group.tokens (parts_of m _)) (append-nil group.members)
 
--- delays are added to the members before any token
 pub delays_put : (numbers : List (List ℕ)) (parts : Parts)
     → onto with_delay numbers parts ≡ parts_of (map rfc.Delay numbers ++ parts.ungrouped) parts.groups
 delays_put [] parts = refl

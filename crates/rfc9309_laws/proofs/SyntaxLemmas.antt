@@ -24,8 +24,7 @@ pub passing : {X : Type 0} (P : X → Type 0) (test : X → Bool) → ((x : X) �
     → Each P xs
 passing P test is [] all = tt
 passing P test is (x ∷ xs) all =
-    let both = and_parts (test x) _ all in
-    (is x both.0, passing P test is xs both.1)
+    let (first, rest) = and_parts _ _ all in (is x first, passing P test is xs rest)
 
 module _ {X : Type 0} (P : List X → List ℕ → Type 0) where
   pub repeats_none : Repeats P [] []
@@ -54,13 +53,11 @@ repeats_both {X} is also =
     }
 
 -- a property of the parts that concatenation preserves holds for the complete text
-pub many : {P Q : List ℕ → Type 0} → Q []
-    → ((text later : List ℕ) → Q text → Q later → Q (text ++ later))
+pub many : {P Q : List ℕ → Type 0} → Q [] → ((text later : List ℕ) → Q text → Q later → Q (text ++ later))
     → ((unit : List ℕ) → P unit → Q unit) → (text : List ℕ) → IsMany P text
     → Q text
 many {P} {Q} none both one text is = rw is.whole (joined _ is.each)
   where
-    joined : (units : List (List ℕ)) → Each P units
-        → Q (flat_map (λ (unit : List ℕ). unit) units)
+    joined : (units : List (List ℕ)) → Each P units → Q (flat_map (λ (unit : List ℕ). unit) units)
     joined [] all = none
     joined (unit ∷ units) all = both unit _ (one unit all.0) (joined units all.1)

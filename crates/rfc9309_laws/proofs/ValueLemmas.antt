@@ -4,7 +4,7 @@ use Rattle.std.proofs.Common.{◌++◌, bytes_eq, codes, refl, subst, arith, len
 use Rattle.std.proofs.Common.{append_assoc, append-nil}
 use Rattle.std.specs.List.{AllByRecursion as Each, Contains, list_all, list_any}
 use Rattle.std.specs.Char.{to_ascii_lowercase, is_ascii_graphic, is_whitespace, encode_utf8}
-use Rattle.std.proofs.lemmas.{Bool.and_parts, Bool.false≢true, Bool.or_cases, Bool.Decides.nat_tests}
+use Rattle.std.proofs.lemmas.{Bool.and_parts, Bool.or_cases, Bool.Decides.nat_tests}
 use Rattle.std.proofs.lemmas.{List.Sums.AllPass-from_list_all, Map.Views.Contains-from_any}
 use Rattle.std.proofs.lemmas.{Slice.Eq.bytes_eq-Decides, List.take_at, Str.Ascii.IsAscii-from_all}
 use Rattle.std.proofs.lemmas.List.Elements.{All-contains, All-from_recursion}
@@ -20,8 +20,6 @@ use Rattle.texting_robots.specs.declared.parser.statement.Kind.{Kind}
 use Rattle.rfc9309_laws.specs.HasForm.{is_identifier_byte}
 use Rattle.texting_robots.specs.declared.parser.statement.Kind.TheVariants as kind
 use Rattle.rfc9309_laws.specs.Rfc9309 as rfc
-
--- ---- identifiers
 
 -- the text doesn't begin with an identifier byte
 abbrev pub Stops : List ℕ → Type 0
@@ -54,19 +52,13 @@ pub identifier_bounds : (b : ℕ) → rfc.IsIdentifierByte b → (44 < b) × (b 
 identifier_bounds b is = grind arith
 
 pub blank_no_letter : (b : ℕ) → rfc.IsWs b → rfc.IsIdentifierByte (to_ascii_lowercase b) → ⊥
-blank_no_letter b is letter =
-    let bounds = identifier_bounds _ letter in grind (arith, nat_tests)
-
--- ---- computed tests
+blank_no_letter b is letter = let bounds = identifier_bounds _ letter in grind (arith, nat_tests)
 
 pub identifier_byte : (b : ℕ) → is_identifier_byte b ≡ true → rfc.IsIdentifierByte b
 identifier_byte b is = grind (arith, nat_tests)
 
-pub identifier : (word : List ℕ) → list_all is_identifier_byte word ≡ true
-    → Each rfc.IsIdentifierByte word
+pub identifier : (word : List ℕ) → list_all is_identifier_byte word ≡ true → Each rfc.IsIdentifierByte word
 identifier = passing _ is_identifier_byte identifier_byte
-
--- ---- accepted field names
 
 -- an identifier, a space and an identifier byte, and any bytes after them
 pub record IsTwoWords (spelling : List ℕ) : Type 0 where
@@ -92,19 +84,16 @@ two_words = codes "user agent" ∷ codes "site map" ∷ codes "crawl delay" ∷ 
 abbrev is_written : List ℕ → Bool
 is_written spelling = is_one_word spelling || list_any (bytes_eq spelling) two_words
 
-listed : (names : List (List ℕ)) (name : List ℕ) → list_any (bytes_eq name) names ≡ true
-    → Contains names name
+listed : (names : List (List ℕ)) (name : List ℕ) → list_any (bytes_eq name) names ≡ true → Contains names name
 listed names name is = Contains-from_any (λ xs ys. (bytes_eq-Decides xs ys).0) name _ is
 
-one_word : (word : List ℕ) → is_one_word word ≡ true
-    → rfc.IsIdentifier word × Contains rfc.names_read word
-one_word [] is = absurd (false≢true is)
+one_word : (word : List ℕ) → is_one_word word ≡ true → rfc.IsIdentifier word × Contains rfc.names_read word
+one_word [] is = cc
 one_word (b ∷ word) is =
-    let both = and_parts _ _ is in
-    (identifier (b ∷ word) both.0, listed rfc.names_read (b ∷ word) both.1)
+    let (letters, has) = and_parts _ _ is in
+    (identifier (b ∷ word) letters, listed rfc.names_read (b ∷ word) has)
 
-two : (b : ℕ) (word : List ℕ) (c : ℕ) (back : List ℕ)
-    → list_all is_identifier_byte (b ∷ c ∷ word) ≡ true
+two : (b : ℕ) (word : List ℕ) (c : ℕ) (back : List ℕ) → list_all is_identifier_byte (b ∷ c ∷ word) ≡ true
     → IsTwoWords (b ∷ word ++ 32 ∷ c ∷ back)
 two b word c back is =
     let letters = identifier (b ∷ c ∷ word) is in
@@ -137,8 +126,6 @@ written kind s has =
           (All-from_recursion IsTwoWords two_words are_two) (listed two_words s other))
     ]
 
--- ---- white space
-
 -- printable ASCII other than the space
 abbrev pub IsVisible : ℕ → Type 0
 IsVisible byte = (32 < byte) × (byte < 127)
@@ -150,8 +137,7 @@ visible_graphic : (b : ℕ) → IsVisible b → is_ascii_graphic b ≡ true
 visible_graphic b is = grind (arith, nat_tests)
 
 -- a string that begins with such a byte has no leading white space
-spaces_begin : (s rest text : List ℕ) (b : ℕ) → IsVisible b → IsSpaces s → b ∷ text ≡ s ++ rest
-    → s ≡ []
+spaces_begin : (s rest text : List ℕ) (b : ℕ) → IsVisible b → IsSpaces s → b ∷ text ≡ s ++ rest → s ≡ []
 spaces_begin s rest text b visible ([], all, is) e = is
 spaces_begin s rest text b visible (c ∷ cs, all, is) e =
     let whole : b ∷ text ≡ encode_utf8 c ++ (encode_utf8_all cs ++ rest) =
@@ -168,16 +154,11 @@ scalar_spaces (c ∷ cs) all = rw (white_scalar c all.0) (scalar_spaces cs all.1
 spaces_utf8 : (s : List ℕ) → IsSpaces s → IsUtf8 s
 spaces_utf8 s (chars, all, is) = (chars, (scalar_spaces _ all, sym is))
 
--- ---- trims
-
--- spaces and tabs after a string don't change its trim
 pub blanks_after : (blanks region value : List ℕ) → Each IsBlank blanks → IsUtf8 region
     → IsTrimOf value region
     → IsTrimOf value (region ++ blanks)
-blanks_after blanks region value all utf8 =
-    same_trim _ _ _ (trailing_blanks _ _ utf8 all)
+blanks_after blanks region value all utf8 = same_trim _ _ _ (trailing_blanks _ _ utf8 all)
 
--- trimming leaves visible bytes unchanged
 pub visible_trim : (bytes : List ℕ) → Each IsVisible bytes → IsTrimOf bytes bytes
 visible_trim [] all = rw (drop-nil, take-nil) at (trimmed_is_trim [])
 visible_trim (b ∷ bytes) all =
@@ -185,7 +166,6 @@ visible_trim (b ∷ bytes) all =
     subst (λ v. IsTrimOf v (b ∷ bytes))
     (graphic_trim b bytes (visible_graphic b all.0) (visible_graphic _ last)) (trimmed_is_trim _)
 
--- visible bytes are UTF-8
 pub visible_utf8 : (bytes : List ℕ) → Each IsVisible bytes → IsUtf8 bytes
 visible_utf8 bytes all =
     let each = All-from_recursion _ _ all in
@@ -193,15 +173,13 @@ visible_utf8 bytes all =
     (IsAscii-from_all _ (λ i d within. let visible = each i d within in omega arith))
 
 -- the rest of a UTF-8 string after leading characters is UTF-8
-after_spaces : (chars text rest : List ℕ) → IsUtf8 text → text ≡ encode_utf8_all chars ++ rest
-    → IsUtf8 rest
+after_spaces : (chars text rest : List ℕ) → IsUtf8 text → text ≡ encode_utf8_all chars ++ rest → IsUtf8 rest
 after_spaces [] text rest utf8 e = subst IsUtf8 e utf8
 after_spaces (c ∷ cs) text rest utf8 e =
     let whole = e ∙ append_assoc _ _ rest in
     after_spaces cs _ rest
     (IsUtf8-past_char text _ c utf8 whole) refl
 
--- trimming UTF-8 gives UTF-8
 pub trim_utf8 : (region value : List ℕ) → IsUtf8 region → IsTrimOf value region → IsUtf8 value
 trim_utf8 region value utf8 t =
     let rest = value ++ t.back in
@@ -211,8 +189,7 @@ trim_utf8 region value utf8 t =
     (IsCharBoundary-at_seam rest value t.back refl (spaces_utf8 t.back t.back_spaces)))
 
 -- trimming a string that begins with a visible byte leaves at least one byte
-pub trim_some : (x : ℕ) (region value : List ℕ) → IsVisible x → IsTrimOf value (x ∷ region)
-    → value ≢ []
+pub trim_some : (x : ℕ) (region value : List ℕ) → IsVisible x → IsTrimOf value (x ∷ region) → value ≢ []
 trim_some x region value visible t e =
     let front : t.front ≡ [] =
     spaces_begin _ _ region x visible t.front_spaces t.whole in
@@ -221,4 +198,4 @@ trim_some x region value visible t e =
     ∙ sym (append-nil t.back) in
     let back : t.back ≡ [] = spaces_begin t.back [] region x visible t.back_spaces whole in
     let none : x ∷ region ≡ [] = whole ∙ append-nil t.back ∙ back in
-    absurd cc
+    cc

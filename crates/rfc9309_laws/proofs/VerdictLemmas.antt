@@ -3,11 +3,11 @@ use Rattle.std.proofs.Common.{◌≡◌, ◌≢◌, ◌↔◌, ◌⊎◌, ℕ, z
 use Rattle.std.proofs.Common.{◌∷◌, refl, codes, length, length-append, ◌+◌, if◌then◌else◌, sym, ap, ◌∙◌}
 use Rattle.std.proofs.Common.{arith, subst, take}
 use Rattle.std.specs.List.{AllByRecursion as Each, AllZip, Contains, list_any}
-use Rattle.std.proofs.lemmas.Bool.{both_ways, false≢true}
+use Rattle.std.proofs.lemmas.Bool.{both_ways}
 use Rattle.std.proofs.lemmas.List.Elements.{All-contains, All-from_recursion}
 use Rattle.texting_robots.specs.Callers.{IsDenied, IsRobotOfFile, IsVerdict, Matches, RobotValue, Rule}
 use Rattle.texting_robots.specs.Callers.{escaped, file_limit, unplaced}
-use Rattle.texting_robots.specs.{Escape.is_escaped, Pattern.MatchesWith, Trim.IsTrimOf}
+use Rattle.texting_robots.specs.{Escape.is_escaped, Trim.IsTrimOf}
 use Rattle.texting_robots.proofs.{EscapeLemmas.plain_stays, TrimLemmas.is_trimmed}
 use Rattle.texting_robots.proofs.VerdictLemmas.{same_verdicts}
 use Rattle.rfc9309_laws.specs.{ReadAs.IsReadAs, StandardRobot.IsFileWith}
@@ -18,8 +18,6 @@ use Rattle.rfc9309_laws.specs.Matching.{octets, without_end}
 use Rattle.rfc9309_laws.proofs.{FileLemmas.file_with, RobotLemmas.robot_as}
 use Rattle.rfc9309_laws.proofs.NormalLemmas.{end_of, escaped_parts, matches_so, never_matches, no_odd_escape}
 use Rattle.rfc9309_laws.specs.Rfc9309 as rfc
-
--- ---- lists place by place
 
 zip_swap : {A B : Type 0} (R : A → B → Type 0) (xs : List A) (ys : List B) → AllZip R xs ys
     → AllZip (λ y x. R x y) ys xs
@@ -59,8 +57,6 @@ pattern_of rule other e = ap (λ (r : Rule). r.0) e
 pub each_contains : {X : Type 0} (P : X → Type 0) (xs : List X) (x : X) → Each P xs → Contains xs x → P x
 each_contains P xs x all has = All-contains P xs x (All-from_recursion P xs all) has
 
--- ---- octets
-
 pub octets_are : (stays : Reading) (path spelling : List ℕ) → IsComparedAs stays path spelling
     → length (escaped spelling) ≡ octets stays path
 octets_are stays path spelling is =
@@ -75,8 +71,6 @@ pub octets_written : (stays : Reading) (path : List ℕ) → IsPlainPath stays p
     → list_any is_escaped path ≡ false → length path ≡ octets stays path
 octets_written stays path is plain =
     ap (λ (p : List ℕ). length p) (sym (plain_stays _ plain)) ∙ octets_are _ _ _ is
-
--- ---- verdicts
 
 module _ (stays : Reading) (count : List ℕ → ℕ) (members : List rfc.Member) (rules : List Rule)
     (uri : List ℕ) (zip : AllZip IsReadAs members rules)
@@ -93,15 +87,13 @@ module _ (stays : Reading) (count : List ℕ → ℕ) (members : List rfc.Member
   counts path spelling listed is = are.counted path listed ∙ sym (octets_are stays path spelling is)
 
   -- this library compares a path of the same kind of rule
-  compared : (kind : List ℕ → rfc.Member) (path : List ℕ) → Contains members (kind path)
-      → IsFitBy kind path
+  compared : (kind : List ℕ → rfc.Member) (path : List ℕ) → Contains members (kind path) → IsFitBy kind path
       → (spelling : List ℕ) × Contains members (kind spelling) × IsComparedAs stays path spelling
   compared kind path listed (inl plain) = (path, listed, plain)
   compared kind path listed (inr twin) = (twin.twin, twin.listed, twin.same)
 
   -- a path that matches here is plain
-  plain : (kind : List ℕ → rfc.Member) (path : List ℕ) → Matches (escaped path) uri
-      → IsFitBy kind path
+  plain : (kind : List ℕ → rfc.Member) (path : List ℕ) → Matches (escaped path) uri → IsFitBy kind path
       → IsPlainPath stays path
   plain kind path matches (inl is) = is
   plain kind path matches (inr twin) =
@@ -109,10 +101,8 @@ module _ (stays : Reading) (count : List ℕ → ℕ) (members : List rfc.Member
       (never_matches path uri (no_odd_escape stays uri are.normal) matches) twin.odd)
 
   own : (path value : List ℕ) → IsPathOf members path → IsTrimOf value path → value ≡ path
-  own path value listed trim =
-      sym (is_trimmed path _ trim) ∙ is_trimmed _ _ (are.trimmed _ listed)
+  own path value listed trim = sym (is_trimmed path _ trim) ∙ is_trimmed _ _ (are.trimmed _ listed)
 
-  -- the rule of a member
   read_of : (member : rfc.Member) (rule : Rule) → Contains members member → IsReadAs member rule
       → ◌≡◌ {A = Rule} rule (read member)
   read_of (rfc.Allow path) rule listed (value, trim, e) =
@@ -132,8 +122,7 @@ module _ (stays : Reading) (count : List ℕ → ℕ) (members : List rfc.Member
       → ◌≡◌ {A = Rule} (pattern, false) (read member)
       → (path : List ℕ) × Contains members (rfc.Disallow path) × (path ≢ []) × (pattern ≡ escaped path)
   disallow_of pattern (rfc.Disallow (b ∷ path)) listed e = (b ∷ path, listed, (λ e. cc), pattern_of _ _ e)
-  disallow_of pattern (rfc.Allow path) listed e = absurd (false≢true (kind_of _ _ e))
-  disallow_of pattern _ listed e = absurd (false≢true (kind_of _ _ e))
+  disallow_of pattern _ listed e = cc (kind_of _ _ e)
 
   -- an Allow comes from an Allow, or from an empty Disallow
   allow_of : (pattern : List ℕ) (member : rfc.Member) → Contains members member
@@ -143,8 +132,7 @@ module _ (stays : Reading) (count : List ℕ → ℕ) (members : List rfc.Member
   allow_of pattern (rfc.Allow path) listed is =
       inl (path, listed, pattern_of _ _ (read_of (rfc.Allow path) (pattern, true) listed is))
   allow_of pattern (rfc.Disallow []) listed e = inr (listed, pattern_of _ _ e)
-  allow_of pattern (rfc.Disallow (b ∷ path)) listed (value, trim, e) =
-      absurd (false≢true (sym (kind_of _ _ e)))
+  allow_of pattern (rfc.Disallow (b ∷ path)) listed (value, trim, e) = cc (kind_of _ _ e)
   allow_of pattern (rfc.Delay number) listed e = absurd e
 
   to_disallowed : IsDenied rules uri → IsDisallowed stays count members uri
@@ -214,8 +202,6 @@ module _ (stays : Reading) (count : List ℕ → ℕ) (members : List rfc.Member
       → IsVerdict rules uri answer ↔ IsRfcVerdict stays count members uri answer
   verdicts_agree true = (λ allowed is. allowed (to_denied is), λ allowed is. allowed (to_disallowed is))
   verdicts_agree false = (to_disallowed, to_denied)
-
--- ---- robots
 
 pub robot_agrees : (stays : Reading) (count : List ℕ → ℕ) (agent file uri : List ℕ) (groups : List rfc.Group)
     (numbers : List (List ℕ)) (robot : RobotValue) (answer : Bool)

@@ -1,17 +1,39 @@
-use Rattle.rfc9309_laws.proofs.ExampleLemmas as lemma
+use Rattle.std.proofs.Common.{◌≡◌, ◌++◌, ◌∷◌, List, [], ℕ, codes, false, true, refl}
+use Rattle.texting_robots.specs.{Escape.escaped}
+use Rattle.texting_robots.proofs.{BestLemmas.matches, ExampleLemmas.matching, ExampleLemmas.not_matching}
+use Rattle.rfc9309_laws.specs.Matching.{IsMatch, Reading, filled, normal_from, normal_path, normal_uri}
+use Rattle.rfc9309_laws.specs.Matching.{without_end}
+use Rattle.rfc9309_laws.specs.Examples as example
 use Rattle.rfc9309_laws.proofs.verdict.examples_of_matching.Goals as goal
 
-pub returns-clause-encoding : goal.returns-clause-encoding
-returns-clause-encoding c = lemma.encoding
+-- the whole URI is matched with these strings in place of the stars
+whole : (stays : Reading) (path uri : List ℕ) (strings : List (List ℕ))
+    → normal_uri stays uri ≡ filled (normal_path stays path) strings ++ [] → IsMatch stays path uri
+whole stays path uri strings e = record { strings = strings; rest = []; whole = e; end = λ _. refl }
 
-pub returns-clause-literals : goal.returns-clause-literals
-returns-clause-literals c = lemma.literals
+only : (stays : Reading) (path uri : List ℕ) (strings : List (List ℕ))
+    → normal_uri stays uri ≡ filled (normal_path stays path) strings ++ []
+    → matches true (escaped path) uri ≡ false → example.OnlyByStandard stays path uri
+only stays path uri strings e other =
+    record { standard = whole _ _ uri _ e; here = not_matching _ _ uri other }
 
-pub returns-clause-differences : goal.returns-clause-differences
-returns-clause-differences c = lemma.differences
-
-pub returns-clause-reserved_in_uri : goal.returns-clause-reserved_in_uri
-returns-clause-reserved_in_uri c = lemma.reserved_in_uri
-
-pub returns-clause-reserved_alike : goal.returns-clause-reserved_alike
-returns-clause-reserved_alike c = lemma.reserved_alike
+pub returns : goal.returns
+unfolding normal_from without_end filled
+returns c = record {
+  encoding = ((refl, refl), (refl, refl), (refl, refl), (refl, refl), (refl, refl));
+  literals = ((refl, refl), (refl, refl));
+  differences = (
+    only _ _ _ [] refl refl,
+    only _ _ _ [] refl refl,
+    only _ _ _ [] refl refl,
+    only _ _ _ [] refl refl,
+    only _ _ _ [] refl refl,
+    only _ _ _ [] refl refl,
+    only _ _ _ [] refl refl,
+    only _ _ _ [] refl refl,
+    only _ _ _ (codes "b" ∷ []) refl refl,
+    only _ _ _ [] refl refl,
+  );
+  reserved_in_uri = only _ _ _ [] refl refl;
+  reserved_alike = (whole _ _ _ [] refl, matching _ _ _ refl);
+}

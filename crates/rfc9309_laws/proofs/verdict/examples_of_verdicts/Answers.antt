@@ -1,11 +1,138 @@
-use Rattle.rfc9309_laws.proofs.ExampleLemmas as lemma
+use Rattle.std.proofs.Common.{◌≡◌, ◌≢◌, ◌<◌, ◌++◌, ◌∷◌, ◌&&◌, Bool, true, false, inl, inr, List, [], ℕ, codes}
+use Rattle.std.proofs.Common.{get_or, length, map, nat_lt, refl, ap, arith, subst}
+use Rattle.std.specs.List.{AllByRecursion as Each, AllZip, Contains, list_all}
+use Rattle.std.specs.{Char.is_ascii_graphic, Prelude.slice_index}
+use Rattle.std.proofs.lemmas.Bool.{and_parts, eqb-false, ltb-true}
+use Rattle.texting_robots.specs.{Escape.escaped, Rules.PlacedRule, Rules.unplaced, Trim.IsTrimOf}
+use Rattle.texting_robots.specs.Verdict.{IsVerdict}
+use Rattle.texting_robots.proofs.BestLemmas.{allowed_by, answered, deciding_rule}
+use Rattle.texting_robots.proofs.TrimLemmas.{graphic_trim, trimmed_is_trim}
+use Rattle.rfc9309_laws.specs.Comparable.{AreComparable, HasTwin, IsFit, IsPathOf, IsPlainPath}
+use Rattle.rfc9309_laws.specs.{Examples.mixed_rules, Examples.page_rules, Examples.tsu, ReadAs.IsReadAs}
+use Rattle.rfc9309_laws.specs.Matching.{IsRfcVerdict, Reading, all_stay, as_in_table, filled, has_dollar}
+use Rattle.rfc9309_laws.specs.Matching.{is_ended, normal_from, normal_path, normal_uri, octets, without_end}
+use Rattle.rfc9309_laws.proofs.{SyntaxLemmas.passing, ValueLemmas.visible_trim}
+use Rattle.rfc9309_laws.proofs.VerdictLemmas.{each_contains, verdicts_agree}
+use Rattle.rfc9309_laws.specs.Rfc9309 as rfc
 use Rattle.rfc9309_laws.proofs.verdict.examples_of_verdicts.Goals as goal
 
-pub returns-clause-longest : goal.returns-clause-longest
-returns-clause-longest c = lemma.longest
+-- the path is empty, or begins and ends with visible bytes
+abbrev is_trimmed : List ℕ → Bool
+is_trimmed [] = true
+is_trimmed (b ∷ path) = is_ascii_graphic b && is_ascii_graphic (get_or (b ∷ path) (length path) 0)
 
-pub returns-clause-mixed : goal.returns-clause-mixed
-returns-clause-mixed c = lemma.mixed
+-- an Allow is trimmed, and a Disallow, too; if it isn't empty, it has more than one octet
+abbrev is_usual : Reading → rfc.Member → Bool
+is_usual stays (rfc.Allow path) = is_trimmed path
+is_usual stays (rfc.Disallow []) = true
+is_usual stays (rfc.Disallow (b ∷ path)) = is_trimmed (b ∷ path) && nat_lt 1 (octets stays (b ∷ path))
+is_usual stays (rfc.Delay number) = false
 
-pub returns-clause-empty_disallow : goal.returns-clause-empty_disallow
-returns-clause-empty_disallow c = lemma.empty_disallow
+trimmed : (path : List ℕ) → is_trimmed path ≡ true → IsTrimOf path path
+trimmed [] is = visible_trim [] tt
+trimmed (b ∷ path) is =
+    let (first, last) = and_parts _ _ is in
+    subst (λ v. IsTrimOf v (b ∷ path)) (graphic_trim b path first last) (trimmed_is_trim _)
+
+-- the rule of this library; its line doesn't matter
+abbrev read : rfc.Member → PlacedRule
+read (rfc.Allow path) = record { rule = (escaped path, true); line = 0 }
+read (rfc.Disallow (b ∷ path)) = record { rule = (escaped (b ∷ path), false); line = 0 }
+read _ = record { rule = (codes "/", true); line = 0 }
+
+module _ (stays : Reading) (members : List rfc.Member) (uri : List ℕ)
+    (usual : list_all (is_usual stays) members ≡ true) where
+  are_usual : (member : rfc.Member) → Contains members member → is_usual stays member ≡ true
+  are_usual member =
+      each_contains (λ member. is_usual stays member ≡ true) members member
+      (passing (λ member. is_usual stays member ≡ true) (is_usual stays) (λ member is. is) members usual)
+
+  are_trimmed : (path : List ℕ) → IsPathOf members path → IsTrimOf path path
+  are_trimmed path (inl has) = trimmed path (are_usual _ has)
+  are_trimmed [] (inr has) = visible_trim [] tt
+  are_trimmed (b ∷ path) (inr has) = trimmed _ (and_parts _ _ (are_usual _ has)).0
+
+  are_long : (path : List ℕ) → Contains members (rfc.Disallow path) → path ≢ [] → 1 < octets stays path
+  are_long [] has some = absurd (some refl)
+  are_long (b ∷ path) has some = ltb-true 1 _ (and_parts _ _ (are_usual _ has)).1
+
+  -- the verdict of this library is that of the standard
+  agreed : (answer : Bool) → normal_uri stays uri ≡ uri
+      → normal_uri stays (codes "/robots.txt") ≡ codes "/robots.txt" → Each (IsFit stays members) members
+      → allowed_by (deciding_rule (map read members) uri) ≡ answer
+      → AreComparable stays (octets stays) members uri
+      × IsRfcVerdict stays (octets stays) members uri answer
+  agreed answer normal robots fit is =
+      let are : AreComparable stays _ members uri = record {
+        normal = normal;
+        robots = robots;
+        trimmed = are_trimmed;
+        fit = λ member has. each_contains (IsFit stays members) members member fit has;
+        counted = λ path listed. refl;
+        empty = λ has. are_long;
+      } in
+      let rules = unplaced _ in (
+        are,
+        (verdicts_agree stays _ members rules uri (are_read members usual) are answer).0
+            (subst (IsVerdict rules uri) is (answered (map read members) uri).0),
+      )
+    where
+      are_read : (members : List rfc.Member) → list_all (is_usual stays) members ≡ true
+          → AllZip IsReadAs members (unplaced (map read members))
+      are_read [] all = tt
+      are_read (member ∷ members) all =
+          let (is, rest) = and_parts _ _ all in (one member is, are_read members rest)
+        where
+          one : (member : rfc.Member) → is_usual stays member ≡ true → IsReadAs member (read member).rule
+          one (rfc.Allow path) is = (path, trimmed path is, refl)
+          one (rfc.Disallow []) is = refl
+          one (rfc.Disallow (b ∷ path)) is = (b ∷ path, trimmed (b ∷ path) (and_parts _ _ is).0, refl)
+          one (rfc.Delay number) is = cc
+
+plain : (stays : Reading) (path : List ℕ) → normal_path stays path ≡ escaped (without_end path)
+    → has_dollar (without_end path) ≡ false → IsPlainPath stays path
+plain stays path normal dollar = record { normal = normal; ended = refl; dollar = dollar }
+
+mixed_twin : HasTwin all_stay (λ twin. Contains mixed_rules (rfc.Allow twin))
+    (codes "/" ++ tsu ++ codes "/%62*.gif$")
+unfolding normal_from without_end is_ended
+mixed_twin = record {
+  odd = refl;
+  twin = codes "/" ++ tsu ++ codes "/b*.gif$";
+  listed = (3, omega arith, refl);
+  same = record { normal = refl; ended = refl; dollar = refl };
+}
+
+mixed_fit : Each (IsFit all_stay mixed_rules) mixed_rules
+unfolding normal_from without_end is_ended
+mixed_fit = (
+  inl (plain all_stay [] refl refl),
+  (inl (plain all_stay _ refl refl), (inr mixed_twin, (inl (plain _ _ refl refl), tt))),
+)
+
+pub returns : goal.returns
+unfolding normal_from without_end is_ended filled
+returns c = record {
+  longest =
+      agreed _ page_rules _ refl false refl refl
+      (inl (plain as_in_table _ refl refl), (inl (plain _ _ refl refl), tt)) refl;
+  mixed = (
+    agreed all_stay mixed_rules _ refl false refl refl mixed_fit refl,
+    agreed _ _ _ refl true refl refl mixed_fit refl,
+  );
+  empty_disallow = (
+    record {
+      other = λ e. eqb-false 120 114 refl (ap (λ (l : List ℕ). slice_index l 1) e);
+      path = codes "/";
+      listed = (1, omega arith, refl);
+      some = λ e. cc;
+      is_match = record { strings = []; rest = codes "x"; whole = refl; end = λ e. cc };
+      most = λ allowed has. absurd (each_contains (λ member. member ≢ rfc.Allow allowed) rules
+          _ ((λ e. cc), ((λ e. cc), tt)) has refl);
+    },
+    (answered (map read rules) (codes "/x")).0,
+  );
+}
+  where
+    rules : List rfc.Member
+    rules = rfc.Disallow [] ∷ rfc.Disallow (codes "/") ∷ []
