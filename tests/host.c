@@ -250,10 +250,44 @@ static void try_batch(void) {
     robots_close(robot);
 }
 
+/* The file has the rules "/a*b" in line 1 and "/c$" in line 2, which are tried in this order. */
+static void try_budgets(void) {
+    static const struct {
+        const char *url;
+        uint64_t budget;
+        int32_t status;
+        int64_t wanted;
+    } cases[] = {
+        {"/a1b", 9, ROBOTS_OK, -1},
+        {"/a1b", 8, ROBOTS_TOO_COSTLY, 77},
+        {"/c", 6, ROBOTS_OK, 2},
+        {"/c", 5, ROBOTS_TOO_COSTLY, 77},
+        {"/d", UINT64_MAX, ROBOTS_OK, 0},
+        {"", 1, ROBOTS_TOO_COSTLY, 77},
+        {"", 2, ROBOTS_OK, 0},
+        {"/robots.txt", 0, ROBOTS_OK, 0},
+        {"\xFF", 99, ROBOTS_NOT_UTF8, 77},
+    };
+    static const struct {
+        size_t length;
+        uint64_t cost;
+    } costs[] = {{0, 2}, {1, 2}, {2, 8}, {4, 12}, {SIZE_MAX, UINT64_MAX}};
+    robots *robot = NULL;
+    bool opened = robots_open("Bot", 3, FILE_OF("Disallow: /a*b\nAllow: /c$\n"), &robot, NULL) == ROBOTS_OK;
+    for (size_t i = 0; i < sizeof cases / sizeof *cases; i++) {
+        int64_t out = 77;
+        bool is = opened && robots_query_within(robot, ROBOTS_STRING(cases[i].url), cases[i].budget, &out) == cases[i].status;
+        tell("a query with a budget", is && out == cases[i].wanted);
+    }
+    for (size_t i = 0; i < sizeof costs / sizeof *costs; i++)
+        tell("a cost", opened && robots_cost(robot, costs[i].length) == costs[i].cost);
+    robots_close(robot);
+}
+
 /* Opens a robot, queries it, and closes it. What needs no memory is never reported as out of memory. */
 static struct outcome keep(void) {
     robots *robot = NULL;
-    int64_t out = 77, plain = 77;
+    int64_t out = 77, plain = 77, within = 77;
     uint64_t wait = 77;
     size_t line = 7;
     int32_t status = robots_open(ROBOTS_STRING("Bot"), FILE_OF(file), &robot, &line);
@@ -265,6 +299,10 @@ static struct outcome keep(void) {
     struct outcome many = query_with(robot, COUNT);
     status = robots_query(robot, ROBOTS_STRING("/private/\xC3\xA9 b"), &out);
     known &= status == ROBOTS_OK ? out == -2 : out == 77;
+    if (status == ROBOTS_OK) {
+        status = robots_query_within(robot, "/private/x", 10, 99, &within);
+        known &= status == ROBOTS_OK ? within == -2 : within == 77;
+    }
     robots_close(robot);
     return status == ROBOTS_OK ? (struct outcome){many.status, known && many.right, known && many.untouched}
                                : (struct outcome){status, false, known && (many.right || many.untouched)};
@@ -434,6 +472,7 @@ static void try_examples(void) {
     try_site();
     try_small_buffers();
     try_batch();
+    try_budgets();
     tell("handles on the same robot and site", is(keep_shared(), ROBOTS_OK));
     tell("results and their lines", robots_may_fetch(0) == 1 && robots_may_fetch(3) == 1 && robots_may_fetch(-2) == 0
         && robots_line(0) == 0 && robots_line(3) == 3 && robots_line(-2) == 2);

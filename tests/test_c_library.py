@@ -120,6 +120,8 @@ int main(void) {
     is(robots_query(robot, "/\xC3\xA9", 3, &result), ROBOTS_OK);
     is(robots_query_many(robot, "/a\n/\xC3\xA9", 6, results, 4), ROBOTS_OK);
     is(results[0] + results[1], -2);
+    is(robots_query_within(robot, "/a", 2, 9, &result), ROBOTS_OK);
+    is(result, -2);
     is(robots_query_delay(robot, &delay), ROBOTS_OK);
     is((int64_t)delay, 1000000);
     is(robots_share(robot, &own), ROBOTS_OK);
@@ -279,9 +281,9 @@ def test_texts_of_statuses(robots):
     numbers = {name: int(number) for name, number in re.findall(r"^    (ROBOTS_\w+) = (-?\d+)\b", header, re.M)}
     source = (ROOT / "bindings/c/robots.c").read_text()
     texts = {numbers[name]: text for name, text in re.findall(r'case (ROBOTS_\w+): return "([^"]*)";', source)}
-    assert sorted(texts) == sorted(numbers.values()) == [*range(-7, 1)]
+    assert sorted(texts) == sorted(numbers.values()) == [*range(-8, 1)]
     assert [texts[-number] for number in range(6)] == robots.TEXTS
-    names = dict(NOT_UTF8="isn't UTF-8", OUT_OF_MEMORY="out of memory", BUFFER_TOO_SMALL="too small", NO_DELAY="no delay", NO_ADDRESS="no robots.txt", OVERLONG_RULE="too long", INVALID_ENDS="invalid")
+    names = dict(NOT_UTF8="isn't UTF-8", OUT_OF_MEMORY="out of memory", BUFFER_TOO_SMALL="too small", NO_DELAY="no delay", NO_ADDRESS="no robots.txt", OVERLONG_RULE="too long", INVALID_ENDS="invalid", TOO_COSTLY="too costly")
     assert all(text in texts[numbers[f"ROBOTS_{name}"]] for name, text in names.items())
 
 

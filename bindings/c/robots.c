@@ -7,6 +7,7 @@
 PROVED(robots_version);
 PROVED(robots_open);
 PROVED(robots_query);
+PROVED(robots_query_within);
 PROVED(robots_query_many);
 PROVED(robots_share);
 PROVED(robots_query_delay);
@@ -29,6 +30,9 @@ PROVED(robots_address);
 PROVED(robots_response_meaning);
 PROVED(robots_may_fetch);
 PROVED(robots_line);
+
+/* The proved function writes the cost, and its status is 0. */
+extern int32_t proved_robots_cost(const robots *robot, size_t length, uint64_t *cost);
 
 /* The proved function has a length for the results, too. */
 extern int32_t proved_robots_query_batch(const robots *robot, const void *urls, size_t urls_len, const size_t *ends, size_t n,
@@ -74,6 +78,20 @@ int32_t robots_query(const robots *robot, const char *url, size_t url_len, int64
     if (status == ROBOTS_OK)
         *result = number;
     return status;
+}
+
+int32_t robots_query_within(const robots *robot, const char *url, size_t url_len, uint64_t budget, int64_t *result) {
+    int64_t number = 0;
+    int32_t status = proved_robots_query_within(robot, AT(url, url_len), budget, &number);
+    if (status == ROBOTS_OK)
+        *result = number;
+    return status;
+}
+
+uint64_t robots_cost(const robots *robot, size_t length) {
+    uint64_t cost = 0;
+    proved_robots_cost(robot, length, &cost);
+    return cost;
 }
 
 int32_t robots_query_many(const robots *robot, const char *urls, size_t urls_len, int64_t *results, size_t results_len) {
@@ -209,6 +227,7 @@ const char *robots_status_text(int32_t status) {
     case ROBOTS_NO_ADDRESS: return "the URL has no robots.txt file";
     case ROBOTS_OVERLONG_RULE: return "a rule is too long: the file can't be used for this crawler";
     case ROBOTS_INVALID_ENDS: return "the places where the URLs end are invalid";
+    case ROBOTS_TOO_COSTLY: return "the query is too costly for its budget";
     default: return "unknown status";
     }
 }

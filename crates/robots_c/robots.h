@@ -90,7 +90,8 @@ enum robots_status {
     ROBOTS_NO_ADDRESS = -5,       /* the text isn't a URL of http or https with a host */
     ROBOTS_OVERLONG_RULE = -6,    /* a rule for this crawler contains '$' and has more than 4,096 bytes when escaped, each run of
                                    * stars counted as one: the file can't be used for this crawler. What to do then is its policy. */
-    ROBOTS_INVALID_ENDS = -7      /* the places where URLs end decrease, or one is after the end of the text */
+    ROBOTS_INVALID_ENDS = -7,     /* the places where URLs end decrease, or one is after the end of the text */
+    ROBOTS_TOO_COSTLY = -8        /* the query gave up, since it might have cost more than its budget */
 };
 
 /* What a crawler does after a response to its request for a robots.txt file (RFC 9309, 2.3.1): see robots_response_meaning. */
@@ -129,6 +130,17 @@ ROBOTS_CHECK int32_t robots_open(const char *agent, size_t agent_len, const void
 
 /* Writes the result for one URL. It doesn't allocate for the empty text, a path in which nothing has to be escaped, and most URLs. */
 ROBOTS_CHECK int32_t robots_query(const robots *robot, const char *url, size_t url_len, int64_t *result) ROBOTS_NONNULL(1, 4);
+
+/* robots_query for a robot whose file may be hostile: it takes no more time than the budget allows. Each rule that is tried costs one, and
+ * each comparison of a byte of the URL one. Before a rule that might cost more than is left, it gives up: the status is ROBOTS_TOO_COSTLY,
+ * and there is no result. Otherwise the result is that of robots_query. It allocates. */
+ROBOTS_CHECK int32_t robots_query_within(const robots *robot, const char *url, size_t url_len, uint64_t budget,
+                                         int64_t *result) ROBOTS_NONNULL(1, 5);
+
+/* With so much as a budget, robots_query_within doesn't give up for any URL whose path, query and fragment, escaped, have this length. A
+ * rule costs one; unless it has more bytes before its first '*' or '$' than this length, it also costs one for each of these bytes, or, if
+ * a '*' follows them, two for each byte of the length. The sum is at most UINT64_MAX. It doesn't allocate. */
+uint64_t robots_cost(const robots *robot, size_t length) ROBOTS_NONNULL(1);
 
 /* Writes the results for many URLs, in their order. `urls` has one '\n' between one URL and the next, so n of them are n + 1 URLs, and the
  * empty text is one empty URL; for a URL that contains '\n' use robots_query. If there are more URLs than `results_len`, the status is

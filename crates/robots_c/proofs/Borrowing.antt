@@ -22,8 +22,8 @@ use lib.Dec.{T as IsT}
 use base.Fml.{Fml, Lft, Share, ftrue, fsep, feq}
 use base.Logic.{SProp, emp, ent, ex, fst∗, snd∗, guard, id⊢, never, sep, via}
 use contract.Monad.{fact_use}
-use mir.Syntax.{Callee, Fn, Place, Opd as Operand, Body, Ty, call, named, seq, ty_int, ty_ptr, w32}
-use mir.Val.{Val, WT, has_ty, vptr}
+use mir.Syntax.{Callee, Fn, Place, Opd as Operand, Body, Ty, call, named, seq, ty_int, ty_ptr, w32, w64}
+use mir.Val.{Val, WT, has_ty, vint, vptr}
 use mir.ValLaws.{of_z_fits}
 use prog.Model.{Model}
 use prog.Wp.{Closed, Env, WpFn}
@@ -101,6 +101,16 @@ lent_place is e = place (is ∙ ap (λ (p : Ptr). ptr_val p ∷ []) e)
 
 abbrev pub reference : {X : Type 0} → X → ℕ → ℕ → Bor X
 reference x b o = record { ref_ptr = (b, o); now = x }
+
+-- a number of 64 bits
+abbrev pub number : {n : ℕ} {vs : List Val} → (vs ≡ vint w64 n ∷ []) × (n < 2 ^ 64) → Word
+number {n} {vs} (is, fits) = record {
+  type = ty_int w64;
+  listed = vs;
+  value = vint w64 n;
+  is = is;
+  good = (tt, record { fits = fits });
+}
 
 -- a pointer
 abbrev pub pointer : {M : Type 1} {𝓤 : Ura M} (𝓛 : Logic 𝓤) → Ptr → Word

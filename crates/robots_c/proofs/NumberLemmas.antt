@@ -1,9 +1,10 @@
 -- A number encodes a verdict and its deciding line, and it fits in an `i64`.
 use Rattle.std.proofs.Common.{◌≡◌, ℕ, zero, suc, ◌+◌, ◌<◌, ◌≤◌, ◌^◌, Bool, true, false, List, [], ◌∷◌, ◌++◌}
 use Rattle.std.proofs.Common.{Option, Some, None, IfSome, arith, length, map, refl, slice_index_or, subst}
-use Rattle.std.proofs.Common.{take}
+use Rattle.std.proofs.Common.{SFits, of_z, take, to_z, w64, ℤ}
 use Rattle.std.specs.List.{AllZip}
-use Rattle.std.proofs.lemmas.{List.length-map, List.length-take, List.take_more, Option.slice_get_within}
+use Rattle.std.proofs.lemmas.{Int.to_z-of_z, List.length-map, List.length-take, List.take_more}
+use Rattle.std.proofs.lemmas.Option.{slice_get_within}
 use Rattle.texting_robots.specs.Callers.{HasLines, IsDecidingLine, IsRobotOfFile, IsVerdict, LineValue}
 use Rattle.texting_robots.specs.Callers.{PlacedRule, RobotValue, file_limit, file_lines, lines_read}
 use Rattle.texting_robots.specs.Callers.{nul_as_lf, unplaced}
@@ -76,6 +77,14 @@ number_says rules target allowed None fit verdict decides =
     record { verdict = no_line_allows rules target decides; deciding = decides }
 number_says rules target allowed (Some line) fit verdict decides =
     line_says rules target allowed line (fit target line decides).0 verdict decides
+
+-- as the machine has the number
+pub written_says : (rules : List PlacedRule) (target : List ℕ) (allowed : Bool) (line : Option ℕ)
+    → LinesFit rules → IsVerdict (unplaced rules) target allowed → IsDecidingLine rules target line
+    → (number : ℤ) → number ≡ number_of allowed line → SFits w64 number
+    → IsResultOn rules target (to_z w64 (of_z w64 number))
+written_says rules target allowed line fit verdict decides number is fits =
+    rw (to_z-of_z w64 number fits, is) (number_says rules target allowed line fit verdict decides)
 
 pub line_below : (rules : List PlacedRule) (text : List ℕ) (line : Option ℕ) → LinesFit rules
     → IsDecidingLine rules text line → IfSome line (λ line. line < 2 ^ 63)

@@ -2,16 +2,16 @@
 use Rattle.std.specs.Prelude.{◌≡◌, ◌⊎◌, ℕ, ◌*◌, ◌<◌, ◌≤◌, ℤ, pos, negsuc, List, Option, None, Ok, Err, IsUtf8}
 use Rattle.std.specs.Prelude.{if◌then◌else◌, length}
 use Rattle.texting_robots.specs.Callers.{IsFirstOverlong, IsAllocationFree, file_lines, is_named}
-use Rattle.texting_robots.specs.Callers.{placed_rules, robots_address}
+use Rattle.texting_robots.specs.Callers.{PlacedRule, cost_of, placed_rules, prepared, robots_address}
 use Rattle.url.specs.declared.error.ParseError.{ParseError}
 use Rattle.robots_c.specs.{File.HasDelay, Results.items_in}
 use Rattle.robots_c.specs.declared.fault.Fault.{Fault}
 use Rattle.robots_c.specs.declared.fault.Fault.TheVariants.{Memory, NoAddress, NoDelay, BufferTooSmall}
-use Rattle.robots_c.specs.declared.fault.Fault.TheVariants.{InvalidEnds, NotUtf8, Overlong}
+use Rattle.robots_c.specs.declared.fault.Fault.TheVariants.{InvalidEnds, NotUtf8, Overlong, TooCostly}
 
 -- ---- statuses
 
--- -1 to -7
+-- -1 to -8
 abbrev pub status_of : Fault → ℤ
 status_of NotUtf8 = negsuc 0
 status_of Memory = negsuc 1
@@ -20,6 +20,7 @@ status_of NoDelay = negsuc 3
 status_of NoAddress = negsuc 4
 status_of (Overlong line) = negsuc 5
 status_of InvalidEnds = negsuc 6
+status_of TooCostly = negsuc 7
 
 -- the status is 0, or that of an error for which Why holds
 abbrev pub HasFault : (Fault → Type 0) → ℤ → Type 0
@@ -84,6 +85,14 @@ abbrev pub IsWhyNoResult : List ℕ → Fault → Type 0
 IsWhyNoResult url NotUtf8 = ¬ IsUtf8 url
 IsWhyNoResult url Memory = IsUtf8 url × ¬ IsAllocationFree url
 IsWhyNoResult url _ = ⊥
+
+-- the result for one URL within this budget, whose match target is allocated
+abbrev pub IsWhyNotWithin : List PlacedRule → List ℕ → ℕ → Fault → Type 0
+IsWhyNotWithin rules url budget NotUtf8 = ¬ IsUtf8 url
+IsWhyNotWithin rules url budget Memory = IsUtf8 url
+IsWhyNotWithin rules url budget TooCostly =
+    IsUtf8 url × (budget < cost_of rules (length (prepared url)))
+IsWhyNotWithin rules url budget _ = ⊥
 
 -- the delay of a robot
 abbrev pub IsWhyNone : Option ℕ → Fault → Type 0

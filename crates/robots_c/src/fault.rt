@@ -18,6 +18,8 @@ pub(crate) enum Fault {
     Overlong(usize),
     /// The places where URLs end decrease, or one is after the end of the text.
     InvalidEnds,
+    /// The query might take more looks than its budget.
+    TooCostly,
 }
 
 impl Fault {
@@ -36,6 +38,7 @@ impl Fault {
             Fault::NoAddress => -5,
             Fault::Overlong(_) => -6,
             Fault::InvalidEnds => -7,
+            Fault::TooCostly => -8,
         }
     }
 

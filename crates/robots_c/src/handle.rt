@@ -2,6 +2,7 @@
 ghost use Rattle.std.specs.Prelude.{◌≡◌, ◌≢◌, Some, None, IfErr, IfOk, pos};
 ghost use Rattle.robots_c.specs.File.{GivesRobot, IsRobotFor, bytes_read};
 ghost use Rattle.robots_c.specs.Status.{HasFault, HasFaultAt, IsWhyNoHandle, IsWhyNoRobot, IsWhyNone};
+ghost use Rattle.texting_robots.specs.Callers.{cost_of, seen_of};
 
 use crate::fault::Fault;
 use crate::file::robot_of;
@@ -78,4 +79,13 @@ pub(crate) fn query_delay(robot: &Shared<Robot>, out: &mut u64) -> i32
         }
         None => Fault::NoDelay.status(),
     }
+}
+
+/// Writes what a query costs at most.
+pub(crate) fn cost(robot: &Shared<Robot>, length: usize, out: &mut u64) -> i32
+    ensures status { result ≡ pos 0 }
+    ensures written { out.new ≡ seen_of (cost_of robot.now.rules length) }
+{
+    *out = robot.get().cost(length);
+    0
 }

@@ -16,9 +16,9 @@ ghost use Rattle.robots_c.specs.Kept.{Robots, Sites, lends, opens, owned_or_null
 ghost use Rattle.robots_c.specs.Results.{ArePutIn, HasResult, IsMatrixPutIn, is_allowed, line_named, no_result};
 ghost use Rattle.robots_c.specs.Status.{HasFault, HasFaultAt, IsAddress, IsWhyNoAddress, IsWhyNoDelay, IsWhyNoDelayOf};
 ghost use Rattle.robots_c.specs.Status.{IsWhyNoMatrix, IsWhyNoResult, IsWhyNoResults, IsWhyNoRobot, IsWhyNoHandle, IsWhyNone};
-ghost use Rattle.robots_c.specs.Status.{IsWhyUndecided, SaysNamed, status_of};
+ghost use Rattle.robots_c.specs.Status.{IsWhyNotWithin, IsWhyUndecided, SaysNamed, status_of};
 ghost use Rattle.robots_c.specs.Text.{IsTooLong, IsWritten};
-ghost use Rattle.texting_robots.specs.Callers.{RobotValue};
+ghost use Rattle.texting_robots.specs.Callers.{RobotValue, cost_of, seen_of};
 
 mod batch;
 mod fault;
@@ -36,14 +36,14 @@ mod urls;
 use batch::query_batch;
 use fault::Fault;
 use file::delay_of;
-use handle::{close, opened, query_delay, shared};
+use handle::{close, cost, opened, query_delay, shared};
 use kept::{Handle, Kept};
 use matrix::{NO_RESULT, matrix_by, matrix_of};
 use shared::Shared;
 use std::alloc::{AllocError, Global};
 use texting_robots::{Robot, Site};
 use texts::{address, agents_of, put, sitemaps_of};
-use urls::{decide, query, query_many};
+use urls::{decide, query, query_many, query_within};
 
 /// The library's version as a number: 10,000 × major + 100 × minor + patch.
 #[unsafe(no_mangle)]
@@ -208,6 +208,39 @@ pub unsafe extern "C" fn robots_query(
     ensures why { HasFault (IsWhyNoResult url.now) result }
 {
     query(alloc, &*(robot as *const Shared<Robot>), url, out)
+}
+
+/// Writes what `robots_query_within` costs at most for a match target of this length: at most `u64::MAX`. The robot
+/// is borrowed, as in `robots_query`. It doesn't allocate.
+#[unsafe(no_mangle)]
+pub unsafe extern "C" fn robots_cost(robot: *const u8, length: usize, out: &mut u64) -> i32
+    ghost g: { Lft × Share × RobotValue }
+    requires* lent { sem 𝓛 (lends Robots robot g) }
+    ensures* lent { sem 𝓛 (flft g.0 g.1) }
+    ensures status { result ≡ pos 0 }
+    ensures written { out.new ≡ seen_of (cost_of g.2.rules length) }
+{
+    cost(&*(robot as *const Shared<Robot>), length, out)
+}
+
+/// Writes the result for one URL, as `robots_query` does, unless that may take more looks than the budget.
+#[unsafe(no_mangle)]
+pub unsafe extern "C" fn robots_query_within(
+    alloc: Global,
+    robot: *const u8,
+    url: &[u8],
+    budget: u64,
+    out: &mut i64,
+) -> i32
+    ghost g: { Lft × Share × RobotValue }
+    requires* lent { sem 𝓛 (lends Robots robot g) }
+    requires robot { IsRobotOfSomeFile g.2 }
+    ensures* lent { sem 𝓛 (flft g.0 g.1) }
+    ensures written { result ≡ pos 0 → HasResult g.2.rules url.now out.new }
+    ensures kept { result ≢ pos 0 → out.new ≡ out.old }
+    ensures why { HasFault (IsWhyNotWithin g.2.rules url.now budget) result }
+{
+    query_within(alloc, &*(robot as *const Shared<Robot>), url, budget, out)
 }
 
 /// Writes the results for many URLs, as `robots_decide` does. The robot is borrowed, as in `robots_query`.

@@ -3,14 +3,15 @@ ghost use Rattle.std.specs.Prelude.{◌≡◌, ◌≢◌, ◌<◌, ◌≤◌, �
 ghost use Rattle.std.specs.List.{AllZip};
 ghost use Rattle.robots_c.specs.File.{GivesRobot, IsRobotOfSomeFile, bytes_read};
 ghost use Rattle.robots_c.specs.Results.{ArePutIn, HasResult, HasResults, IsResult, IsResultOn, LinesFit, number_of, items_in, lf};
-ghost use Rattle.robots_c.specs.Status.{HasFault, IsWhyNoResult, IsWhyNoResults, IsWhyUndecided};
+ghost use Rattle.robots_c.specs.Status.{HasFault, IsWhyNoResult, IsWhyNoResults, IsWhyNotWithin, IsWhyUndecided};
 ghost use Rattle.texting_robots.specs.Callers.{IsAllocationFree};
 
 use crate::fault::Fault;
 use crate::file::{robot_of, text_of};
 use crate::shared::Shared;
 use std::alloc::{AllocError, Global};
-use texting_robots::{Decision, Error, Robot};
+use texting_robots::view::View;
+use texting_robots::{Decision, Error, Robot, TooCostly};
 
 /// A decision as a number: that of the deciding line, negative if the crawler may not fetch
 /// the URL, and 0 if no line decides.
@@ -56,6 +57,21 @@ pub(crate) fn result_for(alloc: Global, robot: &Robot, url: &[u8]) -> Result<i64
     match number_for(alloc, robot, url) {
         Ok(number) => Ok(number),
         Err(AllocError) => Err(Fault::Memory),
+    }
+}
+
+/// The result for the bytes of a URL, unless that may take more looks than the budget.
+fn result_within(alloc: Global, robot: &Robot, url: &[u8], budget: u64) -> Result<i64, Fault>
+    requires { IsRobotOfSomeFile robot.now }
+    ensures ok { IfOk result (HasResult robot.now.rules url.now) }
+    ensures fault { IfErr result (IsWhyNotWithin robot.now.rules url.now budget) }
+{
+    let Ok(target) = Robot::prepare_url(alloc, text_of(url)?) else {
+        return Err(Fault::Memory);
+    };
+    match robot.decision_within(&mut View::new(&target), budget) {
+        Ok(decision) => Ok(number_of(decision)),
+        Err(TooCostly) => Err(Fault::TooCostly),
     }
 }
 
@@ -139,6 +155,28 @@ pub(crate) fn query(alloc: Global, robot: &Shared<Robot>, url: &[u8], out: &mut 
     ensures why { HasFault (IsWhyNoResult url.now) result }
 {
     match result_for(alloc, robot.get(), url) {
+        Ok(number) => {
+            *out = number;
+            0
+        }
+        Err(fault) => fault.status(),
+    }
+}
+
+/// Writes the result for one URL, unless that may take more looks than the budget.
+pub(crate) fn query_within(
+    alloc: Global,
+    robot: &Shared<Robot>,
+    url: &[u8],
+    budget: u64,
+    out: &mut i64,
+) -> i32
+    requires { IsRobotOfSomeFile robot.now }
+    ensures written { result ≡ pos 0 → HasResult robot.now.rules url.now out.new }
+    ensures kept { result ≢ pos 0 → out.new ≡ out.old }
+    ensures why { HasFault (IsWhyNotWithin robot.now.rules url.now budget) result }
+{
+    match result_within(alloc, robot.get(), url, budget) {
         Ok(number) => {
             *out = number;
             0

@@ -1,8 +1,6 @@
-use Rattle.std.proofs.Common.{SFits, rules, subst, sym, w64}
-use Rattle.std.proofs.lemmas.Int.{to_z-of_z}
+use Rattle.std.proofs.Common.{rules}
 use Rattle.texting_robots.specs.Callers.{prepared}
-use Rattle.robots_c.specs.Results.{IsResult}
-use Rattle.robots_c.proofs.NumberLemmas.{line_below, number_says}
+use Rattle.robots_c.proofs.NumberLemmas.{line_below, written_says}
 use Rattle.robots_c.proofs.urls.number_for.Goals as goal
 
 pub number_of-requires : goal.number_of-requires
@@ -12,11 +10,5 @@ number_of-requires c =
 
 pub returns-in-Ok-clause-number : goal.returns-in-Ok-clause-number
 returns-in-Ok-clause-number c =
-    let rules' = c.args.robot.now.rules in
-    let url = c.args.url.now in
-    let decision = c.in-Ok.decision in
-    let says = number_says rules' (prepared url) decision.allowed decision.line c.requires
-    c.in-Ok.ensures.verdict c.in-Ok.ensures.line in
-    let fits : SFits w64 c.number_of.result = search rules in
-    subst (IsResult rules' url) (sym (to_z-of_z w64 c.number_of.result fits))
-    (subst (IsResult rules' url) (sym c.number_of.ensures) says)
+    written_says c.args.robot.now.rules (prepared c.args.url.now) _ _ c.requires c.in-Ok.ensures.verdict
+    c.in-Ok.ensures.line _ c.number_of.ensures (search rules)

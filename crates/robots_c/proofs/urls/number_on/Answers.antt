@@ -1,7 +1,5 @@
-use Rattle.std.proofs.Common.{SFits, rules, subst, sym, w64}
-use Rattle.std.proofs.lemmas.Int.{to_z-of_z}
-use Rattle.robots_c.specs.Results.{IsResultOn}
-use Rattle.robots_c.proofs.NumberLemmas.{line_below, number_says}
+use Rattle.std.proofs.Common.{rules}
+use Rattle.robots_c.proofs.NumberLemmas.{line_below, written_says}
 use Rattle.robots_c.proofs.urls.number_on.Goals as goal
 
 pub number_of-requires : goal.number_of-requires
@@ -11,10 +9,6 @@ number_of-requires c =
 
 pub returns : goal.returns
 returns c =
-    let rules' = c.args.robot.now.rules in
-    let decision = c.decision_prepared.result in
-    let says = number_says rules' c.args.target.now decision.allowed decision.line c.requires
-    c.decision_prepared.ensures.verdict c.decision_prepared.ensures.line in
-    let fits : SFits w64 c.number_of.result = search rules in
-    subst (IsResultOn rules' c.args.target.now) (sym (to_z-of_z w64 c.number_of.result fits))
-    (subst (IsResultOn rules' c.args.target.now) (sym c.number_of.ensures) says)
+    let is = c.decision_prepared.ensures in
+    written_says c.args.robot.now.rules c.args.target.now _ _ c.requires is.verdict is.line _
+    c.number_of.ensures (search rules)
