@@ -151,6 +151,20 @@ static int64_t robot_query(struct robot *shared, const char *url, size_t url_len
     return status == ROBOTS_OK ? result : NO_RESULT - status;
 }
 
+static int32_t robot_query_within(struct robot *shared, const char *url, size_t url_len, uint64_t budget, int64_t *result)
+{
+    if (shared->robot == NULL)
+        return ROBOTS_OVERLONG_RULE;
+    LOCKED(shared, robots_query_within(shared->robot, url, url_len, budget, result));
+}
+
+static int32_t robot_cost(struct robot *shared, size_t length, uint64_t *cost)
+{
+    if (shared->robot == NULL)
+        return ROBOTS_OVERLONG_RULE;
+    LOCKED(shared, (*cost = robots_cost(shared->robot, length), ROBOTS_OK));
+}
+
 static int32_t robot_query_many(struct robot *shared, const char *urls, size_t urls_len, int64_t *results, size_t results_len)
 {
     if (shared->robot == NULL)

@@ -127,6 +127,7 @@ def check_texts():
     assert robots.verdict("/a", "FerrisBot") == OWN_GROUP
     for _ in range(2):
         assert robots.verdict(Text("/a"), Text("other")) == GROUP_OF_ALL and robots.verdict("/a", "FerrisBot") == OWN_GROUP
+        assert robots.verdict_within(Text("/a"), Text("other"), robots.cost(2, "other")) == GROUP_OF_ALL
         assert robots.verdicts(Texts(map(Text, ["/a", "/", "/a"])), Text("other")) == [GROUP_OF_ALL, Verdict(True, None), GROUP_OF_ALL]
         assert robots.matrix(Texts([Text("/a"), "/a\n"]), Texts([Text("other"), "FerrisBot"])) == [[GROUP_OF_ALL] * 2, [OWN_GROUP] * 2]
     assert Matrix(Texts([Text("/a"), "/"]), [Text("other")]).denials(FILE) == [("other", "/a", 4)]

@@ -12,7 +12,7 @@ import package
 import pytest
 
 import texting_robots
-from texting_robots import FILE_LIMIT, LIFETIME, REDIRECT_LIMIT, AgentError, Matrix, Meaning, OverlongRuleError, Robots, RobotsError, UrlError
+from texting_robots import FILE_LIMIT, LIFETIME, REDIRECT_LIMIT, AgentError, Matrix, Meaning, OverlongRuleError, Robots, RobotsError, TooCostlyError, UrlError
 from texting_robots import Verdict, meaning, product_token, robots_url
 
 SHOP = b"""\
@@ -62,6 +62,26 @@ def test_many_urls_may_be_few():
     assert shop.matrix([], ["SlowBot", "*"]) == [[], []]
     assert shop.matrix(["/"], []) == []
     assert shop.matrix({"/": 1}, iter(["a\nb", "SlowBot"])) == [[Verdict(True, None)], [Verdict(False, 7)]]
+
+
+def test_verdicts_within_a_budget():
+    """The longer rule is tried first, and no byte is compared if it is longer than the URL's path."""
+    shop = Robots(SHOP)
+    cases = [("/search/tea", 9, Verdict(False, 2)), ("/search/help", 13, Verdict(True, 3)), ("/search/a", 9, Verdict(False, 2)), ("", 2, Verdict(True, None))]
+    for url, least, verdict in cases:
+        assert shop.verdict_within(f"https://example.com{url}", "FerrisBot", least) == shop.verdict(url, "FerrisBot") == verdict
+        with pytest.raises(TooCostlyError, match="too costly") as raised:
+            shop.verdict_within(url, "FerrisBot", least - 1)
+        assert isinstance(raised.value, RobotsError)
+    assert shop.verdict_within("/robots.txt", "SlowBot", 0) == Verdict(True, None)
+    assert [shop.cost(length, "FerrisBot") for length in (0, 6, 7, 11, 12, 2**64 - 1)] == [2, 2, 9, 9, 21, 21]
+    assert [Robots(b"User-agent: *\nDisallow: /*a\nAllow: /b$").cost(length, "a") for length in (0, 2, 2**64 - 1)] == [2, 8, 2**64 - 1]
+    for call in [lambda: Robots(OVERLONG).cost(1, "LongBot"), lambda: Robots(OVERLONG).verdict_within("/", "LongBot", 99)]:
+        with pytest.raises(OverlongRuleError):
+            call()
+    for wrong in [-1, 2**64]:
+        with pytest.raises(OverflowError):
+            shop.verdict_within("/", "FerrisBot", wrong)
 
 
 def test_denials():

@@ -140,7 +140,7 @@ CALLER = """
 from array import array
 from mmap import mmap
 from typing import List, Optional, Tuple, Type
-from texting_robots import LIFETIME, REDIRECT_LIMIT, AgentError, Matrix, Meaning, OverlongRuleError, Robots, RobotsError, UrlError
+from texting_robots import LIFETIME, REDIRECT_LIMIT, AgentError, Matrix, Meaning, OverlongRuleError, Robots, RobotsError, TooCostlyError, UrlError
 from texting_robots import Verdict, meaning, product_token, robots_url
 
 class Own(Robots):
@@ -156,9 +156,10 @@ denied: List[Tuple[str, str, Optional[int]]] = Matrix({"/"}, ["a"]).denials(b"")
 names: List[str] = robots.sitemaps + robots.agents
 own: Own = Own.parse("")
 named: bool = own.is_named("a")
+within: Verdict = own.verdict_within("/", "a", own.cost(1, "a"))
 meant: Meaning = meaning(None, redirects=REDIRECT_LIMIT, has_location=Own.deny_all().allowed("/", "a"))
 seconds: int = LIFETIME
-errors: List[Type[RobotsError]] = [AgentError, OverlongRuleError, UrlError]
+errors: List[Type[RobotsError]] = [AgentError, OverlongRuleError, TooCostlyError, UrlError]
 Robots(bytearray()), Robots(memoryview(b"")), Robots.parse(mmap(-1, 1)), Matrix({"/"}, ["a"]).denials(array("b"))
 """
 

@@ -12,6 +12,8 @@ pub enum Error {
         /// The number of the first line with such a rule, counted from 1.
         line: usize,
     },
+    /// A query gave up, since it might have cost more than its budget.
+    TooCostly,
     /// An allocation failed, or a URL has 4 GiB or more.
     OutOfMemory,
     /// The text isn't a URL of http or https with a host, so it has no robots.txt file.
@@ -24,6 +26,7 @@ impl fmt::Display for Error {
             Error::OverlongRule { line } => {
                 write!(f, "the rule in line {line} is too long: the file can't be used for this crawler")
             }
+            Error::TooCostly => f.write_str("the query is too costly for its budget"),
             Error::OutOfMemory => f.write_str("out of memory"),
             Error::NoAddress => f.write_str("the URL has no robots.txt file"),
         }
@@ -37,6 +40,7 @@ pub(crate) fn check(status: i32, line: usize) -> Result<(), Error> {
     match status {
         sys::ROBOTS_OK => Ok(()),
         sys::ROBOTS_OVERLONG_RULE => Err(Error::OverlongRule { line }),
+        sys::ROBOTS_TOO_COSTLY => Err(Error::TooCostly),
         sys::ROBOTS_OUT_OF_MEMORY => Err(Error::OutOfMemory),
         sys::ROBOTS_NO_ADDRESS => Err(Error::NoAddress),
         other => unreachable!("robots.h: status {other}"),

@@ -112,6 +112,19 @@ impl Robot {
         Ok(result)
     }
 
+    pub(crate) fn query_within(&self, url: &str, budget: u64) -> Result<i64, Error> {
+        let mut result = 0;
+        let status = unsafe {
+            sys::robots_query_within(self.0.lock().as_ptr(), url.as_ptr().cast(), url.len(), budget, &mut result)
+        };
+        check(status, 0)?;
+        Ok(result)
+    }
+
+    pub(crate) fn cost(&self, len: usize) -> u64 {
+        unsafe { sys::robots_cost(self.0.lock().as_ptr(), len) }
+    }
+
     /// Another handle on the same robot.
     pub(crate) fn share(&self) -> Result<Robot, Error> {
         let mut other = ptr::null_mut();

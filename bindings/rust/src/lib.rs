@@ -78,6 +78,22 @@ impl Robot {
         self.rules.query(url).map(Decision::of)
     }
 
+    /// As [`Robot::decision`], for a file that may be hostile. Each rule that is tried costs one, and each comparison of a byte of the URL
+    /// one. Before a rule that might cost more than is left of the budget, it gives up.
+    ///
+    /// # Errors
+    ///
+    /// [`Error::TooCostly`] and [`Error::OutOfMemory`].
+    pub fn decision_within(&self, url: &str, budget: u64) -> Result<Decision, Error> {
+        self.rules.query_within(url, budget).map(Decision::of)
+    }
+
+    /// With so much as a budget, [`Robot::decision_within`] doesn't give up for any URL whose path, query and fragment, escaped, have this
+    /// length. It is at most `u64::MAX`.
+    pub fn cost(&self, len: usize) -> u64 {
+        self.rules.cost(len)
+    }
+
     /// [`Robot::decision`] for each URL, in their order.
     ///
     /// # Errors

@@ -56,6 +56,18 @@ fn decisions() {
 }
 
 #[test]
+fn decisions_within_a_budget() {
+    let ferris = robot("FerrisBot", SHOP);
+    // the longer rule is tried first, and no byte is compared if it is longer than the URL's path
+    for (url, least, decision) in [("/search/tea", 9, denied(2)), ("/search/help", 13, allowed(3)), ("", 2, ALLOWED)] {
+        assert_eq!(ferris.decision_within(url, least), Ok(decision));
+        assert_eq!(ferris.decision_within(url, least - 1), Err(Error::TooCostly));
+    }
+    assert_eq!([0, 6, 7, 12, usize::MAX].map(|len| ferris.cost(len)), [2, 2, 9, 21, 21]);
+    assert_eq!(robot("FerrisBot", "Disallow: *\nDisallow: /*a").cost(usize::MAX), u64::MAX);
+}
+
+#[test]
 fn delays() {
     assert_eq!(robot("FerrisBot", SHOP).delay, Some(Duration::from_micros(2_500_000)));
     assert_eq!(robot("SlowBot", SHOP).delay, Some(Duration::from_micros(u64::MAX)));

@@ -31,7 +31,7 @@ _LAST_FAILURE: Final = _NO_RESULT - lib.ROBOTS_OVERLONG_RULE
 
 
 class RobotsError(Exception):
-    """The base of this package's errors: `OverlongRuleError`, `AgentError` and `UrlError`."""
+    """The base of this package's errors: `OverlongRuleError`, `TooCostlyError`, `AgentError` and `UrlError`."""
 
 
 class OverlongRuleError(RobotsError):
@@ -46,6 +46,10 @@ class OverlongRuleError(RobotsError):
 
     def __str__(self) -> str:
         return f"the rule in line {self.line} is too long: the file can't be used for this crawler"
+
+
+class TooCostlyError(RobotsError):
+    """`Robots.verdict_within` gave up, since the verdict might have cost more than its budget."""
 
 
 class AgentError(RobotsError, TypeError, ValueError):
@@ -130,6 +134,22 @@ class Robots:
     def verdict(self, url: str, agent: str) -> Verdict:
         """Whether the crawler may fetch the URL, and the line that decides it."""
         return _verdict(self._result(url, agent))
+
+    def verdict_within(self, url: str, agent: str, budget: int) -> Verdict:
+        """The verdict for a URL, for a file that may be hostile. Each rule that is tried costs one, and each comparison of a byte of the URL
+        one; before a rule that might cost more than is left of the budget, from 0 to 2**64 - 1, it raises `TooCostlyError`."""
+        robot = self._site.robot(agent)
+        text, result = str.encode(url), ffi.new("int64_t *")
+        _check(lib.robot_query_within(robot, text, len(text), budget, result), robot)
+        return _verdict(result[0])
+
+    def cost(self, length: int, agent: str) -> int:
+        """With so much as a budget, `verdict_within` raises no `TooCostlyError` for any URL whose path, query and fragment, escaped, have
+        this length. It is at most 2**64 - 1."""
+        robot = self._site.robot(agent)
+        cost = ffi.new("uint64_t *")
+        _check(lib.robot_cost(robot, length, cost), robot)
+        return int(cost[0])
 
     def verdicts(self, urls: Iterable[str], agent: str) -> list[Verdict]:
         """The verdict for each URL, in their order: faster than one by one."""
@@ -336,6 +356,8 @@ def _check(status: int, robot: CData | None = None, url: str = "") -> None:
         raise MemoryError
     if status == lib.ROBOTS_NO_ADDRESS:
         raise UrlError(f"{url!r} is no URL of http or https with a host, so it has no robots.txt file")
+    if status == lib.ROBOTS_TOO_COSTLY:
+        raise TooCostlyError("the verdict is too costly for its budget")
     if status == lib.ROBOTS_OVERLONG_RULE and robot is not None:
         raise OverlongRuleError(lib.robot_overlong_line(robot))
     raise AssertionError(f"robots.h: status {status}")

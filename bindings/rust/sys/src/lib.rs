@@ -15,6 +15,7 @@ pub const ROBOTS_NO_DELAY: i32 = -4;
 pub const ROBOTS_NO_ADDRESS: i32 = -5;
 pub const ROBOTS_OVERLONG_RULE: i32 = -6;
 pub const ROBOTS_INVALID_ENDS: i32 = -7;
+pub const ROBOTS_TOO_COSTLY: i32 = -8;
 
 pub const ROBOTS_PARSE: i32 = 0;
 pub const ROBOTS_FOLLOW: i32 = 1;
@@ -47,6 +48,9 @@ extern "C" {
     pub fn robots_open(agent: *const c_char, agent_len: usize, file: *const c_void, file_len: usize,
                        robot: *mut *mut robots, line: *mut usize) -> i32;
     pub fn robots_query(robot: *const robots, url: *const c_char, url_len: usize, result: *mut i64) -> i32;
+    pub fn robots_query_within(robot: *const robots, url: *const c_char, url_len: usize, budget: u64,
+                               result: *mut i64) -> i32;
+    pub fn robots_cost(robot: *const robots, length: usize) -> u64;
     pub fn robots_query_many(robot: *const robots, urls: *const c_char, urls_len: usize,
                              results: *mut i64, results_len: usize) -> i32;
     pub fn robots_query_batch(robot: *const robots, urls: *const c_void, urls_len: usize, ends: *const usize, n: usize,
