@@ -103,7 +103,7 @@ WORDS = {"space", "comma", "tag", "invisible", "="}  # each in one message of a 
 def level_and_text(name, detail=""):
     """The level and message of a warning. Its detail is the field name that may be meant; the level of one before the last; a word of its
     message; how many rules it is about; the line of another rule; the kind of a needless rule, possibly with such a line; the name of a
-    crawler that may be meant; the name of one of several crawlers, in quotes, and that of the group that its vendor applies, if it isn't
+    crawler that may be meant, possibly after a name in quotes; the name of one of several crawlers, in quotes, and that of the group that its vendor applies, if it isn't
     Googlebot; of `closes-everything` the level, such a name, and how many other crawlers there are, if there are some; or else the URL that
     the warning is about."""
     if name == "needless-rule":
@@ -123,7 +123,8 @@ def level_and_text(name, detail=""):
     if name in OF_A_LINE:
         return level, f"{text} (see line {detail})"
     if name == "misspelled-name":
-        return level, f"{text} (did you mean {detail}?)"
+        agent, meant = re.fullmatch(r"('.*' )?(\S+)", detail).groups()
+        return level, f"{f'crawler {agent[:-1]}: ' if agent else ''}{text} (did you mean {meant}?)"
     if name in OF_GROUP:
         detail, group = re.fullmatch(r"('.*')? ?([^' ]+)?", detail).groups()
         text += f" (see the group of {group or 'Googlebot'})"
@@ -154,26 +155,25 @@ def counted(counts):
 
 def warning_lines(warnings, file="robots.txt"):
     """The lines for such warnings: notes about lines with one message are one; of each name and level the first twenty, and how many more
-    there are; and how many of each level there are."""
+    there are, but all `closes-everything`; and how many of each level there are."""
     joined, met = [], {}
     for warning in warnings:
         line, name, level, text = parts_of(warning)
-        key = (name, "" if name == "closes-everything" else text)
-        if level == "note" and line and "(see line" not in text:
-            met.setdefault(key, []).append(line)
-            if len(met[key]) > 1:
+        if level == "note" and line and "(see line" not in text and name != "closes-everything":
+            met.setdefault((name, text), []).append(line)
+            if len(met[name, text]) > 1:
                 continue
-            joined.append((warning, name, level, met[key]))
+            joined.append((warning, name, level, met[name, text]))
         else:
             joined.append((warning, name, level, [line]))
     shown, counts = [], {}
     for warning, name, level, lines in joined:
         kind = level, name
         counts[kind] = counts.get(kind, 0) + 1
-        shown += [warning_line(warning, file, lines[1:])] * (counts[kind] <= 20)
+        shown += [warning_line(warning, file, lines[1:])] * (counts[kind] <= 20 or name == "closes-everything")
         if counts[kind] == 21:  # the numbers are in the order of these
             counts[kind] = counts.pop(kind)
-    more = [f"{file}: {level}: and {count - 20} more [{name}]\n" for (level, name), count in counts.items() if count > 20]
+    more = [f"{file}: {level}: and {count - 20} more [{name}]\n" for (level, name), count in counts.items() if count > 20 and name != "closes-everything"]
     total = [f"{file}: {counted([parts_of(warning)[2] for warning in warnings])}\n"] if warnings else []
     return "".join(shown + more + total)
 

@@ -217,6 +217,14 @@ def test_group_that_a_vendor_applies(tmp_path, text, line):
     assert outcome(check(tmp_path, text, robots=VENDORS)) == expected
 
 
+@pytest.mark.parametrize("agent", ["Googlebot", "Googlebot-News", "Applebot"])
+def test_group_of_a_name_with_a_version(tmp_path, agent):
+    """A vendor reads the letters that the name begins with, and this program compares the whole name."""
+    line = f"{agent} must be allowed /, but its vendor applies the group Googlebot/2.1 to it, and line 2 denies it"
+    result = check(tmp_path, f"allow {agent} /".encode(), robots=b"User-agent: Googlebot/2.1\nDisallow: /\n")
+    assert outcome(result) == (1, f"expect.txt:1: {line}\n", "")
+
+
 @pytest.mark.parametrize("text, line", NAMES_IN_QUOTES.values(), ids=NAMES_IN_QUOTES)
 def test_name_in_quotes(tmp_path, text, line):
     expected = (1, f"expect.txt:1: {line}\n", "") if line else (0, "1 expectation holds\n", "")

@@ -39,10 +39,10 @@ with_names names (line ∷ lines) = with_names (with_name names line) lines
 abbrev pub crawlers_in : List LineValue → List (List ℕ)
 crawlers_in lines = with_names (codes "*" ∷ []) lines
 
--- the crawlers that are given, or if none is, those that the lines name
+-- the crawlers that are given, each once, or if none is, those that the lines name
 abbrev pub agents_requested : List (List ℕ) → List LineValue → List (List ℕ)
 agents_requested [] lines = crawlers_in lines
-agents_requested (agent ∷ agents) lines = agent ∷ agents
+agents_requested (agent ∷ agents) lines = with_names [] (map UserAgent (agent ∷ agents))
 
 -- ---- what a file means for a crawler
 
@@ -148,7 +148,7 @@ abbrev pub labels_requested : RequestValue → List ℕ → List Label
 labels_requested requested file = labels_for (labeling_agent requested.agent) (lines_read file)
 
 -- all warnings about the file and the request, and then those about the needless rules that were found, and
--- these about sitemaps
+-- those about sitemaps
 abbrev pub warnings_found : RequestValue → List ℕ → List Label → List NeedlessRule → List WarningValue
     → List WarningValue
 warnings_found requested file labels needless sitemaps =

@@ -8,7 +8,7 @@ use Rattle.audit_core.specs.Fault.{IsArgument}
 use Rattle.audit_core.specs.declared.fault.Fault.TheVariants.{Memory}
 use Rattle.audit_core.specs.declared.fault.Flaw.TheVariants as flaw
 
--- the name has a dot and a digit, which are those of a version, as in `Googlebot.2`
+-- the name has a dot and a digit, as with a version: `Googlebot.2`
 abbrev pub has_version : List ℕ → Bool
 has_version name = has (byte ".") name && list_any is_ascii_digit name
 

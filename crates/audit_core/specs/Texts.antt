@@ -56,8 +56,8 @@ group_line agent group =
     line_from (Part (label (codes "group: ") refl) (group_value agent group)) refl
     (group_reason agent group ∷ group_end agent group ∷ [])
 
--- the word for what a crawler may fetch, if that is everything or nothing; if the file is rejected for it, it
--- may fetch nothing, but not because of its rules
+-- the word for what a crawler may fetch, if that is everything or nothing; if the file is rejected for it,
+-- there are no verdicts, and nothing is said
 abbrev pub may_fetch : (rejected : Option ℕ) → Reach → Option Fixed
 may_fetch None reach.Everything = Some (record { text = codes "everything"; safe = refl })
 may_fetch None reach.Nothing = Some (record { text = codes "nothing"; safe = refl })

@@ -1,7 +1,7 @@
 //! The crawlers that a report covers: those that were requested, or `*` and each that the file names.
 ghost use Rattle.std.specs.Prelude.{◌≡◌, ◌++◌, ◌∷◌, [], IfOk, OnOk, if◌then◌else◌, map};
-ghost use Rattle.texting_robots.specs.Callers.{by_value, label_by_value};
-ghost use Rattle.audit_core.specs.Audit.{agents_requested, crawlers_in};
+ghost use Rattle.texting_robots.specs.Callers.{UserAgent, by_value, label_by_value};
+ghost use Rattle.audit_core.specs.Audit.{agents_requested, crawlers_in, with_names};
 ghost use Rattle.robots_warnings.specs.File.{lines_of};
 ghost use Rattle.audit_core.specs.Internal.Agents.{AddsAgent};
 
@@ -58,7 +58,26 @@ fn crawlers_in<'a>(alloc: Global, labels: &[LabeledLine<'a>]) -> Result<Vec<&'a 
     Ok(names)
 }
 
-/// The crawlers that a report covers: the given ones, or if there is none `*` and each that the lines name.
+/// The given crawlers, each once.
+fn each_once<'a>(alloc: Global, given: &[&'a str]) -> Result<Vec<&'a str>, AllocError>
+    ensures { IfOk result (λ names. map (λ name. name.now) names.items
+        ≡ with_names [] (map UserAgent (map (λ name. name.now) given.now))) }
+{
+    let mut met = BTreeSet::new(alloc);
+    let mut names = Vec::new(alloc);
+    for name in given {
+        add_agent(
+            alloc,
+            &mut met,
+            &mut names,
+            Line::UserAgent(name.as_bytes()),
+        )?;
+    }
+    Ok(names)
+}
+
+/// The crawlers that a report covers: the given ones, each once, or if there is none `*` and each that the
+/// lines name.
 pub fn agents_requested<'a>(
     alloc: Global,
     given: &[&'a str],
@@ -70,6 +89,6 @@ pub fn agents_requested<'a>(
     if given.is_empty() {
         crawlers_in(alloc, labels)
     } else {
-        given.to_vec(alloc)
+        each_once(alloc, given)
     }
 }

@@ -27,11 +27,11 @@ pub(crate) enum Judgment {
 
 /// Which group the vendor of a crawler applies.
 #[derive(Drop)]
-pub(crate) enum AtVendor {
+pub(crate) enum AtVendor<'a> {
     /// The one that applies here.
     Same,
     /// The group with this name, and the file says this about it.
-    Group(&'static str, Judgment),
+    Group(&'a str, Judgment),
     /// No group, so everything is allowed.
     Nobody,
 }
@@ -41,7 +41,7 @@ pub(crate) enum AtVendor {
 pub(crate) struct Checked<'a> {
     pub(crate) expectation: Expectation<'a>,
     pub(crate) judgment: Judgment,
-    pub(crate) vendor: AtVendor,
+    pub(crate) vendor: AtVendor<'a>,
 }
 
 /// The decisions of a file on a URL for a crawler with this robot, where `marks` has the empty Disallows.
@@ -89,14 +89,14 @@ fn judgment_on(
 }
 
 /// What the documentation of a crawler's vendor changes for a URL.
-fn at_vendor(
+fn at_vendor<'a>(
     alloc: Global,
     agent: &str,
     url: &str,
     file: &[u8],
-    site: &Site,
+    site: &'a Site,
     marks: &[bool],
-) -> Result<AtVendor, Fault>
+) -> Result<AtVendor<'a>, Fault>
     requires site { site.now ≡ take file_limit file.now }
     requires marks { marks.now ≡ marks_of (bodies_read file.now) }
     ensures ok { IfOk result (IsAtVendor file.now agent.now url.now) }
@@ -119,7 +119,7 @@ pub(crate) fn checked_on<'a>(
     expectation: &Expectation<'a>,
     reading: &Reading,
     file: &[u8],
-    site: &Site,
+    site: &'a Site,
     marks: &[bool],
 ) -> Result<Checked<'a>, Fault>
     requires reading { IsReading expectation.now.agent.now file.now reading.now }
@@ -165,7 +165,7 @@ fn fails_at(allowed: bool, judgment: &Judgment) -> bool
 }
 
 /// Whether the same is so of the group that the vendor applies, if it is another one.
-fn fails_at_vendor(allowed: bool, vendor: &AtVendor) -> bool
+fn fails_at_vendor(allowed: bool, vendor: &AtVendor<'_>) -> bool
     ensures { result ≡ fails_at_vendor allowed vendor.now }
 {
     match vendor {

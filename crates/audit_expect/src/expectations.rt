@@ -225,7 +225,7 @@ fn push_vendor(
     text: &mut String,
     url: &str,
     allowed: bool,
-    vendor: &AtVendor,
+    vendor: &AtVendor<'_>,
 ) -> Result<(), Fault>
     ensures ok { OnOk result (string_bytes text.new ≡ string_bytes text.old
         ++ parts_text (vendor_parts url.now allowed vendor.now)) }

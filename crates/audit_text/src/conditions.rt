@@ -26,7 +26,7 @@ static CONDITIONS: [(&str, &str); 62] = [
     ("nul-ends-line",
         "the first 512,000 bytes have a NUL byte, and the file doesn't look like UTF-16"),
     ("closes-everything",
-        "a Disallow of a crawler of the report is /, or a star and then only stars and $, possibly after /, and each Allow of the crawler that is at least as long is /robots.txt or the path of a sitemap of the file, with or without $; the first such line of each crawler counts; it is a warning if one of its crawlers is *, has no group of its own, or is that of a large search engine"),
+        "a Disallow of a crawler of the report is /, or a star and then only stars and $, possibly after /, and each Allow of the crawler that is at least as long is /robots.txt or the path of a sitemap of the file, with or without $, or matches no path because of its start or a $ inside; the first such line of each crawler counts, unless its vendor applies another group; it is a warning if one of its crawlers is *, has no group of its own, or is that of a large search engine, possibly with a version"),
     // a URL
     ("url-not-normal",
         "the path and the query that crawlers request have a byte other than letters, digits, % and -._~:/?[]@!&'()+,;=, an escape with lowercase digits or of a letter, a digit or one of -._~, or a % that begins no escape"),
@@ -93,7 +93,7 @@ static CONDITIONS: [(&str, &str); 62] = [
         "the value of a sitemap is an http(s) URL that can be parsed, and a rule for * denies its path and query; not if the whole site is closed to * or the file is rejected for it; its host isn't compared with that of the file, which isn't known; the number is the line of that rule"),
     // any line
     ("one-line",
-        "after the first colon of a line and before a comment there is User-agent: anywhere, or Allow:, Disallow:, Sitemap: or Crawl-delay: after a space, a tab, a star, a literal \\n or \\r, or, with a capital letter, directly after a letter or digit"),
+        "after the first colon of a line and before a comment there is User-agent: anywhere, or Allow:, Disallow:, Sitemap: or Crawl-delay: after a space, a tab, a star, a literal \\n or \\r, or, with a capital letter, directly after a letter, a digit, /, $, ? or ="),
     ("control-in-comment", "a comment has a byte below 0x20 other than a tab, or isn't UTF-8"),
     ("cut-line",
         "the limit of 512,000 bytes cuts this line, which has no other warning about its text then"),
@@ -117,7 +117,7 @@ static CONDITIONS: [(&str, &str); 62] = [
     ("repeated-rule",
         "the same rule is above it below the same User-agent lines; an empty Disallow counts as the Allow of / that it means here, so keep an Allow of / below one if there is a Disallow of /, since other crawlers need it"),
     ("misspelled-name",
-        "the name in a User-agent line is none of the about hundred names that this program knows, but begins with the same letter as one of them and differs from it in one byte, or in two if that has at least nine, or it is one of some wrong names such as ChatGPT, OpenAI and all"),
+        "the name in a User-agent line, or that of a crawler of the report that the file doesn't name, is none of the about hundred names that this program knows, but it, or the letters, _ and - that it begins with, begins with the same letter as one of them and differs from it in one byte if that has at least five, or in two if it has at least nine, where two bytes that are swapped count as one; or it is one of some wrong names such as ChatGPT, OpenAI and all"),
     ("googlebot-group",
         "a crawler of the report is known to get the group of another one from its vendor, if it has none of its own, and the file names that one, but not this one; a line names a crawler if the letters, _ and - that its value begins with are the name"),
     ("google-ignores-star",

@@ -1,10 +1,12 @@
 -- Rules that leave nothing, or nearly nothing, of a site to a crawler.
 use Rattle.std.specs.Prelude.{ℕ, ◌==◌, Bool, false, not, ◌||◌, ◌&&◌, List, [], ◌∷◌, ◌++◌, Option, Some, None}
 use Rattle.std.specs.Prelude.{bytes_eq, codes, filter, if◌then◌else◌, is_some, length, nat_le, nat_lt}
-use Rattle.std.specs.{List.list_all, List.filter_map, List.list_any, Str.byte, Str.str_eq_ignore_ascii_case}
+use Rattle.std.specs.List.{before_first, filter_map, list_all, list_any}
+use Rattle.std.specs.Str.{byte, str_eq_ignore_ascii_case}
 use Rattle.texting_robots.specs.Callers.{LineValue, PlacedRule, is_named, placed_rules, prepared, robots_file}
 use Rattle.texting_robots.specs.Callers.{sitemaps_in}
-use Rattle.robots_warnings.specs.{Conflicts.first_line, Crawlers.other_group}
+use Rattle.robots_warnings.specs.{Conflicts.first_line, Crawlers.other_group, Rules.begins_oddly}
+use Rattle.robots_warnings.specs.{Rules.has_dollar_inside, Tokens.ends_token}
 use Rattle.robots_warnings.specs.declared.closed.TheConstants.{SEARCH_ENGINES}
 use Rattle.robots_warnings.specs.declared.closed.Reach.{Reach}
 use Rattle.robots_warnings.specs.declared.closed.Reach.TheVariants.{Everything, Nothing, Part}
@@ -38,10 +40,16 @@ is_whole_site pattern = is_anything pattern || is_root (without_stars pattern)
 abbrev pub is_closing : PlacedRule → Bool
 is_closing placed = not placed.rule.1 && is_whole_site placed.rule.0
 
--- the rule is an Allow that is at least as long as this pattern, and whose own pattern isn't exempt
+-- the pattern matches no path: it has no slash or star at its start, or a `$` that isn't at its end
+abbrev pub matches_no_path : List ℕ → Bool
+matches_no_path pattern = begins_oddly pattern || has_dollar_inside pattern
+
+-- the rule is an Allow that is at least as long as this pattern, and whose own pattern isn't exempt and may
+-- match a path
 abbrev pub is_rival : (is_exempt : List ℕ → Bool) → List ℕ → PlacedRule → Bool
 is_rival is_exempt pattern placed =
-    (placed.rule.1 && not (is_exempt placed.rule.0)) && nat_le (length pattern) (length placed.rule.0)
+    (placed.rule.1 && not (is_exempt placed.rule.0 || matches_no_path placed.rule.0))
+    && nat_le (length pattern) (length placed.rule.0)
 
 -- the rule closes the site: it is a Disallow of the whole site, and has no rival among these rules
 abbrev pub closes : (is_exempt : List ℕ → Bool) → List PlacedRule → PlacedRule → Bool
@@ -88,9 +96,11 @@ is_exempt lines pattern = list_any (is_literally pattern) (opened_paths lines)
 
 -- ---- `closes-everything`
 
--- the line of the first rule that closes the site to the crawler
+-- the line of the first rule that closes the site to the crawler; none if its vendor applies another group
 abbrev pub line_closing : List LineValue → List ℕ → Option ℕ
-line_closing lines agent = closing_line (is_exempt lines) (placed_rules agent lines)
+line_closing lines agent =
+    if is_some (other_group lines agent) then None
+    else closing_line (is_exempt lines) (placed_rules agent lines)
 
 abbrev pub is_number : ℕ → Option ℕ → Bool
 is_number number None = false
@@ -100,9 +110,9 @@ is_number number (Some line) = line == number
 abbrev pub closed_at : List LineValue → List (List ℕ) → ℕ → List (List ℕ)
 closed_at lines agents number = filter (λ agent. is_number number (line_closing lines agent)) agents
 
--- the crawler is `*`, or gets the rules of `*`, as no line names it, or is that of a large search engine
+-- the crawler is `*`, or no line names it, or it is that of a large search engine, possibly with a version
 abbrev pub is_major : List LineValue → List ℕ → Bool
 is_major lines agent =
     bytes_eq agent (codes "*")
     || (not (is_named agent lines)
-    || list_any (λ name. str_eq_ignore_ascii_case name.now agent) SEARCH_ENGINES)
+    || list_any (λ name. str_eq_ignore_ascii_case name.now (before_first ends_token agent)) SEARCH_ENGINES)

@@ -146,14 +146,15 @@ abbrev pub begins_any_field : List ℕ → Bool
 begins_any_field text = list_any (λ row. begins_field row.0.now text) DIRECTIVES
 
 -- the text without what may be the end of a line before another one was joined to it: a space, a tab, the
--- star of `User-agent: *`, a letter or digit before a capital letter, or a literal `\n` or `\r`; empty if it
--- starts with none of these
+-- star of `User-agent: *`, a letter, digit, `/`, `$`, `?` or `=` before a capital letter, or a literal `\n`
+-- or `\r`; empty if it starts with none of these
 abbrev pub after_seam : List ℕ → List ℕ
 after_seam text =
     let first = slice_index text 0 in
     let second = slice_index text 1 in
     if (is_space_or_tab first || first == byte "*")
-    || (is_ascii_alphanumeric first && is_ascii_uppercase second) then drop 1 text
+    || ((is_ascii_alphanumeric first || has first (codes "/$?=")) && is_ascii_uppercase second)
+    then drop 1 text
     else (if first == byte "\\" && (second == byte "n" || second == byte "r") then drop 2 text else [])
 
 -- another line seems to begin: with `User-agent` and a colon, or, after one of these, with any of the usual

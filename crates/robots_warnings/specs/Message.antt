@@ -11,6 +11,7 @@ use Rattle.robots_warnings.specs.contracts.table.Cause.{the_type}
 use Rattle.robots_warnings.specs.declared.table.Cause.{Cause}
 use Rattle.robots_warnings.specs.declared.table.Cause.TheVariants.{ClosesEverything, ClosesSite}
 use Rattle.robots_warnings.specs.declared.table.Cause.TheVariants.{GoogleIgnoresStar, GooglebotGroup}
+use Rattle.robots_warnings.specs.declared.table.Cause.TheVariants.{MisspelledName}
 use Rattle.robots_warnings.specs.declared.warning.Detail.{Detail}
 use Rattle.robots_warnings.specs.declared.warning.Detail.TheVariants.{Group, Line, Meant, Others, Rules}
 use Rattle.robots_warnings.specs.Crawlers.{row_at}
@@ -50,6 +51,7 @@ is_about_crawler ClosesSite = true
 is_about_crawler ClosesEverything = true
 is_about_crawler GooglebotGroup = true
 is_about_crawler GoogleIgnoresStar = true
+is_about_crawler MisspelledName = true
 is_about_crawler _ = false
 
 -- what comes before the URL or the crawler's name

@@ -14,7 +14,7 @@ use Rattle.robots_warnings.specs.declared.table.Cause.TheVariants.{MisspelledNam
 use Rattle.robots_warnings.specs.declared.table.Cause.TheVariants.{RepeatedRule, ReplacesStar}
 use Rattle.robots_warnings.specs.declared.warning.Detail.{Detail}
 use Rattle.robots_warnings.specs.declared.warning.Detail.TheVariants.{Group, Line, Meant, Others, Rules}
-use Rattle.robots_warnings.specs.Crawlers.{Row, crawlers, gets_other, is_given, meant_in}
+use Rattle.robots_warnings.specs.Crawlers.{Row, crawlers, gets_other, is_given, meant, meant_in}
 use Rattle.robots_warnings.specs.Checks.{Check, file_checks, line_checks, position_checks}
 use Rattle.robots_warnings.specs.Checks.{is_in_scope_of, url_checks}
 use Rattle.robots_warnings.specs.Positions.{first_delay, last_group, preceding_with, sole_name}
@@ -136,18 +136,27 @@ crawler_warnings is_empty agents lines labels = flat_map
     (λ label. rule_warnings (conflict is_empty agents lines) (overruled is_empty agents lines) label.number)
     labels
 
--- this warning about the line with this number, if there is a known crawler that may be meant in it
-abbrev pub warned_of_name : ℕ → Option ℕ → List WarningValue
-warned_of_name number None = []
-warned_of_name number (Some crawler) =
-    record { line = Some number; cause = MisspelledName; about = None; detail = Some (Meant crawler) } ∷ []
+-- this warning about a line or a name, if there is a known crawler that may be meant
+abbrev pub warned_of_name : (line : Option ℕ) → (about : Option (List ℕ)) → (meant : Option ℕ)
+    → List WarningValue
+warned_of_name line about None = []
+warned_of_name line about (Some crawler) =
+    record { line = line; cause = MisspelledName; about = about; detail = Some (Meant crawler) } ∷ []
 
 -- warnings about the names in user-agent lines
 abbrev pub name_warning : Label → List WarningValue
-name_warning label = warned_of_name label.number (meant_in label.line)
+name_warning label = warned_of_name (Some label.number) None (meant_in label.line)
 
 abbrev pub name_warnings : List Label → List WarningValue
 name_warnings labels = flat_map name_warning labels
+
+-- warnings about the names of those of these crawlers that the file doesn't name
+abbrev pub agent_warning : List LineValue → List ℕ → List WarningValue
+agent_warning lines agent =
+    if is_named agent lines then [] else warned_of_name None (Some agent) (meant agent)
+
+abbrev pub agent_warnings : List LineValue → List (List ℕ) → List WarningValue
+agent_warnings lines agents = flat_map (agent_warning lines) agents
 
 -- the reason and the end of the message about a crawler, at this index, to which its vendor applies the group
 -- with this name, or none if it is empty
@@ -186,7 +195,7 @@ group_warnings everywhere agents bodies lines labels =
     ++ (crawler_warnings (is_empty_at bodies labels) agents lines labels
     ++ (warned_at ReplacesStar (Some (Rules (star_count lines))) (replacing agents lines labels)
     ++ (warned_at RepeatedRule None (repeated everywhere labels)
-    ++ (name_warnings labels
+    ++ ((name_warnings labels ++ agent_warnings lines agents)
     ++ vendor_warnings everywhere agents lines 0 crawlers)))))
 
 -- ---- all

@@ -3,15 +3,18 @@ ghost use Rattle.std.specs.Prelude.{◌≡◌, ◌++◌, ◌||◌, ◌∷◌, []
 ghost use Rattle.std.specs.Prelude.{is_some, length, map, nat_lt, option_map, slice_get, string_bytes, ℕ};
 ghost use Rattle.std.specs.{HashSet.contains_text, List.filter_map, List.list_all, List.list_any, Str.str_eq_ignore_ascii_case};
 ghost use Rattle.texting_robots.specs.Callers.{PlacedRule, by_value, file_lines, label_by_value, placed_rules, sitemaps_in};
-ghost use Rattle.robots_warnings.specs.Closed.{closed_at, closes, closing_line, is_allow, is_anything, is_closing};
+ghost use Rattle.robots_warnings.specs.Closed.{closed_at, closes, closing_line, is_allow, is_anything, is_closing, is_exempt};
 ghost use Rattle.robots_warnings.specs.Closed.{is_literally, is_major, is_number, is_rival, is_root, is_star_or_dollar};
-ghost use Rattle.robots_warnings.specs.Closed.{is_whole_site, line_closing, opened_path, reach_of, without_stars};
+ghost use Rattle.robots_warnings.specs.Closed.{is_whole_site, line_closing, matches_no_path, opened_path};
+ghost use Rattle.robots_warnings.specs.Closed.{reach_of, without_stars};
 ghost use Rattle.robots_warnings.specs.Internal.{Adds, Rules.HasExempt, Rules.IsNeeded, Rules.agents_at};
 ghost use Rattle.robots_warnings.specs.Warnings.{closing_warnings, others, site_warnings};
 
 use crate::crawlers::other_group;
+use crate::rules::{begins_oddly, has_dollar_inside};
 use crate::table::Cause;
 use crate::targets::prepared;
+use crate::tokens::token_front;
 use crate::urls::as_text;
 use crate::warning::{Detail, Found, Warning};
 use std::alloc::{AllocError, Global};
@@ -105,6 +108,13 @@ fn is_closing(rule: &SiteRule<'_>) -> bool
     !rule.is_allow && is_whole_site(rule.value.as_bytes())
 }
 
+/// Whether the pattern matches no path because of its start or of a `$`.
+fn matches_no_path(pattern: &[u8]) -> bool
+    ensures { result ≡ matches_no_path pattern.now }
+{
+    begins_oddly(pattern) || has_dollar_inside(pattern)
+}
+
 /// Raises the length that a Disallow must have at least, so that this rule is no rival of it.
 fn raise(
     alloc: Global,
@@ -119,7 +129,8 @@ fn raise(
         return Ok(());
     }
     let pattern = rule.pattern(alloc)?;
-    if !exempt.contains(pattern.as_str()) && *needed <= pattern.len() {
+    let is_rival = !exempt.contains(pattern.as_str()) && !matches_no_path(pattern.as_bytes());
+    if is_rival && *needed <= pattern.len() {
         *needed = pattern.len() + 1;
     }
     Ok(())
@@ -279,7 +290,21 @@ fn exempt_patterns(alloc: Global, site: &Site) -> Result<Patterns, AllocError>
     Ok(patterns)
 }
 
-/// The line of the first rule that closes the site to the crawler.
+/// The same, where these are the exempt patterns of the file.
+fn closing_here(
+    alloc: Global,
+    exempt: &Patterns,
+    site: &Site,
+    agent: &str,
+) -> Result<Option<usize>, AllocError>
+    requires { HasExempt (file_lines site.now) exempt.now }
+    ensures { IfOk result (λ line. line
+        ≡ closing_line (is_exempt (file_lines site.now)) (placed_rules agent.now (file_lines site.now))) }
+{
+    closing_line(alloc, exempt, site, agent)
+}
+
+/// The same; none if the crawler's vendor applies another group.
 fn line_closing(
     alloc: Global,
     exempt: &Patterns,
@@ -289,7 +314,10 @@ fn line_closing(
     requires { HasExempt (file_lines site.now) exempt.now }
     ensures { IfOk result (λ line. line ≡ line_closing (file_lines site.now) agent.now) }
 {
-    closing_line(alloc, exempt, site, agent)
+    if other_group(site, agent).is_some() {
+        return Ok(None);
+    }
+    closing_here(alloc, exempt, site, agent)
 }
 
 /// Whether a rule closes the site to the crawler.
@@ -340,18 +368,22 @@ fn closed_lines<'a>(
     Ok(closed)
 }
 
-/// Whether one of these names is that of the crawler, ASCII letters in any case.
-fn is_one_of(names: &[&str], agent: &str) -> bool
+/// Whether one of these names is this one, ASCII letters in any case.
+fn is_one_of(names: &[&str], agent: &[u8]) -> bool
     ensures { result ≡ list_any (λ name. str_eq_ignore_ascii_case name.now agent.now) names.now }
 {
-    names.iter().any(|name| name.eq_ignore_ascii_case(agent))
+    names
+        .iter()
+        .any(|name| name.as_bytes().eq_ignore_ascii_case(agent))
 }
 
-/// Whether the crawler is `*`, gets the rules of `*`, or is that of a large search engine.
+/// Whether the crawler is `*`, no line names it, or it is that of a large search engine, possibly with a version.
 fn is_major(site: &Site, agent: &str) -> bool
     ensures { result ≡ is_major (file_lines site.now) agent.now }
 {
-    agent == "*" || !site.is_named(agent) || is_one_of(&SEARCH_ENGINES, agent)
+    agent == "*"
+        || !site.is_named(agent)
+        || is_one_of(&SEARCH_ENGINES, token_front(agent.as_bytes()))
 }
 
 /// The first of these crawlers that is.

@@ -1,21 +1,23 @@
 //! Known crawlers: which group the vendor of each applies to it, and which one a similar name may mean.
-ghost use Rattle.std.specs.Prelude.{◌≡◌, [], IfOk, OnOk, map, option_map, slice_index_or, string_bytes};
+ghost use Rattle.std.specs.Prelude.{◌≡◌, ◌++◌, [], IfOk, OnOk, map, option_map, slice_index_or, string_bytes};
 ghost use Rattle.std.specs.List.{list_any, position_from};
 ghost use Rattle.std.specs.Str.{str_eq_ignore_ascii_case};
 ghost use Rattle.texting_robots.specs.Callers.{by_value, file_lines, label_by_value};
-ghost use Rattle.robots_warnings.specs.Crawlers.{crawlers, gets_other, is_given, is_known, is_line_at_vendor};
-ghost use Rattle.robots_warnings.specs.Crawlers.{is_meant, is_named_at_vendor, is_near, is_other_for};
-ghost use Rattle.robots_warnings.specs.Crawlers.{meant, meant_in, most_edits, name_for, other_group, other_in};
-ghost use Rattle.robots_warnings.specs.Crawlers.{row_at, wrong_names};
+ghost use Rattle.robots_warnings.specs.Crawlers.{crawlers, first_at_vendor, gets_other, group_at_vendor};
+ghost use Rattle.robots_warnings.specs.Crawlers.{is_given, is_known, is_meant, is_near, is_row_of, meant};
+ghost use Rattle.robots_warnings.specs.Crawlers.{meant_in, most_edits, name_at_vendor, name_for, other_group};
+ghost use Rattle.robots_warnings.specs.Crawlers.{row_at, value_at_vendor, wrong_names};
 ghost use Rattle.robots_warnings.specs.Internal.{Adds, row_value};
-ghost use Rattle.robots_warnings.specs.Warnings.{name_warning, name_warnings, vendor_warning, vendor_warnings};
+ghost use Rattle.robots_warnings.specs.Warnings.{agent_warning, agent_warnings, name_warnings, vendor_warning};
+ghost use Rattle.robots_warnings.specs.Warnings.{vendor_warnings, warned_of_name};
 
 use crate::file::first;
 use crate::table::Cause;
 use crate::tokens::token_front;
+use crate::urls::as_text;
 use crate::warning::{Detail, Found, Warning};
 use std::alloc::{AllocError, Global};
-use strsim::generic_levenshtein;
+use strsim::generic_damerau_levenshtein;
 use texting_robots::labels::LabeledLine;
 use texting_robots::parser::{Line, file_lines};
 use texting_robots::site::Site;
@@ -93,8 +95,10 @@ static CRAWLERS: [(&str, &str); 108] = [
 ];
 
 /// Names that no crawler has, each with that of the known crawler that is probably meant.
-static WRONG_NAMES: [(&str, &str); 12] = [
+static WRONG_NAMES: [(&str, &str); 25] = [
     ("all", "*"),
+    ("any", "*"),
+    ("everyone", "*"),
     ("Google", "Googlebot"),
     ("Gemini", "Google-Extended"),
     ("Bing", "Bingbot"),
@@ -103,9 +107,20 @@ static WRONG_NAMES: [(&str, &str); 12] = [
     ("OpenAI", "GPTBot"),
     ("ChatGPT", "ChatGPT-User"),
     ("Chat-GPT", "ChatGPT-User"),
+    ("Chat GPT", "ChatGPT-User"),
     ("Claude", "ClaudeBot"),
     ("Anthropic", "ClaudeBot"),
     ("Perplexity", "PerplexityBot"),
+    ("Facebook", "facebookexternalhit"),
+    ("Amazon", "Amazonbot"),
+    ("Apple", "Applebot"),
+    ("ByteDance", "Bytespider"),
+    ("TikTok", "TikTokSpider"),
+    ("Twitter", "Twitterbot"),
+    ("LinkedIn", "LinkedInBot"),
+    ("Ahrefs", "AhrefsBot"),
+    ("Semrush", "SemrushBot"),
+    ("CommonCrawl", "CCBot"),
 ];
 
 /// The known crawlers. No other function names the long table, since each that does takes long to prove.
@@ -140,70 +155,75 @@ pub(crate) fn is_given(agents: &[&str], name: &str) -> bool
     agents.iter().any(|agent| name.eq_ignore_ascii_case(agent))
 }
 
-/// Whether the line is a user-agent line in which a vendor reads the name of this crawler.
-fn is_line_at_vendor(agent: &str, line: Line<'_>) -> bool
-    ensures { result ≡ is_line_at_vendor agent.now (by_value line.entry) }
+/// The value, if it is a text in which a vendor reads the name of this crawler.
+fn value_at_vendor<'a>(agent: &str, value: &'a [u8]) -> Option<&'a str>
+    ensures { option_map (λ name. name.now) result ≡ value_at_vendor agent.now value.now }
+{
+    if token_front(value).eq_ignore_ascii_case(agent.as_bytes()) {
+        as_text(value)
+    } else {
+        None
+    }
+}
+
+/// The value of a user-agent line in which a vendor reads the name of this crawler.
+fn name_at_vendor<'a>(agent: &str, line: Line<'a>) -> Option<&'a str>
+    ensures { option_map (λ name. name.now) result ≡ name_at_vendor agent.now (by_value line.entry) }
 {
     match line {
-        Line::UserAgent(value) => token_front(value).eq_ignore_ascii_case(agent.as_bytes()),
-        _ => false,
+        Line::UserAgent(value) => value_at_vendor(agent, value),
+        _ => None,
     }
 }
 
-/// Whether a vendor reads the name of the crawler in a user-agent line.
-fn is_named_at_vendor(site: &Site, agent: &str) -> bool
-    ensures { result ≡ is_named_at_vendor agent.now (file_lines site.now) }
+/// The value of the first user-agent line in which a vendor reads the name of the crawler.
+fn first_at_vendor<'a>(site: &'a Site, agent: &str) -> Option<&'a str>
+    ensures { option_map (λ name. name.now) result ≡ first_at_vendor agent.now (file_lines site.now) }
 {
     for line in file_lines(site.text()) {
-        if is_line_at_vendor(agent, line) {
-            return true;
-        }
-    }
-    false
-}
-
-/// Whether the crawler has no group of its own, and its vendor applies the group with this name, which there
-/// is; or, for an empty name, no group, although there is one of `*`.
-pub(crate) fn gets_other(site: &Site, agent: &str, group: &str) -> bool
-    ensures { result ≡ gets_other (file_lines site.now) agent.now group.now }
-{
-    if group == "*" || is_named_at_vendor(site, agent) {
-        return false;
-    }
-    if group.is_empty() {
-        site.is_named("*")
-    } else {
-        is_named_at_vendor(site, group)
-    }
-}
-
-/// Whether this row is about the crawler, and changes its group.
-#[tactic(auto, unfolding(crate::specs::Crawlers::is_other_for))]
-fn is_other_for(site: &Site, agent: &str, row: &Crawler) -> bool
-    ensures { result ≡ is_other_for (file_lines site.now) agent.now (row_value row.now) }
-{
-    row.0.eq_ignore_ascii_case(agent) && gets_other(site, agent, row.1)
-}
-
-/// The group in the first of these rows that changes that of the crawler.
-fn other_in(rows: &'static [Crawler], site: &Site, agent: &str) -> Option<&'static str>
-    ensures { option_map (λ group. group.now) result
-        ≡ other_in (file_lines site.now) agent.now (map row_value rows.now) }
-{
-    for row in rows {
-        if is_other_for(site, agent, row) {
-            return Some(row.1);
+        if let Some(name) = name_at_vendor(agent, line) {
+            return Some(name);
         }
     }
     None
 }
 
+/// The name of the group that a vendor applies to a crawler without one of its own, where `group` is in the
+/// crawler's row, if it isn't that of `*`; an empty one for no group, although there is one of `*`.
+fn group_at_vendor<'a>(site: &'a Site, group: &str) -> Option<&'a str>
+    ensures { option_map (λ name. name.now) result ≡ group_at_vendor (file_lines site.now) group.now }
+{
+    if group == "*" {
+        return None;
+    }
+    if !group.is_empty() {
+        return first_at_vendor(site, group);
+    }
+    if site.is_named("*") { Some("") } else { None }
+}
+
+/// Whether the vendor of the crawler reads its name nowhere in the file, and applies another group.
+fn gets_other(site: &Site, agent: &str, group: &str) -> bool
+    ensures { result ≡ gets_other (file_lines site.now) agent.now group.now }
+{
+    first_at_vendor(site, agent).is_none() && group_at_vendor(site, group).is_some()
+}
+
 /// The name of the group that the vendor of a known crawler applies to it, or an empty one for no group, if
 /// it isn't the group that applies here.
-pub fn other_group(site: &Site, agent: &str) -> Option<&'static str>
+pub fn other_group<'a>(site: &'a Site, agent: &str) -> Option<&'a str>
     ensures { option_map (λ group. group.now) result ≡ other_group (file_lines site.now) agent.now }
 {
-    other_in(crawlers(), site, agent)
+    if site.is_named(agent) {
+        return None;
+    }
+    let Some(group) = name_for(crawlers(), agent.as_bytes()) else {
+        return None;
+    };
+    match first_at_vendor(site, agent) {
+        Some(name) => Some(name),
+        None => group_at_vendor(site, group),
+    }
 }
 
 /// The wrong names, each with that of the known crawler that is probably meant.
@@ -214,19 +234,27 @@ fn wrong_names() -> &'static [Crawler]
     &WRONG_NAMES
 }
 
-/// The name in the row of this one, ASCII letters in any case, or an empty one if none of these rows has it.
-fn name_for(rows: &'static [Crawler], value: &[u8]) -> &'static str
-    ensures { result.now ≡ name_for value.now (map row_value rows.now) }
+/// Whether this is the first name in the row, ASCII letters in any case.
+#[tactic(auto, unfolding(crate::specs::Crawlers::is_row_of))]
+fn is_row_of(value: &[u8], row: &Crawler) -> bool
+    ensures { result ≡ is_row_of value.now (row_value row.now) }
 {
-    for row in rows {
-        if row.0.as_bytes().eq_ignore_ascii_case(value) {
-            return row.1;
-        }
-    }
-    ""
+    row.0.as_bytes().eq_ignore_ascii_case(value)
 }
 
-/// How many edits a name still has to be recognized after.
+/// The second name in the first of these rows that has this one.
+fn name_for(rows: &'static [Crawler], value: &[u8]) -> Option<&'static str>
+    ensures { option_map (λ name. name.now) result ≡ name_for value.now (map row_value rows.now) }
+{
+    for row in rows {
+        if is_row_of(value, row) {
+            return Some(row.1);
+        }
+    }
+    None
+}
+
+/// After how many edits a name is still recognized.
 fn most_edits(name: &str) -> usize
     ensures { result ≡ most_edits name.now }
 {
@@ -242,24 +270,27 @@ pub fn is_near(alloc: Global, value: &[u8], name: &str) -> Result<bool, AllocErr
     ensures { IfOk result (λ answer. answer ≡ is_near value.now name.now) }
 {
     let (most, name) = (most_edits(name), name.as_bytes());
-    if !first(1, value).eq_ignore_ascii_case(first(1, name))
-        || name.len().abs_diff(value.len()) > most
-    {
+    let has_start = !value.is_empty() && first(1, value).eq_ignore_ascii_case(first(1, name));
+    if !has_start || name.len().abs_diff(value.len()) > most {
         return Ok(false);
     }
     let (value, name) = (
         value.to_ascii_lowercase(alloc)?,
         name.to_ascii_lowercase(alloc)?,
     );
-    Ok(generic_levenshtein(alloc, &value, &name)? <= most)
+    Ok(generic_damerau_levenshtein(alloc, &value, &name)? <= most)
 }
 
-/// Whether the crawler in this row, which has the other name or one near the value, is probably meant.
+/// Whether the crawler in this row is probably meant: its name is the other one, or near the value or its start.
 #[tactic(auto, unfolding(crate::specs::Crawlers::is_meant))]
 fn is_meant(alloc: Global, value: &[u8], other: &str, row: &Crawler) -> Result<bool, AllocError>
     ensures { IfOk result (λ answer. answer ≡ is_meant value.now other.now (row_value row.now)) }
 {
-    Ok(row.0 == other || is_near(alloc, value, row.0)?)
+    Ok(
+        row.0 == other
+            || is_near(alloc, value, row.0)?
+            || is_near(alloc, token_front(value), row.0)?,
+    )
 }
 
 /// Whether one of these rows has this name.
@@ -303,7 +334,8 @@ fn meant(alloc: Global, value: &[u8]) -> Result<Option<usize>, AllocError>
     if is_known(value) || is_known(token_front(value)) {
         return Ok(None);
     }
-    first_meant(alloc, crawlers(), value, name_for(wrong_names(), value))
+    let other = name_for(wrong_names(), value).unwrap_or("");
+    first_meant(alloc, crawlers(), value, other)
 }
 
 /// The same for any line.
@@ -316,28 +348,30 @@ pub(crate) fn meant_in(alloc: Global, line: Line<'_>) -> Result<Option<usize>, A
     }
 }
 
-/// Appends the warning about the name in a user-agent line, if there is a known crawler that may be meant.
-fn warn_of_name(
-    alloc: Global,
-    found: &mut Found<'_>,
-    labeled: &LabeledLine<'_>,
+/// Appends the warning about a line or a name, if there is a known crawler that may be meant.
+fn warn_of_name<'a>(
+    found: &mut Found<'a>,
+    line: Option<usize>,
+    about: Option<&'a str>,
+    crawler: Option<usize>,
 ) -> Result<(), AllocError>
-    ensures { OnOk result (Adds found.old.items found.new.items (name_warning (label_by_value labeled.now))) }
+    ensures { OnOk result (Adds found.old.items found.new.items
+        (warned_of_name line (option_map (λ name. name.now) about.entry) crawler)) }
 {
-    let Some(crawler) = meant_in(alloc, labeled.line)? else {
+    let Some(crawler) = crawler else {
         return Ok(());
     };
     found.push(Warning {
-        line: Some(labeled.number),
+        line,
         cause: Cause::MisspelledName,
-        about: None,
+        about,
         detail: Some(Detail::Meant(crawler)),
     })?;
     Ok(())
 }
 
 /// Appends the warnings about the names in user-agent lines.
-pub(crate) fn warn_of_names(
+fn warn_of_names(
     alloc: Global,
     found: &mut Found<'_>,
     labels: &[LabeledLine<'_>],
@@ -345,9 +379,60 @@ pub(crate) fn warn_of_names(
     ensures { OnOk result (Adds found.old.items found.new.items (name_warnings (map label_by_value labels.now))) }
 {
     for labeled in labels {
-        warn_of_name(alloc, found, labeled)?;
+        warn_of_name(
+            found,
+            Some(labeled.number),
+            None,
+            meant_in(alloc, labeled.line)?,
+        )?;
     }
     Ok(())
+}
+
+/// Appends the warning about the name of a crawler, if the file doesn't name it.
+fn warn_of_agent<'a>(
+    alloc: Global,
+    found: &mut Found<'a>,
+    site: &Site,
+    agent: &'a str,
+) -> Result<(), AllocError>
+    ensures { OnOk result (Adds found.old.items found.new.items (agent_warning (file_lines site.now) agent.now)) }
+{
+    if site.is_named(agent) {
+        return Ok(());
+    }
+    warn_of_name(found, None, Some(agent), meant(alloc, agent.as_bytes())?)
+}
+
+/// Appends the warnings about the names of those of these crawlers that the file doesn't name.
+fn warn_of_agents<'a>(
+    alloc: Global,
+    found: &mut Found<'a>,
+    site: &Site,
+    agents: &[&'a str],
+) -> Result<(), AllocError>
+    ensures { OnOk result (Adds found.old.items found.new.items
+        (agent_warnings (file_lines site.now) (map (λ agent. agent.now) agents.now))) }
+{
+    for agent in agents {
+        warn_of_agent(alloc, found, site, agent)?;
+    }
+    Ok(())
+}
+
+/// Appends both.
+pub(crate) fn warn_of_all_names<'a>(
+    alloc: Global,
+    found: &mut Found<'a>,
+    site: &Site,
+    agents: &[&'a str],
+    labels: &[LabeledLine<'_>],
+) -> Result<(), AllocError>
+    ensures { OnOk result (Adds found.old.items found.new.items (name_warnings (map label_by_value labels.now)
+        ++ agent_warnings (file_lines site.now) (map (λ agent. agent.now) agents.now))) }
+{
+    warn_of_names(alloc, found, labels)?;
+    warn_of_agents(alloc, found, site, agents)
 }
 
 /// Appends the warning about the known crawler at this index, if it is among these and its vendor applies another group.

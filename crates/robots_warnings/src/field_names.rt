@@ -274,8 +274,9 @@ fn after_seam<'a>(text: &'a [u8]) -> &'a [u8]
     match text {
         [b' ' | b'\t' | b'*', after @ ..] => after,
         [b'\\', b'n' | b'r', after @ ..] => after,
-        [last, first, ..] if last.is_ascii_alphanumeric() && first.is_ascii_uppercase() =>
-            &text[1..],
+        [last, first, ..]
+            if (last.is_ascii_alphanumeric() || has(*last, b"/$?="))
+                && first.is_ascii_uppercase() => &text[1..],
         _ => &[],
     }
 }

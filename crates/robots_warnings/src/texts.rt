@@ -154,7 +154,7 @@ pub(crate) static MESSAGES: [(Cause, &str); 85] = [
     (Cause::DelaySplitsGroup,
         "only a Crawl-delay ends the group above; crawlers that ignore it, such as Google's, apply the rules below to that group too; add to that group the rules meant for it, or move the Crawl-delay down to join the two"),
     (Cause::JoinedGroups,
-        "the next User-agent line belongs to the same group, since no rule is between the two, and the rules below it are for both names; if that isn't meant, add rules here, or an empty Disallow; if it is, delete what is between"),
+        "the next User-agent line belongs to the same group, since no rule or delay is between the two, and the rules below it are for both names; if that isn't meant, add rules here, or an empty Disallow; if it is, delete what is between"),
     (Cause::GroupPastSizeLimit,
         "this name isn't in the first 512,000 bytes, so its group is ignored; move the group up or shorten the file"),
     (Cause::AllowedAndDisallowed,

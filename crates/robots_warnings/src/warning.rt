@@ -76,7 +76,8 @@ fn about_part<'a>(cause: Cause, about: Option<&'a str>) -> Part<'a>
         Cause::ClosesSite
         | Cause::ClosesEverything
         | Cause::GooglebotGroup
-        | Cause::GoogleIgnoresStar => Part("crawler '", name),
+        | Cause::GoogleIgnoresStar
+        | Cause::MisspelledName => Part("crawler '", name),
         _ => Part("URL '", name),
     }
 }

@@ -1,8 +1,9 @@
 -- What `closes-everything` implies, and what is said to be all or nothing that a crawler may fetch.
 use Rattle.std.proofs.Common.{◌≡◌, ◌≢◌, ℕ, ◌<◌, ◌&&◌, Bool, true, false, List, [], ◌∷◌, ◌++◌, Contains, All}
 use Rattle.std.proofs.Common.{ap, append-nil, arith, bytes_eq, codes, if◌then◌else◌, inl, inr, length, nat_eq}
-use Rattle.std.proofs.Common.{nat_le, not, refl, slice_index_or, Some, None, subst, sym, ◌∙◌, ◌⊎◌}
+use Rattle.std.proofs.Common.{nat_le, not, refl, slice_index_or, Option, Some, None, subst, sym, ◌∙◌, ◌⊎◌}
 use Rattle.std.specs.{List.list_all, List.list_any, List.starts_with, Prelude.is_some, Str.byte}
+use Rattle.std.specs.Prelude.{◌||◌}
 use Rattle.std.proofs.lemmas.Bool.{and_parts, cases_Bool, eq-eqb, false≢true, not-true, or_cases}
 use Rattle.std.proofs.lemmas.Bool.Decides.{nat_tests}
 use Rattle.std.proofs.lemmas.List.Folds.{Any-from_list_any, list_all_at, list_any-from_Any, list_any_at}
@@ -10,7 +11,8 @@ use Rattle.std.proofs.lemmas.{List.Elements.All-contains, Slice.Eq.bytes_eq-Deci
 use Rattle.texting_robots.specs.Callers.{AreRulesFor, IsDenied, LineValue, Matches, PlacedRule, Rule}
 use Rattle.texting_robots.specs.Callers.{placed_rules, robots_file, unplaced}
 use Rattle.robots_warnings.specs.Closed.{closes, closing_line, is_allow, is_exempt, is_literally, is_rival}
-use Rattle.robots_warnings.specs.Closed.{is_star_or_dollar, line_closing, opened_paths, reach_of}
+use Rattle.robots_warnings.specs.Closed.{is_star_or_dollar, line_closing, matches_no_path, opened_paths}
+use Rattle.robots_warnings.specs.Closed.{reach_of}
 use Rattle.robots_warnings.specs.declared.closed.Reach.{Reach}
 use Rattle.robots_warnings.specs.declared.closed.Reach.TheVariants.{Everything, Nothing, Part}
 use Rattle.robots_warnings.specs.{Conflicts.line_if, Crawlers.other_group}
@@ -18,6 +20,7 @@ use Rattle.texting_robots.proofs.{HeldLemmas.computed_are, BestLemmas.placed_of}
 use Rattle.texting_robots.proofs.PatternLemmas.{in_front, plain_wildcards}
 use Rattle.robots_needless.proofs.TogetherLemmas.{unplaced_of}
 use Rattle.warnings_laws.proofs.ConflictLemmas.{also_listed, any_some, whole_site_matches}
+use Rattle.warnings_laws.proofs.WarningLemmas.{without_path}
 
 line_given : (test : PlacedRule → Bool) (placed : PlacedRule) → is_some (line_if test placed) ≡ test placed
 line_given test placed = by (test placed)
@@ -63,16 +66,19 @@ closed_denies is_exempt agent lines rules text is are differs opens =
           (none_at (is_rival is_exempt placed.rule.0) all (not-true _ alone))
           (also_listed are own allow listed) in
           shorter (length placed.rule.0) pattern matches
-          (subst (λ (rule : Rule). ((rule.1 && not (is_exempt rule.0))
+          (subst (λ (rule : Rule). ((rule.1 && not (is_exempt rule.0 || matches_no_path rule.0))
           && nat_le (length placed.rule.0) (length rule.0)) ≡ false) same isnt)
-          (cases_Bool (is_exempt pattern)),
+          (cases_Bool (is_exempt pattern)) (cases_Bool (matches_no_path pattern)),
     )
   where
     shorter : (n : ℕ) (pattern : List ℕ) → Matches pattern (byte "/" ∷ text)
-        → ((true && not (is_exempt pattern)) && nat_le n (length pattern)) ≡ false
-        → (is_exempt pattern ≡ true) ⊎ (is_exempt pattern ≡ false) → length pattern < n
-    shorter n pattern matches isnt (inl exempt) = absurd (opens pattern exempt matches)
-    shorter n pattern matches isnt (inr stated) = is_shorter n (length pattern) (rw stated at isnt)
+        → ((true && not (is_exempt pattern || matches_no_path pattern)) && nat_le n (length pattern)) ≡ false
+        → (is_exempt pattern ≡ true) ⊎ (is_exempt pattern ≡ false)
+        → (matches_no_path pattern ≡ true) ⊎ (matches_no_path pattern ≡ false) → length pattern < n
+    shorter n pattern matches isnt (inl exempt) no = absurd (opens pattern exempt matches)
+    shorter n pattern matches isnt (inr stated) (inl no) = absurd (without_path pattern text no matches)
+    shorter n pattern matches isnt (inr stated) (inr some) =
+        is_shorter n (length pattern) (rw (stated, some) at isnt)
 
 -- a text that a path matches as a pattern, with or without `$`, starts with the path
 starts : (path text : List ℕ) → starts_with nat_eq (path ++ text) path ≡ true
@@ -99,12 +105,19 @@ literally_starts pattern path text is matches =
         let all = plain_wildcards path (none_at is_star_or_dollar path none) in
         let (after, is, _) = (in_front true path rest text all).0 matches in rw is (starts path after)
 
+-- a line closes the site only to a crawler whose vendor applies no other group
+closed_by : (other : Bool) (line : Option ℕ) {number : ℕ} → (if other then None else line) ≡ Some number
+    → line ≡ Some number
+closed_by true line is = cc
+closed_by false line is = is
+
 pub closes_everything : (agent : List ℕ) (lines : List LineValue) (rules : List PlacedRule) (number : ℕ)
     (text : List ℕ) → line_closing lines agent ≡ Some number → AreRulesFor agent lines rules
     → list_any (starts_with nat_eq (byte "/" ∷ text)) (opened_paths lines) ≡ false
     → IsDenied (unplaced rules) (byte "/" ∷ text)
 closes_everything agent lines rules number text is are none =
-    closed_denies (is_exempt lines) agent lines rules text (ap is_some is) are
+    closed_denies (is_exempt lines) agent lines rules text
+    (ap is_some (closed_by (is_some (other_group lines agent)) _ is)) are
     (λ same. false≢true (sym none ∙ within robots_file (0, omega arith, refl)
     (subst (λ (text : List ℕ). starts_with nat_eq text robots_file ≡ true) (sym same) refl)))
     (λ pattern exempt matches.
@@ -129,30 +142,23 @@ abbrev is_nothing : Reach → Bool
 is_nothing Nothing = true
 is_nothing _ = false
 
-everything_if : (all shut : Bool)
-    → is_everything (if all then Everything else if shut then Nothing else Part) ≡ all
-everything_if true shut = refl
-everything_if false true = refl
-everything_if false false = refl
+abbrev reach_if : (other all shut : Bool) → Reach
+reach_if other all shut = if other then Part else if all then Everything else if shut then Nothing else Part
 
-nothing_if : (all shut : Bool)
-    → is_nothing (if all then Everything else if shut then Nothing else Part) ≡ true → shut ≡ true
-nothing_if true shut is = absurd (false≢true is)
-nothing_if false true is = refl
-nothing_if false false is = is
+everything_if : (other all shut : Bool) → reach_if other all shut ≡ Everything → all ≡ true
+everything_if true all shut is = absurd (false≢true (ap is_everything is))
+everything_if false true shut is = refl
+everything_if false false true is = absurd (false≢true (ap is_everything is))
+everything_if false false false is = absurd (false≢true (ap is_everything is))
 
-abbrev is_shut : List ℕ → List LineValue → Bool
-is_shut agent lines = is_some (closing_line (λ pattern. false) (placed_rules agent lines))
+nothing_if : (other all shut : Bool) → reach_if other all shut ≡ Nothing → shut ≡ true
+nothing_if true all shut is = absurd (false≢true (ap is_nothing is))
+nothing_if false true shut is = absurd (false≢true (ap is_nothing is))
+nothing_if false false true is = refl
+nothing_if false false false is = absurd (false≢true (ap is_nothing is))
 
--- what is said of a crawler is said by its rules
-everything_by : (other : Bool) (reach : Reach) → (if other then Part else reach) ≡ Everything
-    → reach ≡ Everything
-everything_by true reach is = absurd (false≢true (ap is_everything is))
-everything_by false reach is = is
-
-nothing_by : (other : Bool) (reach : Reach) → (if other then Part else reach) ≡ Nothing → reach ≡ Nothing
-nothing_by true reach is = absurd (false≢true (ap is_nothing is))
-nothing_by false reach is = is
+abbrev is_shut : List PlacedRule → Bool
+is_shut rules = is_some (closing_line (λ pattern. false) rules)
 
 pub fetches_everything : (agent : List ℕ) (lines : List LineValue) (rules : List PlacedRule) (text : List ℕ)
     → reach_of lines agent ≡ Everything → AreRulesFor agent lines rules → ¬ IsDenied (unplaced rules) text
@@ -162,15 +168,14 @@ fetches_everything agent lines rules text is are (differs, pattern, has, matches
     let (k, below, at) = also_listed are (computed_are agent lines) denies listed in
     let isnt = list_all_at is_allow all k denies below
     (ap is_allow at ∙ ap (λ (rule : Rule). rule.1) same) in
-    false≢true (sym isnt ∙ sym (everything_if (list_all is_allow all) (is_shut agent lines))
-    ∙ ap is_everything (everything_by (is_some (other_group lines agent)) _ is))
+    false≢true (sym isnt
+    ∙ everything_if (is_some (other_group lines agent)) (list_all is_allow all) (is_shut all) is)
 
 pub fetches_nothing : (agent : List ℕ) (lines : List LineValue) (rules : List PlacedRule) (text : List ℕ)
     → reach_of lines agent ≡ Nothing → AreRulesFor agent lines rules → byte "/" ∷ text ≢ robots_file
     → IsDenied (unplaced rules) (byte "/" ∷ text)
 fetches_nothing agent lines rules text is are differs =
-    let all = list_all is_allow (placed_rules agent lines) in
+    let all = placed_rules agent lines in
     closed_denies (λ pattern. false) agent lines rules text
-    (nothing_if all (is_shut agent lines)
-    (ap is_nothing (nothing_by (is_some (other_group lines agent)) _ is))) are differs
+    (nothing_if (is_some (other_group lines agent)) (list_all is_allow all) (is_shut all) is) are differs
     (λ pattern exempt. absurd (false≢true exempt))

@@ -8,7 +8,7 @@ use Rattle.std.proofs.Common.{◌∙◌}
 use Rattle.std.specs.List.{enumerate_from, list_all, list_any, prefix_len}
 use Rattle.std.specs.Str.{byte, is_utf8, str_to_ascii_lowercase}
 use Rattle.std.specs.Char.{to_ascii_lowercase}
-use Rattle.std.proofs.lemmas.Bool.{or_parts, cases_Bool, eqb-true, false≢true}
+use Rattle.std.proofs.lemmas.Bool.{or_cases, or_parts, cases_Bool, eqb-true, false≢true}
 use Rattle.texting_robots.specs.Callers.{Allow, AreLabelsOf, CrawlDelay, Disallow, HoldsRule, IsLineOf}
 use Rattle.texting_robots.specs.Callers.{LineValue, Label, Matches, Raw, Rule, Sitemap, HasMembership}
 use Rattle.texting_robots.specs.Callers.{UserAgent, escaped, file_lines, is_agent_named, is_named}
@@ -16,6 +16,7 @@ use Rattle.texting_robots.specs.Escape.{escape_byte, is_escaped}
 use Rattle.texting_robots.specs.Group.{is_agent, passes_at}
 use Rattle.texting_robots.specs.Pattern.{MatchesWith, dollar, star}
 use Rattle.texting_robots.specs.declared.labels.Membership.TheVariants.{Other, Ungrouped, Own}
+use Rattle.robots_warnings.specs.Closed.{matches_no_path}
 use Rattle.robots_warnings.specs.NamesPastLimit.{has_new_name, is_past_limit, names_past_limit}
 use Rattle.robots_warnings.specs.Positions.{is_above_agents, is_outside}
 use Rattle.robots_warnings.specs.Rules.{begins_oddly, has_dollar_inside}
@@ -191,3 +192,40 @@ pub odd_start_matches_no_path : (value text : List ℕ) → begins_oddly value �
 unfolding MatchesWith
 odd_start_matches_no_path [] text odd m = cc
 odd_start_matches_no_path (b ∷ value) text odd m = grind (arith, common_steps)
+
+-- the same of patterns, which are escaped
+
+other_than_wildcards : (pattern : List ℕ)
+    → list_any (λ b. not (b == star || b == dollar)) pattern ≡ true → list_all is_wildcard pattern ≡ false
+other_than_wildcards [] some = cc
+other_than_wildcards (b ∷ pattern) some = elim (cases_Bool (b == star || b == dollar)) [
+  | inl wild ↦ rw wild (other_than_wildcards pattern (rw wild at some))
+  | inr plain ↦ rw plain refl
+]
+
+inside_matches_nothing : (pattern text : List ℕ) → has_dollar_inside pattern ≡ true → ¬ Matches pattern text
+unfolding MatchesWith
+inside_matches_nothing [] text inside m = cc
+inside_matches_nothing (b ∷ pattern) text inside m = elim (cases_Bool (b == dollar)) [
+  | inl is ↦
+      let (s, (end, gone), later) =
+      subst (λ b. Matches (b ∷ pattern) text) (eqb-true b dollar is) m in
+      false≢true (sym (other_than_wildcards pattern (rw is at inside))
+      ∙ (only_wildcards_match pattern).1 (subst (Matches pattern) gone later))
+  | inr other ↦
+      let (s, later) = dropped (b ∷ []) pattern text m in
+      inside_matches_nothing pattern s (rw other at inside) later
+]
+
+odd_matches_nothing : (pattern text : List ℕ) → begins_oddly pattern ≡ true
+    → ¬ Matches pattern (byte "/" ∷ text)
+unfolding MatchesWith
+odd_matches_nothing [] text odd m = cc
+odd_matches_nothing (b ∷ pattern) text odd m = grind (arith, common_steps)
+
+pub without_path : (pattern text : List ℕ) → matches_no_path pattern ≡ true
+    → ¬ Matches pattern (byte "/" ∷ text)
+without_path pattern text none m = elim (or_cases (begins_oddly pattern) _ none) [
+  | inl odd ↦ odd_matches_nothing pattern text odd m
+  | inr inside ↦ inside_matches_nothing pattern _ inside m
+]

@@ -2,7 +2,7 @@ use Rattle.std.proofs.Common.{◌≡◌, IfOk, subst}
 use Rattle.std.specs.HashSet.{contains_text}
 use Rattle.texting_robots.specs.Callers.{file_lines, placed_rules}
 use Rattle.robots_warnings.specs.Closed.{closing_line, is_exempt}
-use Rattle.robots_warnings.proofs.closed.line_closing.Goals as goal
+use Rattle.robots_warnings.proofs.closed.closing_here.Goals as goal
 
 pub returns : goal.returns
 returns c =
