@@ -155,25 +155,26 @@ def counted(counts):
 
 def warning_lines(warnings, file="robots.txt"):
     """The lines for such warnings: notes about lines with one message are one; of each name and level the first twenty, and how many more
-    there are, but all `closes-everything`; and how many of each level there are."""
+    there are; and how many of each level there are."""
     joined, met = [], {}
     for warning in warnings:
         line, name, level, text = parts_of(warning)
-        if level == "note" and line and "(see line" not in text and name != "closes-everything":
-            met.setdefault((name, text), []).append(line)
-            if len(met[name, text]) > 1:
+        key = (name, "" if name == "closes-everything" else text)
+        if level == "note" and line and "(see line" not in text:
+            met.setdefault(key, []).append(line)
+            if len(met[key]) > 1:
                 continue
-            joined.append((warning, name, level, met[name, text]))
+            joined.append((warning, name, level, met[key]))
         else:
             joined.append((warning, name, level, [line]))
     shown, counts = [], {}
     for warning, name, level, lines in joined:
         kind = level, name
         counts[kind] = counts.get(kind, 0) + 1
-        shown += [warning_line(warning, file, lines[1:])] * (counts[kind] <= 20 or name == "closes-everything")
+        shown += [warning_line(warning, file, lines[1:])] * (counts[kind] <= 20)
         if counts[kind] == 21:  # the numbers are in the order of these
             counts[kind] = counts.pop(kind)
-    more = [f"{file}: {level}: and {count - 20} more [{name}]\n" for (level, name), count in counts.items() if count > 20 and name != "closes-everything"]
+    more = [f"{file}: {level}: and {count - 20} more [{name}]\n" for (level, name), count in counts.items() if count > 20]
     total = [f"{file}: {counted([parts_of(warning)[2] for warning in warnings])}\n"] if warnings else []
     return "".join(shown + more + total)
 

@@ -110,7 +110,7 @@ def test_a_file_of_a_hundred_closed_groups():
     groups = "".join(f"User-agent: {name}\nDisallow: /\n\n" for name in names)
     err = run("robots_audit", ["-q", "-"], groups.encode()).err.splitlines()
     closed = [line for line in err if line.endswith("[closes-everything]")]
-    assert [line.split("'")[:2] for line in closed] == [[f"robots.txt:{3 * n + 2}: note: crawler ", name] for n, name in enumerate(names)]
+    assert len(closed) == 1 and closed[0].startswith("robots.txt:2: note: ") and " (also in lines 5, 8, 11 and 96 more) [" in closed[0]
     assert err[-1] == "robots.txt: 100 notes"
 
 

@@ -1,6 +1,6 @@
 -- Notes that are written as one: it has the lines of the others.
 use Rattle.std.specs.Prelude.{ℕ, ◌+◌, ◌-◌, ◌==◌, ◌&&◌, Bool, false, true, not, List, [], ◌∷◌, ◌++◌, Option}
-use Rattle.std.specs.Prelude.{None, Some, codes, filter_map, if◌then◌else◌, is_none, is_some, length, nat_lt}
+use Rattle.std.specs.Prelude.{None, Some, codes, filter_map, if◌then◌else◌, is_some, length, nat_lt}
 use Rattle.std.specs.Prelude.{slice_get}
 use Rattle.std.specs.List.{list_any}
 use Rattle.std.proofs.Common.{refl}
@@ -8,23 +8,22 @@ use Rattle.printable_text.specs.Level.{reaches}
 use Rattle.printable_text.specs.Text.{Absent, Label, Number, Part, PartValue, label, only}
 use Rattle.printable_text.specs.declared.level.Level.TheVariants.{Warning}
 use Rattle.robots_warnings.specs.declared.warning.Detail.{Detail}
-use Rattle.robots_warnings.specs.declared.warning.Detail.TheVariants.{Rules}
+use Rattle.robots_warnings.specs.declared.warning.Detail.TheVariants.{Others, Rules}
 use Rattle.robots_warnings.specs.{Table.level_of, Table.number_of, WarningValue.WarningValue}
 
--- the message ends with nothing, or with the number of rules of `*`
+-- the message doesn't end with a line of its own
 abbrev pub has_shared_end : Option Detail → Bool
 has_shared_end None = true
 has_shared_end (Some (Rules count)) = true
+has_shared_end (Some (Others count)) = true
 has_shared_end detail = false
 
--- a note about a line whose message names no crawler or URL and no line: it is that of all such notes with
--- the same cause
+-- a note about a line, whose message is that of all such notes with the same reason
 abbrev pub is_joined : WarningValue → Bool
 is_joined warning =
-    not (reaches (level_of warning.cause) Warning)
-    && (is_some warning.line && (is_none warning.about && has_shared_end warning.detail))
+    not (reaches (level_of warning.cause) Warning) && (is_some warning.line && has_shared_end warning.detail)
 
--- such a note, whose cause has this number
+-- such a note, whose reason has this number
 abbrev pub is_joined_as : ℕ → WarningValue → Bool
 is_joined_as number warning = is_joined warning && (number_of warning.cause == number)
 

@@ -1,14 +1,12 @@
 -- Which warnings the text lists: of those that are left when notes are joined, the first twenty of each name
--- and level, and all `closes-everything`. For the others it has their number.
-use Rattle.std.specs.Prelude.{ℕ, ◌-◌, ◌==◌, ◌&&◌, ◌||◌, Bool, true, false, List, [], bytes_eq, count_by, map}
-use Rattle.std.specs.Prelude.{not}
+-- and level. For the others it has their number.
+use Rattle.std.specs.Prelude.{ℕ, ◌-◌, ◌==◌, ◌&&◌, Bool, List, [], bytes_eq, count_by, map}
 use Rattle.std.specs.Bool.{nat_lt}
 use Rattle.audit_core.specs.Counts.{rank}
 use Rattle.audit_text.specs.Joined.{joined, placed}
 use Rattle.audit_text.specs.declared.listed.More.{More}
 use Rattle.printable_text.specs.declared.level.Level.{Level}
 use Rattle.robots_warnings.specs.declared.table.Cause.{Cause}
-use Rattle.robots_warnings.specs.declared.table.Cause.TheVariants.{ClosesEverything, ClosesSite}
 use Rattle.robots_warnings.specs.{Table.level_of, Table.name_of, WarningValue.WarningValue}
 
 -- how many warnings of one name and level are listed
@@ -28,20 +26,14 @@ count_of name level warnings =
 abbrev pub count_like : Cause → List WarningValue → ℕ
 count_like cause warnings = count_of (name_of cause) (level_of cause) warnings
 
--- the site is closed to a crawler, which the warning names: it is always listed
-abbrev pub is_closing : Cause → Bool
-is_closing ClosesSite = true
-is_closing ClosesEverything = true
-is_closing _ = false
-
 -- fewer than twenty, or just twenty, of the warnings before it are like this one
 abbrev pub is_early : List WarningValue → WarningValue → Bool
-is_early before warning = is_closing warning.cause || nat_lt (count_like warning.cause before) most
+is_early before warning = nat_lt (count_like warning.cause before) most
 
 abbrev pub is_next : List WarningValue → WarningValue → Bool
-is_next before warning = not (is_closing warning.cause) && count_like warning.cause before == most
+is_next before warning = count_like warning.cause before == most
 
--- the first twenty of each name and level, and all that are always listed
+-- the first twenty of each name and level
 abbrev pub first_many : List WarningValue → List WarningValue
 first_many warnings = placed is_early [] warnings
 

@@ -12,15 +12,15 @@ use robots_warnings::warning::{Detail, Warning};
 use std::alloc::{AllocError, Global};
 use std::collections::BTreeSet;
 
-/// The numbers of causes.
+/// The numbers of reasons.
 type Numbers = BTreeSet<usize>;
 
-/// Whether the end of a message may be that of other messages with its cause, too.
+/// Whether the end of a message may be that of other messages with its reason, too.
 fn has_shared_end(detail: Option<Detail>) -> bool
     ensures { result ≡ has_shared_end detail }
 {
     match detail {
-        Some(Detail::Rules(_)) | None => true,
+        Some(Detail::Rules(_) | Detail::Others(_)) | None => true,
         _ => false,
     }
 }
@@ -30,19 +30,17 @@ fn is_joined(warning: &Warning<'_>) -> bool
     ensures { result ≡ is_joined warning.now }
 {
     !warning.cause.level().reaches(Level::Warning)
-        && warning.line.is_some()
-        && warning.about.is_none()
-        && has_shared_end(warning.detail)
+        && (warning.line.is_some() && has_shared_end(warning.detail))
 }
 
-/// Whether the warning is such a note, and its cause has this number.
+/// Whether the warning is such a note, and its reason has this number.
 fn is_joined_as(number: usize, warning: &Warning<'_>) -> bool
     ensures { result ≡ is_joined_as number warning.now }
 {
     is_joined(warning) && warning.cause as usize == number
 }
 
-/// Whether none of the earlier warnings, whose causes are `met`, has the line of this one, whose cause is inserted.
+/// Whether none of the earlier warnings, whose reasons are `met`, has the line of this one. Its reason is inserted.
 fn is_first(met: &mut Numbers, warning: &Warning<'_>) -> Result<bool, AllocError>
     ensures first { IfOk result (λ first. first
         ≡ not (is_joined warning.now && contains nat_cmp met.old (number_of warning.now.cause))) }
@@ -87,7 +85,7 @@ pub(crate) fn joined<'a>(
     Ok(found)
 }
 
-/// The line of such a note whose cause has this number.
+/// The line of such a note whose reason has this number.
 fn line_as(number: usize, warning: &Warning<'_>) -> Option<usize>
     ensures { result ≡ line_as number warning.now }
 {

@@ -1,8 +1,8 @@
 //! Which warnings the text lists: of those that are left when notes are joined, the first twenty of each name and
-//! level, and all `closes-everything`. For the others it has their number.
+//! level. For the others it has their number.
 ghost use Rattle.std.specs.Prelude.{◌≡◌, ℕ, ◌+◌, ◌<◌, IfOk, List, OnOk, if◌then◌else◌, map};
 ghost use Rattle.audit_text.specs.Internal.Listed.{AreCounts, counted};
-ghost use Rattle.audit_text.specs.Listed.{first_many, is_closing, is_like, listed, more, more_of, unlisted};
+ghost use Rattle.audit_text.specs.Listed.{first_many, is_like, listed, more, more_of, unlisted};
 ghost use Rattle.printable_text.specs.declared.level.Level.{Level};
 ghost use Rattle.robots_warnings.specs.{Table.level_of, Table.name_of, WarningValue.WarningValue};
 
@@ -60,13 +60,6 @@ fn count(counts: &mut Counts, cause: Cause) -> Result<usize, AllocError>
     Ok(place)
 }
 
-/// Whether the site is closed to a crawler, which the warning names.
-fn is_closing(cause: Cause) -> bool
-    ensures { result ≡ is_closing cause }
-{
-    matches!(cause, Cause::ClosesSite | Cause::ClosesEverything)
-}
-
 /// Counts the warnings with each name and level.
 fn tally_of<'a>(alloc: Global, warnings: &[Warning<'a>]) -> Result<Tally<'a>, AllocError>
     ensures counts { IfOk result (λ tally. AreCounts tally.counts warnings.now) }
@@ -80,9 +73,8 @@ fn tally_of<'a>(alloc: Global, warnings: &[Warning<'a>]) -> Result<Tally<'a>, Al
     let mut unlisted = Vec::new(alloc);
     for warning in warnings {
         let place = count(&mut counts, warning.cause)?;
-        let is_closing = is_closing(warning.cause);
-        push_if(&mut listed, is_closing || place < MOST, warning)?;
-        push_if(&mut unlisted, !is_closing && place == MOST, warning)?;
+        push_if(&mut listed, place < MOST, warning)?;
+        push_if(&mut unlisted, place == MOST, warning)?;
     }
     Ok(Tally {
         counts,
