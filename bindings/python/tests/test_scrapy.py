@@ -32,7 +32,7 @@ FILES = {
     "600,000 bytes, the last isn't UTF-8": RULES + FILLER + b"\xff",
     "600,000 bytes, rules at the end": FILLER + RULES,
     "`useragent:`": RULES.replace(b"User-agent", b"useragent"),
-    "a delay": RULES + b"Crawl-delay: 0.25\n",
+    "rules and a delay": RULES + b"Crawl-delay: 0.25\n",
     "a group of its own": b"User-agent: *\nDisallow: /\nUser-agent: ferrisbot\nDisallow: /private/",
     "a rule that is too long": OVERLONG,
 }
