@@ -75,10 +75,10 @@ closed_denies is_exempt agent lines rules text is are differs opens =
         → ((true && not (is_exempt pattern || matches_no_path pattern)) && nat_le n (length pattern)) ≡ false
         → (is_exempt pattern ≡ true) ⊎ (is_exempt pattern ≡ false)
         → (matches_no_path pattern ≡ true) ⊎ (matches_no_path pattern ≡ false) → length pattern < n
-    shorter n pattern matches isnt (inl exempt) no = absurd (opens pattern exempt matches)
-    shorter n pattern matches isnt (inr stated) (inl no) = absurd (without_path pattern text no matches)
-    shorter n pattern matches isnt (inr stated) (inr some) =
-        is_shorter n (length pattern) (rw (stated, some) at isnt)
+    shorter n pattern matches isnt (inl exempt) _ = absurd (opens pattern exempt matches)
+    shorter n pattern matches isnt (inr stated) (inl never) = absurd (without_path pattern text never matches)
+    shorter n pattern matches isnt (inr stated) (inr may) =
+        is_shorter n (length pattern) (rw (stated, may) at isnt)
 
 -- a text that a path matches as a pattern, with or without `$`, starts with the path
 starts : (path text : List ℕ) → starts_with nat_eq (path ++ text) path ≡ true

@@ -214,7 +214,12 @@ inside_matches_nothing (b ∷ pattern) text inside m = elim (cases_Bool (b == do
       ∙ (only_wildcards_match pattern).1 (subst (Matches pattern) gone later))
   | inr other ↦
       let (s, later) = dropped (b ∷ []) pattern text m in
-      inside_matches_nothing pattern s (rw other at inside) later
+      let before = prefix_len (λ x. not (x == byte "$")) pattern in
+      let same : 1 + before + 1 ≡ suc (before + 1) = omega arith in
+      let later_inside : has_dollar_inside pattern ≡ true =
+      subst (λ k. list_any (λ b. not (b == byte "*" || b == byte "$")) (drop k (b ∷ pattern)) ≡ true) same
+      (rw other at inside) in
+      inside_matches_nothing pattern s later_inside later
 ]
 
 odd_matches_nothing : (pattern text : List ℕ) → begins_oddly pattern ≡ true
