@@ -296,9 +296,22 @@ def test_no_size_is_out_of_memory(what):
 DENIED = "group: everyone (the file has no User-agent line; all rules are applied)\ndelay: none\ndeny 1 /b\n"
 
 
+def crawlers(size):
+    """So many names of crawlers, and the options that give them."""
+    names = [f"a{number}" for number in range(size)]
+    return names, [f"--agent={name}" for name in names]
+
+
+def of_each(names, *lines):
+    """These lines about each crawler."""
+    return "".join("".join(lines).replace("NAME", name) for name in names)
+
+
 def denied_to(size):
     """The report on this many crawlers."""
-    return DENIED if size == 1 else "crawler a: all rules (no User-agent line), 1 rule, may fetch nothing\n" * size + "deny 1 a /b\n" * size
+    names, _ = crawlers(size)
+    each = of_each(names, "crawler NAME: all rules (no User-agent line), 1 rule, may fetch nothing\n")
+    return DENIED if size == 1 else each + of_each(names, "deny 1 NAME /b\n")
 
 
 def error(message):
@@ -306,12 +319,14 @@ def error(message):
     return 2, "", f"robots_audit: {message}\n"
 
 
+GROUP_DIFFERS, SAME_RULES = "crawler NAME: group everyone -> none\n", "crawler NAME: same rules, so no URL's verdict differs\n"
+
 # By what of an audit has a size: the arguments and the input of a run, its status, its output, and the end of its message.
 OF_AN_AUDIT = {
-    "the number of crawlers": lambda size: (["-q", *["--agent=a"] * size, "-", "/b"], "Disallow: /", (1, denied_to(size), "")),
+    "the number of crawlers": lambda size: (["-q", *crawlers(size)[1], "-", "/b"], "Disallow: /", (1, denied_to(size), "")),
     "the number of compared crawlers": lambda size: (
-        ["--compare", "/dev/null", *["--agent=a"] * size, "-"], "User-agent: b",
-        (1, "old: /dev/null (empty), new: -\n" + "crawler a: group everyone -> none\ncrawler a: same rules, so no URL's verdict differs\n" * size, ""),
+        ["--compare", "/dev/null", *crawlers(size)[1], "-"], "User-agent: b",
+        (1, "old: /dev/null (empty), new: -\n" + of_each(crawlers(size)[0], GROUP_DIFFERS, SAME_RULES), ""),
     ),
     "the number of chosen names": lambda size: (["-q", *["--only=host-line"] * size, "--agent=a", "-", "/b"], "Disallow: /", (1, DENIED, "")),
     "a name that no warning has, explained": lambda size: (["--explain", "a" * size], "", error(f"unknown warning {'a' * size}; all are in --list-warnings")),
