@@ -220,10 +220,10 @@ def served(pages):
 
 
 def test_scrapy_project_obeys_a_damaged_file(python, bare, tmp_path):
-    """Made by `scrapy startproject`, with the two lines of settings that the README of the package has."""
+    """Made by `scrapy startproject`, with the lines of settings that the README of the package has."""
     pytest.importorskip("scrapy")
     settings = re.findall(r"`(ROBOTSTXT_\w+ = .*?)`", section(PACKAGES["python"], "Scrapy"))
-    assert len(settings) == 2
+    assert len(settings) == 3
     with served(PAGES) as (address, fetched):
         ran([python, "-m", "scrapy", "startproject", "small", "."], tmp_path, bare)
         with open(tmp_path / "small/settings.py", "a") as file:
