@@ -103,9 +103,9 @@ WORDS = {"space", "comma", "tag", "invisible", "="}  # each in one message of a 
 def level_and_text(name, detail=""):
     """The level and message of a warning. Its detail is the field name that may be meant; the level of one before the last; a word of its
     message; how many rules it is about; the line of another rule; the kind of a needless rule, possibly with such a line; the name of a
-    crawler that may be meant, possibly after a name in quotes; the name of one of several crawlers, in quotes, and that of the group that its vendor applies, if it isn't
-    Googlebot; of `closes-everything` the level, such a name, and how many other crawlers there are, if there are some; or else the URL that
-    the warning is about."""
+    crawler that may be meant, possibly after a name in quotes; the name of one of several crawlers, in quotes, and that of the group that
+    its vendor applies, if it isn't Googlebot; of `closes-everything` the level, such a name, and how many other crawlers there are, if
+    there are some; or else the URL that the warning is about."""
     if name == "needless-rule":
         kind, _, other = detail.partition(" ")
         level, text = WARNINGS[name][NEEDLESS.index(kind)]
