@@ -11,6 +11,7 @@ use crate::segments::{Ending, Pattern};
 
 impl<'a> Pattern<'a> {
     /// Whether the pattern matches from the start of the text. It needn't match up to the end.
+    #[inline(always)]
     pub(crate) fn matches<A: Haystack>(&self, haystack: &mut A) -> bool
         ensures answer { IsTrue result ↔ Matches self.now (A.seen haystack.old).text }
         ensures looks { LooksAtMost (A.seen haystack.old) (A.seen haystack.new) (2 * length (A.seen haystack.old).text) }
