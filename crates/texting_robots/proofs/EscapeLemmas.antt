@@ -1,5 +1,5 @@
 -- The byte set in `escape.rt` escapes exactly the bytes that the specification escapes.
-use Rattle.std.proofs.Common.{◌≡◌, ℕ, ◌<◌, ◌≤◌, false, true, IsAscii, List, []}
+use Rattle.std.proofs.Common.{◌≡◌, ℕ, ◌<◌, ◌≤◌, false, IsAscii, List, []}
 use Rattle.std.proofs.Common.{◌∷◌, ◌++◌, refl, ap, inl, inr, arith}
 use Rattle.std.specs.List.{list_any}
 use Rattle.std.proofs.Math.Bool.{or-true}
