@@ -5,6 +5,7 @@ pub mod TrimLemmas
 pub mod KeyLemmas
 pub mod RegionLemmas
 pub mod StatementLemmas
+pub mod UsualLemmas
 pub mod DelayNumbers
 pub mod DelayLemmas
 pub mod LineLemmas

@@ -120,10 +120,34 @@ fn after_usual<'a>(kind: Kind, text: &'a [u8]) -> Option<&'a [u8]>
     ensures { IfSome result (λ rest. after_any (field_names kind) text.now ≡ Some rest.now) }
 {
     match kind {
-        Kind::UserAgent => text.strip_prefix(b"User-agent"),
-        Kind::Allow => text.strip_prefix(b"Allow"),
-        Kind::Disallow => text.strip_prefix(b"Disallow"),
-        Kind::Sitemap => text.strip_prefix(b"Sitemap"),
+        Kind::UserAgent => match text {
+            [
+                b'U',
+                b's',
+                b'e',
+                b'r',
+                b'-',
+                b'a',
+                b'g',
+                b'e',
+                b'n',
+                b't',
+                rest @ ..,
+            ] => Some(rest),
+            _ => None,
+        },
+        Kind::Allow => match text {
+            [b'A', b'l', b'l', b'o', b'w', rest @ ..] => Some(rest),
+            _ => None,
+        },
+        Kind::Disallow => match text {
+            [b'D', b'i', b's', b'a', b'l', b'l', b'o', b'w', rest @ ..] => Some(rest),
+            _ => None,
+        },
+        Kind::Sitemap => match text {
+            [b'S', b'i', b't', b'e', b'm', b'a', b'p', rest @ ..] => Some(rest),
+            _ => None,
+        },
         Kind::CrawlDelay => text.strip_prefix(b"Crawl-delay"),
     }
 }
