@@ -1,22 +1,25 @@
-use Rattle.std.proofs.Common.{arith, codes, refl}
+use Rattle.std.proofs.Common.{[], ◌∷◌, arith, codes, refl}
 use Rattle.std.proofs.lemmas.List.{take_rest}
 use Rattle.texting_robots.proofs.UsualLemmas.{usual_is}
 use Rattle.texting_robots.proofs.parser.statement.after_usual.Goals as goal
 
 pub returns-in-85 : goal.returns-in-85
 returns-in-85 c =
-    rw (c.in-UserAgent.is, take_rest) (usual_is c.args.text.now (codes "User-agent") _ _ (omega arith)
+    rw (c.in-UserAgent.is, take_rest) (usual_is c.args.text.now (codes "User-agent") (codes "user-agent")
+    (codes "user agent" ∷ codes "useragent" ∷ []) (omega arith)
     (omega arith, (omega arith, (omega arith, (omega arith, (omega arith, (omega arith,
     (omega arith, (omega arith, (omega arith, (omega arith, tt)))))))))) refl refl)
 
 pub returns-in-68 : goal.returns-in-68
 returns-in-68 c =
-    rw (c.in-Disallow.is, take_rest) (usual_is c.args.text.now (codes "Disallow") _ _ (omega arith)
+    rw (c.in-Disallow.is, take_rest) (usual_is c.args.text.now (codes "Disallow") (codes "disallow")
+    (codes "dissallow" ∷ codes "dissalow" ∷ codes "disalow" ∷ codes "diasllow" ∷ codes "disallaw" ∷ []) (omega arith)
     (omega arith, (omega arith, (omega arith, (omega arith, (omega arith, (omega arith,
     (omega arith, (omega arith, tt)))))))) refl refl)
 
 pub returns-in-83 : goal.returns-in-83
 returns-in-83 c =
-    rw (c.in-Sitemap.is, take_rest) (usual_is c.args.text.now (codes "Sitemap") _ _ (omega arith)
+    rw (c.in-Sitemap.is, take_rest) (usual_is c.args.text.now (codes "Sitemap") (codes "sitemap")
+    (codes "site-map" ∷ codes "site map" ∷ []) (omega arith)
     (omega arith, (omega arith, (omega arith, (omega arith, (omega arith, (omega arith,
     (omega arith, tt))))))) refl refl)
