@@ -14,7 +14,7 @@ use Rattle.texting_robots.specs.{Verdict.IsVerdict, View.LooksAtMost, View.ViewV
 use Rattle.texting_robots.specs.Line.{AreFileLinesOf, HasLines, LineValue, Allow, Disallow, nul_as_lf}
 use Rattle.texting_robots.specs.Robot.{AnswerAlike, IsFileRejected, IsRobotOf, IsRobotOfFile, RobotValue}
 use Rattle.texting_robots.specs.Robot.{file_limit}
-use Rattle.texting_robots.specs.Rules.{AreRulesFor, HasNoRulesOrSitemaps, HoldsRule, IsFirstOverlong}
+use Rattle.texting_robots.specs.Rules.{AreRulesFor, AreSitemapsOf, HasNoRulesOrSitemaps, HoldsRule, IsFirstOverlong}
 use Rattle.texting_robots.specs.Rules.{IsDelayFor, IsRejected}
 use Rattle.texting_robots.specs.Rules.{PlacedRule, Rule, unplaced}
 use Rattle.texting_robots.proofs.BestLemmas.{none_denies, verdict_by}
@@ -119,14 +119,26 @@ rejected_of agent file number is =
     has_lines file (IsRejected agent)
     ((rejection_is_computed agent (file_lines file)).1 (some_overlong _ number is))
 
+-- if a file gives a crawler no rule, none is computed for it
+pub no_rules_of : (agent file : List ℕ) → HasLines file (λ lines. AreRulesFor agent lines [])
+    → placed_rules agent (file_lines file) ≡ []
+no_rules_of agent file (lines, are, rules) =
+    let moved = (rules_are_computed agent lines []).0 rules in
+    let none = nil_from_length (placed_rules agent lines) (sym (length_permutation _ _ moved)) in
+    rw ((each_text_has_its_lines (map nul_as_lf file) lines).0 are) at none
+
+-- a property of a file's sitemaps determines them
+pub sitemaps_of : (file : List ℕ) (sitemaps : List (List ℕ))
+    → HasLines file (λ lines. AreSitemapsOf lines sitemaps) → sitemaps ≡ sitemaps_in (file_lines file)
+sitemaps_of file sitemaps (lines, are, is) =
+    rw ((each_text_has_its_lines (map nul_as_lf file) lines).0 are) at
+    ((sitemaps_are_computed lines sitemaps).0 is)
+
 -- if a file gives a crawler nothing, no rule and no sitemap is computed for it
 pub nothing_of : (agent file : List ℕ) → HasLines file (HasNoRulesOrSitemaps agent)
     → (placed_rules agent (file_lines file) ≡ []) × (sitemaps_in (file_lines file) ≡ [])
 nothing_of agent file (lines, are, (rules, sitemaps)) =
-    let same = (each_text_has_its_lines (map nul_as_lf file) lines).0 are in
-    let moved = (rules_are_computed agent lines []).0 rules in
-    let none = nil_from_length (placed_rules agent lines) (sym (length_permutation _ _ moved)) in
-    (rw same at none, rw same at (sym ((sitemaps_are_computed lines []).0 sitemaps)))
+    (no_rules_of agent file (lines, are, rules), sym (sitemaps_of file [] (lines, are, sitemaps)))
 
 -- ---- a result
 

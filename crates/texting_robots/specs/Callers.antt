@@ -10,7 +10,7 @@ pub use Rattle.texting_robots.specs.Group.{IsCaptured, group_name, is_agent_name
 pub use Rattle.texting_robots.specs.Rules.{PlacedRule, Rule, unplaced, AreRulesFor, HoldsRule, IsRejected}
 pub use Rattle.texting_robots.specs.Rules.{AreSitemapsOf, HasNoRulesOrSitemaps, IsDelayFor, IsFirstOverlong}
 pub use Rattle.texting_robots.specs.Robot.{RobotValue, AnswerAlike, IsFileRejected, IsRobotOf, IsRobotOfFile}
-pub use Rattle.texting_robots.specs.Robot.{file_limit}
+pub use Rattle.texting_robots.specs.Robot.{IsRobotWithoutSitemaps, file_limit}
 pub use Rattle.texting_robots.specs.Labels.{
   AreLabelsOf,
   Label,

@@ -1,5 +1,5 @@
 -- What contracts state about a robot.
-use Rattle.std.specs.Prelude.{◌≡◌, ◌↔◌, ℕ, Bool, List, Option}
+use Rattle.std.specs.Prelude.{◌≡◌, ◌↔◌, ℕ, [], Bool, List, Option}
 use Rattle.texting_robots.specs.Rules.{AreRulesFor, AreSitemapsOf, IsDelayFor, IsRejected, PlacedRule}
 use Rattle.texting_robots.specs.Rules.{unplaced}
 use Rattle.texting_robots.specs.{Cost.cost_of, Decision.IsDecidingLine, Decision.LooksForRules, Line.HasLines}
@@ -25,6 +25,12 @@ pub record IsRobotOf (agent : List ℕ) (lines : List LineValue) (robot : RobotV
 -- the robot is the one for this crawler and this file
 abbrev pub IsRobotOfFile : List ℕ → List ℕ → RobotValue → Type 0
 IsRobotOfFile agent file robot = HasLines file (λ lines. IsRobotOf agent lines robot)
+
+-- the same, but the robot has no sitemaps, whatever the file lists
+abbrev pub IsRobotWithoutSitemaps : List ℕ → List ℕ → RobotValue → Type 0
+IsRobotWithoutSitemaps agent file robot =
+    (robot.sitemaps ≡ []) × (sitemaps : List (List ℕ))
+    × IsRobotOfFile agent file (record { delay = robot.delay; sitemaps = sitemaps; rules = robot.rules })
 
 -- some line of this file holds an overlong rule for the crawler
 abbrev pub IsFileRejected : List ℕ → List ℕ → Type 0

@@ -1,5 +1,5 @@
 //! The robot: what a robots.txt file means for one crawler.
-ghost use Rattle.std.specs.Prelude.{◌≡◌, ◌≢◌, ◌+◌, ◌<◌, ◌≤◌, ◌^◌, IfErr, IfOk, IsOk, None, length, string_bytes, take};
+ghost use Rattle.std.specs.Prelude.{◌≡◌, ◌≢◌, ◌+◌, ◌*◌, ◌<◌, ◌≤◌, ◌^◌, IfErr, IfOk, IsOk, None, length, string_bytes, take};
 ghost use Rattle.texting_robots.specs.Cost.{cost_of};
 ghost use Rattle.texting_robots.specs.Decision.{IsDecidingLine, IsDecisionOn, LooksForRules};
 ghost use Rattle.texting_robots.specs.Error.{IsMemoryErrorOr};
@@ -86,6 +86,20 @@ impl Robot {
             Err(Rejection::Overlong(_)) => Err(Error::InvalidRule),
             Err(Rejection::Memory) => Err(Error::Memory),
         }
+    }
+
+    /// How many bytes of memory it takes: its own size and the capacities of its vectors. For each rule it is at least
+    /// 64 bytes. Only this bound is proved; tests compare the number with what was allocated.
+    pub fn bytes(&self) -> usize
+        ensures { seen_of (64 * length self.now.rules) ≤ result }
+    {
+        let mut sitemaps = self.sitemaps.capacity().saturating_mul(size_of::<String>());
+        for sitemap in &self.sitemaps {
+            sitemaps = sitemaps.saturating_add(sitemap.capacity());
+        }
+        size_of::<Robot>()
+            .saturating_add(sitemaps)
+            .saturating_add(self.rules.bytes())
     }
 
     /// The match target of a URL, which patterns are compared with: its path, query and fragment, as the crate `url`

@@ -1,5 +1,5 @@
 //! A robots.txt file that is read once for many crawlers.
-ghost use Rattle.std.specs.Prelude.{◌≡◌, ◌++◌, [], All, Any, IfErr, IfOk, IsOk, None, OnOk, map, slice_get, string_bytes, take};
+ghost use Rattle.std.specs.Prelude.{◌≡◌, ◌≤◌, ◌++◌, [], All, Any, IfErr, IfOk, IsOk, None, OnOk, length, map, slice_get, string_bytes, take};
 ghost use Rattle.std.specs.List.{filter_map, list_any};
 ghost use Rattle.std.specs.Option.{option_to_list};
 ghost use Rattle.std.specs.Str.{str_to_ascii_lowercase};
@@ -10,8 +10,8 @@ ghost use Rattle.texting_robots.specs.Group.{group_name, is_agent};
 ghost use Rattle.texting_robots.specs.Line.{HasLines, by_value};
 ghost use Rattle.texting_robots.specs.Labels.{is_named};
 ghost use Rattle.texting_robots.specs.Pattern.{IsOverlong};
-ghost use Rattle.texting_robots.specs.Robot.{IsFileRejected, IsRobotOfFile, file_limit};
-ghost use Rattle.texting_robots.specs.Rules.{AreSitemapsOf, HasNoRulesOrSitemaps, IsDelayFor};
+ghost use Rattle.texting_robots.specs.Robot.{IsFileRejected, IsRobotOfFile, IsRobotWithoutSitemaps, file_limit};
+ghost use Rattle.texting_robots.specs.Rules.{AreRulesFor, AreSitemapsOf, HasNoRulesOrSitemaps, IsDelayFor};
 ghost use Rattle.texting_robots.specs.Internal.Entries.{AreEntries, rules_in};
 ghost use Rattle.texting_robots.specs.Internal.Group.{text_from};
 ghost use Rattle.texting_robots.specs.OwnLines.{delay_of, rule_of};
@@ -117,6 +117,20 @@ impl Site {
         })
     }
 
+    /// How many bytes of memory it takes: its own size and the capacities of its vectors. Only a bound is proved; tests
+    /// compare the number with what was allocated.
+    pub fn bytes(&self) -> usize
+        ensures { length self.now ≤ result }
+    {
+        let lines = self.lines.capacity().saturating_mul(size_of::<KeptLine>());
+        let sitemaps = self.sitemaps.capacity().saturating_mul(size_of::<Span>());
+        size_of::<Site>()
+            .saturating_add(self.text.capacity())
+            .saturating_add(lines)
+            .saturating_add(sitemaps)
+            .saturating_add(self.names.bytes())
+    }
+
     /// The bytes that were read.
     pub fn text(&self) -> &[u8]
         ensures { result.now ≡ self.now }
@@ -209,8 +223,29 @@ impl Site {
         Ok(own)
     }
 
-    /// The robot for the crawler with the product token `agent`, like that of [`Robot::new`]. Of the group lines it
-    /// parses only those that apply to this crawler. It copies the sitemaps.
+    /// The robot for the crawler with the product token `agent`, like that of [`Robot::new`], but without sitemaps. Of
+    /// the group lines it parses only those that apply to this crawler. Only rules are allocated.
+    ///
+    /// # Errors
+    ///
+    /// As for [`Robot::new`].
+    pub fn robot_without_sitemaps(&self, alloc: Global, agent: &str) -> Result<Robot, Error>
+        ensures robot { IfOk result (IsRobotWithoutSitemaps agent.now self.now) }
+        ensures rejected { IfErr result (IsMemoryErrorOr (IsFileRejected agent.now self.now)) }
+        ensures without_memory { HasLines self.now (λ lines. AreRulesFor agent.now lines []) → IsOk result }
+    {
+        let rules = match self.own_rules(alloc, agent) {
+            Ok(rules) => rules,
+            Err(error) => return Err(error),
+        };
+        Ok(Robot {
+            delay: self.delay(agent),
+            sitemaps: Vec::new(alloc),
+            rules: Rules::sorted(rules),
+        })
+    }
+
+    /// The robot that [`Site::robot_without_sitemaps`] makes, with a copy of the sitemaps.
     ///
     /// # Errors
     ///
@@ -220,19 +255,14 @@ impl Site {
         ensures rejected { IfErr result (IsMemoryErrorOr (IsFileRejected agent.now self.now)) }
         ensures without_memory { HasLines self.now (HasNoRulesOrSitemaps agent.now) → IsOk result }
     {
-        let rules = match self.own_rules(alloc, agent) {
-            Ok(rules) => rules,
+        let robot = match self.robot_without_sitemaps(alloc, agent) {
+            Ok(robot) => robot,
             Err(error) => return Err(error),
         };
-        let sitemaps = match self.all_sitemaps(alloc) {
-            Ok(sitemaps) => sitemaps,
-            Err(AllocError) => return Err(Error::Memory),
-        };
-        Ok(Robot {
-            delay: self.delay(agent),
-            sitemaps,
-            rules: Rules::sorted(rules),
-        })
+        match self.all_sitemaps(alloc) {
+            Ok(sitemaps) => Ok(Robot { sitemaps, ..robot }),
+            Err(AllocError) => Err(Error::Memory),
+        }
     }
 
     /// The first delay that applies to the crawler.

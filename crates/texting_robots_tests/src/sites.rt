@@ -1,8 +1,8 @@
 //! A file that is read once for all crawlers, and what it means for each crawler.
-use crate::helpers::{Verdicts, check, check_equal, check_sitemaps, check_url, long_text};
+use crate::helpers::{Verdicts, check, check_equal, check_sitemaps, check_url, long_text, shown};
 use std::process::Abort;
 use texting_robots::labels::first_overlong_line;
-use texting_robots::{Error, Site};
+use texting_robots::{Error, Robot, Site};
 
 /// A file that is read up to a limit, the crawlers that it names, its sitemaps, and what it means for some crawlers.
 struct SiteCase {
@@ -150,20 +150,24 @@ fn check_lines(rt: &(impl Abort + AllocGlobal), site: &Site, case: &CrawlerCase)
     check(rt, agent, rules.next().is_none());
 }
 
-/// Checks the crawler's robot.
+/// Checks the crawler's robot, with sitemaps and without.
 fn check_robot(
     rt: &(impl Abort + AllocGlobal),
     site: &Site,
     case: &CrawlerCase,
     sitemaps: &[&str],
 ) {
-    let robot = site.robot(rt.alloc(), case.agent).expect(rt, case.agent);
+    let mut robot = site.robot(rt.alloc(), case.agent).expect(rt, case.agent);
     let delays = [site.delay(case.agent), robot.delay];
     check_equal(rt, case.agent, &delays, &[case.delay; 2]);
     check_sitemaps(rt, case.agent, &robot.sitemaps, sitemaps);
     for (url, verdict) in case.verdicts {
         check_url(rt, &robot, url, *verdict);
     }
+    let lean = site.robot_without_sitemaps(rt.alloc(), case.agent);
+    robot.sitemaps.clear();
+    let lean = shown(rt, &lean.expect(rt, case.agent));
+    check_equal(rt, case.agent, &lean, &shown(rt, &robot));
 }
 
 #[test]
@@ -208,9 +212,33 @@ fn a_rule_that_is_too_long_is_its_own_crawlers(rt: HostRuntime) {
         check_equal(&rt, agent, &site.delay(agent), delay);
         let is_error = matches!(site.robot(rt.alloc(), agent), Err(Error::InvalidRule));
         check_equal(&rt, agent, &is_error, &want.is_some());
+        let lean = site.robot_without_sitemaps(rt.alloc(), agent);
+        let is_error = matches!(lean, Err(Error::InvalidRule));
+        check_equal(&rt, agent, &is_error, &want.is_some());
     }
     let robot = site.robot(rt.alloc(), "B").expect(&rt, "robot");
     check(&rt, "rule", !robot.decision_prepared("/b").allowed);
     let sitemaps = site.sitemaps(rt.alloc()).expect(&rt, "sitemaps");
     check_sitemaps(&rt, "sitemaps", &sitemaps, &["/s"]);
+}
+
+/// Each rule is an entry of 64 bytes, a mask of 8, and its pattern. A site has 32 bytes for each group line, of which it
+/// reserves a power of two, and 16 for each sitemap.
+#[test]
+fn bytes_are_counted(rt: HostRuntime) {
+    let parts = [("Disallow: /a\n", 60), ("Sitemap: /s\n", 4)];
+    let file = long_text(&rt, "file", &parts);
+    for (file, rules, sitemaps, lines) in [
+        ("", 0, 0, 0),
+        (&file, 60 * 74, 4 * 26, 64 * 32 + 4 * 16),
+    ] {
+        let site = Site::new(rt.alloc(), file.as_bytes()).expect(&rt, "site");
+        let robot = site.robot(rt.alloc(), "a").expect(&rt, "robot");
+        let lean = site.robot_without_sitemaps(rt.alloc(), "a");
+        let bytes = [robot.bytes(), lean.expect(&rt, "lean").bytes()];
+        let least = size_of::<Robot>() + rules;
+        check_equal(&rt, "robots", &bytes, &[least + sitemaps, least]);
+        let want = size_of::<Site>() + file.len() + lines;
+        check_equal(&rt, "site", &site.bytes(), &want);
+    }
 }

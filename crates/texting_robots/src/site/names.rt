@@ -110,6 +110,16 @@ impl Names {
         position
     }
 
+    /// How many bytes it has allocated.
+    pub(crate) fn bytes(&self) -> usize {
+        let mut bytes = self.lines.capacity().saturating_mul(size_of::<AgentLine>());
+        for line in &self.lines {
+            bytes = bytes.saturating_add(line.name.capacity());
+        }
+        let links = self.heads.capacity().saturating_add(self.nexts.capacity());
+        bytes.saturating_add(links.saturating_mul(size_of::<usize>()))
+    }
+
     /// The index of the first line with the name, ASCII letters in any case, or the number of lines.
     pub(crate) fn first(&self, name: &[u8]) -> usize
         ensures { result ≡ first_named (str_to_ascii_lowercase name.now) self.now }

@@ -1,0 +1,27 @@
+use Rattle.std.proofs.Common.{List, IsPermutation, refl, rules, subst}
+use Rattle.texting_robots.specs.{Executable.file_lines, Executable.sitemaps_in, Pattern.IsOverlong}
+use Rattle.texting_robots.specs.{Rules.PlacedRule, Rules.Rule}
+use Rattle.texting_robots.proofs.MainTheoremLemmas.{no_rules_of, read_delay, robot_of}
+use Rattle.texting_robots.proofs.{RulesLemmas.none_unplaced, RulesLemmas.rejected_wider}
+use Rattle.texting_robots.proofs.SiteOwnLemmas.{file_rejected}
+use Rattle.texting_robots.proofs.site.Site.robot_without_sitemaps.Goals as goal
+
+pub returns-in-Err-clause-rejected : goal.returns-in-Err-clause-rejected
+returns-in-Err-clause-rejected c =
+    rejected_wider _ _ c.in-Err.error (file_rejected c.args.agent.now c.args.self.now)
+    c.in-Err.ensures.rejected
+
+pub returns-clause-robot : goal.returns-clause-robot
+returns-clause-robot c =
+    let none = none_unplaced (λ (rule : Rule). IsOverlong rule.0) _ c.in-Ok.ensures.accepted in
+    (search rules, sitemaps_in (file_lines c.args.self.now), robot_of c.args.agent.now c.args.self.now _ (record {
+      delay = read_delay _ _ _ c.delay.ensures;
+      sitemaps = refl;
+      rules = subst (λ (all : List PlacedRule). IsPermutation all c.sorted.result) c.in-Ok.ensures.rules
+          c.sorted.ensures;
+      accepted = rw c.in-Ok.ensures.rules at none;
+    }))
+
+pub returns-in-Err-clause-without_memory : goal.returns-in-Err-clause-without_memory
+returns-in-Err-clause-without_memory c = λ nothing.
+    c.in-Err.ensures.without_memory (no_rules_of c.args.agent.now _ nothing)
