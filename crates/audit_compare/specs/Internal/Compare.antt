@@ -1,5 +1,5 @@
 -- The comparison of two files as the code does it.
-use Rattle.std.specs.Prelude.{◌≡◌, ℕ, Bool, List, [], ◌∷◌, ◌++◌, if◌then◌else◌, map, not, take}
+use Rattle.std.specs.Prelude.{◌≡◌, ℕ, Bool, List, [], ◌∷◌, ◌++◌, if◌then◌else◌, map, not, option_map, take}
 use Rattle.std.specs.{BTreeSet.BTreeSet, BTreeSet.contains, BTreeSet.contains_text}
 use Rattle.texting_robots.specs.Callers.{PlacedRule, Rule, file_limit, label_by_value, lines_read}
 use Rattle.robots_warnings.specs.{File.lines_of, Internal.Names.Key, Internal.Names.key_cmp}
@@ -8,8 +8,10 @@ use Rattle.audit_compare.specs.declared.compare.{Side.TheInside.Inside as Inside
 use Rattle.audit_compare.specs.declared.compared.{Compared.TheInside.Inside as InsideCompared}
 use Rattle.audit_compare.specs.declared.compared.{UrlChange.TheInside.Inside as InsideChange, Version.Version}
 use Rattle.audit_compare.specs.declared.rule_sets.RuleSet.{RuleSet}
-use Rattle.audit_compare.specs.Compare.{ComparedValue, ComparisonValue, SideValue, UrlChangeValue, has_rule}
-use Rattle.audit_compare.specs.Compare.{is_listed}
+use Rattle.audit_core.specs.declared.findings.Finding.{Finding}
+use Rattle.audit_core.specs.Findings.{finding_value}
+use Rattle.audit_compare.specs.Compare.{ComparedValue, ComparisonValue, Difference, SideValue, UrlChangeValue}
+use Rattle.audit_compare.specs.Compare.{finding_of, has_rule, is_listed}
 
 -- ---- sets
 
@@ -31,6 +33,12 @@ pub record AddsText (old new : BTreeSet Key) (text : List ℕ) (is_new : Bool) :
   pub was : (texts : List (List ℕ)) → HasTexts texts old → is_new ≡ not (is_listed texts text)
   pub has : (texts : List (List ℕ)) → HasTexts texts old → HasTexts (texts ++ text ∷ []) new
 
+-- ---- findings
+
+-- the differences were added as findings
+abbrev pub Adds : (old new : List Finding) → List Difference → Type 0
+Adds old new differences = map finding_value new ≡ map finding_value old ++ map finding_of differences
+
 -- ---- files
 
 -- the parts are those of the file with these bytes
@@ -46,6 +54,7 @@ change_of change = record { url = change.url.now; older = change.older; newer = 
 abbrev pub compared_of : InsideCompared → ComparedValue
 compared_of compared = record {
   agent = compared.agent.now;
+  vendor = option_map (λ name. name.now) compared.vendor;
   older = compared.older;
   newer = compared.newer;
   removed = compared.removed.items;
@@ -54,7 +63,7 @@ compared_of compared = record {
 }
 
 abbrev pub side_of : InsideSide → SideValue
-side_of side = record { name = side.name.now; is_empty = side.is_empty }
+side_of side = record { name = side.name.now; has_no_directive = side.has_no_directive }
 
 abbrev pub comparison_of : InsideComparison → ComparisonValue
 comparison_of comparison = record {
