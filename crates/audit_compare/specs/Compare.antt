@@ -1,7 +1,7 @@
 -- Two versions of a robots.txt file compared: for each crawler the group, the delay and the rules that
 -- differ, and the URLs with another verdict or another deciding rule; and the sitemaps that only one lists.
 use Rattle.std.specs.Prelude.{◌≡◌, ℕ, ◌==◌, Bool, true, false, not, ◌&&◌, ◌||◌, List, [], ◌∷◌, ◌++◌, Option}
-use Rattle.std.specs.Prelude.{Some, None, bytes_eq, codes, filter, flat_map, if◌then◌else◌, is_none, is_some}
+use Rattle.std.specs.Prelude.{Some, None, bytes_eq, codes, filter, flat_map, if◌then◌else◌, is_some}
 use Rattle.std.specs.Prelude.{length}
 use Rattle.std.specs.Prelude.{map, nat_eq, refl}
 use Rattle.std.specs.{List.AllZip, List.list_all, List.list_any, Option.option_eq}
@@ -13,7 +13,7 @@ use Rattle.printable_text.specs.declared.level.Level.TheVariants.{Error, Note, W
 use Rattle.printable_text.specs.Text.{Absent, Fixed, Label, Number, Part, PartValue, ReportLine, Untrusted}
 use Rattle.printable_text.specs.Text.{Value, Word, is_fixed, label, line_from, only, starts_line, word}
 use Rattle.robots_warnings.specs.declared.facts.LineKinds.{LineKinds}
-use Rattle.robots_warnings.specs.{Crawlers.other_group, Facts.kinds_of}
+use Rattle.robots_warnings.specs.Facts.{kinds_of}
 use Rattle.audit_core.specs.declared.group.Group.{Group}
 use Rattle.audit_core.specs.declared.group.Group.TheVariants.{Everyone, Named, Nobody, Star}
 use Rattle.audit_core.specs.Audit.{AgentValue, IsAgentAudit, VerdictValue, agents_requested}
@@ -37,27 +37,6 @@ rules_lacked others rules = filter (λ (placed : PlacedRule). not (has_rule othe
 -- the rules that these lines have for the crawler, and the other lines don't
 abbrev pub rules_only_in : List LineValue → List LineValue → List ℕ → List PlacedRule
 rules_only_in lines others agent = rules_lacked (placed_rules agent others) (placed_rules agent lines)
-
--- ---- the groups of vendors
-
--- neither file has other rules for the crawler than the other one
-abbrev pub are_same_rules : List LineValue → List LineValue → List ℕ → Bool
-are_same_rules older newer agent =
-    length (rules_only_in older newer agent) == 0 && length (rules_only_in newer older agent) == 0
-
--- this group, or none, is the same in both files, and so are its rules; an empty name is that of no group
-abbrev pub is_same_at_vendor : List LineValue → List LineValue → Option (List ℕ) → Option (List ℕ) → Bool
-is_same_at_vendor older newer None None = true
-is_same_at_vendor older newer (Some one) (Some other) =
-    bytes_eq one other && (length other == 0 || are_same_rules older newer other)
-is_same_at_vendor older newer _ _ = false
-
--- the other group that the vendor of the crawler applies, if that may change verdicts
-abbrev pub vendor_group : List LineValue → List LineValue → List ℕ → Option (List ℕ)
-vendor_group older newer agent =
-    let one = other_group older agent in
-    let other = other_group newer agent in
-    if is_same_at_vendor older newer one other then None else if is_some other then other else one
 
 -- ---- decisions on URLs
 
@@ -93,11 +72,10 @@ url_changes removed added _ _ = []
 
 -- ---- what both files mean for a crawler
 
--- a crawler, the other group that its vendor applies, if that may change verdicts, what each file means for
--- the crawler, the rules of each file that the other one lacks, and the URLs on which the decisions differ
+-- a crawler, what each file means for it, the rules of each file that the other one lacks, and the URLs on
+-- which the decisions differ
 pub record ComparedValue : Type 0 where
   pub agent : List ℕ
-  pub vendor : Option (List ℕ)
   pub older : AgentValue
   pub newer : AgentValue
   pub removed : List PlacedRule
@@ -108,7 +86,6 @@ pub record ComparedValue : Type 0 where
 pub record IsCompared (urls : List (List ℕ)) (older newer : List LineValue) (agent : List ℕ)
     (compared : ComparedValue) : Type 0 where
   pub agent_is : compared.agent ≡ agent
-  pub vendor_is : compared.vendor ≡ vendor_group older newer agent
   pub older_is : IsAgentAudit urls older agent compared.older
   pub newer_is : IsAgentAudit urls newer agent compared.newer
   pub removed_are : compared.removed ≡ rules_only_in older newer agent
@@ -312,12 +289,11 @@ is_rejected compared = is_some compared.older.rejected || is_some compared.newer
 abbrev pub has_same_rules : ComparedValue → Bool
 has_same_rules compared = length compared.removed == 0 && length compared.added == 0
 
--- no file is rejected for the crawler, and no group, not even at its vendor, delay or rule differs; by the
--- theorem `same_rules_decide_alike` no verdict differs then
+-- no file is rejected for the crawler, and no group, delay or rule differs; by the theorem
+-- `same_rules_decide_alike` no verdict differs then
 abbrev pub is_unchanged : ComparedValue → Bool
 is_unchanged compared =
-    (((is_none compared.vendor && not (is_rejected compared))
-    && is_same_group compared.older.group compared.newer.group)
+    ((not (is_rejected compared) && is_same_group compared.older.group compared.newer.group)
     && option_eq nat_eq compared.older.delay compared.newer.delay) && has_same_rules compared
 
 abbrev pub file_part : (is_new : Bool) → PartValue
@@ -341,28 +317,19 @@ rejection_of is_new agent (Some line) = (record {
 abbrev pub rejection : (is_new : Bool) → AgentValue → List Difference
 rejection is_new audit = rejection_of is_new audit.agent audit.rejected
 
--- which group the vendor applies, or that it applies none
-abbrev pub vendor_part : List ℕ → List PartValue
-vendor_part name =
-    if length name == 0 then only (codes ": its vendor doesn't apply the group * to it") refl ∷ []
-    else Part (label (codes ": its vendor applies the group ") refl) (Untrusted name)
-    ∷ only (codes "; compare that") refl ∷ []
-
--- that no rule was removed or added, if that is so, unless the group of the vendor may change verdicts
-abbrev pub same_rules : List ℕ → (vendor : Option (List ℕ)) → (has_same : Bool) → List Difference
-same_rules agent (Some name) has_same =
-    note (codes "vendor-group") refl (about agent (vendor_part name)) ∷ []
-same_rules agent None true =
-    note (codes "same-rules") refl
+-- that no rule was removed or added, if that is so
+abbrev pub same_rules : List ℕ → (has_same : Bool) → List Difference
+same_rules agent has_same =
+    if has_same then note (codes "same-rules") refl
     (about agent (only (codes ": same rules, so no URL's verdict differs") refl ∷ [])) ∷ []
-same_rules agent None false = []
+    else []
 
 -- what is reported on a crawler: nothing if it is unchanged
 abbrev pub crawler_changes : ComparedValue → List Difference
 crawler_changes compared =
     if is_rejected compared then rejection false compared.older ++ rejection true compared.newer
     else if is_unchanged compared then []
-    else differences compared ++ same_rules compared.agent compared.vendor (has_same_rules compared)
+    else differences compared ++ same_rules compared.agent (has_same_rules compared)
 
 -- ---- the report
 

@@ -1,16 +1,15 @@
 //! What two versions of a file mean for a crawler.
-ghost use Rattle.std.specs.Prelude.{◌≡◌, ◌++◌, IfErr, IfOk, OnOk, map, option_map};
+ghost use Rattle.std.specs.Prelude.{◌≡◌, ◌++◌, IfErr, IfOk, OnOk, map};
 ghost use Rattle.texting_robots.specs.Callers.{file_lines, lines_read};
 ghost use Rattle.audit_core.specs.Audit.{IsAgentAudit};
-ghost use Rattle.audit_compare.specs.Compare.{IsCompared, change_at, is_in_line_of, is_same_at_vendor};
-ghost use Rattle.audit_compare.specs.Compare.{is_same_decision, rules_only_in, url_changes, vendor_group};
+ghost use Rattle.audit_compare.specs.Compare.{IsCompared, change_at, is_in_line_of, is_same_decision, rules_only_in};
+ghost use Rattle.audit_compare.specs.Compare.{url_changes};
 ghost use Rattle.audit_compare.specs.Internal.Compare.{IsVersion};
 
 use crate::rule_sets::{RuleSet, rules_lacked};
 use audit_core::audit::{AgentAudit, Verdict, agent_audit};
 use audit_core::fault::Fault;
 use audit_core::rules::{Rule, rules_for};
-use robots_warnings::crawlers::other_group;
 use robots_warnings::file::labels_for;
 use std::alloc::{AllocError, Global};
 use std::marker::Model;
@@ -48,8 +47,6 @@ impl<'a> Model for UrlChange<'a> {
 #[derive(Drop)]
 pub struct Compared<'a> {
     pub agent: &'a str,
-    /// The other group that the crawler's vendor applies, if that may change verdicts.
-    pub vendor: Option<&'static str>,
     pub older: AgentAudit<'a>,
     pub newer: AgentAudit<'a>,
     /// The rules that only the older file has.
@@ -109,47 +106,6 @@ fn rule_changes(
     let removed = rules_lacked(&new_set, old_rules);
     let added = rules_lacked(&old_set, new_rules);
     Ok(RuleChanges { removed, added })
-}
-
-/// Whether this group, or none, is the same in both files, and so are its rules.
-fn is_same_at_vendor(
-    alloc: Global,
-    one: Option<&str>,
-    other: Option<&str>,
-    older: &Site,
-    newer: &Site,
-) -> Result<bool, AllocError>
-    ensures { IfOk result (λ same. same ≡ is_same_at_vendor (file_lines older.now) (file_lines newer.now)
-        (option_map (λ name. name.now) one.entry) (option_map (λ name. name.now) other.entry)) }
-{
-    match (one, other) {
-        (None, None) => Ok(true),
-        (Some(one), Some(other)) if one == other => {
-            let rules = rule_changes(alloc, other, older, newer)?;
-            Ok(other.is_empty() || rules.removed.is_empty() && rules.added.is_empty())
-        }
-        _ => Ok(false),
-    }
-}
-
-/// The other group that the vendor of the crawler applies, if that may change verdicts.
-fn vendor_group(
-    alloc: Global,
-    agent: &str,
-    older: &Site,
-    newer: &Site,
-) -> Result<Option<&'static str>, AllocError>
-    ensures { IfOk result (λ group. option_map (λ name. name.now) group
-        ≡ vendor_group (file_lines older.now) (file_lines newer.now) agent.now) }
-{
-    let (one, other) = (other_group(older, agent), other_group(newer, agent));
-    if is_same_at_vendor(alloc, one, other, older, newer)? {
-        Ok(None)
-    } else if other.is_some() {
-        Ok(other)
-    } else {
-        Ok(one)
-    }
 }
 
 /// What a file means for the crawler.
@@ -252,11 +208,9 @@ pub(crate) fn compared_for<'a>(
     let older_audit = audit_for(alloc, agent, older, urls)?;
     let newer_audit = audit_for(alloc, agent, newer, urls)?;
     let rules = rule_changes(alloc, agent, &older.site, &newer.site)?;
-    let vendor = vendor_group(alloc, agent, &older.site, &newer.site)?;
     let changes = changes_of(alloc, &rules, &older_audit, &newer_audit)?;
     Ok(Compared {
         agent,
-        vendor,
         older: older_audit,
         newer: newer_audit,
         removed: rules.removed,

@@ -1,17 +1,16 @@
 //! What differs between two files for a crawler, as findings.
-ghost use Rattle.std.specs.Prelude.{◌≡◌, ◌++◌, ◌∷◌, [], OnOk, map, option_map};
+ghost use Rattle.std.specs.Prelude.{◌≡◌, ◌++◌, ◌∷◌, [], OnOk, map};
 ghost use Rattle.std.specs.List.{list_all};
 ghost use Rattle.printable_text.specs.Raw.{raw_line, raw_text, raw_value};
 ghost use Rattle.printable_text.specs.Text.{line_text, part_text, value_text};
 ghost use Rattle.audit_core.specs.Findings.{finding_value};
-ghost use Rattle.audit_compare.specs.Compare.{about, change_name, change_part, crawler, crawler_changes};
+ghost use Rattle.audit_compare.specs.Compare.{change_name, change_part, crawler, crawler_changes};
 ghost use Rattle.audit_compare.specs.Compare.{deciding};
 ghost use Rattle.audit_compare.specs.Compare.{delay_changes, differences, file_part, group_changes};
 ghost use Rattle.audit_compare.specs.Compare.{has_same_rules};
 ghost use Rattle.audit_compare.specs.Compare.{is_rejected, is_same_group, is_unchanged, rejection};
 ghost use Rattle.audit_compare.specs.Compare.{rule_change};
 ghost use Rattle.audit_compare.specs.Compare.{rule_line, rule_name, same_rules, url_change, url_line};
-ghost use Rattle.audit_compare.specs.Compare.{vendor_part};
 ghost use Rattle.audit_compare.specs.Compare.{verdict_word};
 ghost use Rattle.audit_compare.specs.Internal.Compare.{Adds};
 
@@ -271,13 +270,12 @@ fn has_same_rules(compared: &Compared<'_>) -> bool
     compared.removed.is_empty() && compared.added.is_empty()
 }
 
-/// Whether no file is rejected for the crawler, and no group, not even at its vendor, delay or rule differs.
+/// Whether no file is rejected for the crawler, and no group, delay or rule differs.
 pub(crate) fn is_unchanged(compared: &Compared<'_>) -> bool
     ensures { result ≡ is_unchanged compared.now }
 {
     let (older, newer) = (&compared.older, &compared.newer);
-    compared.vendor.is_none()
-        && !is_rejected(compared)
+    !is_rejected(compared)
         && is_same_group(older.group, newer.group)
         && older.delay == newer.delay
         && has_same_rules(compared)
@@ -290,46 +288,21 @@ pub(crate) fn all_unchanged(crawlers: &[Compared<'_>]) -> bool
     crawlers.iter().all(is_unchanged)
 }
 
-/// Which group the vendor applies, or that it applies none.
-fn vendor_line<'a>(agent: &'a str, name: &'a str) -> [Part<'a>; 3]
-    ensures { raw_line result ≡ line_text (about agent.entry.now (vendor_part name.entry.now)) }
-{
-    if name.is_empty() {
-        let none = ": its vendor doesn't apply the group * to it";
-        let (what, nothing) = (Part(none, Value::Nothing), Part("", Value::Nothing));
-        return [crawler(agent), what, nothing];
-    }
-    let group = Value::Untrusted(name.as_bytes());
-    [
-        crawler(agent),
-        Part(": its vendor applies the group ", group),
-        Part("; compare that", Value::Nothing),
-    ]
-}
-
-/// Adds that no rule was removed or added, if that is so, unless the group of the vendor may change verdicts.
+/// Adds that no rule was removed or added, if that is so.
 fn add_same_rules(
     alloc: Global,
     found: &mut Findings,
     agent: &str,
-    vendor: Option<&str>,
     has_same: bool,
 ) -> Result<(), AllocError>
-    ensures { OnOk result (Adds found.old.items found.new.items
-        (same_rules agent.now (option_map (λ name. name.now) vendor.entry) has_same)) }
+    ensures { OnOk result (Adds found.old.items found.new.items (same_rules agent.now has_same)) }
 {
-    match vendor {
-        Some(group) => {
-            let parts = vendor_line(agent, group);
-            add(alloc, found, Level::Note, None, "vendor-group", &parts)
-        }
-        None if has_same => {
-            let what = Part(": same rules, so no URL's verdict differs", Value::Nothing);
-            let parts = [crawler(agent), what];
-            add(alloc, found, Level::Note, None, "same-rules", &parts)
-        }
-        None => Ok(()),
+    if !has_same {
+        return Ok(());
     }
+    let what = Part(": same rules, so no URL's verdict differs", Value::Nothing);
+    let parts = [crawler(agent), what];
+    add(alloc, found, Level::Note, None, "same-rules", &parts)
 }
 
 /// What a line about one of the files begins with.
@@ -381,6 +354,5 @@ pub(crate) fn add_crawler(
         return Ok(());
     }
     add_differences(alloc, found, compared)?;
-    let has_same = has_same_rules(compared);
-    add_same_rules(alloc, found, compared.agent, compared.vendor, has_same)
+    add_same_rules(alloc, found, compared.agent, has_same_rules(compared))
 }

@@ -1,5 +1,5 @@
 -- The comparison of two files as the code does it.
-use Rattle.std.specs.Prelude.{◌≡◌, ℕ, Bool, List, [], ◌∷◌, ◌++◌, if◌then◌else◌, map, not, option_map, take}
+use Rattle.std.specs.Prelude.{◌≡◌, ℕ, Bool, List, [], ◌∷◌, ◌++◌, if◌then◌else◌, map, not, take}
 use Rattle.std.specs.{BTreeSet.BTreeSet, BTreeSet.contains, BTreeSet.contains_text}
 use Rattle.texting_robots.specs.Callers.{PlacedRule, Rule, file_limit, label_by_value, lines_read}
 use Rattle.robots_warnings.specs.{File.lines_of, Internal.Names.Key, Internal.Names.key_cmp}
@@ -54,7 +54,6 @@ change_of change = record { url = change.url.now; older = change.older; newer = 
 abbrev pub compared_of : InsideCompared → ComparedValue
 compared_of compared = record {
   agent = compared.agent.now;
-  vendor = option_map (λ name. name.now) compared.vendor;
   older = compared.older;
   newer = compared.newer;
   removed = compared.removed.items;

@@ -4,7 +4,6 @@ use Rattle.audit_compare.proofs.compared.compared_for.Goals as goal
 pub returns-clause-ok : goal.returns-clause-ok
 returns-clause-ok c = record {
   agent_is = refl;
-  vendor_is = rw (c.requires.older.site, c.requires.newer.site) at c.in_ok-vendor.ensures;
   older_is = c.in_ok-older_audit.ensures.ok;
   newer_is = c.in_ok-newer_audit.ensures.ok;
   removed_are = rw (c.requires.older.site, c.requires.newer.site) at c.in_ok-rules.ensures.removed;
