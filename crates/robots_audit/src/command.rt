@@ -4,11 +4,9 @@ ghost use Rattle.std.specs.List.{list_all};
 ghost use Rattle.robots_warnings.specs.Table.{is_name};
 ghost use Rattle.audit_core.specs.Crawler.{IsNoCrawlerIn};
 ghost use Rattle.audit_expect.specs.UrlList.{IsUrlFault};
-ghost use Rattle.robots_audit.specs.Command.{AreAgentsOf, AreNamesOf, AreUrlsOf, Asks, AreFilesGiven};
-ghost use Rattle.robots_audit.specs.Command.{LacksUrls, file_read};
-ghost use Rattle.robots_audit.specs.Command.{IsFileFault, IsFormatOf, has_urls, is_stdin, IsUnknownIn};
-ghost use Rattle.robots_audit.specs.Command.{level_named, reads_stdin_twice};
-ghost use Rattle.robots_audit.specs.Command.{requested_format, values_of};
+ghost use Rattle.robots_audit.specs.Command.{AreAgentsOf, AreNamesOf, AreUrlsOf, Asks, AreFilesGiven, LacksUrls};
+ghost use Rattle.robots_audit.specs.Command.{file_read, IsFileFault, IsFormatOf, has_urls, is_stdin, IsUnknownIn};
+ghost use Rattle.robots_audit.specs.Command.{level_named, reads_stdin_twice, requested_format, values_of};
 
 use crate::options::with_options;
 use audit_core::chosen::are_apart;

@@ -10,9 +10,8 @@ ghost use Rattle.audit_core.specs.{Color.requested_colors, Findings.FindingValue
 ghost use Rattle.audit_core.specs.{Fault.fault_text};
 ghost use Rattle.audit_core.specs.declared.request.Format.{Format};
 ghost use Rattle.audit_core.specs.declared.answer.Answer.{Answer};
-ghost use Rattle.printable_text.specs.{Color.IsColored, Color.IsForTerminal, PlainLine.IsPlainLine};
-ghost use Rattle.printable_text.specs.{Text.line_text, Text.written, Sanitize.has_command};
-ghost use Rattle.printable_text.specs.{Sanitize.IsPrintable};
+ghost use Rattle.printable_text.specs.{Color.IsColored, Color.IsForTerminal, PlainLine.IsPlainLine, Text.line_text};
+ghost use Rattle.printable_text.specs.{Text.written, Sanitize.has_command, Sanitize.IsPrintable};
 ghost use Rattle.audit_core.specs.declared.fault.Fault.{Fault};
 ghost use Rattle.audit_compare.specs.Compare.{ComparisonValue, all_differences, finding_of, report_lines};
 ghost use Rattle.audit_expect.specs.Expectations.{CheckedValue, IsReport, failures, result_lines};

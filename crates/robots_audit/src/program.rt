@@ -1,10 +1,8 @@
 //! The audit of a file and the report on it, without the command line, input and output.
 ghost use Rattle.std.specs.Prelude.{◌≡◌, IfErr, IfOk, Some, map, option_map, string_bytes};
 ghost use Rattle.robots_audit.specs.Answer.{IsAudited, IsComparisonAnswer, IsExpected, IsFileUnreadable};
-ghost use Rattle.robots_audit.specs.Answer.{IsFormatFault};
-ghost use Rattle.robots_audit.specs.Answer.{given_name, has_all_urls, is_warned, leaves_out_allowed};
-ghost use Rattle.robots_audit.specs.Answer.{listed_in};
-ghost use Rattle.robots_audit.specs.Answer.{message, output};
+ghost use Rattle.robots_audit.specs.Answer.{IsFormatFault, given_name, has_all_urls, is_warned, leaves_out_allowed};
+ghost use Rattle.robots_audit.specs.Answer.{listed_in, message, output};
 ghost use Rattle.audit_compare.specs.Compare.{IsComparison};
 ghost use Rattle.audit_core.specs.{Findings.finding_value, Request.requested_by};
 
