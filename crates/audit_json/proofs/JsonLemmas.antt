@@ -227,7 +227,7 @@ pub findings_printable : (file : List ℕ) (all : List Found)
     → IsPrintable (findings_text file (map found_value all))
 findings_printable file all =
     plain_printable (findings_json file (map found_value all))
-    (refl, sanitized_printable file, refl, all_plain all, tt)
+    (assumption (sanitized_printable file, all_plain all))
 
 number_whole : (n : Option ℕ) → has_float (number_json n) ≡ false
 number_whole None = refl
