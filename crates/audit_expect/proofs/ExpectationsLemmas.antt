@@ -20,8 +20,7 @@ use Rattle.audit_core.specs.Findings.{FindingValue, found_value}
 use Rattle.audit_expect.specs.declared.expect.Expectation.{Expectation}
 use Rattle.audit_expect.specs.Expect.{ExpectationValue, expectations_in}
 use Rattle.audit_expect.specs.Expectations.{CheckedValue, IsChecked, IsReport, demand_parts, failure}
-use Rattle.audit_expect.specs.Expectations.{failures}
-use Rattle.audit_expect.specs.Expectations.{fails, holding, placed, reason_parts, result_lines}
+use Rattle.audit_expect.specs.Expectations.{failures, fails, holding, placed, reason_parts, result_lines}
 use Rattle.audit_expect.specs.Internal.Expect.{expectation_value}
 use Rattle.audit_expect.specs.Internal.Expectations.{AreFailuresOn}
 
@@ -93,7 +92,7 @@ report_made name text file items found report number is some are counted made = 
 -- ---- what the report contains
 
 -- the parts of a line
-failure_line : List ℕ → CheckedValue → NamedLine
+abbrev failure_line : List ℕ → CheckedValue → NamedLine
 failure_line name checked = record {
   name = name;
   rest = Part (label (codes ":") refl) (Number checked.expectation.number)

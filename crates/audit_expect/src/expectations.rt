@@ -9,12 +9,10 @@ ghost use Rattle.audit_core.specs.{Asked.asked_target, Findings.finding_value, F
 ghost use Rattle.audit_core.specs.Internal.{IsReading};
 ghost use Rattle.audit_expect.specs.declared.checks.Judgment.TheVariants.{Decided};
 ghost use Rattle.audit_expect.specs.Expect.{IsEntryFault, expectations_in as specified_in};
-ghost use Rattle.audit_expect.specs.Expectations.{IsAnswer, IsPlain, decision_parts, demand, demand_parts};
-ghost use Rattle.audit_expect.specs.Expectations.{failure};
-ghost use Rattle.audit_expect.specs.Expectations.{failures, group_parts, holding, judgment_parts};
-ghost use Rattle.audit_expect.specs.Expectations.{nobody_parts, place, placed};
-ghost use Rattle.audit_expect.specs.Expectations.{reason_parts, rejected_parts, result_lines, unmatched};
-ghost use Rattle.audit_expect.specs.Expectations.{vendor_parts};
+ghost use Rattle.audit_expect.specs.Expectations.{IsAnswer, IsPlain, decision_parts, demand, demand_parts, failure};
+ghost use Rattle.audit_expect.specs.Expectations.{failures, group_parts, holding, judgment_parts, nobody_parts};
+ghost use Rattle.audit_expect.specs.Expectations.{place, placed, reason_parts, rejected_parts, result_lines};
+ghost use Rattle.audit_expect.specs.Expectations.{unmatched, vendor_parts};
 ghost use Rattle.audit_expect.specs.Internal.Expect.{expectation_value};
 ghost use Rattle.audit_expect.specs.Internal.Expectations.{AreFailuresOn, IsReadFor, checked_value};
 
