@@ -4,14 +4,10 @@ ghost use Rattle.std.specs.List.{list_all};
 ghost use Rattle.printable_text.specs.Raw.{raw_line, raw_text, raw_value};
 ghost use Rattle.printable_text.specs.Text.{line_text, part_text, value_text};
 ghost use Rattle.audit_core.specs.Findings.{finding_value};
-ghost use Rattle.audit_compare.specs.Compare.{change_name, change_part, crawler, crawler_changes};
-ghost use Rattle.audit_compare.specs.Compare.{deciding};
-ghost use Rattle.audit_compare.specs.Compare.{delay_changes, differences, file_part, group_changes};
-ghost use Rattle.audit_compare.specs.Compare.{has_same_rules};
-ghost use Rattle.audit_compare.specs.Compare.{is_rejected, is_same_group, is_unchanged, rejection};
-ghost use Rattle.audit_compare.specs.Compare.{rule_change};
-ghost use Rattle.audit_compare.specs.Compare.{rule_line, rule_name, same_rules, url_change, url_line};
-ghost use Rattle.audit_compare.specs.Compare.{verdict_word};
+ghost use Rattle.audit_compare.specs.Compare.{change_name, change_part, crawler, crawler_changes, deciding};
+ghost use Rattle.audit_compare.specs.Compare.{delay_changes, differences, file_part, group_changes, has_same_rules};
+ghost use Rattle.audit_compare.specs.Compare.{is_rejected, is_same_group, is_unchanged, rejection, rule_change};
+ghost use Rattle.audit_compare.specs.Compare.{rule_line, rule_name, same_rules, url_change, url_line, verdict_word};
 ghost use Rattle.audit_compare.specs.Internal.Compare.{Adds};
 
 use crate::compared::{Compared, UrlChange};
@@ -253,7 +249,8 @@ fn add_differences(
     add_delays(alloc, found, agent, older.delay, newer.delay)?;
     add_rules(alloc, found, agent, false, &compared.removed)?;
     add_rules(alloc, found, agent, true, &compared.added)?;
-    add_urls(alloc, found, agent, &compared.changes)
+    add_urls(alloc, found, agent, &compared.changes)?;
+    Ok(())
 }
 
 /// Whether one of the files is rejected for the crawler.
@@ -354,5 +351,6 @@ pub(crate) fn add_crawler(
         return Ok(());
     }
     add_differences(alloc, found, compared)?;
-    add_same_rules(alloc, found, compared.agent, has_same_rules(compared))
+    add_same_rules(alloc, found, compared.agent, has_same_rules(compared))?;
+    Ok(())
 }

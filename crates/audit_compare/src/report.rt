@@ -5,8 +5,7 @@ ghost use Rattle.printable_text.specs.{Lines.ended, Raw.raw_line, Raw.raw_text};
 ghost use Rattle.printable_text.specs.Text.{line_text, part_text, written};
 ghost use Rattle.audit_core.specs.Findings.{finding_value};
 ghost use Rattle.audit_compare.specs.Compare.{all_differences, crawler_changes, empty_part, finding_of};
-ghost use Rattle.audit_compare.specs.Compare.{is_unchanged, report_lines, sides_line, sitemap_change};
-ghost use Rattle.audit_compare.specs.Compare.{unchanged};
+ghost use Rattle.audit_compare.specs.Compare.{is_unchanged, report_lines, sides_line, sitemap_change, unchanged};
 ghost use Rattle.audit_compare.specs.Compare.{unchanged_line, unchanged_part};
 ghost use Rattle.audit_compare.specs.Internal.Compare.{Adds};
 
