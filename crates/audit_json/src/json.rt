@@ -1,18 +1,21 @@
-//! The audit as one line of JSON.
+//! The audit, or other findings, as one line of JSON.
 ghost use Rattle.std.specs.Prelude.{◌≡◌, false, IfOk, map, option_map, string_bytes};
 ghost use Rattle.serde_json.specs.{View.view, Written.has_float};
 ghost use Rattle.texting_robots.specs.Callers.{by_value, file_bodies, label_by_value, sitemaps_in};
-ghost use Rattle.audit_json.specs.Json.{agent_json, audit_json, comment_json, group_word, json_line, json_text};
+ghost use Rattle.audit_json.specs.Json.{agent_json, audit_json, comment_json, finding_json, findings_json};
+ghost use Rattle.audit_json.specs.Json.{findings_text, group_word, json_line, json_text};
 ghost use Rattle.audit_json.specs.Json.{known_json, line_json, list_json, number_json, rows_json, sanitized_json};
 ghost use Rattle.audit_json.specs.Json.{value_json, verdict_json, warning_json, word_json};
-ghost use Rattle.audit_core.specs.Rows.{membership_word};
+ghost use Rattle.audit_core.specs.{Findings.finding_value, Rows.membership_word};
 ghost use Rattle.robots_warnings.specs.File.{lines_of};
 
 use audit_core::audit::{AgentAudit, Audit, Verdict};
+use audit_core::findings::Finding;
 use audit_core::group::Group;
 use audit_core::rows::{comment_of, has_value, kind_text, membership_word, push_value};
 use audit_core::sitemaps::sitemaps_of;
 use audit_core::texts::may_fetch;
+use printable_text::level::Level;
 use printable_text::sanitize::push_sanitized;
 use robots_warnings::warning::{Warning, push_warning_text};
 use serde_json::{Value, json};
@@ -175,6 +178,25 @@ impl<'a> Json for &'a [u8] {
     }
 }
 
+/// What is found, as a JSON object.
+fn finding_json(
+    alloc: Global,
+    level: Level,
+    line: Option<usize>,
+    name: &str,
+    text: &str,
+) -> Result<Value, AllocError>
+    ensures { IfOk result (λ value. view value ≡ finding_json
+        (record { level = level; line = line; name = name.now; message = text.now })) }
+{
+    json!(in alloc; {
+        "level": level.word(),
+        "line": line,
+        "name": name,
+        "text": text,
+    })
+}
+
 impl<'a> Json for Warning<'a> {
     ghost use Rattle.audit_json.specs.Json.{warning_json};
 
@@ -183,12 +205,24 @@ impl<'a> Json for Warning<'a> {
     fn json(&self, alloc: Global) -> Result<Value, AllocError> {
         let mut text = String::new(alloc);
         push_warning_text(&mut text, self)?;
-        json!(in alloc; {
-            "level": self.cause.level().word(),
-            "line": self.line,
-            "name": self.cause.name(),
-            "text": text,
-        })
+        finding_json(
+            alloc,
+            self.cause.level(),
+            self.line,
+            self.cause.name(),
+            &text,
+        )
+    }
+}
+
+impl Json for Finding {
+    ghost use Rattle.audit_core.specs.Findings.{finding_value};
+    ghost use Rattle.audit_json.specs.Json.{finding_json};
+
+    ghost json = { λ finding. finding_json (finding_value finding) };
+
+    fn json(&self, alloc: Global) -> Result<Value, AllocError> {
+        finding_json(alloc, self.level, self.line, self.name, &self.message)
     }
 }
 
@@ -283,4 +317,29 @@ pub fn json_text(alloc: Global, has_rows: bool, audit: &Audit<'_>) -> Result<Str
     ensures { IfOk result (λ text. string_bytes text ≡ json_text has_rows audit.now) }
 {
     json_line(alloc, &audit_json(alloc, has_rows, audit)?)
+}
+
+/// The findings as a JSON array.
+fn list_of_findings(alloc: Global, findings: &[Finding]) -> Result<Value, AllocError>
+    ensures { IfOk result (λ value. view value ≡ list_json finding_json (map finding_value findings.now)) }
+{
+    list_json(alloc, findings)
+}
+
+/// The findings about the file with this name, as a JSON object.
+fn findings_json(alloc: Global, file: &str, findings: &[Finding]) -> Result<Value, AllocError>
+    ensures { IfOk result (λ value. view value ≡ findings_json file.now (map finding_value findings.now)) }
+{
+    json!(in alloc; {
+        "file": sanitized_json(alloc, file.as_bytes())?,
+        "findings": list_of_findings(alloc, findings)?,
+    })
+}
+
+/// The same as one line.
+pub fn findings_text(alloc: Global, file: &str, findings: &[Finding]) -> Result<String, AllocError>
+    ensures { IfOk result (λ text.
+        string_bytes text ≡ findings_text file.now (map finding_value findings.now)) }
+{
+    json_line(alloc, &findings_json(alloc, file, findings)?)
 }
