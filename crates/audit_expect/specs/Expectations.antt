@@ -1,7 +1,6 @@
 -- Expectations checked against a robots.txt file, and the report on those that fail.
 use Rattle.std.specs.Prelude.{◌≡◌, ℕ, ◌==◌, Bool, true, false, not, ◌||◌, List, ◌++◌, Option, Some, None, Ok}
 use Rattle.std.specs.Prelude.{[], ◌∷◌, bytes_eq, codes, decimal, filter, if◌then◌else◌, length, map}
-use Rattle.std.specs.Prelude.{string_bytes}
 use Rattle.std.specs.List.{AllByRecursion as Each}
 use Rattle.std.proofs.Common.{refl}
 use Rattle.texting_robots.specs.Callers.{IsFirstOverlong, IsRejected, bodies_read, lines_read, placed_rules}
@@ -13,7 +12,6 @@ use Rattle.printable_text.specs.declared.level.Level.TheVariants.{Error}
 use Rattle.printable_text.specs.Text.{Count, Label, Number, Part, PartValue, ReportLine, Untrusted}
 use Rattle.printable_text.specs.Text.{label, line_from, line_text, only}
 use Rattle.robots_warnings.specs.Crawlers.{other_group}
-use Rattle.audit_core.specs.declared.answer.{Answer.Answer, Outcome.Outcome}
 use Rattle.audit_expect.specs.declared.checks.{AtVendor.AtVendor, Judgment.Judgment}
 use Rattle.audit_expect.specs.declared.checks.AtVendor.TheVariants.{Group, Nobody, Same}
 use Rattle.audit_expect.specs.declared.checks.Judgment.TheVariants.{Decided, Rejected}
@@ -187,15 +185,3 @@ pub record IsReport (name text file report : List ℕ) (found : List FindingValu
   pub some : (length checked == 0) ≡ false
   pub found_are : found ≡ failures checked
   pub whole : report ≡ ended (result_lines name (length checked) found)
-
--- the exit status says whether all hold, and nothing is written to standard error
-pub record IsPlain (all_hold : Bool) (outcome : Outcome) : Type 0 where
-  pub accepted : outcome.is_rejected ≡ false
-  pub passed : outcome.has_passed ≡ all_hold
-  pub unwarned : outcome.is_warned ≡ false
-  pub silent : string_bytes outcome.warnings ≡ []
-
--- the answer is the report on the expectations in the text, and the exit status depends on them alone
-abbrev pub IsAnswer : (name text file : List ℕ) → Answer → List FindingValue → Type 0
-IsAnswer name text file answer found =
-    IsReport name text file answer.report.items found × IsPlain (length found == 0) answer.outcome

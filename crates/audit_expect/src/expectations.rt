@@ -9,7 +9,7 @@ ghost use Rattle.audit_core.specs.{Asked.asked_target, Findings.finding_value, F
 ghost use Rattle.audit_core.specs.Internal.{IsReading};
 ghost use Rattle.audit_expect.specs.declared.checks.Judgment.TheVariants.{Decided};
 ghost use Rattle.audit_expect.specs.Expect.{IsEntryFault, expectations_in as specified_in};
-ghost use Rattle.audit_expect.specs.Expectations.{IsAnswer, IsPlain, decision_parts, demand, demand_parts, failure};
+ghost use Rattle.audit_expect.specs.Expectations.{IsReport, decision_parts, demand, demand_parts, failure};
 ghost use Rattle.audit_expect.specs.Expectations.{failures, group_parts, holding, judgment_parts, nobody_parts};
 ghost use Rattle.audit_expect.specs.Expectations.{place, placed, reason_parts, rejected_parts, result_lines};
 ghost use Rattle.audit_expect.specs.Expectations.{unmatched, vendor_parts};
@@ -20,7 +20,6 @@ use crate::checks::{AtVendor, Checked, Judgment, checked_on, fails, fails_here, 
 use crate::entries::without_entries;
 use crate::expect::{Expectation, expectations_in};
 use crate::other_reading::empty_disallows;
-use audit_core::answer::{Answer, Outcome};
 use audit_core::asked::asked_target;
 use audit_core::audit::{Reading, read_for};
 use audit_core::fault::{Entry, Fault};
@@ -364,22 +363,6 @@ fn result_text(
     Ok(text)
 }
 
-/// The answer with this report.
-fn answer_of(alloc: Global, text: String, has_passed: bool) -> Answer
-    ensures report { result.report.items ≡ string_bytes text }
-    ensures outcome { IsPlain has_passed result.outcome }
-{
-    Answer {
-        report: text.into_bytes(),
-        outcome: Outcome {
-            is_rejected: false,
-            has_passed,
-            is_warned: false,
-            warnings: String::new(alloc),
-        },
-    }
-}
-
 /// The expectations in this text, of a file with this name. Fails if there are none.
 fn parsed<'a>(alloc: Global, name: &str, text: &'a [u8]) -> Result<Vec<Expectation<'a>>, Fault>
     ensures ok { IfOk result (λ found. specified_in text.now ≡ Ok (map expectation_value found.items)) }
@@ -393,8 +376,8 @@ fn parsed<'a>(alloc: Global, name: &str, text: &'a [u8]) -> Result<Vec<Expectati
     Ok(found)
 }
 
-/// Checks the expectations in a text, of a file with this name, against a robots.txt file. The report, as text,
-/// has a line for each that fails, or how many hold if none fails; the findings are those that fail.
+/// Checks the expectations in a text, of a file with this name, against a robots.txt file. The report has a line for
+/// each that fails, or how many hold if none fails; the findings are those that fail.
 ///
 /// # Errors
 ///
@@ -406,14 +389,13 @@ pub fn check(
     name: &str,
     text: &[u8],
     file: &[u8],
-) -> Result<(Answer, Findings), Fault>
-    ensures ok { IfOk result (λ checked. IsAnswer name.now text.now file.now checked.0
+) -> Result<(String, Findings), Fault>
+    ensures ok { IfOk result (λ checked. IsReport name.now text.now file.now (string_bytes checked.0)
         (map finding_value checked.1.items)) }
     ensures fault { IfErr result (IsEntryFault name.now entry.Expectation (specified_in text.now)) }
 {
     let expectations = parsed(alloc, name, text)?;
     let found = failures(alloc, &expectations, file)?;
     let report = result_text(alloc, name, expectations.len(), &found)?;
-    let answer = answer_of(alloc, report, found.is_empty());
-    Ok((answer, found))
+    Ok((report, found))
 }

@@ -15,7 +15,6 @@ use audit_core::group::Group;
 use audit_core::rows::{comment_of, has_value, kind_text, membership_word, push_value};
 use audit_core::sitemaps::sitemaps_of;
 use audit_core::texts::may_fetch;
-use printable_text::level::Level;
 use printable_text::sanitize::push_sanitized;
 use robots_warnings::warning::{Warning, push_warning_text};
 use serde_json::{Value, json};
@@ -178,23 +177,20 @@ impl<'a> Json for &'a [u8] {
     }
 }
 
-/// What is found, as a JSON object.
-fn finding_json(
-    alloc: Global,
-    level: Level,
-    line: Option<usize>,
-    name: &str,
-    text: &str,
-) -> Result<Value, AllocError>
-    ensures { IfOk result (λ value. view value ≡ finding_json
-        (record { level = level; line = line; name = name.now; message = text.now })) }
-{
-    json!(in alloc; {
-        "level": level.word(),
-        "line": line,
-        "name": name,
-        "text": text,
-    })
+impl Json for Finding {
+    ghost use Rattle.audit_core.specs.Findings.{finding_value};
+    ghost use Rattle.audit_json.specs.Json.{finding_json};
+
+    ghost json = { λ finding. finding_json (finding_value finding) };
+
+    fn json(&self, alloc: Global) -> Result<Value, AllocError> {
+        json!(in alloc; {
+            "level": self.level.word(),
+            "line": self.line,
+            "name": self.name,
+            "text": self.message.as_str(),
+        })
+    }
 }
 
 impl<'a> Json for Warning<'a> {
@@ -203,26 +199,15 @@ impl<'a> Json for Warning<'a> {
     ghost json = { warning_json };
 
     fn json(&self, alloc: Global) -> Result<Value, AllocError> {
-        let mut text = String::new(alloc);
-        push_warning_text(&mut text, self)?;
-        finding_json(
-            alloc,
-            self.cause.level(),
-            self.line,
-            self.cause.name(),
-            &text,
-        )
-    }
-}
-
-impl Json for Finding {
-    ghost use Rattle.audit_core.specs.Findings.{finding_value};
-    ghost use Rattle.audit_json.specs.Json.{finding_json};
-
-    ghost json = { λ finding. finding_json (finding_value finding) };
-
-    fn json(&self, alloc: Global) -> Result<Value, AllocError> {
-        finding_json(alloc, self.level, self.line, self.name, &self.message)
+        let mut message = String::new(alloc);
+        push_warning_text(&mut message, self)?;
+        let finding = Finding {
+            level: self.cause.level(),
+            line: self.line,
+            name: self.cause.name(),
+            message,
+        };
+        finding.json(alloc)
     }
 }
 

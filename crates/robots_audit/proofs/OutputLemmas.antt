@@ -1,5 +1,6 @@
 -- A report is printable in each format.
-use Rattle.std.proofs.Common.{◌≡◌, ℕ, List, ◌++◌, Some, map, subst}
+use Rattle.std.proofs.Common.{ℕ, List, ◌++◌, map}
+use Rattle.std.proofs.lemmas.Simd.{map-map}
 use Rattle.printable_text.specs.Sanitize.{IsPrintable}
 use Rattle.printable_text.proofs.PartLemmas.{written_printable}
 use Rattle.audit_core.specs.declared.request.Format.{Format}
@@ -30,10 +31,10 @@ pub output_printable : (requested : RequestValue) (audit : AuditValue) → IsPri
 output_printable requested audit = output_in_printable requested.format requested audit
 
 -- so are those on findings, if they are printable as text
-pub listed_printable : (format : Format) (text file report : List ℕ) (all : List Found) → IsPrintable text
-    → listed_in format text file (map found_value all) ≡ Some report → IsPrintable report
-listed_printable Text text file report all is same = subst IsPrintable (cc) is
-listed_printable Json text file report all is same = subst IsPrintable (cc) (findings_printable file all)
-listed_printable Github text file report all is same = subst IsPrintable (cc) (github_printable file all)
-listed_printable Html text file report all is same = absurd (cc)
-listed_printable Sarif text file report all is same = absurd (cc)
+pub listed_printable : {X : Type 0} (value : X → Found) (format : Format) (file text : List ℕ) (all : List X)
+    → IsPrintable text → IsPrintable (listed_in format file text (map (λ one. found_value (value one)) all))
+listed_printable value Json file text all is =
+    rw (← map-map found_value value all) (findings_printable file (map value all))
+listed_printable value Github file text all is =
+    rw (← map-map found_value value all) (github_printable file (map value all))
+listed_printable value _ file text all is = is

@@ -15,11 +15,11 @@ use Rattle.audit_core.specs.declared.fault.Fault.{Fault}
 use Rattle.audit_core.specs.declared.fault.Fault.TheVariants.{File, Format as OfAudits, Memory, Words}
 use Rattle.audit_core.specs.declared.request.{Format.Format, Request.Request}
 use Rattle.audit_core.specs.declared.request.Format.TheVariants.{Github, Html, Json, Sarif, Text}
-use Rattle.robots_audit.specs.Command.{AreFilesGiven, IsFormatOf, IsOn, IsRequestOf, value_of}
+use Rattle.robots_audit.specs.Command.{HasFile, IsFormatOf, IsOn, IsRequestOf, value_of}
 use Rattle.audit_compare.specs.Compare.{ComparisonValue, IsComparison, all_differences, differs_nowhere}
 use Rattle.audit_compare.specs.Compare.{finding_of}
 use Rattle.audit_compare.specs.Compare.{rejects_some as rejects_one, report_lines as comparison_lines}
-use Rattle.audit_expect.specs.{Expectations.IsPlain, Expectations.IsReport, UrlList.HasUrlsIn}
+use Rattle.audit_expect.specs.{Expectations.IsReport, UrlList.HasUrlsIn}
 use Rattle.audit_text.specs.Report.{listed_lines, report_lines, total_line}
 use Rattle.audit_text.specs.{Github.github_text, Explain.explanation, Explain.list_text}
 use Rattle.audit_json.specs.{Json.findings_text, Json.json_text, Sarif.sarif_text}
@@ -97,14 +97,13 @@ pub record IsAudited (requested : RequestValue) (file : List ℕ) (answer : Answ
 
 -- ---- a comparison, and expectations
 
--- the report in this format on findings in the file with this name, where `text` is the report as text; pages
--- and logs are those of audits
-abbrev pub listed_in : Format → (text file : List ℕ) → List FindingValue → Option (List ℕ)
-listed_in Text text file found = Some text
-listed_in Json text file found = Some (findings_text file found)
-listed_in Github text file found = Some (github_text file found)
-listed_in format text file found = None
+-- the report in this format on findings in the file with this name, on which `text` is the report as text
+abbrev pub listed_in : Format → (file text : List ℕ) → List FindingValue → List ℕ
+listed_in Json file text found = findings_text file found
+listed_in Github file text found = github_text file found
+listed_in format file text found = text
 
+-- pages and logs are those of audits
 abbrev pub is_for_audits : Format → Bool
 is_for_audits Html = true
 is_for_audits Sarif = true
@@ -114,25 +113,30 @@ is_for_audits format = false
 abbrev pub IsFormatFault : Format → Fault → Type 0
 IsFormatFault format fault = (fault ≡ Memory) ⊎ ((is_for_audits format ≡ true) × (fault ≡ OfAudits))
 
--- the answer to a comparison of two files with these names and bytes; there are no warnings
-pub record IsComparisonAnswer (requested : RequestValue) (older_name older newer_name newer : List ℕ)
-    (answer : Answer) : Type 0 where
-  pub comparison : ComparisonValue
-  pub of : IsComparison requested.agents requested.urls older_name older newer_name newer comparison
-  pub report : listed_in requested.format (written (comparison_lines comparison)) (shown_name requested.file)
-      (map finding_of (all_differences comparison)) ≡ Some answer.report.items
-  pub rejected : answer.outcome.is_rejected ≡ rejects_one comparison
-  pub unchanged : answer.outcome.has_passed ≡ differs_nowhere comparison
+-- the answer is this report, and whether a file is rejected and all is well; there are no warnings
+pub record IsListed (format : Format) (file text : List ℕ) (found : List FindingValue)
+    (is_rejected has_passed : Bool) (answer : Answer) : Type 0 where
+  pub can_be : is_for_audits format ≡ false
+  pub report : answer.report.items ≡ listed_in format file text found
+  pub rejected : answer.outcome.is_rejected ≡ is_rejected
+  pub passed : answer.outcome.has_passed ≡ has_passed
   pub unwarned : answer.outcome.is_warned ≡ false
   pub silent : string_bytes answer.outcome.warnings ≡ []
 
--- the answer to a check of the expectations in a text, of a file with this name, which depends on them alone
+-- the answer to a comparison of two files with these names and bytes
+pub record IsCompared (requested : RequestValue) (older_name older newer_name newer : List ℕ)
+    (answer : Answer) : Type 0 where
+  pub comparison : ComparisonValue
+  pub of : IsComparison requested.agents requested.urls older_name older newer_name newer comparison
+  pub listed : IsListed requested.format (shown_name requested.file) (written (comparison_lines comparison))
+      (map finding_of (all_differences comparison)) (rejects_one comparison) (differs_nowhere comparison) answer
+
+-- the answer to a check of the expectations in a text, of a file with this name; a rejected file is a failure
 pub record IsExpected (format : Format) (name text file : List ℕ) (answer : Answer) : Type 0 where
-  pub plain : List ℕ
+  pub report : List ℕ
   pub found : List FindingValue
-  pub of : IsReport name text file plain found
-  pub report : listed_in format plain name found ≡ Some answer.report.items
-  pub outcome : IsPlain (length found == 0) answer.outcome
+  pub of : IsReport name text file report found
+  pub listed : IsListed format name report found false (length found == 0) answer
 
 -- ---- arguments
 
@@ -164,7 +168,7 @@ pub record AnswersAudit (by_default : Bool) (matches : ArgMatches) (answer : Ans
 
 -- a check of the expectations in the file with this name, against a file that can be a robots.txt file
 pub record AnswersExpectations (matches : ArgMatches) (name : List ℕ) (answer : Answer) : Type 0 where
-  pub are_given : AreFilesGiven matches
+  pub has_file : HasFile matches
   pub format : Format
   pub format_is : IsFormatOf matches format
   pub text : List ℕ
@@ -180,7 +184,7 @@ pub record AnswersComparison (matches : ArgMatches) (name : List ℕ) (answer : 
   pub newer : List ℕ
   pub older_can_be : content_flaw older ≡ None
   pub newer_can_be : content_flaw newer ≡ None
-  pub compared : IsComparisonAnswer requested name older (given_name requested.file) newer answer
+  pub compared : IsCompared requested name older (given_name requested.file) newer answer
 
 -- what the options `--explain`, `--expect` and `--compare` request, in this order, or else an audit
 abbrev pub AnswersOptions : (explain expect compare : Option (List ℕ)) → (by_default : Bool) → ArgMatches

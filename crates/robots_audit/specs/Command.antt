@@ -79,7 +79,7 @@ LacksUrls matches answer =
     × (answer ≡ (is_denied && not (has_urls matches)))
 
 -- FILE is given, standard input is read at most once, and `--denied` is only given if there are URLs
-pub record AreFilesGiven (matches : ArgMatches) : Type 0 where
+pub record HasFile (matches : ArgMatches) : Type 0 where
   pub given : is_some (value_of matches (codes "file")) ≡ true
   pub once : reads_stdin_twice matches ≡ false
   pub listed : LacksUrls matches false
@@ -108,7 +108,7 @@ pub record AreNamesOf (matches : ArgMatches) (id : List ℕ) (names : List (List
 
 -- the request that the arguments contain; `by_default` is whether warnings have colors without `--color`
 pub record IsRequestOf (by_default : Bool) (matches : ArgMatches) (request : Request) : Type 0 where
-  pub are_given : AreFilesGiven matches
+  pub has_file : HasFile matches
   pub file : option_map (λ name. name.now) request.file ≡ file_read (value_of matches (codes "file"))
   pub quiet : IsOn matches (codes "quiet") request.is_quiet
   pub format : IsFormatOf matches request.format

@@ -4,7 +4,7 @@ ghost use Rattle.std.specs.List.{list_all};
 ghost use Rattle.robots_warnings.specs.Table.{is_name};
 ghost use Rattle.audit_core.specs.Crawler.{IsNoCrawlerIn};
 ghost use Rattle.audit_expect.specs.UrlList.{IsUrlFault};
-ghost use Rattle.robots_audit.specs.Command.{AreAgentsOf, AreNamesOf, AreUrlsOf, Asks, AreFilesGiven, LacksUrls};
+ghost use Rattle.robots_audit.specs.Command.{AreAgentsOf, AreNamesOf, AreUrlsOf, Asks, HasFile, LacksUrls};
 ghost use Rattle.robots_audit.specs.Command.{file_read, IsFileFault, IsFormatOf, has_urls, is_stdin, IsUnknownIn};
 ghost use Rattle.robots_audit.specs.Command.{level_named, reads_stdin_twice, requested_format, values_of};
 
@@ -100,7 +100,7 @@ fn lacks_urls(matches: &ArgMatches<'_>) -> bool
 
 /// Fails if FILE is missing, if standard input would be read twice, or if `--denied` has no URL to list.
 pub fn check_files(matches: &ArgMatches<'_>) -> Result<(), Fault>
-    ensures ok { OnOk result (AreFilesGiven matches.now) }
+    ensures ok { OnOk result (HasFile matches.now) }
     ensures fault { IfErr result (IsFileFault matches.now) }
 {
     match matches.get_str("file") {

@@ -1,20 +1,19 @@
 //! Theorems about what the program writes, each written as the contract of an empty function. Those about a
 //! single format, or about comparisons alone, are in the crates that write these.
-ghost use Rattle.std.specs.Prelude.{Bool, codes, false, length, List, map, ℕ, Some, string_bytes, ◌≡◌};
+ghost use Rattle.std.specs.Prelude.{Bool, codes, false, length, List, map, ℕ, string_bytes, ◌≡◌};
 ghost use Rattle.std.specs.List.{AllByRecursion as Each};
 ghost use Rattle.clap.specs.declared.parser.matches.ArgMatches.{ArgMatches};
-ghost use Rattle.robots_audit.specs.Answer.{Answers, listed_in, output, message, without_colors};
+ghost use Rattle.robots_audit.specs.Answer.{Answers, IsCompared, IsExpected, output, message, without_colors};
 ghost use Rattle.robots_audit.specs.Command.{value_of};
 ghost use Rattle.audit_core.specs.Audit.{AgentValue, AuditValue};
-ghost use Rattle.audit_core.specs.{Color.requested_colors, Findings.FindingValue, Request.RequestValue};
-ghost use Rattle.audit_core.specs.{Fault.fault_text};
+ghost use Rattle.audit_core.specs.{Color.requested_colors, Request.RequestValue, Fault.fault_text};
 ghost use Rattle.audit_core.specs.declared.request.Format.{Format};
 ghost use Rattle.audit_core.specs.declared.answer.Answer.{Answer};
-ghost use Rattle.printable_text.specs.{Color.IsColored, Color.IsForTerminal, PlainLine.IsPlainLine, Text.line_text};
-ghost use Rattle.printable_text.specs.{Text.written, Sanitize.has_command, Sanitize.IsPrintable};
+ghost use Rattle.printable_text.specs.{Color.IsColored, Color.IsForTerminal, PlainLine.IsPlainLine};
+ghost use Rattle.printable_text.specs.{Text.line_text, Sanitize.has_command, Sanitize.IsPrintable};
 ghost use Rattle.audit_core.specs.declared.fault.Fault.{Fault};
-ghost use Rattle.audit_compare.specs.Compare.{ComparisonValue, all_differences, finding_of, report_lines};
-ghost use Rattle.audit_expect.specs.Expectations.{CheckedValue, IsReport, failures, result_lines};
+ghost use Rattle.audit_compare.specs.Compare.{ComparisonValue, report_lines};
+ghost use Rattle.audit_expect.specs.Expectations.{CheckedValue, failures, result_lines};
 ghost use Rattle.audit_text.specs.Explain.{explanation, list_text};
 ghost use Rattle.audit_text.specs.Report.{listed_lines, report_lines as audit_lines, total_line};
 ghost use Rattle.robots_warnings.specs.WarningValue.{WarningValue};
@@ -39,12 +38,10 @@ pub fn colors_add_only_their_codes()
 /// Nor do the reports of `--expect` and `--compare`, in each of their formats, and the texts of `--list-warnings`
 /// and `--explain`.
 pub fn no_other_report_steers_a_terminal()
-    ensures expected { (format : Format) (name text file plain report : List ℕ) (found : List FindingValue)
-        → IsReport name text file plain found → listed_in format plain name found ≡ Some report
-        → IsPrintable report }
-    ensures compared { (format : Format) (file report : List ℕ) (comparison : ComparisonValue)
-        → listed_in format (written (report_lines comparison)) file
-        (map finding_of (all_differences comparison)) ≡ Some report → IsPrintable report }
+    ensures expected { (format : Format) (name text file : List ℕ) (answer : Answer)
+        → IsExpected format name text file answer → IsPrintable answer.report.items }
+    ensures compared { (requested : RequestValue) (older_name older newer_name newer : List ℕ) (answer : Answer)
+        → IsCompared requested older_name older newer_name newer answer → IsPrintable answer.report.items }
     ensures list { IsPrintable list_text }
     ensures explained { (name : List ℕ) → IsPrintable (explanation name) }
 {}

@@ -1,10 +1,12 @@
 //! The audit of a file and the report on it, without the command line, input and output.
-ghost use Rattle.std.specs.Prelude.{◌≡◌, IfErr, IfOk, Some, map, option_map, string_bytes};
-ghost use Rattle.robots_audit.specs.Answer.{IsAudited, IsComparisonAnswer, IsExpected, IsFileUnreadable};
-ghost use Rattle.robots_audit.specs.Answer.{IsFormatFault, given_name, has_all_urls, is_warned, leaves_out_allowed};
-ghost use Rattle.robots_audit.specs.Answer.{listed_in, message, output};
+ghost use Rattle.std.specs.Prelude.{◌≡◌, ◌⊎◌, IfErr, IfOk, Some, map, option_map, string_bytes};
+ghost use Rattle.robots_audit.specs.Answer.{IsAudited, IsCompared, IsExpected, IsFileUnreadable, IsFormatFault};
+ghost use Rattle.robots_audit.specs.Answer.{IsListed, given_name, has_all_urls, is_warned, leaves_out_allowed};
+ghost use Rattle.robots_audit.specs.Answer.{message, output};
 ghost use Rattle.audit_compare.specs.Compare.{IsComparison};
+ghost use Rattle.audit_core.specs.declared.fault.Entry.TheVariants.{Expectation};
 ghost use Rattle.audit_core.specs.{Findings.finding_value, Request.requested_by};
+ghost use Rattle.audit_expect.specs.Expect.{IsEntryFault, expectations_in};
 
 use audit_compare::compare::{
     Comparison, NamedFile, compare, differs_nowhere, rejects_some as rejects_one,
@@ -13,7 +15,7 @@ use audit_compare::report::reported;
 use audit_core::answer::{Answer, Outcome};
 use audit_core::audit::{Audit, all_allowed, audit_of, rejects_some};
 use audit_core::fault::Fault;
-use audit_core::findings::{Finding, findings_of};
+use audit_core::findings::{Findings, findings_of};
 use audit_core::request::{Format, Request};
 use audit_expect::expectations::check;
 use audit_json::json::{findings_text, json_text};
@@ -137,24 +139,33 @@ fn compared_for<'a>(
     compare(alloc, &request.agents, &request.urls, older, newer)
 }
 
-/// The report in this format on findings in the file with this name, where `text` is the report as text.
+/// The answer in this format to a report as text and the findings in it, in the file with this name.
 fn listed(
     alloc: Global,
     format: Format,
-    text: Vec<u8>,
     file: &str,
-    found: &[Finding],
-) -> Result<Vec<u8>, Fault>
-    ensures ok { IfOk result (λ report. listed_in format text.items file.now (map finding_value found.now)
-        ≡ Some report.items) }
+    reported: (String, Findings),
+    is_rejected: bool,
+    has_passed: bool,
+) -> Result<Answer, Fault>
+    ensures ok { IfOk result (IsListed format file.now (string_bytes reported.0)
+        (map finding_value reported.1.items) is_rejected has_passed) }
     ensures fault { IfErr result (IsFormatFault format) }
 {
-    match format {
-        Format::Text => Ok(text),
-        Format::Json => Ok(findings_text(alloc, file, found)?.into_bytes()),
-        Format::Github => Ok(github_text(alloc, file, found)?),
-        Format::Html | Format::Sarif => Err(Fault::Format),
-    }
+    let (text, found) = reported;
+    let report = match format {
+        Format::Text => text.into_bytes(),
+        Format::Json => findings_text(alloc, file, &found)?.into_bytes(),
+        Format::Github => github_text(alloc, file, &found)?,
+        Format::Html | Format::Sarif => return Err(Fault::Format),
+    };
+    let outcome = Outcome {
+        is_rejected,
+        has_passed,
+        is_warned: false,
+        warnings: String::new(alloc),
+    };
+    Ok(Answer { report, outcome })
 }
 
 /// Compares two files for the crawlers and URLs of the request, and writes the report. A file that is rejected for a
@@ -170,29 +181,21 @@ pub fn comparison<'a>(
     older: NamedFile<'a>,
     newer: NamedFile<'a>,
 ) -> Result<Answer, Fault>
-    ensures ok { IfOk result (IsComparisonAnswer (requested_by request.now) older.entry.name.now
-        older.entry.bytes.now newer.entry.name.now newer.entry.bytes.now) }
+    ensures ok { IfOk result (IsCompared (requested_by request.now) older.entry.name.now older.entry.bytes.now
+        newer.entry.name.now newer.entry.bytes.now) }
     ensures fault { IfErr result (IsFormatFault request.now.format) }
 {
     let compared = compared_for(alloc, request, older, newer)?;
-    let outcome = Outcome {
-        is_rejected: rejects_one(&compared),
-        has_passed: differs_nowhere(&compared),
-        is_warned: false,
-        warnings: String::new(alloc),
-    };
-    let (text, found) = reported(alloc, &compared)?;
-    let name = request.shown_name();
-    let report = listed(alloc, request.format, text.into_bytes(), name, &found)?;
-    Ok(Answer { report, outcome })
+    let (is_rejected, has_passed) = (rejects_one(&compared), differs_nowhere(&compared));
+    let (name, found) = (request.shown_name(), reported(alloc, &compared)?);
+    Ok(listed(alloc, request.format, name, found, is_rejected, has_passed)?)
 }
 
-/// Checks the expectations in a text, of a file with this name, against a robots.txt file, and writes the
-/// report.
+/// Checks the expectations in a text, of a file with this name, against a robots.txt file, and writes the report.
 ///
 /// # Errors
 ///
-/// As for [`check`], and `Fault::Format` if the format is one of audits alone.
+/// As for `check`, and `Fault::Format` if the format is one of audits alone.
 pub fn expectations(
     alloc: Global,
     format: Format,
@@ -200,14 +203,13 @@ pub fn expectations(
     text: &[u8],
     file: &[u8],
 ) -> Result<Answer, Fault>
-    ensures { IfOk result (IsExpected format name.now text.now file.now) }
+    ensures ok { IfOk result (IsExpected format name.now text.now file.now) }
+    ensures fault { IfErr result (λ fault. IsFormatFault format fault
+        ⊎ IsEntryFault name.now Expectation (expectations_in text.now) fault) }
 {
-    let (answer, found) = check(alloc, name, text, file)?;
-    let report = listed(alloc, format, answer.report, name, &found)?;
-    Ok(Answer {
-        report,
-        outcome: answer.outcome,
-    })
+    let found = check(alloc, name, text, file)?;
+    let has_passed = found.1.is_empty();
+    Ok(listed(alloc, format, name, found, false, has_passed)?)
 }
 
 /// The name of the robots.txt file as it is given.
