@@ -292,7 +292,7 @@ def test_names_are_checked_before_urls_and_both_before_files(tmp_path):
     assert outcome(missing) == (2, "", f"robots_audit: tea/: {URL}\n")
 
 
-@pytest.mark.parametrize("more", ["--expect=old.txt", "--denied", "-q", "--format=text", "--json", "--html", "--date=x", "--color=never", "--strict", "--needless", "--only=missing-slash", "--ignore=missing-slash"])
+@pytest.mark.parametrize("more", ["--expect=old.txt", "--denied", "-q", "--html", "--date=x", "--color=never", "--strict", "--needless", "--only=missing-slash", "--ignore=missing-slash"])
 def test_other_options_conflict(tmp_path, more):
     result = compare(tmp_path, OLD, NEW, more)
     assert (result.status, result.out) == (2, "") and "cannot be used with" in result.err

@@ -12,6 +12,10 @@ import pytest
 from support import ALL_WARNINGS, CRATES, DOCUMENTS, PAGES, ROOT, WARNINGS, program, run, shown, spelled, tables
 
 LIBRARY = CRATES / "texting_robots"
+FINDINGS = {
+    name for crate in ("compare/specs/Compare", "expect/specs/Expectations")
+    for name in re.findall(r'(?:note \(| \{ text = )codes "(.*?)"', (CRATES / f"audit_{crate}.antt").read_text())
+}  # fmt: skip
 README, GUIDE, PROGRAMS, PROOFS, CONTRACTS = map(DOCUMENTS.get, ["README.md", *(f"docs/{name}.md" for name in ("GUIDE", "PROGRAMS", "PROOFS", "CONTRACTS"))])
 
 
@@ -164,7 +168,7 @@ def test_documents_name_functions_and_lemmas_that_exist(name):
 def test_documents_name_warnings_and_options_that_exist(name):
     """Names with a hyphen are warnings, field names or Debian's packages. Some options are those of pytest and of bench/compare.py."""
     names = set(re.findall(r"`(?!python3-)([a-z0-9]+(?:-[a-z0-9]+)+)`", DOCUMENTS[name]))
-    assert names <= {*WARNINGS, "crawl-delay", "site-map", "user-agent"}
+    assert names <= {*WARNINGS, *FINDINGS, "crawl-delay", "site-map", "user-agent"}
     options = set(re.findall(r"`(?:robots_audit )?(--[a-z-]+)", DOCUMENTS[name])) - {"--lf", "--google", "--results"}
     assert options <= set(re.findall(r"`(--[a-z-]+)", "".join(row[0] for row in tables(PROGRAMS))))
 
@@ -360,6 +364,11 @@ def test_documented_options_are_those_of_help():
 def test_documented_json_is_that_of_the_program():
     report = json.loads(run("robots_audit", ["--json", "--agent", "FerrisBot", "-", "/search"], b"User-agent: *\nDisallow: search").out)
     assert json.loads(code(PROGRAMS, "json")[0]) == report
+
+
+def test_findings_of_expectations_and_comparisons_are_documented():
+    sentence = re.search(r"A finding has `level`, `line`, `name` and `text`: (.*?)\.", " ".join(PROGRAMS.split()))[1]
+    assert sorted(re.findall(r"`(.*?)`", sentence)) == sorted(FINDINGS)
 
 
 def test_robots_verdict_prints_the_documented_report():

@@ -337,7 +337,7 @@ def test_file_is_missing():
     assert (result.status, result.out) == (2, "") and result.err.startswith(f"robots_audit: missing FILE; {USAGE}\n")
 
 
-@pytest.mark.parametrize("more", ["/a", "--agent=Ferris", "--urls=list.txt", "--denied", "-q", "--format=text", "--json", "--html", "--date=x", "--color=auto", "--strict", "--needless", "--only=missing-slash", "--ignore=missing-slash"])
+@pytest.mark.parametrize("more", ["/a", "--agent=Ferris", "--urls=list.txt", "--denied", "-q", "--html", "--date=x", "--color=auto", "--strict", "--needless", "--only=missing-slash", "--ignore=missing-slash"])
 def test_other_arguments_conflict(tmp_path, more):
     result = check(tmp_path, HOLDING, more)
     assert (result.status, result.out) == (2, "") and "cannot be used with" in result.err

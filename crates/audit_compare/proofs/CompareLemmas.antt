@@ -1,20 +1,21 @@
 -- The decisions on URLs, and the sitemaps, that only one of the files has.
 use Rattle.std.proofs.Common.{◌≡◌, ◌∙◌, ℕ, zero, suc, ◌+◌, ◌<◌, ◌||◌, Bool, Bor, List, [], ◌∷◌, ◌++◌, ap}
 use Rattle.std.proofs.Common.{append-nil, append_assoc, arith, bytes_eq, cond, drop, flat_map, length, map}
-use Rattle.std.proofs.Common.{not, refl, slice_index_or, sym, take, true}
+use Rattle.std.proofs.Common.{not, refl, slice_index_or, string_bytes, subst, sym, take, true}
 use Rattle.std.specs.Prelude.{if◌then◌else◌}
 use Rattle.std.specs.BTreeSet.{BTreeSet, Updates, contains}
 use Rattle.std.proofs.Math.Seq.{drop-nil}
-use Rattle.std.proofs.lemmas.{List.drop_more, List.map_more, List.take_more, Map.Text.is_eq-slice_cmp}
-use Rattle.std.proofs.lemmas.List.Concat.{flat_map-append}
-use Rattle.printable_text.specs.Text.{ReportLine, written}
-use Rattle.printable_text.proofs.PartLemmas.{written_append}
+use Rattle.std.proofs.lemmas.{List.drop_more, List.map-append, List.map_more, Map.Text.is_eq-slice_cmp}
+use Rattle.std.proofs.lemmas.{List.take_more, List.Concat.flat_map-append, Simd.map-map}
+use Rattle.printable_text.specs.Text.{line_text}
 use Rattle.texting_robots.specs.Callers.{PlacedRule}
 use Rattle.robots_warnings.specs.Internal.Names.{Key, key_cmp}
 use Rattle.robots_warnings.proofs.NameLemmas.{any_last, either}
-use Rattle.audit_core.specs.Audit.{VerdictValue}
-use Rattle.audit_compare.specs.Compare.{ComparedValue, agent_lines, is_listed, new_texts, url_changes}
-use Rattle.audit_compare.specs.Internal.Compare.{AddsText}
+use Rattle.audit_core.specs.declared.findings.Finding.{Finding}
+use Rattle.audit_core.specs.{Audit.VerdictValue, Findings.FindingValue, Findings.finding_value}
+use Rattle.audit_compare.specs.Compare.{ComparedValue, Difference, crawler_changes, finding_of, is_listed}
+use Rattle.audit_compare.specs.Compare.{new_texts, url_changes}
+use Rattle.audit_compare.specs.Internal.Compare.{Adds, AddsText}
 use Rattle.audit_compare.proofs.RuleSetLemmas.{no_verdicts}
 
 -- ---- URLs
@@ -76,28 +77,36 @@ found_more front items at d found new whole is_new below was added before =
 
 -- ---- the report
 
--- a text with lines, and then with more lines
-pub written_after : (front old new : List ℕ) (lines more : List ReportLine) → old ≡ front ++ written lines
-    → new ≡ old ++ written more → new ≡ front ++ written (lines ++ more)
-written_after front old new lines more before now =
-    let assoc : (front ++ written lines) ++ written more ≡ front ++ (written lines ++ written more) =
-    rw append_assoc refl in
-    now ∙ ap (λ (t : List ℕ). t ++ written more) before ∙ assoc
-    ∙ ap (λ (t : List ℕ). front ++ t) (sym (written_append lines more))
+-- differences were added, and then others
+pub adds_more : (old between new : List Finding) (one other : List Difference) → Adds old between one
+    → Adds between new other → Adds old new (one ++ other)
+adds_more old between new one other first second =
+    rw (map-append finding_of one other, ← append_assoc, ← first) second
 
--- the text with the lines about one more crawler
-pub lines_more : (front text new : List ℕ) (crawlers : List ComparedValue) (at : ℕ) (item : ComparedValue)
-    → at < length crawlers → item ≡ slice_index_or crawlers at item
-    → text ≡ front ++ written (flat_map agent_lines (take at crawlers))
-    → new ≡ text ++ written (agent_lines item)
-    → new ≡ front ++ written (flat_map agent_lines (take (at + 1) crawlers))
-lines_more front text new crawlers at item below is before now =
-    let first = flat_map agent_lines (take at crawlers) in
+-- what was added for the crawlers up to an index, and for the one there
+pub crawlers_more : (old between new : List Finding) (crawlers : List ComparedValue) (at : ℕ)
+    (item : ComparedValue) → at < length crawlers → item ≡ slice_index_or crawlers at item
+    → Adds old between (flat_map crawler_changes (take at crawlers))
+    → Adds between new (crawler_changes item)
+    → Adds old new (flat_map crawler_changes (take (at + 1) crawlers))
+crawlers_more old between new crawlers at item below is before added =
+    let first = flat_map crawler_changes (take at crawlers) in
     let here = slice_index_or crawlers at item in
-    let last : flat_map agent_lines (take (at + 1) crawlers) ≡ first ++ agent_lines item =
-    ap (flat_map agent_lines) (take_more crawlers at item below)
-    ∙ flat_map-append agent_lines (take at crawlers) (here ∷ [])
-    ∙ ap (λ (lines : List ReportLine). first ++ lines) (append-nil (agent_lines here))
-    ∙ ap (λ (one : ComparedValue). first ++ agent_lines one) (sym is) in
-    written_after front text new first (agent_lines item) before now
-    ∙ ap (λ (lines : List ReportLine). front ++ written lines) (sym last)
+    let last : flat_map crawler_changes (take (at + 1) crawlers) ≡ first ++ crawler_changes item =
+    ap (flat_map crawler_changes) (take_more crawlers at item below)
+    ∙ flat_map-append crawler_changes (take at crawlers) (here ∷ [])
+    ∙ ap (λ (more : List Difference). first ++ more) (append-nil (crawler_changes here))
+    ∙ ap (λ (one : ComparedValue). first ++ crawler_changes one) (sym is) in
+    subst (λ (all : List Difference). Adds old new all) (sym last)
+    (adds_more old between new first (crawler_changes item) before added)
+
+-- the messages of findings that are differences are the lines of these
+pub messages_of : (found : List Finding) (differences : List Difference)
+    → map finding_value found ≡ map finding_of differences
+    → map (λ finding. string_bytes finding.message) found
+    ≡ map line_text (map (λ (difference : Difference). difference.text) differences)
+messages_of found differences same =
+    let message = λ (value : FindingValue). value.message in
+    sym (map-map message finding_value found) ∙ ap (map message) same
+    ∙ map-map message finding_of differences
+    ∙ sym (map-map line_text (λ (difference : Difference). difference.text) differences)

@@ -7,13 +7,16 @@ use Rattle.std.specs.{List.AllZip, List.list_all, List.list_any, Option.option_e
 use Rattle.std.proofs.Math.Bool.{beq}
 use Rattle.texting_robots.specs.Callers.{LineValue, PlacedRule, Rule, lines_read, placed_rules, sitemaps_in}
 use Rattle.texting_robots.specs.declared.decision.Decision.{Decision}
+use Rattle.printable_text.specs.declared.level.Level.{Level}
+use Rattle.printable_text.specs.declared.level.Level.TheVariants.{Error, Note, Warning}
 use Rattle.printable_text.specs.Text.{Absent, Fixed, Label, Number, Part, PartValue, ReportLine, Untrusted}
-use Rattle.printable_text.specs.Text.{Value, Word, label, line_from, only, starts_line, word}
+use Rattle.printable_text.specs.Text.{Value, Word, is_fixed, label, line_from, only, starts_line, word}
 use Rattle.robots_warnings.specs.declared.facts.LineKinds.{LineKinds}
 use Rattle.robots_warnings.specs.Facts.{kinds_of}
 use Rattle.audit_core.specs.declared.group.Group.{Group}
 use Rattle.audit_core.specs.declared.group.Group.TheVariants.{Everyone, Named, Nobody, Star}
 use Rattle.audit_core.specs.Audit.{AgentValue, IsAgentAudit, VerdictValue, agents_requested}
+use Rattle.audit_core.specs.Findings.{FindingValue, Found, Parts, found_value}
 use Rattle.audit_core.specs.Texts.{delay_value, group_value, rejected_parts}
 
 -- ---- rules
@@ -106,16 +109,16 @@ abbrev pub sitemaps_only_in : List LineValue → List LineValue → List (List �
 sitemaps_only_in lines others = new_texts (sitemaps_in others) (sitemaps_in lines)
 
 -- a file with these kinds of lines has no directive
-abbrev pub is_empty : LineKinds → Bool
-is_empty kinds = not (kinds.user_agent || kinds.rule || kinds.extra)
+abbrev pub has_no_directive : LineKinds → Bool
+has_no_directive kinds = not (kinds.user_agent || kinds.rule || kinds.extra)
 
 -- the name of a file, and whether the file has no directive
 pub record SideValue : Type 0 where
   pub name : List ℕ
-  pub is_empty : Bool
+  pub has_no_directive : Bool
 
 abbrev pub side_of : (name file : List ℕ) → SideValue
-side_of name file = record { name = name; is_empty = is_empty (kinds_of (lines_read file)) }
+side_of name file = record { name = name; has_no_directive = has_no_directive (kinds_of (lines_read file)) }
 
 -- both files, what they mean for each crawler, and the sitemaps of each that the other one lacks
 pub record ComparisonValue : Type 0 where
@@ -136,7 +139,35 @@ pub record IsComparison (agents : List (List ℕ)) (urls : List (List ℕ))
   pub removed_are : comparison.removed ≡ sitemaps_only_in (lines_read older) (lines_read newer)
   pub added_are : comparison.added ≡ sitemaps_only_in (lines_read newer) (lines_read older)
 
--- ---- the lines about a crawler
+-- ---- what differs
+
+-- a difference as a finding: how serious it is, the line of the newer file that it is about, if there is one,
+-- its name, and its line in the report
+pub record Difference : Type 0 where
+  pub level : Level
+  pub line : Option ℕ
+  pub name : Fixed
+  pub text : ReportLine
+
+abbrev pub found_in : Difference → Found
+found_in difference = record {
+  level = difference.level;
+  line = difference.line;
+  name = difference.name;
+  message = Parts (difference.text.first ∷ difference.text.rest);
+}
+
+abbrev pub finding_of : Difference → FindingValue
+finding_of difference = found_value (found_in difference)
+
+-- most differences are notes
+abbrev pub note : (name : List ℕ) → is_fixed name ≡ true → ReportLine → Difference
+note name is text = record {
+  level = Note;
+  line = None;
+  name = record { text = name; safe = is };
+  text = text;
+}
 
 -- each line begins with a word of its own, as the name may come from a file and begin with anything
 abbrev pub crawler : List ℕ → PartValue
@@ -156,30 +187,30 @@ is_same_group Nobody Nobody = true
 is_same_group Everyone Everyone = true
 is_same_group _ _ = false
 
--- `none` if no group applies, and `everyone` if all rules apply, as the file has no user-agent line
-abbrev pub group_line : List ℕ → Group → Group → ReportLine
-group_line agent older newer =
-    about agent (Part (label (codes ": group ") refl) (group_value agent older)
-    ∷ Part arrow (group_value agent newer) ∷ [])
-
--- the groups, if they differ
-abbrev pub group_changes : List ℕ → Group → Group → List ReportLine
+-- the groups, if they differ: `none` if no group applies, and `everyone` if all rules apply, as the file has
+-- no user-agent line
+abbrev pub group_changes : List ℕ → Group → Group → List Difference
 group_changes agent older newer =
-    if is_same_group older newer then [] else group_line agent older newer ∷ []
-
-abbrev pub delay_line : List ℕ → (older newer : Option ℕ) → ReportLine
-delay_line agent older newer =
-    about agent (Part (label (codes ": delay ") refl) (delay_value older)
-    ∷ Part arrow (delay_value newer) ∷ [])
+    if is_same_group older newer then []
+    else note (codes "group") refl
+    (about agent (Part (label (codes ": group ") refl) (group_value agent older)
+    ∷ Part arrow (group_value agent newer) ∷ [])) ∷ []
 
 -- the delays, if they differ
-abbrev pub delay_changes : List ℕ → (older newer : Option ℕ) → List ReportLine
+abbrev pub delay_changes : List ℕ → (older newer : Option ℕ) → List Difference
 delay_changes agent older newer =
-    if option_eq nat_eq older newer then [] else delay_line agent older newer ∷ []
+    if option_eq nat_eq older newer then []
+    else note (codes "delay") refl
+    (about agent (Part (label (codes ": delay ") refl) (delay_value older)
+    ∷ Part arrow (delay_value newer) ∷ [])) ∷ []
 
 abbrev pub sign : (is_added : Bool) → Label
 sign true = label (codes ": + ") refl
 sign false = label (codes ": - ") refl
+
+abbrev pub rule_name : (is_added : Bool) → Fixed
+rule_name true = record { text = codes "rule-added"; safe = refl }
+rule_name false = record { text = codes "rule-removed"; safe = refl }
 
 abbrev pub kind_word : (is_allow : Bool) → Value
 kind_word true = word (codes "Allow") refl
@@ -192,6 +223,14 @@ rule_line agent is_added placed =
     ∷ Part (label (codes ": ") refl) (Untrusted placed.rule.0)
     ∷ Part (label (codes " (line ") refl) (Number placed.line) ∷ only (codes ")") refl ∷ [])
 
+abbrev pub rule_change : List ℕ → (is_added : Bool) → PlacedRule → Difference
+rule_change agent is_added placed = record {
+  level = Note;
+  line = if is_added then Some placed.line else None;
+  name = rule_name is_added;
+  text = rule_line agent is_added placed;
+}
+
 -- ---- verdicts
 
 abbrev pub verdict_word : (allowed : Bool) → Value
@@ -203,15 +242,15 @@ abbrev pub deciding : Option ℕ → PartValue
 deciding None = Absent
 deciding (Some line) = Part (label (codes " ") refl) (Number line)
 
--- what the change of a verdict does to a URL
-abbrev pub change_word : (older newer : Bool) → Option Fixed
-change_word true false = Some (record { text = codes "closed"; safe = refl })
-change_word false true = Some (record { text = codes "opened"; safe = refl })
-change_word older newer = None
+-- what the change does to a URL; without another verdict, another rule decides
+abbrev pub change_name : (older newer : Bool) → Fixed
+change_name true false = record { text = codes "closed"; safe = refl }
+change_name false true = record { text = codes "opened"; safe = refl }
+change_name older newer = record { text = codes "other-rule"; safe = refl }
 
-abbrev pub change_part : Option Fixed → PartValue
-change_part None = Absent
-change_part (Some word) = Part (label (codes ", ") refl) (Word word)
+abbrev pub change_part : (older newer : Bool) → PartValue
+change_part older newer =
+    if beq older newer then Absent else Part (label (codes ", ") refl) (Word (change_name older newer))
 
 -- such as `crawler Googlebot /products/tea: allow -> deny 3, closed`
 abbrev pub url_line : List ℕ → UrlChangeValue → ReportLine
@@ -219,18 +258,27 @@ url_line agent change =
     about agent (Part (label (codes " ") refl) (Untrusted change.url)
     ∷ Part (label (codes ": ") refl) (verdict_word change.older.allowed) ∷ deciding change.older.line
     ∷ Part arrow (verdict_word change.newer.allowed) ∷ deciding change.newer.line
-    ∷ change_part (change_word change.older.allowed change.newer.allowed) ∷ [])
+    ∷ change_part change.older.allowed change.newer.allowed ∷ [])
 
--- ---- the report
+-- a URL that was closed is a warning
+abbrev pub url_change : List ℕ → UrlChangeValue → Difference
+url_change agent change = record {
+  level = if change.older.allowed && not change.newer.allowed then Warning else Note;
+  line = change.newer.line;
+  name = change_name change.older.allowed change.newer.allowed;
+  text = url_line agent change;
+}
+
+-- ---- all that is reported on a crawler
 
 -- everything that differs for a crawler
-abbrev pub differences : ComparedValue → List ReportLine
+abbrev pub differences : ComparedValue → List Difference
 differences compared =
     group_changes compared.agent compared.older.group compared.newer.group
     ++ delay_changes compared.agent compared.older.delay compared.newer.delay
-    ++ map (rule_line compared.agent false) compared.removed
-    ++ map (rule_line compared.agent true) compared.added
-    ++ map (url_line compared.agent) compared.changes
+    ++ map (rule_change compared.agent false) compared.removed
+    ++ map (rule_change compared.agent true) compared.added
+    ++ map (url_change compared.agent) compared.changes
 
 -- one of the files is rejected for the crawler
 abbrev pub is_rejected : ComparedValue → Bool
@@ -256,30 +304,33 @@ file_begins true = refl
 file_begins false = refl
 
 -- that this file is rejected for the crawler, and why, if it is
-abbrev pub rejection_of : (is_new : Bool) → List ℕ → Option ℕ → List ReportLine
+abbrev pub rejection_of : (is_new : Bool) → List ℕ → Option ℕ → List Difference
 rejection_of is_new agent None = []
-rejection_of is_new agent (Some line) =
-    line_from (file_part is_new) (file_begins is_new) (rejected_parts agent line) ∷ []
+rejection_of is_new agent (Some line) = (record {
+  level = Error;
+  line = if is_new then Some line else None;
+  name = record { text = codes "rejected"; safe = refl };
+  text = line_from (file_part is_new) (file_begins is_new) (rejected_parts agent line);
+}) ∷ []
 
-abbrev pub rejection : (is_new : Bool) → AgentValue → List ReportLine
+abbrev pub rejection : (is_new : Bool) → AgentValue → List Difference
 rejection is_new audit = rejection_of is_new audit.agent audit.rejected
 
--- the same of both files
-abbrev pub rejection_lines : ComparedValue → List ReportLine
-rejection_lines compared = rejection false compared.older ++ rejection true compared.newer
-
 -- that no rule was removed or added, if that is so
-abbrev pub same_rules : ComparedValue → List ReportLine
-same_rules compared =
-    if has_same_rules compared
-    then about compared.agent (only (codes ": same rules, so no URL's verdict differs") refl ∷ []) ∷ []
+abbrev pub same_rules : List ℕ → (has_same : Bool) → List Difference
+same_rules agent has_same =
+    if has_same then note (codes "same-rules") refl
+    (about agent (only (codes ": same rules, so no URL's verdict differs") refl ∷ [])) ∷ []
     else []
 
 -- what is reported on a crawler: nothing if it is unchanged
-abbrev pub agent_lines : ComparedValue → List ReportLine
-agent_lines compared =
-    if is_rejected compared then rejection_lines compared
-    else if is_unchanged compared then [] else differences compared ++ same_rules compared
+abbrev pub crawler_changes : ComparedValue → List Difference
+crawler_changes compared =
+    if is_rejected compared then rejection false compared.older ++ rejection true compared.newer
+    else if is_unchanged compared then []
+    else differences compared ++ same_rules compared.agent (has_same_rules compared)
+
+-- ---- the report
 
 abbrev pub unchanged_part : PartValue
 unchanged_part = only (codes ": no group, delay or rule differs, so no URL's verdict does") refl
@@ -295,11 +346,28 @@ unchanged_line (compared ∷ []) = about compared.agent (unchanged_part ∷ [])
 unchanged_line crawlers = several_line (list_all is_unchanged crawlers)
 
 -- the same, if there are some
-abbrev pub unchanged_lines : List ComparedValue → List ReportLine
-unchanged_lines crawlers = if list_any is_unchanged crawlers then unchanged_line crawlers ∷ [] else []
+abbrev pub unchanged : List ComparedValue → List Difference
+unchanged crawlers =
+    if list_any is_unchanged crawlers then note (codes "unchanged") refl (unchanged_line crawlers) ∷ []
+    else []
+
+abbrev pub sitemap_change : (is_added : Bool) → List ℕ → Difference
+sitemap_change true text =
+    note (codes "sitemap-added") refl
+    (line_from (Part (label (codes "sitemap added: ") refl) (Untrusted text)) refl [])
+sitemap_change false text =
+    note (codes "sitemap-removed") refl
+    (line_from (Part (label (codes "sitemap removed: ") refl) (Untrusted text)) refl [])
+
+-- what annotations and JSON have of a comparison
+abbrev pub all_differences : ComparisonValue → List Difference
+all_differences comparison =
+    flat_map crawler_changes comparison.crawlers ++ unchanged comparison.crawlers
+    ++ map (sitemap_change false) comparison.removed
+    ++ map (sitemap_change true) comparison.added
 
 -- that a file has no directive
-abbrev pub empty_part : (is_empty : Bool) → PartValue
+abbrev pub empty_part : (has_no_directive : Bool) → PartValue
 empty_part true = only (codes " (empty)") refl
 empty_part false = Absent
 
@@ -307,28 +375,13 @@ empty_part false = Absent
 abbrev pub sides_line : SideValue → SideValue → ReportLine
 sides_line older newer =
     line_from (Part (label (codes "old: ") refl) (Untrusted older.name)) refl
-    (empty_part older.is_empty ∷ Part (label (codes ", new: ") refl) (Untrusted newer.name)
-    ∷ empty_part newer.is_empty ∷ [])
-
-abbrev pub sitemap_label : (is_added : Bool) → Label
-sitemap_label true = label (codes "sitemap added: ") refl
-sitemap_label false = label (codes "sitemap removed: ") refl
-
-abbrev pub sitemap_begins : (is_added : Bool) → (text : List ℕ)
-    → starts_line (Part (sitemap_label is_added) (Untrusted text)) ≡ true
-sitemap_begins true text = refl
-sitemap_begins false text = refl
-
-abbrev pub sitemap_line : (is_added : Bool) → List ℕ → ReportLine
-sitemap_line is_added text =
-    line_from (Part (sitemap_label is_added) (Untrusted text)) (sitemap_begins is_added text) []
+    (empty_part older.has_no_directive ∷ Part (label (codes ", new: ") refl) (Untrusted newer.name)
+    ∷ empty_part newer.has_no_directive ∷ [])
 
 abbrev pub report_lines : ComparisonValue → List ReportLine
 report_lines comparison =
-    sides_line comparison.older comparison.newer ∷ flat_map agent_lines comparison.crawlers
-    ++ unchanged_lines comparison.crawlers
-    ++ map (sitemap_line false) comparison.removed
-    ++ map (sitemap_line true) comparison.added
+    sides_line comparison.older comparison.newer
+    ∷ map (λ (difference : Difference). difference.text) (all_differences comparison)
 
 -- ---- the outcome
 

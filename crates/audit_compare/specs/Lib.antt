@@ -1,3 +1,2 @@
-pub mod Annotations
 pub mod Compare
 pub mod Internal

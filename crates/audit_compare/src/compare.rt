@@ -3,7 +3,8 @@ ghost use Rattle.std.specs.Prelude.{◌≡◌, ◌++◌, IfErr, IfOk, map};
 ghost use Rattle.std.specs.List.{AllZip};
 ghost use Rattle.texting_robots.specs.Callers.{lines_read};
 ghost use Rattle.audit_core.specs.Audit.{agents_requested as specified_agents};
-ghost use Rattle.audit_compare.specs.Compare.{IsCompared, IsComparison, differs_nowhere, is_empty, rejects_some, side_of};
+ghost use Rattle.audit_compare.specs.Compare.{IsCompared, IsComparison, differs_nowhere, has_no_directive};
+ghost use Rattle.audit_compare.specs.Compare.{rejects_some, side_of};
 ghost use Rattle.audit_compare.specs.Internal.Compare.{IsVersion};
 
 use crate::compared::{Compared, Version, compared_for, read_version};
@@ -27,7 +28,7 @@ pub struct NamedFile<'a> {
 pub struct Side<'a> {
     pub name: &'a str,
     /// Whether the file has no directive.
-    pub is_empty: bool,
+    pub has_no_directive: bool,
 }
 
 impl<'a> Model for Side<'a> {
@@ -63,8 +64,8 @@ impl<'a> Model for Comparison<'a> {
 }
 
 /// Whether a file with these kinds of lines has no directive.
-fn is_empty(kinds: LineKinds) -> bool
-    ensures { result ≡ is_empty kinds }
+fn has_no_directive(kinds: LineKinds) -> bool
+    ensures { result ≡ has_no_directive kinds }
 {
     !(kinds.user_agent || kinds.rule || kinds.extra)
 }
@@ -77,7 +78,7 @@ fn side_of<'a>(name: &'a str, version: &Version<'_>) -> Side<'a>
     let facts = facts_of(version.bytes, &version.labels);
     Side {
         name,
-        is_empty: is_empty(facts.kinds),
+        has_no_directive: has_no_directive(facts.kinds),
     }
 }
 

@@ -1,20 +1,46 @@
-//! The lines about what differs between two files for a crawler.
-ghost use Rattle.std.specs.Prelude.{◌≡◌, ◌++◌, OnOk, map, option_map, string_bytes};
+//! What differs between two files for a crawler, as findings.
+ghost use Rattle.std.specs.Prelude.{◌≡◌, ◌++◌, ◌∷◌, [], OnOk, map};
 ghost use Rattle.std.specs.List.{list_all};
 ghost use Rattle.printable_text.specs.Raw.{raw_line, raw_text, raw_value};
-ghost use Rattle.printable_text.specs.Text.{line_text, part_text, value_text, written};
-ghost use Rattle.audit_compare.specs.Compare.{change_part, change_word, crawler, deciding, delay_changes, delay_line};
-ghost use Rattle.audit_compare.specs.Compare.{differences, file_part, group_changes, group_line, has_same_rules, is_rejected};
-ghost use Rattle.audit_compare.specs.Compare.{is_same_group, is_unchanged, kind_word, rejection, rejection_lines, rule_line};
-ghost use Rattle.audit_compare.specs.Compare.{same_rules, url_line, verdict_word};
+ghost use Rattle.printable_text.specs.Text.{line_text, part_text, value_text};
+ghost use Rattle.audit_core.specs.Findings.{finding_value};
+ghost use Rattle.audit_compare.specs.Compare.{change_name, change_part, crawler, crawler_changes, deciding};
+ghost use Rattle.audit_compare.specs.Compare.{delay_changes, differences, file_part, group_changes, has_same_rules};
+ghost use Rattle.audit_compare.specs.Compare.{is_rejected, is_same_group, is_unchanged, rejection, rule_change};
+ghost use Rattle.audit_compare.specs.Compare.{rule_line, rule_name, same_rules, url_change, url_line, verdict_word};
+ghost use Rattle.audit_compare.specs.Internal.Compare.{Adds};
 
 use crate::compared::{Compared, UrlChange};
 use audit_core::audit::AgentAudit;
+use audit_core::findings::{Finding, Findings};
 use audit_core::group::Group;
 use audit_core::rules::Rule;
 use audit_core::texts::{delay_value, group_value, rejected_parts};
-use printable_text::parts::{Part, Value, push_line_of};
-use std::alloc::AllocError;
+use printable_text::level::Level;
+use printable_text::parts::{Part, Value, push_parts};
+use std::alloc::{AllocError, Global};
+
+/// Adds a finding whose message consists of these parts.
+pub(crate) fn add(
+    alloc: Global,
+    found: &mut Findings,
+    level: Level,
+    line: Option<usize>,
+    name: &'static str,
+    parts: &[Part<'_>],
+) -> Result<(), AllocError>
+    ensures { OnOk result (map finding_value found.new.items ≡ map finding_value found.old.items
+        ++ (record { level = level; line = line; name = name.now; message = raw_line parts.now }) ∷ []) }
+{
+    let mut message = String::new(alloc);
+    push_parts(&mut message, parts)?;
+    Ok(found.push(Finding {
+        level,
+        line,
+        name,
+        message,
+    })?)
+}
 
 /// What a line about a crawler begins with.
 pub(crate) fn crawler(agent: &str) -> Part<'_>
@@ -36,95 +62,88 @@ fn is_same_group(one: Group, other: Group) -> bool
     }
 }
 
-/// The line about the groups.
-fn group_line(agent: &str, older: Group, newer: Group) -> [Part<'_>; 3]
-    ensures { raw_line result ≡ line_text (group_line agent.now older newer) }
+/// Adds the groups, if they differ.
+fn add_groups(
+    alloc: Global,
+    found: &mut Findings,
+    agent: &str,
+    older: Group,
+    newer: Group,
+) -> Result<(), AllocError>
+    ensures { OnOk result (Adds found.old.items found.new.items (group_changes agent.now older newer)) }
 {
-    [
+    if is_same_group(older, newer) {
+        return Ok(());
+    }
+    let parts = [
         crawler(agent),
         Part(": group ", group_value(agent, older)),
         Part(" -> ", group_value(agent, newer)),
-    ]
+    ];
+    add(alloc, found, Level::Note, None, "group", &parts)
 }
 
-/// Appends the groups, if they differ.
-fn push_group_changes(
-    text: &mut String,
+/// Adds the delays, if they differ.
+fn add_delays(
+    alloc: Global,
+    found: &mut Findings,
     agent: &str,
-    older: &AgentAudit<'_>,
-    newer: &AgentAudit<'_>,
+    older: Option<u64>,
+    newer: Option<u64>,
 ) -> Result<(), AllocError>
-    ensures { OnOk result (string_bytes text.new ≡ string_bytes text.old
-        ++ written (group_changes agent.now older.now.group newer.now.group)) }
+    ensures { OnOk result (Adds found.old.items found.new.items (delay_changes agent.now older newer)) }
 {
-    if is_same_group(older.group, newer.group) {
+    if older == newer {
         return Ok(());
     }
-    push_line_of(text, &group_line(agent, older.group, newer.group))
-}
-
-/// The line about the delays.
-fn delay_line(agent: &str, older: Option<u64>, newer: Option<u64>) -> [Part<'_>; 3]
-    ensures { raw_line result ≡ line_text (delay_line agent.now older newer) }
-{
-    [
+    let parts = [
         crawler(agent),
         Part(": delay ", delay_value(older)),
         Part(" -> ", delay_value(newer)),
-    ]
+    ];
+    add(alloc, found, Level::Note, None, "delay", &parts)
 }
 
-/// Appends the delays, if they differ.
-fn push_delay_changes(
-    text: &mut String,
-    agent: &str,
-    older: &AgentAudit<'_>,
-    newer: &AgentAudit<'_>,
-) -> Result<(), AllocError>
-    ensures { OnOk result (string_bytes text.new ≡ string_bytes text.old
-        ++ written (delay_changes agent.now older.now.delay newer.now.delay)) }
+/// The name of a rule that was added, or of one that was removed.
+fn rule_name(is_added: bool) -> &'static str
+    ensures { result.now ≡ (rule_name is_added).text }
 {
-    if older.delay == newer.delay {
-        return Ok(());
+    if is_added {
+        "rule-added"
+    } else {
+        "rule-removed"
     }
-    push_line_of(text, &delay_line(agent, older.delay, newer.delay))
 }
 
-/// The name of a rule's kind.
-pub fn kind_word(is_allow: bool) -> &'static str
-    ensures { result.now ≡ value_text (kind_word is_allow) }
-{
-    if is_allow { "Allow" } else { "Disallow" }
-}
-
-/// The line about a rule that was added, or one that was removed.
+/// The line about such a rule.
 fn rule_line<'a>(agent: &'a str, is_added: bool, rule: &'a Rule) -> [Part<'a>; 5]
     ensures { raw_line result ≡ line_text (rule_line agent.entry.now is_added rule.entry.now) }
 {
+    let kind = if rule.is_allow { "Allow" } else { "Disallow" };
     [
         crawler(agent),
-        Part(
-            if is_added { ": + " } else { ": - " },
-            Value::Word(kind_word(rule.is_allow)),
-        ),
+        Part(if is_added { ": + " } else { ": - " }, Value::Word(kind)),
         Part(": ", Value::Untrusted(rule.pattern.as_bytes())),
         Part(" (line ", Value::Number(rule.line)),
         Part(")", Value::Nothing),
     ]
 }
 
-/// Appends the lines about rules that were added, or about those that were removed.
-fn push_rule_lines(
-    text: &mut String,
+/// Adds the rules that were added, or those that were removed.
+fn add_rules(
+    alloc: Global,
+    found: &mut Findings,
     agent: &str,
     is_added: bool,
     rules: &[Rule],
 ) -> Result<(), AllocError>
-    ensures { OnOk result (string_bytes text.new ≡ string_bytes text.old
-        ++ written (map (rule_line agent.now is_added) rules.now)) }
+    ensures { OnOk result (Adds found.old.items found.new.items
+        (map (rule_change agent.now is_added) rules.now)) }
 {
     for rule in rules {
-        push_line_of(text, &rule_line(agent, is_added, rule))?;
+        let line = if is_added { Some(rule.line) } else { None };
+        let parts = rule_line(agent, is_added, rule);
+        add(alloc, found, Level::Note, line, rule_name(is_added), &parts)?;
     }
     Ok(())
 }
@@ -146,30 +165,30 @@ fn verdict_word(allowed: bool) -> Value<'static>
     Value::Word(if allowed { "allow" } else { "deny" })
 }
 
-/// What the change of a verdict does to a URL.
-pub fn change_word(older: bool, newer: bool) -> Option<&'static str>
-    ensures { option_map (λ word. word.now) result ≡ option_map (λ word. word.text) (change_word older newer) }
+/// What the change of a decision does to a URL.
+fn change_name(older: bool, newer: bool) -> &'static str
+    ensures { result.now ≡ (change_name older newer).text }
 {
     match (older, newer) {
-        (true, false) => Some("closed"),
-        (false, true) => Some("opened"),
-        _ => None,
+        (true, false) => "closed",
+        (false, true) => "opened",
+        _ => "other-rule",
     }
 }
 
 /// The same at the end of a line.
 fn change_part(older: bool, newer: bool) -> Part<'static>
-    ensures { raw_text result ≡ part_text (change_part (change_word older newer)) }
+    ensures { raw_text result ≡ part_text (change_part older newer) }
 {
-    match (older, newer) {
-        (true, false) => Part(", ", Value::Word("closed")),
-        (false, true) => Part(", ", Value::Word("opened")),
-        _ => Part("", Value::Nothing),
+    if older == newer {
+        Part("", Value::Nothing)
+    } else {
+        Part(", ", Value::Word(change_name(older, newer)))
     }
 }
 
 /// The line about a URL.
-pub fn url_line<'a>(agent: &'a str, change: &UrlChange<'a>) -> [Part<'a>; 7]
+fn url_line<'a>(agent: &'a str, change: &UrlChange<'a>) -> [Part<'a>; 7]
     ensures { raw_line result ≡ line_text (url_line agent.now change.now) }
 {
     [
@@ -183,32 +202,54 @@ pub fn url_line<'a>(agent: &'a str, change: &UrlChange<'a>) -> [Part<'a>; 7]
     ]
 }
 
-/// Appends the lines about URLs.
-fn push_url_lines(
-    text: &mut String,
+/// Adds a URL on which the decisions differ.
+fn add_url(
+    alloc: Global,
+    found: &mut Findings,
+    agent: &str,
+    change: &UrlChange<'_>,
+) -> Result<(), AllocError>
+    ensures { OnOk result (Adds found.old.items found.new.items (url_change agent.now change.now ∷ [])) }
+{
+    let (older, newer) = (change.older.allowed, change.newer.allowed);
+    let level = if older && !newer {
+        Level::Warning
+    } else {
+        Level::Note
+    };
+    let (name, parts) = (change_name(older, newer), url_line(agent, change));
+    add(alloc, found, level, change.newer.line, name, &parts)
+}
+
+/// Adds all such URLs.
+fn add_urls(
+    alloc: Global,
+    found: &mut Findings,
     agent: &str,
     changes: &[UrlChange<'_>],
 ) -> Result<(), AllocError>
-    ensures { OnOk result (string_bytes text.new ≡ string_bytes text.old
-        ++ written (map (url_line agent.now) changes.now)) }
+    ensures { OnOk result (Adds found.old.items found.new.items (map (url_change agent.now) changes.now)) }
 {
     for change in changes {
-        push_line_of(text, &url_line(agent, change))?;
+        add_url(alloc, found, agent, change)?;
     }
     Ok(())
 }
 
-/// Appends everything that differs for a crawler.
-pub(crate) fn push_differences(text: &mut String, compared: &Compared<'_>) -> Result<(), AllocError>
-    ensures { OnOk result (string_bytes text.new ≡ string_bytes text.old
-        ++ written (differences compared.now)) }
+/// Adds everything that differs for a crawler.
+fn add_differences(
+    alloc: Global,
+    found: &mut Findings,
+    compared: &Compared<'_>,
+) -> Result<(), AllocError>
+    ensures { OnOk result (Adds found.old.items found.new.items (differences compared.now)) }
 {
-    let agent = compared.agent;
-    push_group_changes(text, agent, &compared.older, &compared.newer)?;
-    push_delay_changes(text, agent, &compared.older, &compared.newer)?;
-    push_rule_lines(text, agent, false, &compared.removed)?;
-    push_rule_lines(text, agent, true, &compared.added)?;
-    push_url_lines(text, agent, &compared.changes)?;
+    let (agent, older, newer) = (compared.agent, &compared.older, &compared.newer);
+    add_groups(alloc, found, agent, older.group, newer.group)?;
+    add_delays(alloc, found, agent, older.delay, newer.delay)?;
+    add_rules(alloc, found, agent, false, &compared.removed)?;
+    add_rules(alloc, found, agent, true, &compared.added)?;
+    add_urls(alloc, found, agent, &compared.changes)?;
     Ok(())
 }
 
@@ -244,20 +285,25 @@ pub(crate) fn all_unchanged(crawlers: &[Compared<'_>]) -> bool
     crawlers.iter().all(is_unchanged)
 }
 
-/// Appends that no rule was removed or added, if that is so.
-pub(crate) fn push_same_rules(text: &mut String, compared: &Compared<'_>) -> Result<(), AllocError>
-    ensures { OnOk result (string_bytes text.new ≡ string_bytes text.old
-        ++ written (same_rules compared.now)) }
+/// Adds that no rule was removed or added, if that is so.
+fn add_same_rules(
+    alloc: Global,
+    found: &mut Findings,
+    agent: &str,
+    has_same: bool,
+) -> Result<(), AllocError>
+    ensures { OnOk result (Adds found.old.items found.new.items (same_rules agent.now has_same)) }
 {
-    if !has_same_rules(compared) {
+    if !has_same {
         return Ok(());
     }
     let what = Part(": same rules, so no URL's verdict differs", Value::Nothing);
-    push_line_of(text, &[crawler(compared.agent), what])
+    let parts = [crawler(agent), what];
+    add(alloc, found, Level::Note, None, "same-rules", &parts)
 }
 
 /// What a line about one of the files begins with.
-pub(crate) fn file_text(is_new: bool) -> &'static str
+fn file_text(is_new: bool) -> &'static str
     ensures { result.now ≡ part_text (file_part is_new) }
 {
     if is_new {
@@ -267,25 +313,44 @@ pub(crate) fn file_text(is_new: bool) -> &'static str
     }
 }
 
-/// Appends that a file is rejected for a crawler, if it is.
-fn push_rejection(text: &mut String, is_new: bool, audit: &AgentAudit<'_>) -> Result<(), AllocError>
-    ensures { OnOk result (string_bytes text.new ≡ string_bytes text.old
-        ++ written (rejection is_new audit.now)) }
+/// Adds that a file is rejected for a crawler, if it is.
+fn add_rejection(
+    alloc: Global,
+    found: &mut Findings,
+    is_new: bool,
+    audit: &AgentAudit<'_>,
+) -> Result<(), AllocError>
+    ensures { OnOk result (Adds found.old.items found.new.items (rejection is_new audit.now)) }
 {
-    match audit.rejected {
-        Some(line) => {
-            text.push_str(file_text(is_new))?;
-            push_line_of(text, &rejected_parts(audit.agent, line))
-        }
-        None => Ok(()),
-    }
+    let Some(line) = audit.rejected else {
+        return Ok(());
+    };
+    let mut message = String::from_str(alloc, file_text(is_new))?;
+    push_parts(&mut message, &rejected_parts(audit.agent, line))?;
+    Ok(found.push(Finding {
+        level: Level::Error,
+        line: if is_new { Some(line) } else { None },
+        name: "rejected",
+        message,
+    })?)
 }
 
-/// Appends which of the files are rejected for a crawler.
-pub(crate) fn push_rejections(text: &mut String, compared: &Compared<'_>) -> Result<(), AllocError>
-    ensures { OnOk result (string_bytes text.new ≡ string_bytes text.old
-        ++ written (rejection_lines compared.now)) }
+/// Adds what is reported on a crawler.
+pub(crate) fn add_crawler(
+    alloc: Global,
+    found: &mut Findings,
+    compared: &Compared<'_>,
+) -> Result<(), AllocError>
+    ensures { OnOk result (Adds found.old.items found.new.items (crawler_changes compared.now)) }
 {
-    push_rejection(text, false, &compared.older)?;
-    push_rejection(text, true, &compared.newer)
+    if is_rejected(compared) {
+        add_rejection(alloc, found, false, &compared.older)?;
+        return add_rejection(alloc, found, true, &compared.newer);
+    }
+    if is_unchanged(compared) {
+        return Ok(());
+    }
+    add_differences(alloc, found, compared)?;
+    add_same_rules(alloc, found, compared.agent, has_same_rules(compared))?;
+    Ok(())
 }

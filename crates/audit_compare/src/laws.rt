@@ -1,16 +1,8 @@
 //! Theorems about comparisons, each written as the contract of an empty function.
 ghost use Rattle.std.specs.Prelude.{[], Bool, List, true, ℕ, ◌||◌, ◌↔◌, ◌≡◌};
 ghost use Rattle.texting_robots.specs.Callers.{IsVerdict, LineValue, rules_for};
-ghost use Rattle.audit_compare.specs.Compare.{ComparedValue, ComparisonValue, has_same_rules, is_unchanged};
-ghost use Rattle.audit_compare.specs.Compare.{IsCompared, report_lines, rules_only_in};
-ghost use Rattle.printable_text.specs.{Text.written, Sanitize.IsPrintable};
-
-/// The report of `--compare` contains neither invalid UTF-8 nor a control character other than LF, a
-/// bidirectional control character or a line separator, whatever the bytes of the files, the crawlers' names
-/// and the URLs are.
-pub fn no_comparison_steers_a_terminal()
-    ensures { (comparison : ComparisonValue) → IsPrintable (written (report_lines comparison)) }
-{}
+ghost use Rattle.audit_compare.specs.Compare.{ComparedValue, IsCompared, has_same_rules, is_unchanged};
+ghost use Rattle.audit_compare.specs.Compare.{rules_only_in};
 
 /// If a crawler has the same rules in two files, in whatever lines, both files give each text the same verdict. So they do
 /// if `--compare` reports that nothing differs for a crawler, or that its rules are the same; and then it lists no URL.

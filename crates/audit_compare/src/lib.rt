@@ -1,10 +1,9 @@
 //! Two versions of a robots.txt file compared, and the report on what differs.
 #![tactic(auto)]
 
-pub mod annotations;
 pub mod compare;
 pub mod compared;
-pub mod differences;
+mod differences;
 pub mod laws;
 pub mod report;
 mod rule_sets;

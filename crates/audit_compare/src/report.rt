@@ -1,60 +1,32 @@
-//! The report on a comparison as text.
-ghost use Rattle.std.specs.Prelude.{◌≡◌, ◌++◌, IfOk, OnOk, flat_map, map, string_bytes};
+//! The report on a comparison: what differs, as findings, and as text.
+ghost use Rattle.std.specs.Prelude.{◌≡◌, ◌++◌, ◌∷◌, [], IfOk, OnOk, flat_map, map, string_bytes};
 ghost use Rattle.std.specs.List.{list_any};
-ghost use Rattle.printable_text.specs.Raw.{raw_line, raw_text};
+ghost use Rattle.printable_text.specs.{Lines.ended, Raw.raw_line, Raw.raw_text};
 ghost use Rattle.printable_text.specs.Text.{line_text, part_text, written};
-ghost use Rattle.audit_compare.specs.Compare.{agent_lines, empty_part, is_unchanged, report_lines, sides_line};
-ghost use Rattle.audit_compare.specs.Compare.{sitemap_line, unchanged_line, unchanged_lines, unchanged_part};
+ghost use Rattle.audit_core.specs.Findings.{finding_value};
+ghost use Rattle.audit_compare.specs.Compare.{all_differences, crawler_changes, empty_part, finding_of};
+ghost use Rattle.audit_compare.specs.Compare.{is_unchanged, report_lines, sides_line, sitemap_change, unchanged};
+ghost use Rattle.audit_compare.specs.Compare.{unchanged_line, unchanged_part};
+ghost use Rattle.audit_compare.specs.Internal.Compare.{Adds};
 
 use crate::compare::{Comparison, Side};
 use crate::compared::Compared;
-use crate::differences::{
-    all_unchanged, crawler, is_rejected, is_unchanged, push_differences, push_rejections,
-    push_same_rules,
-};
+use crate::differences::{add, add_crawler, all_unchanged, crawler, is_unchanged};
+use audit_core::findings::{Finding, Findings};
+use printable_text::level::Level;
 use printable_text::parts::{Part, Value, push_line_of};
 use std::alloc::{AllocError, Global};
 
-/// That a file has no directive.
-fn empty_part(is_empty: bool) -> Part<'static>
-    ensures { raw_text result ≡ part_text (empty_part is_empty) }
-{
-    Part(if is_empty { " (empty)" } else { "" }, Value::Nothing)
-}
-
-/// The line with the names of the files.
-fn sides_line<'a>(older: &Side<'a>, newer: &Side<'a>) -> [Part<'a>; 4]
-    ensures { raw_line result ≡ line_text (sides_line older.now newer.now) }
-{
-    [
-        Part("old: ", Value::Untrusted(older.name.as_bytes())),
-        empty_part(older.is_empty),
-        Part(", new: ", Value::Untrusted(newer.name.as_bytes())),
-        empty_part(newer.is_empty),
-    ]
-}
-
-/// Appends what is reported on a crawler.
-fn push_crawler(text: &mut String, compared: &Compared<'_>) -> Result<(), AllocError>
-    ensures { OnOk result (string_bytes text.new ≡ string_bytes text.old ++ written (agent_lines compared.now)) }
-{
-    if is_rejected(compared) {
-        return push_rejections(text, compared);
-    }
-    if is_unchanged(compared) {
-        return Ok(());
-    }
-    push_differences(text, compared)?;
-    push_same_rules(text, compared)
-}
-
-/// Appends what is reported on each of these crawlers.
-fn push_crawlers(text: &mut String, crawlers: &[Compared<'_>]) -> Result<(), AllocError>
-    ensures { OnOk result (string_bytes text.new ≡ string_bytes text.old
-        ++ written (flat_map agent_lines crawlers.now)) }
+/// Adds what is reported on each of these crawlers.
+fn add_crawlers(
+    alloc: Global,
+    found: &mut Findings,
+    crawlers: &[Compared<'_>],
+) -> Result<(), AllocError>
+    ensures { OnOk result (Adds found.old.items found.new.items (flat_map crawler_changes crawlers.now)) }
 {
     for compared in crawlers {
-        push_crawler(text, compared)?;
+        add_crawler(alloc, found, compared)?;
     }
     Ok(())
 }
@@ -83,48 +55,122 @@ fn has_unchanged(crawlers: &[Compared<'_>]) -> bool
     crawlers.iter().any(is_unchanged)
 }
 
-/// Appends that all of these crawlers are unchanged, or that some are.
-fn push_unchanged(text: &mut String, crawlers: &[Compared<'_>]) -> Result<(), AllocError>
-    ensures { OnOk result (string_bytes text.new ≡ string_bytes text.old ++ written (unchanged_lines crawlers.now)) }
+/// Adds that all of these crawlers are unchanged, or that some are.
+fn add_unchanged(
+    alloc: Global,
+    found: &mut Findings,
+    crawlers: &[Compared<'_>],
+) -> Result<(), AllocError>
+    ensures { OnOk result (Adds found.old.items found.new.items (unchanged crawlers.now)) }
 {
     if !has_unchanged(crawlers) {
         return Ok(());
     }
-    push_line_of(text, &[unchanged_subject(crawlers), UNCHANGED])
+    let parts = [unchanged_subject(crawlers), UNCHANGED];
+    add(alloc, found, Level::Note, None, "unchanged", &parts)
 }
 
-/// The line about a sitemap.
-fn sitemap_line<'a>(is_added: bool, sitemap: &'a [u8]) -> [Part<'a>; 1]
-    ensures { raw_line result ≡ line_text (sitemap_line is_added sitemap.entry.now) }
+/// Adds a sitemap that was added, or one that was removed.
+fn add_sitemap(
+    alloc: Global,
+    found: &mut Findings,
+    is_added: bool,
+    sitemap: &[u8],
+) -> Result<(), AllocError>
+    ensures { OnOk result (Adds found.old.items found.new.items (sitemap_change is_added sitemap.now ∷ [])) }
 {
-    let label = if is_added {
-        "sitemap added: "
-    } else {
-        "sitemap removed: "
-    };
-    [Part(label, Value::Untrusted(sitemap))]
+    let value = Value::Untrusted(sitemap);
+    if is_added {
+        let parts = [Part("sitemap added: ", value)];
+        return add(alloc, found, Level::Note, None, "sitemap-added", &parts);
+    }
+    let parts = [Part("sitemap removed: ", value)];
+    add(alloc, found, Level::Note, None, "sitemap-removed", &parts)
 }
 
-/// Appends the lines about sitemaps that were added, or about those that were removed.
-fn push_sitemaps(text: &mut String, is_added: bool, sitemaps: &[&[u8]]) -> Result<(), AllocError>
-    ensures { OnOk result (string_bytes text.new ≡ string_bytes text.old
-        ++ written (map (sitemap_line is_added) (map (λ sitemap. sitemap.now) sitemaps.now))) }
+/// Adds all such sitemaps.
+fn add_sitemaps(
+    alloc: Global,
+    found: &mut Findings,
+    is_added: bool,
+    sitemaps: &[&[u8]],
+) -> Result<(), AllocError>
+    ensures { OnOk result (Adds found.old.items found.new.items
+        (map (sitemap_change is_added) (map (λ sitemap. sitemap.now) sitemaps.now))) }
 {
     for sitemap in sitemaps {
-        push_line_of(text, &sitemap_line(is_added, sitemap))?;
+        add_sitemap(alloc, found, is_added, sitemap)?;
     }
     Ok(())
 }
 
-/// The report on a comparison as lines of text.
-pub fn comparison_text(alloc: Global, comparison: &Comparison<'_>) -> Result<String, AllocError>
-    ensures { IfOk result (λ text. string_bytes text ≡ written (report_lines comparison.now)) }
+/// All that is reported.
+fn all_differences(alloc: Global, comparison: &Comparison<'_>) -> Result<Findings, AllocError>
+    ensures { IfOk result (λ found.
+        map finding_value found.items ≡ map finding_of (all_differences comparison.now)) }
 {
+    let mut found = Vec::new(alloc);
+    add_crawlers(alloc, &mut found, &comparison.crawlers)?;
+    add_unchanged(alloc, &mut found, &comparison.crawlers)?;
+    add_sitemaps(alloc, &mut found, false, &comparison.removed)?;
+    add_sitemaps(alloc, &mut found, true, &comparison.added)?;
+    Ok(found)
+}
+
+/// That a file has no directive.
+fn empty_part(has_no_directive: bool) -> Part<'static>
+    ensures { raw_text result ≡ part_text (empty_part has_no_directive) }
+{
+    Part(
+        if has_no_directive { " (empty)" } else { "" },
+        Value::Nothing,
+    )
+}
+
+/// The line with the names of the files.
+fn sides_line<'a>(older: &Side<'a>, newer: &Side<'a>) -> [Part<'a>; 4]
+    ensures { raw_line result ≡ line_text (sides_line older.now newer.now) }
+{
+    [
+        Part("old: ", Value::Untrusted(older.name.as_bytes())),
+        empty_part(older.has_no_directive),
+        Part(", new: ", Value::Untrusted(newer.name.as_bytes())),
+        empty_part(newer.has_no_directive),
+    ]
+}
+
+/// Appends the message of a finding as a line.
+fn push_message(text: &mut String, finding: &Finding) -> Result<(), AllocError>
+    ensures { OnOk result (string_bytes text.new
+        ≡ string_bytes text.old ++ ended (string_bytes finding.now.message ∷ [])) }
+{
+    text.push_str(&finding.message)?;
+    text.push('\n')
+}
+
+/// Appends the messages of findings.
+fn push_messages(text: &mut String, found: &[Finding]) -> Result<(), AllocError>
+    ensures { OnOk result (string_bytes text.new
+        ≡ string_bytes text.old ++ ended (map (λ finding. string_bytes finding.message) found.now)) }
+{
+    for finding in found {
+        push_message(text, finding)?;
+    }
+    Ok(())
+}
+
+/// The report on a comparison as text, and what differs.
+pub fn reported(
+    alloc: Global,
+    comparison: &Comparison<'_>,
+) -> Result<(String, Findings), AllocError>
+    ensures text { IfOk result (λ reported. string_bytes reported.0 ≡ written (report_lines comparison.now)) }
+    ensures found { IfOk result (λ reported.
+        map finding_value reported.1.items ≡ map finding_of (all_differences comparison.now)) }
+{
+    let found = all_differences(alloc, comparison)?;
     let mut text = String::new(alloc);
     push_line_of(&mut text, &sides_line(&comparison.older, &comparison.newer))?;
-    push_crawlers(&mut text, &comparison.crawlers)?;
-    push_unchanged(&mut text, &comparison.crawlers)?;
-    push_sitemaps(&mut text, false, &comparison.removed)?;
-    push_sitemaps(&mut text, true, &comparison.added)?;
-    Ok(text)
+    push_messages(&mut text, &found)?;
+    Ok((text, found))
 }

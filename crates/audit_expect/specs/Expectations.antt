@@ -1,20 +1,21 @@
 -- Expectations checked against a robots.txt file, and the report on those that fail.
 use Rattle.std.specs.Prelude.{◌≡◌, ℕ, ◌==◌, Bool, true, false, not, ◌||◌, List, ◌++◌, Option, Some, None, Ok}
-use Rattle.std.specs.Prelude.{[], ◌∷◌, bytes_eq, codes, filter, if◌then◌else◌, length, map, string_bytes}
+use Rattle.std.specs.Prelude.{[], ◌∷◌, bytes_eq, codes, decimal, filter, if◌then◌else◌, length, map}
 use Rattle.std.specs.List.{AllByRecursion as Each}
 use Rattle.std.proofs.Common.{refl}
 use Rattle.texting_robots.specs.Callers.{IsFirstOverlong, IsRejected, bodies_read, lines_read, placed_rules}
 use Rattle.texting_robots.specs.Callers.{robots_file}
 use Rattle.texting_robots.specs.Decision.{IsDecisionOn}
 use Rattle.texting_robots.specs.declared.decision.Decision.{Decision}
-use Rattle.printable_text.specs.Lines.{ended}
-use Rattle.printable_text.specs.Text.{Count, Label, NamedLine, Number, Part, PartValue, ReportLine, Untrusted}
-use Rattle.printable_text.specs.Text.{label, line_from, line_text, named_text, only}
+use Rattle.printable_text.specs.{Lines.ended, Sanitize.sanitized}
+use Rattle.printable_text.specs.declared.level.Level.TheVariants.{Error}
+use Rattle.printable_text.specs.Text.{Count, Label, Number, Part, PartValue, ReportLine, Untrusted}
+use Rattle.printable_text.specs.Text.{label, line_from, line_text, only}
 use Rattle.robots_warnings.specs.Crawlers.{other_group}
-use Rattle.audit_core.specs.declared.answer.{Answer.Answer, Outcome.Outcome}
 use Rattle.audit_expect.specs.declared.checks.{AtVendor.AtVendor, Judgment.Judgment}
 use Rattle.audit_expect.specs.declared.checks.AtVendor.TheVariants.{Group, Nobody, Same}
 use Rattle.audit_expect.specs.declared.checks.Judgment.TheVariants.{Decided, Rejected}
+use Rattle.audit_core.specs.Findings.{After, FindingValue, Found, found_value}
 use Rattle.audit_core.specs.{Asked.asked_target, Texts.rejected_front, Texts.rejected_line_part}
 use Rattle.audit_expect.specs.{Expect.ExpectationValue, Expect.expectations_in, NormalForm.IsNormalDecision}
 use Rattle.audit_expect.specs.{OtherReading.IsOtherDecision}
@@ -81,12 +82,10 @@ abbrev pub demand : (allowed : Bool) → Label
 demand true = label (codes " must be allowed ") refl
 demand false = label (codes " must be denied ") refl
 
--- where the expectation is, and what it is
-abbrev pub front_parts : ExpectationValue → List PartValue
-front_parts expectation =
-    Part (label (codes ":") refl) (Number expectation.number)
-    ∷ Part (label (codes ": ") refl) (Untrusted expectation.agent)
-    ∷ Part (demand expectation.allowed) (Untrusted expectation.url) ∷ only (codes ", but ") refl ∷ []
+-- what the expectation is, after the crawler's name
+abbrev pub demand_parts : ExpectationValue → List PartValue
+demand_parts expectation =
+    Part (demand expectation.allowed) (Untrusted expectation.url) ∷ only (codes ", but ") refl ∷ []
 
 -- why a URL is allowed that no line decides; a denied URL has a line
 abbrev pub unmatched : (is_robots_file : Bool) → PartValue
@@ -146,16 +145,26 @@ reason_parts checked =
     then judgment_parts expectation.agent expectation.url expectation.allowed checked.judgment
     else vendor_parts expectation.url expectation.allowed checked.vendor
 
--- where an expectation is, what it is, and why it fails
-abbrev pub failure : List ℕ → CheckedValue → NamedLine
-failure name checked = record {
-  name = name;
-  rest = front_parts checked.expectation ++ reason_parts checked;
+-- an expectation that fails, as an error in its line
+abbrev pub failure : CheckedValue → Found
+failure checked = record {
+  level = Error;
+  line = Some checked.expectation.number;
+  name = record { text = codes "expectation"; safe = refl };
+  message = After checked.expectation.agent (demand_parts checked.expectation ++ reason_parts checked);
 }
 
+-- those that fail, in order
+abbrev pub failures : List CheckedValue → List FindingValue
+failures checked = map (λ one. found_value (failure one)) (filter fails checked)
+
+abbrev pub place : Option ℕ → List ℕ
+place None = []
+place (Some line) = codes ":" ++ decimal line
+
 -- such as `expect.txt:7: Googlebot must be allowed /products/tea, but line 3 denies it`
-abbrev pub failure_line : List ℕ → CheckedValue → List ℕ
-failure_line name checked = named_text (failure name checked)
+abbrev pub placed : List ℕ → FindingValue → List ℕ
+placed name finding = sanitized name ++ (place finding.line ++ (codes ": " ++ finding.message))
 
 -- how many expectations hold
 abbrev pub holding : ℕ → ReportLine
@@ -163,29 +172,16 @@ holding number =
     if number == 1 then line_from (only (codes "1 expectation holds") refl) refl []
     else line_from (Count number) refl (only (codes " expectations hold") refl ∷ [])
 
--- a line for each expectation that fails, in order; if none fails, the number of those that hold
-abbrev pub result_lines : List ℕ → List CheckedValue → List (List ℕ)
-result_lines name checked =
-    if length (filter fails checked) == 0 then line_text (holding (length checked)) ∷ []
-    else map (failure_line name) (filter fails checked)
+-- a line for each expectation that fails; if none fails, the number of those that hold
+abbrev pub result_lines : List ℕ → ℕ → List FindingValue → List (List ℕ)
+result_lines name number found =
+    if length found == 0 then line_text (holding number) ∷ [] else map (placed name) found
 
--- the report on the expectations in the text, of which there are some
-pub record IsReport (name text file report : List ℕ) (all_hold : Bool) : Type 0 where
+-- the report on the expectations in the text, of which there are some, and those that fail
+pub record IsReport (name text file report : List ℕ) (found : List FindingValue) : Type 0 where
   pub checked : List CheckedValue
   pub all : expectations_in text ≡ Ok (map (λ (one : CheckedValue). one.expectation) checked)
-  pub found : Each (IsChecked file) checked
+  pub judged : Each (IsChecked file) checked
   pub some : (length checked == 0) ≡ false
-  pub whole : report ≡ ended (result_lines name checked)
-  pub hold : all_hold ≡ (length (filter fails checked) == 0)
-
--- the exit status says whether all hold, and nothing is written to standard error
-pub record IsPlain (all_hold : Bool) (outcome : Outcome) : Type 0 where
-  pub accepted : outcome.is_rejected ≡ false
-  pub passed : outcome.has_passed ≡ all_hold
-  pub unwarned : outcome.is_warned ≡ false
-  pub silent : string_bytes outcome.warnings ≡ []
-
--- the answer is the report on the expectations in the text, and the exit status depends on them alone
-abbrev pub IsAnswer : (name text file : List ℕ) → Answer → Type 0
-IsAnswer name text file answer =
-    (hold : Bool) × IsReport name text file answer.report.items hold × IsPlain hold answer.outcome
+  pub found_are : found ≡ failures checked
+  pub whole : report ≡ ended (result_lines name (length checked) found)

@@ -1,26 +1,30 @@
 //! Expectations checked against a robots.txt file, and the report on those that fail.
 ghost use Rattle.std.specs.Prelude.{◌≡◌, ◌==◌, ◌++◌, ◌∷◌, [], IfErr, IfOk, Ok, OnOk, bytes_eq, false};
-ghost use Rattle.std.specs.Prelude.{if◌then◌else◌, length, map, string_bytes, take};
+ghost use Rattle.std.specs.Prelude.{length, map, string_bytes, take};
 ghost use Rattle.texting_robots.specs.Callers.{file_limit, robots_file};
 ghost use Rattle.printable_text.specs.Text.{line_text, part_text, parts_text};
-ghost use Rattle.printable_text.specs.{Lines.ended, Sanitize.sanitized, Raw.raw_line};
+ghost use Rattle.printable_text.specs.{Lines.ended, Sanitize.sanitized, Raw.raw_line, Raw.raw_text};
 ghost use Rattle.audit_core.specs.declared.fault.Entry.TheVariants as entry;
-ghost use Rattle.audit_core.specs.Asked.{asked_target};
+ghost use Rattle.audit_core.specs.{Asked.asked_target, Findings.finding_value, Findings.found_value};
 ghost use Rattle.audit_core.specs.Internal.{IsReading};
 ghost use Rattle.audit_expect.specs.declared.checks.Judgment.TheVariants.{Decided};
 ghost use Rattle.audit_expect.specs.Expect.{IsEntryFault, expectations_in as specified_in};
-ghost use Rattle.audit_expect.specs.Expectations.{IsAnswer, IsPlain, decision_parts, demand, judgment_parts, front_parts, group_parts, holding, nobody_parts, reason_parts, rejected_parts, unmatched, vendor_parts};
+ghost use Rattle.audit_expect.specs.Expectations.{IsReport, decision_parts, demand, demand_parts, failure};
+ghost use Rattle.audit_expect.specs.Expectations.{failures, group_parts, holding, judgment_parts, nobody_parts};
+ghost use Rattle.audit_expect.specs.Expectations.{place, placed, reason_parts, rejected_parts, result_lines};
+ghost use Rattle.audit_expect.specs.Expectations.{unmatched, vendor_parts};
 ghost use Rattle.audit_expect.specs.Internal.Expect.{expectation_value};
-ghost use Rattle.audit_expect.specs.Internal.Expectations.{AreFailuresOn, IsReadFor, checked_value, failures_at};
+ghost use Rattle.audit_expect.specs.Internal.Expectations.{AreFailuresOn, IsReadFor, checked_value};
 
 use crate::checks::{AtVendor, Checked, Judgment, checked_on, fails, fails_here, is_unexpected};
 use crate::entries::without_entries;
 use crate::expect::{Expectation, expectations_in};
 use crate::other_reading::empty_disallows;
-use audit_core::answer::{Answer, Outcome};
 use audit_core::asked::asked_target;
 use audit_core::audit::{Reading, read_for};
 use audit_core::fault::{Entry, Fault};
+use audit_core::findings::{Finding, Findings};
+use printable_text::level::Level;
 use printable_text::parts::{Part, Value, push_line_of, push_parts};
 use std::alloc::{AllocError, Global};
 use texting_robots::Site;
@@ -64,20 +68,15 @@ fn demand(allowed: bool) -> &'static str
     }
 }
 
-/// Where an expectation is, and what it is.
-fn failure_front<'a>(name: &'a str, expectation: &Expectation<'a>) -> [Part<'a>; 5]
-    ensures { raw_line result ≡ sanitized name.entry.now
-        ++ parts_text (front_parts (expectation_value expectation.now)) }
+/// The crawler, and what is expected.
+fn demand_parts<'a>(expectation: &Expectation<'a>) -> [Part<'a>; 3]
+    ensures { raw_line result ≡ sanitized (expectation_value expectation.now).agent
+        ++ parts_text (demand_parts (expectation_value expectation.now)) }
 {
-    let (agent, url) = (expectation.agent, expectation.url);
+    let url = Value::Untrusted(expectation.url.as_bytes());
     [
-        Part("", Value::Untrusted(name.as_bytes())),
-        Part(":", Value::Number(expectation.number)),
-        Part(": ", Value::Untrusted(agent.as_bytes())),
-        Part(
-            demand(expectation.allowed),
-            Value::Untrusted(url.as_bytes()),
-        ),
+        Part("", Value::Untrusted(expectation.agent.as_bytes())),
+        Part(demand(expectation.allowed), url),
         Part(", but ", Value::Nothing),
     ]
 }
@@ -253,49 +252,39 @@ fn push_reason(alloc: Global, text: &mut String, checked: &Checked<'_>) -> Resul
     }
 }
 
-/// Appends the report on an expectation that fails.
-fn push_failure(
-    alloc: Global,
-    text: &mut String,
-    name: &str,
-    checked: &Checked<'_>,
-) -> Result<(), Fault>
-    ensures ok { OnOk result (string_bytes text.new ≡ string_bytes text.old
-        ++ (sanitized name.now ++ (parts_text (front_parts (expectation_value checked.now.expectation))
-        ++ parts_text (reason_parts (checked_value checked.now))))) }
+/// An expectation that fails.
+fn failure(alloc: Global, checked: &Checked<'_>) -> Result<Finding, Fault>
+    ensures ok { IfOk result (λ found.
+        finding_value found ≡ found_value (failure (checked_value checked.now))) }
     ensures fault { IfErr result (λ fault. fault ≡ Fault.Memory) }
 {
-    push_parts(text, &failure_front(name, &checked.expectation))?;
-    push_reason(alloc, text, checked)
+    let mut message = String::new(alloc);
+    push_parts(&mut message, &demand_parts(&checked.expectation))?;
+    push_reason(alloc, &mut message, checked)?;
+    Ok(Finding {
+        level: Level::Error,
+        line: Some(checked.expectation.number),
+        name: "expectation",
+        message,
+    })
 }
 
-/// Appends a line if the expectation fails.
-fn push_if_failing(
-    alloc: Global,
-    text: &mut String,
-    name: &str,
-    checked: &Checked<'_>,
-) -> Result<(), Fault>
-    ensures ok { OnOk result (string_bytes text.new ≡ string_bytes text.old
-        ++ ended (failures_at name.now (checked_value checked.now))) }
+/// Adds an expectation if it fails.
+fn add_if_failing(alloc: Global, found: &mut Findings, checked: &Checked<'_>) -> Result<(), Fault>
+    ensures ok { OnOk result (map finding_value found.new.items ≡ map finding_value found.old.items
+        ++ failures (checked_value checked.now ∷ [])) }
     ensures fault { IfErr result (λ fault. fault ≡ Fault.Memory) }
 {
     if !fails(checked) {
         return Ok(());
     }
-    push_failure(alloc, text, name, checked)?;
-    Ok(text.push('\n')?)
+    Ok(found.push(failure(alloc, checked)?)?)
 }
 
-/// The report on the expectations that fail.
-fn failures(
-    alloc: Global,
-    name: &str,
-    expectations: &[Expectation<'_>],
-    file: &[u8],
-) -> Result<String, Fault>
-    ensures ok { IfOk result (λ report. AreFailuresOn name.now file.now (map expectation_value expectations.now)
-        (string_bytes report)) }
+/// The expectations that fail.
+fn failures(alloc: Global, expectations: &[Expectation<'_>], file: &[u8]) -> Result<Findings, Fault>
+    ensures ok { IfOk result (λ found. AreFailuresOn file.now (map expectation_value expectations.now)
+        (map finding_value found.items)) }
     ensures fault { IfErr result (λ fault. fault ≡ Fault.Memory) }
 {
     let site = Site::new(alloc, file)?;
@@ -305,13 +294,13 @@ fn failures(
         agent: "*",
         reading,
     };
-    let mut report = String::new(alloc);
+    let mut found = Vec::new(alloc);
     for expectation in expectations {
         latest = reading_for(alloc, latest, expectation.agent, file, &site)?;
         let checked = checked_on(alloc, expectation, &latest.reading, file, &site, &marks)?;
-        push_if_failing(alloc, &mut report, name, &checked)?;
+        add_if_failing(alloc, &mut found, &checked)?;
     }
-    Ok(report)
+    Ok(found)
 }
 
 /// How many expectations hold.
@@ -330,26 +319,48 @@ fn holding(number: usize) -> [Part<'static>; 2]
     ]
 }
 
-/// The answer for these lines on the expectations that fail. `number` is that of all expectations.
-fn answer_of(alloc: Global, failures: String, number: usize) -> Result<Answer, AllocError>
-    ensures report { IfOk result (λ answer. answer.report.items ≡ string_bytes failures
-        ++ (if length (string_bytes failures) == 0 then ended (line_text (holding number) ∷ []) else [])) }
-    ensures outcome { IfOk result (λ answer. IsPlain (length (string_bytes failures) == 0) answer.outcome) }
+/// The place of a finding after the name of its file.
+fn place(line: Option<usize>) -> Part<'static>
+    ensures { raw_text result ≡ place line }
 {
-    let mut text = failures;
-    let has_passed = text.is_empty();
-    if has_passed {
+    match line {
+        Some(line) => Part(":", Value::Number(line)),
+        None => Part("", Value::Nothing),
+    }
+}
+
+/// Appends a finding in the file with this name as a line.
+fn push_placed(text: &mut String, name: &str, finding: &Finding) -> Result<(), AllocError>
+    ensures { OnOk result (string_bytes text.new
+        ≡ string_bytes text.old ++ ended (placed name.now (finding_value finding.now) ∷ [])) }
+{
+    let file = Part("", Value::Untrusted(name.as_bytes()));
+    push_parts(
+        text,
+        &[file, place(finding.line), Part(": ", Value::Nothing)],
+    )?;
+    text.push_str(&finding.message)?;
+    text.push('\n')
+}
+
+/// The report as text on these expectations that fail. `number` is that of all expectations.
+fn result_text(
+    alloc: Global,
+    name: &str,
+    number: usize,
+    found: &[Finding],
+) -> Result<String, AllocError>
+    ensures { IfOk result (λ text. string_bytes text
+        ≡ ended (result_lines name.now number (map finding_value found.now))) }
+{
+    let mut text = String::new(alloc);
+    if found.is_empty() {
         push_line_of(&mut text, &holding(number))?;
     }
-    Ok(Answer {
-        report: text.into_bytes(),
-        outcome: Outcome {
-            is_rejected: false,
-            has_passed,
-            is_warned: false,
-            warnings: String::new(alloc),
-        },
-    })
+    for finding in found {
+        push_placed(&mut text, name, finding)?;
+    }
+    Ok(text)
 }
 
 /// The expectations in this text, of a file with this name. Fails if there are none.
@@ -366,19 +377,25 @@ fn parsed<'a>(alloc: Global, name: &str, text: &'a [u8]) -> Result<Vec<Expectati
 }
 
 /// Checks the expectations in a text, of a file with this name, against a robots.txt file. The report has a line for
-/// each that fails, or how many hold if none fails.
+/// each that fails, or how many hold if none fails; the findings are those that fail.
 ///
 /// # Errors
 ///
 /// `Fault::Malformed` for all malformed lines of the text, `Fault::Empty` if there are no expectations in it, and
 /// `Fault::Memory` if an allocation failed or a URL is too long for `url`. An expectation fails if the file is
 /// rejected for its crawler, which isn't an error.
-pub fn check(alloc: Global, name: &str, text: &[u8], file: &[u8]) -> Result<Answer, Fault>
-    ensures ok { IfOk result (IsAnswer name.now text.now file.now) }
+pub fn check(
+    alloc: Global,
+    name: &str,
+    text: &[u8],
+    file: &[u8],
+) -> Result<(String, Findings), Fault>
+    ensures ok { IfOk result (λ checked. IsReport name.now text.now file.now (string_bytes checked.0)
+        (map finding_value checked.1.items)) }
     ensures fault { IfErr result (IsEntryFault name.now entry.Expectation (specified_in text.now)) }
 {
     let expectations = parsed(alloc, name, text)?;
-    let failures = failures(alloc, name, &expectations, file)?;
-    let answer = answer_of(alloc, failures, expectations.len())?;
-    Ok(answer)
+    let found = failures(alloc, &expectations, file)?;
+    let report = result_text(alloc, name, expectations.len(), &found)?;
+    Ok((report, found))
 }

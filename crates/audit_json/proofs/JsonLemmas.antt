@@ -1,5 +1,5 @@
--- The JSON of an audit contains no floating-point number, and no control or bidirectional-formatting
--- characters other than LF.
+-- The JSON of an audit, or of findings, contains no floating-point number, and no control or
+-- bidirectional-formatting characters other than LF.
 use Rattle.std.proofs.Common.{◌≡◌, ℕ, Bool, true, false, List, [], ◌∷◌, ◌++◌, Option, Some, None, ap, arith}
 use Rattle.std.proofs.Common.{◌==◌, length, map, refl, sym}
 use Rattle.std.specs.Prelude.{IsTrue, if◌then◌else◌, option_map}
@@ -20,16 +20,15 @@ use Rattle.printable_text.proofs.SanitizeLemmas.{line_printable, sanitized_print
 use Rattle.printable_text.proofs.PartLemmas.{fixed_printable, label_printable, level_printable}
 use Rattle.printable_text.proofs.PartLemmas.{value_printable}
 use Rattle.printable_text.specs.declared.level.Level.{Level}
-use Rattle.robots_warnings.specs.Message.{fixed_name, message_parts}
-use Rattle.robots_warnings.specs.{Table.level_of, WarningValue.WarningValue}
 use Rattle.audit_core.specs.declared.group.Group.{Group}
 use Rattle.audit_core.specs.declared.group.Group.TheVariants.{Everyone, Named, Nobody, Star}
 use Rattle.audit_core.specs.Rows.{comment_of, has_value, kind_of, line_value, membership_value}
-use Rattle.audit_core.specs.{Audit.AgentValue, Audit.AuditValue, Audit.VerdictValue, Findings.Parts}
-use Rattle.audit_core.specs.Texts.{may_fetch}
+use Rattle.audit_core.specs.{Audit.AgentValue, Audit.AuditValue, Audit.VerdictValue, Texts.may_fetch}
+use Rattle.audit_core.specs.Findings.{FindingValue, Found, found_value, warning_finding}
 use Rattle.audit_core.proofs.EscapeLemmas.{in_quotes}
 use Rattle.audit_core.proofs.FindingLemmas.{message_printable, name_printable}
-use Rattle.audit_json.specs.Json.{agent_json, audit_json, comment_json, group_word, json_text, known_json}
+use Rattle.audit_json.specs.Json.{agent_json, audit_json, comment_json, finding_json, findings_json}
+use Rattle.audit_json.specs.Json.{findings_text, group_word, json_text, known_json}
 use Rattle.audit_json.specs.Json.{line_json, list_json, number_json, sanitized_json, value_json}
 use Rattle.audit_json.specs.Json.{verdict_json, warning_json, word_json}
 
@@ -191,12 +190,12 @@ line_plain (body, label) =
 pub level_plain : (level : Level) → IsPrintable (level_word level)
 level_plain level = line_printable (level_word level) (level_printable level)
 
-warning_plain : (warning : WarningValue) → IsPlain (warning_json warning)
-warning_plain warning = assumption (
-  level_plain (level_of warning.cause),
-  number_plain warning.line,
-  name_printable (fixed_name warning.cause),
-  message_printable (Parts (message_parts warning)),
+found_plain : (found : Found) → IsPlain (finding_json (found_value found))
+found_plain found = assumption (
+  level_plain found.level,
+  number_plain found.line,
+  name_printable found.name,
+  message_printable found.message,
 )
 
 known_plain : (is_known : Bool) → IsPlain (known_json is_known)
@@ -209,7 +208,7 @@ audit_plain has_rows audit = search (
   known_plain,
   list_plain line_json line_plain,
   list_plain sanitized_json sanitized_printable,
-  list_plain warning_json warning_plain,
+  list_plain warning_json (λ warning. found_plain (warning_finding warning)),
 )
 
 pub json_printable : (has_rows : Bool) (audit : AuditValue) → IsPrintable (json_text has_rows audit)
@@ -217,3 +216,26 @@ json_printable has_rows audit = plain_printable (audit_json has_rows audit) (aud
 
 pub audit_whole : (has_rows : Bool) (audit : AuditValue) → has_float (audit_json has_rows audit) ≡ false
 audit_whole has_rows audit = plain_whole (audit_json has_rows audit) (audit_plain has_rows audit)
+
+-- ---- other findings
+
+all_plain : (all : List Found) → IsPlain (list_json finding_json (map found_value all))
+all_plain [] = tt
+all_plain (found ∷ all) = (found_plain found, all_plain all)
+
+pub findings_printable : (file : List ℕ) (all : List Found)
+    → IsPrintable (findings_text file (map found_value all))
+findings_printable file all =
+    plain_printable (findings_json file (map found_value all))
+    (assumption (sanitized_printable file, all_plain all))
+
+number_whole : (n : Option ℕ) → has_float (number_json n) ≡ false
+number_whole None = refl
+number_whole (Some n) = refl
+
+all_whole : (all : List FindingValue) → has_float (list_json finding_json all) ≡ false
+all_whole [] = refl
+all_whole (finding ∷ all) = rw (number_whole finding.line, all_whole all) refl
+
+pub findings_whole : (file : List ℕ) (all : List FindingValue) → has_float (findings_json file all) ≡ false
+findings_whole file all = rw (all_whole all) refl

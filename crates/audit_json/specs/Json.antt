@@ -1,4 +1,4 @@
--- The audit as one line of JSON.
+-- The audit, or other findings, as one line of JSON.
 use Rattle.std.specs.Prelude.{ℕ, Bool, true, List, [], ◌∷◌, ◌++◌, Option, Some, None, codes, if◌then◌else◌}
 use Rattle.std.specs.Prelude.{◌==◌, length, map, option_map, zip}
 use Rattle.serde_json.specs.Data.{Data, array, boolean, member, no_members, null, number, object, string}
@@ -11,8 +11,8 @@ use Rattle.audit_core.specs.declared.group.Group.TheVariants.{Everyone, Named, N
 use Rattle.audit_core.specs.Rows.{comment_of, has_value, kind_text, line_value_text, membership_word}
 use Rattle.audit_core.specs.{Audit.AgentValue, Audit.AuditValue, Audit.VerdictValue}
 use Rattle.audit_core.specs.{Syntax.has_standard_verdicts, Syntax.is_standard, Texts.may_fetch}
-use Rattle.robots_warnings.specs.Table.{level_of, name_of}
-use Rattle.robots_warnings.specs.{File.lines_of, Message.warning_text, WarningValue.WarningValue}
+use Rattle.audit_core.specs.Findings.{FindingValue, found_value, warning_finding}
+use Rattle.robots_warnings.specs.{File.lines_of, WarningValue.WarningValue}
 
 -- ---- values
 
@@ -91,13 +91,16 @@ rows_json has_rows bodies labels = list_json line_json (if has_rows then zip bod
 
 -- ---- the audit
 
--- a warning: its level, the number of its line, its name and its message
+-- a finding: its level, the number of its line, its name and its message
+abbrev pub finding_json : FindingValue → Data
+finding_json finding = object
+    (member (codes "level") (string (level_word finding.level))
+    (member (codes "line") (number_json finding.line)
+    (member (codes "name") (string finding.name)
+    (member (codes "text") (string finding.message) no_members))))
+
 abbrev pub warning_json : WarningValue → Data
-warning_json warning = object
-    (member (codes "level") (string (level_word (level_of warning.cause)))
-    (member (codes "line") (number_json warning.line)
-    (member (codes "name") (string (name_of warning.cause))
-    (member (codes "text") (string (warning_text warning)) no_members))))
+warning_json warning = finding_json (found_value (warning_finding warning))
 
 -- true if this is known of the file, or else null
 abbrev pub known_json : Bool → Data
@@ -119,3 +122,12 @@ json_line value = compact_text value ++ lf ∷ []
 
 abbrev pub json_text : Bool → AuditValue → List ℕ
 json_text has_rows audit = json_line (audit_json has_rows audit)
+
+-- the findings about the file with this name, which aren't those of an audit
+abbrev pub findings_json : List ℕ → List FindingValue → Data
+findings_json file findings = object
+    (member (codes "file") (sanitized_json file)
+    (member (codes "findings") (list_json finding_json findings) no_members))
+
+abbrev pub findings_text : List ℕ → List FindingValue → List ℕ
+findings_text file findings = json_line (findings_json file findings)

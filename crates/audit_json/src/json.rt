@@ -1,14 +1,16 @@
-//! The audit as one line of JSON.
+//! The audit, or other findings, as one line of JSON.
 ghost use Rattle.std.specs.Prelude.{◌≡◌, false, IfOk, map, option_map, string_bytes};
 ghost use Rattle.serde_json.specs.{View.view, Written.has_float};
 ghost use Rattle.texting_robots.specs.Callers.{by_value, file_bodies, label_by_value, sitemaps_in};
-ghost use Rattle.audit_json.specs.Json.{agent_json, audit_json, comment_json, group_word, json_line, json_text};
+ghost use Rattle.audit_json.specs.Json.{agent_json, audit_json, comment_json, finding_json, findings_json};
+ghost use Rattle.audit_json.specs.Json.{findings_text, group_word, json_line, json_text};
 ghost use Rattle.audit_json.specs.Json.{known_json, line_json, list_json, number_json, rows_json, sanitized_json};
 ghost use Rattle.audit_json.specs.Json.{value_json, verdict_json, warning_json, word_json};
-ghost use Rattle.audit_core.specs.Rows.{membership_word};
+ghost use Rattle.audit_core.specs.{Findings.finding_value, Rows.membership_word};
 ghost use Rattle.robots_warnings.specs.File.{lines_of};
 
 use audit_core::audit::{AgentAudit, Audit, Verdict};
+use audit_core::findings::Finding;
 use audit_core::group::Group;
 use audit_core::rows::{comment_of, has_value, kind_text, membership_word, push_value};
 use audit_core::sitemaps::sitemaps_of;
@@ -175,20 +177,37 @@ impl<'a> Json for &'a [u8] {
     }
 }
 
+impl Json for Finding {
+    ghost use Rattle.audit_core.specs.Findings.{finding_value};
+    ghost use Rattle.audit_json.specs.Json.{finding_json};
+
+    ghost json = { λ finding. finding_json (finding_value finding) };
+
+    fn json(&self, alloc: Global) -> Result<Value, AllocError> {
+        json!(in alloc; {
+            "level": self.level.word(),
+            "line": self.line,
+            "name": self.name,
+            "text": self.message.as_str(),
+        })
+    }
+}
+
 impl<'a> Json for Warning<'a> {
     ghost use Rattle.audit_json.specs.Json.{warning_json};
 
     ghost json = { warning_json };
 
     fn json(&self, alloc: Global) -> Result<Value, AllocError> {
-        let mut text = String::new(alloc);
-        push_warning_text(&mut text, self)?;
-        json!(in alloc; {
-            "level": self.cause.level().word(),
-            "line": self.line,
-            "name": self.cause.name(),
-            "text": text,
-        })
+        let mut message = String::new(alloc);
+        push_warning_text(&mut message, self)?;
+        let finding = Finding {
+            level: self.cause.level(),
+            line: self.line,
+            name: self.cause.name(),
+            message,
+        };
+        finding.json(alloc)
     }
 }
 
@@ -283,4 +302,29 @@ pub fn json_text(alloc: Global, has_rows: bool, audit: &Audit<'_>) -> Result<Str
     ensures { IfOk result (λ text. string_bytes text ≡ json_text has_rows audit.now) }
 {
     json_line(alloc, &audit_json(alloc, has_rows, audit)?)
+}
+
+/// The findings as a JSON array.
+fn list_of_findings(alloc: Global, findings: &[Finding]) -> Result<Value, AllocError>
+    ensures { IfOk result (λ value. view value ≡ list_json finding_json (map finding_value findings.now)) }
+{
+    list_json(alloc, findings)
+}
+
+/// The findings about the file with this name, as a JSON object.
+fn findings_json(alloc: Global, file: &str, findings: &[Finding]) -> Result<Value, AllocError>
+    ensures { IfOk result (λ value. view value ≡ findings_json file.now (map finding_value findings.now)) }
+{
+    json!(in alloc; {
+        "file": sanitized_json(alloc, file.as_bytes())?,
+        "findings": list_of_findings(alloc, findings)?,
+    })
+}
+
+/// The same as one line.
+pub fn findings_text(alloc: Global, file: &str, findings: &[Finding]) -> Result<String, AllocError>
+    ensures { IfOk result (λ text.
+        string_bytes text ≡ findings_text file.now (map finding_value findings.now)) }
+{
+    json_line(alloc, &findings_json(alloc, file, findings)?)
 }

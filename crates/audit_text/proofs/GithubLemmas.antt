@@ -15,9 +15,8 @@ use Rattle.printable_text.specs.declared.level.Level.{Level}
 use Rattle.printable_text.specs.declared.level.Level.TheVariants.{Error, Note, Warning}
 use Rattle.printable_text.specs.Text.{Label, label}
 use Rattle.printable_text.proofs.PartLemmas.{label_middle, label_printable}
-use Rattle.audit_core.specs.Audit.{AuditValue}
 use Rattle.audit_core.proofs.EscapeLemmas.{escaped_printable}
-use Rattle.audit_core.specs.Findings.{FindingValue, Found, all_found, findings, found_value, message_of}
+use Rattle.audit_core.specs.Findings.{FindingValue, Found, found_value, message_of}
 use Rattle.audit_text.specs.Github.{command, command_label, escaped, escaped_byte, github_text, is_in_line}
 use Rattle.audit_text.specs.Github.{is_in_property, line_property, property_text}
 use Rattle.audit_core.proofs.FindingLemmas.{message_printable, message_quiet, name_printable, name_quiet}
@@ -150,13 +149,13 @@ each_command : (P : List ℕ → Type 0) (file : List ℕ)
 each_command P file are [] = tt
 each_command P file are (found ∷ all) = (are found, each_command P file are all)
 
-pub commands_quiet : (file : List ℕ) (audit : AuditValue)
-    → Each (λ line. has_command line ≡ false) (map (command (sanitized file)) (findings audit))
-commands_quiet file audit =
+pub commands_quiet : (file : List ℕ) (all : List Found)
+    → Each (λ line. has_command line ≡ false) (map (command (sanitized file)) (map found_value all))
+commands_quiet file =
     each_command (λ line. has_command line ≡ false) file (λ found. (command_safe file found).quiet)
-    (all_found audit)
 
-pub github_printable : (file : List ℕ) (audit : AuditValue) → IsPrintable (github_text file (findings audit))
-github_printable file audit =
-    ended_printable (map (command (sanitized file)) (findings audit))
-    (each_command IsPrintable file (λ found. (command_safe file found).printable) (all_found audit))
+pub github_printable : (file : List ℕ) (all : List Found)
+    → IsPrintable (github_text file (map found_value all))
+github_printable file all =
+    ended_printable (map (command (sanitized file)) (map found_value all))
+    (each_command IsPrintable file (λ found. (command_safe file found).printable) all)

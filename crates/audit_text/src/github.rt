@@ -3,10 +3,9 @@ ghost use Rattle.std.specs.Prelude.{◌≡◌, ◌++◌, ◌∷◌, [], IfOk, On
 ghost use Rattle.printable_text.specs.Lines.{ended};
 ghost use Rattle.audit_text.specs.Github.{command, command_label, escaped, escaped_byte, github_text};
 ghost use Rattle.audit_text.specs.Github.{line_property, property_text};
-ghost use Rattle.audit_core.specs.Findings.{findings, finding_value};
+ghost use Rattle.audit_core.specs.Findings.{finding_value};
 
-use audit_core::audit::Audit;
-use audit_core::findings::{Finding, findings_of};
+use audit_core::findings::Finding;
 use itoa::Buffer;
 use printable_text::level::Level;
 use printable_text::sanitize::push_sanitized;
@@ -88,14 +87,13 @@ fn push_commands(out: &mut Vec<u8>, file: &str, findings: &[Finding]) -> Result<
     Ok(())
 }
 
-/// The commands for the findings of an audit of the file with this name.
-pub fn github_text(alloc: Global, file: &str, audit: &Audit<'_>) -> Result<Vec<u8>, AllocError>
-    ensures { IfOk result (λ text. text.items ≡ github_text file.now (findings audit.now)) }
+/// The commands for these findings, which are about the file with this name.
+pub fn github_text(alloc: Global, file: &str, findings: &[Finding]) -> Result<Vec<u8>, AllocError>
+    ensures { IfOk result (λ text. text.items ≡ github_text file.now (map finding_value findings.now)) }
 {
-    let findings = findings_of(alloc, audit)?;
     let mut name = String::new(alloc);
     push_sanitized(&mut name, file.as_bytes())?;
     let mut out = Vec::new(alloc);
-    push_commands(&mut out, &name, &findings)?;
+    push_commands(&mut out, &name, findings)?;
     Ok(out)
 }

@@ -84,8 +84,8 @@ answer_for_terminal by_default matches answer (inr (off, is)) = by _ _ _ is
         → IsForTerminal (requested_colors (value_of matches (codes "color")) by_default)
         (string_bytes answer.outcome.warnings)
     by (Some name) expect compare (known, is) = text_for_terminal _ _ answer is
-    by None (Some name) compare is = let (hold, report, plain) = is.checked in silent _ answer plain.silent
-    by None None (Some name) is = silent _ answer is.compared.silent
+    by None (Some name) compare is = silent _ answer is.checked.listed.silent
+    by None None (Some name) is = silent _ answer is.compared.listed.silent
     by None None None is = audited_for_terminal by_default matches answer is
 
 -- with or without colors, warnings can be sent to a terminal

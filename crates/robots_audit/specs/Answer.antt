@@ -1,6 +1,6 @@
 -- What the program answers: to an audit, and to its arguments.
 use Rattle.std.specs.Prelude.{◌≡◌, ◌⊎◌, ℕ, Bool, true, false, List, [], ◌∷◌, ◌++◌, None, Option, Some, codes}
-use Rattle.std.specs.Prelude.{if◌then◌else◌, not, ◌&&◌, string_bytes, ⊤}
+use Rattle.std.specs.Prelude.{◌==◌, if◌then◌else◌, length, map, not, ◌&&◌, string_bytes, ⊤}
 use Rattle.std.specs.List.{list_any}
 use Rattle.clap.specs.declared.parser.matches.ArgMatches.{ArgMatches}
 use Rattle.html_writer.specs.Html.{document}
@@ -9,19 +9,20 @@ use Rattle.printable_text.specs.declared.level.Level.{Level}
 use Rattle.robots_warnings.specs.{Table.is_name, Table.level_of, WarningValue.WarningValue}
 use Rattle.audit_core.specs.Audit.{AuditValue, IsAuditOf, all_allowed, rejects_some, shown}
 use Rattle.audit_core.specs.Request.{RequestValue, has_rows, requested_by, shown_name}
-use Rattle.audit_core.specs.{Answer.IsText, Content.content_flaw, Findings.findings}
+use Rattle.audit_core.specs.{Answer.IsText, Content.content_flaw, Findings.FindingValue, Findings.findings}
 use Rattle.audit_core.specs.declared.answer.{Answer.Answer, Outcome.Outcome}
 use Rattle.audit_core.specs.declared.fault.Fault.{Fault}
-use Rattle.audit_core.specs.declared.fault.Fault.TheVariants.{File, Memory, Words}
+use Rattle.audit_core.specs.declared.fault.Fault.TheVariants.{File, Format as OfAudits, Memory, Words}
 use Rattle.audit_core.specs.declared.request.{Format.Format, Request.Request}
 use Rattle.audit_core.specs.declared.request.Format.TheVariants.{Github, Html, Json, Sarif, Text}
-use Rattle.robots_audit.specs.Command.{HasFile, IsOn, IsRequestOf, value_of}
-use Rattle.audit_compare.specs.Compare.{ComparisonValue, IsComparison, differs_nowhere}
+use Rattle.robots_audit.specs.Command.{HasFile, IsFormatOf, IsOn, IsRequestOf, value_of}
+use Rattle.audit_compare.specs.Compare.{ComparisonValue, IsComparison, all_differences, differs_nowhere}
+use Rattle.audit_compare.specs.Compare.{finding_of}
 use Rattle.audit_compare.specs.Compare.{rejects_some as rejects_one, report_lines as comparison_lines}
-use Rattle.audit_expect.specs.{Expectations.IsAnswer, UrlList.HasUrlsIn}
+use Rattle.audit_expect.specs.{Expectations.IsReport, UrlList.HasUrlsIn}
 use Rattle.audit_text.specs.Report.{listed_lines, report_lines, total_line}
 use Rattle.audit_text.specs.{Github.github_text, Explain.explanation, Explain.list_text}
-use Rattle.audit_json.specs.{Json.json_text, Sarif.sarif_text}
+use Rattle.audit_json.specs.{Json.findings_text, Json.json_text, Sarif.sarif_text}
 use Rattle.audit_page.specs.Page.{page}
 
 -- ---- the report and the warnings
@@ -94,16 +95,48 @@ pub record IsAudited (requested : RequestValue) (file : List ℕ) (answer : Answ
   pub report : answer.report.items ≡ output requested audit
   pub outcome : IsOutcomeOf requested audit answer.outcome
 
--- the answer to a comparison of two files with these names and bytes; there are no warnings
+-- ---- a comparison, and expectations
+
+-- the report in this format on findings in the file with this name, on which `text` is the report as text
+abbrev pub listed_in : Format → (file text : List ℕ) → List FindingValue → List ℕ
+listed_in Json file text found = findings_text file found
+listed_in Github file text found = github_text file found
+listed_in format file text found = text
+
+-- pages and logs are those of audits
+abbrev pub is_for_audits : Format → Bool
+is_for_audits Html = true
+is_for_audits Sarif = true
+is_for_audits format = false
+
+-- the error reports such a format, or an allocation failed
+abbrev pub IsFormatFault : Format → Fault → Type 0
+IsFormatFault format fault = (fault ≡ Memory) ⊎ ((is_for_audits format ≡ true) × (fault ≡ OfAudits))
+
+-- the answer is this report, and whether a file is rejected and all is well; there are no warnings
+pub record IsListed (format : Format) (file text : List ℕ) (found : List FindingValue)
+    (is_rejected has_passed : Bool) (answer : Answer) : Type 0 where
+  pub can_be : is_for_audits format ≡ false
+  pub report : answer.report.items ≡ listed_in format file text found
+  pub rejected : answer.outcome.is_rejected ≡ is_rejected
+  pub passed : answer.outcome.has_passed ≡ has_passed
+  pub unwarned : answer.outcome.is_warned ≡ false
+  pub silent : string_bytes answer.outcome.warnings ≡ []
+
+-- the answer to a comparison of two files with these names and bytes
 pub record IsCompared (requested : RequestValue) (older_name older newer_name newer : List ℕ)
     (answer : Answer) : Type 0 where
   pub comparison : ComparisonValue
   pub of : IsComparison requested.agents requested.urls older_name older newer_name newer comparison
-  pub report : answer.report.items ≡ written (comparison_lines comparison)
-  pub rejected : answer.outcome.is_rejected ≡ rejects_one comparison
-  pub unchanged : answer.outcome.has_passed ≡ differs_nowhere comparison
-  pub unwarned : answer.outcome.is_warned ≡ false
-  pub silent : string_bytes answer.outcome.warnings ≡ []
+  pub listed : IsListed requested.format (shown_name requested.file) (written (comparison_lines comparison))
+      (map finding_of (all_differences comparison)) (rejects_one comparison) (differs_nowhere comparison) answer
+
+-- the answer to a check of the expectations in a text, of a file with this name; a rejected file is a failure
+pub record IsExpected (format : Format) (name text file : List ℕ) (answer : Answer) : Type 0 where
+  pub report : List ℕ
+  pub found : List FindingValue
+  pub of : IsReport name text file report found
+  pub listed : IsListed format name report found false (length found == 0) answer
 
 -- ---- arguments
 
@@ -136,10 +169,12 @@ pub record AnswersAudit (by_default : Bool) (matches : ArgMatches) (answer : Ans
 -- a check of the expectations in the file with this name, against a file that can be a robots.txt file
 pub record AnswersExpectations (matches : ArgMatches) (name : List ℕ) (answer : Answer) : Type 0 where
   pub has_file : HasFile matches
+  pub format : Format
+  pub format_is : IsFormatOf matches format
   pub text : List ℕ
   pub file : List ℕ
   pub can_be : content_flaw file ≡ None
-  pub checked : IsAnswer name text file answer
+  pub checked : IsExpected format name text file answer
 
 -- a comparison of the file with this name with the one that the arguments name; both can be robots.txt files
 pub record AnswersComparison (matches : ArgMatches) (name : List ℕ) (answer : Answer) : Type 0 where

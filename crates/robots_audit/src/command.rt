@@ -4,9 +4,9 @@ ghost use Rattle.std.specs.List.{list_all};
 ghost use Rattle.robots_warnings.specs.Table.{is_name};
 ghost use Rattle.audit_core.specs.Crawler.{IsNoCrawlerIn};
 ghost use Rattle.audit_expect.specs.UrlList.{IsUrlFault};
-ghost use Rattle.robots_audit.specs.Command.{AreAgentsOf, AreNamesOf, AreUrlsOf, Asks, HasFile, LacksUrls, file_read};
-ghost use Rattle.robots_audit.specs.Command.{IsFileFault, has_urls, is_stdin, IsUnknownIn, level_named, reads_stdin_twice};
-ghost use Rattle.robots_audit.specs.Command.{requested_format, values_of};
+ghost use Rattle.robots_audit.specs.Command.{AreAgentsOf, AreNamesOf, AreUrlsOf, Asks, HasFile, LacksUrls};
+ghost use Rattle.robots_audit.specs.Command.{file_read, IsFileFault, IsFormatOf, has_urls, is_stdin, IsUnknownIn};
+ghost use Rattle.robots_audit.specs.Command.{level_named, reads_stdin_twice, requested_format, values_of};
 
 use crate::options::with_options;
 use audit_core::chosen::are_apart;
@@ -23,8 +23,8 @@ use std::alloc::{AllocError, Global};
 
 /// The end of the help.
 const AFTER_HELP: &str = "\
-With --expect, give only FILE; with --compare only FILE, URLs, --urls and --agent; with --list-warnings or
---explain nothing else. With --denied, give URLs or --urls.
+With --expect, give only FILE; with --compare only FILE, URLs, --urls and --agent; with both also --json or
+--format; with --list-warnings or --explain nothing else. With --denied, give URLs or --urls.
 
 Exit status, the first that applies:
   2  if the program couldn't do its work, or the file is rejected for a crawler
@@ -146,6 +146,14 @@ fn requested_format(is_json: bool, is_html: bool, name: Option<&str>) -> Format
     }
 }
 
+/// The format that the options request.
+pub fn format_of(matches: &ArgMatches<'_>) -> Format
+    ensures { IsFormatOf matches.now result }
+{
+    let (is_json, is_html) = (matches.get_flag("json"), matches.get_flag("html"));
+    requested_format(is_json, is_html, matches.get_str("format"))
+}
+
 /// All values of an option or argument.
 fn values_of<'a>(
     alloc: Global,
@@ -232,11 +240,7 @@ pub fn requested<'a>(
     Ok(Request {
         file: file_read(matches.get_str("file")),
         is_quiet: matches.get_flag("quiet"),
-        format: requested_format(
-            matches.get_flag("json"),
-            matches.get_flag("html"),
-            matches.get_str("format"),
-        ),
+        format: format_of(matches),
         date: matches.get_str("date"),
         has_colors: requested_colors(matches.get_str("color"), has_colors),
         strict: strict_level(matches.get_str("strict")),

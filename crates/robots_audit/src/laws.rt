@@ -1,18 +1,19 @@
 //! Theorems about what the program writes, each written as the contract of an empty function. Those about a
 //! single format, or about comparisons alone, are in the crates that write these.
-ghost use Rattle.std.specs.Prelude.{Bool, codes, false, List, map, ℕ, string_bytes, ◌≡◌};
+ghost use Rattle.std.specs.Prelude.{Bool, codes, false, length, List, map, ℕ, string_bytes, ◌≡◌};
 ghost use Rattle.std.specs.List.{AllByRecursion as Each};
 ghost use Rattle.clap.specs.declared.parser.matches.ArgMatches.{ArgMatches};
-ghost use Rattle.robots_audit.specs.Answer.{Answers, output, message, without_colors};
+ghost use Rattle.robots_audit.specs.Answer.{Answers, IsCompared, IsExpected, output, message, without_colors};
 ghost use Rattle.robots_audit.specs.Command.{value_of};
 ghost use Rattle.audit_core.specs.Audit.{AgentValue, AuditValue};
 ghost use Rattle.audit_core.specs.{Color.requested_colors, Request.RequestValue, Fault.fault_text};
+ghost use Rattle.audit_core.specs.declared.request.Format.{Format};
 ghost use Rattle.audit_core.specs.declared.answer.Answer.{Answer};
 ghost use Rattle.printable_text.specs.{Color.IsColored, Color.IsForTerminal, PlainLine.IsPlainLine};
 ghost use Rattle.printable_text.specs.{Text.line_text, Sanitize.has_command, Sanitize.IsPrintable};
 ghost use Rattle.audit_core.specs.declared.fault.Fault.{Fault};
 ghost use Rattle.audit_compare.specs.Compare.{ComparisonValue, report_lines};
-ghost use Rattle.audit_expect.specs.Expectations.{CheckedValue, IsReport, result_lines};
+ghost use Rattle.audit_expect.specs.Expectations.{CheckedValue, failures, result_lines};
 ghost use Rattle.audit_text.specs.Explain.{explanation, list_text};
 ghost use Rattle.audit_text.specs.Report.{listed_lines, report_lines as audit_lines, total_line};
 ghost use Rattle.robots_warnings.specs.WarningValue.{WarningValue};
@@ -34,10 +35,13 @@ pub fn colors_add_only_their_codes()
         → IsColored (message (without_colors requested) audit) (message requested audit) }
 {}
 
-/// Nor do the report of `--expect` and the texts of `--list-warnings` and `--explain`.
+/// Nor do the reports of `--expect` and `--compare`, in each of their formats, and the texts of `--list-warnings`
+/// and `--explain`.
 pub fn no_other_report_steers_a_terminal()
-    ensures expected { (name text file report : List ℕ) (all_hold : Bool) → IsReport name text file report all_hold
-        → IsPrintable report }
+    ensures expected { (format : Format) (name text file : List ℕ) (answer : Answer)
+        → IsExpected format name text file answer → IsPrintable answer.report.items }
+    ensures compared { (requested : RequestValue) (older_name older newer_name newer : List ℕ) (answer : Answer)
+        → IsCompared requested older_name older newer_name newer answer → IsPrintable answer.report.items }
     ensures list { IsPrintable list_text }
     ensures explained { (name : List ℕ) → IsPrintable (explanation name) }
 {}
@@ -54,7 +58,7 @@ pub fn no_line_is_a_command()
 /// file, or state how many expectations hold.
 pub fn no_line_contains_a_command()
     ensures expected { (name : List ℕ) (checked : List CheckedValue)
-        → Each (λ line. has_command line ≡ false) (result_lines name checked) }
+        → Each (λ line. has_command line ≡ false) (result_lines name (length checked) (failures checked)) }
     ensures warnings { (has_colors : Bool) (file : List ℕ) (warnings : List WarningValue)
         → Each (λ line. has_command line ≡ false) (listed_lines has_colors file warnings) }
 {}

@@ -12,7 +12,7 @@
 //! With `--list-warnings` or `--explain` it writes what warnings there are, or what one means, and reads nothing.
 //!
 //! With `--expect` it checks instead whether crawlers may fetch what a file of expectations says, and writes a line for
-//! each that fails, or how many hold if none fails.
+//! each that fails, or how many hold if none fails. Both can also be written as JSON and as annotations.
 //!
 //! The exit status is 0 if every URL is allowed, all expectations hold or nothing differs, and 1 if not; but with
 //! `--strict` 3 if there is a warning at its level or a more serious one; and 2 after an error, or if the file is rejected
@@ -40,13 +40,12 @@ use audit_core::color::colors_by_default;
 use audit_core::content::check_content;
 use audit_core::fault::{Fault, fault_text, status_after};
 use audit_core::request::Request;
-use audit_expect::expectations::check;
 use audit_expect::url_list::with_urls;
 use audit_text::explain::{explain, list_warnings};
 use clap::ArgMatches;
 use clap::error::ErrorKind as WordsKind;
-use command::{check_files, command, file_read, requested};
-use program::{audited, comparison, given_name, unread};
+use command::{check_files, command, file_read, format_of, requested};
+use program::{audited, comparison, expectations, given_name, unread};
 use robots_io::streams::{ReadFault, read_all};
 use std::alloc::{AllocError, Global};
 use std::env;
@@ -135,7 +134,7 @@ fn checked(rt: &HostRuntime, matches: &ArgMatches<'_>, expected: &str) -> Result
     check_files(matches)?;
     let text = read(rt, Some(expected))?;
     let file = read_robots(rt, given_name(matches.get_str("file")))?;
-    check(rt.alloc(), expected, &text, &file)
+    expectations(rt.alloc(), format_of(matches), expected, &text, &file)
 }
 
 /// Compares the file `older` with the file that the arguments name.

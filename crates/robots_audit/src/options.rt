@@ -41,10 +41,12 @@ struct Parameter {
 const OF_QUERIES: &[&str] = &["url", "agent", "urls"];
 
 /// The options of an audit that are about warnings and the form of the report.
-const OF_REPORTS: &[&str] = &[
-    "denied", "quiet", "format", "json", "html", "date", "color", "strict", "needless", "only",
-    "ignore",
+const OF_AUDITS: &[&str] = &[
+    "denied", "quiet", "html", "date", "color", "strict", "needless", "only", "ignore",
 ];
+
+/// What every report on a file can have.
+const OF_FILES: &[&str] = &["file", "format", "json", "expect", "compare"];
 
 /// The arguments in their order, and the options in that of the help.
 const PARAMETERS: &[Parameter] = &[
@@ -175,7 +177,7 @@ const PARAMETERS: &[Parameter] = &[
         long: Some("expect"),
         value: Value::Text("FILE"),
         help: "Check instead the lines \"allow AGENT URL\" and \"deny AGENT URL\" of this file (-: standard input)",
-        excludes: &[OF_QUERIES, OF_REPORTS],
+        excludes: &[OF_QUERIES, OF_AUDITS],
     },
     Parameter {
         id: "compare",
@@ -183,7 +185,7 @@ const PARAMETERS: &[Parameter] = &[
         long: Some("compare"),
         value: Value::Text("OLD"),
         help: "Report instead what differs from OLD (-: standard input) to FILE",
-        excludes: &[&["expect"], OF_REPORTS],
+        excludes: &[&["expect"], OF_AUDITS],
     },
     Parameter {
         id: "list-warnings",
@@ -191,7 +193,7 @@ const PARAMETERS: &[Parameter] = &[
         long: Some("list-warnings"),
         value: Value::Absent,
         help: "List all warnings with their levels and messages",
-        excludes: &[OF_QUERIES, OF_REPORTS, &["file", "expect", "compare"]],
+        excludes: &[OF_QUERIES, OF_AUDITS, OF_FILES],
     },
     Parameter {
         id: "explain",
@@ -199,11 +201,7 @@ const PARAMETERS: &[Parameter] = &[
         long: Some("explain"),
         value: Value::Text("NAME"),
         help: "Show the level, the message and an example of the warning with this name",
-        excludes: &[
-            OF_QUERIES,
-            OF_REPORTS,
-            &["file", "expect", "compare", "list-warnings"],
-        ],
+        excludes: &[OF_QUERIES, OF_AUDITS, OF_FILES, &["list-warnings"]],
     },
 ];
 

@@ -1,20 +1,24 @@
 //! The audit of a file and the report on it, without the command line, input and output.
-ghost use Rattle.std.specs.Prelude.{◌≡◌, IfErr, IfOk, Some, map, option_map, string_bytes};
-ghost use Rattle.robots_audit.specs.Answer.{IsAudited, IsCompared, IsFileUnreadable, given_name, has_all_urls};
-ghost use Rattle.robots_audit.specs.Answer.{is_warned, leaves_out_allowed, output, message};
-ghost use Rattle.printable_text.specs.Text.{written};
-ghost use Rattle.audit_compare.specs.Compare.{IsComparison, report_lines as comparison_lines};
-ghost use Rattle.audit_core.specs.Request.{requested_by};
+ghost use Rattle.std.specs.Prelude.{◌≡◌, ◌⊎◌, IfErr, IfOk, Some, map, option_map, string_bytes};
+ghost use Rattle.robots_audit.specs.Answer.{IsAudited, IsCompared, IsExpected, IsFileUnreadable, IsFormatFault};
+ghost use Rattle.robots_audit.specs.Answer.{IsListed, given_name, has_all_urls, is_warned, leaves_out_allowed};
+ghost use Rattle.robots_audit.specs.Answer.{message, output};
+ghost use Rattle.audit_compare.specs.Compare.{IsComparison};
+ghost use Rattle.audit_core.specs.declared.fault.Entry.TheVariants.{Expectation};
+ghost use Rattle.audit_core.specs.{Findings.finding_value, Request.requested_by};
+ghost use Rattle.audit_expect.specs.Expect.{IsEntryFault, expectations_in};
 
 use audit_compare::compare::{
     Comparison, NamedFile, compare, differs_nowhere, rejects_some as rejects_one,
 };
-use audit_compare::report::comparison_text;
+use audit_compare::report::reported;
 use audit_core::answer::{Answer, Outcome};
 use audit_core::audit::{Audit, all_allowed, audit_of, rejects_some};
 use audit_core::fault::Fault;
+use audit_core::findings::{Findings, findings_of};
 use audit_core::request::{Format, Request};
-use audit_json::json::json_text;
+use audit_expect::expectations::check;
+use audit_json::json::{findings_text, json_text};
 use audit_json::sarif::sarif_text;
 use audit_page::page::page_text;
 use audit_text::denied::{shown, totals_of};
@@ -77,7 +81,10 @@ fn output(alloc: Global, request: &Request<'_>, audit: Audit<'_>) -> Result<Vec<
         }
         Format::Json => Ok(json_text(alloc, request.has_rows(), &reported)?.into_bytes()),
         Format::Html => page_text(alloc, request, &reported),
-        Format::Github => github_text(alloc, request.shown_name(), &reported),
+        Format::Github => {
+            let found = findings_of(alloc, &reported)?;
+            github_text(alloc, request.shown_name(), &found)
+        }
         Format::Sarif => { Ok(sarif_text(alloc, request.shown_name(), &reported)?.into_bytes()) }
     }
 }
@@ -132,11 +139,33 @@ fn compared_for<'a>(
     compare(alloc, &request.agents, &request.urls, older, newer)
 }
 
-/// The report on a comparison.
-fn comparison_output(alloc: Global, found: &Comparison<'_>) -> Result<Vec<u8>, AllocError>
-    ensures { IfOk result (λ report. report.items ≡ written (comparison_lines found.now)) }
+/// The answer in this format to a report as text and the findings in it, in the file with this name.
+fn listed(
+    alloc: Global,
+    format: Format,
+    file: &str,
+    reported: (String, Findings),
+    is_rejected: bool,
+    has_passed: bool,
+) -> Result<Answer, Fault>
+    ensures ok { IfOk result (IsListed format file.now (string_bytes reported.0)
+        (map finding_value reported.1.items) is_rejected has_passed) }
+    ensures fault { IfErr result (IsFormatFault format) }
 {
-    Ok(comparison_text(alloc, found)?.into_bytes())
+    let (text, found) = reported;
+    let report = match format {
+        Format::Text => text.into_bytes(),
+        Format::Json => findings_text(alloc, file, &found)?.into_bytes(),
+        Format::Github => github_text(alloc, file, &found)?,
+        Format::Html | Format::Sarif => return Err(Fault::Format),
+    };
+    let outcome = Outcome {
+        is_rejected,
+        has_passed,
+        is_warned: false,
+        warnings: String::new(alloc),
+    };
+    Ok(Answer { report, outcome })
 }
 
 /// Compares two files for the crawlers and URLs of the request, and writes the report. A file that is rejected for a
@@ -144,7 +173,8 @@ fn comparison_output(alloc: Global, found: &Comparison<'_>) -> Result<Vec<u8>, A
 ///
 /// # Errors
 ///
-/// `Fault::Memory` if an allocation fails or a URL is too long for `url`.
+/// `Fault::Format` if the format is one of audits alone, and `Fault::Memory` if an allocation fails or a URL is
+/// too long for `url`.
 pub fn comparison<'a>(
     alloc: Global,
     request: &Request<'a>,
@@ -153,17 +183,33 @@ pub fn comparison<'a>(
 ) -> Result<Answer, Fault>
     ensures ok { IfOk result (IsCompared (requested_by request.now) older.entry.name.now older.entry.bytes.now
         newer.entry.name.now newer.entry.bytes.now) }
-    ensures fault { IfErr result (λ fault. fault ≡ Fault.Memory) }
+    ensures fault { IfErr result (IsFormatFault request.now.format) }
 {
-    let found = compared_for(alloc, request, older, newer)?;
-    let outcome = Outcome {
-        is_rejected: rejects_one(&found),
-        has_passed: differs_nowhere(&found),
-        is_warned: false,
-        warnings: String::new(alloc),
-    };
-    let report = comparison_output(alloc, &found)?;
-    Ok(Answer { report, outcome })
+    let compared = compared_for(alloc, request, older, newer)?;
+    let (is_rejected, has_passed) = (rejects_one(&compared), differs_nowhere(&compared));
+    let (name, found) = (request.shown_name(), reported(alloc, &compared)?);
+    Ok(listed(alloc, request.format, name, found, is_rejected, has_passed)?)
+}
+
+/// Checks the expectations in a text, of a file with this name, against a robots.txt file, and writes the report.
+///
+/// # Errors
+///
+/// As for `check`, and `Fault::Format` if the format is one of audits alone.
+pub fn expectations(
+    alloc: Global,
+    format: Format,
+    name: &str,
+    text: &[u8],
+    file: &[u8],
+) -> Result<Answer, Fault>
+    ensures ok { IfOk result (IsExpected format name.now text.now file.now) }
+    ensures fault { IfErr result (λ fault. IsFormatFault format fault
+        ⊎ IsEntryFault name.now Expectation (expectations_in text.now) fault) }
+{
+    let found = check(alloc, name, text, file)?;
+    let has_passed = found.1.is_empty();
+    Ok(listed(alloc, format, name, found, false, has_passed)?)
 }
 
 /// The name of the robots.txt file as it is given.

@@ -8,8 +8,10 @@ use Rattle.audit_compare.specs.declared.compare.{Side.TheInside.Inside as Inside
 use Rattle.audit_compare.specs.declared.compared.{Compared.TheInside.Inside as InsideCompared}
 use Rattle.audit_compare.specs.declared.compared.{UrlChange.TheInside.Inside as InsideChange, Version.Version}
 use Rattle.audit_compare.specs.declared.rule_sets.RuleSet.{RuleSet}
-use Rattle.audit_compare.specs.Compare.{ComparedValue, ComparisonValue, SideValue, UrlChangeValue, has_rule}
-use Rattle.audit_compare.specs.Compare.{is_listed}
+use Rattle.audit_core.specs.declared.findings.Finding.{Finding}
+use Rattle.audit_core.specs.Findings.{finding_value}
+use Rattle.audit_compare.specs.Compare.{ComparedValue, ComparisonValue, Difference, SideValue, UrlChangeValue}
+use Rattle.audit_compare.specs.Compare.{finding_of, has_rule, is_listed}
 
 -- ---- sets
 
@@ -30,6 +32,12 @@ pub record HasTexts (texts : List (List ℕ)) (set : BTreeSet Key) : Type 0 wher
 pub record AddsText (old new : BTreeSet Key) (text : List ℕ) (is_new : Bool) : Type 0 where
   pub was : (texts : List (List ℕ)) → HasTexts texts old → is_new ≡ not (is_listed texts text)
   pub has : (texts : List (List ℕ)) → HasTexts texts old → HasTexts (texts ++ text ∷ []) new
+
+-- ---- findings
+
+-- the differences were added as findings
+abbrev pub Adds : (old new : List Finding) → List Difference → Type 0
+Adds old new differences = map finding_value new ≡ map finding_value old ++ map finding_of differences
 
 -- ---- files
 
@@ -54,7 +62,7 @@ compared_of compared = record {
 }
 
 abbrev pub side_of : InsideSide → SideValue
-side_of side = record { name = side.name.now; is_empty = side.is_empty }
+side_of side = record { name = side.name.now; has_no_directive = side.has_no_directive }
 
 abbrev pub comparison_of : InsideComparison → ComparisonValue
 comparison_of comparison = record {

@@ -11,8 +11,8 @@ loop-expectation-preserved c =
     record {
       latest = subst (λ agent. IsReading agent c.args.file.now c.in_ok-latest.latest.reading)
           (sym latest.agent_is) latest.reading;
-      failures = failures_next c.args.name.now c.args.file.now _ _ c.args.expectations.now
+      failures = failures_next c.args.file.now _ _ c.args.expectations.now
           c.loop-expectation.expectation-index _ (checked_value c.in_ok-checked.checked)
           c.loop-expectation-test.true c.loop-expectation.invariant.failures
-          (ap expectation_value checked.expectation) checked.checked c.in_ok-push_if_failing.ensures.ok;
+          (ap expectation_value checked.expectation) checked.checked c.in_ok-add_if_failing.ensures.ok;
     }

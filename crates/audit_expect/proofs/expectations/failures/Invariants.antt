@@ -1,11 +1,11 @@
-use Rattle.std.proofs.Common.{map, string_bytes, take}
-use Rattle.audit_core.specs.Internal.{IsReading}
+use Rattle.std.proofs.Common.{map, take}
+use Rattle.audit_core.specs.{Findings.finding_value, Internal.IsReading}
 use Rattle.audit_expect.specs.Internal.{Expect.expectation_value, Expectations.AreFailuresOn}
 use Rattle.audit_expect.proofs.expectations.failures.Given as goal
 
 abbrev pub invariant-loop-expectation : goal.invariant-loop-expectation
 invariant-loop-expectation l = record {
   latest : IsReading l.latest.agent.now l.file l.latest.reading;
-  failures : AreFailuresOn l.name l.file
-      (map expectation_value (take l.expectation-index l.expectations)) (string_bytes l.report);
+  failures : AreFailuresOn l.file (map expectation_value (take l.expectation-index l.expectations))
+      (map finding_value l.found.items);
 }

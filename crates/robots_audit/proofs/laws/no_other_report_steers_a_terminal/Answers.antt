@@ -1,14 +1,23 @@
-use Rattle.std.proofs.Common.{map}
+use Rattle.std.proofs.Common.{filter, map}
 use Rattle.printable_text.proofs.PartLemmas.{written_printable}
 use Rattle.robots_warnings.specs.Table.{all_causes}
+use Rattle.audit_core.specs.Request.{shown_name}
+use Rattle.audit_compare.specs.Compare.{all_differences, found_in, report_lines}
+use Rattle.audit_expect.specs.Expectations.{failure, fails}
 use Rattle.audit_expect.proofs.ExpectationsLemmas.{expect_printable}
 use Rattle.audit_text.specs.Explain.{list_line}
 use Rattle.audit_text.proofs.ExplainLemmas.{explanation_printable}
+use Rattle.robots_audit.proofs.OutputLemmas.{listed_printable}
 use Rattle.robots_audit.proofs.laws.no_other_report_steers_a_terminal.Goals as goal
 
 pub returns : goal.returns
 returns c = record {
-  expected = expect_printable;
+  expected = λ format name text file answer is.
+      rw (is.listed.report, is.of.found_are) (listed_printable failure format name is.report
+      (filter fails is.of.checked) (expect_printable name text file is.report is.found is.of));
+  compared = λ requested older_name older newer_name newer answer is.
+      rw is.listed.report (listed_printable found_in requested.format (shown_name requested.file) _
+      (all_differences is.comparison) (written_printable (report_lines is.comparison)));
   list = written_printable (map list_line all_causes);
   explained = explanation_printable;
 }
