@@ -1,5 +1,5 @@
 use Rattle.std.proofs.Common.{List, subst, sym, ◌∙◌, ℕ}
-use Rattle.texting_robots.specs.{Line.HasLines, Robot.IsRobotOfFile, Rules.AreRulesFor}
+use Rattle.texting_robots.specs.Robot.{IsRobotOfFile}
 use Rattle.texting_robots.proofs.MainTheoremLemmas.{nothing_of, sitemaps_of}
 use Rattle.texting_robots.proofs.site.Site.robot.Goals as goal
 

@@ -13,14 +13,17 @@ returns-in-Err-clause-rejected c =
 
 pub returns-clause-robot : goal.returns-clause-robot
 returns-clause-robot c =
-    let none = none_unplaced (λ (rule : Rule). IsOverlong rule.0) _ c.in-Ok.ensures.accepted in
-    (search rules, sitemaps_in (file_lines c.args.self.now), robot_of c.args.agent.now c.args.self.now _ (record {
-      delay = read_delay _ _ _ c.delay.ensures;
-      sitemaps = refl;
-      rules = subst (λ (all : List PlacedRule). IsPermutation all c.sorted.result) c.in-Ok.ensures.rules
-          c.sorted.ensures;
-      accepted = rw c.in-Ok.ensures.rules at none;
-    }))
+    let none = none_unplaced (λ (rule : Rule). IsOverlong rule.0) _ c.in-Ok.ensures.accepted in (
+      search rules,
+      sitemaps_in (file_lines c.args.self.now),
+      robot_of c.args.agent.now c.args.self.now _ (record {
+        delay = read_delay _ _ _ c.delay.ensures;
+        sitemaps = refl;
+        rules = subst (λ (all : List PlacedRule). IsPermutation all c.sorted.result) c.in-Ok.ensures.rules
+            c.sorted.ensures;
+        accepted = rw c.in-Ok.ensures.rules at none;
+      }),
+    )
 
 pub returns-in-Err-clause-without_memory : goal.returns-in-Err-clause-without_memory
 returns-in-Err-clause-without_memory c = λ nothing.
