@@ -75,27 +75,45 @@ fn sixteen_hold_escaped(bytes: &[u8]) -> bool
     escaped.any()
 }
 
-/// Whether some byte is escaped. Eight to 32 bytes are tested as two parts of equal length, which may overlap. It
-/// isn't inlined, so that [`push_escaped`] stays small.
-#[inline(never)]
-pub(crate) fn holds_escaped(bytes: &[u8]) -> bool
+/// Whether some of at most 32 bytes is escaped. Eight or more are tested as two parts of equal length, which may
+/// overlap.
+fn few_hold_escaped(bytes: &[u8]) -> bool
     ensures { result ≡ list_any is_escaped bytes.now }
 {
     let len = bytes.len();
     match len {
-        0..8 => holds_escaped_among(bytes),
         8..16 => eight_hold_escaped(&bytes[..8]) || eight_hold_escaped(&bytes[len - 8..]),
         16..=32 => sixteen_hold_escaped(&bytes[..16]) || sixteen_hold_escaped(&bytes[len - 16..]),
         _ => holds_escaped_among(bytes),
     }
 }
 
-/// Appends the string with each byte of `ESCAPED` and each non-ASCII byte escaped. Most strings have no such byte and
+/// Whether some byte is escaped. More than 32 bytes are tested sixteen at a time.
+#[inline(never)]
+pub(crate) fn holds_escaped(bytes: &[u8]) -> bool
+    ensures { result ≡ list_any is_escaped bytes.now }
+{
+    let mut rest = bytes;
+    while rest.len() > 32 {
+        if sixteen_hold_escaped(&rest[..16]) {
+            return true;
+        }
+        rest = rest.split_at(16).1;
+    }
+    few_hold_escaped(rest)
+}
+
+/// Appends the string with each byte of `ESCAPED` and each non-ASCII byte escaped. Most strings hold no such byte and
 /// are copied in one go.
-pub(crate) fn push_escaped(out: &mut String, text: &str) -> Result<(), AllocError>
+pub(crate) fn push_escaped(
+    out: &mut String,
+    text: &str,
+    holds_escaped: bool,
+) -> Result<(), AllocError>
+    requires { holds_escaped ≡ list_any is_escaped text.now }
     ensures { OnOk result (string_bytes out.new ≡ string_bytes out.old ++ escaped text.now) }
 {
-    if holds_escaped(text.as_bytes()) {
+    if holds_escaped {
         return utf8_percent_encode(text, ESCAPED).append_to(out);
     }
     out.push_str(text)

@@ -1,9 +1,11 @@
 //! Reads a whole file for one crawler: the rules and the delay that apply, and the sitemaps.
 ghost use Rattle.std.specs.Prelude.{◌≡◌, ◌++◌, [], IfErr, IfOk, IsOk, MatchOption, None, OnOk, false, map, string_bytes, true};
 ghost use Rattle.std.specs.Option.{IfSome, IsSomeAnd, option_or, option_to_list};
+ghost use Rattle.std.specs.List.{list_any};
 ghost use Rattle.std.specs.Str.{is_utf8, str_to_ascii_lowercase};
 ghost use Rattle.texting_robots.specs.Internal.Entries.{AreEntries, rules_in};
 ghost use Rattle.texting_robots.specs.Error.{IsMemoryErrorOr};
+ghost use Rattle.texting_robots.specs.Escape.{is_escaped};
 ghost use Rattle.texting_robots.specs.Pattern.{IsOverlong};
 ghost use Rattle.texting_robots.specs.Executable.{file_lines, placed_rules, rule_in, rule_with, sitemap_in, sitemaps_in};
 ghost use Rattle.texting_robots.specs.Line.{delay_in};
@@ -68,17 +70,29 @@ pub(crate) struct RobotBuilder {
     pub(crate) rules: Unsorted,
 }
 
-/// The value as a string, if it is UTF-8. Most values are ASCII, and nothing is decoded then.
+/// The value as a string, if it is UTF-8, and whether some byte of it is escaped. Most values have no such byte, and
+/// nothing is decoded then.
+fn decoded<'a>(value: &'a [u8]) -> Option<(&'a str, bool)>
+    ensures { MatchOption result (is_utf8 value.now ≡ false) (λ decoded. (is_utf8 value.now ≡ true)
+        × (decoded.0.now ≡ value.now) × (decoded.1 ≡ list_any is_escaped value.now)) }
+{
+    if !holds_escaped(value) {
+        return Some((ascii_str(value), false));
+    }
+    match std::str::from_utf8(value) {
+        Ok(text) => Some((text, true)),
+        Err(_) => None,
+    }
+}
+
+/// The value as a string, if it is UTF-8.
 pub(crate) fn as_text<'a>(value: &'a [u8]) -> Option<&'a str>
     ensures { MatchOption result (is_utf8 value.now ≡ false)
         (λ text. (is_utf8 value.now ≡ true) × (text.now ≡ value.now)) }
 {
-    if !holds_escaped(value) {
-        return Some(ascii_str(value));
-    }
-    match std::str::from_utf8(value) {
-        Ok(text) => Some(text),
-        Err(_) => None,
+    match decoded(value) {
+        Some((text, _)) => Some(text),
+        None => None,
     }
 }
 
@@ -93,8 +107,8 @@ fn push_rule(rules: &mut Unsorted, value: &[u8], is_allow: bool, line: usize) ->
         (IsSomeAnd (rule_with value.now is_allow) (λ rule. IsOverlong rule.0))) }
     ensures without_memory { rule_with value.now is_allow ≡ None → IsOk result }
 {
-    match as_text(value) {
-        Some(text) => rules.push(text, is_allow, line),
+    match decoded(value) {
+        Some((text, holds_escaped)) => rules.push(text, holds_escaped, is_allow, line),
         None => Ok(()),
     }
 }

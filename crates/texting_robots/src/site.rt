@@ -22,6 +22,7 @@ mod own;
 mod rules;
 
 use crate::error::Error;
+use crate::escape::holds_escaped;
 use crate::parser::Line;
 use crate::reading::{as_text, push_text};
 use crate::robot::{FILE_LIMIT, Robot};
@@ -210,7 +211,12 @@ impl Site {
     {
         let mut own = Unsorted::new(alloc);
         for rule in self.rules(agent) {
-            if let Err(error) = own.push(rule.value, rule.is_allow, rule.line) {
+            if let Err(error) = own.push(
+                rule.value,
+                holds_escaped(rule.value.as_bytes()),
+                rule.is_allow,
+                rule.line,
+            ) {
                 return Err(error);
             }
         }

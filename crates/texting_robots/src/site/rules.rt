@@ -5,7 +5,7 @@ ghost use Rattle.texting_robots.specs.Executable.{rule_with};
 ghost use Rattle.texting_robots.specs.OwnLines.{rule_of, tag_of};
 ghost use Rattle.texting_robots.specs.Rules.{placed};
 
-use crate::escape::push_escaped;
+use crate::escape::{holds_escaped, push_escaped};
 use crate::parser::Line;
 use crate::reading::as_text;
 use crate::site::lines::GroupLine;
@@ -43,7 +43,11 @@ impl<'s> SiteRule<'s> {
         ensures { IfOk result (λ pattern. string_bytes pattern ≡ self.now.rule.0) }
     {
         let mut pattern = String::new(alloc);
-        push_escaped(&mut pattern, self.value)?;
+        push_escaped(
+            &mut pattern,
+            self.value,
+            holds_escaped(self.value.as_bytes()),
+        )?;
         Ok(pattern)
     }
 }

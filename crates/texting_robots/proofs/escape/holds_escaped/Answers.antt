@@ -1,23 +1,15 @@
-use Rattle.std.proofs.Common.{◌∙◌, sym, arith}
+use Rattle.std.proofs.Common.{◌∙◌, sym}
 use Rattle.texting_robots.specs.Escape.{is_escaped}
-use Rattle.texting_robots.proofs.RegionLemmas.{either_end, front_tells}
+use Rattle.texting_robots.proofs.RegionLemmas.{front_tells, skips_front}
 use Rattle.texting_robots.proofs.escape.holds_escaped.Goals as goal
-
-pub returns-else-eight_hold_escaped : goal.returns-else-eight_hold_escaped
-returns-else-eight_hold_escaped c =
-    c.eight_hold_escaped-else-eight_hold_escaped.ensures
-    ∙ either_end is_escaped c.args.bytes.now 8 (omega arith) (omega arith)
-    (sym c.eight_hold_escaped.ensures ∙ c.if-eight_hold_escaped.false)
 
 pub returns-then-sixteen_hold_escaped : goal.returns-then-sixteen_hold_escaped
 returns-then-sixteen_hold_escaped c =
-    let front = c.sixteen_hold_escaped in
-    c.if-sixteen_hold_escaped.true
-    ∙ sym (front_tells is_escaped c.args.bytes.now 16
-    (sym front.ensures ∙ c.if-sixteen_hold_escaped.true))
+    let some = sym c.sixteen_hold_escaped.ensures ∙ c.if-sixteen_hold_escaped.true in
+    sym (sym c.loop-rest.invariant ∙ front_tells is_escaped c.loop-rest.rest.now 16 some)
 
-pub returns-else-sixteen_hold_escaped : goal.returns-else-sixteen_hold_escaped
-returns-else-sixteen_hold_escaped c =
-    c.sixteen_hold_escaped-else-sixteen_hold_escaped.ensures
-    ∙ either_end is_escaped c.args.bytes.now 16 (omega arith) (omega arith)
-    (sym c.sixteen_hold_escaped.ensures ∙ c.if-sixteen_hold_escaped.false)
+pub loop-rest-preserved : goal.loop-rest-preserved
+loop-rest-preserved c =
+    let none = sym c.sixteen_hold_escaped.ensures ∙ c.if-sixteen_hold_escaped.false in
+    rw c.split_at.ensures.back
+    (skips_front is_escaped c.loop-rest.rest.now 16 none ∙ c.loop-rest.invariant)

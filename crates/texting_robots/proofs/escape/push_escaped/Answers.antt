@@ -11,5 +11,4 @@ returns-then-holds_escaped c =
 
 pub returns : goal.returns
 returns c =
-    let plain = rw c.as_bytes.ensures.value at (sym c.holds_escaped.ensures ∙ c.if-holds_escaped.false) in
-    rw (plain_stays c.args.text.now plain) (search rules)
+    rw (plain_stays c.args.text.now (sym c.requires ∙ c.if-holds_escaped.false)) (search rules)

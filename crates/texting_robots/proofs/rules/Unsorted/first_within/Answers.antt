@@ -1,6 +1,5 @@
-use Rattle.std.proofs.Common.{◌≡◌, ◌+◌, ◌^◌, ◌<◌, ◌≤◌, arith, length, ◌∙◌}
+use Rattle.std.proofs.Common.{◌≡◌, ◌+◌, arith, length, ◌∙◌}
 use Rattle.std.proofs.lemmas.Bool.{iff_false}
-use Rattle.texting_robots.specs.{Cost.looks_of, Internal.Entries.pattern_of, View.seen_of}
 use Rattle.texting_robots.proofs.CostLemmas.{cost_more, cost_within, over_limit, under_limit}
 use Rattle.texting_robots.proofs.FirstLemmas.{tried_more}
 use Rattle.texting_robots.proofs.rules.Unsorted.first_within.Goals as goal

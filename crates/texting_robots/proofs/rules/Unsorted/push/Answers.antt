@@ -35,14 +35,14 @@ returns-clause-known c =
     record {
       known = rw (c.in_ok-push.ensures.items, reserved.entries, text, added.put_segments, added.put_tables)
           (entries_pushed old_text more old.segments.items added.segments old.borders.items added.tables
-          old.entries.items _ c.requires.known
+          old.entries.items _ c.requires.entries.known
           (rw (← added.put_tables) (entry_new old_text more old.segments.items added.segments _ _ (record {
             pattern_span = rw c.in_ok-between.ensures (record { start = omega arith; end = omega arith });
             searched_span = rw c.in_ok-between-2.ensures (record { start = omega arith; end = omega arith });
             is_cut = cut;
             needed = needed;
           }))));
-      masks = omega (arith, c.requires.masks, c.in_ok-push.ensures.lower_bound, as_many);
+      masks = omega (arith, c.requires.entries.masks, c.in_ok-push.ensures.lower_bound, as_many);
     }
 
 pub returns-clause-added : goal.returns-clause-added
@@ -55,5 +55,5 @@ returns-clause-added c =
     let size = ap length text in
     let before = ap length reserved.text in
     rw (c.in_ok-push.ensures.items, reserved.entries, text, ← c.in_ok-narrow.ensures)
-    (rules_pushed old_text more old.segments.items old.borders.items old.entries.items _ c.requires.known
+    (rules_pushed old_text more old.segments.items old.borders.items old.entries.items _ c.requires.entries.known
     (rw c.in_ok-between.ensures (record { start = omega arith; end = omega arith })))
