@@ -14,8 +14,8 @@ use Rattle.texting_robots.specs.{Verdict.IsVerdict, View.LooksAtMost, View.ViewV
 use Rattle.texting_robots.specs.Line.{AreFileLinesOf, HasLines, LineValue, Allow, Disallow, nul_as_lf}
 use Rattle.texting_robots.specs.Robot.{AnswerAlike, IsFileRejected, IsRobotOf, IsRobotOfFile, RobotValue}
 use Rattle.texting_robots.specs.Robot.{file_limit}
-use Rattle.texting_robots.specs.Rules.{AreRulesFor, HasNoRulesOrSitemaps, HoldsRule, IsFirstOverlong}
-use Rattle.texting_robots.specs.Rules.{AreSitemapsOf, IsDelayFor, IsRejected}
+use Rattle.texting_robots.specs.Rules.{AreRulesFor, AreSitemapsOf, HasNoRulesOrSitemaps, HoldsRule, IsFirstOverlong}
+use Rattle.texting_robots.specs.Rules.{IsDelayFor, IsRejected}
 use Rattle.texting_robots.specs.Rules.{PlacedRule, Rule, unplaced}
 use Rattle.texting_robots.proofs.BestLemmas.{none_denies, verdict_by}
 use Rattle.texting_robots.proofs.GivenLemmas.{delay_is_computed, sitemaps_are_computed}
