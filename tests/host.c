@@ -295,7 +295,7 @@ static struct outcome keep(void) {
         return (struct outcome){status, false, robot == NULL && line == 7};
     bool known = robots_query(robot, "/private/open", 13, &plain) == ROBOTS_OK && plain == 3;
     known &= robots_query(robot, "", 0, &plain) == ROBOTS_OK && plain == 0;
-    known &= robots_query_delay(robot, &wait) == ROBOTS_OK && wait == 2500000 && line == 7;
+    known &= robots_query_delay(robot, &wait) == ROBOTS_OK && wait == 2500000 && line == 7 && robots_bytes(robot) > 3 * 64;
     struct outcome many = query_with(robot, COUNT);
     status = robots_query(robot, ROBOTS_STRING("/private/\xC3\xA9 b"), &out);
     known &= status == ROBOTS_OK ? out == -2 : out == 77;
@@ -333,7 +333,7 @@ static struct outcome keep_site(void) {
     if (status != ROBOTS_OK)
         return (struct outcome){status, false, site == NULL};
     bool known = robots_site_delay(site, "Bot", 3, &wait) == ROBOTS_OK && wait == 2500000;
-    known &= robots_site_is_named(site, "Bot", 3) == 0 && robots_site_is_named(site, "a", 1) == 1;
+    known &= robots_site_bytes(site) > sizeof file && robots_site_is_named(site, "Bot", 3) == 0 && robots_site_is_named(site, "a", 1) == 1;
     struct outcome each[] = {matrix_with(site, "Bot\nOther", 2 * COUNT), list_sitemaps(site, sizeof sitemaps - 1), list_agents(site, 4),
                              keep_robot_of(site)};
     struct outcome all = {ROBOTS_OK, known, known};

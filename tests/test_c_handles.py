@@ -104,6 +104,78 @@ int main(void) {
 """
 
 
+def test_bytes_are_those_that_were_allocated(installed, tmp_path):
+    """Robots have no sitemaps, so all without rules take as much."""
+    (tmp_path / "bytes.c").write_text(BYTES)
+    counted = compiled(tmp_path / "bytes", *STRICT, tmp_path / "bytes.c", installed / "lib/librobots_c.a")
+    robots = []
+    for file in [b"", b"Sitemap: /s\n" * 2000, b"User-agent: a\n" * 9, b"Disallow: /a*b\n", b"Disallow: /a\n" * 60]:
+        result = run(counted, [], file)
+        robot, robot_bytes, own, own_bytes, site, site_bytes = map(int, result.out.split())
+        assert (result.status, result.err) == (0, b"") and (robot, own, site) == (robot_bytes, own_bytes, site_bytes)
+        assert robot == own and site >= len(file)
+        robots.append(robot)
+    assert robots[0] == robots[1] == robots[2] < robots[3] < robots[4] == robots[0] + 60 * 74
+
+
+BYTES = r"""
+#include "robots.h"
+#include <stdio.h>
+#include <stdlib.h>
+/* The length of each block is in front of it. */
+static size_t held;
+static char nothing;
+struct tried { _Bool worked; void *block; };
+struct tried rattle_alloc(size_t length, size_t alignment) {
+    size_t *block = alignment <= 16 ? malloc(16 + length) : NULL;
+    if (block == NULL)
+        return (struct tried){0, &nothing};
+    held += *block = length;
+    return (struct tried){1, (char *)block + 16};
+}
+void rattle_dealloc(void *block) {
+    size_t *start = (void *)((char *)block - 16);
+    held -= *start;
+    free(start);
+}
+struct tried rattle_realloc(void *block, size_t used, size_t length, size_t alignment) {
+    struct tried tried = rattle_alloc(length, alignment);
+    if (tried.worked) {
+        memcpy(tried.block, block, used);
+        rattle_dealloc(block);
+    }
+    return tried;
+}
+int main(void) {
+    static char file[100000];
+    size_t length = fread(file, 1, sizeof file, stdin), before;
+    robots *robot, *own, *other;
+    robots_site *site, *same;
+    int64_t result;
+    if (robots_open("Bot", 3, file, length, &robot, NULL) != ROBOTS_OK || robots_query(robot, "/\xC3\xA9", 3, &result) != ROBOTS_OK)
+        return 2;
+    printf("%zu %zu\n", before = held, robots_bytes(robot));
+    if (robots_share(robot, &other) != ROBOTS_OK || held != before + 8 || robots_bytes(other) != before)
+        return 3;
+    robots_close(robot);
+    robots_close(other);
+    if (held != 0 || robots_site_open(file, length, &site) != ROBOTS_OK)
+        return 4;
+    before = held;
+    if (robots_site_robot(site, "Bot", 3, &own, NULL) != ROBOTS_OK)
+        return 5;
+    printf("%zu %zu\n", held - before, robots_bytes(own));
+    robots_close(own);
+    printf("%zu %zu\n", held, robots_site_bytes(site));
+    if (robots_site_share(site, &same) != ROBOTS_OK || held != before + 8 || robots_site_bytes(same) != before)
+        return 6;
+    robots_site_close(site);
+    robots_site_close(same);
+    return held != 0;
+}
+"""
+
+
 def test_batches_of_random_files(robots, shared_object):
     """What robots_query_many writes for the same URLs, and what robots_query writes for URLs with line feeds."""
     chance, library = random.Random(7), ctypes.CDLL(str(shared_object))

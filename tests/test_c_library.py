@@ -124,6 +124,7 @@ int main(void) {
     is(result, -2);
     is(robots_query_delay(robot, &delay), ROBOTS_OK);
     is((int64_t)delay, 1000000);
+    is(robots_bytes(robot) > 64, 1);
     is(robots_share(robot, &own), ROBOTS_OK);
     robots_close(robot);
     free(results);
@@ -133,6 +134,7 @@ int main(void) {
     robots_close(own);
     is(robots_site_open(FILE, &site), ROBOTS_OK);
     is(robots_site_robot(site, "Bot", 3, &own, &line), ROBOTS_OK);
+    is(robots_site_bytes(site) > 64, 1);
     robots_close(own);
     free(results);
     results = malloc(4 * sizeof *results);

@@ -13,7 +13,6 @@ FAILED = r"(?:\b(?:\w+::)*(?:AllocError|AllocFailed|OutOfMemory|Overflow|Memory|
 
 # Where else the sources construct such an error, and why.
 CONSTRUCTED = {
-    ("robots_c/src/urls.rt", "Fault::Memory"): "`Robot::prepare_url` has no other error, by its contract",
     ("texting_robots/src/segments.rt", "AllocError"): "an index has more than 32 bits, as none has in a file of at most `FILE_LIMIT` bytes",
     ("robots_examples/src/tests.rt", "CacheError::Memory"): "an error whose message is printed",
     ("texting_robots_tests/src/files.rt", "-2"): "a verdict by line 2",

@@ -31,8 +31,10 @@ PROVED(robots_response_meaning);
 PROVED(robots_may_fetch);
 PROVED(robots_line);
 
-/* The proved function writes the cost, and its status is 0. */
+/* These proved functions write the number, and their status is 0. */
 extern int32_t proved_robots_cost(const robots *robot, size_t length, uint64_t *cost);
+extern int32_t proved_robots_bytes(const robots *robot, size_t *bytes);
+extern int32_t proved_robots_site_bytes(const robots_site *site, size_t *bytes);
 
 /* The proved function has a length for the results, too. */
 extern int32_t proved_robots_query_batch(const robots *robot, const void *urls, size_t urls_len, const size_t *ends, size_t n,
@@ -92,6 +94,12 @@ uint64_t robots_cost(const robots *robot, size_t length) {
     uint64_t cost = 0;
     proved_robots_cost(robot, length, &cost);
     return cost;
+}
+
+size_t robots_bytes(const robots *robot) {
+    size_t bytes = 0;
+    proved_robots_bytes(robot, &bytes);
+    return bytes;
 }
 
 int32_t robots_query_many(const robots *robot, const char *urls, size_t urls_len, int64_t *results, size_t results_len) {
@@ -175,6 +183,12 @@ int32_t robots_site_delay(const robots_site *site, const char *agent, size_t age
     uint64_t delay = 0;
     int32_t status = proved_robots_site_delay(site, AT(agent, agent_len), &delay);
     return with_delay(status, microseconds, delay);
+}
+
+size_t robots_site_bytes(const robots_site *site) {
+    size_t bytes = 0;
+    proved_robots_site_bytes(site, &bytes);
+    return bytes;
 }
 
 int32_t robots_site_sitemaps(const robots_site *site, char *out, size_t out_len, size_t *len) {

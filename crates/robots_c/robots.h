@@ -142,6 +142,10 @@ ROBOTS_CHECK int32_t robots_query_within(const robots *robot, const char *url, s
  * a '*' follows them, two for each byte of the length. The sum is at most UINT64_MAX. It doesn't allocate. */
 uint64_t robots_cost(const robots *robot, size_t length) ROBOTS_NONNULL(1);
 
+/* How many bytes of memory the robot takes: what robots_open or robots_site_robot allocated and didn't free. A handle that robots_share
+ * opens takes 8 more, for a pointer. It doesn't allocate. */
+size_t robots_bytes(const robots *robot) ROBOTS_NONNULL(1);
+
 /* Writes the results for many URLs, in their order. `urls` has one '\n' between one URL and the next, so n of them are n + 1 URLs, and the
  * empty text is one empty URL; for a URL that contains '\n' use robots_query. If there are more URLs than `results_len`, the status is
  * ROBOTS_BUFFER_TOO_SMALL. What is in `results` after the last result isn't touched. */
@@ -206,6 +210,9 @@ ROBOTS_CHECK int32_t robots_site_matrix(const robots_site *site, const char *age
 /* robots_delay for a site. It doesn't allocate. */
 ROBOTS_CHECK int32_t robots_site_delay(const robots_site *site, const char *agent, size_t agent_len,
                                        uint64_t *microseconds) ROBOTS_NONNULL(1, 4);
+
+/* robots_bytes for a site: what robots_site_open allocated and didn't free. It doesn't allocate. */
+size_t robots_site_bytes(const robots_site *site) ROBOTS_NONNULL(1);
 
 /* robots_sitemaps for a site. */
 ROBOTS_CHECK int32_t robots_site_sitemaps(const robots_site *site, char *out, size_t out_len, size_t *len) ROBOTS_NONNULL(1, 4);

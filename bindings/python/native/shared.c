@@ -16,12 +16,14 @@ static int processor_fits(void)
         && __builtin_cpu_supports("sse4.2") && __builtin_cpu_supports("popcnt");
 }
 
-/* Without a robot, `line` is the line of a rule that is too long. `users` are those that will close it. */
+/* Without a robot, `line` is the line of a rule that is too long. `users` are those that will close it. `is_unnamed` is whether it is the
+ * robot of all crawlers that no line names. */
 struct robot {
     pthread_mutex_t lock;
     atomic_size_t users;
     robots *robot;
     size_t line;
+    bool is_unnamed;
 };
 
 /* `unnamed` is the robot of all crawlers that no line names, or NULL before the first of them. */
@@ -122,8 +124,10 @@ static struct robot *robot_open(struct site *site, const char *agent, size_t age
     struct robot *own = NULL, **kept = robots_site_is_named(site->site, agent, agent_len) == 0 ? &site->unnamed : &own;
     if (*kept == NULL) {
         *kept = robot_new(site->site, agent, agent_len);
-        if (*kept != NULL && kept != &own)
+        if (*kept != NULL && kept != &own) {
             atomic_init(&(*kept)->users, 1); /* the site */
+            (*kept)->is_unnamed = true;
+        }
     }
     struct robot *shared = *kept;
     if (shared != NULL)
@@ -136,6 +140,29 @@ static struct robot *robot_open(struct site *site, const char *agent, size_t age
 static size_t robot_overlong_line(const struct robot *shared)
 {
     return shared->line;
+}
+
+static size_t bytes_of(struct robot *shared)
+{
+    pthread_mutex_lock(&shared->lock);
+    size_t bytes = sizeof *shared + (shared->robot == NULL ? 0 : robots_bytes(shared->robot));
+    pthread_mutex_unlock(&shared->lock);
+    return bytes;
+}
+
+/* How many bytes of memory the site takes, with the robot of all crawlers that no line names. */
+static size_t site_bytes(struct site *shared)
+{
+    pthread_mutex_lock(&shared->lock);
+    size_t bytes = sizeof *shared + robots_site_bytes(shared->site) + (shared->unnamed == NULL ? 0 : bytes_of(shared->unnamed));
+    pthread_mutex_unlock(&shared->lock);
+    return bytes;
+}
+
+/* How many bytes of memory the robot takes beside its site. */
+static size_t robot_bytes(struct robot *shared)
+{
+    return shared->is_unnamed ? 0 : bytes_of(shared);
 }
 
 static int32_t query(struct robot *shared, const char *url, size_t url_len, int64_t *result)

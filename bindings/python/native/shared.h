@@ -29,11 +29,13 @@ int32_t site_matrix(struct site *site, const char *agents, size_t agents_len, co
 int32_t site_delay(struct site *site, const char *agent, size_t agent_len, uint64_t *microseconds);
 int32_t site_sitemaps(struct site *site, char *out, size_t out_len, size_t *len);
 int32_t site_agents(struct site *site, char *out, size_t out_len, size_t *len);
+size_t site_bytes(struct site *site);
 int32_t site_is_named(struct site *site, const char *agent, size_t agent_len);
 
 struct robot;
 struct robot *robot_open(struct site *site, const char *agent, size_t agent_len);
 void robot_close(struct robot *robot);
+size_t robot_bytes(struct robot *robot);
 size_t robot_overlong_line(const struct robot *robot);
 int64_t robot_query(struct robot *robot, const char *url, size_t url_len);
 int32_t robot_query_within(struct robot *robot, const char *url, size_t url_len, uint64_t budget, int64_t *result);

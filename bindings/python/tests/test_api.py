@@ -84,6 +84,15 @@ def test_verdicts_within_a_budget():
             shop.verdict_within("/", "FerrisBot", wrong)
 
 
+def test_size():
+    """Each byte of a file is kept twice. A robot takes 74 bytes for each of 60 rules, and the one of all agents that no line names is shared."""
+    assert Robots(b"#" * 1000).size - Robots(b"").size == 2000
+    file = Robots(b"User-agent: own\nUser-agent: *\n" + b"Disallow: /a\n" * 60)
+    sizes = [file.size for agent in ["own", "x", "y", "own"] if file.allowed("/", agent)]
+    own, unnamed = sizes[0] - Robots(bytes(file._site.body)).size, sizes[1] - sizes[0]
+    assert own == unnamed and 60 * 74 < own < 60 * 74 + 400 and sizes[2:] == [sizes[1]] * 2
+
+
 def test_denials():
     """Of the same URLs and agents, file after file."""
     matrix = Matrix(iter(["/", "/search", "/search/help"]), ["FerrisBot", "SlowBot", "LongBot"])

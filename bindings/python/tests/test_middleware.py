@@ -279,11 +279,11 @@ def test_lifetime(monkeypatch):
 
 def test_the_file_that_was_not_used_for_longest_goes_first():
     filler = b"#" * 9000
-    robots, crawler = ours(file(filler), TEXTING_ROBOTS_BUDGET=25_000)
+    robots, crawler = ours(file(filler), TEXTING_ROBOTS_BUDGET=50_000)
     for name, fetched in [("a", 1), ("b", 1), ("a", 0), ("c", 1), ("a", 0), ("c", 0), ("b", 1), ("a", 1)]:
         before = len(crawler.engine.requests)
         assert allowed(robots, f"http://{name}.example/") and len(crawler.engine.requests) - before == fetched, name
-    assert robots._size == sum(site.size for site in robots._sites.values()) <= 25_000
+    assert robots._size == sum(site.size for site in robots._sites.values()) <= 50_000
 
 
 def test_a_file_that_is_larger_than_the_budget_is_kept_alone():

@@ -156,6 +156,7 @@ denied: List[Tuple[str, str, Optional[int]]] = Matrix({"/"}, ["a"]).denials(b"")
 names: List[str] = robots.sitemaps + robots.agents
 own: Own = Own.parse("")
 named: bool = own.is_named("a")
+size: int = own.size
 within: Verdict = own.verdict_within("/", "a", own.cost(1, "a"))
 meant: Meaning = meaning(None, redirects=REDIRECT_LIMIT, has_location=Own.deny_all().allowed("/", "a"))
 seconds: int = LIFETIME

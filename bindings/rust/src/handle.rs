@@ -82,6 +82,10 @@ impl Site {
         (status == sys::ROBOTS_OK).then_some(delay)
     }
 
+    pub(crate) fn bytes(&self) -> usize {
+        unsafe { sys::robots_site_bytes(self.0.lock().as_ptr()) }
+    }
+
     pub(crate) fn is_named(&self, agent: &str) -> bool {
         unsafe { sys::robots_site_is_named(self.0.lock().as_ptr(), agent.as_ptr().cast(), agent.len()) == 1 }
     }
@@ -123,6 +127,10 @@ impl Robot {
 
     pub(crate) fn cost(&self, len: usize) -> u64 {
         unsafe { sys::robots_cost(self.0.lock().as_ptr(), len) }
+    }
+
+    pub(crate) fn bytes(&self) -> usize {
+        unsafe { sys::robots_bytes(self.0.lock().as_ptr()) }
     }
 
     /// Another handle on the same robot.

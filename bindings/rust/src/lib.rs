@@ -94,6 +94,11 @@ impl Robot {
         self.rules.cost(len)
     }
 
+    /// How many bytes of memory it takes, without this value and [`Robot::sitemaps`].
+    pub fn bytes(&self) -> usize {
+        self.rules.bytes()
+    }
+
     /// [`Robot::decision`] for each URL, in their order.
     ///
     /// # Errors
@@ -212,6 +217,11 @@ impl Site {
     /// [`Error::OutOfMemory`].
     pub fn agents(&self) -> Result<Vec<String>, Error> {
         self.lines.agents()
+    }
+
+    /// How many bytes of memory it takes, without this value and [`Site::sitemaps`].
+    pub fn bytes(&self) -> usize {
+        self.lines.bytes()
     }
 
     /// Whether a user-agent line names this crawler. All that none names have the same robot, so they can share it.

@@ -5,13 +5,13 @@ use Rattle.std.proofs.Common.{SFits, of_z, take, to_z, w64, ℤ}
 use Rattle.std.specs.List.{AllZip}
 use Rattle.std.proofs.lemmas.{Int.to_z-of_z, List.length-map, List.length-take, List.take_more}
 use Rattle.std.proofs.lemmas.Option.{slice_get_within}
-use Rattle.texting_robots.specs.Callers.{HasLines, IsDecidingLine, IsRobotOfFile, IsVerdict, LineValue}
-use Rattle.texting_robots.specs.Callers.{PlacedRule, RobotValue, file_limit, file_lines, lines_read}
+use Rattle.texting_robots.specs.Callers.{HasLines, IsDecidingLine, IsRobotWithoutSitemaps, IsVerdict}
+use Rattle.texting_robots.specs.Callers.{LineValue, PlacedRule, RobotValue, file_limit, file_lines, lines_read}
 use Rattle.texting_robots.specs.Callers.{nul_as_lf, unplaced}
 use Rattle.texting_robots.proofs.MainTheoremLemmas.{deciding_line_holds_its_rule, no_line_allows, of_lines}
 use Rattle.texting_robots.proofs.MainTheoremLemmas.{read_robot}
 use Rattle.texting_robots.proofs.{CountLemmas.lines_within, LineLemmas.each_text_has_its_lines}
-use Rattle.robots_c.specs.File.{IsSiteOfSomeFile, bytes_read}
+use Rattle.robots_c.specs.File.{IsRobotOfSomeFile, IsSiteOfSomeFile}
 use Rattle.robots_c.specs.Results.{IsResultOn, LinesFit, number_of}
 
 -- ---- adding an item
@@ -44,11 +44,10 @@ lines_counted text = omega (arith, lines_within (map nul_as_lf text), length-map
 pub few_lines : (file : List ℕ) → length (lines_read file) ≤ file_limit
 few_lines file = omega (arith, lines_counted (take file_limit file), length-take file_limit file)
 
-pub lines_fit : (agent file : List ℕ) (robot : RobotValue) → IsRobotOfFile agent (bytes_read file) robot
-    → LinesFit robot.rules
-lines_fit agent file robot of text line decides =
+pub lines_fit : (robot : RobotValue) → IsRobotOfSomeFile robot → LinesFit robot.rules
+lines_fit robot (agent, file, (none, sitemaps, of)) text line decides =
     let lines = lines_read file in
-    let is = read_robot agent file robot of in
+    let is = read_robot agent file _ of in
     let (placed, deciding, at, place, number, held) =
     deciding_line_holds_its_rule agent lines robot.rules text line is.rules decides in
     let below : place < length lines = slice_get_within lines place _ held.line.0 in
@@ -56,9 +55,9 @@ lines_fit agent file robot of text line decides =
 
 -- the same for a robot made from a site
 pub site_lines_fit : (site agent : List ℕ) (robot : RobotValue) → IsSiteOfSomeFile site
-    → IsRobotOfFile agent site robot → LinesFit robot.rules
+    → IsRobotWithoutSitemaps agent site robot → LinesFit robot.rules
 site_lines_fit site agent robot (file, is) of =
-    lines_fit agent file robot (subst (λ site. IsRobotOfFile agent site robot) is of)
+    lines_fit robot (agent, file, subst (λ site. IsRobotWithoutSitemaps agent site robot) is of)
 
 -- ---- the number encodes the decision
 

@@ -1,8 +1,8 @@
 -- What the bytes of a file mean for one crawler, or for all crawlers.
 use Rattle.std.specs.Prelude.{◌≡◌, ℕ, IsUtf8, List, Option, take}
 use Rattle.printable_text.specs.Lines.{ended}
-use Rattle.texting_robots.specs.Callers.{AreSitemapsOf, HasLines, IsDelayFor, IsRobotOfFile, RobotValue}
-use Rattle.texting_robots.specs.Callers.{agents_in, file_limit, file_lines}
+use Rattle.texting_robots.specs.Callers.{AreSitemapsOf, HasLines, IsDelayFor, IsRobotWithoutSitemaps}
+use Rattle.texting_robots.specs.Callers.{RobotValue, agents_in, file_limit, file_lines}
 
 -- the bytes of a file that are used; in contracts these bytes represent a site
 abbrev pub bytes_read : List ℕ → List ℕ
@@ -12,9 +12,9 @@ bytes_read file = take file_limit file
 abbrev pub IsSiteOfSomeFile : List ℕ → Type 0
 IsSiteOfSomeFile site = (file : List ℕ) × (site ≡ bytes_read file)
 
--- the crawler's name is UTF-8, and this is the crawler's robot for the site
+-- the crawler's name is UTF-8, and this is the crawler's robot for the site, without its sitemaps
 abbrev pub IsRobotFor : List ℕ → List ℕ → RobotValue → Type 0
-IsRobotFor agent site robot = IsUtf8 agent × IsRobotOfFile agent site robot
+IsRobotFor agent site robot = IsUtf8 agent × IsRobotWithoutSitemaps agent site robot
 
 -- the crawler has a robot for the site, with the property P
 abbrev pub GivesRobot : List ℕ → List ℕ → (RobotValue → Type 0) → Type 0
@@ -23,7 +23,7 @@ GivesRobot agent site P = (robot : RobotValue) × IsRobotFor agent site robot ×
 -- the robot is that of some crawler for some file
 abbrev pub IsRobotOfSomeFile : RobotValue → Type 0
 IsRobotOfSomeFile robot =
-    (agent : List ℕ) × (file : List ℕ) × IsRobotOfFile agent (bytes_read file) robot
+    (agent : List ℕ) × (file : List ℕ) × IsRobotWithoutSitemaps agent (bytes_read file) robot
 
 -- the crawler's name is UTF-8, and this is its delay
 abbrev pub HasDelay : List ℕ → List ℕ → Option ℕ → Type 0

@@ -27,14 +27,17 @@ fn bytes_read(file: &[u8]) -> &[u8]
     &file[..FILE_LIMIT.min(file.len())]
 }
 
-/// The crawler's robot. If the file is rejected, the error has the line of the rule that is too long.
+/// The crawler's robot, without sitemaps. If the file is rejected, the error has the line of the rule that is too long.
 pub(crate) fn robot_of(alloc: Global, agent: &[u8], file: &[u8]) -> Result<Robot, Fault>
     ensures ok { IfOk result (IsRobotFor agent.now (bytes_read file.now)) }
     ensures fault { IfErr result (IsWhyNoRobot agent.now (bytes_read file.now)) }
 {
     let agent = text_of(agent)?;
     match Robot::new(alloc, agent, file) {
-        Ok(robot) => Ok(robot),
+        Ok(mut robot) => {
+            robot.sitemaps = Vec::new(alloc);
+            Ok(robot)
+        }
         Err(Error::InvalidRule) => Err(Fault::Overlong(first_overlong_line(
             alloc,
             agent,

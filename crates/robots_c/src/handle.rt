@@ -1,5 +1,5 @@
 //! A robot that C keeps between calls.
-ghost use Rattle.std.specs.Prelude.{◌≡◌, ◌≢◌, Some, None, IfErr, IfOk, pos};
+ghost use Rattle.std.specs.Prelude.{◌≡◌, ◌≢◌, ◌≤◌, ◌*◌, Some, None, IfErr, IfOk, length, pos};
 ghost use Rattle.robots_c.specs.File.{GivesRobot, IsRobotFor, bytes_read};
 ghost use Rattle.robots_c.specs.Status.{HasFault, HasFaultAt, IsWhyNoHandle, IsWhyNoRobot, IsWhyNone};
 ghost use Rattle.texting_robots.specs.Callers.{cost_of, seen_of};
@@ -7,7 +7,7 @@ ghost use Rattle.texting_robots.specs.Callers.{cost_of, seen_of};
 use crate::fault::Fault;
 use crate::file::robot_of;
 use crate::kept::{Handle, Kept};
-use crate::shared::Shared;
+use crate::shared::{HANDLE_BYTES, Shared};
 use std::alloc::{AllocError, Global};
 use texting_robots::Robot;
 
@@ -87,5 +87,14 @@ pub(crate) fn cost(robot: &Shared<Robot>, length: usize, out: &mut u64) -> i32
     ensures written { out.new ≡ seen_of (cost_of robot.now.rules length) }
 {
     *out = robot.get().cost(length);
+    0
+}
+
+/// Writes how many bytes of memory a robot takes, with one handle.
+pub(crate) fn bytes(robot: &Shared<Robot>, out: &mut usize) -> i32
+    ensures status { result ≡ pos 0 }
+    ensures written { seen_of (64 * length robot.now.rules) ≤ out.new }
+{
+    *out = robot.get().bytes().saturating_add(HANDLE_BYTES);
     0
 }

@@ -10,23 +10,12 @@ ghost use Rattle.texting_robots.specs.Callers.{prepared};
 use crate::fault::Fault;
 use crate::file::text_of;
 use crate::shared::Shared;
-use crate::urls::{count_items, number_on};
+use crate::urls::{count_items, number_on, target_of};
 use std::alloc::{AllocError, Global};
 use texting_robots::{Error, Robot, Site};
 
 /// The number in the row of a crawler for which the file is rejected.
 pub(crate) const NO_RESULT: i64 = i64::MIN;
-
-/// The match target of a URL.
-fn target_of(alloc: Global, url: &str) -> Result<String, AllocError>
-    ensures { IfOk result (λ target. string_bytes target ≡ prepared url.now) }
-{
-    match Robot::prepare_url(alloc, url) {
-        Ok(target) => Ok(target),
-        Err(Error::Memory) => Err(AllocError),
-        Err(Error::InvalidRobots | Error::InvalidRule) => unreachable!(),
-    }
-}
 
 /// The match targets of the URLs in a string.
 fn targets_of(alloc: Global, urls: &str) -> Result<Vec<String>, AllocError>
@@ -61,7 +50,7 @@ fn row_of(
     requires { IsSiteOfSomeFile site.now }
     ensures { IfOk result (λ row. IsRow site.now (map string_bytes targets.now) agent.now row.items) }
 {
-    match site.robot(alloc, agent) {
+    match site.robot_without_sitemaps(alloc, agent) {
         Ok(robot) => {
             let row = results_on(alloc, &robot, targets)?;
             Ok(row)

@@ -1,5 +1,5 @@
 //! A site that C keeps between calls: a file that is read once for all crawlers.
-ghost use Rattle.std.specs.Prelude.{◌≡◌, ◌≢◌, ◌⊎◌, Some, IfErr, IfOk, length, pos};
+ghost use Rattle.std.specs.Prelude.{◌≡◌, ◌≢◌, ◌≤◌, ◌⊎◌, Some, IfErr, IfOk, length, pos};
 ghost use Rattle.robots_c.specs.File.{AreAgents, AreSitemaps, GivesRobot, HasDelay, IsRobotFor, bytes_read};
 ghost use Rattle.robots_c.specs.Status.{HasFault, HasFaultAt, IsWhyNoDelayOf, IsWhyNoHandle, IsWhyNoRobot};
 ghost use Rattle.robots_c.specs.Status.{SaysNamed, status_of};
@@ -10,7 +10,7 @@ use crate::file::{delay_in, text_of};
 use crate::handle::for_any_thread;
 use crate::kept::{Handle, Kept};
 use crate::overlong::first_overlong_line;
-use crate::shared::Shared;
+use crate::shared::{HANDLE_BYTES, Shared};
 use crate::texts::{agents_in, put, sitemaps_in};
 use std::alloc::{AllocError, Global};
 use texting_robots::{Error, Robot, Site};
@@ -59,13 +59,13 @@ pub(crate) fn shared(
     }
 }
 
-/// A crawler's robot, in a box. If the file is rejected, the error has the line of the rule that is too long.
+/// A crawler's robot, without sitemaps, in a box. If the file is rejected, the error has the line of the rule that is too long.
 fn robot(alloc: Global, site: &Site, agent: &[u8]) -> Result<Box<Shared<Robot>>, Fault>
     ensures ok { IfOk result (λ robot. IsRobotFor agent.now site.now robot.value) }
     ensures fault { IfErr result (IsWhyNoRobot agent.now site.now) }
 {
     let agent = text_of(agent)?;
-    match site.robot(alloc, agent) {
+    match site.robot_without_sitemaps(alloc, agent) {
         Ok(robot) => Ok(Shared::boxed(alloc, robot)?),
         Err(Error::InvalidRule) => Err(Fault::Overlong(first_overlong_line(
             alloc,
@@ -108,6 +108,15 @@ pub(crate) fn delay(site: &Shared<Site>, agent: &[u8], out: &mut u64) -> i32
         }
         Err(fault) => fault.status(),
     }
+}
+
+/// Writes how many bytes of memory a site takes, with one handle.
+pub(crate) fn bytes(site: &Shared<Site>, out: &mut usize) -> i32
+    ensures status { result ≡ pos 0 }
+    ensures written { length site.now ≤ out.new }
+{
+    *out = site.get().bytes().saturating_add(HANDLE_BYTES);
+    0
 }
 
 /// Writes the sitemaps, as `robots_sitemaps` does.

@@ -1,10 +1,10 @@
 //! The results for URLs.
-ghost use Rattle.std.specs.Prelude.{◌≡◌, ◌≢◌, ◌<◌, ◌≤◌, ◌==◌, ◌^◌, IfErr, IfOk, IfSome, IsUtf8, count_by, length, pos};
+ghost use Rattle.std.specs.Prelude.{◌≡◌, ◌≢◌, ◌<◌, ◌≤◌, ◌==◌, ◌^◌, IfErr, IfOk, IfSome, IsUtf8, count_by, length, pos, string_bytes};
 ghost use Rattle.std.specs.List.{AllZip};
 ghost use Rattle.robots_c.specs.File.{GivesRobot, IsRobotOfSomeFile, bytes_read};
 ghost use Rattle.robots_c.specs.Results.{ArePutIn, HasResult, HasResults, IsResult, IsResultOn, LinesFit, number_of, items_in, lf};
 ghost use Rattle.robots_c.specs.Status.{HasFault, IsWhyNoResult, IsWhyNoResults, IsWhyNotWithin, IsWhyUndecided};
-ghost use Rattle.texting_robots.specs.Callers.{IsAllocationFree};
+ghost use Rattle.texting_robots.specs.Callers.{IsAllocationFree, prepared};
 
 use crate::fault::Fault;
 use crate::file::{robot_of, text_of};
@@ -23,6 +23,17 @@ fn number_of(decision: Decision) -> i64
         Some(line) if decision.allowed => line as i64,
         Some(line) => -(line as i64),
         None => 0,
+    }
+}
+
+/// The match target of a URL.
+pub(crate) fn target_of(alloc: Global, url: &str) -> Result<String, AllocError>
+    ensures { IfOk result (λ target. string_bytes target ≡ prepared url.now) }
+{
+    match Robot::prepare_url(alloc, url) {
+        Ok(target) => Ok(target),
+        Err(Error::Memory) => Err(AllocError),
+        Err(Error::InvalidRobots | Error::InvalidRule) => unreachable!(),
     }
 }
 
@@ -66,9 +77,7 @@ fn result_within(alloc: Global, robot: &Robot, url: &[u8], budget: u64) -> Resul
     ensures ok { IfOk result (HasResult robot.now.rules url.now) }
     ensures fault { IfErr result (IsWhyNotWithin robot.now.rules url.now budget) }
 {
-    let Ok(target) = Robot::prepare_url(alloc, text_of(url)?) else {
-        return Err(Fault::Memory);
-    };
+    let target = target_of(alloc, text_of(url)?)?;
     match robot.decision_within(&mut View::new(&target), budget) {
         Ok(decision) => Ok(number_of(decision)),
         Err(TooCostly) => Err(Fault::TooCostly),

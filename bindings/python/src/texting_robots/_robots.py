@@ -208,6 +208,12 @@ class Robots:
         """The names in the file's user-agent lines, ``*`` too, in its order; of names that differ only in case the first."""
         return _written(lambda *out: lib.site_agents(self._site.opened, *out), 256).split("\n")[:-1]
 
+    @property
+    def size(self) -> int:
+        """How many bytes of memory it takes: the file twice, what its lines are, and the rules for the agents that were asked about."""
+        site = self._site
+        return len(site.body) + lib.site_bytes(site.opened) + sum(map(lib.robot_bytes, list(site.robots.values())))
+
     def is_named(self, agent: str) -> bool:
         """Whether a user-agent line names the crawler. All crawlers that none names have the rules and the delay of ``*``."""
         name = _name(agent)

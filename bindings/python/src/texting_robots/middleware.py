@@ -57,7 +57,7 @@ class _Site:
     def __init__(self, parser: RobotParser, pace: Pace, expires: float, is_file: bool) -> None:
         self.parser, self.pace, self.expires, self.is_file = parser, pace, expires, is_file
         self.delay = 0.0
-        self.size = _SITE_BYTES + (parser.size if is_file else 0)
+        self.size = 0
 
 
 class RobotsMiddleware:
@@ -73,8 +73,8 @@ class RobotsMiddleware:
     - ``TEXTING_ROBOTS_LIFETIME = 86400``: after so many seconds a file is fetched again. The HTTP cache of Scrapy never has it.
     - ``TEXTING_ROBOTS_RETRY = 300``: so many seconds after the server failed, the file is asked for again.
     - ``TEXTING_ROBOTS_MAX_DELAY = 60``: a longer delay is cut to so many seconds. 0 keeps no delays.
-    - ``TEXTING_ROBOTS_BUDGET = 100_000_000``: so many bytes of files are kept, with 1,000 more for each site. The first to go is what wasn't
-      used for the longest time.
+    - ``TEXTING_ROBOTS_BUDGET = 100_000_000``: so much memory in bytes is taken for files, with 1,000 more for each site. The first to go is
+      what wasn't used for the longest time.
 
     The delay holds in the downloader's slots, whatever ``DOWNLOAD_DELAY``, ``download_slot`` and AutoThrottle say, which may only make it
     longer. In a slot with several sites, the largest delay counts. Sitemaps come by the signal `sitemaps_found`.
@@ -109,13 +109,17 @@ class RobotsMiddleware:
         if request.meta.get("dont_obey_robotstxt") or request.url.startswith(("data:", "file:")):
             return
         _leave_slot(request)
-        site = await self._site(_address(request))
+        address = _address(request)
+        site = await self._site(address)
         spider = self._crawler.spider
         default = getattr(spider, "user_agent", None) or self._default_user_agent
         user_agent = self._user_agent or request.headers.get("User-Agent") or default
         site.delay = max(site.delay, min(site.parser.delay(user_agent), self._max_delay))
         site.pace.keep(site.delay)
-        if not site.parser.allowed(request.url, user_agent):
+        is_allowed = site.parser.allowed(request.url, user_agent)
+        if self._sites.get(address) is site:
+            self._keep(address, site)
+        if not is_allowed:
             logger.debug("Forbidden by robots.txt: %s", request, extra={"spider": spider})
             self._crawler.stats.inc_value("robotstxt/forbidden")
             raise IgnoreRequest("Forbidden by robots.txt")
@@ -143,10 +147,12 @@ class RobotsMiddleware:
         return fetched
 
     def _keep(self, address: str, site: _Site) -> None:
-        """Keeps what is known of a site, and within the budget what was used last."""
+        """Keeps what is known of a site, whose memory grows with each new crawler, and within the budget what was used last."""
         before = self._sites.pop(address, None)
+        self._size -= before.size if before else 0
+        site.size = _SITE_BYTES + (site.parser.size if site.is_file else 0)
         self._sites[address] = site
-        self._size += site.size - (before.size if before else 0)
+        self._size += site.size
         while self._size > self._budget and len(self._sites) > 1:
             self._size -= self._sites.popitem(last=False)[1].size
 

@@ -58,8 +58,8 @@ class RobotParser(ScrapyRobotParser):
 
     @property
     def size(self) -> int:
-        """How many bytes of the file are kept."""
-        return len(self._robots._site.body)
+        """How many bytes of memory the file takes."""
+        return self._robots.size
 
     def _allowed(self, url: str, user_agent: str) -> bool:
         if user_agent.lstrip().startswith("Mozilla/") and not RobotParser._has_warned:

@@ -51,6 +51,7 @@ extern "C" {
     pub fn robots_query_within(robot: *const robots, url: *const c_char, url_len: usize, budget: u64,
                                result: *mut i64) -> i32;
     pub fn robots_cost(robot: *const robots, length: usize) -> u64;
+    pub fn robots_bytes(robot: *const robots) -> usize;
     pub fn robots_query_many(robot: *const robots, urls: *const c_char, urls_len: usize,
                              results: *mut i64, results_len: usize) -> i32;
     pub fn robots_query_batch(robot: *const robots, urls: *const c_void, urls_len: usize, ends: *const usize, n: usize,
@@ -75,6 +76,7 @@ extern "C" {
                               urls: *const c_char, urls_len: usize, results: *mut i64, results_len: usize) -> i32;
     pub fn robots_site_delay(site: *const robots_site, agent: *const c_char, agent_len: usize,
                              microseconds: *mut u64) -> i32;
+    pub fn robots_site_bytes(site: *const robots_site) -> usize;
     pub fn robots_site_sitemaps(site: *const robots_site, out: *mut c_char, out_len: usize, len: *mut usize) -> i32;
     pub fn robots_site_agents(site: *const robots_site, out: *mut c_char, out_len: usize, len: *mut usize) -> i32;
     pub fn robots_site_is_named(site: *const robots_site, agent: *const c_char, agent_len: usize) -> i32;

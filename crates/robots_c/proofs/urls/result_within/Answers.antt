@@ -10,16 +10,16 @@ moved rules decision text target is same = subst (λ t. IsDecisionOn rules t dec
 
 pub number_of-requires : goal.number_of-requires
 number_of-requires c =
-    line_below c.args.robot.now.rules _ c.in-Ok-decision_within.decision.line
-    (lines_fit c.requires.0 c.requires.1 _ c.requires.2) c.in-Ok-decision_within.ensures.decision.deciding
+    line_below c.args.robot.now.rules _ c.in-Ok.decision.line
+    (lines_fit _ c.requires) c.in-Ok.ensures.decision.deciding
 
-pub returns-in-Ok-decision_within-clause-ok : goal.returns-in-Ok-decision_within-clause-ok
-returns-in-Ok-decision_within-clause-ok c =
+pub returns-in-Ok-clause-ok : goal.returns-in-Ok-clause-ok
+returns-in-Ok-clause-ok c =
     let url = c.args.url.now in
-    let is = moved c.args.robot.now.rules _ _ (prepared url) c.in-Ok-decision_within.ensures.decision
+    let is = moved c.args.robot.now.rules _ _ (prepared url) c.in-Ok.ensures.decision
     (search rules) in (
       search rules,
       written_says c.args.robot.now.rules (prepared url) _ _
-          (lines_fit c.requires.0 c.requires.1 _ c.requires.2) is.verdict is.deciding _ c.number_of.ensures
+          (lines_fit _ c.requires) is.verdict is.deciding _ c.number_of.ensures
           (search rules),
     )

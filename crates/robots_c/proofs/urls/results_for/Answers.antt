@@ -7,7 +7,7 @@ use Rattle.robots_c.proofs.NumberLemmas.{lines_fit, one_more}
 use Rattle.robots_c.proofs.urls.results_for.Goals as goal
 
 pub number_for-requires : goal.number_for-requires
-number_for-requires c = lines_fit c.requires.0 c.requires.1 _ c.requires.2
+number_for-requires c = lines_fit _ c.requires
 
 pub loop-url-preserved : goal.loop-url-preserved
 loop-url-preserved c =

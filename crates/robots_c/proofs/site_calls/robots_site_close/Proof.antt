@@ -61,9 +61,9 @@ use Rattle.robots_c.proofs.Keeping.{
 use Rattle.robots_c.specs.Kept.{Sites, owned_or_null}
 use Rattle.robots_c.specs.contracts.site.close as callee
 use Rattle.robots_c.proofs.site.close.Met.{met}
-use Rattle.robots_c.specs.contracts.robots_site_close as self
-use Rattle.robots_c.proofs.robots_site_close.Statement.{statement}
-use Rattle.robots_c.proofs.robots_site_close.Code as code
+use Rattle.robots_c.specs.contracts.site_calls.robots_site_close as self
+use Rattle.robots_c.proofs.site_calls.robots_site_close.Statement.{statement}
+use Rattle.robots_c.proofs.site_calls.robots_site_close.Code as code
 use denote.Triple.Spec.{triple_of}
 
 pub robots_site_close_spec : {M : Type 1} → statement M

@@ -85,9 +85,9 @@ use Rattle.robots_c.specs.Kept.{Robots, Sites, opens}
 use Rattle.robots_c.specs.Status.{HasFaultAt, IsWhyNoRobot}
 use Rattle.robots_c.specs.contracts.site.robot_opened as callee
 use Rattle.robots_c.proofs.site.robot_opened.Met.{met}
-use Rattle.robots_c.specs.contracts.robots_site_robot as self
-use Rattle.robots_c.proofs.robots_site_robot.Statement.{statement}
-use Rattle.robots_c.proofs.robots_site_robot.Code as code
+use Rattle.robots_c.specs.contracts.site_calls.robots_site_robot as self
+use Rattle.robots_c.proofs.site_calls.robots_site_robot.Statement.{statement}
+use Rattle.robots_c.proofs.site_calls.robots_site_robot.Code as code
 
 pub robots_site_robot_spec : {M : Type 1} → statement M
 robots_site_robot_spec 𝓤 𝓛 𝓜 𝓡 wired =

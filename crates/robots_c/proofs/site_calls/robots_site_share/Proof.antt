@@ -80,9 +80,9 @@ use Rattle.robots_c.specs.Kept.{Sites, opens}
 use Rattle.robots_c.specs.Status.{HasFault, IsWhyNoHandle}
 use Rattle.robots_c.specs.contracts.site.shared as callee
 use Rattle.robots_c.proofs.site.shared.Met.{met}
-use Rattle.robots_c.specs.contracts.robots_site_share as self
-use Rattle.robots_c.proofs.robots_site_share.Statement.{statement}
-use Rattle.robots_c.proofs.robots_site_share.Code as code
+use Rattle.robots_c.specs.contracts.site_calls.robots_site_share as self
+use Rattle.robots_c.proofs.site_calls.robots_site_share.Statement.{statement}
+use Rattle.robots_c.proofs.site_calls.robots_site_share.Code as code
 
 pub robots_site_share_spec : {M : Type 1} → statement M
 robots_site_share_spec 𝓤 𝓛 𝓜 𝓡 wired =

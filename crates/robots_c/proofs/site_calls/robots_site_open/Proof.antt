@@ -80,9 +80,9 @@ use Rattle.robots_c.specs.Kept.{Sites}
 use Rattle.robots_c.specs.Status.{HasFault, IsWhyNoHandle}
 use Rattle.robots_c.specs.contracts.site.opened as callee
 use Rattle.robots_c.proofs.site.opened.Met.{met}
-use Rattle.robots_c.specs.contracts.robots_site_open as self
-use Rattle.robots_c.proofs.robots_site_open.Statement.{statement}
-use Rattle.robots_c.proofs.robots_site_open.Code as code
+use Rattle.robots_c.specs.contracts.site_calls.robots_site_open as self
+use Rattle.robots_c.proofs.site_calls.robots_site_open.Statement.{statement}
+use Rattle.robots_c.proofs.site_calls.robots_site_open.Code as code
 
 pub robots_site_open_spec : {M : Type 1} → statement M
 robots_site_open_spec 𝓤 𝓛 𝓜 𝓡 wired =

@@ -1,4 +1,4 @@
--- `robots_site_sitemaps` reads a borrowed site.
+-- `robots_site_agents` reads a borrowed site.
 use Rattle.robots_c.proofs.Borrowing.{
   ℕ,
   [],
@@ -49,14 +49,14 @@ use Rattle.robots_c.proofs.Borrowing.{
   ensured_by,
 }
 use Rattle.robots_c.specs.Kept.{Sites}
-use Rattle.robots_c.specs.contracts.site.sitemaps as callee
-use Rattle.robots_c.proofs.site.sitemaps.Met.{met}
-use Rattle.robots_c.specs.contracts.robots_site_sitemaps as self
-use Rattle.robots_c.proofs.robots_site_sitemaps.Statement.{statement}
-use Rattle.robots_c.proofs.robots_site_sitemaps.Code as code
+use Rattle.robots_c.specs.contracts.site.agents as callee
+use Rattle.robots_c.proofs.site.agents.Met.{met}
+use Rattle.robots_c.specs.contracts.site_calls.robots_site_agents as self
+use Rattle.robots_c.proofs.site_calls.robots_site_agents.Statement.{statement}
+use Rattle.robots_c.proofs.site_calls.robots_site_agents.Code as code
 
-pub robots_site_sitemaps_spec : {M : Type 1} → statement M
-robots_site_sitemaps_spec 𝓤 𝓛 𝓜 𝓡 wired =
+pub robots_site_agents_spec : {M : Type 1} → statement M
+robots_site_agents_spec 𝓤 𝓛 𝓜 𝓡 wired =
     let S = self.signature in
     meets 𝓛 𝓜 𝓡 S (self.spec 𝓛 𝓜.mem 𝓡.returns) self.Key.name code.function (code.unfolded 𝓤 𝓛.H 𝓜 𝓡 wired)
     (λ z are.
@@ -83,5 +83,5 @@ robots_site_sitemaps_spec 𝓤 𝓛 𝓜 𝓡 wired =
           (and_then ! (get ! refl) (no_more !))))) (λ v r good. lands_as ! refl refl good $
           returns ! (look_at ! 0 refl) $ free_all ! refl $ done !)),
     ))
-    (λ b o. met 𝓤 𝓛 𝓜 𝓡 (code.calls-robots_c::site::sitemaps 𝓡.env wired)
+    (λ b o. met 𝓤 𝓛 𝓜 𝓡 (code.calls-robots_c::site::agents 𝓡.env wired)
     ((κs, (q, z.0.1), tt, given_at b o, vs), tt))))

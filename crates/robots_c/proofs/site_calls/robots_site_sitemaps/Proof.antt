@@ -1,10 +1,9 @@
--- `robots_site_matrix` reads a borrowed site.
+-- `robots_site_sitemaps` reads a borrowed site.
 use Rattle.robots_c.proofs.Borrowing.{
   ℕ,
   [],
   ◌∷◌,
   refl,
-  raw,
   ◌$◌,
   ◌∵◌,
   !,
@@ -31,7 +30,9 @@ use Rattle.robots_c.proofs.Borrowing.{
   goods,
   hands_on,
   meets,
+  place,
   reference,
+  and_nothing,
   borrows,
   heap,
   slice,
@@ -43,45 +44,44 @@ use Rattle.robots_c.proofs.Borrowing.{
   agg,
   sub,
   whole,
-  fact,
   lent_place,
   context,
   ensured_by,
 }
 use Rattle.robots_c.specs.Kept.{Sites}
-use Rattle.robots_c.specs.File.{IsSiteOfSomeFile}
-use Rattle.robots_c.specs.contracts.matrix.matrix_by as callee
-use Rattle.robots_c.proofs.matrix.matrix_by.Met.{met}
-use Rattle.robots_c.specs.contracts.robots_site_matrix as self
-use Rattle.robots_c.proofs.robots_site_matrix.Statement.{statement}
-use Rattle.robots_c.proofs.robots_site_matrix.Code as code
+use Rattle.robots_c.specs.contracts.site.sitemaps as callee
+use Rattle.robots_c.proofs.site.sitemaps.Met.{met}
+use Rattle.robots_c.specs.contracts.site_calls.robots_site_sitemaps as self
+use Rattle.robots_c.proofs.site_calls.robots_site_sitemaps.Statement.{statement}
+use Rattle.robots_c.proofs.site_calls.robots_site_sitemaps.Code as code
 
-pub robots_site_matrix_spec : {M : Type 1} → statement M
-robots_site_matrix_spec 𝓤 𝓛 𝓜 𝓡 wired =
+pub robots_site_sitemaps_spec : {M : Type 1} → statement M
+robots_site_sitemaps_spec 𝓤 𝓛 𝓜 𝓡 wired =
     let S = self.signature in
     meets 𝓛 𝓜 𝓡 S (self.spec 𝓛 𝓜.mem 𝓡.returns) self.Key.name code.function (code.unfolded 𝓤 𝓛.H 𝓜 𝓡 wired)
     (λ z are.
     let a = z.0.3 in let vs = z.0.4 in let κ = z.1.0 in let q = z.1.1 in let x = z.1.2 in
-    let κs : Lfts 4 = (κ, z.0.0) in
+    let κs : Lfts 3 = (κ, z.0.0) in
     let given_at : ℕ → ℕ → Args callee.signature κs = λ b o. (a.0, (reference x b o, a.1.1)) in
-    qed 𝓛 (context 𝓛 Sites a.1.0 x κ q S z.0 (raw (fact 𝓤 (IsSiteOfSomeFile x)) ∷ [])) ∵
-    borrows 𝓛 𝓜 𝓡 Sites a.1.0 x κ q (_ ∷ []) _ _ _ (lasts callee.ended κs (given_at 0 0))
+    qed 𝓛 (context 𝓛 Sites a.1.0 x κ q S z.0 []) ∵
+    and_nothing 𝓛 (borrows 𝓛 𝓜 𝓡 Sites a.1.0 x κ q (_ ∷ []) _ _ _ (lasts callee.ended κs (given_at 0 0))
     (ensured_by callee.ended (callee.clauses 𝓛 𝓜.mem 𝓡.returns) κs (given_at 0 0) tt) _ (λ b o e.
     let ws = heap 𝓛 a.0 vs.0 are.0 ∷ lent_place are.1.0 e ∷ slice are.1.1.0.0
-    ∷ slice are.1.1.1.0.0 ∷ slice are.1.1.1.1.0.0 ∷ [] in (
+    ∷ place are.1.1.1.0.0 ∷ [] in (
       ws,
       refl,
       λ X Q given. enter ! _ _ _ _ _ $ alloc_all ! (λ l. pass_all ! refl (goods ws) $
           sets ! (of_opd ! (get ! refl)) refl (tt, tt) $
           sets ! (addr ! (through ! refl (stop !))) refl (tt, tt) $
-          sets ! (addr ! (from ! (fld ! refl (hop ! (look_in_at ! 5 (sub ! 0 refl (whole !)))
+          sets ! (addr ! (from ! (fld ! refl (hop ! (look_in_at ! 3 (sub ! 0 refl (whole !)))
           (stop !))))) refl (tt, tt) $
           sets ! (agg ! (and_then ! (get ! refl) (and_then ! (get_in ! (fld ! refl (stop !))
           (sub ! 1 refl (whole !)))
-          (no_more !)))) refl (tt, (tt, (record { fits = are.1.1.1.1.0.0.1.0 }, tt))) $
+          (no_more !)))) refl (tt, (tt, (record { fits = are.1.1.0.0.1.0 }, tt))) $
+          sets ! (addr ! (through ! refl (stop !))) refl (tt, tt) $
           hands_on 𝓛 𝓜 𝓡 ! given (and_then ! (get ! refl) (and_then ! (get ! refl) (and_then ! (get ! refl)
-          (and_then ! (get ! refl) (and_then ! (get ! refl) (no_more !))))))
-          (λ v r good. lands_as ! refl refl good $ returns ! (look_at ! 0 refl) $ free_all ! refl $ done !)),
+          (and_then ! (get ! refl) (no_more !))))) (λ v r good. lands_as ! refl refl good $
+          returns ! (look_at ! 0 refl) $ free_all ! refl $ done !)),
     ))
-    (λ b o. met 𝓤 𝓛 𝓜 𝓡 (code.calls-robots_c::matrix::matrix_by 𝓡.env wired)
-    ((κs, (q, z.0.1), tt, given_at b o, vs), tt)))
+    (λ b o. met 𝓤 𝓛 𝓜 𝓡 (code.calls-robots_c::site::sitemaps 𝓡.env wired)
+    ((κs, (q, z.0.1), tt, given_at b o, vs), tt))))

@@ -1,0 +1,196 @@
+//! The functions of `robots.h` for sites.
+ghost use Rattle.std.specs.Prelude.{◌≡◌, ◌≢◌, ◌≤◌, ◌⊎◌, ℕ, List, Some, length, pos};
+ghost use Rattle.std.specs.Borrow.{sem};
+ghost use base.Fml.{Lft, Share, flft};
+ghost use Rattle.robots_c.specs.File.{AreAgents, AreSitemaps, HasDelay, IsRobotFor, IsSiteOfSomeFile, bytes_read};
+ghost use Rattle.robots_c.specs.Kept.{Robots, Sites, lends, opens, owned_or_null};
+ghost use Rattle.robots_c.specs.Results.{IsMatrixPutIn};
+ghost use Rattle.robots_c.specs.Status.{HasFault, HasFaultAt, IsWhyNoDelayOf, IsWhyNoHandle, IsWhyNoMatrix};
+ghost use Rattle.robots_c.specs.Status.{IsWhyNoRobot, SaysNamed, status_of};
+ghost use Rattle.robots_c.specs.Text.{IsTooLong, IsWritten};
+
+use crate::fault::Fault;
+use crate::kept::{Handle, Kept};
+use crate::matrix::matrix_by;
+use crate::shared::Shared;
+use crate::site;
+use std::alloc::Global;
+use texting_robots::{Robot, Site};
+
+/// Reads a file for all crawlers, and writes a pointer to its site, which C owns from then on. It
+/// fails only if an allocation fails.
+#[unsafe(no_mangle)]
+pub extern "C" fn robots_site_open(alloc: Global, file: &[u8], out: &mut *mut u8) -> i32
+    ensures* opened { sem 𝓛 (opens Sites (λ site. site ≡ bytes_read file.now) result out.new) }
+    ensures kept { result ≢ pos 0 → out.new ≡ out.old }
+    ensures why { HasFault IsWhyNoHandle result }
+{
+    let Kept { status, at } = site::opened(alloc, file, *out as *mut Shared<Site>);
+    *out = at as *mut u8;
+    status
+}
+
+/// Writes a pointer to a crawler's robot, as `robots_open` does. The site is
+/// borrowed: the call only reads it; for threads see `robots.h`.
+#[unsafe(no_mangle)]
+pub unsafe extern "C" fn robots_site_robot(
+    alloc: Global,
+    site: *const u8,
+    agent: &[u8],
+    out: &mut *mut u8,
+    line: &mut usize,
+) -> i32
+    ghost g: { Lft × Share × List ℕ }
+    requires* lent { sem 𝓛 (lends Sites site g) }
+    ensures* lent { sem 𝓛 (flft g.0 g.1) }
+    ensures* opened { sem 𝓛 (opens Robots (IsRobotFor agent.now g.2) result out.new) }
+    ensures kept { result ≢ pos 0 → out.new ≡ out.old }
+    ensures why { HasFaultAt (IsWhyNoRobot agent.now g.2) result line.old line.new }
+{
+    let Kept { status, at } = site::robot_opened(
+        alloc,
+        &*(site as *const Shared<Site>),
+        agent,
+        *out as *mut Shared<Robot>,
+        line,
+    );
+    *out = at as *mut u8;
+    status
+}
+
+/// Writes a matrix of numbers, as `robots_matrix` does. The site is borrowed, as in `robots_site_robot`.
+#[unsafe(no_mangle)]
+pub unsafe extern "C" fn robots_site_matrix(
+    alloc: Global,
+    site: *const u8,
+    agents: &[u8],
+    urls: &[u8],
+    out: &mut [i64],
+) -> i32
+    ghost g: { Lft × Share × List ℕ }
+    requires* lent { sem 𝓛 (lends Sites site g) }
+    requires site { IsSiteOfSomeFile g.2 }
+    ensures* lent { sem 𝓛 (flft g.0 g.1) }
+    ensures written { result ≡ pos 0 → IsMatrixPutIn g.2 agents.now urls.now out.old out.new }
+    ensures kept { result ≢ pos 0 → out.new ≡ out.old }
+    ensures why { HasFault (IsWhyNoMatrix agents.now urls.now (length out.old)) result }
+{
+    matrix_by(alloc, &*(site as *const Shared<Site>), agents, urls, out)
+}
+
+/// Writes a crawler's delay, as `robots_delay` does. The site is borrowed, as in
+/// `robots_site_robot`. It doesn't allocate.
+#[unsafe(no_mangle)]
+pub unsafe extern "C" fn robots_site_delay(site: *const u8, agent: &[u8], out: &mut u64) -> i32
+    ghost g: { Lft × Share × List ℕ }
+    requires* lent { sem 𝓛 (lends Sites site g) }
+    ensures* lent { sem 𝓛 (flft g.0 g.1) }
+    ensures written { result ≡ pos 0 → HasDelay agent.now g.2 (Some out.new) }
+    ensures kept { result ≢ pos 0 → out.new ≡ out.old }
+    ensures why { HasFault (IsWhyNoDelayOf agent.now g.2) result }
+{
+    site::delay(&*(site as *const Shared<Site>), agent, out)
+}
+
+/// Writes how many bytes of memory the site takes with this handle, as `robots_bytes` does. The site is borrowed, as in
+/// `robots_site_robot`. It doesn't allocate.
+#[unsafe(no_mangle)]
+pub unsafe extern "C" fn robots_site_bytes(site: *const u8, out: &mut usize) -> i32
+    ghost g: { Lft × Share × List ℕ }
+    requires* lent { sem 𝓛 (lends Sites site g) }
+    ensures* lent { sem 𝓛 (flft g.0 g.1) }
+    ensures status { result ≡ pos 0 }
+    ensures written { length g.2 ≤ out.new }
+{
+    site::bytes(&*(site as *const Shared<Site>), out)
+}
+
+/// Writes the sitemaps, as `robots_sitemaps` does. The site is borrowed, as in `robots_site_robot`.
+#[unsafe(no_mangle)]
+pub unsafe extern "C" fn robots_site_sitemaps(
+    alloc: Global,
+    site: *const u8,
+    out: &mut [u8],
+    len: &mut usize,
+) -> i32
+    ghost g: { Lft × Share × List ℕ }
+    requires* lent { sem 𝓛 (lends Sites site g) }
+    ensures* lent { sem 𝓛 (flft g.0 g.1) }
+    ensures written { result ≡ pos 0 → IsWritten (AreSitemaps g.2) out.old out.new len.new }
+    ensures buffer_too_small { result ≡ status_of Fault.BufferTooSmall → IsTooLong (AreSitemaps g.2) (length out.old) len.new }
+    ensures length_kept { result ≢ pos 0 → result ≢ status_of Fault.BufferTooSmall → len.new ≡ len.old }
+    ensures kept { result ≢ pos 0 → out.new ≡ out.old }
+    ensures why { (result ≡ pos 0) ⊎ ((result ≡ status_of Fault.BufferTooSmall) ⊎ (result ≡ status_of Fault.Memory)) }
+{
+    site::sitemaps(alloc, &*(site as *const Shared<Site>), out, len)
+}
+
+/// Writes the names in user-agent lines, as `robots_agents` does. The site is
+/// borrowed, as in `robots_site_robot`.
+#[unsafe(no_mangle)]
+pub unsafe extern "C" fn robots_site_agents(
+    alloc: Global,
+    site: *const u8,
+    out: &mut [u8],
+    len: &mut usize,
+) -> i32
+    ghost g: { Lft × Share × List ℕ }
+    requires* lent { sem 𝓛 (lends Sites site g) }
+    ensures* lent { sem 𝓛 (flft g.0 g.1) }
+    ensures written { result ≡ pos 0 → IsWritten (AreAgents g.2) out.old out.new len.new }
+    ensures buffer_too_small { result ≡ status_of Fault.BufferTooSmall → IsTooLong (AreAgents g.2) (length out.old) len.new }
+    ensures length_kept { result ≢ pos 0 → result ≢ status_of Fault.BufferTooSmall → len.new ≡ len.old }
+    ensures kept { result ≢ pos 0 → out.new ≡ out.old }
+    ensures why { (result ≡ pos 0) ⊎ ((result ≡ status_of Fault.BufferTooSmall) ⊎ (result ≡ status_of Fault.Memory)) }
+{
+    site::agents(alloc, &*(site as *const Shared<Site>), out, len)
+}
+
+/// Whether a user-agent line names the crawler: 1 if one does, 0 if none does, so that the crawler has the
+/// robot of `*`, and -1 if the crawler's name isn't UTF-8. The site is borrowed, as in
+/// `robots_site_robot`. It doesn't allocate.
+#[unsafe(no_mangle)]
+pub unsafe extern "C" fn robots_site_is_named(site: *const u8, agent: &[u8]) -> i32
+    ghost g: { Lft × Share × List ℕ }
+    requires* lent { sem 𝓛 (lends Sites site g) }
+    ensures* lent { sem 𝓛 (flft g.0 g.1) }
+    ensures named { SaysNamed agent.now g.2 result }
+{
+    site::is_named(&*(site as *const Shared<Site>), agent)
+}
+
+/// Writes a pointer to another handle on the same site, which C owns from then on. The site is borrowed, as
+/// in `robots_site_robot`.
+#[unsafe(no_mangle)]
+pub unsafe extern "C" fn robots_site_share(alloc: Global, site: *const u8, out: &mut *mut u8) -> i32
+    ghost g: { Lft × Share × List ℕ }
+    requires* lent { sem 𝓛 (lends Sites site g) }
+    ensures* lent { sem 𝓛 (flft g.0 g.1) }
+    ensures* opened { sem 𝓛 (opens Sites (λ other. other ≡ g.2) result out.new) }
+    ensures kept { result ≢ pos 0 → out.new ≡ out.old }
+    ensures why { HasFault IsWhyNoHandle result }
+{
+    let Kept { status, at } = site::shared(
+        alloc,
+        &*(site as *const Shared<Site>),
+        *out as *mut Shared<Site>,
+    );
+    *out = at as *mut u8;
+    status
+}
+
+/// Frees a site that `robots_site_open` or `robots_site_share` opened. If the pointer is null, it does
+/// nothing.
+#[unsafe(no_mangle)]
+pub unsafe extern "C" fn robots_site_close(alloc: Global, site: *mut u8)
+    ghost value: { List ℕ }
+    requires* owned { sem 𝓛 (owned_or_null Sites site value) }
+{
+    if site.is_null() {
+        return;
+    }
+    site::close(Handle {
+        at: site as *mut Shared<Site>,
+        alloc,
+    })
+}
