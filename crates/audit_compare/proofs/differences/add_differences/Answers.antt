@@ -9,15 +9,15 @@ pub returns : goal.returns
 returns c =
     let found = c.compared.inside in
     let agent = found.agent.now in
-    let groups = group_changes agent found.older.group found.newer.group in
-    let delays = delay_changes agent found.older.delay found.newer.delay in
+    let groups = group_changes agent c.older.inside.group c.newer.inside.group in
+    let delays = delay_changes agent c.older.inside.delay c.newer.inside.delay in
     let removed = map (rule_change agent false) found.removed.items in
     let added = map (rule_change agent true) found.added.items in
     let changes = map (url_change agent) found.changes.items in
     subst (λ (compared : ComparedValue). Adds c.args.found.now.items c.add_urls.new.found.items
-    (differences compared)) c.compared.view_is
+    (differences compared)) c.compared.view_is (rw (← c.older.view_is, ← c.newer.view_is)
     (adds_more _ _ _ groups (delays ++ removed ++ added ++ changes) c.in_ok-add_groups.ensures
     (adds_more _ _ _ delays (removed ++ added ++ changes) c.in_ok-add_delays.ensures
     (adds_more _ _ _ removed (added ++ changes) (rw c.deref.ensures.value at c.in_ok-add_rules.ensures)
     (adds_more _ _ _ added changes (rw c.deref-2.ensures.value at c.in_ok-add_rules-2.ensures)
-    (rw c.deref-3.ensures.value at c.in_ok-add_urls.ensures)))))
+    (rw c.deref-3.ensures.value at c.in_ok-add_urls.ensures))))))
