@@ -148,7 +148,7 @@ FORM = 'write "allow AGENT URL" or "deny AGENT URL"'
 NOT_UTF_8 = "the line isn't valid UTF-8"
 NAME = "a crawler's name is a product token without a version, such as Googlebot"
 PATH = "URL has a . or .. segment or a #, which crawlers resolve or drop; write the path that they ask for"
-URL = "URL is neither a path that starts with / nor a valid http:// or https:// URL"
+URL = "this is neither a path that starts with / nor a valid http:// or https:// URL"
 
 MALFORMED = {
     "two words": (b"allow Googlebot", 1, FORM),
