@@ -9,7 +9,7 @@ ghost use Rattle.audit_core.specs.Asked.{asked_target};
 ghost use Rattle.audit_core.specs.Internal.{IsReading};
 ghost use Rattle.audit_expect.specs.declared.checks.Judgment.TheVariants.{Decided};
 ghost use Rattle.audit_expect.specs.Expect.{IsEntryFault, expectations_in as specified_in};
-ghost use Rattle.audit_expect.specs.Expectations.{IsAnswer, IsPlain, decision_parts, demand, judgment_parts, front_parts, group_parts, holding, nobody_parts, reason_parts, rejected_parts, unmatched, vendor_parts};
+ghost use Rattle.audit_expect.specs.Expectations.{IsAnswer, IsPlain, decision_parts, demand, judgment_parts, front_parts, group_parts, holding, misnamed_parts, nobody_parts, reason_parts, rejected_parts, unmatched, vendor_parts};
 ghost use Rattle.audit_expect.specs.Internal.Expect.{expectation_value};
 ghost use Rattle.audit_expect.specs.Internal.Expectations.{AreFailuresOn, IsReadFor, checked_value, failures_at};
 
@@ -219,6 +219,19 @@ fn nobody_parts() -> [Part<'static>; 1]
     [Part("its vendor doesn't apply the group * to it", Value::Nothing)]
 }
 
+/// Which name is probably meant.
+fn misnamed_parts<'a>(name: &'a str) -> [Part<'a>; 2]
+    ensures { raw_line result ≡ parts_text (misnamed_parts name.entry.now) }
+{
+    [
+        Part(
+            "no group and no known crawler has this name; did you mean ",
+            Value::Untrusted(name.as_bytes()),
+        ),
+        Part("?", Value::Nothing),
+    ]
+}
+
 /// Appends which group the vendor applies, and what it says.
 fn push_vendor(
     alloc: Global,
@@ -235,6 +248,7 @@ fn push_vendor(
         AtVendor::Same => Ok(()),
         AtVendor::Group(name, judgment) => push_group(alloc, text, name, url, allowed, judgment),
         AtVendor::Nobody => Ok(push_parts(text, &nobody_parts())?),
+        AtVendor::Misnamed(name) => Ok(push_parts(text, &misnamed_parts(name))?),
     }
 }
 
