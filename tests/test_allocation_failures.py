@@ -346,7 +346,7 @@ OF_AN_AUDIT = {
     ),
     "neither a path nor a URL": lambda size: (
         ["-", "b" * size], "",
-        error(f"{'b' * size}: URL is neither a path that starts with / nor a URL; for a crawler, write --agent NAME, for a file of URLs --urls FILE, for a level --strict=LEVEL"),
+        error(f"{'b' * size}: this is neither a path that starts with / nor a URL; for a crawler, write --agent NAME, for a file of URLs --urls FILE, for a level --strict=LEVEL"),
     ),
 }  # fmt: skip
 

@@ -76,7 +76,7 @@ NAMES_IN_QUOTES = {
     "with a space": (b'allow "Some Bot" /a', "Some Bot must be allowed /a, but line 2 denies it"),
     "in another case": (b'deny\t"some bot"\t/a\r', None),
     "without a space": (b'allow "Ferris" /a', None),
-    "two spaces, which are another name": (b'allow "Some  Bot" /a', None),
+    "two spaces, which are another name": (b'allow "Some  Bot" /a', "Some  Bot must be allowed /a, but no group and no known crawler has this name; did you mean Some Bot?"),
     "a quotation mark in the URL": (b'allow "Some Bot" /b"c', None),
     "two of them in a URL": (b'allow Ferris /"b"', None),
 }
@@ -148,7 +148,7 @@ FORM = 'write "allow AGENT URL" or "deny AGENT URL"'
 NOT_UTF_8 = "the line isn't valid UTF-8"
 NAME = "a crawler's name is a product token without a version, such as Googlebot"
 PATH = "URL has a . or .. segment or a #, which crawlers resolve or drop; write the path that they ask for"
-URL = "URL is neither a path that starts with / nor a valid http:// or https:// URL"
+URL = "this is neither a path that starts with / nor a valid http:// or https:// URL"
 
 MALFORMED = {
     "two words": (b"allow Googlebot", 1, FORM),

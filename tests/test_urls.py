@@ -57,7 +57,7 @@ def test_urls_of_the_command_line_come_first(tmp_path):
     assert outcome(check(tmp_path, b"/a\n/private/\n", "Ferris", "/b")) == (1, out, "")
 
 
-URL = "URL is neither a path that starts with / nor a valid http:// or https:// URL"
+URL = "this is neither a path that starts with / nor a valid http:// or https:// URL"
 NOT_URLS = {
     "a host": (b"/a\nexample.com/a\n", 2),
     "another scheme": (b"# none\n\nftp://example.com/\n", 3),

@@ -25,7 +25,7 @@ use Rattle.audit_core.specs.declared.fault.Flaw.TheVariants as flaw
 
 abbrev no_url : List ℕ
 no_url =
-    codes "URL is neither a path that starts with / nor a URL; for a crawler, write --agent NAME"
+    codes "this is neither a path that starts with / nor a URL; for a crawler, write --agent NAME"
     ++ codes ", for a file of URLs --urls FILE, for a level --strict=LEVEL"
 
 abbrev other_path : List ℕ
@@ -40,7 +40,7 @@ flaw_value flaw.NotUtf8 = word (codes "the line isn't valid UTF-8") refl
 flaw_value flaw.Agent =
     word (codes "a crawler's name is a product token without a version, such as Googlebot") refl
 flaw_value flaw.Url =
-    word (codes "URL is neither a path that starts with / nor a valid http:// or https:// URL") refl
+    word (codes "this is neither a path that starts with / nor a valid http:// or https:// URL") refl
 flaw_value flaw.Name = word no_url refl
 flaw_value flaw.Path = word other_path refl
 flaw_value flaw.Html = word (codes "this looks like HTML, not like a robots.txt file") refl

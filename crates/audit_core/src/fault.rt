@@ -26,7 +26,7 @@ pub enum Flaw {
     NotUtf8,
     /// The name isn't one that crawlers have.
     Agent,
-    /// The URL is neither a path nor an http(s) URL that can be parsed.
+    /// The this is neither a path nor an http(s) URL that can be parsed.
     Url,
     /// The same, but it may be the name of a crawler.
     Name,
@@ -155,9 +155,9 @@ fn flaw_text(flaw: Flaw) -> &'static str
         Flaw::Form => "write \"allow AGENT URL\" or \"deny AGENT URL\"",
         Flaw::NotUtf8 => "the line isn't valid UTF-8",
         Flaw::Agent => "a crawler's name is a product token without a version, such as Googlebot",
-        Flaw::Url => "URL is neither a path that starts with / nor a valid http:// or https:// URL",
+        Flaw::Url => "this is neither a path that starts with / nor a valid http:// or https:// URL",
         Flaw::Name =>
-            "URL is neither a path that starts with / nor a URL; for a crawler, write --agent NAME, for a \
+            "this is neither a path that starts with / nor a URL; for a crawler, write --agent NAME, for a \
             file of URLs --urls FILE, for a level --strict=LEVEL",
         Flaw::Path =>
             "URL has a . or .. segment or a #, which crawlers resolve or drop; write the path that they ask for",

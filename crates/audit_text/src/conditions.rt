@@ -26,7 +26,7 @@ static CONDITIONS: [(&str, &str); 62] = [
     ("nul-ends-line",
         "the first 512,000 bytes have a NUL byte, and the file doesn't look like UTF-16"),
     ("closes-everything",
-        "a Disallow of a crawler of the report is /, or a star and then only stars and $, possibly after /, and each Allow of the crawler that is at least as long is /robots.txt or the path of a sitemap of the file, with or without $, or matches no path because of its start or a $ inside; the first such line of each crawler counts, unless its vendor applies another group; it is a warning if one of its crawlers is *, has no group of its own, or is that of a large search engine, possibly with a version"),
+        "a Disallow of a crawler of the report is /, or a star and then only stars and $, possibly after /, and each Allow of the crawler that is at least as long is /robots.txt or the path of a sitemap of the file, with or without $, or matches no path because of its start or a $ inside; the first such line of each crawler counts, unless its vendor applies another group or a line with its name gives misspelled-name; it is a warning if one of its crawlers is *, has no group of its own, or is that of a large search engine, possibly with a version"),
     // a URL
     ("url-not-normal",
         "the path and the query that crawlers request have a byte other than letters, digits, % and -._~:/?[]@!&'()+,;=, an escape with lowercase digits or of a letter, a digit or one of -._~, or a % that begins no escape"),
@@ -45,7 +45,7 @@ static CONDITIONS: [(&str, &str); 62] = [
     ("robot-version-line", "the field name of an ignored line is Robot-version"),
     ("comment-line", "the field name of an ignored line is Comment"),
     ("unrecognized-line",
-        "the line is neither blank nor a comment, and has no known field name; a name is suggested if the text before the colon, or the first word, begins with it, with at most one letter more, or differs from it in at most two bytes; an invisible character in the name, or = in place of the colon, is named"),
+        "the line is neither blank nor a comment, and has no known field name; a name is suggested if the text before the colon, or the first word, begins with it, with at most one letter more (for Allow and Disallow also - or _), or differs from it in at most two bytes; an invisible character in the name, or = in place of the colon, is named"),
     // the field name of a line
     ("nonstandard-field",
         "the field name of a directive isn't spelled as in the message, ASCII letters in any case"),

@@ -95,7 +95,7 @@ const PARAMETERS: &[Parameter] = &[
         short: Some('q'),
         long: Some("quiet"),
         value: Value::Absent,
-        help: "Don't list the lines of the file, in text or JSON; all else is reported",
+        help: "Don't list the lines of the file, as text and JSON do for one --agent; all else is reported",
         excludes: &[],
     },
     Parameter {

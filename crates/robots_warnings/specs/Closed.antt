@@ -5,8 +5,8 @@ use Rattle.std.specs.List.{before_first, filter_map, list_all, list_any}
 use Rattle.std.specs.Str.{byte, str_eq_ignore_ascii_case}
 use Rattle.texting_robots.specs.Callers.{LineValue, PlacedRule, is_named, placed_rules, prepared, robots_file}
 use Rattle.texting_robots.specs.Callers.{sitemaps_in}
-use Rattle.robots_warnings.specs.{Conflicts.first_line, Crawlers.other_group, Rules.begins_oddly}
-use Rattle.robots_warnings.specs.{Rules.has_dollar_inside, Tokens.ends_token}
+use Rattle.robots_warnings.specs.{Conflicts.first_line, Crawlers.meant, Crawlers.other_group}
+use Rattle.robots_warnings.specs.{Rules.begins_oddly, Rules.has_dollar_inside, Tokens.ends_token}
 use Rattle.robots_warnings.specs.declared.closed.TheConstants.{SEARCH_ENGINES}
 use Rattle.robots_warnings.specs.declared.closed.Reach.{Reach}
 use Rattle.robots_warnings.specs.declared.closed.Reach.TheVariants.{Everything, Nothing, Part}
@@ -96,10 +96,11 @@ is_exempt lines pattern = list_any (is_literally pattern) (opened_paths lines)
 
 -- ---- `closes-everything`
 
--- the line of the first rule that closes the site to the crawler; none if its vendor applies another group
+-- the line of the first rule that closes the site to the crawler; none if its vendor applies another group, or
+-- if a line has its name and another one is probably meant: the group is of no crawler
 abbrev pub line_closing : List LineValue → List ℕ → Option ℕ
 line_closing lines agent =
-    if is_some (other_group lines agent) then None
+    if is_some (other_group lines agent) || (is_named agent lines && is_some (meant agent)) then None
     else closing_line (is_exempt lines) (placed_rules agent lines)
 
 abbrev pub is_number : ℕ → Option ℕ → Bool

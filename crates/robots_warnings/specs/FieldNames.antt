@@ -5,7 +5,7 @@ use Rattle.std.specs.Prelude.{◌∷◌, Option, bytes_eq, codes, drop, find, if
 use Rattle.std.specs.Prelude.{option_map, reverse, slice_index, take, unwrap_or}
 use Rattle.std.specs.Char.{is_ascii_alphabetic, is_ascii_alphanumeric, is_ascii_uppercase}
 use Rattle.std.specs.Str.{byte, str_to_ascii_lowercase}
-use Rattle.std.specs.{List.before_first, List.list_all, List.list_any, Option.option_or}
+use Rattle.std.specs.{List.before_first, List.ends_with, List.list_all, List.list_any, Option.option_or}
 use Rattle.strsim.specs.Edits.{levenshtein_row}
 use Rattle.texting_robots.specs.Statement.{field_names}
 use Rattle.texting_robots.specs.declared.parser.statement.Kind.{Kind}
@@ -18,7 +18,7 @@ use Rattle.robots_warnings.specs.declared.field_names.TheConstants.{DIRECTIVES, 
 use Rattle.robots_warnings.specs.declared.table.Cause.{Cause}
 use Rattle.robots_warnings.specs.declared.table.Cause.TheVariants.{HostName, InvalidDelay, UnrecognizedLine}
 use Rattle.robots_warnings.specs.declared.table.Cause.TheVariants.{EqualsSign, UnseenInName}
-use Rattle.robots_warnings.specs.SeveralValues.{begins_unseen}
+use Rattle.robots_warnings.specs.Tokens.{is_token_byte}
 
 -- ---- the tokens of a line
 
@@ -60,15 +60,19 @@ begins_with name word = is_name name (take (length name) word)
 abbrev pub is_accepted : Kind → List ℕ → Bool
 is_accepted kind word = list_any (bytes_eq (str_to_ascii_lowercase word)) (field_names kind)
 
--- two or more bytes follow so many bytes of the token, and the first of them is a letter
-abbrev pub goes_on : ℕ → List ℕ → Bool
-goes_on count word = is_ascii_alphabetic (slice_index word count) && nat_lt 1 (length word - count)
+-- two or more bytes follow the name in the token, and the first of them is a letter, or after `allow` and
+-- `disallow` also `-` or `_`
+abbrev pub goes_on : (name word : List ℕ) → Bool
+goes_on name word =
+    let b = slice_index word (length name) in
+    (is_token_byte b && (is_ascii_alphabetic b || ends_with nat_eq name (codes "allow")))
+    && nat_lt 1 (length word - length name)
 
--- the token starts with the name, and doesn't go on, as `DisallowAITraining` does; or it is similar to the
--- name: the lengths differ by at most 2, and in lower case, it has an edit distance of at most 2 from it
+-- the token starts with the name, and doesn't go on, as `Disallow-AI` does; or it is similar to the name: the
+-- lengths differ by at most 2, and in lower case, it has an edit distance of at most 2 from it
 abbrev pub may_mean : List ℕ → List ℕ → Bool
 may_mean name word =
-    if begins_with name word then not (goes_on (length name) word)
+    if begins_with name word then not (goes_on name word)
     else (nat_le (length word) (length name + 2) && nat_le (length name) (length word + 2))
     && nat_le (levenshtein_row nat_eq (str_to_ascii_lowercase word) name (length name)) 2
 

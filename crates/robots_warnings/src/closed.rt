@@ -10,7 +10,7 @@ ghost use Rattle.robots_warnings.specs.Closed.{reach_of, without_stars};
 ghost use Rattle.robots_warnings.specs.Internal.{Adds, Rules.HasExempt, Rules.IsNeeded, Rules.agents_at};
 ghost use Rattle.robots_warnings.specs.Warnings.{closing_warnings, others, site_warnings};
 
-use crate::crawlers::other_group;
+use crate::crawlers::{meant, other_group};
 use crate::rules::{begins_oddly, has_dollar_inside};
 use crate::table::Cause;
 use crate::targets::prepared;
@@ -304,7 +304,7 @@ fn closing_here(
     closing_line(alloc, exempt, site, agent)
 }
 
-/// The same; none if the crawler's vendor applies another group.
+/// The same; none if the crawler's vendor applies another group, or a line has its name and another one is meant.
 fn line_closing(
     alloc: Global,
     exempt: &Patterns,
@@ -314,7 +314,9 @@ fn line_closing(
     requires { HasExempt (file_lines site.now) exempt.now }
     ensures { IfOk result (λ line. line ≡ line_closing (file_lines site.now) agent.now) }
 {
-    if other_group(site, agent).is_some() {
+    if other_group(site, agent).is_some()
+        || (site.is_named(agent) && meant(alloc, agent.as_bytes())?.is_some())
+    {
         return Ok(None);
     }
     closing_here(alloc, exempt, site, agent)

@@ -1,11 +1,12 @@
 //! Known crawlers: which group the vendor of each applies to it, and which one a similar name may mean.
-ghost use Rattle.std.specs.Prelude.{◌≡◌, ◌++◌, [], IfOk, OnOk, map, option_map, slice_index_or, string_bytes};
+ghost use Rattle.std.specs.Prelude.{◌≡◌, [], IfOk, OnOk, map, option_map, slice_index_or, string_bytes};
 ghost use Rattle.std.specs.List.{list_any, position_from};
 ghost use Rattle.std.specs.Str.{str_eq_ignore_ascii_case};
 ghost use Rattle.texting_robots.specs.Callers.{by_value, file_lines, label_by_value};
-ghost use Rattle.robots_warnings.specs.Crawlers.{crawlers, first_at_vendor, gets_other, group_at_vendor};
-ghost use Rattle.robots_warnings.specs.Crawlers.{is_given, is_known, is_meant, is_near, is_row_of, meant};
-ghost use Rattle.robots_warnings.specs.Crawlers.{meant_in, most_edits, name_at_vendor, name_for, other_group};
+ghost use Rattle.robots_warnings.specs.Crawlers.{crawlers, first_at_vendor, first_near, gets_other};
+ghost use Rattle.robots_warnings.specs.Crawlers.{group_at_vendor, is_given, is_known, is_meant, is_near};
+ghost use Rattle.robots_warnings.specs.Crawlers.{is_row_of, meant, meant_in, most_edits, name_at_vendor};
+ghost use Rattle.robots_warnings.specs.Crawlers.{name_for, name_meant, other_group};
 ghost use Rattle.robots_warnings.specs.Crawlers.{row_at, value_at_vendor, wrong_names};
 ghost use Rattle.robots_warnings.specs.Internal.{Adds, row_value};
 ghost use Rattle.robots_warnings.specs.Warnings.{agent_warning, agent_warnings, name_warnings, vendor_warning};
@@ -328,7 +329,7 @@ fn first_meant(
 
 /// The index of the crawler that the value of a user-agent line probably means, if neither the value nor the
 /// product token that it begins with is the name of a known one.
-fn meant(alloc: Global, value: &[u8]) -> Result<Option<usize>, AllocError>
+pub(crate) fn meant(alloc: Global, value: &[u8]) -> Result<Option<usize>, AllocError>
     ensures { IfOk result (λ found. found ≡ meant value.now) }
 {
     if is_known(value) || is_known(token_front(value)) {
@@ -345,6 +346,44 @@ pub(crate) fn meant_in(alloc: Global, line: Line<'_>) -> Result<Option<usize>, A
     match line {
         Line::UserAgent(value) => meant(alloc, value),
         _ => Ok(None),
+    }
+}
+
+/// The value of the first user-agent line that is a text to which this name is near.
+fn first_near<'a>(alloc: Global, site: &'a Site, agent: &str) -> Result<Option<&'a str>, AllocError>
+    ensures { IfOk result (λ found. option_map (λ name. name.now) found ≡ first_near agent.now (file_lines site.now)) }
+{
+    for line in file_lines(site.text()) {
+        let Line::UserAgent(value) = line else {
+            continue;
+        };
+        let Some(name) = as_text(value) else {
+            continue;
+        };
+        if is_near(alloc, agent.as_bytes(), name)? {
+            return Ok(Some(name));
+        }
+    }
+    Ok(None)
+}
+
+/// The name of a group, or else of a known crawler, that is probably meant by this one, which neither has.
+pub fn name_meant<'a>(
+    alloc: Global,
+    site: &'a Site,
+    agent: &str,
+) -> Result<Option<&'a str>, AllocError>
+    ensures { IfOk result (λ found. option_map (λ name. name.now) found ≡ name_meant (file_lines site.now) agent.now) }
+{
+    if site.is_named(agent) || is_known(agent.as_bytes()) {
+        return Ok(None);
+    }
+    if let Some(name) = first_near(alloc, site, agent)? {
+        return Ok(Some(name));
+    }
+    match meant(alloc, agent.as_bytes())? {
+        Some(number) => Ok(Some(row_at(number).0)),
+        None => Ok(None),
     }
 }
 
@@ -371,7 +410,7 @@ fn warn_of_name<'a>(
 }
 
 /// Appends the warnings about the names in user-agent lines.
-fn warn_of_names(
+pub(crate) fn warn_of_names(
     alloc: Global,
     found: &mut Found<'_>,
     labels: &[LabeledLine<'_>],
@@ -405,7 +444,7 @@ fn warn_of_agent<'a>(
 }
 
 /// Appends the warnings about the names of those of these crawlers that the file doesn't name.
-fn warn_of_agents<'a>(
+pub(crate) fn warn_of_agents<'a>(
     alloc: Global,
     found: &mut Found<'a>,
     site: &Site,
@@ -418,21 +457,6 @@ fn warn_of_agents<'a>(
         warn_of_agent(alloc, found, site, agent)?;
     }
     Ok(())
-}
-
-/// Appends both.
-pub(crate) fn warn_of_all_names<'a>(
-    alloc: Global,
-    found: &mut Found<'a>,
-    site: &Site,
-    agents: &[&'a str],
-    labels: &[LabeledLine<'_>],
-) -> Result<(), AllocError>
-    ensures { OnOk result (Adds found.old.items found.new.items (name_warnings (map label_by_value labels.now)
-        ++ agent_warnings (file_lines site.now) (map (λ agent. agent.now) agents.now))) }
-{
-    warn_of_names(alloc, found, labels)?;
-    warn_of_agents(alloc, found, site, agents)
 }
 
 /// Appends the warning about the known crawler at this index, if it is among these and its vendor applies another group.

@@ -14,6 +14,7 @@ use crate::file::first;
 use crate::rules::{after_byte, before_byte, has, somewhere};
 use crate::several_values::begins_unseen;
 use crate::table::Cause;
+use crate::tokens::is_token_byte;
 use crate::urls::begins_as_url;
 use std::alloc::{AllocError, Global};
 use strsim::generic_levenshtein;
@@ -132,12 +133,15 @@ fn is_accepted(kind: Kind, word: &[u8]) -> bool
     false
 }
 
-/// Whether two or more bytes follow so many bytes of the token, and the first of them is a letter.
-fn goes_on(count: usize, word: &[u8]) -> bool
-    ensures { result ≡ goes_on count word.now }
+/// Whether two or more bytes follow the name in the token, and the first of them is a letter, or after `allow` and
+/// `disallow` also `-` or `_`.
+fn goes_on(name: &str, word: &[u8]) -> bool
+    ensures { result ≡ goes_on name.now word.now }
 {
-    match word.get(count) {
-        Some(byte) => byte.is_ascii_alphabetic() && word.len() - count > 1,
+    match word.get(name.len()) {
+        Some(byte) => is_token_byte(*byte)
+            && (byte.is_ascii_alphabetic() || name.as_bytes().ends_with(b"allow"))
+            && word.len() - name.len() > 1,
         None => false,
     }
 }
@@ -148,7 +152,7 @@ fn may_mean(alloc: Global, name: &str, word: &[u8]) -> Result<bool, AllocError>
     ensures { IfOk result (λ answer. answer ≡ may_mean name.now word.now) }
 {
     if begins_with(name, word) {
-        return Ok(!goes_on(name.len(), word));
+        return Ok(!goes_on(name, word));
     }
     if name.len().abs_diff(word.len()) > 2 {
         return Ok(false);

@@ -14,7 +14,7 @@ pub fn has_space_around(text: &str) -> bool
 }
 
 /// Whether the byte can occur in a product token.
-fn is_token_byte(byte: u8) -> bool
+pub(crate) fn is_token_byte(byte: u8) -> bool
     ensures { result ≡ is_token_byte byte }
 {
     byte.is_ascii_alphabetic() || byte == b'_' || byte == b'-'

@@ -117,7 +117,7 @@ pub closes_everything : (agent : List ℕ) (lines : List LineValue) (rules : Lis
     → IsDenied (unplaced rules) (byte "/" ∷ text)
 closes_everything agent lines rules number text is are none =
     closed_denies (is_exempt lines) agent lines rules text
-    (ap is_some (closed_by (is_some (other_group lines agent)) _ is)) are
+    (ap is_some (closed_by _ _ is)) are
     (λ same. false≢true (sym none ∙ within robots_file (0, omega arith, refl)
     (subst (λ (text : List ℕ). starts_with nat_eq text robots_file ≡ true) (sym same) refl)))
     (λ pattern exempt matches.
