@@ -26,7 +26,7 @@ pub enum Flaw {
     NotUtf8,
     /// The name isn't one that crawlers have.
     Agent,
-    /// The this is neither a path nor an http(s) URL that can be parsed.
+    /// The text is neither a path nor an http(s) URL that can be parsed.
     Url,
     /// The same, but it may be the name of a crawler.
     Name,
@@ -155,7 +155,8 @@ fn flaw_text(flaw: Flaw) -> &'static str
         Flaw::Form => "write \"allow AGENT URL\" or \"deny AGENT URL\"",
         Flaw::NotUtf8 => "the line isn't valid UTF-8",
         Flaw::Agent => "a crawler's name is a product token without a version, such as Googlebot",
-        Flaw::Url => "this is neither a path that starts with / nor a valid http:// or https:// URL",
+        Flaw::Url =>
+            "this is neither a path that starts with / nor a valid http:// or https:// URL",
         Flaw::Name =>
             "this is neither a path that starts with / nor a URL; for a crawler, write --agent NAME, for a \
             file of URLs --urls FILE, for a level --strict=LEVEL",
