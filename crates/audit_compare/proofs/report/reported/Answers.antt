@@ -9,5 +9,6 @@ returns-clause-text c =
       c.deref.ensures.value,
       messages_of _ _ c.in_ok-found.ensures,
       c.in_ok-push_line_of.ensures,
+      c.new-text.ensures.bytes,
       c.sides_line.ensures,
     ) (simp append-nil refl)
