@@ -16,8 +16,10 @@ returns c =
     let changes = map (url_change agent) found.changes.items in
     subst (λ (compared : ComparedValue). Adds c.args.found.now.items c.add_urls.new.found.items
     (differences compared)) c.compared.view_is (rw (← c.older.view_is, ← c.newer.view_is)
-    (adds_more _ _ _ groups (delays ++ removed ++ added ++ changes) c.in_ok-add_groups.ensures
-    (adds_more _ _ _ delays (removed ++ added ++ changes) c.in_ok-add_delays.ensures
-    (adds_more _ _ _ removed (added ++ changes) (rw c.deref.ensures.value at c.in_ok-add_rules.ensures)
-    (adds_more _ _ _ added changes (rw c.deref-2.ensures.value at c.in_ok-add_rules-2.ensures)
-    (rw c.deref-3.ensures.value at c.in_ok-add_urls.ensures))))))
+    (adds_more _ _ _ (groups ++ delays ++ removed ++ added) changes
+    (adds_more _ _ _ (groups ++ delays ++ removed) added
+    (adds_more _ _ _ (groups ++ delays) removed
+    (adds_more _ _ _ groups delays c.in_ok-add_groups.ensures c.in_ok-add_delays.ensures)
+    (rw c.deref.ensures.value at c.in_ok-add_rules.ensures))
+    (rw c.deref-2.ensures.value at c.in_ok-add_rules-2.ensures))
+    (rw c.deref-3.ensures.value at c.in_ok-add_urls.ensures)))

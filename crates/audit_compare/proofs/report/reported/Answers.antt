@@ -1,4 +1,5 @@
-use Rattle.std.proofs.Common.{append-nil, refl}
+use Rattle.std.proofs.Common.{arith}
+use Rattle.std.proofs.lemmas.Grind.{common_steps}
 use Rattle.audit_compare.proofs.CompareLemmas.{messages_of}
 use Rattle.audit_compare.proofs.report.reported.Goals as goal
 
@@ -9,5 +10,7 @@ returns-clause-text c =
       c.deref.ensures.value,
       messages_of _ _ c.in_ok-found.ensures,
       c.in_ok-push_line_of.ensures,
+      c.new-text.ensures.bytes,
       c.sides_line.ensures,
-    ) (simp append-nil refl)
+      ← c.comparison.view_is,
+    ) (grind (arith, common_steps))
