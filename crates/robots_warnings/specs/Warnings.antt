@@ -195,8 +195,8 @@ group_warnings everywhere agents bodies lines labels =
     ++ (crawler_warnings (is_empty_at bodies labels) agents lines labels
     ++ (warned_at ReplacesStar (Some (Rules (star_count lines))) (replacing agents lines labels)
     ++ (warned_at RepeatedRule None (repeated everywhere labels)
-    ++ (name_warnings labels
-    ++ (agent_warnings lines agents ++ vendor_warnings everywhere agents lines 0 crawlers))))))
+    ++ ((name_warnings labels ++ agent_warnings lines agents)
+    ++ vendor_warnings everywhere agents lines 0 crawlers)))))
 
 -- ---- all
 

@@ -1,5 +1,5 @@
 //! Known crawlers: which group the vendor of each applies to it, and which one a similar name may mean.
-ghost use Rattle.std.specs.Prelude.{◌≡◌, [], IfOk, OnOk, map, option_map, slice_index_or, string_bytes};
+ghost use Rattle.std.specs.Prelude.{◌≡◌, ◌++◌, [], IfOk, OnOk, map, option_map, slice_index_or, string_bytes};
 ghost use Rattle.std.specs.List.{list_any, position_from};
 ghost use Rattle.std.specs.Str.{str_eq_ignore_ascii_case};
 ghost use Rattle.texting_robots.specs.Callers.{by_value, file_lines, label_by_value};
@@ -410,7 +410,7 @@ fn warn_of_name<'a>(
 }
 
 /// Appends the warnings about the names in user-agent lines.
-pub(crate) fn warn_of_names(
+fn warn_of_names(
     alloc: Global,
     found: &mut Found<'_>,
     labels: &[LabeledLine<'_>],
@@ -444,7 +444,7 @@ fn warn_of_agent<'a>(
 }
 
 /// Appends the warnings about the names of those of these crawlers that the file doesn't name.
-pub(crate) fn warn_of_agents<'a>(
+fn warn_of_agents<'a>(
     alloc: Global,
     found: &mut Found<'a>,
     site: &Site,
@@ -457,6 +457,21 @@ pub(crate) fn warn_of_agents<'a>(
         warn_of_agent(alloc, found, site, agent)?;
     }
     Ok(())
+}
+
+/// Appends both.
+pub(crate) fn warn_of_all_names<'a>(
+    alloc: Global,
+    found: &mut Found<'a>,
+    site: &Site,
+    agents: &[&'a str],
+    labels: &[LabeledLine<'_>],
+) -> Result<(), AllocError>
+    ensures { OnOk result (Adds found.old.items found.new.items (name_warnings (map label_by_value labels.now)
+        ++ agent_warnings (file_lines site.now) (map (λ agent. agent.now) agents.now))) }
+{
+    warn_of_names(alloc, found, labels)?;
+    warn_of_agents(alloc, found, site, agents)
 }
 
 /// Appends the warning about the known crawler at this index, if it is among these and its vendor applies another group.

@@ -19,7 +19,7 @@ use crate::checks::{
 use crate::closed::warn_of_closed;
 use crate::conflicts::{RuleLines, rule_lines};
 use crate::contents::{has_odd_delay, has_odd_space, split_content};
-use crate::crawlers::{crawlers, warn_of_agents, warn_of_names, warn_of_vendors};
+use crate::crawlers::{crawlers, warn_of_all_names, warn_of_vendors};
 use crate::empty_disallows::empty_disallows;
 use crate::facts::{FileFacts, suppresses_line_warnings};
 use crate::field_names::{is_without_colon, meant_by};
@@ -400,8 +400,7 @@ fn warn_of_groups<'a>(
     warn_at(found, Cause::ReplacesStar, detail, &replacing)?;
     let repeated = repeated(alloc, everywhere, labels)?;
     warn_at(found, Cause::RepeatedRule, None, &repeated)?;
-    warn_of_names(alloc, found, labels)?;
-    warn_of_agents(alloc, found, site, agents)?;
+    warn_of_all_names(alloc, found, site, agents, labels)?;
     warn_of_vendors(found, everywhere, site, agents, crawlers())
 }
 
