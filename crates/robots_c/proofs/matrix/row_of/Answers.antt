@@ -5,5 +5,5 @@ use Rattle.robots_c.proofs.matrix.row_of.Goals as goal
 pub results_on-requires : goal.results_on-requires
 results_on-requires c = site_lines_fit _ c.args.agent.now _ c.requires c.in-Ok.ensures.robot
 
-pub returns-in-Ok : goal.returns-in-Ok
-returns-in-Ok c = inl (_, c.in-Ok.ensures.robot.1.1, c.in_ok-row.ensures)
+pub returns-in_ok-row-in-Ok : goal.returns-in_ok-row-in-Ok
+returns-in_ok-row-in-Ok c = inl (_, c.in-Ok.ensures.robot.2, c.in_ok-row-in-Ok.ensures)
