@@ -228,8 +228,36 @@ pub fn labeling_agent<'a>(agent: Option<&'a str>) -> &'a str
     }
 }
 
-/// All warnings about the file and the request, then those about these needless rules, and then those about the
-/// sitemaps that the rules for `*` deny. `facts` and `labels` are those of this file.
+/// All warnings about the file and the request, and then those about these needless rules. `facts` and `labels` are
+/// those of this file.
+fn warnings_of<'a>(
+    alloc: Global,
+    request: &Request<'a>,
+    agents: &[&'a str],
+    file: &[u8],
+    facts: FileFacts,
+    labels: &[LabeledLine<'_>],
+    site: &Site,
+    needless: &[NeedlessRule],
+) -> Result<Vec<Warning<'a>>, AllocError>
+    ensures { IfOk result (λ found. found.items
+        ≡ warnings (is_none (requested_by request.now).agent) (map (λ agent. agent.now) agents.now)
+        (requested_by request.now).urls file.now facts (map label_by_value labels.now) (file_lines site.now)
+        ++ map needless_warning needless.now) }
+{
+    let everywhere = request.agent.is_none();
+    let read = FileRead {
+        bytes: file,
+        facts,
+        labels,
+        site,
+    };
+    let mut found = warnings(alloc, everywhere, agents, &request.urls, &read)?;
+    add_needless(&mut found, needless)?;
+    Ok(found)
+}
+
+/// These warnings, and then those about the sitemaps that the rules for `*` deny.
 fn all_warnings<'a>(
     alloc: Global,
     request: &Request<'a>,
@@ -248,15 +276,7 @@ fn all_warnings<'a>(
         (map label_by_value labels.now) (file_lines site.now) ++ map needless_warning needless.now) ++ sitemaps)) }
     ensures fault { IfErr result (λ fault. fault ≡ Fault.Memory) }
 {
-    let read = FileRead {
-        bytes: file,
-        facts,
-        labels,
-        site,
-    };
-    let everywhere = request.agent.is_none();
-    let mut found = warnings(alloc, everywhere, agents, &request.urls, &read)?;
-    add_needless(&mut found, needless)?;
+    let mut found = warnings_of(alloc, request, agents, file, facts, labels, site, needless)?;
     warn_of_sitemaps(alloc, &mut found, file, labels, site)?;
     Ok(found)
 }

@@ -3,4 +3,4 @@ use Rattle.audit_core.proofs.audit.all_warnings.Goals as goal
 pub returns-clause-ok : goal.returns-clause-ok
 returns-clause-ok c =
     let (sitemaps, are, added) = c.in_ok-warn_of_sitemaps.ensures.ok in
-    (sitemaps, are, rw (c.in_ok-add_needless.ensures, c.in_ok-found.ensures) at added)
+    (sitemaps, are, rw c.in_ok-found.ensures at added)
