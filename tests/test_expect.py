@@ -76,7 +76,7 @@ NAMES_IN_QUOTES = {
     "with a space": (b'allow "Some Bot" /a', "Some Bot must be allowed /a, but line 2 denies it"),
     "in another case": (b'deny\t"some bot"\t/a\r', None),
     "without a space": (b'allow "Ferris" /a', None),
-    "two spaces, which are another name": (b'allow "Some  Bot" /a', "Some  Bot must be allowed /a, but no group and no known crawler has this name; did you mean Some Bot?"),
+    "two spaces, which are another name": (b'allow "Some  Bot" /a', None),
     "a quotation mark in the URL": (b'allow "Some Bot" /b"c', None),
     "two of them in a URL": (b'allow Ferris /"b"', None),
 }

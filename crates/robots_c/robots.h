@@ -50,7 +50,8 @@
  * and a site one that robots_site_open or robots_site_share opened; each is closed once, when no call uses it, in any order. Robots and
  * sites don't need each other, nor the texts that they were opened with. No call keeps a pointer to a text.
  *
- * PROOF. crates/robots_c/src has a contract for each call, from the file's bytes to every number written. That NULL and
+ * PROOF. crates/robots_c/src has a contract for each call, from the file's bytes to every number written; of robots_bytes and
+ * robots_site_bytes it has only a lower bound, and tests compare them with malloc. That NULL and
  * uninitialized outputs are allowed isn't in the contracts: bindings/c/robots.c replaces NULL by an address, and single outputs by
  * variables of its own, and that is tested. docs/PROOFS.md states what is proved and what is tested. The compiled library is for Linux on
  * x86-64-v2 processors (SSE4.2, POPCNT). */

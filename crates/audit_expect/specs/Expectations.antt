@@ -11,9 +11,9 @@ use Rattle.printable_text.specs.{Lines.ended, Sanitize.sanitized}
 use Rattle.printable_text.specs.declared.level.Level.TheVariants.{Error}
 use Rattle.printable_text.specs.Text.{Count, Label, Number, Part, PartValue, ReportLine, Untrusted}
 use Rattle.printable_text.specs.Text.{label, line_from, line_text, only}
-use Rattle.robots_warnings.specs.Crawlers.{name_meant, other_group}
+use Rattle.robots_warnings.specs.Crawlers.{other_group}
 use Rattle.audit_expect.specs.declared.checks.{AtVendor.AtVendor, Judgment.Judgment}
-use Rattle.audit_expect.specs.declared.checks.AtVendor.TheVariants.{Group, Misnamed, Nobody, Same}
+use Rattle.audit_expect.specs.declared.checks.AtVendor.TheVariants.{Group, Nobody, Same}
 use Rattle.audit_expect.specs.declared.checks.Judgment.TheVariants.{Decided, Rejected}
 use Rattle.audit_core.specs.Findings.{After, FindingValue, Found, found_value}
 use Rattle.audit_core.specs.{Asked.asked_target, Texts.rejected_front, Texts.rejected_line_part}
@@ -34,15 +34,12 @@ IsJudgmentOn file agent url (Decided decision other normal) =
     × IsNormalDecision (bodies_read file) rules (asked_target url) normal
 
 -- which group the vendor of the crawler applies: the one that applies here; or the one with this name, for
--- which this is the judgment, as names are compared here; or none, so everything is allowed; or another
--- crawler is probably meant, which has this name
+-- which this is the judgment, as names are compared here; or none, so everything is allowed
 abbrev pub IsAtVendor : List ℕ → List ℕ → List ℕ → AtVendor → Type 0
-IsAtVendor file agent url Same =
-    (other_group (lines_read file) agent ≡ None) × (name_meant (lines_read file) agent ≡ None)
+IsAtVendor file agent url Same = other_group (lines_read file) agent ≡ None
 IsAtVendor file agent url (Group name judgment) =
     (other_group (lines_read file) agent ≡ Some name.now) × IsJudgmentOn file name.now url judgment
 IsAtVendor file agent url Nobody = other_group (lines_read file) agent ≡ Some []
-IsAtVendor file agent url (Misnamed name) = name_meant (lines_read file) agent ≡ Some name.now
 
 -- an expectation and what the file says, here and at the vendor of its crawler
 pub record CheckedValue : Type 0 where
@@ -69,12 +66,11 @@ abbrev pub fails_here : CheckedValue → Bool
 fails_here checked = fails_at checked.expectation.allowed checked.judgment
 
 -- the same of the group that the vendor applies in its place, if it is another one; with none everything is
--- allowed; of a crawler that isn't meant nothing is expected
+-- allowed
 abbrev pub fails_at_vendor : Bool → AtVendor → Bool
 fails_at_vendor allowed Same = false
 fails_at_vendor allowed (Group name judgment) = fails_at allowed judgment
 fails_at_vendor allowed Nobody = not allowed
-fails_at_vendor allowed (Misnamed name) = true
 
 -- an expectation fails for one of these reasons
 abbrev pub fails : CheckedValue → Bool
@@ -134,19 +130,12 @@ group_parts name =
 abbrev pub nobody_parts : List PartValue
 nobody_parts = only (codes "its vendor doesn't apply the group * to it") refl ∷ []
 
--- which name is probably meant
-abbrev pub misnamed_parts : List ℕ → List PartValue
-misnamed_parts name =
-    Part (label (codes "no group and no known crawler has this name; did you mean ") refl) (Untrusted name)
-    ∷ only (codes "?") refl ∷ []
-
 -- the group, and what it says
 abbrev pub vendor_parts : List ℕ → Bool → AtVendor → List PartValue
 vendor_parts url allowed Same = []
 vendor_parts url allowed (Group name judgment) =
     group_parts name.now ++ judgment_parts name.now url allowed judgment
 vendor_parts url allowed Nobody = nobody_parts
-vendor_parts url allowed (Misnamed name) = misnamed_parts name.now
 
 -- why an expectation fails
 abbrev pub reason_parts : CheckedValue → List PartValue

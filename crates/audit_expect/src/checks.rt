@@ -11,7 +11,7 @@ use crate::other_reading::{normal_decision, other_decision};
 use audit_core::asked::decision_on;
 use audit_core::audit::{Reading, read_for};
 use audit_core::fault::Fault;
-use robots_warnings::crawlers::{name_meant, other_group};
+use robots_warnings::crawlers::other_group;
 use std::alloc::Global;
 use texting_robots::robot::Decision;
 use texting_robots::{Robot, Site};
@@ -34,8 +34,6 @@ pub(crate) enum AtVendor<'a> {
     Group(&'a str, Judgment),
     /// No group, so everything is allowed.
     Nobody,
-    /// That isn't known, as the name is misspelled: probably this one is meant.
-    Misnamed(&'a str),
 }
 
 /// An expectation, and what the file says about it here and at the vendor of its crawler.
@@ -105,10 +103,7 @@ fn at_vendor<'a>(
     ensures fault { IfErr result (λ fault. fault ≡ Fault.Memory) }
 {
     let Some(group) = other_group(site, agent) else {
-        return Ok(match name_meant(alloc, site, agent)? {
-            Some(name) => AtVendor::Misnamed(name),
-            None => AtVendor::Same,
-        });
+        return Ok(AtVendor::Same);
     };
     if group.is_empty() {
         return Ok(AtVendor::Nobody);
@@ -169,7 +164,7 @@ fn fails_at(allowed: bool, judgment: &Judgment) -> bool
     }
 }
 
-/// Whether the same is so of the group that the vendor applies, if it is another one, or it isn't known.
+/// Whether the same is so of the group that the vendor applies, if it is another one.
 fn fails_at_vendor(allowed: bool, vendor: &AtVendor<'_>) -> bool
     ensures { result ≡ fails_at_vendor allowed vendor.now }
 {
@@ -177,7 +172,6 @@ fn fails_at_vendor(allowed: bool, vendor: &AtVendor<'_>) -> bool
         AtVendor::Same => false,
         AtVendor::Group(_, judgment) => fails_at(allowed, judgment),
         AtVendor::Nobody => !allowed,
-        AtVendor::Misnamed(_) => true,
     }
 }
 

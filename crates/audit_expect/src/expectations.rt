@@ -10,8 +10,8 @@ ghost use Rattle.audit_core.specs.Internal.{IsReading};
 ghost use Rattle.audit_expect.specs.declared.checks.Judgment.TheVariants.{Decided};
 ghost use Rattle.audit_expect.specs.Expect.{IsEntryFault, expectations_in as specified_in};
 ghost use Rattle.audit_expect.specs.Expectations.{IsReport, decision_parts, demand, demand_parts, failure};
-ghost use Rattle.audit_expect.specs.Expectations.{failures, group_parts, holding, judgment_parts, misnamed_parts};
-ghost use Rattle.audit_expect.specs.Expectations.{nobody_parts, place, placed, reason_parts, rejected_parts, result_lines};
+ghost use Rattle.audit_expect.specs.Expectations.{failures, group_parts, holding, judgment_parts, nobody_parts};
+ghost use Rattle.audit_expect.specs.Expectations.{place, placed, reason_parts, rejected_parts, result_lines};
 ghost use Rattle.audit_expect.specs.Expectations.{unmatched, vendor_parts};
 ghost use Rattle.audit_expect.specs.Internal.Expect.{expectation_value};
 ghost use Rattle.audit_expect.specs.Internal.Expectations.{AreFailuresOn, IsReadFor, checked_value};
@@ -218,19 +218,6 @@ fn nobody_parts() -> [Part<'static>; 1]
     [Part("its vendor doesn't apply the group * to it", Value::Nothing)]
 }
 
-/// Which name is probably meant.
-fn misnamed_parts<'a>(name: &'a str) -> [Part<'a>; 2]
-    ensures { raw_line result ≡ parts_text (misnamed_parts name.entry.now) }
-{
-    [
-        Part(
-            "no group and no known crawler has this name; did you mean ",
-            Value::Untrusted(name.as_bytes()),
-        ),
-        Part("?", Value::Nothing),
-    ]
-}
-
 /// Appends which group the vendor applies, and what it says.
 fn push_vendor(
     alloc: Global,
@@ -247,7 +234,6 @@ fn push_vendor(
         AtVendor::Same => Ok(()),
         AtVendor::Group(name, judgment) => push_group(alloc, text, name, url, allowed, judgment),
         AtVendor::Nobody => Ok(push_parts(text, &nobody_parts())?),
-        AtVendor::Misnamed(name) => Ok(push_parts(text, &misnamed_parts(name))?),
     }
 }
 

@@ -23,7 +23,7 @@ use std::alloc::{AllocError, Global};
 
 /// The end of the help.
 const AFTER_HELP: &str = "\
-With --expect, give only FILE; with --compare only FILE, URLs, --urls and --agent; with both also --json or
+With --expect, give only FILE; with --compare only FILE, URLs, --urls and --agent; with either also --json or
 --format; with --list-warnings or --explain nothing else. With --denied, give URLs or --urls.
 
 Exit status, the first that applies:

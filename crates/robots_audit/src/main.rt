@@ -12,7 +12,7 @@
 //! With `--list-warnings` or `--explain` it writes what warnings there are, or what one means, and reads nothing.
 //!
 //! With `--expect` it checks instead whether crawlers may fetch what a file of expectations says, and writes a line for
-//! each that fails, or how many hold if none fails. Both can also be written as JSON and as annotations.
+//! each that fails, or how many hold if none fails. What these two write can also be JSON and annotations.
 //!
 //! The exit status is 0 if every URL is allowed, all expectations hold or nothing differs, and 1 if not; but with
 //! `--strict` 3 if there is a warning at its level or a more serious one; and 2 after an error, or if the file is rejected
