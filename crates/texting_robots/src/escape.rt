@@ -17,6 +17,9 @@ pub(crate) fn escaped<'a>(alloc: Global, text: &'a str) -> Result<CowStr<'a, Glo
     ensures ok { IfOk result (λ s. cow_str_bytes s ≡ escaped text.now) }
     ensures without_memory { All (λ b. is_escaped b ≡ false) text.now → IsOk result }
 {
+    if !holds_escaped(text.as_bytes()) {
+        return Ok(CowStr::Borrowed(text));
+    }
     utf8_percent_encode(text, ESCAPED).into_cow(alloc)
 }
 
