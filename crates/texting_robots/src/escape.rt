@@ -12,11 +12,17 @@ use std::simd::prelude::*;
 /// The ASCII bytes that are escaped.
 const ESCAPED: AsciiSet = ascii_set!(CONTROLS.add(b' ').add(b'"').add(b'<').add(b'>').add(b'`'));
 
+/// From this length on, bytes are tested by a loop that the compiler vectorizes.
+const MANY_BYTES: usize = 128;
+
 /// The string with each byte of `ESCAPED` and each non-ASCII byte escaped. It is borrowed if there is no such byte.
 pub(crate) fn escaped<'a>(alloc: Global, text: &'a str) -> Result<CowStr<'a, Global>, AllocError>
     ensures ok { IfOk result (λ s. cow_str_bytes s ≡ escaped text.now) }
     ensures without_memory { All (λ b. is_escaped b ≡ false) text.now → IsOk result }
 {
+    if !holds_escaped(text.as_bytes()) {
+        return Ok(CowStr::Borrowed(text));
+    }
     utf8_percent_encode(text, ESCAPED).into_cow(alloc)
 }
 
@@ -41,6 +47,22 @@ fn holds_escaped_among(bytes: &[u8]) -> bool
         holds |= is_escaped(*byte);
     }
     holds
+}
+
+/// Whether one of four bytes is escaped.
+#[inline(always)]
+fn four_hold_escaped(bytes: &[u8]) -> bool
+    requires { length bytes.now ≡ 4 }
+    ensures { result ≡ list_any is_escaped bytes.now }
+{
+    let bytes = u8x4::from_slice(bytes);
+    let escaped = bytes.simd_lt(u8x4::splat(b'!'))
+        | bytes.simd_eq(u8x4::splat(b'"'))
+        | bytes.simd_eq(u8x4::splat(b'<'))
+        | bytes.simd_eq(u8x4::splat(b'>'))
+        | bytes.simd_eq(u8x4::splat(b'`'))
+        | bytes.simd_gt(u8x4::splat(b'~'));
+    escaped.any()
 }
 
 /// Whether one of eight bytes is escaped.
@@ -75,24 +97,29 @@ fn sixteen_hold_escaped(bytes: &[u8]) -> bool
     escaped.any()
 }
 
-/// Whether some of at most 32 bytes is escaped. Eight or more are tested as two parts of equal length, which may
+/// Whether some of at most 32 bytes is escaped. Four or more are tested as two parts of equal length, which may
 /// overlap.
 fn few_hold_escaped(bytes: &[u8]) -> bool
     ensures { result ≡ list_any is_escaped bytes.now }
 {
     let len = bytes.len();
     match len {
+        4..8 => four_hold_escaped(&bytes[..4]) || four_hold_escaped(&bytes[len - 4..]),
         8..16 => eight_hold_escaped(&bytes[..8]) || eight_hold_escaped(&bytes[len - 8..]),
         16..=32 => sixteen_hold_escaped(&bytes[..16]) || sixteen_hold_escaped(&bytes[len - 16..]),
         _ => holds_escaped_among(bytes),
     }
 }
 
-/// Whether some byte is escaped. More than 32 bytes are tested sixteen at a time.
+/// Whether some byte is escaped. More than 32 bytes are tested sixteen at a time, with an early exit, and more than
+/// `MANY_BYTES` all at once.
 #[inline(never)]
 pub(crate) fn holds_escaped(bytes: &[u8]) -> bool
     ensures { result ≡ list_any is_escaped bytes.now }
 {
+    if bytes.len() > MANY_BYTES {
+        return holds_escaped_among(bytes);
+    }
     let mut rest = bytes;
     while rest.len() > 32 {
         if sixteen_hold_escaped(&rest[..16]) {

@@ -1,7 +1,12 @@
-use Rattle.std.proofs.Common.{◌∙◌, Err, Ok, refl}
+use Rattle.std.proofs.Common.{◌∙◌, Err, Ok, refl, sym}
 use Rattle.std.specs.{Prelude.IsOk, Prelude.IsOkAnd, Cow.IsBorrowedStr}
-use Rattle.texting_robots.proofs.EscapeLemmas.{same_escape, same_test}
+use Rattle.texting_robots.proofs.EscapeLemmas.{plain_stays, same_escape, same_test}
 use Rattle.texting_robots.proofs.escape.escaped.Goals as goal
+
+pub returns-then-not-holds_escaped-clause-ok : goal.returns-then-not-holds_escaped-clause-ok
+returns-then-not-holds_escaped-clause-ok c =
+    let plain = rw c.as_bytes.ensures.value at (sym c.holds_escaped.ensures ∙ c.if-not-holds_escaped.true) in
+    sym (plain_stays c.args.text.now plain)
 
 pub returns-clause-ok : goal.returns-clause-ok
 returns-clause-ok c =

@@ -3,6 +3,12 @@ use Rattle.texting_robots.specs.Escape.{is_escaped}
 use Rattle.texting_robots.proofs.RegionLemmas.{either_end, front_tells}
 use Rattle.texting_robots.proofs.escape.few_hold_escaped.Goals as goal
 
+pub returns-else-four_hold_escaped : goal.returns-else-four_hold_escaped
+returns-else-four_hold_escaped c =
+    c.four_hold_escaped-else-four_hold_escaped.ensures
+    ∙ either_end is_escaped c.args.bytes.now 4 (omega arith) (omega arith)
+    (sym c.four_hold_escaped.ensures ∙ c.if-four_hold_escaped.false)
+
 pub returns-else-eight_hold_escaped : goal.returns-else-eight_hold_escaped
 returns-else-eight_hold_escaped c =
     c.eight_hold_escaped-else-eight_hold_escaped.ensures

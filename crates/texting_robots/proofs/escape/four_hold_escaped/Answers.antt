@@ -1,0 +1,21 @@
+use Rattle.std.proofs.Common.{ℕ, ◌∙◌, ap, arith, cond}
+use Rattle.std.specs.List.{list_any}
+use Rattle.std.proofs.lemmas.List.{take_all}
+use Rattle.std.proofs.lemmas.Simd.{length-chunk, zip2_of_maps, zip2_splat, zip2_splat_left}
+use lib.Dec.{ltb}
+use lib.Lanes.{chunk}
+use Rattle.texting_robots.specs.Escape.{is_escaped}
+use Rattle.texting_robots.proofs.LaneLemmas.{escaped_lane}
+use Rattle.texting_robots.proofs.escape.four_hold_escaped.Goals as goal
+
+pub returns : goal.returns
+returns c =
+    let v = chunk 0 4 c.args.bytes.now in
+    let long = length-chunk 0 4 c.args.bytes.now (omega (arith, c.requires)) in
+    escaped_lane v _ (omega (arith, long))
+    (zip2_of_maps _ _ _ v (zip2_of_maps _ _ _ v (zip2_of_maps _ _ _ v
+    (zip2_of_maps _ _ _ v (zip2_of_maps _ _ _ v
+    (zip2_splat _ v 4 0x21 long) (zip2_splat _ v 4 0x22 long)) (zip2_splat _ v 4 0x3C long))
+    (zip2_splat _ v 4 0x3E long)) (zip2_splat _ v 4 0x60 long))
+    (zip2_splat_left (λ (x y : ℕ). cond (ltb x y) 255 0) 0x7E 4 v long))
+    ∙ ap (list_any is_escaped) (take_all 4 c.args.bytes.now (omega (arith, c.requires)))
