@@ -116,16 +116,3 @@ meant value =
 abbrev pub meant_in : LineValue → Option ℕ
 meant_in (UserAgent value) = meant value
 meant_in _ = None
-
--- the value of the first user-agent line that is a text to which this name is near
-abbrev pub first_near : List ℕ → List LineValue → Option (List ℕ)
-first_near agent [] = None
-first_near agent (UserAgent value ∷ lines) =
-    if is_utf8 value && is_near agent value then Some value else first_near agent lines
-first_near agent (line ∷ lines) = first_near agent lines
-
--- the name of a group, or else of a known crawler, that is probably meant by this one, which neither has
-abbrev pub name_meant : List LineValue → List ℕ → Option (List ℕ)
-name_meant lines agent =
-    if is_named agent lines || is_known agent then None
-    else option_or (first_near agent lines) (option_map (λ number. (row_at number).0) (meant agent))

@@ -3,10 +3,10 @@ ghost use Rattle.std.specs.Prelude.{◌≡◌, ◌++◌, [], IfOk, OnOk, map, op
 ghost use Rattle.std.specs.List.{list_any, position_from};
 ghost use Rattle.std.specs.Str.{str_eq_ignore_ascii_case};
 ghost use Rattle.texting_robots.specs.Callers.{by_value, file_lines, label_by_value};
-ghost use Rattle.robots_warnings.specs.Crawlers.{crawlers, first_at_vendor, first_near, gets_other};
+ghost use Rattle.robots_warnings.specs.Crawlers.{crawlers, first_at_vendor, gets_other};
 ghost use Rattle.robots_warnings.specs.Crawlers.{group_at_vendor, is_given, is_known, is_meant, is_near};
 ghost use Rattle.robots_warnings.specs.Crawlers.{is_row_of, meant, meant_in, most_edits, name_at_vendor};
-ghost use Rattle.robots_warnings.specs.Crawlers.{name_for, name_meant, other_group};
+ghost use Rattle.robots_warnings.specs.Crawlers.{name_for, other_group};
 ghost use Rattle.robots_warnings.specs.Crawlers.{row_at, value_at_vendor, wrong_names};
 ghost use Rattle.robots_warnings.specs.Internal.{Adds, row_value};
 ghost use Rattle.robots_warnings.specs.Warnings.{agent_warning, agent_warnings, name_warnings, vendor_warning};
@@ -346,44 +346,6 @@ pub(crate) fn meant_in(alloc: Global, line: Line<'_>) -> Result<Option<usize>, A
     match line {
         Line::UserAgent(value) => meant(alloc, value),
         _ => Ok(None),
-    }
-}
-
-/// The value of the first user-agent line that is a text to which this name is near.
-fn first_near<'a>(alloc: Global, site: &'a Site, agent: &str) -> Result<Option<&'a str>, AllocError>
-    ensures { IfOk result (λ found. option_map (λ name. name.now) found ≡ first_near agent.now (file_lines site.now)) }
-{
-    for line in file_lines(site.text()) {
-        let Line::UserAgent(value) = line else {
-            continue;
-        };
-        let Some(name) = as_text(value) else {
-            continue;
-        };
-        if is_near(alloc, agent.as_bytes(), name)? {
-            return Ok(Some(name));
-        }
-    }
-    Ok(None)
-}
-
-/// The name of a group, or else of a known crawler, that is probably meant by this one, which neither has.
-pub fn name_meant<'a>(
-    alloc: Global,
-    site: &'a Site,
-    agent: &str,
-) -> Result<Option<&'a str>, AllocError>
-    ensures { IfOk result (λ found. option_map (λ name. name.now) found ≡ name_meant (file_lines site.now) agent.now) }
-{
-    if site.is_named(agent) || is_known(agent.as_bytes()) {
-        return Ok(None);
-    }
-    if let Some(name) = first_near(alloc, site, agent)? {
-        return Ok(Some(name));
-    }
-    match meant(alloc, agent.as_bytes())? {
-        Some(number) => Ok(Some(row_at(number).0)),
-        None => Ok(None),
     }
 }
 
