@@ -1,22 +1,170 @@
--- The decisions on URLs, and the sitemaps, that only one of the files has.
-use Rattle.std.proofs.Common.{◌≡◌, ◌∙◌, ℕ, zero, suc, ◌+◌, ◌<◌, ◌||◌, Bool, Bor, List, [], ◌∷◌, ◌++◌, ap}
-use Rattle.std.proofs.Common.{append-nil, append_assoc, arith, bytes_eq, cond, drop, flat_map, length, map}
-use Rattle.std.proofs.Common.{not, refl, slice_index_or, string_bytes, subst, sym, take, true}
-use Rattle.std.specs.Prelude.{if◌then◌else◌}
-use Rattle.std.specs.BTreeSet.{BTreeSet, Updates, contains}
-use Rattle.std.proofs.Math.Seq.{drop-nil}
-use Rattle.std.proofs.lemmas.{List.drop_more, List.map-append, List.map_more, Map.Text.is_eq-slice_cmp}
-use Rattle.std.proofs.lemmas.{List.take_more, List.Concat.flat_map-append, Simd.map-map}
-use Rattle.printable_text.specs.Text.{line_text}
-use Rattle.texting_robots.specs.Callers.{PlacedRule}
+-- What a comparison finds: decisions, sitemaps and rules.
+use Rattle.std.proofs.Common.{◌≡◌, ◌∙◌, ◌↔◌, ◌||◌, ℕ, zero, suc, Bool, true, false, List, [], ◌∷◌, Contains}
+use Rattle.std.proofs.Common.{None, Option, Some, ap, arith, not, refl, ⊎_elim, subst, ◌==◌, if◌then◌else◌}
+use Rattle.std.proofs.Common.{length, sym, ◌+◌, ◌<◌, Bor, ◌++◌, append-nil, append_assoc, bytes_eq, cond, map}
+use Rattle.std.proofs.Common.{drop, flat_map, slice_index_or, string_bytes, take}
+use Rattle.std.proofs.Math.{Bool.beq, Seq.drop-nil}
+use Rattle.std.specs.{List.AllZip, BTreeSet.BTreeSet, BTreeSet.Updates, BTreeSet.contains}
+use Rattle.std.proofs.lemmas.{Bool.and_parts, Bool.or_cases, Grind.common_steps, Slice.Eq.bytes_eq-Decides}
+use Rattle.std.proofs.lemmas.{List.map_more, Map.Text.is_eq-slice_cmp, List.take_more, Simd.map-map}
+use Rattle.std.proofs.lemmas.List.{Folds.Any-from_list_any, drop_more, map-append, Concat.flat_map-append}
+use Rattle.texting_robots.specs.Callers.{IsDenied, IsVerdict, LineValue, PlacedRule, Rule, placed_rules}
+use Rattle.texting_robots.specs.Callers.{rules_for, unplaced}
+use Rattle.texting_robots.specs.{Decision.IsDecisionOn, declared.decision.Decision.Decision}
+use Rattle.texting_robots.proofs.{VerdictLemmas.one_verdict}
+use Rattle.audit_core.specs.{Asked.asked_target, Findings.FindingValue, Findings.finding_value}
+use Rattle.audit_core.specs.Audit.{IsRuling, IsVerdictOn, VerdictValue}
+use Rattle.audit_core.proofs.{AuditLemmas.none_of}
+use Rattle.audit_compare.specs.Compare.{ComparedValue, IsCompared, has_rule, has_same_rules, is_same_decision}
+use Rattle.audit_compare.specs.Compare.{is_same_rule, is_unchanged, rules_lacked, rules_only_in, url_changes}
+use Rattle.audit_compare.specs.Compare.{Difference, crawler_changes, finding_of, is_listed, new_texts}
+use Rattle.printable_text.specs.{Text.line_text}
 use Rattle.robots_warnings.specs.Internal.Names.{Key, key_cmp}
-use Rattle.robots_warnings.proofs.NameLemmas.{any_last, either}
-use Rattle.audit_core.specs.declared.findings.Finding.{Finding}
-use Rattle.audit_core.specs.{Audit.VerdictValue, Findings.FindingValue, Findings.finding_value}
-use Rattle.audit_compare.specs.Compare.{ComparedValue, Difference, crawler_changes, finding_of, is_listed}
-use Rattle.audit_compare.specs.Compare.{new_texts, url_changes}
+use Rattle.robots_warnings.proofs.ClosedLemmas.{any_last, either}
+use Rattle.audit_core.specs.declared.findings.{Finding.Finding}
 use Rattle.audit_compare.specs.Internal.Compare.{Adds, AddsText}
-use Rattle.audit_compare.proofs.RuleSetLemmas.{no_verdicts}
+
+-- ---- Rules that other rules lack, and the verdicts by the same rules.
+
+-- ---- verdicts
+
+-- all rules of the first list are in the second
+abbrev Includes : List Rule → List Rule → Type 0
+Includes rules others = (rule : Rule) → Contains rules rule → Contains others rule
+
+denied_alike : (rules others : List Rule) (text : List ℕ) → Includes rules others → Includes others rules
+    → IsDenied rules text → IsDenied others text
+denied_alike rules others text there back (other, pattern, has, matches, longer) = (
+  other,
+  pattern,
+  there (pattern, false) has,
+  matches,
+  λ q is. longer q (back (q, true) is),
+)
+
+verdict_alike : (rules others : List Rule) (text : List ℕ) (allowed : Bool) → Includes rules others
+    → Includes others rules → IsVerdict rules text allowed → IsVerdict others text allowed
+verdict_alike rules others text true there back allows =
+    λ denied. allows (denied_alike others rules text back there denied)
+verdict_alike rules others text false there back denied = denied_alike rules others text there back denied
+
+same_rule : (one other : Rule) → is_same_rule one other ≡ true → one ≡ other
+same_rule (pattern, true) (text, true) is = ap (λ bytes. (bytes, true)) ((bytes_eq-Decides pattern text).0 is)
+same_rule (pattern, true) (text, false) is = absurd (cc)
+same_rule (pattern, false) (text, true) is = absurd (cc)
+same_rule (pattern, false) (text, false) is =
+    ap (λ bytes. (bytes, false)) ((bytes_eq-Decides pattern text).0 is)
+
+has_in : (rules : List PlacedRule) (rule : Rule) → has_rule rules rule ≡ true → Contains (unplaced rules) rule
+has_in rules rule is =
+    let found = Any-from_list_any (λ (placed : PlacedRule). is_same_rule placed.rule rule) rules is in
+    let same : found.1.rule ≡ rule = same_rule found.1.rule rule found.4 in
+    subst (Contains (unplaced rules)) same (found.0, grind (arith, common_steps), grind (arith, common_steps))
+
+none_lacked : (others rules : List PlacedRule) → rules_lacked others rules ≡ []
+    → Includes (unplaced rules) (unplaced others)
+none_lacked others [] none rule (k, below, at) = absurd (omega arith)
+none_lacked others (first ∷ rules) none rule has =
+    by (has_rule others first.rule) refl none has (λ none. none_lacked others rules none rule)
+  where
+    by : (found : Bool) → has_rule others first.rule ≡ found
+        → (if not found then first ∷ rules_lacked others rules else rules_lacked others rules) ≡ []
+        → Contains (unplaced (first ∷ rules)) rule
+        → (rules_lacked others rules ≡ [] → Contains (unplaced rules) rule → Contains (unplaced others) rule)
+        → Contains (unplaced others) rule
+    by false lacked none has later = absurd (cc)
+    by true found none (zero, below, at) later =
+        subst (Contains (unplaced others)) at (has_in others first.rule found)
+    by true found none (suc k, below, at) later = later none (k, omega arith, at)
+
+-- a crawler that has the same rules in both files gets the same verdicts
+pub same_rules_decide_alike : (agent : List ℕ) (older newer : List LineValue) (text : List ℕ) (allowed : Bool)
+    → rules_only_in older newer agent ≡ [] → rules_only_in newer older agent ≡ []
+    → IsVerdict (rules_for agent older) text allowed ↔ IsVerdict (rules_for agent newer) text allowed
+same_rules_decide_alike agent older newer text allowed removed added =
+    let before = rules_for agent older in
+    let after = rules_for agent newer in
+    let there : Includes before after =
+    none_lacked (placed_rules agent newer) (placed_rules agent older) removed in
+    let back : Includes after before =
+    none_lacked (placed_rules agent older) (placed_rules agent newer) added in
+    (verdict_alike before after text allowed there back, verdict_alike after before text allowed back there)
+
+-- ---- what a report says
+
+unchanged_has_same : (compared : ComparedValue) → is_unchanged compared ≡ true
+    → has_same_rules compared ≡ true
+unchanged_has_same compared is = (and_parts _ (has_same_rules compared) is).1
+
+-- no rule was removed, and none was added
+neither : (compared : ComparedValue) → has_same_rules compared ≡ true
+    → (compared.removed ≡ []) × (compared.added ≡ [])
+neither compared same =
+    let none = and_parts (length compared.removed == 0) (length compared.added == 0) same in
+    (none_of compared.removed none.0, none_of compared.added none.1)
+
+beq_self : (b : Bool) → beq b b ≡ true
+beq_self true = refl
+beq_self false = refl
+
+pub no_verdicts : (removed added : List PlacedRule) (older : List VerdictValue)
+    → url_changes removed added older [] ≡ []
+no_verdicts removed added [] = refl
+no_verdicts removed added (_ ∷ _) = refl
+
+module _ (urls : List (List ℕ)) (older newer : List LineValue) (agent : List ℕ) (compared : ComparedValue)
+    (is : IsCompared urls older newer agent compared) where
+  alike : (text : List ℕ) (allowed : Bool) → has_same_rules compared ≡ true
+      → IsVerdict (rules_for agent older) text allowed ↔ IsVerdict (rules_for agent newer) text allowed
+  alike text allowed same =
+      let none = neither compared same in
+      same_rules_decide_alike agent older newer text allowed (sym is.removed_are ∙ none.0)
+      (sym is.added_are ∙ none.1)
+
+  -- the same of a crawler that is reported to be unchanged or to have the same rules
+  pub reported_alike : (text : List ℕ) (allowed : Bool)
+      → (is_unchanged compared || has_same_rules compared) ≡ true
+      → IsVerdict (rules_for agent older) text allowed ↔ IsVerdict (rules_for agent newer) text allowed
+  reported_alike text allowed said =
+      alike text allowed
+      (⊎_elim (unchanged_has_same compared) (λ same. same) (or_cases (is_unchanged compared) _ said))
+
+  module _ (same : has_same_rules compared ≡ true) where
+    same_decision : (text : List ℕ) (one other : Decision) → IsDecisionOn (placed_rules agent older) text one
+        → IsDecisionOn (placed_rules agent newer) text other
+        → is_same_decision compared.removed compared.added one other ≡ true
+    same_decision text one other decided too =
+        let none = neither compared same in
+        let verdict = one_verdict (rules_for agent newer) text one.allowed other.allowed
+        ((alike text one.allowed same).0 decided.verdict) too.verdict in
+        rw (none.0, none.1, verdict, beq_self other.allowed) refl
+
+    none_differs : (given : List (List ℕ)) (ones others : List VerdictValue)
+        → AllZip (IsVerdictOn (placed_rules agent older)) given ones
+        → AllZip (IsVerdictOn (placed_rules agent newer)) given others
+        → url_changes compared.removed compared.added ones others ≡ []
+    none_differs given [] others are too = refl
+    none_differs given (one ∷ ones) [] are too = refl
+    none_differs [] (one ∷ ones) (other ∷ others) are too = absurd are
+    none_differs (url ∷ given) (one ∷ ones) (other ∷ others) (first, more) (second, rest) =
+        rw (same_decision (asked_target url) one.decision other.decision first.decided second.decided)
+        (none_differs given ones others more rest)
+
+    none_ruled : (one other : Option ℕ) (ones others : List VerdictValue) → IsRuling urls older agent one ones
+        → IsRuling urls newer agent other others
+        → url_changes compared.removed compared.added ones others ≡ []
+    none_ruled None None ones others (accepted, are) (also, too) = none_differs urls ones others are too
+    none_ruled (Some line) other ones others (first, none) too = rw none refl
+    none_ruled None (Some line) ones others are (first, none) =
+        rw none (no_verdicts compared.removed compared.added ones)
+
+    -- no URL is listed for a crawler that has the same rules in both files
+    pub none_listed : compared.changes ≡ []
+    none_listed =
+        is.changes_are ∙ none_ruled compared.older.rejected compared.newer.rejected compared.older.verdicts
+        compared.newer.verdicts is.older_is.ruling is.newer_is.ruling
+
+-- ---- The decisions on URLs, and the sitemaps, that only one of the files has.
 
 -- ---- URLs
 

@@ -1,2 +1,1 @@
 pub mod CompareLemmas
-pub mod RuleSetLemmas

@@ -4,15 +4,14 @@ use Rattle.std.specs.Prelude.{◌≡◌, ℕ, ◌==◌, Bool, true, false, not, 
 use Rattle.std.specs.Prelude.{Some, None, bytes_eq, codes, filter, flat_map, if◌then◌else◌, is_some, length}
 use Rattle.std.specs.Prelude.{map, nat_eq, refl}
 use Rattle.std.specs.{List.AllZip, List.list_all, List.list_any, Option.option_eq}
-use Rattle.std.proofs.Math.Bool.{beq}
+use Rattle.std.proofs.Math.{Bool.beq}
 use Rattle.texting_robots.specs.Callers.{LineValue, PlacedRule, Rule, lines_read, placed_rules, sitemaps_in}
-use Rattle.texting_robots.specs.declared.decision.Decision.{Decision}
+use Rattle.texting_robots.specs.declared.decision.{Decision.Decision}
 use Rattle.printable_text.specs.declared.level.Level.{Level}
 use Rattle.printable_text.specs.declared.level.Level.TheVariants.{Error, Note, Warning}
 use Rattle.printable_text.specs.Text.{Absent, Fixed, Label, Number, Part, PartValue, ReportLine, Untrusted}
 use Rattle.printable_text.specs.Text.{Value, Word, is_fixed, label, line_from, only, starts_line, word}
-use Rattle.robots_warnings.specs.declared.facts.LineKinds.{LineKinds}
-use Rattle.robots_warnings.specs.Facts.{kinds_of}
+use Rattle.robots_warnings.specs.{declared.facts.LineKinds.LineKinds, Facts.kinds_of}
 use Rattle.audit_core.specs.declared.group.Group.{Group}
 use Rattle.audit_core.specs.declared.group.Group.TheVariants.{Everyone, Named, Nobody, Star}
 use Rattle.audit_core.specs.Audit.{AgentValue, IsAgentAudit, VerdictValue, agents_requested}

@@ -1,18 +1,137 @@
--- How an audit is built.
-use Rattle.std.proofs.Common.{◌≡◌, ℕ, List, [], ◌∷◌, ◌++◌, ◌+◌, ◌<◌, ap, length, ◌∙◌, None, Option, map, refl}
-use Rattle.std.proofs.Common.{slice_index_or, take}
-use Rattle.std.specs.List.{AllZip, enumerate_from}
-use Rattle.std.proofs.lemmas.List.{map-append, take_more}
-use Rattle.texting_robots.specs.declared.labels.LabeledLine.{LabeledLine}
-use Rattle.texting_robots.specs.Callers.{AnswerAlike, HasLines, IsDelayFor, IsRobotOfFile, LineValue}
-use Rattle.texting_robots.specs.Callers.{PlacedRule, RobotValue, delay_for, file_limit, group_name}
-use Rattle.texting_robots.specs.Callers.{lines_read, label_by_value, placed_rules}
-use Rattle.texting_robots.specs.Labels.{label_at}
-use Rattle.texting_robots.proofs.GivenLemmas.{delay_is_computed}
+-- How an audit is built: crawlers, rows and lists of lines.
+use Rattle.std.proofs.Common.{◌≡◌, ℕ, ◌||◌, Bool, true, false, List, [], ◌∷◌, ◌++◌, ap, bytes_eq, not, refl}
+use Rattle.std.proofs.Common.{if◌then◌else◌, subst, sym, ⊎_elim, ◌∙◌, ◌+◌, ◌<◌, ◌==◌, arith, drop, flat_map}
+use Rattle.std.proofs.Common.{length, map, slice_index_or, zip, append_assoc, replicate, None, Option, take}
+use Rattle.std.specs.{BTreeSet.BTreeSet, List.AllByRecursion as Each, List.AllZip, List.enumerate_from}
+use Rattle.std.specs.Str.{is_utf8, str_to_ascii_lowercase}
+use Rattle.std.proofs.Math.{Bool.or-false}
+use Rattle.std.proofs.lemmas.Bool.{cases_Bool, Decides.nat_tests, Decides.Decides-eqb}
+use Rattle.std.proofs.lemmas.{Slice.Eq.bytes_eq-Decides, List.Elements.filter_map-append}
+use Rattle.std.proofs.lemmas.List.{append-nil, drop_more, replicate-append-replicate, map-append, take_more}
+use Rattle.texting_robots.specs.Callers.{label_by_value, sitemaps_in, IsDelayFor, IsRobotOfFile, placed_rules}
+use Rattle.texting_robots.specs.Callers.{AnswerAlike, PlacedRule, RobotValue, file_limit, group_name}
+use Rattle.texting_robots.specs.Callers.{UserAgent, by_value, HasLines, LineValue, delay_for, lines_read}
+use Rattle.texting_robots.specs.{Agents.is_among, Labels.label_at, Executable.sitemap_in}
+use Rattle.texting_robots.specs.declared.labels.{LabeledLine.LabeledLine}
+use Rattle.robots_warnings.specs.Internal.Names.{AddsName, Key}
+use Rattle.audit_core.specs.Internal.Agents.{AddsAgent, HasAgents, has_lowered}
+use Rattle.robots_warnings.proofs.{ClosedLemmas.any_last}
+use Rattle.printable_text.specs.{Lines.ended}
+use Rattle.robots_warnings.specs.File.{lines_of, space, labels_for}
+use Rattle.audit_core.specs.Audit.{sitemap_at, IsRuling, IsVerdictOn, VerdictValue, agents_requested}
+use Rattle.texting_robots.proofs.{GivenLemmas.delay_is_computed}
 use Rattle.texting_robots.proofs.MainTheoremLemmas.{answers_computed, lines_are_read, of_lines, read_robot}
-use Rattle.robots_warnings.specs.File.{lines_of, labels_for}
-use Rattle.audit_core.specs.Asked.{asked_target}
-use Rattle.audit_core.specs.Audit.{IsRuling, IsVerdictOn, VerdictValue, agents_requested}
+use Rattle.audit_core.specs.{Asked.asked_target}
+
+-- ---- Which crawlers a file names.
+
+-- adding a name that is already among the names changes nothing
+absorbed : (names : List (List ℕ)) (name key : List ℕ) → is_among name names ≡ true
+    → (has_lowered key names || bytes_eq (str_to_ascii_lowercase name) key) ≡ has_lowered key names
+absorbed names name key is =
+    let lowered = str_to_ascii_lowercase name in
+    ⊎_elim
+    (λ same.
+    let has : has_lowered key names ≡ true =
+    subst (λ (k : List ℕ). has_lowered k names ≡ true) ((bytes_eq-Decides lowered key).0 same) is in
+    rw has refl)
+    (λ other. rw other (or-false (has_lowered key names)))
+    (cases_Bool (bytes_eq lowered key))
+
+-- membership after a name is appended, unless it is already among the names
+one_more : (names : List (List ℕ)) (name key : List ℕ) (among : Bool) → among ≡ is_among name names
+    → (has_lowered key names || bytes_eq (str_to_ascii_lowercase name) key)
+    ≡ has_lowered key (if among then names else names ++ name ∷ [])
+one_more names name key true is = absorbed names name key (sym is)
+one_more names name key false is =
+    sym (any_last (λ other. bytes_eq (str_to_ascii_lowercase other) key) names name)
+
+kept : (names : List (List ℕ)) (name : List ℕ) (among : Bool)
+    → names ++ (if not among then name ∷ [] else []) ≡ (if among then names else names ++ name ∷ [])
+kept names name true = append-nil names
+kept names name false = refl
+
+-- the name of a user-agent line was added, if it is new
+pub agent_added : {old_met new_met : BTreeSet Key} {old new : List (List ℕ)} {name : List ℕ}
+    {is_new : Bool} → is_utf8 name ≡ true → AddsName old_met new_met name is_new
+    → new ≡ old ++ (if is_new then name ∷ [] else [])
+    → AddsAgent old_met new_met old new (UserAgent name)
+agent_added {old_met} {new_met} {old} {new} {name} {is_new} utf8 adds added =
+    let grown : HasAgents old_met old → new ≡ (if is_among name old then old else old ++ name ∷ []) =
+    λ has.
+    let is : is_new ≡ not (is_among name old) =
+    adds.new_if ∙ ap not (has.each adds.lowered)
+    ∙ ap (λ (lowered : List ℕ). not (has_lowered lowered old)) adds.in_lower_case in
+    added ∙ ap (λ is. old ++ (if is then name ∷ [] else [])) is ∙ kept old name (is_among name old) in
+    record {
+      names = λ has. rw utf8 (grown has);
+      met = λ has. record {
+        each = λ key.
+            adds.each key
+            ∙ ap (λ is. is || bytes_eq (str_to_ascii_lowercase name) key.items) (has.each key)
+            ∙ one_more old name key.items (is_among name old) refl
+            ∙ ap (λ names. has_lowered key.items names) (sym (grown has));
+      };
+    }
+
+-- ---- Lists of lines and of labels.
+
+-- no lines make an empty text, and others don't
+pub lines_empty : (lines : List (List ℕ)) → (length (ended lines) == 0) ≡ (length lines == 0)
+lines_empty [] = refl
+lines_empty ([] ∷ lines) = grind (arith, nat_tests)
+lines_empty ((b ∷ line) ∷ lines) = grind (arith, nat_tests)
+
+-- the sitemaps from index `at` on, in terms of the line there
+pub sitemaps_next : (labels : List LabeledLine) (at : ℕ) (labeled : LabeledLine) → at < length labels
+    → sitemaps_in (lines_of (map label_by_value (drop at labels)))
+    ≡ sitemaps_in (by_value (slice_index_or labels at labeled).line ∷ [])
+    ++ sitemaps_in (lines_of (map label_by_value (drop (at + 1) labels)))
+sitemaps_next labels at labeled below =
+    let here = by_value (slice_index_or labels at labeled).line ∷ [] in
+    let later = lines_of (map label_by_value (drop (at + 1) labels)) in
+    ap (λ labels. sitemaps_in (lines_of (map label_by_value labels))) (drop_more labels at labeled below)
+    ∙ filter_map-append sitemap_in here later
+
+-- the sitemaps that `*` is asked about in these lines
+abbrev pub asked : List LabeledLine → List (ℕ × List ℕ)
+asked labels = flat_map (λ label. sitemap_at label.number label.line) (map label_by_value labels)
+
+-- the same from index `at` on, in terms of the line there
+pub asked_next : (labels : List LabeledLine) (at : ℕ) (labeled : LabeledLine) → at < length labels
+    → asked (drop at labels)
+    ≡ sitemap_at (slice_index_or labels at labeled).number (by_value (slice_index_or labels at labeled).line)
+    ++ asked (drop (at + 1) labels)
+asked_next labels at labeled below = rw (drop_more labels at labeled below) refl
+
+pub zip_none : {K X : Type 0} (ks : List K) (xs : List X) → length xs < 1 → zip ks xs ≡ []
+zip_none [] xs short = refl
+zip_none (k ∷ ks) [] short = refl
+zip_none (k ∷ ks) (x ∷ xs) short = absurd (omega (arith, short))
+
+pub each_map : {X : Type 0} (P : List ℕ → Type 0) (f : X → List ℕ) → ((x : X) → P (f x)) → (xs : List X)
+    → Each P (map f xs)
+each_map P f are [] = tt
+each_map P f are (x ∷ xs) = (are x, each_map P f are xs)
+
+pub some_length : {X : Type 0} (x : X) (xs : List X) → (length (x ∷ xs) == 0) ≡ true → ⊥
+some_length x xs is = let none : length (x ∷ xs) ≡ 0 = (Decides-eqb (length (x ∷ xs)) 0).0 is in omega arith
+
+pub none_of : {X : Type 0} (xs : List X) → (length xs == 0) ≡ true → xs ≡ []
+none_of [] is = refl
+none_of (x ∷ xs) is = absurd (some_length x xs is)
+
+-- ---- How a row is built.
+
+-- loop step: one more space
+pub blanks_more : (n : ℕ) (old mid new : List ℕ) → new ≡ mid ++ space ∷ []
+    → mid ≡ old ++ replicate n space
+    → new ≡ old ++ replicate (n + 1) space
+blanks_more n old mid new added before =
+    added ∙ ap (λ t. t ++ space ∷ []) before ∙ append_assoc old (replicate n space) (space ∷ [])
+    ∙ ap (λ t. old ++ t) (replicate-append-replicate n 1 space)
+
+-- ---- How an audit is built.
 
 -- one more item, and the result for it
 pub zip_push : {B V : Type 0} (R : B → V → Type 0) (items : List B) (found : List V) (item : B) (next : V)

@@ -3,11 +3,9 @@
 use Rattle.std.specs.Prelude.{◌≡◌, ℕ, true, false, List, [], Option, Result, Ok, Err, IfErr, IfOk}
 use Rattle.std.specs.Prelude.{string_bytes}
 use Rattle.std.specs.Io.KnownBytes.{Appends, Keeps}
-use Rattle.robots_io.specs.Streams.{AppendsBeginning}
-use Rattle.robots_io.specs.declared.streams.WriteFault.{WriteFault}
+use Rattle.robots_io.specs.{Streams.AppendsBeginning, declared.streams.WriteFault.WriteFault}
 use Rattle.audit_core.specs.declared.answer.{Answer.Answer, Outcome.Outcome}
-use Rattle.audit_core.specs.declared.fault.Fault.{Fault}
-use Rattle.audit_core.specs.Fault.{fault_of_write}
+use Rattle.audit_core.specs.{declared.fault.Fault.Fault, Fault.fault_of_write}
 
 -- the answer is a text, such as the help; there are no warnings, and the exit status is 0
 pub record IsText (text : List ℕ) (answer : Answer) : Type 0 where

@@ -1,26 +1,21 @@
 -- The audit of a file: its lines, what applies to each requested crawler, and the warnings.
-use Rattle.std.specs.Prelude.{◌≡◌, ℕ, Bool, false, true, List, [], ◌∷◌, ◌++◌, Option, Some, None, codes}
-use Rattle.std.specs.Prelude.{count_by, filter, flat_map, if◌then◌else◌, is_none, is_some, length, map, not}
-use Rattle.std.specs.Prelude.{option_map, sum_by, take, zip}
+use Rattle.std.specs.Prelude.{◌≡◌, ℕ, Bool, false, true, List, [], ◌∷◌, ◌++◌, Option, Some, None, codes, map}
+use Rattle.std.specs.Prelude.{count_by, filter, flat_map, if◌then◌else◌, is_none, is_some, length, not, take}
+use Rattle.std.specs.Prelude.{option_map, sum_by, zip}
 use Rattle.std.specs.{List.AllZip, List.list_all, List.list_any, List.position_from, Str.is_utf8}
 use Rattle.texting_robots.specs.Callers.{IsFirstOverlong, IsRejected, Label, LineValue, PlacedRule, Sitemap}
 use Rattle.texting_robots.specs.Callers.{UserAgent, delay_for, file_limit, group_name, is_agent_named}
 use Rattle.texting_robots.specs.Callers.{is_named, lines_read, placed_rules}
 use Rattle.texting_robots.specs.{Agents.is_among, Group.is_agent, Decision.IsDecisionOn}
-use Rattle.texting_robots.specs.declared.decision.Decision.{Decision}
-use Rattle.audit_core.specs.declared.group.Group.{Group}
+use Rattle.texting_robots.specs.{declared.decision.Decision.Decision}
+use Rattle.audit_core.specs.{declared.group.Group.Group, Request.RequestValue, declared.syntax.Syntax.Syntax}
+use Rattle.audit_core.specs.{Needless.needless_warning, Asked.asked_target, Chosen.chosen, Syntax.syntax_of}
 use Rattle.audit_core.specs.declared.group.Group.TheVariants.{Everyone, Named, Nobody, Star}
-use Rattle.robots_needless.specs.Deleted.{AreFoundIn}
-use Rattle.robots_needless.specs.declared.needless.NeedlessRule.{NeedlessRule}
-use Rattle.robots_warnings.specs.declared.closed.Reach.{Reach}
-use Rattle.robots_warnings.specs.declared.table.Cause.TheVariants.{SitemapDenied}
-use Rattle.robots_warnings.specs.declared.warning.Detail.TheVariants.{Line}
-use Rattle.robots_warnings.specs.{Closed.line_closing, Closed.reach_of, Facts.facts_of, Facts.is_too_large}
-use Rattle.robots_warnings.specs.{File.labels_for, Urls.is_absolute_url, Warnings.warnings}
-use Rattle.robots_warnings.specs.{WarningValue.WarningValue}
-use Rattle.audit_core.specs.Needless.{needless_warning}
-use Rattle.audit_core.specs.{Asked.asked_target, Chosen.chosen, Syntax.syntax_of, Request.RequestValue}
-use Rattle.audit_core.specs.declared.syntax.Syntax.{Syntax}
+use Rattle.robots_needless.specs.{Blocks.AreFoundIn, declared.needless.NeedlessRule.NeedlessRule}
+use Rattle.robots_warnings.specs.{declared.closed.Reach.Reach, declared.table.Cause.TheVariants.SitemapDenied}
+use Rattle.robots_warnings.specs.{declared.warning.Detail.TheVariants.Line, Closed.line_closing}
+use Rattle.robots_warnings.specs.{Closed.reach_of, Facts.facts_of, Facts.is_too_large, File.labels_for}
+use Rattle.robots_warnings.specs.{Urls.is_absolute_url, Warnings.warnings, Message.WarningValue}
 
 -- ---- the crawlers of a report
 

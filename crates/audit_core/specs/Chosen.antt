@@ -1,11 +1,10 @@
 -- Which warnings are reported, chosen by name.
 use Rattle.std.specs.Prelude.{◌≡◌, ℕ, ◌==◌, Bool, true, not, ◌||◌, ◌&&◌, List, Contains, bytes_eq, filter}
 use Rattle.std.specs.Prelude.{length}
-use Rattle.std.specs.List.{list_any}
-use Rattle.audit_core.specs.Fault.{IsArgument}
-use Rattle.audit_core.specs.declared.fault.Fault.{Fault}
+use Rattle.std.specs.{List.list_any}
+use Rattle.audit_core.specs.{Fault.IsArgument, declared.fault.Fault.Fault}
+use Rattle.robots_warnings.specs.{Table.name_of, Message.WarningValue}
 use Rattle.audit_core.specs.declared.fault.Flaw.TheVariants as flaw
-use Rattle.robots_warnings.specs.{Table.name_of, WarningValue.WarningValue}
 
 -- the name is in the list
 abbrev pub is_among_names : List (List ℕ) → List ℕ → Bool

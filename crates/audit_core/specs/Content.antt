@@ -1,12 +1,10 @@
 -- What can't be a robots.txt file: a side of a comparison, and what expectations are checked against.
 use Rattle.std.specs.Prelude.{◌≡◌, ◌⊎◌, ℕ, List, Option, Some, None, codes, if◌then◌else◌}
-use Rattle.texting_robots.specs.Callers.{lines_read}
-use Rattle.robots_warnings.specs.declared.facts.FileFacts.{FileFacts}
-use Rattle.robots_warnings.specs.{Facts.facts_of, File.labels_for}
-use Rattle.audit_core.specs.declared.fault.{Fault.Fault, Flaw.Flaw}
-use Rattle.audit_core.specs.declared.fault.Fault.TheVariants.{Memory}
+use Rattle.texting_robots.specs.{Callers.lines_read}
+use Rattle.robots_warnings.specs.{declared.facts.FileFacts.FileFacts, Facts.facts_of, File.labels_for}
+use Rattle.audit_core.specs.declared.fault.Fault.{Fault, TheVariants.Memory}
+use Rattle.audit_core.specs.{declared.fault.Flaw.Flaw, Fault.IsArgument}
 use Rattle.audit_core.specs.declared.fault.Flaw.TheVariants.{Html, NoDirectives, Utf16}
-use Rattle.audit_core.specs.Fault.{IsArgument}
 
 -- what is wrong with a file with these facts; an audit gives it the error `looks-like-html`,
 -- `looks-like-utf-16` or `no-directives`

@@ -4,10 +4,9 @@ use Rattle.std.specs.Prelude.{if◌then◌else◌, nat_lt}
 use Rattle.std.proofs.Common.{refl}
 use denote.Enum.Declared.{tag_of}
 use Rattle.printable_text.specs.Text.{Absent, Count, Number, Part, PartValue, Word, fixed_level, label, only}
-use Rattle.printable_text.specs.contracts.level.Level.{the_type}
-use Rattle.printable_text.specs.declared.level.Level.{Level}
+use Rattle.printable_text.specs.{contracts.level.Level.the_type, declared.level.Level.Level}
 use Rattle.printable_text.specs.declared.level.Level.TheVariants.{Error, Note, Warning}
-use Rattle.robots_warnings.specs.{Table.level_of, WarningValue.WarningValue}
+use Rattle.robots_warnings.specs.{Table.level_of, Message.WarningValue}
 
 -- the number of a level
 abbrev pub rank : Level → ℕ

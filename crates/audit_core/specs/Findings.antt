@@ -1,15 +1,14 @@
 -- What an audit found, as one list, for formats that don't distinguish verdicts and warnings.
-use Rattle.std.specs.Prelude.{ℕ, Bool, true, false, not, List, [], ◌∷◌, ◌++◌, Option, Some, None, codes}
-use Rattle.std.specs.Prelude.{flat_map, if◌then◌else◌, map, string_bytes}
-use Rattle.std.proofs.Common.{refl}
-use Rattle.printable_text.specs.Text.{Fixed, Part, PartValue, Untrusted, label, parts_text}
-use Rattle.printable_text.specs.{Sanitize.sanitized, Level.reaches}
-use Rattle.printable_text.specs.declared.level.Level.{Level}
-use Rattle.printable_text.specs.declared.level.Level.TheVariants.{Error}
-use Rattle.robots_warnings.specs.Message.{fixed_name, message_parts}
-use Rattle.robots_warnings.specs.{Table.level_of, WarningValue.WarningValue}
+use Rattle.std.specs.Prelude.{ℕ, Bool, true, false, not, List, [], ◌∷◌, ◌++◌, Option, Some, None, codes, map}
+use Rattle.std.specs.Prelude.{flat_map, if◌then◌else◌, string_bytes}
+use Rattle.std.proofs.{Common.refl}
+use Rattle.printable_text.specs.Text.{Fixed, Part, PartValue, Untrusted, label, parts_text, reaches}
+use Rattle.printable_text.specs.{Sanitize.sanitized}
+use Rattle.printable_text.specs.declared.level.Level.{Level, TheVariants.Error}
+use Rattle.robots_warnings.specs.Message.{fixed_name, message_parts, WarningValue}
+use Rattle.robots_warnings.specs.{Table.level_of}
 use Rattle.audit_core.specs.{Audit.AgentValue, Audit.AuditValue, Audit.VerdictValue, Texts.rejected_parts}
-use Rattle.audit_core.specs.declared.findings.Finding.{Finding}
+use Rattle.audit_core.specs.declared.findings.{Finding.Finding}
 
 -- a message: parts, or parts that follow bytes that nobody has checked
 pub data Message : Type 0 where

@@ -3,8 +3,7 @@ pub mod Agents
 pub mod Views
 use Rattle.std.specs.Prelude.{ℕ, List, take}
 use Rattle.texting_robots.specs.Callers.{IsFirstOverlong, IsRobotOfFile, file_limit, lines_read, placed_rules}
-use Rattle.audit_core.specs.declared.audit.Reading.{Reading}
-use Rattle.audit_core.specs.declared.audit.Reading.TheVariants.{Accepted, Rejected}
+use Rattle.audit_core.specs.declared.audit.Reading.{Reading, TheVariants.Accepted, TheVariants.Rejected}
 
 -- the crawler's robot for the file, or the line of the crawler's first overlong rule
 abbrev pub IsReading : List ℕ → List ℕ → Reading → Type 0

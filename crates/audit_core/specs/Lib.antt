@@ -6,11 +6,9 @@ pub mod Rows
 pub mod Asked
 pub mod Audit
 pub mod Chosen
-pub mod Color
 pub mod Content
 pub mod Counts
 pub mod Syntax
 pub mod Needless
 pub mod Findings
-pub mod Crawler
 pub mod Internal

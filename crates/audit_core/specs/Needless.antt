@@ -1,12 +1,10 @@
 -- The warnings about rules that can be deleted.
 use Rattle.std.specs.Prelude.{ℕ, Option, Some, None}
 use Rattle.robots_needless.specs.declared.needless.{NeedlessRule.NeedlessRule, Reason.Reason}
+use Rattle.robots_warnings.specs.{declared.table.Cause.Cause, Message.WarningValue}
+use Rattle.robots_warnings.specs.declared.warning.Detail.{Detail, TheVariants.Line}
 use Rattle.robots_needless.specs.declared.needless.Reason.TheVariants as reasons
-use Rattle.robots_warnings.specs.declared.table.Cause.{Cause}
 use Rattle.robots_warnings.specs.declared.table.Cause.TheVariants as causes
-use Rattle.robots_warnings.specs.declared.warning.Detail.{Detail}
-use Rattle.robots_warnings.specs.declared.warning.Detail.TheVariants.{Line}
-use Rattle.robots_warnings.specs.WarningValue.{WarningValue}
 
 -- the warning about a rule in this line; `other` is the line of the rule that matches everything that it does
 abbrev about_line : ℕ → Cause → Option Detail → WarningValue

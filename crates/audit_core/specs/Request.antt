@@ -1,9 +1,79 @@
--- What a run is requested to do.
-use Rattle.std.specs.Prelude.{ℕ, Bool, List, Option, None, Some, bytes_eq, codes, if◌then◌else◌, is_some}
-use Rattle.std.specs.Prelude.{map, not, option_map, ◌&&◌}
-use Rattle.audit_core.specs.declared.request.{Format.Format, Request.Request}
+-- What a run is requested to do, and how crawlers are named.
+use Rattle.std.specs.Prelude.{ℕ, Bool, true, false, List, Option, Some, None, ◌==◌, ◌&&◌, Result, Ok, Err, []}
+use Rattle.std.specs.Prelude.{String, bytes_eq, codes, if◌then◌else◌, length, not, string_bytes, ◌≡◌, ◌⊎◌}
+use Rattle.std.specs.Prelude.{◌||◌, Contains, ◌∷◌, is_some, map, option_map}
+use Rattle.std.specs.{Global.Global, List.list_all, List.list_any, Char.is_ascii_digit, Str.byte}
+use Rattle.std.specs.declared.env.VarError.{VarError, TheVariants.NotPresent}
+use Rattle.robots_warnings.specs.{Rules.has, Crawlers.has_space_around, Crawlers.is_name_byte}
+use Rattle.audit_core.specs.declared.fault.Fault.{Fault, TheVariants.Memory}
+use Rattle.audit_core.specs.{declared.fault.Flaw.Flaw, Fault.IsArgument, declared.request.Request.Request}
+use Rattle.audit_core.specs.declared.request.Format.{Format}
 use Rattle.audit_core.specs.declared.request.Format.TheVariants.{Github, Html, Json, Sarif, Text}
-use Rattle.printable_text.specs.declared.level.Level.{Level}
+use Rattle.printable_text.specs.declared.level.{Level.Level}
+use Rattle.audit_core.specs.declared.fault.Flaw.TheVariants as flaw
+
+-- ---- Whether warnings have colors.
+
+-- whether the value of `--color` requests colors; `by_default` is what no value and `auto` mean
+abbrev pub requested_colors : Option (List ℕ) → (by_default : Bool) → Bool
+requested_colors None by_default = by_default
+requested_colors (Some word) by_default =
+    if bytes_eq word (codes "always") then true
+    else if bytes_eq word (codes "never") then false else by_default
+
+-- an environment variable is set and not empty, or can't be read
+abbrev pub is_set : Result (String Global) VarError → Bool
+is_set (Ok value) = not (length (string_bytes value) == 0)
+is_set (Err NotPresent) = false
+is_set (Err error) = true
+
+-- this is the name of a terminal that can't show colors
+abbrev pub is_dumb : Result (String Global) VarError → Bool
+is_dumb (Ok name) = bytes_eq (string_bytes name) (codes "dumb")
+is_dumb (Err error) = false
+
+-- what `by_default` is, with these values of NO_COLOR and TERM
+abbrev pub default_colors : (is_terminal : Bool) → (no_color term : Result (String Global) VarError) → Bool
+default_colors is_terminal no_color term = is_terminal && not (is_set no_color) && not (is_dumb term)
+
+-- ---- What crawlers call themselves: names in arguments and in the file of `--expect`.
+
+-- the name has a dot and a digit, as with a version: `Googlebot.2`
+abbrev pub has_version : List ℕ → Bool
+has_version name = has (byte ".") name && list_any is_ascii_digit name
+
+-- the name has letters, digits, `_`, `-`, dots and spaces, such as `MJ12bot` and `archive.org_bot`, but no
+-- version
+abbrev pub is_own_name : List ℕ → Bool
+is_own_name name =
+    (not (length name == 0) && list_all is_name_byte name)
+    && (not (has_space_around name) && not (has_version name))
+
+-- the usual form of a name by which a crawler calls itself, or `*`, for all that have no group of their own;
+-- names in user-agent lines can have more, such as a `*` at their end
+abbrev pub is_crawler_name : List ℕ → Bool
+is_crawler_name name = bytes_eq name (codes "*") || is_own_name name
+
+-- what is wrong with a name that no crawler has
+abbrev pub name_flaw : List ℕ → Flaw
+name_flaw name = if has (byte ",") name then flaw.Names else flaw.Agent
+
+-- the error shows one of these names, which no crawler has, or an allocation failed
+abbrev pub IsNoCrawlerIn : List (List ℕ) → Fault → Type 0
+IsNoCrawlerIn names fault =
+    (fault ≡ Memory)
+    ⊎ ((name : List ℕ) × Contains names name × (is_crawler_name name ≡ false)
+    × IsArgument name (name_flaw name) fault)
+
+-- the crawler, if there is a single one
+abbrev pub single : List (List ℕ) → Option (List ℕ)
+single (agent ∷ []) = Some agent
+single agents = None
+
+abbrev pub is_word : List ℕ → Bool
+is_word word = not (length word == 0)
+
+-- ---- What a run is requested to do.
 
 -- a request: the name of the file, or `None` for standard input; the crawler, if the report is about a single
 -- one; the crawlers, where an empty list means `*` and each that the file names; the URLs; whether the rows

@@ -1,16 +1,13 @@
 -- The rows of a report: one for each line of the file.
-use Rattle.std.specs.Prelude.{ℕ, ◌==◌, Bool, true, false, not, List, [], ◌∷◌, Some, None, codes, decimal}
-use Rattle.std.specs.Prelude.{if◌then◌else◌, is_some, length, map, zip}
-use Rattle.std.proofs.Common.{refl}
-use Rattle.texting_robots.specs.Callers.{Allow, CrawlDelay, Disallow, LineValue, Label, Raw, Sitemap}
-use Rattle.texting_robots.specs.Callers.{UserAgent}
-use Rattle.texting_robots.specs.declared.labels.Membership.{Membership}
+use Rattle.std.specs.Prelude.{ℕ, ◌==◌, Bool, true, false, not, List, [], ◌∷◌, Some, None, codes, decimal, map}
+use Rattle.std.specs.Prelude.{if◌then◌else◌, is_some, length, zip}
+use Rattle.std.proofs.{Common.refl}
+use Rattle.texting_robots.specs.{Callers.Allow, declared.labels.Membership.Membership}
+use Rattle.texting_robots.specs.Callers.{CrawlDelay, Disallow, LineValue, Label, Raw, Sitemap, UserAgent}
 use Rattle.texting_robots.specs.declared.labels.Membership.TheVariants.{Other, Ungrouped, Own}
-use Rattle.robots_warnings.specs.Contents.{comment_of as comment_in}
-use Rattle.robots_warnings.specs.File.{is_blank}
-use Rattle.printable_text.specs.Text.{Absent, Aligned, Column, Delay, Label as Front, Nothing, Part}
-use Rattle.printable_text.specs.Text.{PartValue}
-use Rattle.printable_text.specs.Text.{ReportLine, Untrusted, Value, label, line_from, only, value_text, word}
+use Rattle.robots_warnings.specs.{Contents.comment_of as comment_in, File.is_blank}
+use Rattle.printable_text.specs.Text.{Label as Front, PartValue, ReportLine, Untrusted, line_from, value_text}
+use Rattle.printable_text.specs.Text.{Absent, Aligned, Column, Delay, Nothing, Part, Value, label, only, word}
 
 -- the width of the column with the directives; the longest one is followed by a space
 abbrev pub word_width : ℕ

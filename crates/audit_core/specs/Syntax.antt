@@ -1,14 +1,14 @@
 -- What the warnings tell about the syntax of a file, and about its verdicts.
-use Rattle.std.specs.Prelude.{ℕ, ◌==◌, Bool, true, false, not, ◌||◌, List, [], ◌∷◌, Option, codes}
-use Rattle.std.specs.Prelude.{if◌then◌else◌, is_some, length}
+use Rattle.std.specs.Prelude.{ℕ, ◌==◌, Bool, true, false, not, ◌||◌, List, [], ◌∷◌, Option, codes, is_some}
+use Rattle.std.specs.Prelude.{if◌then◌else◌, length}
 use Rattle.std.specs.List.{list_all, list_any}
-use Rattle.robots_warnings.specs.declared.table.Cause.{Cause}
-use Rattle.robots_warnings.specs.{Table.is_not_about_syntax, Table.keeps_verdicts, WarningValue.WarningValue}
-use Rattle.std.proofs.Common.{refl}
+use Rattle.robots_warnings.specs.declared.table.{Cause.Cause}
+use Rattle.robots_warnings.specs.{Table.is_not_about_syntax, Table.keeps_verdicts, Message.WarningValue}
+use Rattle.std.proofs.{Common.refl}
 use Rattle.printable_text.specs.Text.{PartValue, ReportLine, line_from, only, part_text}
 use Rattle.audit_core.specs.declared.syntax.{Syntax.Syntax, TheConstants.VERDICTS_SENTENCE}
-use Rattle.audit_core.specs.declared.syntax.Syntax.TheVariants.{Standard, StandardVerdicts}
-use Rattle.audit_core.specs.declared.syntax.Syntax.TheVariants.{StandardWithoutWarnings, Unstated}
+use Rattle.audit_core.specs.declared.syntax.Syntax.TheVariants.{Standard, StandardVerdicts, Unstated}
+use Rattle.audit_core.specs.declared.syntax.Syntax.TheVariants.{StandardWithoutWarnings}
 
 -- a warning with this reason is about syntax
 unfoldable pub is_about_syntax : Cause → Bool

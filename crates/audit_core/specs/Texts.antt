@@ -5,10 +5,9 @@ use Rattle.std.proofs.Common.{refl}
 use Rattle.audit_core.specs.declared.group.Group.{Group}
 use Rattle.audit_core.specs.declared.group.Group.TheVariants.{Everyone, Named, Nobody, Star}
 use Rattle.printable_text.specs.Text.{Absent, Delay, Fixed, Number, Part, PartValue, ReportLine, Untrusted}
-use Rattle.printable_text.specs.Text.{Value}
+use Rattle.printable_text.specs.Text.{Value, label, line_from, only, parts_text, value_text, word}
 use Rattle.robots_warnings.specs.declared.closed.Reach.{Reach}
 use Rattle.robots_warnings.specs.declared.closed.Reach.TheVariants as reach
-use Rattle.printable_text.specs.Text.{label, line_from, only, parts_text, value_text, word}
 
 abbrev pub delay_value : Option ℕ → Value
 delay_value None = word (codes "none") refl

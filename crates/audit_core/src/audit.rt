@@ -6,7 +6,8 @@ ghost use Rattle.audit_core.specs.Audit.{AreOfSitemaps, IsAgentAudit, IsAuditOf,
 ghost use Rattle.audit_core.specs.Audit.{agents_requested, all_allowed, allows_all, labeling_agent};
 ghost use Rattle.audit_core.specs.Audit.{rejects_some};
 ghost use Rattle.audit_core.specs.{Request.requested_by, Needless.needless_warning, Internal.IsReading};
-ghost use Rattle.robots_warnings.specs.{File.lines_of, File.labels_for, WarningValue.WarningValue};
+ghost use Rattle.robots_warnings.specs.File.{lines_of, labels_for};
+ghost use Rattle.robots_warnings.specs.Message.{WarningValue};
 ghost use Rattle.robots_warnings.specs.Warnings.{warnings};
 
 use crate::agents::agents_requested;

@@ -1,6 +1,6 @@
 //! Colors of warnings on a terminal.
 ghost use Rattle.std.specs.Prelude.{◌≡◌, option_map};
-ghost use Rattle.audit_core.specs.Color.{default_colors, is_dumb, is_set, requested_colors};
+ghost use Rattle.audit_core.specs.Request.{default_colors, is_dumb, is_set, requested_colors};
 
 use std::env::{self, VarError};
 use std::io::IsTerminal;

@@ -1,10 +1,10 @@
 //! Errors, their messages, and the exit status.
 ghost use Rattle.std.specs.Prelude.{◌≡◌, ◌++◌, ◌∷◌, [], IfOk, OnOk, map, string_bytes};
-ghost use Rattle.printable_text.specs.{Raw.raw_line, Raw.raw_text, Text.line_text, Text.part_text, Text.parts_text};
-ghost use Rattle.printable_text.specs.Text.{written};
-ghost use Rattle.audit_core.specs.Fault.{IsArgument, IsUnknown, begins_as_host, entry_text, fault_parts, fault_text};
-ghost use Rattle.audit_core.specs.Fault.{file_hint, flaw_text, is_level, malformed_line, near_part, near_warning};
-ghost use Rattle.audit_core.specs.Fault.{status_after};
+ghost use Rattle.printable_text.specs.Raw.{raw_line, raw_text};
+ghost use Rattle.printable_text.specs.Text.{line_text, part_text, parts_text, written};
+ghost use Rattle.audit_core.specs.Fault.{IsArgument, IsUnknown, begins_as_host, entry_text, fault_parts};
+ghost use Rattle.audit_core.specs.Fault.{fault_text, file_hint, flaw_text, is_level, malformed_line};
+ghost use Rattle.audit_core.specs.Fault.{near_part, near_warning, status_after};
 
 use crate::answer::Outcome;
 use printable_text::parts::{Part, Value, push_line_of};

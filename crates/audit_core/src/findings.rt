@@ -1,9 +1,8 @@
 //! What an audit found, as one list, for formats that don't distinguish verdicts and warnings.
 ghost use Rattle.std.specs.Prelude.{◌≡◌, ◌++◌, IfOk, OnOk, flat_map, map, string_bytes};
 ghost use Rattle.printable_text.specs.{Sanitize.sanitized, Raw.raw_line, Text.parts_text};
-ghost use Rattle.audit_core.specs.Findings.{agent_findings, denials, denied, denied_parts, finding_in_part};
-ghost use Rattle.audit_core.specs.Findings.{findings, found_value, rejections, warning_findings};
-ghost use Rattle.audit_core.specs.Findings.{finding_value};
+ghost use Rattle.audit_core.specs.Findings.{agent_findings, finding_in_part, warning_findings, finding_value};
+ghost use Rattle.audit_core.specs.Findings.{denials, denied, denied_parts, findings, found_value, rejections};
 
 use crate::audit::{AgentAudit, Audit, Verdict};
 use crate::texts::rejected_parts;

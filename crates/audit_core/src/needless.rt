@@ -1,6 +1,6 @@
 //! Warnings about rules that can be deleted, which `robots_needless` finds.
 ghost use Rattle.std.specs.Prelude.{◌≡◌, ◌∷◌, [], IfOk, OnOk, false, map, true};
-ghost use Rattle.robots_needless.specs.Deleted.{AreFoundIn};
+ghost use Rattle.robots_needless.specs.Blocks.{AreFoundIn};
 ghost use Rattle.robots_warnings.specs.Internal.{Adds};
 ghost use Rattle.audit_core.specs.Needless.{needless_warning};
 

@@ -20,7 +20,7 @@ use texting_robots::parser::{Line, file_bodies};
 const WORD_WIDTH: usize = 12;
 
 /// Appends this many spaces.
-#[tactic(auto, using(crate::proofs::RowLemmas::blanks_more))]
+#[tactic(auto, using(crate::proofs::AuditLemmas::blanks_more))]
 fn push_blanks(text: &mut String, count: usize) -> Result<(), AllocError>
     ensures { OnOk result (string_bytes text.new ≡ string_bytes text.old ++ blanks count) }
 {

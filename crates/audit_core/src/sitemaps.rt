@@ -2,7 +2,7 @@
 ghost use Rattle.std.specs.Prelude.{◌≡◌, ◌++◌, ◌∷◌, [], IfErr, IfOk, List, OnOk, flat_map, map, take, zip};
 ghost use Rattle.texting_robots.specs.Callers.{by_value, file_limit, file_lines, label_by_value, lines_read};
 ghost use Rattle.texting_robots.specs.Callers.{sitemaps_in};
-ghost use Rattle.robots_warnings.specs.{File.lines_of, Internal.Adds, WarningValue.WarningValue};
+ghost use Rattle.robots_warnings.specs.{File.lines_of, Internal.Adds, Message.WarningValue};
 ghost use Rattle.audit_core.specs.Audit.{AreOfSitemaps, sitemap_at, sitemap_warning, sitemaps_asked};
 
 use crate::audit::{Verdict, ruling};
@@ -31,7 +31,7 @@ fn add_sitemap<'a>(sitemaps: &mut Vec<&'a [u8]>, line: Line<'a>) -> Result<(), A
 }
 
 /// The sitemaps that the file lists, in order.
-#[tactic(auto, using(crate::proofs::ListLemmas::sitemaps_next))]
+#[tactic(auto, using(crate::proofs::AuditLemmas::sitemaps_next))]
 pub fn sitemaps_of<'a>(
     alloc: Global,
     labels: &[LabeledLine<'a>],
@@ -72,7 +72,7 @@ fn ask_about<'a>(
 }
 
 /// Appends those of all lines, or none if the whole site is closed to `*`.
-#[tactic(auto, using(crate::proofs::ListLemmas::asked_next))]
+#[tactic(auto, using(crate::proofs::AuditLemmas::asked_next))]
 fn ask_about_all<'a>(
     alloc: Global,
     numbers: &mut Vec<usize>,

@@ -1,28 +1,72 @@
--- How expectations are checked, and the report on them.
-use Rattle.std.proofs.Common.{◌≡◌, ◌∙◌, ℕ, ◌+◌, ◌<◌, ◌==◌, Bool, true, false, List, [], ◌∷◌, ◌++◌, Ok, ap}
-use Rattle.std.proofs.Common.{codes, filter, length, map, refl, slice_index_or, sym, take}
+-- Expectations: how they are found and checked.
 use Rattle.std.specs.Prelude.{if◌then◌else◌}
-use Rattle.std.specs.List.{AllByRecursion as Each}
-use Rattle.std.proofs.lemmas.{List.length-map, List.map-append, List.take_more}
-use Rattle.std.proofs.lemmas.List.{Elements.filter-append}
+use Rattle.std.proofs.{Common.◌≡◌, lemmas.Bool.cond-false, lemmas.Bool.cond-true}
+use Rattle.std.proofs.Common.{◌≢◌, ◌∙◌, ℕ, zero, suc, ◌+◌, List, [], ◌∷◌, ◌++◌, ap, arith, drop, length, refl}
+use Rattle.std.proofs.Common.{sym, take, ◌<◌, ◌==◌, Bool, true, false, Ok, codes, filter, map, slice_index_or}
+use Rattle.audit_expect.specs.Expect.{parts, with_byte, ExpectationValue, expectations_in}
+use Rattle.audit_expect.specs.Internal.Expectations.{HasNone, IsFirstSeparator, expectation_value}
+use Rattle.std.specs.{List.AllByRecursion as Each}
+use Rattle.std.proofs.lemmas.List.{length-map, map-append, take_more, Elements.filter-append}
 use Rattle.texting_robots.specs.Callers.{IsRejected, IsRobotOfFile, RobotValue, file_limit, lines_read}
 use Rattle.texting_robots.specs.Callers.{placed_rules}
-use Rattle.texting_robots.specs.Decision.{IsDecisionOn}
-use Rattle.texting_robots.specs.declared.decision.Decision.{Decision}
+use Rattle.texting_robots.specs.{Decision.IsDecisionOn, declared.decision.Decision.Decision}
 use Rattle.texting_robots.proofs.MainTheoremLemmas.{answers_computed, read_robot}
-use Rattle.texting_robots.proofs.TrimLemmas.{each_append}
-use Rattle.printable_text.specs.Text.{NamedLine, Number, Part, ReportLine, Untrusted, label, line_text}
-use Rattle.printable_text.specs.Text.{named_text}
-use Rattle.printable_text.specs.{Lines.ended, Sanitize.IsPrintable, Sanitize.has_command}
+use Rattle.texting_robots.proofs.{TrimLemmas.each_append}
+use Rattle.printable_text.specs.{Text.NamedLine, Lines.ended, Sanitize.IsPrintable, Sanitize.has_command}
+use Rattle.printable_text.specs.Text.{Number, Part, ReportLine, Untrusted, label, line_text, named_text}
 use Rattle.printable_text.proofs.SanitizeLemmas.{ended_printable, line_printable}
 use Rattle.printable_text.proofs.PartLemmas.{line_plain, named_printable, named_quiet}
 use Rattle.audit_core.specs.Findings.{FindingValue, found_value}
-use Rattle.audit_expect.specs.declared.expect.Expectation.{Expectation}
-use Rattle.audit_expect.specs.Expect.{ExpectationValue, expectations_in}
-use Rattle.audit_expect.specs.Expectations.{CheckedValue, IsChecked, IsReport, demand_parts, failure}
-use Rattle.audit_expect.specs.Expectations.{failures, fails, holding, placed, reason_parts, result_lines}
-use Rattle.audit_expect.specs.Internal.Expect.{expectation_value}
-use Rattle.audit_expect.specs.Internal.Expectations.{AreFailuresOn}
+use Rattle.audit_expect.specs.{declared.expect.Expectation.Expectation, Internal.Expectations.AreFailuresOn}
+use Rattle.audit_expect.specs.Expectations.{CheckedValue, IsChecked, IsReport, demand_parts, failure, fails}
+use Rattle.audit_expect.specs.Expectations.{failures, holding, placed, reason_parts, result_lines}
+
+-- ---- How a text is cut into parts, and the expectations in it are found.
+
+no_length : (text : List ℕ) → length text ≡ 0 → text ≡ []
+no_length [] e = refl
+no_length (b ∷ text) e = absurd (omega (arith, e))
+
+-- ---- parts
+
+parts_cut : (separators text : List ℕ) (end : ℕ) → IsFirstSeparator separators text end
+    → parts separators text ≡ take end text ∷ parts separators (drop (suc end) text)
+parts_cut separators [] end first = absurd (let within = first.within in omega (arith, within))
+parts_cut separators (b ∷ text) zero first = cond-true _ _ _ first.here
+parts_cut separators (b ∷ text) (suc end) first =
+    let within = first.within in
+    let later : IsFirstSeparator separators text end = record {
+      within = omega (arith, within);
+      here = first.here;
+      before = λ k below. first.before (suc k) (omega (arith, below));
+    } in
+    cond-false _ _ _ (first.before 0 (omega arith)) ∙ ap (with_byte b) (parts_cut separators text end later)
+
+-- a text with a separator is a part and what follows it
+pub cut_at : (separators text rest : List ℕ) (end : ℕ) → IsFirstSeparator separators text end
+    → rest ≡ drop (end + 1) text → parts separators text ≡ take end text ∷ parts separators rest
+cut_at separators text rest end first after =
+    let next : suc end ≡ end + 1 = omega arith in
+    parts_cut separators text end first
+    ∙ ap (λ rest. take end text ∷ parts separators rest) (ap (λ n. drop n text) next ∙ sym after)
+
+parts_whole : (separators text : List ℕ) → text ≢ [] → HasNone separators text (length text)
+    → parts separators text ≡ text ∷ []
+parts_whole separators [] some none = absurd (some refl)
+parts_whole separators (b ∷ []) some none = cond-false _ _ _ (none 0 (omega arith))
+parts_whole separators (b ∷ d ∷ text) some none =
+    cond-false _ _ _ (none 0 (omega arith))
+    ∙ ap (with_byte b) (parts_whole separators (d ∷ text) (λ same. cc)
+    (λ k below. none (suc k) (omega (arith, below))))
+
+-- a text without a separator is one part
+pub cut_nowhere : (separators text rest : List ℕ) → text ≢ [] → HasNone separators text (length text)
+    → length rest ≡ 0 → parts separators text ≡ text ∷ parts separators rest
+cut_nowhere separators text rest some none empty =
+    parts_whole separators text some none
+    ∙ ap (λ rest. text ∷ parts separators rest) (sym (no_length rest empty))
+
+-- ---- How expectations are checked, and the report on them.
 
 -- ---- judgments
 

@@ -1,3 +1,2 @@
-pub mod ExpectLemmas
 pub mod ExpectationsLemmas
 pub mod OtherReadingLemmas

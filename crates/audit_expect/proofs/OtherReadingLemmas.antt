@@ -1,36 +1,32 @@
 -- Other readings: which lines are empty Disallows, and what decides without their rules, also in normal form.
-use Rattle.std.proofs.Common.{◌≡◌, ◌≢◌, ◌∙◌, ℕ, zero, suc, ◌==◌, Bool, true, false, List, [], ◌∷◌, ◌++◌}
-use Rattle.std.proofs.Common.{Contains, Option, Some, None, ap, arith, if◌then◌else◌, inl, inr, map, refl}
-use Rattle.std.proofs.Common.{slice_get, slice_index_or, subst, sym}
 use Rattle.std.specs.Prelude.{◌||◌, length, nat_le}
+use Rattle.std.proofs.Common.{◌≡◌, ◌≢◌, ◌∙◌, ℕ, zero, suc, ◌==◌, Bool, true, false, List, [], ◌∷◌, ◌++◌, Some}
+use Rattle.std.proofs.Common.{Contains, Option, None, ap, arith, if◌then◌else◌, inl, inr, map, refl, subst}
+use Rattle.std.proofs.Common.{slice_get, slice_index_or, sym}
 use Rattle.std.specs.{Char.to_ascii_lowercase, List.All, Option.option_map_or}
-use Rattle.std.proofs.lemmas.Bool.{cases_Bool, false≢true, not-true}
+use Rattle.std.proofs.lemmas.Bool.{cases_Bool, false≢true, not-true, Decides.nat_tests}
 use Rattle.std.proofs.lemmas.Option.{option_and_then_some, same_Some}
-use Rattle.std.proofs.lemmas.Bool.Decides.{nat_tests}
 use Rattle.std.proofs.lemmas.List.Elements.{All-map, Contains-append_left, Contains-get_or, Contains-push}
 use Rattle.std.proofs.lemmas.List.Elements.{Contains-push_cases}
-use Rattle.texting_robots.specs.Callers.{Allow, IsBetter, IsDecidingLine, IsDecidingRule, IsOverlong}
-use Rattle.texting_robots.specs.Callers.{IsRejected, IsVerdict, LineValue, Matches, PlacedRule, Rule}
-use Rattle.texting_robots.specs.Callers.{placed_rules, robots_file, unplaced}
-use Rattle.texting_robots.specs.{Statement.IsStatement, Decision.IsDecisionOn, Pattern.longest_with_dollar}
-use Rattle.texting_robots.specs.Internal.Line.{line_of}
+use Rattle.texting_robots.specs.Callers.{Allow, IsBetter, IsDecidingLine, IsDecidingRule, IsOverlong, Matches}
+use Rattle.texting_robots.specs.Callers.{IsRejected, IsVerdict, LineValue, PlacedRule, Rule, placed_rules}
+use Rattle.texting_robots.specs.Callers.{robots_file, unplaced}
+use Rattle.texting_robots.specs.{Statement.IsStatement, declared.parser.statement.Kind.TheVariants.Disallow}
+use Rattle.texting_robots.specs.{declared.decision.Decision.Decision, declared.parser.statement.Kind.Kind}
+use Rattle.texting_robots.specs.{Decision.IsDecisionOn, Pattern.longest_with_dollar, Internal.Line.line_of}
 use Rattle.texting_robots.specs.Internal.Statement.{kind_by, kind_with, skip_blanks, statement_of, tail_as}
-use Rattle.texting_robots.specs.declared.decision.Decision.{Decision}
-use Rattle.texting_robots.specs.declared.parser.statement.Kind.{Kind}
-use Rattle.texting_robots.specs.declared.parser.statement.Kind.TheVariants.{Disallow}
 use Rattle.texting_robots.proofs.BestLemmas.{none_denies, verdict_by}
-use Rattle.texting_robots.proofs.CollapseLemmas.{length_within}
-use Rattle.texting_robots.proofs.LineLemmas.{line_raw, line_stated}
-use Rattle.texting_robots.proofs.StatementLemmas.{found_statement, statement_found}
-use Rattle.texting_robots.proofs.{HeldLemmas.rejection_is_computed, MainTheoremLemmas.no_line_allows}
+use Rattle.texting_robots.proofs.{CollapseLemmas.length_within, LineLemmas.line_raw, LineLemmas.line_stated}
 use Rattle.texting_robots.proofs.{RulesLemmas.any_unplaced, VerdictLemmas.one_verdict}
-use Rattle.robots_needless.proofs.DistinctLemmas.{in_filter, to_filter}
-use Rattle.robots_warnings.specs.EmptyDisallows.{IsEmptyDisallow, begins_with_d, is_empty_disallow}
+use Rattle.texting_robots.proofs.StatementLemmas.{found_statement, statement_found}
+use Rattle.texting_robots.proofs.MainTheoremLemmas.{rejection_is_computed, no_line_allows}
+use Rattle.robots_needless.proofs.TogetherLemmas.{in_filter, to_filter}
+use Rattle.robots_warnings.specs.Conflicts.{IsEmptyDisallow, begins_with_d, is_empty_disallow}
 use Rattle.robots_warnings.specs.FieldNames.{is_space_or_tab, without_front}
-use Rattle.audit_expect.specs.NormalForm.{IsNormalDecision, normal_pattern, normal_rule, normal_target}
+use Rattle.audit_expect.specs.OtherReading.{IsNormalDecision, normal_pattern, normal_rule, normal_target}
 use Rattle.audit_expect.specs.OtherReading.{AreOthers, IsOtherDecision}
-use Rattle.audit_expect.specs.Internal.OtherReading.{IsDecidedBy, IsPreferred, decision_with, is_empty}
-use Rattle.audit_expect.specs.Internal.OtherReading.{is_marked, marks_of, others_of}
+use Rattle.audit_expect.specs.Internal.Expectations.{IsDecidedBy, IsPreferred, decision_with, is_empty}
+use Rattle.audit_expect.specs.Internal.Expectations.{is_marked, marks_of, others_of}
 
 -- ---- empty Disallows
 

@@ -1,7 +1,6 @@
 -- The lines of a text and the entries in them, and the expectations in the file of `--expect`, one per line.
 use Rattle.std.specs.Prelude.{◌≡◌, ℕ, nat_eq, suc, ◌==◌, Bool, false, not, ◌&&◌, ◌||◌, List, [], ◌∷◌, ◌++◌}
-use Rattle.std.specs.Prelude.{Option}
-use Rattle.std.specs.Prelude.{Some, None, Result, Ok, Err, bytes_eq, codes, filter, if◌then◌else◌}
+use Rattle.std.specs.Prelude.{Option, Some, None, Result, Ok, Err, bytes_eq, codes, filter, if◌then◌else◌}
 use Rattle.std.specs.Prelude.{length, string_bytes}
 use Rattle.std.specs.{List.list_any, List.starts_with, Option.option_to_list, Str.byte, Str.is_utf8}
 use Rattle.robots_warnings.specs.Rules.{after_byte, before_byte, has, somewhere}
@@ -9,7 +8,7 @@ use Rattle.robots_warnings.specs.{Facts.mark, Facts.without_start, Urls.is_absol
 use Rattle.audit_core.specs.declared.fault.{Entry.Entry, Fault.Fault, Flaw.Flaw}
 use Rattle.audit_core.specs.declared.fault.Fault.TheVariants.{Empty, Malformed, Memory}
 use Rattle.audit_core.specs.declared.fault.Flaw.TheVariants.{Agent, Form, NotUtf8, Path, Url}
-use Rattle.audit_core.specs.{Crawler.is_crawler_name, Crawler.is_word, Fault.MalformedLine}
+use Rattle.audit_core.specs.{Request.is_crawler_name, Request.is_word, Fault.MalformedLine}
 
 -- ---- lines and words
 

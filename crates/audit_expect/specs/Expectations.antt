@@ -1,24 +1,22 @@
 -- Expectations checked against a robots.txt file, and the report on those that fail.
 use Rattle.std.specs.Prelude.{◌≡◌, ℕ, ◌==◌, Bool, true, false, not, ◌||◌, List, ◌++◌, Option, Some, None, Ok}
 use Rattle.std.specs.Prelude.{[], ◌∷◌, bytes_eq, codes, decimal, filter, if◌then◌else◌, length, map}
-use Rattle.std.specs.List.{AllByRecursion as Each}
-use Rattle.std.proofs.Common.{refl}
+use Rattle.std.specs.{List.AllByRecursion as Each}
+use Rattle.std.proofs.{Common.refl}
 use Rattle.texting_robots.specs.Callers.{IsFirstOverlong, IsRejected, bodies_read, lines_read, placed_rules}
 use Rattle.texting_robots.specs.Callers.{robots_file}
-use Rattle.texting_robots.specs.Decision.{IsDecisionOn}
-use Rattle.texting_robots.specs.declared.decision.Decision.{Decision}
-use Rattle.printable_text.specs.{Lines.ended, Sanitize.sanitized}
-use Rattle.printable_text.specs.declared.level.Level.TheVariants.{Error}
-use Rattle.printable_text.specs.Text.{Count, Label, Number, Part, PartValue, ReportLine, Untrusted}
-use Rattle.printable_text.specs.Text.{label, line_from, line_text, only}
-use Rattle.robots_warnings.specs.Crawlers.{other_group}
-use Rattle.audit_expect.specs.declared.checks.{AtVendor.AtVendor, Judgment.Judgment}
+use Rattle.texting_robots.specs.{Decision.IsDecisionOn, declared.decision.Decision.Decision}
+use Rattle.printable_text.specs.{Lines.ended, Sanitize.sanitized, declared.level.Level.TheVariants.Error}
+use Rattle.printable_text.specs.Text.{Count, Label, Number, Part, PartValue, ReportLine, Untrusted, label}
+use Rattle.printable_text.specs.Text.{line_from, line_text, only}
+use Rattle.robots_warnings.specs.{Crawlers.other_group}
+use Rattle.audit_expect.specs.declared.checks.AtVendor.{AtVendor}
+use Rattle.audit_expect.specs.declared.checks.Judgment.{Judgment, TheVariants.Decided, TheVariants.Rejected}
 use Rattle.audit_expect.specs.declared.checks.AtVendor.TheVariants.{Group, Nobody, Same}
-use Rattle.audit_expect.specs.declared.checks.Judgment.TheVariants.{Decided, Rejected}
 use Rattle.audit_core.specs.Findings.{After, FindingValue, Found, found_value}
 use Rattle.audit_core.specs.{Asked.asked_target, Texts.rejected_front, Texts.rejected_line_part}
-use Rattle.audit_expect.specs.{Expect.ExpectationValue, Expect.expectations_in, NormalForm.IsNormalDecision}
-use Rattle.audit_expect.specs.{OtherReading.IsOtherDecision}
+use Rattle.audit_expect.specs.Expect.{ExpectationValue, expectations_in}
+use Rattle.audit_expect.specs.OtherReading.{IsNormalDecision, IsOtherDecision}
 
 -- ---- what the robots.txt file says
 

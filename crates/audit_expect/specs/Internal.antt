@@ -1,3 +1,1 @@
-pub mod Expect
 pub mod Expectations
-pub mod OtherReading

@@ -1,9 +1,16 @@
--- The other reading of an empty Disallow. Here it is an Allow of `/`. For RFC 9309 and Google it is no rule,
--- and only ends the list of user-agent lines above it, as here.
-use Rattle.std.specs.Prelude.{◌↔◌, ℕ, List, Contains}
-use Rattle.texting_robots.specs.{Callers.PlacedRule, Decision.IsDecisionOn}
-use Rattle.texting_robots.specs.declared.decision.Decision.{Decision}
-use Rattle.robots_warnings.specs.EmptyDisallows.{IsEmptyDisallow}
+-- Other readings: of an empty Disallow, and in normal forms.
+use Rattle.std.specs.Prelude.{◌↔◌, ℕ, List, Contains, ◌-◌, ◌++◌, codes, if◌then◌else◌, length, map, nat_eq}
+use Rattle.std.specs.Prelude.{nat_le, take}
+use Rattle.texting_robots.specs.{Callers.PlacedRule, Decision.IsDecisionOn, Pattern.longest_with_dollar}
+use Rattle.texting_robots.specs.declared.decision.{Decision.Decision}
+use Rattle.robots_warnings.specs.{Conflicts.IsEmptyDisallow, Spellings.spelled}
+use Rattle.std.specs.{List.ends_with}
+use Rattle.percent_encoding.specs.{Percent.percent_encode, declared.ascii_set.AsciiSet.AsciiSet}
+use Rattle.robots_warnings.specs.declared.spellings.Spelling.{TheVariants.Standard}
+use Rattle.audit_expect.specs.declared.normal_form.TheConstants.{IN_RULES, IN_TARGETS}
+
+-- ---- The other reading of an empty Disallow. Here it is an Allow of `/`. For RFC 9309 and Google it is no
+-- rule, and only ends the list of user-agent lines above it, as here.
 
 -- `others` are those of the rules whose line isn't an empty Disallow
 pub record AreOthers (bodies : List (List ℕ)) (rules others : List PlacedRule) : Type 0 where
@@ -16,3 +23,37 @@ pub record IsOtherDecision (bodies : List (List ℕ)) (rules : List PlacedRule) 
   pub others : List PlacedRule
   pub are : AreOthers bodies rules others
   pub decided : IsDecisionOn others target decision
+
+-- ---- The reading of RFC 9309, which compares rules and URLs in their normal forms, and for which an empty
+-- Disallow is no rule. As by RFC 3986, a reserved character and its escape differ.
+
+-- the text without escapes of bytes that need none, with the others in uppercase, and with each byte of the set
+-- escaped
+abbrev pub normal_text : AsciiSet → List ℕ → List ℕ
+normal_text set text = percent_encode set (spelled Standard text)
+
+-- the match target of a URL: nothing in it is special, so that stars and dollars are escaped
+abbrev pub normal_target : List ℕ → List ℕ
+normal_target target = normal_text IN_TARGETS target
+
+-- the pattern of a rule: a star and a dollar at the end are special
+abbrev pub normal_pattern : List ℕ → List ℕ
+normal_pattern pattern =
+    if ends_with nat_eq pattern (codes "$")
+    then normal_text IN_RULES (take (length pattern - 1) pattern) ++ codes "$"
+    else normal_text IN_RULES pattern
+
+-- the rule with this pattern; a rule whose normal pattern is longer than all patterns with a dollar that this
+-- library accepts stays as it is
+abbrev pub normal_rule : PlacedRule → PlacedRule
+normal_rule placed =
+    let normal = normal_pattern placed.rule.0 in
+    let pattern = if nat_le (length normal) longest_with_dollar then normal else placed.rule.0 in
+    record { rule = (pattern, placed.rule.1); line = placed.line }
+
+-- the decision of the rules but those of empty Disallows, where normal forms are compared
+pub record IsNormalDecision (bodies : List (List ℕ)) (rules : List PlacedRule) (target : List ℕ)
+    (decision : Decision) : Type 0 where
+  pub others : List PlacedRule
+  pub are : AreOthers bodies rules others
+  pub decided : IsDecisionOn (map normal_rule others) (normal_target target) decision

@@ -1,17 +1,15 @@
 -- The URLs in the file of `--urls`, one per line, and those in arguments.
 use Rattle.std.specs.Prelude.{◌≡◌, ◌⊎◌, ℕ, ◌-◌, ◌==◌, false, not, List, ◌++◌, Option, Some, None, Result, Ok}
-use Rattle.std.specs.Prelude.{◌&&◌, ◌||◌, Bool, Err, drop, if◌then◌else◌, is_some, length, slice_index}
-use Rattle.std.specs.Prelude.{take}
-use Rattle.std.specs.{Char.is_ascii_whitespace, List.find, List.prefix_len, List.suffix_len, Str.byte}
-use Rattle.std.specs.Str.{is_utf8}
-use Rattle.audit_core.specs.{Crawler.is_crawler_name, Crawler.is_word, Fault.IsArgument, Fault.MalformedLine}
-use Rattle.audit_core.specs.Request.{RequestValue}
+use Rattle.std.specs.Prelude.{◌&&◌, ◌||◌, Bool, Err, drop, if◌then◌else◌, is_some, length, slice_index, take}
+use Rattle.std.specs.{Char.is_ascii_whitespace, Str.byte, Str.is_utf8}
+use Rattle.std.specs.List.{find, prefix_len, suffix_len}
+use Rattle.audit_core.specs.Request.{is_crawler_name, is_word, RequestValue}
+use Rattle.audit_core.specs.{Fault.IsArgument, Fault.MalformedLine, declared.fault.Fault.Fault}
+use Rattle.audit_core.specs.{declared.fault.Flaw.Flaw, declared.fault.Fault.TheVariants.Memory}
 use Rattle.audit_expect.specs.Expect.{LineOf, entries_of, is_comment, is_path_or_url, lines}
-use Rattle.audit_core.specs.declared.fault.{Fault.Fault, Flaw.Flaw}
-use Rattle.audit_core.specs.declared.fault.Fault.TheVariants.{Memory}
 use Rattle.audit_core.specs.declared.fault.Flaw.TheVariants.{Comma, Name, NotUtf8, Space, Tag, Url}
-use Rattle.robots_warnings.specs.{Facts.mark, Facts.without_start, Rules.has, Rules.somewhere}
-use Rattle.robots_warnings.specs.Urls.{begins_as_url}
+use Rattle.robots_warnings.specs.Facts.{mark, without_start}
+use Rattle.robots_warnings.specs.{Rules.has, Rules.somewhere, Urls.begins_as_url}
 
 -- the line without ASCII white space at its start
 abbrev pub without_front : List ℕ → List ℕ

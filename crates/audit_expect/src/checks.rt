@@ -1,10 +1,10 @@
 //! What a robots.txt file says about an expectation, here and at the crawler's vendor, and whether it fails.
 ghost use Rattle.std.specs.Prelude.{◌≡◌, IfErr, IfOk, take};
 ghost use Rattle.texting_robots.specs.Callers.{IsRobotOfFile, bodies_read, file_limit};
-ghost use Rattle.audit_expect.specs.Expectations.{IsAtVendor, IsChecked, IsJudgmentOn, fails, fails_at, fails_at_vendor, fails_here, is_unexpected};
+ghost use Rattle.audit_expect.specs.Expectations.{IsAtVendor, IsChecked, IsJudgmentOn, fails, fails_at};
+ghost use Rattle.audit_expect.specs.Expectations.{fails_at_vendor, fails_here, is_unexpected};
 ghost use Rattle.audit_core.specs.Internal.{IsReading};
-ghost use Rattle.audit_expect.specs.Internal.Expectations.{checked_value};
-ghost use Rattle.audit_expect.specs.Internal.OtherReading.{marks_of};
+ghost use Rattle.audit_expect.specs.Internal.Expectations.{checked_value, marks_of};
 
 use crate::expect::Expectation;
 use crate::other_reading::{normal_decision, other_decision};

@@ -1,6 +1,6 @@
 //! The errors for a file of `--expect` or `--urls` that can't be used, as lines are malformed or there are no entries.
 ghost use Rattle.std.specs.Prelude.{◌≡◌, [], IfErr, OnOk};
-ghost use Rattle.audit_expect.specs.Internal.Expect.{AreMalformed, IsWithoutEntries};
+ghost use Rattle.audit_expect.specs.Internal.Expectations.{AreMalformed, IsWithoutEntries};
 
 use audit_core::fault::{Entry, Fault, MalformedLine};
 use std::alloc::{AllocError, Global};

@@ -5,8 +5,9 @@ ghost use Rattle.audit_expect.specs.Expect.{IsLineFault, begins_dot_segment, ent
 ghost use Rattle.audit_expect.specs.Expect.{expectations_in, expects, is_asked_otherwise, is_comment, is_in};
 ghost use Rattle.audit_expect.specs.Expect.{is_path, is_path_or_url, lines, malformed_at, parts, words};
 ghost use Rattle.audit_expect.specs.Expect.{words_with_name};
-ghost use Rattle.audit_core.specs.Crawler.{is_word};
-ghost use Rattle.audit_expect.specs.Internal.Expect.{HasNone, IsFirstSeparator, expectation_value, line_by};
+ghost use Rattle.audit_core.specs.Request.{is_word};
+ghost use Rattle.audit_expect.specs.Internal.Expectations.{HasNone, IsFirstSeparator, expectation_value};
+ghost use Rattle.audit_expect.specs.Internal.Expectations.{line_by};
 
 use crate::entries::{Line, check_lines};
 use audit_core::crawler::is_crawler_name;

@@ -1,20 +1,20 @@
 //! Expectations checked against a robots.txt file, and the report on those that fail.
-ghost use Rattle.std.specs.Prelude.{◌≡◌, ◌==◌, ◌++◌, ◌∷◌, [], IfErr, IfOk, Ok, OnOk, bytes_eq, false};
-ghost use Rattle.std.specs.Prelude.{length, map, string_bytes, take};
+ghost use Rattle.std.specs.Prelude.{◌≡◌, ◌==◌, ◌++◌, ◌∷◌, [], IfErr, IfOk, Ok, OnOk, bytes_eq, false, length};
+ghost use Rattle.std.specs.Prelude.{map, string_bytes, take};
 ghost use Rattle.texting_robots.specs.Callers.{file_limit, robots_file};
 ghost use Rattle.printable_text.specs.Text.{line_text, part_text, parts_text};
 ghost use Rattle.printable_text.specs.{Lines.ended, Sanitize.sanitized, Raw.raw_line, Raw.raw_text};
-ghost use Rattle.audit_core.specs.declared.fault.Entry.TheVariants as entry;
-ghost use Rattle.audit_core.specs.{Asked.asked_target, Findings.finding_value, Findings.found_value};
-ghost use Rattle.audit_core.specs.Internal.{IsReading};
-ghost use Rattle.audit_expect.specs.declared.checks.Judgment.TheVariants.{Decided};
+ghost use Rattle.audit_core.specs.{Asked.asked_target, Internal.IsReading};
+ghost use Rattle.audit_core.specs.Findings.{finding_value, found_value};
+ghost use Rattle.audit_expect.specs.declared.checks.Judgment.{TheVariants.Decided};
 ghost use Rattle.audit_expect.specs.Expect.{IsEntryFault, expectations_in as specified_in};
 ghost use Rattle.audit_expect.specs.Expectations.{IsReport, decision_parts, demand, demand_parts, failure};
-ghost use Rattle.audit_expect.specs.Expectations.{failures, group_parts, holding, judgment_parts, nobody_parts};
-ghost use Rattle.audit_expect.specs.Expectations.{place, placed, reason_parts, rejected_parts, result_lines};
-ghost use Rattle.audit_expect.specs.Expectations.{unmatched, vendor_parts};
-ghost use Rattle.audit_expect.specs.Internal.Expect.{expectation_value};
-ghost use Rattle.audit_expect.specs.Internal.Expectations.{AreFailuresOn, IsReadFor, checked_value};
+ghost use Rattle.audit_expect.specs.Expectations.{failures, group_parts, holding, judgment_parts, place};
+ghost use Rattle.audit_expect.specs.Expectations.{nobody_parts, placed, reason_parts, rejected_parts};
+ghost use Rattle.audit_expect.specs.Expectations.{result_lines, unmatched, vendor_parts};
+ghost use Rattle.audit_expect.specs.Internal.Expectations.{expectation_value, AreFailuresOn, IsReadFor};
+ghost use Rattle.audit_expect.specs.Internal.Expectations.{checked_value};
+ghost use Rattle.audit_core.specs.declared.fault.Entry.TheVariants as entry;
 
 use crate::checks::{AtVendor, Checked, Judgment, checked_on, fails, fails_here, is_unexpected};
 use crate::entries::without_entries;

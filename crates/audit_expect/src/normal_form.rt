@@ -1,6 +1,6 @@
 //! Normal forms of rules and of match targets, in which RFC 9309 compares them.
 ghost use Rattle.std.specs.Prelude.{◌≡◌, IfOk, map, string_bytes};
-ghost use Rattle.audit_expect.specs.NormalForm.{normal_pattern, normal_rule, normal_target, normal_text};
+ghost use Rattle.audit_expect.specs.OtherReading.{normal_pattern, normal_rule, normal_target, normal_text};
 
 use audit_core::rules::Rule;
 use percent_encoding::{AsciiSet, NON_ALPHANUMERIC, ascii_set, percent_encode};

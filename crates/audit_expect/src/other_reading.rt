@@ -5,8 +5,9 @@ ghost use Rattle.std.specs.Option.{option_map_or};
 ghost use Rattle.texting_robots.specs.Callers.{IsBetter, IsOverlong, IsRejected, Matches, PlacedRule, file_bodies, file_lines, placed_rules};
 ghost use Rattle.texting_robots.specs.Decision.{IsDecisionOn};
 ghost use Rattle.audit_core.specs.Asked.{asked_target};
-ghost use Rattle.audit_expect.specs.{NormalForm.IsNormalDecision, OtherReading.IsOtherDecision};
-ghost use Rattle.audit_expect.specs.Internal.OtherReading.{IsDecidedBy, IsPreferred, decision_with, is_marked, marks_of, others_of};
+ghost use Rattle.audit_expect.specs.OtherReading.{IsNormalDecision, IsOtherDecision};
+ghost use Rattle.audit_expect.specs.Internal.Expectations.{IsDecidedBy, IsPreferred, decision_with, marks_of};
+ghost use Rattle.audit_expect.specs.Internal.Expectations.{is_marked, others_of};
 
 use crate::normal_form::{normal_rules, normal_target};
 use audit_core::asked::asked_target;

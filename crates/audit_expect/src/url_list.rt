@@ -4,7 +4,7 @@ ghost use Rattle.robots_warnings.specs.Rules.{somewhere};
 ghost use Rattle.audit_core.specs.Request.{requested_by};
 ghost use Rattle.audit_core.specs.declared.fault.Entry.TheVariants as entry;
 ghost use Rattle.audit_expect.specs.Expect.{IsEntryFault, IsLineFault, entries_at, entries_of, lines, malformed_at};
-ghost use Rattle.audit_expect.specs.Internal.Expect.{line_by};
+ghost use Rattle.audit_expect.specs.Internal.Expectations.{line_by};
 ghost use Rattle.audit_expect.specs.UrlList.{HasUrlsIn, IsUrlFault, argument_flaw, begins_next_url, begins_space};
 ghost use Rattle.audit_expect.specs.UrlList.{first_malformed, trimmed, url_flaw, url_in, urls_in};
 

@@ -1,3 +1,1 @@
 pub mod JsonLemmas
-pub mod RuleLemmas
-pub mod SarifLemmas

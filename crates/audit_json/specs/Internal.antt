@@ -1,7 +1,6 @@
 -- Rules by value.
 use Rattle.std.specs.Prelude.{string_bytes}
-use Rattle.audit_json.specs.declared.sarif.SarifRule.{SarifRule}
-use Rattle.audit_json.specs.Sarif.{SarifRuleValue}
+use Rattle.audit_json.specs.{declared.sarif.SarifRule.SarifRule, Sarif.SarifRuleValue}
 
 abbrev pub rule_value : SarifRule → SarifRuleValue
 rule_value rule = record {

@@ -1,18 +1,16 @@
 -- The audit, or other findings, as one line of JSON.
 use Rattle.std.specs.Prelude.{ℕ, Bool, true, List, [], ◌∷◌, ◌++◌, Option, Some, None, codes, if◌then◌else◌}
 use Rattle.std.specs.Prelude.{◌==◌, length, map, option_map, zip}
-use Rattle.serde_json.specs.Data.{Data, array, boolean, member, no_members, null, number, object, string}
-use Rattle.serde_json.specs.Data.{unsigned}
-use Rattle.serde_json.specs.{View.items_of, Written.compact_text}
+use Rattle.serde_json.specs.{Data.Data, View.items_of, Written.compact_text}
+use Rattle.serde_json.specs.Data.{array, boolean, member, no_members, null, number, object, string, unsigned}
 use Rattle.texting_robots.specs.Callers.{CrawlDelay, LineValue, Label, file_bodies, sitemaps_in}
-use Rattle.printable_text.specs.{Lines.lf, Level.level_word, Sanitize.sanitized}
-use Rattle.audit_core.specs.declared.group.Group.{Group}
+use Rattle.printable_text.specs.{Lines.lf, Text.level_word, Sanitize.sanitized}
+use Rattle.audit_core.specs.{declared.group.Group.Group, Audit.AgentValue, Audit.AuditValue, Texts.may_fetch}
+use Rattle.audit_core.specs.{Audit.VerdictValue, Syntax.has_standard_verdicts, Syntax.is_standard}
 use Rattle.audit_core.specs.declared.group.Group.TheVariants.{Everyone, Named, Nobody, Star}
 use Rattle.audit_core.specs.Rows.{comment_of, has_value, kind_text, line_value_text, membership_word}
-use Rattle.audit_core.specs.{Audit.AgentValue, Audit.AuditValue, Audit.VerdictValue}
-use Rattle.audit_core.specs.{Syntax.has_standard_verdicts, Syntax.is_standard, Texts.may_fetch}
 use Rattle.audit_core.specs.Findings.{FindingValue, found_value, warning_finding}
-use Rattle.robots_warnings.specs.{File.lines_of, WarningValue.WarningValue}
+use Rattle.robots_warnings.specs.{File.lines_of, Message.WarningValue}
 
 -- ---- values
 

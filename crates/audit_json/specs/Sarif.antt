@@ -1,18 +1,17 @@
 -- The findings as a log of SARIF 2.1.0 (OASIS Standard, Static Analysis Results Interchange Format), in one
 -- line.
-use Rattle.std.specs.Prelude.{ℕ, Bool, false, List, [], ◌∷◌, ◌++◌, ◌==◌, ◌&&◌, ◌||◌, Option, Some, None}
-use Rattle.std.specs.Prelude.{bytes_eq, codes, count_by, encode_utf8_all, flat_map, if◌then◌else◌, not}
-use Rattle.std.specs.Prelude.{option_map, unwrap_or}
+use Rattle.std.specs.Prelude.{ℕ, Bool, false, List, [], ◌∷◌, ◌++◌, ◌==◌, ◌&&◌, ◌||◌, Option, Some, None, not}
+use Rattle.std.specs.Prelude.{bytes_eq, codes, count_by, encode_utf8_all, flat_map, if◌then◌else◌, option_map}
+use Rattle.std.specs.Prelude.{unwrap_or}
 use Rattle.std.specs.{Int.is_in_range, List.list_any, Str.byte, Str.chars}
-use Rattle.percent_encoding.specs.Percent.{percent_encode_byte}
+use Rattle.percent_encoding.specs.{Percent.percent_encode_byte}
 use Rattle.serde_json.specs.Data.{Data, array, item, member, no_items, no_members, number, object, string}
 use Rattle.serde_json.specs.Data.{unsigned}
-use Rattle.printable_text.specs.declared.level.Level.{Level}
+use Rattle.printable_text.specs.{declared.level.Level.Level, Text.level_word, Text.reaches}
 use Rattle.printable_text.specs.declared.level.Level.TheVariants.{Error, Note, Warning}
-use Rattle.robots_warnings.specs.declared.table.Cause.{Cause}
-use Rattle.printable_text.specs.Level.{level_word, reaches}
+use Rattle.robots_warnings.specs.{declared.table.Cause.Cause}
 use Rattle.robots_warnings.specs.Table.{all_causes, example_of, level_of, name_of, text_of}
-use Rattle.audit_core.specs.Findings.{FindingValue}
+use Rattle.audit_core.specs.{Findings.FindingValue}
 use Rattle.audit_json.specs.Json.{json_line, list_json}
 
 -- ---- the URI reference of a file

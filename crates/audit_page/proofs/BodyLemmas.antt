@@ -1,10 +1,9 @@
 -- The bodies of the table of lines, one after the other.
-use Rattle.std.proofs.Common.{◌≡◌, ◌∙◌, ℕ, suc, ◌+◌, ◌-◌, ◌/◌, ◌<◌, ◌==◌, List, [], ◌∷◌, ◌++◌, ap}
-use Rattle.std.proofs.Common.{append_assoc, arith, drop, false, length, sym, take, true}
-use Rattle.std.proofs.lemmas.Bool.Decides.{nat_tests}
-use Rattle.std.proofs.lemmas.List.{append-nil, length-drop}
-use Rattle.audit_page.specs.{Page.FileLineValue, Page.bodies, Page.bodies_of, Page.body_lines, Tree.Tree}
-use Rattle.audit_page.specs.Tree.{all, written}
+use Rattle.std.proofs.Common.{◌≡◌, ◌∙◌, ℕ, suc, ◌+◌, ◌-◌, ◌/◌, ◌<◌, ◌==◌, List, [], ◌∷◌, ◌++◌, ap, arith, sym}
+use Rattle.std.proofs.Common.{append_assoc, drop, false, length, take, true}
+use Rattle.std.proofs.lemmas.{Bool.Decides.nat_tests, List.append-nil, List.length-drop}
+use Rattle.audit_page.specs.Page.{FileLineValue, bodies, bodies_of, body_lines}
+use Rattle.audit_page.specs.Tree.{Tree, all, written}
 
 some_bodies : (lines : List FileLineValue) → 0 < length lines
     → bodies lines ≡ take body_lines lines ∷ bodies (drop body_lines lines)

@@ -1,11 +1,11 @@
 -- Lists of warnings by line.
+use Rattle.std.specs.Prelude.{slice_get}
 use Rattle.std.proofs.Common.{◌≡◌, ℕ, zero, suc, ◌==◌, false, List, [], ◌∷◌, ◌++◌, Some, arith, if◌then◌else◌}
 use Rattle.std.proofs.Common.{refl, slice_set, sym}
-use Rattle.std.specs.{Prelude.slice_get, Global.Vec}
-use Rattle.std.proofs.lemmas.Bool.Decides.{nat_tests}
-use Rattle.std.proofs.lemmas.List.{append-nil}
-use Rattle.robots_warnings.specs.declared.warning.Warning.{Warning}
-use Rattle.audit_page.specs.Internal.{list_at}
+use Rattle.std.specs.{Global.Vec}
+use Rattle.std.proofs.lemmas.{Bool.Decides.nat_tests, List.append-nil}
+use Rattle.robots_warnings.specs.declared.warning.{Warning.Warning}
+use Rattle.audit_page.specs.{Internal.list_at}
 
 pub empty_appended : (lists : List (Vec Warning)) (empty : Vec Warning) → empty.items ≡ [] → (k : ℕ)
     → list_at (lists ++ empty ∷ []) k ≡ list_at lists k

@@ -9,10 +9,10 @@ use Rattle.html_writer.specs.Html.{AreAttributes, Attribute, Html, IsContent, Is
 use Rattle.html_writer.specs.Html.{doctype, document, element, end_tag, escaped, escaped_byte, is_character}
 use Rattle.html_writer.specs.Html.{is_letter, is_name, is_name_byte, is_title, style, style_bytes, tag_close}
 use Rattle.html_writer.specs.Html.{tag_open, text, void, void_close, written}
-use Rattle.html_writer.proofs.{TextLemmas.escaped-is, WritingLemmas.content_weaker}
+use Rattle.html_writer.proofs.WritingLemmas.{escaped-is, content_weaker}
 use Rattle.printable_text.specs.Sanitize.{IsPrintable, is_printable, is_printable_byte}
 use Rattle.printable_text.proofs.SanitizeLemmas.{append_printable, ascii_printable, chars_pass, nil_printable}
-use Rattle.audit_core.proofs.EscapeLemmas.{escaped_printable as printable_if_escaped}
+use Rattle.audit_core.proofs.FindingLemmas.{escaped_printable as printable_if_escaped}
 
 -- content where elements may occur, whose texts are printable
 abbrev pub IsPart : Html → Type 0

@@ -2,7 +2,7 @@
 use Rattle.std.proofs.Common.{◌≡◌, ◌-◌, ℕ, List, Some, length, refl}
 use Rattle.html_writer.specs.{Html.document, Reader.read_document}
 use Rattle.printable_text.specs.Sanitize.{IsPrintable}
-use Rattle.robots_warnings.specs.WarningValue.{WarningValue}
+use Rattle.robots_warnings.specs.Message.{WarningValue}
 use Rattle.audit_core.specs.{Audit.AuditValue, Request.RequestValue}
 use Rattle.audit_page.specs.Page.{page, page_tree, rest_count, without_row}
 use Rattle.audit_page.proofs.TreeLemmas.{tree_printable, tree_read}

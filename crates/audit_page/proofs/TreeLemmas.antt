@@ -1,25 +1,23 @@
 -- Every page is written as its tree in `html_writer`, which is printable, and can be read back.
+use Rattle.std.specs.Prelude.{not}
 use Rattle.std.proofs.Common.{◌≡◌, ◌∙◌, ℕ, true, List, [], ◌∷◌, ◌++◌, Some, ap, append_assoc, codes, flat_map}
 use Rattle.std.proofs.Common.{map, refl, sym}
-use Rattle.std.specs.Prelude.{not}
 use Rattle.std.proofs.lemmas.{Bool.and_parts, Bool.not-true, List.append-nil}
-use Rattle.html_writer.specs.Html.{AreAttributes, Attribute, Html, IsContent, attribute_bytes, doctype}
-use Rattle.html_writer.specs.Html.{document, end_tag, escaped, has_attribute, is_among, is_css, is_name}
-use Rattle.html_writer.specs.Html.{is_ordinary, is_title, start_tag, style_bytes, tag_close, tag_open}
-use Rattle.html_writer.specs.Html.{void_close, void_names}
-use Rattle.html_writer.specs.Html as html
-use Rattle.html_writer.specs.Reader.{read_document}
-use Rattle.html_writer.proofs.WritingLemmas.{followed_content, written-followed}
-use Rattle.html_writer.proofs.{ReaderLemmas.page_read, TextLemmas.escaped-append}
+use Rattle.html_writer.specs.{Html.AreAttributes, Reader.read_document}
+use Rattle.html_writer.specs.Html.{Attribute, Html, IsContent, attribute_bytes, doctype, document, end_tag}
+use Rattle.html_writer.specs.Html.{escaped, has_attribute, is_among, is_css, is_name, is_ordinary, is_title}
+use Rattle.html_writer.specs.Html.{start_tag, style_bytes, tag_close, tag_open, void_close, void_names}
+use Rattle.html_writer.proofs.WritingLemmas.{followed_content, written-followed, page_read, escaped-append}
 use Rattle.printable_text.specs.{Sanitize.IsPrintable, Text.parts_text, Text.value_text}
 use Rattle.printable_text.proofs.SanitizeLemmas.{append_printable, ascii_printable, line_printable}
 use Rattle.printable_text.proofs.SanitizeLemmas.{nil_printable}
 use Rattle.printable_text.proofs.PartLemmas.{parts_printable, value_printable}
-use Rattle.audit_page.specs.Html.{html_of}
-use Rattle.audit_page.specs.Tree.{Field, Tree, Words, all, are_fields, both, each, field_attribute}
-use Rattle.audit_page.specs.Tree.{field_bytes, fixed, is_ascii, labelled, message, nothing, opened, shown}
-use Rattle.audit_page.specs.Tree.{style, tag, text, title, void, words_text, words_written, written}
+use Rattle.audit_page.specs.{Html.html_of}
+use Rattle.audit_page.specs.Tree.{Field, Tree, Words, all, are_fields, both, each, field_attribute, fixed}
+use Rattle.audit_page.specs.Tree.{field_bytes, is_ascii, labelled, message, nothing, opened, shown, style}
+use Rattle.audit_page.specs.Tree.{tag, text, title, void, words_text, words_written, written}
 use Rattle.audit_page.proofs.HtmlLemmas.{IsPart, document_printable, printable_html}
+use Rattle.html_writer.specs.Html as html
 
 -- ---- writing
 

@@ -1,15 +1,12 @@
 -- What the parts of a page are written as: markup, which is copied, and values, which are escaped; and lists
 -- of warnings by line.
 use Rattle.std.specs.Prelude.{ℕ, List, [], ◌++◌, Option, Some, None, flat_map, slice_get}
-use Rattle.std.specs.Global.{Vec}
-use Rattle.texting_robots.specs.Callers.{label_by_value}
-use Rattle.html_writer.specs.Html.{escaped}
-use Rattle.printable_text.specs.Raw.{raw_value}
-use Rattle.printable_text.specs.declared.parts.Part.{Part}
-use Rattle.robots_warnings.specs.declared.warning.Warning.{Warning}
-use Rattle.robots_warnings.specs.WarningValue.{WarningValue}
-use Rattle.audit_page.specs.Page.{FileLineValue}
-use Rattle.audit_page.specs.declared.page.file.FileLine.TheInside.{Inside}
+use Rattle.std.specs.{Global.Vec}
+use Rattle.texting_robots.specs.{Callers.label_by_value}
+use Rattle.html_writer.specs.{Html.escaped}
+use Rattle.printable_text.specs.{Raw.raw_value, declared.parts.Part.Part}
+use Rattle.robots_warnings.specs.{declared.warning.Warning.Warning, Message.WarningValue}
+use Rattle.audit_page.specs.{Page.FileLineValue, declared.page.file.FileLine.TheInside.Inside}
 
 -- a line with its content, by value
 abbrev pub line_of : Inside → FileLineValue

@@ -5,33 +5,26 @@
 use Rattle.std.specs.Prelude.{◌≡◌, ℕ, zero, suc, ◌+◌, ◌-◌, ◌/◌, ◌==◌, nat_lt, Bool, true, false, not, List}
 use Rattle.std.specs.Prelude.{[], ◌∷◌, ◌++◌, Option, Some, None, codes, drop, filter, if◌then◌else◌, length}
 use Rattle.std.specs.Prelude.{take, zip}
-use Rattle.std.proofs.Common.{refl}
-use Rattle.std.proofs.lemmas.Bool.{and_parts}
+use Rattle.std.proofs.{Common.refl, lemmas.Bool.and_parts}
 use Rattle.texting_robots.specs.Callers.{Label, LineValue, file_bodies, sitemaps_in}
 use Rattle.html_writer.specs.Html.{Html, tag_close}
-use Rattle.printable_text.specs.Sanitize.{ends_apart}
-use Rattle.printable_text.specs.Text.{Fixed, Named, Nothing, Number, Untrusted, Value, Word, fixed_level}
-use Rattle.printable_text.specs.Text.{is_fixed, word}
-use Rattle.printable_text.specs.declared.level.Level.{Level}
+use Rattle.printable_text.specs.{Sanitize.ends_apart, Text.Untrusted, declared.level.Level.Level}
+use Rattle.printable_text.specs.Text.{Fixed, Named, Nothing, Number, Value, Word, fixed_level, is_fixed, word}
 use Rattle.printable_text.specs.declared.level.Level.TheVariants.{Error, Note, Warning}
-use Rattle.robots_warnings.specs.Message.{reported_parts}
-use Rattle.robots_warnings.specs.declared.closed.Reach.{Reach}
-use Rattle.robots_warnings.specs.{File.lines_of, Table.level_of, WarningValue.WarningValue}
-use Rattle.robots_warnings.specs.declared.table.Cause.{Cause}
+use Rattle.robots_warnings.specs.{Message.reported_parts, declared.closed.Reach.Reach, File.lines_of}
+use Rattle.robots_warnings.specs.{Table.level_of, Message.WarningValue, declared.table.Cause.Cause}
 use Rattle.audit_core.specs.Audit.{AgentValue, AuditValue, VerdictValue, labeling_agent}
-use Rattle.audit_core.specs.Counts.{count_parts}
+use Rattle.audit_core.specs.{Request.RequestValue, declared.syntax.Syntax.TheVariants.StandardVerdicts}
+use Rattle.audit_core.specs.{declared.syntax.Syntax.Syntax, declared.syntax.TheConstants.VERDICTS_SENTENCE}
+use Rattle.audit_core.specs.{Counts.count_parts, Request.shown_name, declared.version.TheConstants.VERSION}
 use Rattle.audit_core.specs.Rows.{comment_of, kind_of, line_value, membership_value}
 use Rattle.audit_core.specs.Texts.{delay_value, group_end, group_reason, group_value, may_fetch}
-use Rattle.audit_core.specs.Request.{RequestValue, shown_name}
-use Rattle.audit_core.specs.{Syntax.has_standard_verdicts, declared.version.TheConstants.VERSION}
-use Rattle.audit_core.specs.Syntax.{is_standard, sentence}
-use Rattle.audit_core.specs.declared.syntax.{Syntax.Syntax, TheConstants.VERDICTS_SENTENCE}
-use Rattle.audit_core.specs.declared.syntax.Syntax.TheVariants.{Standard, StandardVerdicts, StandardWithoutWarnings}
-use Rattle.audit_core.specs.declared.syntax.Syntax.TheVariants.{Unstated}
-use Rattle.audit_page.specs.declared.page.style.TheConstants.{CRAWLERS, CSS, POLICY, REJECTED, SITEMAPS, VERDICTS}
-use Rattle.audit_page.specs.Html.{html_of}
-use Rattle.audit_page.specs.Tree.{Field, Tree, Words, each, field, fixed, is_ascii, labelled, message}
-use Rattle.audit_page.specs.Tree.{nothing, opened, shown, style, tag, text, title, void, with, written, ◌⊕◌}
+use Rattle.audit_core.specs.Syntax.{has_standard_verdicts, is_standard, sentence}
+use Rattle.audit_core.specs.declared.syntax.Syntax.TheVariants.{Standard, StandardWithoutWarnings, Unstated}
+use Rattle.audit_page.specs.{declared.page.style.TheConstants.CRAWLERS, Html.html_of}
+use Rattle.audit_page.specs.declared.page.style.TheConstants.{CSS, POLICY, REJECTED, SITEMAPS, VERDICTS}
+use Rattle.audit_page.specs.Tree.{Field, Tree, Words, each, field, fixed, is_ascii, labelled, message, opened}
+use Rattle.audit_page.specs.Tree.{nothing, shown, style, tag, text, title, void, with, written, ◌⊕◌}
 
 -- ---- parts of several elements
 

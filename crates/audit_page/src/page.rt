@@ -2,12 +2,11 @@
 #![tactic(auto, using(crate::proofs::TreeLemmas::joined))]
 
 ghost use Rattle.std.specs.Prelude.{◌≡◌, ◌++◌, IfOk, OnOk, length, map, option_map};
-ghost use Rattle.texting_robots.specs.Callers.{label_by_value};
-ghost use Rattle.html_writer.specs.Html.{document};
-ghost use Rattle.audit_core.specs.Request.{requested_by};
-ghost use Rattle.audit_page.specs.Page.{date_entry, file_entry, page, page_content, page_head};
-ghost use Rattle.audit_page.specs.Page.{page_tree, summary, syntax_entry};
-ghost use Rattle.audit_page.specs.Tree.{written};
+ghost use Rattle.texting_robots.specs.{Callers.label_by_value};
+ghost use Rattle.html_writer.specs.{Html.document};
+ghost use Rattle.audit_core.specs.{Request.requested_by};
+ghost use Rattle.audit_page.specs.{Page.date_entry, Page.file_entry, Page.page_content, Page.syntax_entry};
+ghost use Rattle.audit_page.specs.{Page.page, Page.page_head, Page.page_tree, Page.summary, Tree.written};
 
 mod by_line;
 mod file;

@@ -1,25 +1,23 @@
 -- Workflow commands are single lines without control or bidirectional-formatting characters, and without
 -- `##[`.
-use Rattle.std.proofs.Common.{◌≡◌, ℕ, ◌==◌, Bool, true, false, List, [], ◌∷◌, ◌++◌, Option, Some, None}
-use Rattle.std.proofs.Common.{append_assoc, arith, codes, decimal, flat_map, map, refl}
 use Rattle.std.specs.Prelude.{if◌then◌else◌, not, ◌||◌, ◌&&◌}
+use Rattle.std.proofs.Common.{◌≡◌, ℕ, ◌==◌, Bool, true, false, List, [], ◌∷◌, ◌++◌, Option, Some, None, arith}
+use Rattle.std.proofs.Common.{append_assoc, codes, decimal, flat_map, map, refl}
 use Rattle.std.specs.List.{AllByRecursion as Each, list_all}
-use Rattle.std.proofs.lemmas.Bool.Decides.{nat_tests}
-use Rattle.std.proofs.lemmas.List.Folds.{list_all-append}
+use Rattle.std.proofs.{lemmas.Bool.Decides.nat_tests, lemmas.List.Folds.list_all-append}
 use Rattle.printable_text.specs.Sanitize.{IsPrintable, has_command, sanitized}
-use Rattle.printable_text.proofs.CommandLemmas.{IsMiddle, after_front, before_middle, byte_middle, decimal_middle}
-use Rattle.printable_text.proofs.CommandLemmas.{escaped_quiet, is_calm, middle_text, sanitized_quiet}
+use Rattle.printable_text.proofs.CommandLemmas.{IsMiddle, after_front, before_middle, byte_middle, is_calm}
+use Rattle.printable_text.proofs.CommandLemmas.{decimal_middle, escaped_quiet, middle_text, sanitized_quiet}
 use Rattle.printable_text.proofs.SanitizeLemmas.{append_printable, decimal_printable, ended_printable}
 use Rattle.printable_text.proofs.SanitizeLemmas.{line_printable, sanitized_printable}
-use Rattle.printable_text.specs.declared.level.Level.{Level}
+use Rattle.printable_text.specs.{declared.level.Level.Level, Text.Label, Text.label}
 use Rattle.printable_text.specs.declared.level.Level.TheVariants.{Error, Note, Warning}
-use Rattle.printable_text.specs.Text.{Label, label}
 use Rattle.printable_text.proofs.PartLemmas.{label_middle, label_printable}
-use Rattle.audit_core.proofs.EscapeLemmas.{escaped_printable}
+use Rattle.audit_core.proofs.FindingLemmas.{escaped_printable, message_printable, message_quiet, name_quiet}
+use Rattle.audit_core.proofs.FindingLemmas.{name_printable}
 use Rattle.audit_core.specs.Findings.{FindingValue, Found, found_value, message_of}
 use Rattle.audit_text.specs.Github.{command, command_label, escaped, escaped_byte, github_text, is_in_line}
 use Rattle.audit_text.specs.Github.{is_in_property, line_property, property_text}
-use Rattle.audit_core.proofs.FindingLemmas.{message_printable, message_quiet, name_printable, name_quiet}
 
 -- ---- no line ends
 

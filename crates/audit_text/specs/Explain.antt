@@ -1,21 +1,18 @@
 -- The list of all warnings, and the explanation of one.
-use Rattle.std.specs.Prelude.{◌≡◌, ◌==◌, ℕ, true, false, List, [], ◌∷◌, ◌++◌, Result, IfErr, IfOk, ◌⊎◌}
-use Rattle.std.specs.Prelude.{bytes_eq, codes, flat_map, if◌then◌else◌, map, not}
-use Rattle.std.specs.Borrow.{Bor}
-use Rattle.std.proofs.Common.{refl}
+use Rattle.std.specs.Prelude.{◌≡◌, ◌==◌, ℕ, true, false, List, [], ◌∷◌, ◌++◌, Result, IfErr, IfOk, ◌⊎◌, codes}
+use Rattle.std.specs.Prelude.{bytes_eq, flat_map, if◌then◌else◌, map, not}
+use Rattle.std.specs.{Borrow.Bor}
+use Rattle.std.proofs.{Common.refl}
 use Rattle.printable_text.specs.Text.{Only, Part, ReportLine, Word, fixed_level, label, line_from, written}
-use Rattle.printable_text.specs.{Lines.lf, Level.level_word, PlainLine.starts}
-use Rattle.printable_text.specs.declared.level.Level.{Level}
+use Rattle.printable_text.specs.Text.{level_word, starts}
+use Rattle.printable_text.specs.{Lines.lf, declared.level.Level.Level}
 use Rattle.printable_text.specs.declared.level.Level.TheVariants.{Error, Note, Warning}
-use Rattle.robots_warnings.specs.declared.table.Cause.{Cause}
-use Rattle.robots_warnings.specs.Message.{fixed_name, fixed_text}
+use Rattle.robots_warnings.specs.{declared.table.Cause.Cause, Message.fixed_name, Message.fixed_text}
 use Rattle.robots_warnings.specs.Table.{all_causes, example_of, is_name, is_not_about_syntax, keeps_verdicts}
 use Rattle.robots_warnings.specs.Table.{level_of, name_of, number_of}
 use Rattle.audit_text.specs.declared.conditions.TheConstants.{CONDITIONS, CORRECTIONS, THEOREMS}
-use Rattle.audit_core.specs.{Answer.IsText, Fault.IsUnknown}
-use Rattle.audit_core.specs.declared.answer.Answer.{Answer}
-use Rattle.audit_core.specs.declared.fault.Fault.{Fault}
-use Rattle.audit_core.specs.declared.fault.Fault.TheVariants.{Memory}
+use Rattle.audit_core.specs.{Answer.IsText, Fault.IsUnknown, declared.answer.Answer.Answer}
+use Rattle.audit_core.specs.declared.fault.Fault.{Fault, TheVariants.Memory}
 
 -- ---- texts
 

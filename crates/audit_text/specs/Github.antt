@@ -7,11 +7,11 @@
 use Rattle.std.specs.Prelude.{ℕ, Bool, true, false, List, [], ◌∷◌, ◌++◌, ◌==◌, ◌&&◌, ◌||◌, not, Option, Some}
 use Rattle.std.specs.Prelude.{None, codes, decimal, flat_map, if◌then◌else◌, map}
 use Rattle.std.specs.{List.list_all, Str.byte}
-use Rattle.std.proofs.Common.{refl}
-use Rattle.printable_text.specs.{Lines.ended, Sanitize.sanitized, Text.Label, Text.label}
-use Rattle.printable_text.specs.declared.level.Level.{Level}
+use Rattle.std.proofs.{Common.refl}
+use Rattle.printable_text.specs.{Lines.ended, Sanitize.sanitized, declared.level.Level.Level}
+use Rattle.printable_text.specs.Text.{Label, label}
 use Rattle.printable_text.specs.declared.level.Level.TheVariants.{Error, Note, Warning}
-use Rattle.audit_core.specs.Findings.{FindingValue}
+use Rattle.audit_core.specs.{Findings.FindingValue}
 
 -- ---- escaping
 

@@ -1,15 +1,12 @@
 -- Notes that are written as one: it has the lines of the others.
-use Rattle.std.specs.Prelude.{ℕ, ◌+◌, ◌-◌, ◌==◌, ◌&&◌, Bool, false, true, not, List, [], ◌∷◌, ◌++◌, Option}
-use Rattle.std.specs.Prelude.{None, Some, codes, filter_map, if◌then◌else◌, is_some, length, nat_lt}
-use Rattle.std.specs.Prelude.{slice_get}
-use Rattle.std.specs.List.{list_any}
-use Rattle.std.proofs.Common.{refl}
-use Rattle.printable_text.specs.Level.{reaches}
-use Rattle.printable_text.specs.Text.{Absent, Label, Number, Part, PartValue, label, only}
-use Rattle.printable_text.specs.declared.level.Level.TheVariants.{Warning}
-use Rattle.robots_warnings.specs.declared.warning.Detail.{Detail}
-use Rattle.robots_warnings.specs.declared.warning.Detail.TheVariants.{Others, Rules}
-use Rattle.robots_warnings.specs.{Table.level_of, Table.number_of, WarningValue.WarningValue}
+use Rattle.std.specs.Prelude.{ℕ, false, Option, filter_map, if◌then◌else◌, is_some, length, nat_lt, slice_get}
+use Rattle.std.specs.Prelude.{◌+◌, ◌-◌, ◌==◌, ◌&&◌, Bool, true, not, List, [], ◌∷◌, ◌++◌, None, Some, codes}
+use Rattle.std.specs.{List.list_any}
+use Rattle.std.proofs.{Common.refl}
+use Rattle.printable_text.specs.Text.{reaches, Absent, Label, Number, Part, PartValue, label, only}
+use Rattle.printable_text.specs.declared.level.Level.{TheVariants.Warning}
+use Rattle.robots_warnings.specs.declared.warning.Detail.{Detail, TheVariants.Others, TheVariants.Rules}
+use Rattle.robots_warnings.specs.{Table.level_of, Table.number_of, Message.WarningValue}
 
 -- the message doesn't end with a line of its own
 abbrev pub has_shared_end : Option Detail → Bool

@@ -1,8 +1,5 @@
-pub mod Counts
 pub mod Joined
 pub mod Listed
-pub mod Verdicts
-pub mod Crawlers
 pub mod Report
 pub mod Explain
 pub mod Github

@@ -1,13 +1,12 @@
 -- Which warnings the text lists: of those that are left when notes are joined, the first twenty of each name
 -- and level. For the others it has their number.
 use Rattle.std.specs.Prelude.{ℕ, ◌-◌, ◌==◌, ◌&&◌, Bool, List, [], bytes_eq, count_by, map}
-use Rattle.std.specs.Bool.{nat_lt}
-use Rattle.audit_core.specs.Counts.{rank}
-use Rattle.audit_text.specs.Joined.{joined, placed}
-use Rattle.audit_text.specs.declared.listed.More.{More}
-use Rattle.printable_text.specs.declared.level.Level.{Level}
-use Rattle.robots_warnings.specs.declared.table.Cause.{Cause}
-use Rattle.robots_warnings.specs.{Table.level_of, Table.name_of, WarningValue.WarningValue}
+use Rattle.std.specs.{Bool.nat_lt}
+use Rattle.audit_core.specs.{Counts.rank}
+use Rattle.audit_text.specs.{Joined.joined, Joined.placed, declared.listed.More.More}
+use Rattle.printable_text.specs.{declared.level.Level.Level}
+use Rattle.robots_warnings.specs.{declared.table.Cause.Cause, Message.WarningValue}
+use Rattle.robots_warnings.specs.Table.{level_of, name_of}
 
 -- how many warnings of one name and level are listed
 abbrev pub most : ℕ

@@ -1,23 +1,122 @@
--- The audit as lines of text.
-use Rattle.std.specs.Prelude.{ℕ, Bool, true, false, List, [], ◌∷◌, ◌++◌, Option, Some, None, codes}
-use Rattle.std.specs.Prelude.{flat_map, if◌then◌else◌, is_some, map}
-use Rattle.std.proofs.Common.{refl}
-use Rattle.texting_robots.specs.Callers.{file_bodies}
-use Rattle.printable_text.specs.Text.{Absent, Count, LevelLine, NamedLine, Number, Part, PartValue}
-use Rattle.printable_text.specs.Text.{ReportLine, Word, label, level_text, fixed_level}
-use Rattle.printable_text.specs.Text.{line_from, named_text, only}
-use Rattle.robots_warnings.specs.Message.{fixed_name, message_parts}
-use Rattle.robots_warnings.specs.declared.table.Cause.{Cause}
-use Rattle.robots_warnings.specs.{Table.level_of, WarningValue.WarningValue}
-use Rattle.audit_core.specs.Audit.{AgentValue, AuditValue, is_allowed, is_denied, total}
+-- A report as lines of text.
+use Rattle.std.specs.Prelude.{◌≡◌, ℕ, Bool, true, false, List, [], ◌∷◌, Option, Some, None, codes, ◌==◌, map}
+use Rattle.std.specs.Prelude.{if◌then◌else◌, nat_lt, ◌++◌, flat_map, is_some}
+use Rattle.std.proofs.{Common.refl}
+use Rattle.printable_text.specs.Text.{starts, Absent, Label, Number, Part, PartValue, ReportLine, Untrusted}
+use Rattle.printable_text.specs.Text.{Value, label, line_from, word, NamedLine, only, Delay, Fixed, Word}
+use Rattle.printable_text.specs.Text.{Count, LevelLine, level_text, fixed_level, named_text}
+use Rattle.audit_core.specs.Audit.{VerdictValue, AgentValue, AuditValue, is_allowed, is_denied, total}
+use Rattle.robots_warnings.specs.Message.{WarningValue, fixed_name, message_parts}
+use Rattle.audit_core.specs.{Counts.count_parts, declared.group.Group.Group, Rows.rows, Syntax.syntax_lines}
+use Rattle.robots_warnings.specs.{declared.closed.Reach.Reach, declared.table.Cause.Cause, Table.level_of}
+use Rattle.audit_core.specs.Texts.{may_fetch, rejected_lines, delay_value, group_line}
+use Rattle.audit_core.specs.declared.group.Group.TheVariants.{Everyone, Named, Nobody, Star}
+use Rattle.texting_robots.specs.{Callers.file_bodies}
 use Rattle.audit_core.specs.Request.{RequestValue, has_rows}
-use Rattle.audit_core.specs.Texts.{delay_value, group_line, rejected_lines}
-use Rattle.audit_core.specs.{Rows.rows, Syntax.syntax_lines}
-use Rattle.audit_text.specs.Crawlers.{crawler_lines, named_verdicts}
 use Rattle.audit_text.specs.Joined.{also_parts, shared_lines}
-use Rattle.audit_text.specs.Listed.{listed, more}
-use Rattle.audit_text.specs.{Counts.count_lines, Verdicts.verdict_line}
-use Rattle.audit_text.specs.declared.listed.More.{More}
+use Rattle.audit_text.specs.{Listed.listed, Listed.more, declared.listed.More.More}
+
+-- ---- The lines with verdicts.
+
+abbrev pub verdict_label : (is_allowed : Bool) → Label
+verdict_label true = label (codes "allow ") refl
+verdict_label false = label (codes "deny ") refl
+
+pub verdict_begins : (is_allowed : Bool) → starts (verdict_label is_allowed).text ≡ true
+verdict_begins true = refl
+verdict_begins false = refl
+
+-- the line that decides, if there is one
+abbrev pub deciding : Option ℕ → Value
+deciding None = word (codes "-") refl
+deciding (Some line) = Number line
+
+-- the crawler's name, if the report is about several
+abbrev pub name_part : Option (List ℕ) → PartValue
+name_part None = Absent
+name_part (Some name) = Part (label (codes " ") refl) (Untrusted name)
+
+-- whether the URL is allowed, the line that decides, that name, and the URL
+abbrev pub verdict_line : (name : Option (List ℕ)) → VerdictValue → ReportLine
+verdict_line name verdict =
+    line_from (Part (verdict_label verdict.decision.allowed) (deciding verdict.decision.line))
+    (verdict_begins verdict.decision.allowed)
+    (name_part name ∷ Part (label (codes " ") refl) (Untrusted verdict.url) ∷ [])
+
+-- ---- The line with the numbers of warnings.
+
+-- such as `robots.txt: 1 error, 2 warnings, 3 notes`
+abbrev pub count_line : List ℕ → List WarningValue → NamedLine
+count_line file warnings = record { name = file; rest = only (codes ": ") refl ∷ count_parts warnings }
+
+-- the same, if there are any warnings
+abbrev pub count_lines : List ℕ → List WarningValue → List NamedLine
+count_lines file [] = []
+count_lines file (warning ∷ warnings) = count_line file (warning ∷ warnings) ∷ []
+
+-- ---- A report on several crawlers: a line for each, and their verdicts.
+
+-- ---- the line about a crawler
+
+-- the group that applies to it
+abbrev pub group_part : List ℕ → Group → PartValue
+group_part agent Named = Part (label (codes ": group ") refl) (Untrusted agent)
+group_part agent Star = Part (label (codes ": group ") refl) (word (codes "*") refl)
+group_part agent Nobody = only (codes ": no group") refl
+group_part agent Everyone = only (codes ": all rules (no User-agent line)") refl
+
+-- the first line that names the group, if one does
+abbrev pub line_part : Option ℕ → PartValue
+line_part None = Absent
+line_part (Some line) = Part (label (codes " (line ") refl) (Number line)
+
+abbrev pub line_end : Option ℕ → PartValue
+line_end None = Absent
+line_end (Some line) = only (codes ")") refl
+
+-- how many rules apply to it, if a group does
+abbrev pub rule_part : Group → ℕ → PartValue
+rule_part Nobody rules = Absent
+rule_part group rules =
+    if rules == 0 then only (codes ", no rules") refl
+    else if rules == 1 then only (codes ", 1 rule") refl
+    else Part (label (codes ", ") refl) (Number rules)
+
+abbrev pub rule_end : Group → ℕ → PartValue
+rule_end Nobody rules = Absent
+rule_end group rules = if nat_lt 1 rules then only (codes " rules") refl else Absent
+
+-- its delay, if it has one
+abbrev pub delay_part : Option ℕ → PartValue
+delay_part None = Absent
+delay_part (Some micros) = Part (label (codes ", delay ") refl) (Delay micros)
+
+-- what it may fetch, if that is everything or nothing
+abbrev pub fetch_part : Option Fixed → PartValue
+fetch_part None = Absent
+fetch_part (Some word) = Part (label (codes ", may fetch ") refl) (Word word)
+
+abbrev pub reach_part : (rejected : Option ℕ) → Reach → PartValue
+reach_part rejected reach = fetch_part (may_fetch rejected reach)
+
+-- such as `crawler GPTBot: group * (line 1), 3 rules, delay 2 s`
+abbrev pub crawler_line : AgentValue → ReportLine
+crawler_line agent =
+    line_from (Part (label (codes "crawler ") refl) (Untrusted agent.agent)) refl
+    (group_part agent.agent agent.group ∷ line_part agent.group_line ∷ line_end agent.group_line
+    ∷ rule_part agent.group agent.rules ∷ rule_end agent.group agent.rules ∷ delay_part agent.delay
+    ∷ reach_part agent.rejected agent.reach ∷ [])
+
+-- this line, and whether the file is rejected for the crawler
+abbrev pub crawler_lines : AgentValue → List ReportLine
+crawler_lines agent = crawler_line agent ∷ rejected_lines agent.agent agent.rejected
+
+-- ---- verdicts
+
+abbrev pub named_verdicts : AgentValue → List ReportLine
+named_verdicts agent = map (verdict_line (Some agent.agent)) agent.verdicts
+
+-- ---- The audit as lines of text.
 
 abbrev pub delay_line : Option ℕ → ReportLine
 delay_line delay = line_from (Part (label (codes "delay: ") refl) (delay_value delay)) refl []

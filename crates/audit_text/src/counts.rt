@@ -1,7 +1,7 @@
 //! The line with the numbers of warnings.
 ghost use Rattle.std.specs.Prelude.{◌≡◌, ◌++◌, OnOk, map, string_bytes};
 ghost use Rattle.printable_text.specs.{Lines.ended, Text.named_text};
-ghost use Rattle.audit_text.specs.Counts.{count_lines};
+ghost use Rattle.audit_text.specs.Report.{count_lines};
 
 use audit_core::counts::count_parts;
 use printable_text::parts::{Part, Value, push_line_of};

@@ -2,8 +2,8 @@
 ghost use Rattle.std.specs.Prelude.{◌≡◌, ◌++◌, OnOk, flat_map, string_bytes};
 ghost use Rattle.printable_text.specs.Text.{line_text, part_text, written};
 ghost use Rattle.printable_text.specs.Raw.{raw_line, raw_text};
-ghost use Rattle.audit_text.specs.Crawlers.{crawler_line, crawler_lines, delay_part, group_part, line_end, line_part};
-ghost use Rattle.audit_text.specs.Crawlers.{named_verdicts, reach_part, rule_end, rule_part};
+ghost use Rattle.audit_text.specs.Report.{crawler_line, crawler_lines, delay_part, group_part, line_end};
+ghost use Rattle.audit_text.specs.Report.{line_part, named_verdicts, reach_part, rule_end, rule_part};
 
 use crate::verdicts::push_verdicts;
 use audit_core::audit::AgentAudit;

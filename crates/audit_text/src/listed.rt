@@ -3,8 +3,8 @@
 ghost use Rattle.std.specs.Prelude.{◌≡◌, ℕ, ◌+◌, ◌<◌, IfOk, List, OnOk, if◌then◌else◌, map};
 ghost use Rattle.audit_text.specs.Internal.Listed.{AreCounts, counted};
 ghost use Rattle.audit_text.specs.Listed.{first_many, is_like, listed, more, more_of, unlisted};
-ghost use Rattle.printable_text.specs.declared.level.Level.{Level};
-ghost use Rattle.robots_warnings.specs.{Table.level_of, Table.name_of, WarningValue.WarningValue};
+ghost use Rattle.printable_text.specs.declared.level.{Level.Level};
+ghost use Rattle.robots_warnings.specs.{Table.level_of, Table.name_of, Message.WarningValue};
 
 use crate::joined::{joined, push_if};
 use robots_warnings::table::Cause;

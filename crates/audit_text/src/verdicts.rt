@@ -2,7 +2,7 @@
 ghost use Rattle.std.specs.Prelude.{◌≡◌, ◌++◌, OnOk, map, option_map, string_bytes};
 ghost use Rattle.printable_text.specs.Text.{line_text, part_text, value_text, written};
 ghost use Rattle.printable_text.specs.Raw.{raw_line, raw_text, raw_value};
-ghost use Rattle.audit_text.specs.Verdicts.{deciding, name_part, verdict_line};
+ghost use Rattle.audit_text.specs.Report.{deciding, name_part, verdict_line};
 
 use audit_core::audit::Verdict;
 use printable_text::parts::{Part, Value, push_line_of};

@@ -1,3 +1,1 @@
-pub mod TextLemmas
-pub mod ReaderLemmas
 pub mod WritingLemmas

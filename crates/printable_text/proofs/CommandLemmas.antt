@@ -1,13 +1,11 @@
 -- Sanitized texts don't contain the start of a command; nor do texts that are appended to each other, unless
 -- one ends and the next one begins with a part of it.
-use Rattle.std.proofs.Common.{◌≡◌, ◌≢◌, ℕ, zero, suc, ◌<◌, ◌==◌, Bool, true, false, List, [], ◌∷◌, ◌++◌}
-use Rattle.std.proofs.Common.{append-nil, append_assoc, arith, decimal, flat_map, inl, inr, refl, replicate}
-use Rattle.std.proofs.Common.{sym}
 use Rattle.std.specs.Prelude.{nat_eq, not, ◌&&◌, ◌||◌}
+use Rattle.std.proofs.Common.{◌≡◌, ◌≢◌, ℕ, zero, suc, ◌<◌, ◌==◌, Bool, true, false, List, [], ◌∷◌, ◌++◌, inl}
+use Rattle.std.proofs.Common.{append-nil, append_assoc, arith, decimal, flat_map, inr, refl, replicate, sym}
 use Rattle.std.specs.{Fmt.digit_glyph, List.list_all, List.starts_with, Str.chars, Str.encode_utf8_all}
-use Rattle.std.proofs.lemmas.Bool.{and_cases, and_left, and_parts, and_right, cases_Bool, false≢true}
-use Rattle.std.proofs.lemmas.Bool.{not-true, or_from, or_parts, or_right}
-use Rattle.std.proofs.lemmas.Bool.Decides.{nat_tests}
+use Rattle.std.proofs.lemmas.Bool.{and_cases, and_left, and_parts, and_right, cases_Bool, false≢true, or_from}
+use Rattle.std.proofs.lemmas.Bool.{not-true, or_parts, or_right, Decides.nat_tests}
 use Rattle.printable_text.specs.Sanitize.{begins_apart, command_start, ends_apart, has_command, is_front}
 use Rattle.printable_text.specs.Sanitize.{is_other, safe_in, sanitized_in, without_commands, without_hash}
 use Rattle.printable_text.proofs.SanitizeLemmas.{chars_pass, decimal_by}

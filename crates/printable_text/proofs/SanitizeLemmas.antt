@@ -1,29 +1,49 @@
--- Sanitized bytes are printable, and printable bytes are unchanged by sanitizing.
-use Rattle.std.proofs.Common.{◌≡◌, ◌≤◌, ℕ, zero, suc, ◌<◌, ◌/◌, ◌%◌, ◌==◌, nat_lt, Bool, true, false, List}
-use Rattle.std.proofs.Common.{[], ◌∷◌, ◌++◌, Option, Some, None, ap, append_assoc, arith, codes, decimal}
-use Rattle.std.proofs.Common.{drop, flat_map, get_or, inl, inr, length, length-append, refl, replicate, subst}
-use Rattle.std.proofs.Common.{sym, take, ◌∙◌}
-use Rattle.std.specs.List.{AllByRecursion as Each, list_all}
-use Rattle.std.specs.{Bool.IsTrue, Char.IsScalar, Char.encode_utf8, Fmt.digit_glyph, Fmt.digits}
-use Rattle.std.specs.{Fmt.digits_onto, Str.IsAscii, Str.all_scalars, Str.chars, Str.encode_utf8_all}
-use Rattle.std.proofs.Math.Seq.{drop-append_seam}
-use Rattle.std.proofs.lemmas.Bool.{and_parts, cases_Bool, cases_lt, cond_both}
-use Rattle.std.proofs.lemmas.List.{append-nil, get_or_default}
+-- Sanitized bytes, and appended lines.
+use Rattle.std.proofs.Common.{◌≡◌, ℕ, ◌≤◌, List, [], ◌∷◌, ◌++◌, sym, ap, ◌∙◌, append_assoc, arith, drop, take}
+use Rattle.std.proofs.Common.{length, zero, suc, ◌<◌, ◌/◌, ◌%◌, ◌==◌, nat_lt, Bool, true, false, Option, Some}
+use Rattle.std.proofs.Common.{None, codes, decimal, flat_map, get_or, inl, inr, length-append, refl, subst}
+use Rattle.std.proofs.Common.{replicate}
+use Rattle.std.specs.{Io.StartsWith, Bool.IsTrue, Char.IsScalar, Char.encode_utf8, Str.chars, Str.IsAscii}
+use Rattle.std.specs.{Str.all_scalars, Str.encode_utf8_all, List.AllByRecursion as Each, List.list_all}
+use Rattle.std.specs.Fmt.{digit_glyph, digits, digits_onto}
+use Rattle.std.proofs.lemmas.List.{Concat.flat_map-append, Folds.list_all-append, Sums.list_all-from_AllPass}
+use Rattle.std.proofs.lemmas.List.{length-take, take-append-drop, take-append-le, append-nil, get_or_default}
+use Rattle.printable_text.specs.Lines.{ended, lf}
+use Rattle.std.proofs.Math.{Seq.drop-append_seam}
+use Rattle.std.proofs.lemmas.Bool.{and_parts, cases_Bool, cases_lt, cond_both, Decides.nat_tests}
 use Rattle.std.proofs.lemmas.Str.{IsUtf8-append, IsUtf8-from_ascii, IsUtf8-nil, chars-IsAscii, chars-append}
 use Rattle.std.proofs.lemmas.Str.{chars-encodes, chars-nil, encodes-chars, len_utf8_bounds, inside_one}
-use Rattle.std.proofs.lemmas.Str.{length-encode, scalars-chars}
-use Rattle.std.proofs.lemmas.Bool.Decides.{nat_tests}
-use Rattle.std.proofs.lemmas.List.{Folds.list_all-append, Sums.list_all-from_AllPass}
-use Rattle.std.proofs.lemmas.Str.Ascii.{IsAscii-cons, IsAscii-nil}
+use Rattle.std.proofs.lemmas.Str.{length-encode, scalars-chars, Ascii.IsAscii-cons, Ascii.IsAscii-nil}
 use Rattle.bstr.specs.Utf8.{Decoded, decoded, good, pieces_from}
 use Rattle.bstr.proofs.lemmas.PieceLemmas.{pieces-nil, pieces-step}
 use Rattle.bstr.proofs.lemmas.{EncodeLemmas.decoded-encode, SoundLemmas.SpellsChar-decoded}
 use Rattle.texting_robots.specs.Escape.{escape_byte, escaped, is_escaped}
-use Rattle.printable_text.specs.Lines.{ended, lf}
-use Rattle.printable_text.specs.Sanitize.{IsPrintable, IsPrintableIn, has_command, is_printable}
-use Rattle.printable_text.specs.Sanitize.{is_printable_byte, safe_chunk, safe_chunks, safe_in, sanitized}
-use Rattle.printable_text.specs.Sanitize.{sanitized_in, sanitized_lines, without_commands, without_hash}
+use Rattle.printable_text.specs.Sanitize.{IsPrintable, IsPrintableIn, has_command, is_printable, safe_chunk}
+use Rattle.printable_text.specs.Sanitize.{is_printable_byte, safe_chunks, safe_in, sanitized, sanitized_in}
+use Rattle.printable_text.specs.Sanitize.{sanitized_lines, without_commands, without_hash}
 use lib.Utf8.{scalar}
+
+-- ---- Appending terminated lines to a string.
+
+pub ended-append : (lines more : List (List ℕ)) → ended (lines ++ more) ≡ ended lines ++ ended more
+ended-append lines more = flat_map-append (λ line. line ++ lf ∷ []) lines more
+
+-- appending some lines and then more lines appends all of them
+pub lines_added : (old mid new : List ℕ) (lines more : List (List ℕ)) → mid ≡ old ++ ended lines
+    → new ≡ mid ++ ended more → new ≡ old ++ ended (lines ++ more)
+lines_added old mid new lines more one two =
+    two ∙ ap (λ t. t ++ ended more) one ∙ append_assoc old (ended lines) (ended more)
+    ∙ ap (λ t. old ++ t) (sym (ended-append lines more))
+
+-- a text that begins with one that begins with another begins with that
+pub starts_on : (old mid new : List ℕ) → StartsWith mid old → StartsWith new mid → StartsWith new old
+starts_on old mid new one two =
+    let within : length old ≤ length mid = omega (arith, ap length one, length-take (length old) mid) in
+    let whole : mid ++ drop (length mid) new ≡ new =
+    ap (λ t. t ++ drop (length mid) new) (sym two) ∙ take-append-drop (length mid) new in
+    ap (λ t. take (length old) t) (sym whole) ∙ take-append-le (length old) mid _ within ∙ one
+
+-- ---- Sanitized bytes are printable, and printable bytes are unchanged by sanitizing.
 
 -- ---- characters and numbers
 

@@ -1,9 +1,8 @@
 -- What the parts of a line are written as.
 use Rattle.std.specs.Prelude.{ℕ, List, [], ◌++◌, decimal, flat_map}
 use Rattle.printable_text.specs.{Sanitize.sanitized, Delay.delay_text, Text.shown_name}
-use Rattle.printable_text.specs.declared.parts.{Part.Part, Value.Value}
-use Rattle.printable_text.specs.declared.parts.Value.TheVariants.{Delay, Named, Nothing, Number, Untrusted}
-use Rattle.printable_text.specs.declared.parts.Value.TheVariants.{Word}
+use Rattle.printable_text.specs.declared.parts.{Part.Part, Value.Value, Value.TheVariants.Delay}
+use Rattle.printable_text.specs.declared.parts.Value.TheVariants.{Named, Nothing, Number, Untrusted, Word}
 
 abbrev pub raw_value : Value → List ℕ
 raw_value Nothing = []

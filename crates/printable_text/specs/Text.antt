@@ -1,15 +1,92 @@
--- Lines as data: a specification makes them of parts, each of which is safe by its type. So whatever the
+-- Lines as data, their parts, levels and colors.
+use Rattle.std.specs.Prelude.{ℕ, Bool, true, false, List, codes, ◌≡◌, ◌==◌, not, ◌||◌, IsTrue, [], ◌∷◌, ◌⊎◌}
+use Rattle.std.specs.Prelude.{if◌then◌else◌, ◌++◌, flat_map, ◌-◌, ◌&&◌, decimal, length, map, replicate}
+use Rattle.printable_text.specs.{declared.level.Level.Level, Lines.ended, Delay.delay_text}
+use Rattle.printable_text.specs.declared.level.Level.TheVariants.{Error, Note, Warning}
+use Rattle.std.specs.{Str.byte, List.AllByRecursion as Each, List.list_all}
+use Rattle.printable_text.specs.Sanitize.{IsPrintableIn, has_command, IsPrintable, begins_apart, ends_apart}
+use Rattle.printable_text.specs.Sanitize.{is_printable_byte, sanitized}
+use Rattle.std.proofs.{Common.refl}
+
+-- ---- How serious a warning is.
+
+-- the word for a level in a report and in JSON
+abbrev pub level_word : Level → List ℕ
+level_word Error = codes "error"
+level_word Warning = codes "warning"
+level_word Note = codes "note"
+
+-- the level is `least` or a more serious one
+abbrev pub reaches : (level least : Level) → Bool
+reaches level Note = true
+reaches Error least = true
+reaches Warning Warning = true
+reaches Warning Error = false
+reaches Note Warning = false
+reaches Note Error = false
+
+-- ---- Lines that no workflow on GitHub takes for a command. A command begins with `::`, possibly after
+-- spaces at the start of a line, or with `##[` anywhere in a line.
+
+-- the first byte that isn't a space is neither `:` nor `#`
+abbrev pub begins_plainly : List ℕ → Bool
+begins_plainly [] = true
+begins_plainly (b ∷ text) =
+    if b == byte " " then begins_plainly text else not (b == byte ":" || b == byte "#")
+
+-- a single line without control or bidirectional-formatting characters, which isn't a command
+pub record IsPlainLine (line : List ℕ) : Type 0 where
+  pub printable : IsPrintableIn false line
+  pub begins : IsTrue (begins_plainly line)
+  pub inside : has_command line ≡ false
+
+-- the text has a byte that isn't a space, and the first one is neither `:` nor `#`
+abbrev pub starts : List ℕ → Bool
+starts [] = false
+starts (b ∷ text) = if b == 32 then starts text else not (b == 58 || b == 35)
+
+-- ---- Levels in color, and texts with color codes.
+
+-- the code that begins the color of a level: bold red, yellow or cyan
+abbrev pub color_of : Level → List ℕ
+color_of Error = 27 ∷ codes "[1;31m"
+color_of Warning = 27 ∷ codes "[1;33m"
+color_of Note = 27 ∷ codes "[1;36m"
+
+-- the code that ends a color
+abbrev pub color_end : List ℕ
+color_end = 27 ∷ codes "[0m"
+
+-- the word for a level, in its color if there are colors
+abbrev pub shown_word : (has_colors : Bool) → Level → List ℕ
+shown_word false level = level_word level
+shown_word true level = color_of level ++ (level_word level ++ color_end)
+
+-- ---- texts with color codes
+
+-- the part of a text is printable and shown as it is, or it is the word for a level between the code that
+-- begins its color and the one that ends it, and the word is shown; so no color goes on after its word
+abbrev pub IsShownAs : (part shown : List ℕ) → Type 0
+IsShownAs part shown =
+    (IsPrintable part × (shown ≡ part))
+    ⊎ ((level : Level) × (part ≡ shown_word true level) × (shown ≡ level_word level))
+
+-- the text consists of printable parts and colored words, and without the codes it is `plain`
+pub record IsColored (plain text : List ℕ) : Type 0 where
+  -- each part, and what is shown of it
+  pub parts : List (List ℕ × List ℕ)
+  pub each : Each (λ part. IsShownAs part.0 part.1) parts
+  pub text_is : text ≡ flat_map (λ part. part.0) parts
+  pub plain_is : plain ≡ flat_map (λ part. part.1) parts
+
+-- the text is printable or, if there are colors, consists of printable parts and colored words
+abbrev pub IsForTerminal : (has_colors : Bool) → List ℕ → Type 0
+IsForTerminal false text = IsPrintable text
+IsForTerminal true text = (plain : List ℕ) × IsColored plain text
+
+-- ---- Lines as data: a specification makes them of parts, each of which is safe by its type. So whatever the
 -- parts are, the line is printable, and has no `##[`. A `ReportLine` doesn't begin with `::` either, so no
 -- workflow on GitHub takes it for a command; a line that begins with the name of a file may.
-use Rattle.std.specs.Prelude.{◌≡◌, ℕ, ◌-◌, ◌==◌, Bool, true, false, ◌&&◌, List, [], ◌++◌, codes, decimal}
-use Rattle.std.specs.Prelude.{flat_map, if◌then◌else◌, length, map, not, replicate}
-use Rattle.std.specs.{List.list_all, Str.byte}
-use Rattle.std.proofs.Common.{refl}
-use Rattle.printable_text.specs.Sanitize.{begins_apart, ends_apart, has_command, is_printable_byte, sanitized}
-use Rattle.printable_text.specs.Level.{level_word}
-use Rattle.printable_text.specs.{Lines.ended, Color.shown_word, Delay.delay_text, PlainLine.starts}
-use Rattle.printable_text.specs.declared.level.Level.{Level}
-use Rattle.printable_text.specs.declared.level.Level.TheVariants.{Error, Note, Warning}
 
 -- ---- fixed texts
 

@@ -1,6 +1,6 @@
 //! How serious a warning is, and the word for it, in color or not.
 ghost use Rattle.std.specs.Prelude.{◌≡◌, true};
-ghost use Rattle.printable_text.specs.{Level.level_word, Level.reaches, Color.shown_word};
+ghost use Rattle.printable_text.specs.Text.{level_word, reaches, shown_word};
 
 /// How serious a warning is.
 #[derive(Clone, Copy, PartialEq, Eq)]

@@ -1,15 +1,14 @@
 -- A text built from the standard's productions consists of lines. A file of the grammar consists of the lines
 -- of its groups, and its sitemaps are those of its sitemap lines.
-use Rattle.std.proofs.Common.{◌≡◌, ◌≢◌, inl, inr, ℕ, List, [], ◌∷◌, ◌++◌, append-nil, append_assoc, ap}
-use Rattle.std.proofs.Common.{filter, flat_map, map, refl, subst, sym, ◌∙◌}
+use Rattle.std.proofs.Common.{◌≡◌, ◌≢◌, inl, inr, ℕ, List, [], ◌∷◌, ◌++◌, append-nil, append_assoc, ap, map}
+use Rattle.std.proofs.Common.{filter, flat_map, refl, subst, sym, ◌∙◌}
 use Rattle.std.specs.List.{AllByRecursion as Each, AllZip}
 use Rattle.texting_robots.specs.Executable.{file_bodies, file_lines, sitemaps_in}
 use Rattle.texting_robots.specs.{Line.nul_as_lf, Line.without_front, Internal.Cut.bodies_of, Trim.IsTrimOf}
 use Rattle.rfc9309_laws.proofs.SyntaxLemmas.{each_front, repeats_both, repeats_none, repeats_one}
 use Rattle.rfc9309_laws.proofs.ReadLemmas.{after_bom, file_sources, low_of_front, BeginsLow, IsBefore}
-use Rattle.rfc9309_laws.proofs.ReadLemmas.{bare_no_nul, end_bytes, last_end_adds_none, line_before}
-use Rattle.rfc9309_laws.proofs.ReadLemmas.{before_sources, low_append, sources_in, sources_of, file_same}
-use Rattle.rfc9309_laws.proofs.ReadLemmas.{lines_in}
+use Rattle.rfc9309_laws.proofs.ReadLemmas.{bare_no_nul, end_bytes, last_end_adds_none, line_before, file_same}
+use Rattle.rfc9309_laws.proofs.ReadLemmas.{before_sources, low_append, sources_in, sources_of, lines_in}
 use Rattle.rfc9309_laws.proofs.{HasFormLemmas.form_passes, OtherLemmas.empty_line, OtherLemmas.other_line}
 use Rattle.rfc9309_laws.proofs.KeyedLemmas.{AreFree, HasNoRule, IsLineOf}
 use Rattle.rfc9309_laws.proofs.MemberLemmas.{member_line, sitemap_line, token_line}
@@ -18,7 +17,7 @@ use Rattle.rfc9309_laws.proofs.Sources.{Parts, Source, onto, parts_in, parts_of,
 use Rattle.rfc9309_laws.proofs.Sources.{with_token, with_address}
 use Rattle.rfc9309_laws.specs.LineForms.{Form, IsLine, Empty, Agent, Rule, Delay, Sitemap, Other}
 use Rattle.rfc9309_laws.specs.StandardRobot.{IsFileBelow, IsFileWith}
-use Rattle.std.proofs.lemmas.Grind.{flat_map-append}
+use Rattle.std.proofs.lemmas.{Grind.flat_map-append}
 use Rattle.texting_robots.proofs.{CutFromFront.bodies_nil, TrimLemmas.each_append}
 use Rattle.rfc9309_laws.specs.Rfc9309 as rfc
 use Rattle.texting_robots.specs.Line as library

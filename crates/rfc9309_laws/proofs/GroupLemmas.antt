@@ -1,7 +1,7 @@
 -- A crawler gets the rules and the delay that the source lines define for it.
 use Rattle.std.proofs.Common.{◌≡◌, ℕ, Bool, true, false, not, ◌||◌, List, [], ◌∷◌, ◌++◌, Option, Some, None}
-use Rattle.std.proofs.Common.{flat_map, filter, cond, bytes_eq, sym, refl, ap, ◌∙◌, subst, append-nil}
-use Rattle.std.proofs.Common.{slice_get, ◌&&◌, arith}
+use Rattle.std.proofs.Common.{flat_map, filter, cond, bytes_eq, sym, refl, ap, ◌∙◌, subst, append-nil, ◌&&◌}
+use Rattle.std.proofs.Common.{slice_get, arith}
 use Rattle.std.specs.List.{AllZip, AllByRecursion as Each, list_any, cons_option, filter_map, last_or}
 use Rattle.texting_robots.specs.Executable.{rule_in, rules_for, captured_delays, delay_for}
 use Rattle.texting_robots.specs.Line.{LineValue, UserAgent, Allow, CrawlDelay, Disallow, delay_in}
@@ -10,12 +10,11 @@ use Rattle.texting_robots.proofs.CapturedLemmas.{cond_same, given_captured, rule
 use Rattle.rfc9309_laws.specs.Rfc9309.{Group, Member, put_before, is_rule, has_token, groups_for}
 use Rattle.rfc9309_laws.proofs.Sources.{GivesRuleOf, IsRead, Source, allowed_in, member_in, parts_in}
 use Rattle.texting_robots.proofs.RulesLemmas.{before_agent, before_agents, option_or_none}
-use Rattle.rfc9309_laws.specs.StandardRobot.{IsDelayAs, IsDelayOf, delay_among, is_delay}
+use Rattle.rfc9309_laws.specs.StandardRobot.{IsDelayAs, IsDelayOf, delay_among, is_delay, IsReadAs}
 use Rattle.std.specs.{Str.str_to_ascii_lowercase, Option.option_or}
-use Rattle.std.proofs.{lemmas.List.Elements.filter-append}
+use Rattle.std.proofs.lemmas.List.{Elements.filter-append}
 use Rattle.texting_robots.specs.{declared.groups.GroupTracker.GroupTracker, Rules.Rule}
-use Rattle.texting_robots.specs.{Internal.Group.start_of}
-use Rattle.rfc9309_laws.specs.{ReadAs.IsReadAs}
+use Rattle.texting_robots.specs.Internal.{Group.start_of}
 use Rattle.rfc9309_laws.proofs.{ReadLemmas.lines_in}
 use Rattle.rfc9309_laws.specs.Rfc9309 as rfc
 

@@ -10,22 +10,22 @@ use Rattle.std.proofs.lemmas.Str.{IsUtf8-append, IsUtf8-encode, IsUtf8-nil, enco
 use lib.Utf8.{low_scalar}
 use Rattle.texting_robots.specs.Statement.{IsBlank, IsStatement, field_names}
 use Rattle.texting_robots.specs.{Line.LineValue, Trim.IsTrimOf, declared.parser.statement.Kind.Kind}
+use Rattle.texting_robots.specs.{Internal.Statement.IsOptionalComment, Internal.Line.line_with}
 use Rattle.texting_robots.proofs.TrimLemmas.{each_append, blanks_skipped, same_trim}
 use Rattle.texting_robots.proofs.{LineLemmas.line_stated, StatementLemmas.statement_found}
-use Rattle.rfc9309_laws.proofs.CharLemmas.{IsCharByte, IsCharText, char_text}
+use Rattle.rfc9309_laws.proofs.HasFormLemmas.{IsCharByte, IsCharText, char_text, blank}
 use Rattle.rfc9309_laws.proofs.ValueLemmas.{blank_no_letter, identifier_bounds, blanks_after, identifier}
 use Rattle.rfc9309_laws.proofs.Sources.{IsRead, Source, is_not_raw, parts_in, source_of, written}
-use Rattle.rfc9309_laws.proofs.{SyntaxLemmas.each_weaker, SyntaxLemmas.many, HasFormLemmas.blank}
+use Rattle.rfc9309_laws.proofs.SyntaxLemmas.{each_weaker, many}
 use Rattle.rfc9309_laws.proofs.ReadLemmas.{BeginsLow, IsBare}
 use Rattle.rfc9309_laws.specs.HasForm.{colon, has_byte, hash, is_blank, is_comment_byte, is_comment_text}
-use Rattle.rfc9309_laws.specs.HasForm.{is_value_byte, is_value_text, kept_before, name_in, stripped}
+use Rattle.rfc9309_laws.specs.HasForm.{is_value_byte, is_value_text, kept_before, name_in, stripped, has_form}
 use Rattle.rfc9309_laws.specs.HasForm.{text_after, text_before, text_from, without_leading, without_trailing}
-use Rattle.rfc9309_laws.specs.HasForm.{has_form, is_identifier_byte, is_keyed, is_number, is_pattern}
-use Rattle.rfc9309_laws.specs.HasForm.{is_product_token, lower, value_in}
+use Rattle.rfc9309_laws.specs.HasForm.{is_identifier_byte, is_keyed, is_number, is_pattern, is_product_token}
+use Rattle.rfc9309_laws.specs.HasForm.{lower, value_in}
 use Rattle.rfc9309_laws.specs.LineForms.{Form, Agent, Delay, Rule, Sitemap}
-use Rattle.std.specs.Str.{IsUtf8}
-use Rattle.std.proofs.lemmas.{Bool.Decides.nat_tests, Slice.Eq.bytes_eq-Decides}
-use Rattle.texting_robots.specs.Internal.{Statement.IsOptionalComment, Line.line_with}
+use Rattle.std.specs.{Str.IsUtf8}
+use Rattle.std.proofs.{lemmas.Bool.Decides.nat_tests, lemmas.Slice.Eq.bytes_eq-Decides}
 use Rattle.rfc9309_laws.specs.Rfc9309 as rfc
 use Rattle.texting_robots.specs.declared.parser.statement.Kind.TheVariants as kind
 

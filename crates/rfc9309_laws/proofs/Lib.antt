@@ -6,7 +6,6 @@ pub mod MemberLemmas
 pub mod OtherLemmas
 pub mod HasFormLemmas
 pub mod SyntaxLemmas
-pub mod CharLemmas
 pub mod ValueLemmas
 pub mod Sources
 pub mod ReadLemmas

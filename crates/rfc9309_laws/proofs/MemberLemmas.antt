@@ -9,7 +9,7 @@ use Rattle.texting_robots.specs.{Delay.NamesDelay, Delay.Writes, Trim.IsTrimOf, 
 use Rattle.texting_robots.specs.Internal.{Line.line_with, Line.delay_or_raw, Delay.delay_of, Delay.rounded}
 use Rattle.texting_robots.proofs.DelayLemmas.{is_delay_of, one_delay, rounded_rounds}
 use Rattle.texting_robots.proofs.TrimLemmas.{each_append, trimmed_is_trim}
-use Rattle.rfc9309_laws.proofs.CharLemmas.{IsCharText, chars_text, text_append}
+use Rattle.rfc9309_laws.proofs.HasFormLemmas.{IsCharText, chars_text, text_append}
 use Rattle.rfc9309_laws.proofs.KeyedLemmas.{IsLineOf, keyed_line, has_at, parts_at, passes, value_passes}
 use Rattle.rfc9309_laws.proofs.ValueLemmas.{IsVisible, trim_some, trim_utf8, visible_trim, visible_utf8}
 use Rattle.rfc9309_laws.proofs.Sources.{Parts, Source, allowed_in, with_address, with_member, with_source}

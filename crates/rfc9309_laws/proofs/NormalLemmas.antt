@@ -1,20 +1,20 @@
 -- Normal forms of URIs, and paths with an odd escape, which match none of them. On normal forms the library's
 -- matching is that of the standard.
+use Rattle.std.specs.Prelude.{slice_index}
 use Rattle.std.proofs.Common.{◌≡◌, ◌↔◌, ℕ, ◌+◌, ◌*◌, ◌<◌, ◌==◌, ◌&&◌, ◌||◌, ltb, Bool, true, false, inl, inr}
 use Rattle.std.proofs.Common.{List, [], ◌∷◌, ◌++◌, refl, sym, ap, ◌∙◌, subst, arith, append-nil, append_assoc}
-use Rattle.std.specs.{Char.digit_value, Char.is_ascii_alphanumeric, Char.is_ascii_hexdigit}
-use Rattle.std.specs.{Char.is_ascii_lowercase, Char.to_ascii_uppercase, List.list_all, Prelude.slice_index}
+use Rattle.std.specs.{Char.digit_value, Char.is_ascii_alphanumeric, Char.is_ascii_hexdigit, List.list_all}
+use Rattle.std.specs.{Char.is_ascii_lowercase, Char.to_ascii_uppercase, Fmt.digit_glyph}
 use Rattle.std.proofs.lemmas.Bool.{agree_below, agree_below_at, and_parts, and_right, both_ways, cases_Bool}
-use Rattle.std.proofs.lemmas.Bool.{eqb-true, lt-ltb, ltb-true, not-true, or_parts}
-use Rattle.std.proofs.lemmas.{Bool.Decides.nat_tests, List.append-nil}
+use Rattle.std.proofs.lemmas.Bool.{eqb-true, lt-ltb, ltb-true, not-true, or_parts, Decides.nat_tests}
+use Rattle.std.proofs.lemmas.{List.append-nil}
 use Rattle.texting_robots.specs.Escape.{escaped, escape_byte, is_escaped}
 use Rattle.texting_robots.specs.Pattern.{Consumes, IsSuffix, Matches, MatchesWith, dollar, star}
-use Rattle.texting_robots.proofs.PatternLemmas.{suffix_trans}
+use Rattle.texting_robots.proofs.{SegmentLemmas.suffix_trans}
 use Rattle.rfc9309_laws.specs.Comparable.{has_odd_escape, is_normal, is_uri_octet, IsComparedAs}
-use Rattle.rfc9309_laws.specs.Matching.{Reading, all_stay, in_uri, is_escape, is_kept, is_unreserved}
-use Rattle.rfc9309_laws.specs.Matching.{normal_escape, normal_from, normal_octet, normal_uri, IsMatch, filled}
+use Rattle.rfc9309_laws.specs.Matching.{Reading, all_stay, in_uri, is_escape, is_kept, is_unreserved, IsMatch}
+use Rattle.rfc9309_laws.specs.Matching.{normal_escape, normal_from, normal_octet, normal_uri, filled}
 use Rattle.rfc9309_laws.specs.Matching.{first_of, has_dollar, is_ended, later_of, without_end}
-use Rattle.std.specs.Fmt.{digit_glyph}
 
 pub hex_low : (b : ℕ) → is_ascii_hexdigit b ≡ true → b < 128
 hex_low b is = grind (arith, nat_tests)

@@ -1,28 +1,28 @@
 -- Empty lines, comments, and records that the library ignores; and what all lines have in common.
-use Rattle.std.proofs.Common.{◌≡◌, ◌⊎◌, inl, inr, ℕ, true, false, not, List, [], ◌∷◌, ◌++◌, Option, Some}
-use Rattle.std.proofs.Common.{None, append-nil, append_assoc, ap, arith, bytes_eq, drop, filter, get_or, refl}
+use Rattle.std.proofs.Common.{◌≡◌, ◌⊎◌, inl, inr, ℕ, true, false, not, List, [], ◌∷◌, ◌++◌, Option, Some, ap}
+use Rattle.std.proofs.Common.{None, append-nil, append_assoc, arith, bytes_eq, drop, filter, get_or, refl}
 use Rattle.std.proofs.Common.{subst, sym, ◌∙◌, ◌≢◌}
 use Rattle.std.specs.List.{AllByRecursion as Each, Contains, list_all, list_any}
-use Rattle.std.proofs.lemmas.{Bool.and_from, Bool.false_from_ne_true, Bool.Decides.nat_tests, List.map-append}
-use Rattle.std.proofs.lemmas.{List.append_cancel_right, Map.Views.Contains-from_any}
+use Rattle.std.proofs.lemmas.Bool.{and_from, false_from_ne_true, Decides.nat_tests}
+use Rattle.std.proofs.lemmas.List.{map-append, append_cancel_right}
+use Rattle.std.proofs.{lemmas.Map.Views.Contains-from_any, lemmas.Slice.Eq.bytes_eq-Decides}
 use Rattle.texting_robots.specs.{Cut.IsBodyByte, Cut.cr, Cut.lf, declared.parser.statement.Kind.Kind}
 use Rattle.texting_robots.specs.Statement.{IsAfterBlanks, IsAfterColon, IsStatement}
 use Rattle.texting_robots.specs.Internal.Statement.{IsOptionalComment, kind_by, skip_blanks, statement_of}
 use Rattle.texting_robots.proofs.{LineLemmas.line_raw, LineLemmas.line_without_kind, TrimLemmas.each_append}
 use Rattle.texting_robots.proofs.StatementLemmas.{NoBlank, found_statement, kept, skip_front}
-use Rattle.rfc9309_laws.proofs.KeyedLemmas.{IsLineOf, IsNamed, IsValueByte, blank_passes, blanks_low}
-use Rattle.rfc9309_laws.proofs.KeyedLemmas.{blanks_value, comment_text, identifier_name, named, parts_comment}
+use Rattle.rfc9309_laws.proofs.KeyedLemmas.{IsLineOf, IsNamed, IsValueByte, blank_passes, blanks_low, named}
+use Rattle.rfc9309_laws.proofs.KeyedLemmas.{blanks_value, comment_text, identifier_name, parts_comment}
 use Rattle.rfc9309_laws.proofs.KeyedLemmas.{passes, remark, values_bare}
 use Rattle.rfc9309_laws.proofs.MemberLemmas.{delay_line, name_passes, rule_line, sitemap_line, token_line}
 use Rattle.rfc9309_laws.proofs.ReadLemmas.{IsBare, low_append}
 use Rattle.rfc9309_laws.proofs.ValueLemmas.{IsWritten, Stops, blank_no_letter, identifier_bounds, same_word}
 use Rattle.rfc9309_laws.proofs.ValueLemmas.{written as expressed}
 use Rattle.rfc9309_laws.proofs.Sources.{Source, is_not_raw, written}
-use Rattle.rfc9309_laws.specs.HasForm.{colon, has_byte, has_form, hash, is_blank, is_comment_text}
-use Rattle.rfc9309_laws.specs.HasForm.{is_other_name, lower}
+use Rattle.rfc9309_laws.specs.HasForm.{colon, has_byte, has_form, hash, is_blank, is_comment_text, lower}
+use Rattle.rfc9309_laws.specs.HasForm.{is_other_name}
 use Rattle.rfc9309_laws.specs.LineForms.{Form, HasForm, IsLine, Empty, Agent, Rule, Delay, Sitemap, Other}
-use Rattle.std.specs.Char.{to_ascii_lowercase}
-use Rattle.std.proofs.lemmas.Slice.Eq.{bytes_eq-Decides}
+use Rattle.std.specs.{Char.to_ascii_lowercase}
 use Rattle.rfc9309_laws.proofs.SyntaxLemmas.{each_back, each_weaker}
 use Rattle.rfc9309_laws.specs.Rfc9309 as rfc
 

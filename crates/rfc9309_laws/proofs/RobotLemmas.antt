@@ -1,21 +1,22 @@
 -- The robot of a file in the standard's grammar has the rules, the delay and the sitemaps that the file
 -- states. A file in the standard's own grammar is also one in the extended grammar.
+use Rattle.std.specs.Prelude.{take}
 use Rattle.std.proofs.Common.{inl, inr, ℕ, List, [], refl, sym, subst, append-nil, ◌≡◌, ◌∷◌, filter, map, ◌∙◌}
 use Rattle.texting_robots.specs.Executable.{delay_for, file_lines, placed_rules, rules_for}
 use Rattle.texting_robots.specs.Robot.{IsFileRejected, IsRobotOf, IsRobotOfFile, RobotValue, file_limit}
 use Rattle.texting_robots.specs.{Line.AreFileLinesOf, Trim.IsTrimOf}
 use Rattle.texting_robots.proofs.GivenLemmas.{delay_is_computed, sitemaps_are_computed}
-use Rattle.texting_robots.proofs.HeldLemmas.{rejection_is_computed, rules_are_computed}
-use Rattle.texting_robots.proofs.{LineLemmas.each_text_has_its_lines, MainTheoremLemmas.of_lines}
+use Rattle.texting_robots.proofs.MainTheoremLemmas.{rejection_is_computed, rules_are_computed, of_lines}
+use Rattle.texting_robots.proofs.{LineLemmas.each_text_has_its_lines}
 use Rattle.rfc9309_laws.proofs.GroupLemmas.{delay_written, rules_written}
 use Rattle.rfc9309_laws.proofs.ReadLemmas.{file_same, file_sources, lines_in}
 use Rattle.rfc9309_laws.proofs.FileLemmas.{FileRead, file_read, file_with, groups_written, has_delays}
 use Rattle.rfc9309_laws.proofs.FileLemmas.{sitemaps_are_read}
 use Rattle.rfc9309_laws.proofs.{SyntaxLemmas.each_weaker, LineFormLemmas.forms_make_file, Sources.Parts}
 use Rattle.rfc9309_laws.specs.StandardRobot.{IsDelayAs, IsFileWith, IsRejectedAs, IsRobotAs, delay_among}
-use Rattle.rfc9309_laws.specs.StandardRobot.{is_delay}
-use Rattle.rfc9309_laws.specs.{LineForms.AreForms, LineForms.Form, ReadAs.IsReadAs}
-use Rattle.std.specs.{List.AllZip, Prelude.take}
+use Rattle.rfc9309_laws.specs.StandardRobot.{is_delay, IsReadAs}
+use Rattle.rfc9309_laws.specs.LineForms.{AreForms, Form}
+use Rattle.std.specs.{List.AllZip}
 use Rattle.rfc9309_laws.specs.Rfc9309 as rfc
 
 abbrev pub IsWeaker : {X : Type 0} → (X → List ℕ → Type 0) → (X → List ℕ → Type 0) → Type 0

@@ -4,20 +4,20 @@ use Rattle.std.proofs.Common.{◌++◌, bytes_eq, codes, refl, subst, arith, len
 use Rattle.std.proofs.Common.{append_assoc, append-nil}
 use Rattle.std.specs.List.{AllByRecursion as Each, Contains, list_all, list_any}
 use Rattle.std.specs.Char.{to_ascii_lowercase, is_ascii_graphic, is_whitespace, encode_utf8}
-use Rattle.std.proofs.lemmas.{Bool.and_parts, Bool.or_cases, Bool.Decides.nat_tests}
+use Rattle.std.proofs.lemmas.Bool.{and_parts, or_cases, Decides.nat_tests}
 use Rattle.std.proofs.lemmas.{List.Sums.AllPass-from_list_all, Map.Views.Contains-from_any}
-use Rattle.std.proofs.lemmas.{Slice.Eq.bytes_eq-Decides, List.take_at, Str.Ascii.IsAscii-from_all}
-use Rattle.std.proofs.lemmas.List.Elements.{All-contains, All-from_recursion}
+use Rattle.std.proofs.lemmas.Slice.{Eq.bytes_eq-Decides}
+use Rattle.std.proofs.lemmas.List.{take_at, Elements.All-contains, Elements.All-from_recursion}
+use Rattle.std.proofs.lemmas.Str.{Ascii.IsAscii-from_all, IsCharBoundary-at_seam, IsUtf8-from_ascii}
+use Rattle.std.proofs.lemmas.Str.{IsUtf8-past_char, IsUtf8-take, char_from_byte}
 use Rattle.texting_robots.specs.{Statement.field_names, Statement.IsBlank, Trim.IsSpaces, Trim.IsTrimOf}
 use Rattle.std.specs.Str.{IsUtf8, encode_utf8_all}
 use Rattle.std.proofs.Math.{Seq.drop-nil, Seq.take-nil, Utf8.scalars}
-use Rattle.std.proofs.lemmas.Str.{IsCharBoundary-at_seam, IsUtf8-from_ascii, IsUtf8-past_char, IsUtf8-take}
-use Rattle.std.proofs.lemmas.Str.{char_from_byte}
 use Rattle.texting_robots.proofs.TrimLemmas.{trailing_blanks, graphic_trim, same_trim, trimmed_is_trim}
 use Rattle.texting_robots.proofs.TrimLemmas.{white_scalar}
-use Rattle.rfc9309_laws.proofs.SyntaxLemmas.{passing}
-use Rattle.texting_robots.specs.declared.parser.statement.Kind.{Kind}
-use Rattle.rfc9309_laws.specs.HasForm.{is_identifier_byte}
+use Rattle.rfc9309_laws.proofs.{SyntaxLemmas.passing}
+use Rattle.texting_robots.specs.declared.parser.statement.{Kind.Kind}
+use Rattle.rfc9309_laws.specs.{HasForm.is_identifier_byte}
 use Rattle.texting_robots.specs.declared.parser.statement.Kind.TheVariants as kind
 use Rattle.rfc9309_laws.specs.Rfc9309 as rfc
 

@@ -1,18 +1,16 @@
 -- The verdict of rules that are read from rules of the grammar is that of the standard.
 use Rattle.std.proofs.Common.{◌≡◌, ◌≢◌, ◌↔◌, ◌⊎◌, ℕ, zero, suc, ◌<◌, Bool, true, false, inl, inr, List, []}
-use Rattle.std.proofs.Common.{◌∷◌, refl, codes, length, length-append, ◌+◌, if◌then◌else◌, sym, ap, ◌∙◌}
-use Rattle.std.proofs.Common.{arith, subst, take}
+use Rattle.std.proofs.Common.{◌∷◌, refl, codes, length, ◌+◌, if◌then◌else◌, sym, ap, ◌∙◌, arith, subst, take}
+use Rattle.std.proofs.{Common.length-append, lemmas.Bool.both_ways}
 use Rattle.std.specs.List.{AllByRecursion as Each, AllZip, Contains, list_any}
-use Rattle.std.proofs.lemmas.Bool.{both_ways}
 use Rattle.std.proofs.lemmas.List.Elements.{All-contains, All-from_recursion}
 use Rattle.texting_robots.specs.Callers.{IsDenied, IsRobotOfFile, IsVerdict, Matches, RobotValue, Rule}
 use Rattle.texting_robots.specs.Callers.{escaped, file_limit, unplaced}
 use Rattle.texting_robots.specs.{Escape.is_escaped, Trim.IsTrimOf}
-use Rattle.texting_robots.proofs.{EscapeLemmas.plain_stays, TrimLemmas.is_trimmed}
-use Rattle.texting_robots.proofs.VerdictLemmas.{same_verdicts}
-use Rattle.rfc9309_laws.specs.{ReadAs.IsReadAs, StandardRobot.IsFileWith}
-use Rattle.rfc9309_laws.specs.Comparable.{AreComparable, HasTwin, IsComparedAs, IsPathOf, IsPlainPath}
-use Rattle.rfc9309_laws.specs.Comparable.{has_odd_escape}
+use Rattle.texting_robots.proofs.{NormalizedLemmas.plain_stays, TrimLemmas.is_trimmed}
+use Rattle.texting_robots.proofs.{VerdictLemmas.same_verdicts}
+use Rattle.rfc9309_laws.specs.{StandardRobot.IsReadAs, StandardRobot.IsFileWith, Comparable.AreComparable}
+use Rattle.rfc9309_laws.specs.Comparable.{HasTwin, IsComparedAs, IsPathOf, IsPlainPath, has_odd_escape}
 use Rattle.rfc9309_laws.specs.Matching.{IsDisallowed, IsMatch, IsRfcVerdict, Reading, is_ended, normal_uri}
 use Rattle.rfc9309_laws.specs.Matching.{octets, without_end}
 use Rattle.rfc9309_laws.proofs.{FileLemmas.file_with, RobotLemmas.robot_as}

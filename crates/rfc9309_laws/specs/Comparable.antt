@@ -1,12 +1,11 @@
 -- Conditions on rules and on a URI under which the verdict of this library is that of the standard.
-use Rattle.std.specs.Prelude.{◌≡◌, ◌≢◌, ◌⊎◌, ℕ, ◌+◌, ◌*◌, ◌<◌, ◌==◌, ◌&&◌, ◌||◌, not, Bool, true, false}
-use Rattle.std.specs.Prelude.{List, [], ◌∷◌, Contains, codes, slice_index}
-use Rattle.std.specs.Char.{digit_value, is_ascii_lowercase}
-use Rattle.std.specs.{List.list_all, Str.byte}
+use Rattle.std.specs.Prelude.{◌≡◌, ◌≢◌, ◌⊎◌, ℕ, ◌+◌, ◌*◌, ◌<◌, ◌==◌, ◌&&◌, ◌||◌, not, Bool, true, false, List}
+use Rattle.std.specs.Prelude.{[], ◌∷◌, Contains, codes, slice_index}
+use Rattle.std.specs.{Char.digit_value, Char.is_ascii_lowercase, List.list_all, Str.byte}
 use Rattle.rfc9309_laws.specs.Matching.{Reading, has_dollar, is_ended, is_escape, is_one_of, is_unreserved}
 use Rattle.rfc9309_laws.specs.Matching.{normal_path, normal_uri, octets, without_end}
-use Rattle.rfc9309_laws.specs.Rfc9309 as rfc
 use Rattle.texting_robots.specs.{Escape.escaped, Trim.IsTrimOf}
+use Rattle.rfc9309_laws.specs.Rfc9309 as rfc
 
 -- ---- escapes
 

@@ -1,8 +1,7 @@
 -- Matching and verdicts by RFC 9309, sections 2.2.2 and 2.2.3. Nothing here refers to the specification of
 -- this library, except the grammar's rules. What is said of the standard's text is from memory.
-use Rattle.std.specs.Prelude.{◌≡◌, ◌≢◌, ℕ, ◌+◌, ◌*◌, ◌/◌, ◌%◌, ◌<◌, ◌==◌, nat_lt, Bool, true, false, not}
-use Rattle.std.specs.Prelude.{◌&&◌, ◌||◌, List, [], ◌∷◌, ◌++◌, Contains, codes, length}
-use Rattle.std.specs.Prelude.{if◌then◌else◌}
+use Rattle.std.specs.Prelude.{◌≡◌, ◌≢◌, ℕ, ◌+◌, ◌*◌, ◌/◌, ◌%◌, ◌<◌, ◌==◌, nat_lt, Bool, true, false, not, []}
+use Rattle.std.specs.Prelude.{◌&&◌, ◌||◌, List, ◌∷◌, ◌++◌, Contains, codes, length, if◌then◌else◌}
 use Rattle.std.specs.Char.{digit_value, is_ascii_alphanumeric, is_ascii_hexdigit, to_ascii_uppercase}
 use Rattle.std.specs.{Fmt.digit_glyph, List.list_any, Str.byte}
 use Rattle.rfc9309_laws.specs.Rfc9309 as rfc

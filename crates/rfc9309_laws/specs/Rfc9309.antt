@@ -5,10 +5,9 @@
 -- `IsRobotstxt` is exactly the standard's grammar. `IsFile` extends it by four things, which come after the
 -- standard's own productions: a leading byte order mark, a last line without a line end, a pattern that
 -- begins with a star, and the lines that the standard leaves to implementers.
-use Rattle.std.specs.Prelude.{◌≡◌, ◌⊎◌, ℕ, ◌≤◌, Bool, true, false, List, [], ◌∷◌}
-use Rattle.std.specs.Prelude.{◌++◌, map, codes, bytes_eq, filter, Contains, if◌then◌else◌}
-use Rattle.std.specs.List.{flat_map, list_any, AllByRecursion as Each}
-use Rattle.std.specs.Char.{to_ascii_lowercase}
+use Rattle.std.specs.Prelude.{◌≡◌, ◌⊎◌, ℕ, ◌≤◌, Bool, true, false, List, [], ◌∷◌, ◌++◌, map, codes, bytes_eq}
+use Rattle.std.specs.Prelude.{filter, Contains, if◌then◌else◌}
+use Rattle.std.specs.{List.flat_map, List.list_any, List.AllByRecursion as Each, Char.to_ascii_lowercase}
 
 -- ---- items
 

@@ -1,11 +1,24 @@
--- What `Robot::new` makes of a file that follows the grammar: the rules, the delay and the sitemaps.
-use Rattle.std.specs.Prelude.{◌≡◌, ℕ, Any, Bool, true, false, IsPermutation, List, [], ◌∷◌, ◌++◌}
-use Rattle.std.specs.Prelude.{Option, Some, None, filter, flat_map, map, slice_get}
+-- What the library makes of a file in the grammar.
+use Rattle.std.specs.Prelude.{◌≡◌, ℕ, true, false, List, [], ◌∷◌, codes, Any, Bool, IsPermutation, ◌++◌, Some}
+use Rattle.std.specs.Prelude.{Option, None, filter, flat_map, map, slice_get}
+use Rattle.texting_robots.specs.{Escape.escaped, Rules.Rule, Trim.IsTrimOf, Delay.IsDelay, Pattern.IsOverlong}
+use Rattle.texting_robots.specs.{Robot.RobotValue, Rules.PlacedRule, Rules.unplaced}
 use Rattle.std.specs.{List.AllZip, List.last_or, Option.option_or}
-use Rattle.texting_robots.specs.{Delay.IsDelay, Pattern.IsOverlong, Robot.RobotValue, Trim.IsTrimOf}
-use Rattle.texting_robots.specs.Rules.{PlacedRule, Rule, unplaced}
-use Rattle.rfc9309_laws.specs.ReadAs.{IsReadAs}
 use Rattle.rfc9309_laws.specs.Rfc9309 as rfc
+
+-- ---- What this library makes of a rule in a file that follows the standard's grammar.
+
+-- The library's rule for a rule of the grammar: its pattern is trimmed of Unicode white space and escaped.
+-- An empty Disallow becomes an Allow of `/`.
+abbrev pub IsReadAs : rfc.Member → Rule → Type 0
+IsReadAs (rfc.Allow pattern) rule =
+    (value : List ℕ) × IsTrimOf value pattern × (rule ≡ (escaped value, true))
+IsReadAs (rfc.Disallow []) rule = rule ≡ (codes "/", true)
+IsReadAs (rfc.Disallow (b ∷ pattern)) rule =
+    (value : List ℕ) × IsTrimOf value (b ∷ pattern) × (rule ≡ (escaped value, false))
+IsReadAs (rfc.Delay number) rule = ⊥
+
+-- ---- What `Robot::new` makes of a file that follows the grammar: the rules, the delay and the sitemaps.
 
 -- ---- delays above all groups
 

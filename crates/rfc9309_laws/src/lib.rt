@@ -5,15 +5,14 @@
 pub mod verdict;
 
 ghost use Rattle.std.specs.Prelude.{◌≡◌, ℕ, All, true, List, codes, take};
-ghost use Rattle.std.specs.List.{AllZip};
-ghost use Rattle.rfc9309_laws.specs.LineForms.{AreForms, Form, HasForm};
-ghost use Rattle.rfc9309_laws.specs.{HasForm.has_form, ReadAs.IsReadAs};
-ghost use Rattle.rfc9309_laws.specs.Rfc9309 as rfc;
-ghost use Rattle.rfc9309_laws.specs.Sample as sample;
-ghost use Rattle.rfc9309_laws.specs.StandardRobot.{IsFileWith, IsRejectedAs, IsRobotAs};
+ghost use Rattle.std.specs.{List.AllZip};
+ghost use Rattle.rfc9309_laws.specs.{LineForms.AreForms, LineForms.Form, LineForms.HasForm, HasForm.has_form};
+ghost use Rattle.rfc9309_laws.specs.StandardRobot.{IsReadAs, IsFileWith, IsRejectedAs, IsRobotAs};
 ghost use Rattle.texting_robots.specs.Executable.{file_lines, rules_for, sitemaps_in};
 ghost use Rattle.texting_robots.specs.Robot.{IsFileRejected, IsRobotOfFile, RobotValue, file_limit};
 ghost use Rattle.texting_robots.specs.{Cut.IsBodyByte, Trim.IsTrimOf};
+ghost use Rattle.rfc9309_laws.specs.Rfc9309 as rfc;
+ghost use Rattle.rfc9309_laws.specs.Sample as sample;
 
 /// Theorems about files that follow the extended grammar `IsFile`, used by site
 /// owners who write to the standard:

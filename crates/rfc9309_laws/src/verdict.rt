@@ -4,14 +4,13 @@ ghost use Rattle.std.specs.Prelude.{◌≡◌, ◌↔◌, ℕ, Bool, true, false
 ghost use Rattle.std.specs.List.{AllZip, list_any};
 ghost use Rattle.rfc9309_laws.specs.Comparable.{AreComparable, IsComparedAs, IsPlainPath, has_odd_escape};
 ghost use Rattle.rfc9309_laws.specs.Comparable.{is_normal};
-ghost use Rattle.rfc9309_laws.specs.Examples as example;
 ghost use Rattle.rfc9309_laws.specs.Matching.{IsMatch, IsRfcVerdict, Reading, all_stay, normal_uri, octets};
-ghost use Rattle.rfc9309_laws.specs.ReadAs.{IsReadAs};
-ghost use Rattle.rfc9309_laws.specs.Rfc9309 as rfc;
-ghost use Rattle.rfc9309_laws.specs.StandardRobot.{IsFileWith};
+ghost use Rattle.rfc9309_laws.specs.StandardRobot.{IsReadAs, IsFileWith};
 ghost use Rattle.texting_robots.specs.Callers.{IsRobotOfFile, IsVerdict, Matches, RobotValue, Rule, escaped};
 ghost use Rattle.texting_robots.specs.Callers.{file_limit, unplaced};
 ghost use Rattle.texting_robots.specs.Escape.{is_escaped};
+ghost use Rattle.rfc9309_laws.specs.Examples as example;
+ghost use Rattle.rfc9309_laws.specs.Rfc9309 as rfc;
 
 /// On normal forms, what a pattern of this library matches is what the standard's rule matches, whichever
 /// reserved octets are percent-encoded:

@@ -1,3 +1,1 @@
-pub mod AnswerLemmas
 pub mod MessageLemmas
-pub mod OutputLemmas

@@ -1,20 +1,45 @@
--- Messages on standard error are printable apart from color codes. Without the codes they are those without
--- colors.
-use Rattle.std.proofs.Common.{◌≡◌, ℕ, Bool, true, false, List, [], inl, inr, Option, Some, None, string_bytes}
-use Rattle.std.proofs.Common.{◌∙◌, ap, codes, subst, sym}
-use Rattle.clap.specs.declared.parser.matches.ArgMatches.{ArgMatches}
-use Rattle.printable_text.specs.{Sanitize.IsPrintable, Color.IsColored, Color.IsForTerminal}
-use Rattle.printable_text.proofs.SanitizeLemmas.{nil_printable}
-use Rattle.printable_text.proofs.ColorLemmas.{colored_same, for_terminal, with_colors}
-use Rattle.audit_core.specs.Request.{RequestValue, requested_by, shown_name}
-use Rattle.audit_core.specs.{Answer.IsText, Audit.AuditValue, Color.requested_colors}
-use Rattle.audit_core.specs.declared.answer.Answer.{Answer}
-use Rattle.audit_core.specs.declared.request.Format.{Format}
-use Rattle.audit_core.specs.declared.request.Format.TheVariants.{Text}
+-- Messages and reports are printable.
+use Rattle.std.specs.Prelude.{IfOk}
+use Rattle.std.proofs.Common.{◌≡◌, ℕ, ◌+◌, ◌<◌, ◌||◌, List, Some, Result, Ok, Err, drop, length, refl, Bool}
+use Rattle.std.proofs.Common.{slice_index_or, true, false, [], inl, inr, Option, None, string_bytes, ◌∙◌, ap}
+use Rattle.std.proofs.Common.{codes, subst, sym, ◌++◌, map}
+use Rattle.std.proofs.{lemmas.List.drop_more, lemmas.Simd.map-map}
+use Rattle.printable_text.specs.{declared.level.Level.Level, Sanitize.IsPrintable}
+use Rattle.printable_text.specs.Text.{reaches, IsColored, IsForTerminal}
+use Rattle.robots_warnings.specs.{Table.level_of, Message.WarningValue}
+use Rattle.robots_audit.specs.Answer.{is_warned, Answers, AnswersOptions, HasUrls, IsAsked, message, output}
+use Rattle.robots_audit.specs.Answer.{message_in, without_colors, listed_in, output_in, reported, total_lines}
+use Rattle.clap.specs.{declared.parser.matches.ArgMatches.ArgMatches}
+use Rattle.printable_text.proofs.{SanitizeLemmas.nil_printable}
+use Rattle.printable_text.proofs.PartLemmas.{colored_same, for_terminal, with_colors, written_printable}
+use Rattle.audit_core.specs.Request.{RequestValue, requested_by, shown_name, requested_colors, has_rows}
+use Rattle.audit_core.specs.{Answer.IsText, Audit.AuditValue, declared.answer.Answer.Answer, Findings.Found}
+use Rattle.audit_core.specs.{declared.request.Format.Format, Findings.all_found, Findings.found_value}
+use Rattle.audit_core.specs.declared.request.Format.TheVariants.{Text, Github, Html, Json, Sarif}
 use Rattle.audit_text.proofs.ReportLemmas.{listed_colored, listed_for_terminal}
-use Rattle.robots_audit.specs.Answer.{Answers, AnswersAudit, AnswersOptions, HasUrls, IsAsked, message}
-use Rattle.robots_audit.specs.Answer.{message_in, without_colors}
-use Rattle.robots_audit.specs.Command.{value_of}
+use Rattle.robots_audit.specs.{Answer.AnswersAudit, Command.value_of}
+use Rattle.audit_text.proofs.{GithubLemmas.github_printable}
+use Rattle.audit_json.proofs.JsonLemmas.{findings_printable, json_printable, sarif_printable}
+use Rattle.audit_page.proofs.{PageLemmas.page_printable}
+use Rattle.audit_text.specs.{Report.report_lines}
+
+-- ---- Which warnings are at the level of `--strict`, and results that are answers.
+
+-- whether a warning from index `at` on is at the level, in terms of the warning there
+pub warned_next : (least : Level) (warnings : List WarningValue) (at : ℕ) (warning : WarningValue)
+    → at < length warnings → is_warned (Some least) (drop at warnings)
+    ≡ (reaches (level_of (slice_index_or warnings at warning).cause) least
+    || is_warned (Some least) (drop (at + 1) warnings))
+warned_next least warnings at warning below = rw (drop_more warnings at warning below) refl
+
+-- what follows from the answer, follows from a result that is one
+pub if_ok : {X E : Type 0} {P Q : X → Type 0} (result : Result X E) → ((x : X) → P x → Q x) → IfOk result P
+    → IfOk result Q
+if_ok (Ok x) follows is = follows x is
+if_ok (Err fault) follows is = tt
+
+-- ---- Messages on standard error are printable apart from color codes. Without the codes they are those
+-- without colors.
 
 pub message_colored : (requested : RequestValue) (audit : AuditValue)
     → IsColored (message (without_colors requested) audit) (message requested audit)
@@ -93,3 +118,30 @@ pub answer_printable : (by_default : Bool) (matches : ArgMatches) (answer : Answ
     → Answers by_default matches answer → IsForTerminal true (string_bytes answer.outcome.warnings)
 answer_printable by_default matches answer is =
     with_colors _ (string_bytes answer.outcome.warnings) (answer_for_terminal by_default matches answer is)
+
+-- ---- A report is printable in each format.
+
+output_in_printable : (format : Format) (requested : RequestValue) (audit : AuditValue)
+    → IsPrintable (output_in format requested audit)
+output_in_printable Text requested audit =
+    written_printable (report_lines requested (reported requested audit)
+    ++ total_lines requested.has_totals audit)
+output_in_printable Json requested audit =
+    json_printable (has_rows requested) (reported requested audit)
+output_in_printable Html requested audit = page_printable requested (reported requested audit)
+output_in_printable Github requested audit =
+    github_printable (shown_name requested.file) (all_found (reported requested audit))
+output_in_printable Sarif requested audit =
+    sarif_printable (shown_name requested.file) (reported requested audit)
+
+pub output_printable : (requested : RequestValue) (audit : AuditValue) → IsPrintable (output requested audit)
+output_printable requested audit = output_in_printable requested.format requested audit
+
+-- so are those on findings, if they are printable as text
+pub listed_printable : {X : Type 0} (value : X → Found) (format : Format) (file text : List ℕ) (all : List X)
+    → IsPrintable text → IsPrintable (listed_in format file text (map (λ one. found_value (value one)) all))
+listed_printable value Json file text all is =
+    rw (← map-map found_value value all) (findings_printable file (map value all))
+listed_printable value Github file text all is =
+    rw (← map-map found_value value all) (github_printable file (map value all))
+listed_printable value _ file text all is = is

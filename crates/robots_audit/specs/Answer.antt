@@ -1,29 +1,28 @@
 -- What the program answers: to an audit, and to its arguments.
 use Rattle.std.specs.Prelude.{◌≡◌, ◌⊎◌, ℕ, Bool, true, false, List, [], ◌∷◌, ◌++◌, None, Option, Some, codes}
 use Rattle.std.specs.Prelude.{◌==◌, if◌then◌else◌, length, map, not, ◌&&◌, string_bytes, ⊤}
-use Rattle.std.specs.List.{list_any}
-use Rattle.clap.specs.declared.parser.matches.ArgMatches.{ArgMatches}
-use Rattle.html_writer.specs.Html.{document}
-use Rattle.printable_text.specs.{Lines.ended, Level.reaches, Text.ReportLine, Text.written}
-use Rattle.printable_text.specs.declared.level.Level.{Level}
-use Rattle.robots_warnings.specs.{Table.is_name, Table.level_of, WarningValue.WarningValue}
+use Rattle.std.specs.{List.list_any}
+use Rattle.clap.specs.{declared.parser.matches.ArgMatches.ArgMatches}
+use Rattle.html_writer.specs.{Html.document}
+use Rattle.printable_text.specs.{Lines.ended, declared.level.Level.Level}
+use Rattle.printable_text.specs.Text.{reaches, ReportLine, written}
+use Rattle.robots_warnings.specs.{Table.is_name, Table.level_of, Message.WarningValue}
 use Rattle.audit_core.specs.Audit.{AuditValue, IsAuditOf, all_allowed, rejects_some, shown}
 use Rattle.audit_core.specs.Request.{RequestValue, has_rows, requested_by, shown_name}
-use Rattle.audit_core.specs.{Answer.IsText, Content.content_flaw, Findings.FindingValue, Findings.findings}
-use Rattle.audit_core.specs.declared.answer.{Answer.Answer, Outcome.Outcome}
-use Rattle.audit_core.specs.declared.fault.Fault.{Fault}
+use Rattle.audit_core.specs.{Answer.IsText, declared.answer.Outcome.Outcome, declared.request.Request.Request}
+use Rattle.audit_core.specs.{Findings.findings, declared.answer.Answer.Answer, declared.request.Format.Format}
+use Rattle.audit_core.specs.{Content.content_flaw, Findings.FindingValue, declared.fault.Fault.Fault}
 use Rattle.audit_core.specs.declared.fault.Fault.TheVariants.{File, Format as OfAudits, Memory, Words}
-use Rattle.audit_core.specs.declared.request.{Format.Format, Request.Request}
 use Rattle.audit_core.specs.declared.request.Format.TheVariants.{Github, Html, Json, Sarif, Text}
 use Rattle.robots_audit.specs.Command.{HasFile, IsFormatOf, IsOn, IsRequestOf, value_of}
 use Rattle.audit_compare.specs.Compare.{ComparisonValue, IsComparison, all_differences, differs_nowhere}
-use Rattle.audit_compare.specs.Compare.{finding_of}
-use Rattle.audit_compare.specs.Compare.{rejects_some as rejects_one, report_lines as comparison_lines}
+use Rattle.audit_compare.specs.Compare.{finding_of, rejects_some as rejects_one}
+use Rattle.audit_compare.specs.Compare.{report_lines as comparison_lines}
 use Rattle.audit_expect.specs.{Expectations.IsReport, UrlList.HasUrlsIn}
 use Rattle.audit_text.specs.Report.{listed_lines, report_lines, total_line}
 use Rattle.audit_text.specs.{Github.github_text, Explain.explanation, Explain.list_text}
 use Rattle.audit_json.specs.{Json.findings_text, Json.json_text, Sarif.sarif_text}
-use Rattle.audit_page.specs.Page.{page}
+use Rattle.audit_page.specs.{Page.page}
 
 -- ---- the report and the warnings
 

@@ -1,21 +1,20 @@
 -- The request that the arguments contain, specified by what `clap` found in them.
-use Rattle.std.specs.Prelude.{◌≡◌, ◌⊎◌, ℕ, Bool, true, false, List, [], Option, Some, None}
-use Rattle.std.specs.Prelude.{Contains, IsTrue, Result, Ok, Err, bytes_eq, codes, if◌then◌else◌, is_none}
-use Rattle.std.specs.Prelude.{is_some, map, not, ◌&&◌, ◌||◌, option_map}
+use Rattle.std.specs.Prelude.{◌≡◌, ◌⊎◌, ℕ, Bool, true, false, List, [], Option, Some, None, Contains, IsTrue}
+use Rattle.std.specs.Prelude.{Result, Ok, Err, bytes_eq, codes, if◌then◌else◌, is_none, is_some, map, not}
+use Rattle.std.specs.Prelude.{◌&&◌, ◌||◌, option_map}
 use Rattle.std.specs.{List.list_all, Option.option_map_or}
 use Rattle.clap.specs.Words.{first_value, found_of, matched_of, one_text, raw_values}
-use Rattle.clap.specs.declared.parser.matches.ArgMatches.{ArgMatches}
-use Rattle.audit_core.specs.Color.{requested_colors}
+use Rattle.clap.specs.declared.parser.matches.{ArgMatches.ArgMatches}
+use Rattle.audit_core.specs.Request.{requested_colors, IsNoCrawlerIn, is_crawler_name, single, format_named}
 use Rattle.audit_core.specs.declared.request.{Format.Format, Request.Request}
 use Rattle.audit_core.specs.declared.request.Format.TheVariants.{Html, Json, Text}
 use Rattle.audit_core.specs.declared.fault.Fault.{Fault}
 use Rattle.audit_core.specs.declared.fault.Fault.TheVariants.{Memory, NoUrl, StdinTwice, Usage}
-use Rattle.printable_text.specs.declared.level.Level.{Level}
-use Rattle.printable_text.specs.declared.level.Level.TheVariants as level
-use Rattle.robots_warnings.specs.Table.{is_name}
-use Rattle.audit_core.specs.{Crawler.IsNoCrawlerIn, Crawler.is_crawler_name, Crawler.single}
-use Rattle.audit_core.specs.{Chosen.IsInBoth, Chosen.share_a_name, Fault.IsUnknown, Request.format_named}
+use Rattle.printable_text.specs.declared.level.{Level.Level}
+use Rattle.robots_warnings.specs.{Table.is_name}
+use Rattle.audit_core.specs.{Chosen.IsInBoth, Chosen.share_a_name, Fault.IsUnknown}
 use Rattle.audit_expect.specs.UrlList.{IsUrlFault, first_malformed}
+use Rattle.printable_text.specs.declared.level.Level.TheVariants as level
 
 -- the first value of an option or argument
 abbrev pub value_of : ArgMatches → List ℕ → Option (List ℕ)

@@ -2,7 +2,7 @@
 ghost use Rattle.std.specs.Prelude.{◌≡◌, IfErr, IfOk, IsTrue, OnOk, codes, is_some, map, option_map, ◌||◌};
 ghost use Rattle.std.specs.List.{list_all};
 ghost use Rattle.robots_warnings.specs.Table.{is_name};
-ghost use Rattle.audit_core.specs.Crawler.{IsNoCrawlerIn};
+ghost use Rattle.audit_core.specs.Request.{IsNoCrawlerIn};
 ghost use Rattle.audit_expect.specs.UrlList.{IsUrlFault};
 ghost use Rattle.robots_audit.specs.Command.{AreAgentsOf, AreNamesOf, AreUrlsOf, Asks, HasFile, LacksUrls};
 ghost use Rattle.robots_audit.specs.Command.{file_read, IsFileFault, IsFormatOf, has_urls, is_stdin, IsUnknownIn};

@@ -1,22 +1,20 @@
 //! Theorems about what the program writes, each written as the contract of an empty function. Those about a
 //! single format, or about comparisons alone, are in the crates that write these.
 ghost use Rattle.std.specs.Prelude.{Bool, codes, false, length, List, map, ℕ, string_bytes, ◌≡◌};
-ghost use Rattle.std.specs.List.{AllByRecursion as Each};
-ghost use Rattle.clap.specs.declared.parser.matches.ArgMatches.{ArgMatches};
+ghost use Rattle.std.specs.{List.AllByRecursion as Each};
+ghost use Rattle.clap.specs.{declared.parser.matches.ArgMatches.ArgMatches};
 ghost use Rattle.robots_audit.specs.Answer.{Answers, IsCompared, IsExpected, output, message, without_colors};
-ghost use Rattle.robots_audit.specs.Command.{value_of};
-ghost use Rattle.audit_core.specs.Audit.{AgentValue, AuditValue};
-ghost use Rattle.audit_core.specs.{Color.requested_colors, Request.RequestValue, Fault.fault_text};
-ghost use Rattle.audit_core.specs.declared.request.Format.{Format};
-ghost use Rattle.audit_core.specs.declared.answer.Answer.{Answer};
-ghost use Rattle.printable_text.specs.{Color.IsColored, Color.IsForTerminal, PlainLine.IsPlainLine};
-ghost use Rattle.printable_text.specs.{Text.line_text, Sanitize.has_command, Sanitize.IsPrintable};
-ghost use Rattle.audit_core.specs.declared.fault.Fault.{Fault};
+ghost use Rattle.robots_audit.specs.{Command.value_of};
+ghost use Rattle.audit_core.specs.{Audit.AgentValue, Audit.AuditValue, Request.requested_colors};
+ghost use Rattle.audit_core.specs.{Request.RequestValue, Fault.fault_text, declared.request.Format.Format};
+ghost use Rattle.audit_core.specs.{declared.answer.Answer.Answer, declared.fault.Fault.Fault};
+ghost use Rattle.printable_text.specs.Text.{IsColored, IsForTerminal, IsPlainLine, line_text};
+ghost use Rattle.printable_text.specs.Sanitize.{has_command, IsPrintable};
 ghost use Rattle.audit_compare.specs.Compare.{ComparisonValue, report_lines};
 ghost use Rattle.audit_expect.specs.Expectations.{CheckedValue, failures, result_lines};
 ghost use Rattle.audit_text.specs.Explain.{explanation, list_text};
 ghost use Rattle.audit_text.specs.Report.{listed_lines, report_lines as audit_lines, total_line};
-ghost use Rattle.robots_warnings.specs.WarningValue.{WarningValue};
+ghost use Rattle.robots_warnings.specs.{Message.WarningValue};
 
 /// Neither the output nor the message on standard error of an audit contains invalid UTF-8, a control character other
 /// than LF, a bidirectional control character or a line separator, whatever the bytes of the crawler's name, the URLs

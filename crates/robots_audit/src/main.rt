@@ -21,7 +21,7 @@
 
 ghost use Rattle.std.specs.Prelude.{◌≡◌, ◌≢◌, IfErr, IfOk, IsErr, None, option_map, string_bytes, true};
 ghost use Rattle.std.specs.Process.{exit_status};
-ghost use Rattle.printable_text.specs.Color.{IsForTerminal};
+ghost use Rattle.printable_text.specs.Text.{IsForTerminal};
 ghost use Rattle.audit_core.specs.Fault.{fault_text, message_after, status_after};
 ghost use Rattle.audit_core.specs.declared.fault.Fault.TheVariants.{Memory};
 ghost use Rattle.clap.specs.Values.{kind_of};

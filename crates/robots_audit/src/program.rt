@@ -29,7 +29,7 @@ use robots_warnings::warning::Warning;
 use std::alloc::{AllocError, Global};
 
 /// Whether a warning is at this level, or at a more serious one.
-#[tactic(auto, using(crate::proofs::AnswerLemmas::warned_next))]
+#[tactic(auto, using(crate::proofs::MessageLemmas::warned_next))]
 fn has_level(least: Level, warnings: &[Warning<'_>]) -> bool
     ensures { result ≡ is_warned (Some least) warnings.now }
 {

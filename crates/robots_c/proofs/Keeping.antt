@@ -35,9 +35,8 @@ use denote.RawPtr.{Ptr, Testable, ptr_val}
 use denote.Steps.{nothing, peeks, closes, heard, only, opens, owned}
 use denote.Struct.Struct.{within}
 use denote.Struct.Owning.{shape}
-use Rattle.std.proofs.GlobalToken.{dealloc_token-Testable}
-use Rattle.std.specs.Ptr.{points_to}
-use Rattle.std.specs.declared.alloc.Global.{Global as GlobalValue}
+use Rattle.std.proofs.{GlobalToken.dealloc_token-Testable}
+use Rattle.std.specs.{Ptr.points_to, declared.alloc.Global.Global as GlobalValue}
 use Rattle.robots_c.specs.Kept.{frees, heap, kept_at, opened_at, owned_at, owned_or_null}
 use base.Fraction.{full_share}
 use base.Stored.{Gv}

@@ -1,9 +1,8 @@
 -- URLs in one text, each with the place where it ends.
 use Rattle.std.specs.Prelude.{ℕ, ◌-◌, ◌<◌, ◌≤◌, ℤ, IsUtf8, List, [], ◌∷◌, drop, length, take}
 use Rattle.std.specs.List.{All, AllZip}
-use Rattle.texting_robots.specs.Callers.{PlacedRule}
-use Rattle.robots_c.specs.{Results.HasResult, Text.IsPutIn}
-use Rattle.robots_c.specs.declared.fault.Fault.{Fault}
+use Rattle.texting_robots.specs.{Callers.PlacedRule}
+use Rattle.robots_c.specs.{Results.HasResult, Text.IsPutIn, declared.fault.Fault.Fault}
 use Rattle.robots_c.specs.declared.fault.Fault.TheVariants.{BufferTooSmall, InvalidEnds, Memory, NotUtf8}
 
 -- the parts of the text that end at these places, the first from `start` on and each other from the end

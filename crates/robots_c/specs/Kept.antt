@@ -5,10 +5,9 @@ use base.Fml.{Fml, Lft, Share, ftrue, fall, fex, flft, fsep}
 use denote.RattleType.{RattleType}
 use denote.RawPtr.{Ptr}
 use denote.Struct.Lending.{lent_at}
-use Rattle.std.specs.Ptr.{if_non_null}
-use Rattle.std.specs.declared.alloc.Global.{Global}
-use Rattle.std.specs.contracts.impls.GlobalAllocator.TheImpl.{ghosts}
-use Rattle.std_alloc.specs.Box.Ownership.{box_owns}
+use Rattle.std.specs.{Ptr.if_non_null, declared.alloc.Global.Global}
+use Rattle.std.specs.contracts.impls.GlobalAllocator.{TheImpl.ghosts}
+use Rattle.std_alloc.specs.Box.{Ownership.box_owns}
 use Rattle.texting_robots.specs.contracts.robot.Robot as Robot-type
 use Rattle.texting_robots.specs.contracts.site.Site as Site-type
 use Rattle.robots_c.specs.contracts.shared.Shared as Shared-type

@@ -1,11 +1,10 @@
 -- The statuses that C functions return, and their causes.
 use Rattle.std.specs.Prelude.{◌≡◌, ◌⊎◌, ℕ, ◌*◌, ◌<◌, ◌≤◌, ℤ, pos, negsuc, List, Option, None, Ok, Err, IsUtf8}
 use Rattle.std.specs.Prelude.{if◌then◌else◌, length}
-use Rattle.texting_robots.specs.Callers.{IsFirstOverlong, IsAllocationFree, file_lines, is_named}
-use Rattle.texting_robots.specs.Callers.{PlacedRule, cost_of, placed_rules, prepared, robots_address}
-use Rattle.url.specs.declared.error.ParseError.{ParseError}
-use Rattle.robots_c.specs.{File.HasDelay, Results.items_in}
-use Rattle.robots_c.specs.declared.fault.Fault.{Fault}
+use Rattle.texting_robots.specs.Callers.{IsFirstOverlong, IsAllocationFree, file_lines, is_named, PlacedRule}
+use Rattle.texting_robots.specs.Callers.{cost_of, placed_rules, prepared, robots_address}
+use Rattle.url.specs.declared.error.{ParseError.ParseError}
+use Rattle.robots_c.specs.{File.HasDelay, Results.items_in, declared.fault.Fault.Fault}
 use Rattle.robots_c.specs.declared.fault.Fault.TheVariants.{Memory, NoAddress, NoDelay, BufferTooSmall}
 use Rattle.robots_c.specs.declared.fault.Fault.TheVariants.{InvalidEnds, NotUtf8, Overlong, TooCostly}
 

@@ -2,12 +2,11 @@
 ghost use Rattle.std.specs.Prelude.{◌≡◌, ◌≢◌, ◌≤◌, ◌⊎◌, ℕ, List, Some, length, pos};
 ghost use Rattle.std.specs.Borrow.{sem};
 ghost use base.Fml.{Lft, Share, flft};
-ghost use Rattle.robots_c.specs.File.{AreAgents, AreSitemaps, HasDelay, IsRobotFor, IsSiteOfSomeFile, bytes_read};
+ghost use Rattle.robots_c.specs.{File.AreAgents, Results.IsMatrixPutIn, Text.IsTooLong, Text.IsWritten};
+ghost use Rattle.robots_c.specs.File.{AreSitemaps, HasDelay, IsRobotFor, IsSiteOfSomeFile, bytes_read};
 ghost use Rattle.robots_c.specs.Kept.{Robots, Sites, lends, opens, owned_or_null};
-ghost use Rattle.robots_c.specs.Results.{IsMatrixPutIn};
 ghost use Rattle.robots_c.specs.Status.{HasFault, HasFaultAt, IsWhyNoDelayOf, IsWhyNoHandle, IsWhyNoMatrix};
 ghost use Rattle.robots_c.specs.Status.{IsWhyNoRobot, SaysNamed, status_of};
-ghost use Rattle.robots_c.specs.Text.{IsTooLong, IsWritten};
 
 use crate::fault::Fault;
 use crate::kept::{Handle, Kept};

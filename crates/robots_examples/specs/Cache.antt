@@ -1,8 +1,7 @@
 -- The content of a cache, and its errors.
-use Rattle.std.specs.Prelude.{◌≡◌, ◌⊎◌, ◌||◌, Bool, false, Err, IsOk, List, ℕ}
-use Rattle.std.specs.Prelude.{if◌then◌else◌, length, nat_lt, remove, take}
-use Rattle.url.specs.Parser.{IsOutOfRoom}
-use Rattle.url.specs.declared.error.ParseError.{ParseError}
+use Rattle.std.specs.Prelude.{◌≡◌, ◌⊎◌, ◌||◌, Bool, false, Err, IsOk, List, ℕ, if◌then◌else◌, length, nat_lt}
+use Rattle.std.specs.Prelude.{remove, take}
+use Rattle.url.specs.{Parser.IsOutOfRoom, declared.error.ParseError.ParseError}
 use Rattle.texting_robots.specs.Callers.{IsFileRejected, IsMemoryErrorOr, file_limit, robots_address}
 use Rattle.robots_examples.specs.declared.cache.CacheError.{CacheError}
 use Rattle.robots_examples.specs.declared.cache.CacheError.TheVariants.{Url, File, Memory}

@@ -1,10 +1,9 @@
 -- Consecutive writes to a writer whose bytes are known.
-use Rattle.std.proofs.Common.{ℕ, ◌+◌, ◌-◌, List, ◌++◌, length, take, drop}
-use Rattle.std.proofs.Common.{Option, Some, None, sym, ap, ◌∙◌, append_assoc}
+use Rattle.std.proofs.Common.{ℕ, ◌+◌, ◌-◌, List, ◌++◌, length, take, drop, Option, Some, None, sym, ap, ◌∙◌}
+use Rattle.std.proofs.Common.{append_assoc}
 use Rattle.std.specs.Io.KnownBytes.{Appends, Keeps}
-use Rattle.std.proofs.Math.Seq.{take-add}
-use Rattle.std.proofs.lemmas.List.{take-append-drop, take_rest}
-use Rattle.robots_io.specs.Streams.{AppendsBeginning}
+use Rattle.std.proofs.{Math.Seq.take-add, lemmas.List.take-append-drop, lemmas.List.take_rest}
+use Rattle.robots_io.specs.{Streams.AppendsBeginning}
 
 -- ---- writes
 

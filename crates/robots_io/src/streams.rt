@@ -1,7 +1,6 @@
 //! Input and output: reading a complete input, and writing a complete report.
 ghost use Rattle.std.specs.Prelude.{◌≡◌, ◌≢◌, ◌+◌, [], IfErr, IfOk, IfSome, IsErrOf, OnOk};
-ghost use Rattle.std.specs.Io.{ReadsAtMost};
-ghost use Rattle.std.specs.Io.KnownBytes.{Appends, ReadConsumes};
+ghost use Rattle.std.specs.Io.{ReadsAtMost, KnownBytes.Appends, KnownBytes.ReadConsumes};
 ghost use Rattle.robots_io.specs.Streams.{AppendsBeginning};
 
 use std::alloc::{AllocError, Global};

@@ -4,24 +4,22 @@ use Rattle.std.proofs.Common.{◌≡◌, ◌⊎◌, ◌<◌, ◌≤◌, inl, inr
 use Rattle.std.proofs.Common.{List, [], ◌∷◌, Option, Some, None, ap, ap₂, sym, refl, ◌∙◌, arith, cond, drop}
 use Rattle.std.proofs.Common.{filter, filter_map, length, length-drop, map, slice_get, if◌then◌else◌}
 use Rattle.std.specs.{List.cons_option, List.enumerate_from, List.list_any, Option.option_or}
-use Rattle.std.proofs.Math.Bool.{and-false}
+use Rattle.std.proofs.{Math.Bool.and-false}
 use Rattle.std.proofs.lemmas.Bool.{cases_Bool, cases_eq, false≢true, not-false}
-use Rattle.texting_robots.specs.Line.{LineValue, UserAgent, Allow, Disallow, Sitemap, CrawlDelay, Raw}
-use Rattle.texting_robots.specs.Line.{delay_in, is_raw}
+use Rattle.texting_robots.specs.{Executable.delay_for, Rules.Rule, declared.groups.GroupTracker.GroupTracker}
+use Rattle.texting_robots.specs.{Line.LineValue, Rules.PlacedRule, Rules.placed, Rules.unplaced, Laws.Same}
+use Rattle.texting_robots.specs.Line.{UserAgent, Allow, Disallow, Sitemap, CrawlDelay, Raw, delay_in, is_raw}
 use Rattle.texting_robots.specs.Group.{group_name, is_agent, is_agent_named, is_group, passes_at}
-use Rattle.texting_robots.specs.Executable.{captured_delays, captured_lines, delay_before_agents, delay_for}
-use Rattle.texting_robots.specs.Executable.{placed_in, placed_rules, rule_in, rules_for, sitemap_in}
-use Rattle.texting_robots.specs.Executable.{sitemaps_in}
-use Rattle.texting_robots.specs.{Rules.PlacedRule, Rules.Rule, Rules.placed, Rules.unplaced, Laws.Same}
+use Rattle.texting_robots.specs.Executable.{captured_delays, captured_lines, delay_before_agents, placed_in}
+use Rattle.texting_robots.specs.Executable.{placed_rules, rule_in, rules_for, sitemap_in, sitemaps_in}
 use Rattle.texting_robots.specs.Internal.Group.{from_captured, if_captured, start_of, step}
-use Rattle.texting_robots.specs.declared.groups.GroupTracker.{GroupTracker}
 use Rattle.texting_robots.proofs.CapturedLemmas.{at_front, captured_walked, cond_same, only_agents}
-use Rattle.texting_robots.proofs.LawLemmas.{raw_changes_nothing}
+use Rattle.texting_robots.proofs.{LawLemmas.raw_changes_nothing}
 use Rattle.texting_robots.proofs.RulesLemmas.{before_agent, before_agents}
-use Rattle.robots_needless.specs.declared.blocks.Block.{Block}
+use Rattle.robots_needless.specs.{declared.blocks.Block.Block}
 use Rattle.robots_needless.specs.Blocks.{is_rule, keep_blocks_from, left_from, no_rule, with_rule}
 use Rattle.robots_needless.specs.Needless.{KeepsRule, lines_without, without}
-use Rattle.robots_needless.proofs.DistinctLemmas.{named_in}
+use Rattle.robots_needless.proofs.{TogetherLemmas.named_in}
 
 abbrev pub among : List ℕ → ℕ → Bool
 among numbers n = list_any (λ number. number == n) numbers

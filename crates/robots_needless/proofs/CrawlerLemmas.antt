@@ -1,24 +1,23 @@
 -- Crawlers with the same rules.
-use Rattle.std.proofs.Common.{◌≡◌, inl, inr, List, ℕ, ap, codes, false, refl, sym, ◌≢◌, ◌<◌, ◌≤◌, ◌∙◌, zero}
-use Rattle.std.proofs.Common.{suc, true, [], ◌∷◌, ◌++◌, Contains, IsAscii, IsUtf8, ap₂, subst, arith}
-use Rattle.std.proofs.Common.{bytes_eq, encode_utf8, encode_utf8_all, filter_map, get_or, length, map, None}
-use Rattle.std.proofs.Common.{Option, Some, append-nil}
 use Rattle.std.specs.Prelude.{if◌then◌else◌}
+use Rattle.std.proofs.Common.{◌≡◌, inl, inr, List, ℕ, ap, codes, false, refl, sym, ◌≢◌, ◌<◌, ◌≤◌, ◌∙◌, zero}
+use Rattle.std.proofs.Common.{suc, true, [], ◌∷◌, ◌++◌, Contains, IsAscii, IsUtf8, ap₂, subst, arith, get_or}
+use Rattle.std.proofs.Common.{bytes_eq, encode_utf8, encode_utf8_all, filter_map, length, map, None, Option}
+use Rattle.std.proofs.Common.{Some, append-nil}
 use Rattle.std.specs.List.{filter_map, list_any, cons_option}
 use Rattle.std.specs.Str.{str_to_ascii_lowercase, is_utf8}
 use Rattle.std.proofs.lemmas.Bool.{cases_Bool, and_parts, cases_lt, false≢true, or_cases}
-use Rattle.texting_robots.specs.Group.{group_name, is_agent_named}
+use Rattle.texting_robots.specs.{Group.group_name, Group.is_agent_named, Line.LineValue}
 use Rattle.texting_robots.specs.Callers.{is_named, placed_rules, LineValue, UserAgent}
-use Rattle.texting_robots.specs.{Line.LineValue, Executable.captured_lines, Executable.placed_in}
+use Rattle.texting_robots.specs.Executable.{captured_lines, placed_in}
 use lib.Utf8.{scalar as is_scalar, scalars}
 use Rattle.std.specs.Char.{to_ascii_lowercase}
-use Rattle.std.proofs.lemmas.{List.map-append, Str.IsUtf8-append, Str.IsUtf8-encode, Str.IsUtf8-from_ascii}
-use Rattle.std.proofs.lemmas.{Str.IsUtf8-nil, Str.encode_ascii, Str.inside_one, Str.is_utf8-from_IsUtf8}
-use Rattle.std.proofs.lemmas.List.{Elements.Contains-push_cases, Folds.Any-from_list_any}
+use Rattle.std.proofs.lemmas.List.{map-append, Elements.Contains-push_cases, Folds.Any-from_list_any}
+use Rattle.std.proofs.lemmas.Str.{IsUtf8-append, IsUtf8-encode, IsUtf8-from_ascii, IsUtf8-nil, encode_ascii}
+use Rattle.std.proofs.lemmas.Str.{inside_one, is_utf8-from_IsUtf8, Ascii.lowercase_ascii, Ascii.lowercase_is}
 use Rattle.std.proofs.lemmas.Slice.Eq.{bytes_eq-Decides}
-use Rattle.std.proofs.lemmas.Str.Ascii.{lowercase_ascii, lowercase_is}
 use Rattle.texting_robots.specs.Agents.{agent_in, agents_in, each_once, is_among}
-use Rattle.robots_needless.proofs.DistinctLemmas.{in_cons, to_filter}
+use Rattle.robots_needless.proofs.TogetherLemmas.{in_cons, to_filter}
 
 rules_of_group : (agent other : List ℕ) (lines : List LineValue)
     → group_name agent lines ≡ group_name other lines

@@ -3,17 +3,16 @@
 use Rattle.std.proofs.Common.{◌≡◌, ◌≢◌, inl, inr, ℕ, zero, suc, ◌+◌, Bool, not, List, [], ◌∷◌, ◌++◌, All, ap}
 use Rattle.std.proofs.Common.{sym, refl, ◌∙◌, append_assoc, append-nil, filter, map, replicate, ◌⊎◌, ◌==◌}
 use Rattle.std.proofs.Common.{arith}
-use Rattle.std.specs.List.{AllByRecursion as Each}
-use Rattle.std.proofs.lemmas.Bool.{cases_Bool, ne_eqb, eqb-true}
+use Rattle.std.specs.{List.AllByRecursion as Each}
+use Rattle.std.proofs.lemmas.Bool.{cases_Bool, ne_eqb, eqb-true, Decides.Decides-eqb}
 use Rattle.std.proofs.lemmas.List.{append_cancel_right, map-append}
 use Rattle.std.proofs.lemmas.List.Elements.{All-head, All-tail, recursion_from_All}
 use Rattle.texting_robots.specs.Cut.{IsBodyByte, IsCut, IsLineEnd, Pair, cr, joined, lf}
 use Rattle.texting_robots.specs.Line.{LineValue, Raw, is_raw, nul_as_lf, without, without_front}
 use Rattle.texting_robots.specs.Internal.{Cut.bodies_of, Line.line_of, Statement.statement_of}
 use Rattle.texting_robots.proofs.CrLfLemmas.{body_byte, body_return, body_step, step}
-use Rattle.texting_robots.proofs.CutLemmas.{cut_nil}
-use Rattle.robots_needless.specs.Blocks.{left_from}
-use Rattle.std.proofs.lemmas.Bool.Decides.{Decides-eqb}
+use Rattle.texting_robots.proofs.{CutLemmas.cut_nil}
+use Rattle.robots_needless.specs.{Blocks.left_from}
 
 abbrev pub pair_body : Pair → List ℕ
 pair_body pair = pair.body

@@ -7,7 +7,7 @@ use Rattle.texting_robots.proofs.ExampleLemmas.{matching, not_matching}
 use Rattle.texting_robots.proofs.{BestLemmas.answered, VerdictLemmas.one_verdict}
 use Rattle.robots_needless.specs.Examples.{allow_at, deny_at, twice}
 use Rattle.robots_needless.specs.Internal.{fresh, generic}
-use Rattle.robots_needless.proofs.GenericLemmas.{covers_by, escaped_below, heads_apart}
+use Rattle.robots_needless.proofs.SettledLemmas.{covers_by, escaped_below, heads_apart}
 use Rattle.robots_needless.proofs.RemovalLemmas.{AreWith, can_go}
 use Rattle.robots_needless.proofs.TogetherLemmas.{both_ways, verdicts}
 use Rattle.robots_needless.specs.Examples as example

@@ -1,10 +1,9 @@
 -- If the found lines are deleted from a file, each crawler's robot stays the same.
-use Rattle.std.proofs.Common.{◌≡◌, ◌≢◌, ◌≤◌, ◌↔◌, inl, inr, ℕ, zero, suc, ◌+◌, ◌==◌, ◌||◌, Bool, false}
-use Rattle.std.proofs.Common.{not, List, [], ◌∷◌, ◌++◌, Any, IsUtf8, ap, ap₂, sym, refl, subst, ◌∙◌, arith}
-use Rattle.std.proofs.Common.{filter, length, length-append, map}
-use Rattle.std.specs.List.{concat}
-use Rattle.std.proofs.lemmas.Bool.{cases_Bool, or_parts}
-use Rattle.std.proofs.lemmas.List.{map-append}
+use Rattle.std.proofs.Common.{◌≡◌, ◌≢◌, ◌≤◌, ◌↔◌, inl, inr, ℕ, zero, suc, ◌+◌, ◌==◌, ◌||◌, Bool, false, not}
+use Rattle.std.proofs.Common.{List, [], ◌∷◌, ◌++◌, Any, IsUtf8, ap, ap₂, sym, refl, subst, ◌∙◌, arith, filter}
+use Rattle.std.proofs.Common.{length, length-append, map}
+use Rattle.std.specs.{List.concat}
+use Rattle.std.proofs.lemmas.{Bool.cases_Bool, Bool.or_parts, List.map-append}
 use Rattle.texting_robots.specs.Callers.{HasLines, IsOverlong, IsRejected, IsRobotOf, IsVerdict, LineValue}
 use Rattle.texting_robots.specs.Callers.{PlacedRule, RobotValue, Rule, file_bodies, file_lines, nul_as_lf}
 use Rattle.texting_robots.specs.Callers.{placed_rules, rules_for, unplaced}
@@ -12,20 +11,19 @@ use Rattle.texting_robots.specs.Cut.{IsLineEnd, Pair, joined}
 use Rattle.texting_robots.specs.{Laws.Same, Line.is_raw, Line.without_front}
 use Rattle.texting_robots.specs.Internal.{Cut.bodies_of, Cut.cut, Line.line_of}
 use Rattle.texting_robots.proofs.GivenLemmas.{delay_is_computed, sitemaps_are_computed}
-use Rattle.texting_robots.proofs.MainTheoremLemmas.{answers_computed, of_lines}
+use Rattle.texting_robots.proofs.MainTheoremLemmas.{answers_computed, of_lines, rejection_is_computed}
 use Rattle.texting_robots.proofs.LineLemmas.{each_text_has_its_lines, front_is_end, front_read}
-use Rattle.texting_robots.proofs.{BestLemmas.placed_of, CutLemmas.is_cut, CutLemmas.only_cut}
-use Rattle.texting_robots.proofs.{HeldLemmas.rejection_is_computed, LawLemmas.raw_changes_nothing}
-use Rattle.robots_needless.specs.declared.needless.NeedlessRule.{NeedlessRule}
-use Rattle.robots_needless.specs.Blocks.{left_from}
-use Rattle.robots_needless.specs.Deleted.{AreAlike, AreFoundIn, AreWholeLines, HaveSameRobot, IsLeftOf}
-use Rattle.robots_needless.specs.Deleted.{begin_with_mark}
+use Rattle.texting_robots.proofs.{BestLemmas.placed_of, LawLemmas.raw_changes_nothing}
+use Rattle.texting_robots.proofs.CutLemmas.{is_cut, only_cut}
+use Rattle.robots_needless.specs.{declared.needless.NeedlessRule.NeedlessRule}
+use Rattle.robots_needless.specs.Blocks.{left_from, AreAlike, AreFoundIn, AreWholeLines, HaveSameRobot}
+use Rattle.robots_needless.specs.Blocks.{IsLeftOf, begin_with_mark}
 use Rattle.robots_needless.specs.Needless.{AreNeedless, lines_without, numbers_of, without}
-use Rattle.robots_needless.proofs.DeletedLemmas.{ArePairs, cut_pairs, meant, meant_joined, pair_body}
-use Rattle.robots_needless.proofs.DeletedLemmas.{pairs_left, IsUnmarked, mark_of, mark_off, mark_read}
+use Rattle.robots_needless.proofs.DeletedLemmas.{ArePairs, cut_pairs, meant, meant_joined, pair_body, mark_of}
+use Rattle.robots_needless.proofs.DeletedLemmas.{pairs_left, IsUnmarked, mark_off, mark_read}
 use Rattle.robots_needless.proofs.CrawlerLemmas.{split_read, star_or_named}
-use Rattle.robots_needless.proofs.TogetherLemmas.{both_ways, unplaced_of}
-use Rattle.robots_needless.proofs.{BlockLemmas.among, BlockLemmas.left_are, DistinctLemmas.in_filter}
+use Rattle.robots_needless.proofs.TogetherLemmas.{both_ways, unplaced_of, in_filter}
+use Rattle.robots_needless.proofs.BlockLemmas.{among, left_are}
 
 -- ---- what is left behind it
 

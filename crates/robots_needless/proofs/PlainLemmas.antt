@@ -1,25 +1,22 @@
 -- Plain rules, which are tried in the order of their patterns: of those that are kept, only the ones that
 -- begin a rule match a text that it matches.
-use Rattle.std.proofs.Common.{◌≡◌, ◌≢◌, ◌<◌, ◌≤◌, ◌⊎◌, inl, inr, ℕ, ◌+◌, ◌*◌, Bool, true, false, List, []}
-use Rattle.std.proofs.Common.{◌∷◌, ◌++◌, All, if◌then◌else◌, IsTrue, ◌↔◌, ap, sym, subst, refl, ◌∙◌}
-use Rattle.std.proofs.Common.{append-nil, arith, drop, length, Less, Equal, Greater, nat_eq, take}
+use Rattle.std.proofs.Common.{◌≡◌, ◌≢◌, ◌<◌, ◌≤◌, ◌⊎◌, inl, inr, ℕ, ◌+◌, ◌*◌, Bool, true, false, List, [], ap}
+use Rattle.std.proofs.Common.{◌∷◌, ◌++◌, All, if◌then◌else◌, IsTrue, ◌↔◌, sym, subst, refl, ◌∙◌, append-nil}
+use Rattle.std.proofs.Common.{arith, drop, length, Less, Equal, Greater, nat_eq, take}
 use Rattle.std.specs.Cmp.Lexicographic.{slice_cmp, bytes_decides, on_texts, pointwise}
 use Rattle.std.specs.Ordering.{is_lt, nat_cmp, ordering_then}
-use Rattle.std.specs.{List.Contains, List.starts_with, Cmp.IsStrictWeakOrder}
-use Rattle.std.specs.List.Sorted.{IsSortedBy}
-use Rattle.std.specs.declared.cmp.Ordering.{Ordering}
-use Rattle.std.proofs.Math.Dec.{eqb}
-use Rattle.std.proofs.lemmas.Bool.{cases_lt, eq-eqb}
+use Rattle.std.specs.List.{Contains, starts_with, Sorted.IsSortedBy}
+use Rattle.std.specs.{Cmp.IsStrictWeakOrder, declared.cmp.Ordering.Ordering}
+use Rattle.std.proofs.{Math.Dec.eqb, lemmas.Bool.cases_lt, lemmas.Bool.eq-eqb, lemmas.List.MinMax.ranks_by}
 use Rattle.std.proofs.lemmas.Cmp.{back_total, nat_cmp_total, nat_list_cmp_total, on_total, then_total}
 use Rattle.std.proofs.lemmas.Cmp.{tied_itself}
 use Rattle.std.proofs.lemmas.List.{get_or_append_left, get_or_push, length_push, take-append-drop, take_at}
-use Rattle.std.proofs.lemmas.List.Elements.{Contains-append_cases, Contains-append_left}
-use Rattle.std.proofs.lemmas.List.Elements.{Contains-append_right, Contains-push, Contains-push_cases}
-use Rattle.std.proofs.lemmas.List.MinMax.{ranks_by}
+use Rattle.std.proofs.lemmas.List.Elements.{Contains-append_cases, Contains-append_left, Contains-push}
+use Rattle.std.proofs.lemmas.List.Elements.{Contains-append_right, Contains-push_cases}
 use Rattle.std.proofs.lemmas.List.Sorted.{IsPermutation-append_left, IsPermutation-refl, IsPermutation-trans}
 use Rattle.std.proofs.lemmas.List.Sorted.{sorted_far}
 use Rattle.texting_robots.specs.{Pattern.Matches, Pattern.MatchesWith, Rules.PlacedRule}
-use Rattle.texting_robots.proofs.{OrderLemmas.cmp_less, OrderLemmas.cmp_same, PatternLemmas.in_front}
+use Rattle.texting_robots.proofs.{VerdictLemmas.cmp_less, VerdictLemmas.cmp_same, SegmentLemmas.in_front}
 use Rattle.robots_needless.specs.Internal.{AreDescending, AreLeft, AreNear, IsAfter, IsNoRival, IsPlain}
 use Rattle.robots_needless.specs.Internal.{IsPlainByte, rule_cmp, IsReducing, Reasons}
 use Rattle.robots_needless.specs.Needless.{AreApart, rank_of}

@@ -5,14 +5,13 @@ use Rattle.std.specs.Prelude.{◌&&◌, Bool, bytes_eq, codes, nat_eq, not, slic
 use Rattle.std.specs.BTreeSet.{BTreeSet, contains}
 use Rattle.std.specs.Ordering.{is_lt, nat_cmp, ordering_then}
 use Rattle.std.specs.{BTreeMap.BTreeMap, BTreeMap.get, List.list_all, List.starts_with, Option.IsSome}
-use Rattle.std.specs.Cmp.Lexicographic.{slice_cmp}
-use Rattle.std.specs.declared.cmp.Ordering.{Ordering}
+use Rattle.std.specs.{Cmp.Lexicographic.slice_cmp, declared.cmp.Ordering.Ordering}
 use Rattle.texting_robots.specs.Callers.{IsDenied, IsOverlong, LineValue, PlacedRule, Rule, placed_rules}
 use Rattle.texting_robots.specs.Callers.{unplaced}
 use Rattle.texting_robots.specs.Pattern.{dollar, star}
-use Rattle.robots_needless.specs.declared.needless.{NeedlessRule.NeedlessRule, Reason.Reason}
-use Rattle.robots_needless.specs.Needless.{AreApart, Covers, IsFound, IsFoundFor, IsReason, MatchesNothing}
-use Rattle.robots_needless.specs.Needless.{rank_of}
+use Rattle.robots_needless.specs.{declared.needless.NeedlessRule.NeedlessRule, Needless.AreApart}
+use Rattle.robots_needless.specs.{declared.needless.Reason.Reason}
+use Rattle.robots_needless.specs.Needless.{Covers, IsFound, IsFoundFor, IsReason, MatchesNothing, rank_of}
 
 -- a byte that no escaped pattern contains
 abbrev pub fresh : ℕ

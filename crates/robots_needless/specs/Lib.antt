@@ -1,5 +1,4 @@
 pub mod Needless
-pub mod Deleted
 pub mod Internal
 pub mod Blocks
 pub mod Examples

@@ -1,14 +1,12 @@
 -- Rules that can be removed without changing a verdict.
-use Rattle.std.specs.Prelude.{◌≡◌, ◌≢◌, ◌↔◌, ◌≤◌, ◌<◌, ℕ, ◌+◌, ◌*◌, ◌==◌, if◌then◌else◌, length, not, All}
-use Rattle.std.specs.Prelude.{AllPairs, Bool, false, true, Contains, IsTrue, List, [], ◌∷◌, codes, filter}
-use Rattle.std.specs.Prelude.{map}
+use Rattle.std.specs.Prelude.{◌≡◌, ◌≢◌, ◌↔◌, ◌≤◌, ◌<◌, ℕ, ◌+◌, ◌*◌, ◌==◌, if◌then◌else◌, length, not, All, []}
+use Rattle.std.specs.Prelude.{AllPairs, Bool, false, true, Contains, IsTrue, List, ◌∷◌, codes, filter, map}
 use Rattle.std.specs.List.{enumerate_from, list_any}
 use Rattle.robots_needless.specs.declared.needless.{NeedlessRule.NeedlessRule, Reason.Reason}
+use Rattle.texting_robots.specs.Callers.{IsRejected, PlacedRule, Rule, placed_rules, robots_file, sitemaps_in}
+use Rattle.texting_robots.specs.Callers.{IsVerdict, LineValue, agents_in, delay_for, rules_for, unplaced}
+use Rattle.texting_robots.specs.{Callers.Matches, Group.is_agent, Group.passes_at, Line.Allow, Line.Disallow}
 use Rattle.robots_needless.specs.declared.needless.Reason.TheVariants as reasons
-use Rattle.texting_robots.specs.Callers.{IsRejected, IsVerdict, LineValue, Matches, PlacedRule, Rule}
-use Rattle.texting_robots.specs.Callers.{agents_in, delay_for, placed_rules, robots_file, rules_for}
-use Rattle.texting_robots.specs.Callers.{sitemaps_in, unplaced}
-use Rattle.texting_robots.specs.{Group.is_agent, Group.passes_at, Line.Allow, Line.Disallow}
 
 -- the lines of the rules
 abbrev pub lines_of : List PlacedRule → List ℕ

@@ -2,7 +2,7 @@
 //! a file.
 ghost use Rattle.std.specs.Prelude.{◌≡◌, ◌∷◌, []};
 ghost use Rattle.texting_robots.specs.Callers.{file_bodies};
-ghost use Rattle.robots_needless.specs.{Blocks.is_found, Blocks.left_from, Deleted.begin_with_mark};
+ghost use Rattle.robots_needless.specs.Blocks.{is_found, left_from, begin_with_mark};
 
 use crate::needless::Reason;
 use std::collections::BTreeMap;

@@ -4,7 +4,7 @@ ghost use Rattle.std.specs.Str.{IsUtf8};
 ghost use Rattle.texting_robots.specs.Callers.{IsVerdict, LineValue, Matches, PlacedRule, agents_in, is_named, placed_rules};
 ghost use Rattle.texting_robots.specs.Callers.{rules_for};
 ghost use Rattle.robots_needless.specs.declared.needless.NeedlessRule.{NeedlessRule};
-ghost use Rattle.robots_needless.specs.Deleted.{AreFoundIn, AreWholeLines, HaveSameRobot, IsLeftOf};
+ghost use Rattle.robots_needless.specs.Blocks.{AreFoundIn, AreWholeLines, HaveSameRobot, IsLeftOf};
 ghost use Rattle.robots_needless.specs.Examples as example;
 ghost use Rattle.robots_needless.specs.Internal.{CanGoInTurn, fresh, generic};
 ghost use Rattle.robots_needless.specs.Needless.{AreDistinct, AreFound, AreNeedless, Covers, lines_of, lines_without, numbers_of};

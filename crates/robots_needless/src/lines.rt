@@ -4,7 +4,7 @@ ghost use Rattle.std.specs.List.{list_any};
 ghost use Rattle.texting_robots.specs.Callers.{LineValue, agents_in, file_bodies, file_lines, placed_rules};
 ghost use Rattle.robots_needless.specs.Blocks.{KeepBlocks, is_found, left_from};
 ghost use Rattle.robots_needless.specs.Internal.{AreAccepted, AreReasons, AreSettled, Grow, HasAll, IsSettled, are_free, rule_at};
-ghost use Rattle.robots_needless.specs.Deleted.{AreFoundIn, begin_with_mark};
+ghost use Rattle.robots_needless.specs.Blocks.{AreFoundIn, begin_with_mark};
 ghost use Rattle.robots_needless.specs.Needless.{IsFoundFor};
 
 use crate::blocks::{add_lost, keep_blocks};

@@ -3,17 +3,15 @@ use Rattle.std.proofs.Common.{◌≡◌, ◌≢◌, ℕ, Bool, true, false, List
 use Rattle.std.proofs.Common.{Contains, inr, length, refl, subst, suc, sym, take, zero, ◌<◌}
 use Rattle.std.specs.{List.Any, Str.chars, Str.is_utf8, Str.str_to_ascii_lowercase}
 use Rattle.std.proofs.lemmas.{Bool.Decides.not_from_Decides, Bool.cases_Bool, Bool.false≢true}
-use Rattle.std.proofs.lemmas.{Slice.Eq.bytes_eq-Decides}
+use Rattle.std.proofs.lemmas.Slice.{Eq.bytes_eq-Decides}
 use Rattle.bstr.specs.{Trim.kept_end, Trim.kept_start, Utf8.pieces_from, Utf8.spans_from}
-use Rattle.texting_robots.specs.Callers.{IsOverlong, IsVerdict, Matches, PlacedRule, Rule}
-use Rattle.texting_robots.specs.Callers.{Disallow, UserAgent, file_limit, group_name, lines_read}
-use Rattle.texting_robots.specs.Callers.{placed_rules, robots_file, unplaced}
-use Rattle.texting_robots.specs.Pattern.{MatchesWith}
+use Rattle.texting_robots.specs.{Callers.IsOverlong, Pattern.MatchesWith}
+use Rattle.texting_robots.specs.Callers.{IsVerdict, Matches, PlacedRule, Rule, Disallow, UserAgent, unplaced}
+use Rattle.texting_robots.specs.Callers.{file_limit, group_name, lines_read, placed_rules, robots_file}
 use Rattle.texting_robots.specs.Internal.{Cut.cut, Delay.delay_of, Line.line_of, Statement.statement_of}
-use Rattle.texting_robots.proofs.ExampleLemmas.{any_overlong_decides}
-use Rattle.texting_robots.proofs.{HeldLemmas.rejection_is_computed, MainTheoremLemmas.answers_computed}
-use Rattle.texting_robots.proofs.MainTheoremLemmas.{read_rejected, read_robot}
-use Rattle.robots_responses.specs.Responses.{DecidesAll}
+use Rattle.texting_robots.proofs.{ExampleLemmas.any_overlong_decides, MainTheoremLemmas.rejection_is_computed}
+use Rattle.texting_robots.proofs.MainTheoremLemmas.{answers_computed, read_rejected, read_robot}
+use Rattle.robots_responses.specs.{Responses.DecidesAll}
 use lib.Utf8.{encode}
 
 -- a file decides as its rules do if every crawler has the same

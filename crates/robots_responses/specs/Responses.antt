@@ -2,9 +2,8 @@
 use Rattle.std.specs.Prelude.{◌≡◌, ◌≢◌, ◌⊎◌, ℕ, ◌<◌, ◌≤◌, Bool, true, IsSomeAnd, List}
 use Rattle.texting_robots.specs.Callers.{IsFileRejected, IsRobotOfFile, IsVerdict, RobotValue, robots_file}
 use Rattle.texting_robots.specs.Callers.{unplaced}
-use Rattle.robots_responses.specs.declared.response.Meaning.{Meaning}
+use Rattle.robots_responses.specs.declared.response.{Meaning.Meaning, Response.Response}
 use Rattle.robots_responses.specs.declared.response.Meaning.TheVariants.{Parse, Follow, AllowAll, DenyAll}
-use Rattle.robots_responses.specs.declared.response.Response.{Response}
 
 -- its status is one of those from `least` to `greatest`, but not `other`
 abbrev pub HasStatus : (least greatest other : ℕ) → Response → Type 0

@@ -1,4 +1,3 @@
 pub mod VerdictsLemmas
 pub mod InputLemmas
 pub mod ReportLemmas
-pub mod ExistsLemmas

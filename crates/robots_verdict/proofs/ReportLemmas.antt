@@ -1,23 +1,22 @@
 -- How a report is built, and that an input has at most one.
-use Rattle.std.proofs.Common.{◌≡◌, ◌≢◌, ℕ, List, [], ◌∷◌, ◌++◌, Option, Some, None}
-use Rattle.std.proofs.Common.{Result, Ok, Err, IfSome, map, sym, refl, ap, subst, take, ◌∙◌}
-use Rattle.std.specs.Result.{IsErrAnd}
+use Rattle.std.proofs.Common.{◌≡◌, ◌≢◌, ℕ, List, [], ◌∷◌, ◌++◌, Option, Some, None, Result, Ok, Err, IfSome}
+use Rattle.std.proofs.Common.{map, sym, refl, ap, subst, take, ◌∙◌}
+use Rattle.std.specs.{Result.IsErrAnd}
 use Rattle.texting_robots.specs.Callers.{IsFileRejected, IsRobotOf, RobotValue, delay_for, file_limit}
 use Rattle.texting_robots.specs.Callers.{lines_read, placed_rules, sitemaps_in}
 use Rattle.texting_robots.proofs.GivenLemmas.{delay_is_computed, sitemaps_are_computed}
-use Rattle.texting_robots.proofs.MainTheoremLemmas.{answers_computed}
-use Rattle.robots_io.specs.declared.streams.ReadFault.{ReadFault}
-use Rattle.robots_io.specs.declared.streams.ReadFault.TheVariants as reading
-use Rattle.robots_verdict.specs.declared.fault.Fault.{Fault}
-use Rattle.robots_verdict.specs.declared.fault.Fault.TheVariants.{HeaderNotUtf8, InvalidRule, Memory}
-use Rattle.robots_verdict.specs.declared.fault.Fault.TheVariants.{NoEmptyLine, Read, Write}
+use Rattle.texting_robots.proofs.{MainTheoremLemmas.answers_computed}
+use Rattle.robots_io.specs.{declared.streams.ReadFault.ReadFault}
+use Rattle.robots_verdict.specs.{declared.fault.Fault.Fault, Report.HasFault, Fault.fault_of_read}
+use Rattle.robots_verdict.specs.declared.fault.Fault.TheVariants.{HeaderNotUtf8, InvalidRule, Memory, Read}
+use Rattle.robots_verdict.specs.declared.fault.Fault.TheVariants.{NoEmptyLine, Write}
 use Rattle.robots_verdict.specs.Input.{AreUtf8, HoldNotUtf8, IsInput}
-use Rattle.robots_verdict.specs.Report.{HasFault, IsReport, IsReportText, delay_line, sitemap_line}
-use Rattle.robots_verdict.specs.{Fault.fault_of_read, Verdicts.AddsVerdicts}
-use Rattle.printable_text.specs.Lines.{ended}
-use Rattle.printable_text.proofs.LinesLemmas.{ended-append, lines_added}
+use Rattle.robots_verdict.specs.Report.{IsReport, IsReportText, delay_line, sitemap_line, AddsVerdicts}
+use Rattle.printable_text.specs.{Lines.ended}
+use Rattle.printable_text.proofs.SanitizeLemmas.{ended-append, lines_added}
 use Rattle.robots_verdict.proofs.VerdictsLemmas.{lines_like, lines_once}
 use Rattle.robots_verdict.proofs.InputLemmas.{not_both, one_split}
+use Rattle.robots_io.specs.declared.streams.ReadFault.TheVariants as reading
 
 -- ---- the report
 

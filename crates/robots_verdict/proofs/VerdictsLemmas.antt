@@ -1,18 +1,16 @@
 -- Verdict lines: how they are appended one by one, that the URLs determine them, and that rules which decide
 -- alike have the same lines.
-use Rattle.std.proofs.Common.{◌≡◌, ℕ, ◌+◌, ◌<◌, List, [], ◌∷◌, ◌++◌, length, map, take, append_assoc}
-use Rattle.std.proofs.Common.{slice_index_or, refl, sym, ap, ◌∙◌}
-use Rattle.std.specs.List.{AllZip}
-use Rattle.std.proofs.lemmas.List.{append-nil, map-append, take_more}
-use Rattle.std.proofs.lemmas.List.Elements.{AllZip-push}
+use Rattle.std.proofs.Common.{◌≡◌, ℕ, ◌+◌, ◌<◌, List, [], ◌∷◌, ◌++◌, length, map, take, append_assoc, refl}
+use Rattle.std.proofs.Common.{slice_index_or, sym, ap, ◌∙◌}
+use Rattle.std.specs.{List.AllZip}
+use Rattle.std.proofs.lemmas.List.{append-nil, map-append, take_more, Elements.AllZip-push}
 use Rattle.texting_robots.specs.Callers.{AnswerAlike, PlacedRule, prepared, unplaced}
-use Rattle.texting_robots.specs.Decision.{IsDecisionOn}
-use Rattle.texting_robots.specs.declared.decision.Decision.{Decision}
-use Rattle.texting_robots.proofs.BestLemmas.{each_text_answered}
+use Rattle.texting_robots.specs.{Decision.IsDecisionOn, declared.decision.Decision.Decision}
+use Rattle.texting_robots.proofs.{BestLemmas.each_text_answered}
 use Rattle.texting_robots.proofs.VerdictLemmas.{one_line_decides, one_verdict}
-use Rattle.printable_text.specs.Lines.{ended}
-use Rattle.robots_verdict.specs.Verdicts.{AddsVerdict, AddsVerdicts, IsVerdictLine, verdict_front}
-use Rattle.printable_text.proofs.LinesLemmas.{lines_added}
+use Rattle.printable_text.specs.{Lines.ended}
+use Rattle.robots_verdict.specs.Report.{AddsVerdict, AddsVerdicts, IsVerdictLine, verdict_front}
+use Rattle.printable_text.proofs.{SanitizeLemmas.lines_added}
 
 module _ (rules : List PlacedRule) where
   -- ---- appending verdict lines

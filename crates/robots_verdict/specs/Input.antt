@@ -1,7 +1,7 @@
 -- The parts of an input.
-use Rattle.std.specs.Prelude.{◌≡◌, ◌≢◌, ◌⊎◌, ℕ, ◌<◌, List, [], ◌∷◌, ◌++◌, Any, length, slice_index}
-use Rattle.std.specs.{Prelude.IsUtf8, List.AllByRecursion as Each, Io.BufRead.strip_last}
-use Rattle.printable_text.specs.Lines.{lf}
+use Rattle.std.specs.Prelude.{◌≡◌, ◌≢◌, ◌⊎◌, ℕ, ◌<◌, List, [], ◌∷◌, ◌++◌, Any, length, slice_index, IsUtf8}
+use Rattle.std.specs.{List.AllByRecursion as Each, Io.BufRead.strip_last}
+use Rattle.printable_text.specs.{Lines.lf}
 
 abbrev pub cr : ℕ
 cr = 13

@@ -1,4 +1,3 @@
-pub mod Verdicts
 pub mod Fault
 pub mod Input
 pub mod Report

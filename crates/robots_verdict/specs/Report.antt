@@ -1,16 +1,54 @@
--- The report on an input.
-use Rattle.std.specs.Prelude.{◌≡◌, ℕ, List, ◌∷◌, ◌++◌, Option, Some, None, Result, Ok, Err, codes, decimal}
-use Rattle.std.specs.Prelude.{map, take}
-use Rattle.std.specs.List.{AllZip}
-use Rattle.std.specs.Io.KnownBytes.{Appends}
-use Rattle.texting_robots.specs.Callers.{IsFileRejected, delay_for, file_limit, lines_read, placed_rules}
-use Rattle.texting_robots.specs.Callers.{sitemaps_in}
-use Rattle.robots_io.specs.Streams.{AppendsBeginning}
-use Rattle.printable_text.specs.Lines.{ended}
-use Rattle.robots_verdict.specs.{Verdicts.IsVerdictLine, Input.AreUtf8, Input.HoldNotUtf8, Input.IsInput}
-use Rattle.robots_verdict.specs.declared.fault.Fault.{Fault}
-use Rattle.robots_verdict.specs.declared.fault.Fault.TheVariants.{HeaderNotUtf8, InvalidRule, Memory}
-use Rattle.robots_verdict.specs.declared.fault.Fault.TheVariants.{NoEmptyLine, Read, Write}
+-- The report on an input, and its verdict lines.
+use Rattle.std.specs.Prelude.{◌≡◌, ℕ, Bool, true, false, List, [], ◌∷◌, ◌++◌, Option, Some, None, codes, Ok}
+use Rattle.std.specs.Prelude.{decimal, Result, Err, map, take}
+use Rattle.std.specs.{List.AllZip, Io.KnownBytes.Appends}
+use Rattle.texting_robots.specs.Callers.{PlacedRule, prepared, IsFileRejected, delay_for, file_limit}
+use Rattle.texting_robots.specs.Callers.{lines_read, placed_rules, sitemaps_in}
+use Rattle.texting_robots.specs.{Decision.IsDecisionOn, declared.decision.Decision.Decision}
+use Rattle.printable_text.specs.{Lines.ended}
+use Rattle.robots_io.specs.{Streams.AppendsBeginning}
+use Rattle.robots_verdict.specs.{Input.AreUtf8, Input.HoldNotUtf8, Input.IsInput, declared.fault.Fault.Fault}
+use Rattle.robots_verdict.specs.declared.fault.Fault.TheVariants.{HeaderNotUtf8, InvalidRule, Memory, Read}
+use Rattle.robots_verdict.specs.declared.fault.Fault.TheVariants.{NoEmptyLine, Write}
+
+-- ---- Verdicts on URLs, and the lines that say them.
+
+-- ---- a line
+
+abbrev pub verdict_word : Bool → List ℕ
+verdict_word true = codes "allow "
+verdict_word false = codes "deny "
+
+-- the number of the deciding line, or `-` if there is none
+abbrev pub line_text : Option ℕ → List ℕ
+line_text None = codes "-"
+line_text (Some number) = decimal number
+
+-- the part of the line that precedes the URL
+abbrev pub verdict_front : Bool → Option ℕ → List ℕ
+verdict_front allowed number = verdict_word allowed ++ line_text number ++ codes " "
+
+-- the line with the decision of the rules on the URL
+pub record IsVerdictLine (rules : List PlacedRule) (url line : List ℕ) : Type 0 where
+  pub decision : Decision
+  pub decided : IsDecisionOn rules (prepared url) decision
+  pub whole : line ≡ verdict_front decision.allowed decision.line ++ url
+
+-- ---- lines appended to a text
+
+-- a line with the decision of the rules on the URL is appended
+pub record AddsVerdict (rules : List PlacedRule) (url old new : List ℕ) : Type 0 where
+  pub line : List ℕ
+  pub verdict : IsVerdictLine rules url line
+  pub whole : new ≡ old ++ ended (line ∷ [])
+
+-- such a line is appended for each URL, in order
+pub record AddsVerdicts (rules : List PlacedRule) (urls : List (List ℕ)) (old new : List ℕ) : Type 0 where
+  pub lines : List (List ℕ)
+  pub verdicts : AllZip (IsVerdictLine rules) urls lines
+  pub whole : new ≡ old ++ ended lines
+
+-- ---- The report on an input.
 
 -- ---- the lines of a report
 

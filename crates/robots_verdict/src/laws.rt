@@ -1,7 +1,6 @@
 //! Theorems about the specification, each written as the contract of an empty function.
 ghost use Rattle.std.specs.Prelude.{◌≡◌, ℕ, List, Result};
-ghost use Rattle.robots_verdict.specs.declared.fault.Fault.{Fault};
-ghost use Rattle.robots_verdict.specs.{Input.IsInput, Report.IsReport};
+ghost use Rattle.robots_verdict.specs.{declared.fault.Fault.Fault, Input.IsInput, Report.IsReport};
 
 /// An input has at most one split into the crawler's name, URLs and a file.
 pub fn each_input_has_one_split()

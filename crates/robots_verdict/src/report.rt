@@ -1,7 +1,7 @@
 //! The report on an input.
 ghost use Rattle.std.specs.Prelude.{◌≡◌, ◌≢◌, ◌++◌, ◌∷◌, [], IfErr, IfOk, OnOk, Ok, map, string_bytes};
 ghost use Rattle.printable_text.specs.Lines.{ended};
-ghost use Rattle.robots_verdict.specs.Verdicts.{AddsVerdict, AddsVerdicts};
+ghost use Rattle.robots_verdict.specs.Report.{AddsVerdict, AddsVerdicts};
 ghost use Rattle.robots_verdict.specs.Report.{HasFault, IsReport, delay_line, sitemap_line};
 
 use crate::fault::Fault;

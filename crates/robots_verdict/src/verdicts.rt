@@ -1,7 +1,7 @@
 //! Verdicts on URLs, and how they are printed.
 ghost use Rattle.std.specs.Prelude.{◌≡◌, ◌++◌, IfErr, IfOk, OnOk, string_bytes};
 ghost use Rattle.texting_robots.specs.{Callers.prepared, Decision.IsDecisionOn};
-ghost use Rattle.robots_verdict.specs.Verdicts.{line_text, verdict_front, verdict_word};
+ghost use Rattle.robots_verdict.specs.Report.{line_text, verdict_front, verdict_word};
 
 use printable_text::lines::push_number;
 use std::alloc::{AllocError, Global};

@@ -1,17 +1,32 @@
--- Rules that leave nothing, or nearly nothing, of a site to a crawler.
+-- Closed sites, product tokens, and the tables of warnings.
+use Rattle.std.specs.Prelude.{slice_get}
 use Rattle.std.proofs.Common.{◌≡◌, ℕ, ◌+◌, ◌==◌, Bool, false, true, List, [], ◌∷◌, ap, arith, inl, inr, refl}
-use Rattle.std.proofs.Common.{subst, suc, sym, ◌∙◌, ◌&&◌, ◌||◌, nat_le, nat_lt, not, ◌++◌, ◌<◌, Bor, append_assoc}
-use Rattle.std.proofs.Common.{Option, cond, drop, filter, if◌then◌else◌, length, map, slice_index_or}
-use Rattle.std.proofs.lemmas.List.{drop_more, Elements.filter_map-append, Folds.list_any-append}
+use Rattle.std.proofs.Common.{subst, suc, sym, ◌∙◌, ◌&&◌, ◌||◌, nat_le, nat_lt, not, ◌++◌, ◌<◌, Bor, Option}
+use Rattle.std.proofs.Common.{append_assoc, cond, drop, filter, if◌then◌else◌, length, map, slice_index_or}
+use Rattle.std.proofs.Common.{bytes_eq, take, zero, Some, get_or}
+use Rattle.std.proofs.lemmas.List.{drop_more, Elements.filter_map-append, Folds.list_any-append, map-append}
+use Rattle.std.proofs.lemmas.List.{take_more, FromFn.get_or-range_with_len}
 use Rattle.std.proofs.lemmas.Bool.{and_parts, cases_Bool, eqb-true, false≢true, ne_eqb, or_cases}
-use Rattle.std.proofs.lemmas.Bool.Decides.{nat_tests}
-use Rattle.std.specs.{List.filter_map, List.list_all, List.list_any, Str.byte}
+use Rattle.std.proofs.lemmas.{Bool.Decides.nat_tests, Map.Text.is_eq-slice_cmp, Simd.map-map}
+use Rattle.std.specs.{List.filter_map, List.list_all, List.list_any, Str.byte, BTreeSet.BTreeSet}
+use Rattle.std.specs.{BTreeSet.Updates, BTreeSet.contains, Str.str_to_ascii_lowercase, List.range_with_len}
 use Rattle.texting_robots.specs.Callers.{LineValue, PlacedRule, escaped, sitemaps_in}
 use Rattle.texting_robots.specs.{Escape.is_escaped, Executable.sitemap_in}
-use Rattle.robots_warnings.specs.Closed.{closes, is_anything, is_closing, is_rival, is_star_or_dollar}
-use Rattle.robots_warnings.specs.Closed.{is_literally, is_number, is_root, is_whole_site, opened_path}
-use Rattle.robots_warnings.specs.Closed.{without_stars}
-use Rattle.robots_warnings.specs.Internal.Rules.{IsNeeded}
+use Rattle.robots_warnings.specs.{Closed.closes, Message.passes_at, Internal.IsRowAt, Internal.Row}
+use Rattle.robots_warnings.specs.Closed.{is_anything, is_closing, is_rival, is_star_or_dollar, is_literally}
+use Rattle.robots_warnings.specs.Closed.{is_number, is_root, is_whole_site, opened_path, without_stars}
+use Rattle.robots_warnings.specs.Internal.{Rules.IsNeeded, Names.AddsName, Names.Key, Names.key_cmp, IsAt}
+use Rattle.std.proofs.Math.{Bool.or-false}
+use Rattle.robots_warnings.specs.contracts.table.{Cause.the_type}
+use Rattle.robots_warnings.specs.declared.table.{Cause.Cause, TheConstants.WARNINGS}
+use Rattle.robots_warnings.specs.Table.{all_examples, example_of, number_of, all_causes}
+use Rattle.printable_text.specs.Sanitize.{IsPrintable, is_printable_byte}
+use Rattle.printable_text.proofs.{SanitizeLemmas.ascii_printable}
+use borrow.Enum.Match.{tag_small}
+use denote.Enum.Bare.{tag_one}
+use native.Mathlib.Nat.{zero-add}
+
+-- ---- Rules that leave nothing, or nearly nothing, of a site to a crawler.
 
 -- ---- escaped patterns
 
@@ -179,3 +194,94 @@ closes_if is_exempt rules needed placed value closing same is =
   where
     at_least : (m n : ℕ) (rival : Bool) → rival ≡ nat_lt n m → nat_le m n ≡ not rival
     at_least m n rival is = rw is (grind (arith, nat_tests))
+
+-- ---- Sets of product tokens.
+
+pub either : (has is : Bool) → cond is true has ≡ (has || is)
+either true true = refl
+either true false = refl
+either false true = refl
+either false false = refl
+
+-- inserting a name in lower case makes the set that `AddsName` describes
+pub name_added : (old new : BTreeSet Key) (lowered : Key) (name : List ℕ) (is_new : Bool)
+    → lowered.items ≡ str_to_ascii_lowercase name → is_new ≡ not (contains key_cmp old lowered)
+    → Updates key_cmp old new lowered true → AddsName old new name is_new
+name_added old new lowered name is_new in_lower_case is updates = record {
+  lowered = lowered;
+  in_lower_case = in_lower_case;
+  new_if = is;
+  each = λ key.
+      let has : Bool = contains key_cmp old key in
+      updates.0 key
+      ∙ ap (λ (t : Bool). cond t true has) (is_eq-slice_cmp lowered.items key.items)
+      ∙ either has (bytes_eq lowered.items key.items)
+      ∙ ap (λ (items : List ℕ). has || bytes_eq items key.items) in_lower_case;
+}
+
+-- whether a test holds for one of the first names, in terms of the last of these
+pub any_next : (test : List ℕ → Bool) (names : List (Bor (List ℕ))) (at : ℕ) (item : Bor (List ℕ))
+    {before after : Bool} → at < length names
+    → before ≡ list_any test (map (λ name. name.now) (take at names))
+    → after ≡ (before || test (slice_index_or names at item).now)
+    → after ≡ list_any test (map (λ name. name.now) (take (at + 1) names))
+any_next test names at item below was now =
+    now ∙ ap (λ (b : Bool). b || test (slice_index_or names at item).now) was
+    ∙ sym (rw (take_more names at item below) (simp (map-append, list_any-append, or-false)))
+
+-- whether a test holds for some item of a list with one more item
+pub any_last : {X : Type 0} (test : X → Bool) (xs : List X) (x : X)
+    → list_any test (xs ++ x ∷ []) ≡ (list_any test xs || test x)
+any_last test xs x =
+    list_any-append test xs (x ∷ []) ∙ ap (λ is. list_any test xs || is) (or-false (test x))
+
+-- ---- Examples of warnings contain no control or bidirectional-formatting characters other than LF.
+
+-- all bytes are printable ASCII (or LF)
+abbrev is_ascii : List ℕ → Bool
+is_ascii text = list_all (is_printable_byte true) text
+
+pub example_printable : (cause : Cause) → IsPrintable (example_of cause)
+unfolding example_of
+example_printable cause =
+    ascii_printable true (example_of cause)
+    (passes_at is_ascii all_examples (number_of cause) (tag_small the_type cause) refl)
+
+-- ---- The rows of the tables of warnings and of their examples.
+
+-- a field of the row at an index is at the same index in the list of that field of all rows
+at_place : {R X : Type 0} (part : R → X) (rows : List R) (at : ℕ) (row : R) (other : X)
+    → slice_get rows at ≡ Some row → slice_index_or (map part rows) at other ≡ part row
+at_place part [] at row other found = cc
+at_place part (first ∷ rows) zero row other found = ap part cc
+at_place part (first ∷ rows) (suc at) row other found = at_place part rows at row other found
+
+pub part_at : {R X : Type 0} (part : R → X) {rows : List R} {at : ℕ} {row : R} (other : X)
+    → IsAt rows at row → slice_index_or (map part rows) at other ≡ part row
+part_at part {rows} {at} {row} other is = at_place part rows at row other is.found
+
+-- the same in a list of that field of all rows
+pub part_in : {X : Type 0} (part : Row → X) {rows : List Row} {at : ℕ} {row : Row} {all : List X} (other : X)
+    → IsRowAt rows at row → map part rows ≡ all → part row ≡ slice_index_or all at other
+part_in part {rows} {at} {row} other is same =
+    sym (at_place part rows at row other is.found) ∙ ap (λ all. slice_index_or all at other) same
+
+-- a test of some part is a test of the list of these parts
+pub any_part : {R X : Type 0} (test : X → Bool) (part : R → X) (rows : List R)
+    → list_any test (map part rows) ≡ list_any (λ row. test (part row)) rows
+any_part test part [] = refl
+any_part test part (row ∷ rows) = rw (any_part test part rows) refl
+
+in_order : map number_of all_causes ≡ range_with_len 0 (length WARNINGS)
+unfolding all_causes
+in_order = refl
+
+-- if the items are about all warnings in order, the item at the index of a warning is about it
+pub own_row : {R : Type 0} (cause_of : R → Cause) {rows : List R} {row : R} (cause : Cause)
+    → IsAt rows (number_of cause) row → map cause_of rows ≡ all_causes → cause_of row ≡ cause
+own_row cause_of {rows} {row} cause is same =
+    let at = number_of cause in
+    let numbers = sym (map-map number_of cause_of rows) ∙ ap (map number_of) same ∙ in_order in
+    tag_one the_type tt (cause_of row) cause (sym (part_at (λ row. number_of (cause_of row)) 0 is)
+    ∙ ap (λ (numbers : List ℕ). get_or numbers at 0) numbers
+    ∙ get_or-range_with_len 0 (length WARNINGS) at 0 (tag_small the_type cause) ∙ zero-add at)

@@ -1,29 +1,22 @@
 -- What is found among the rules of a crawler.
+use Rattle.std.specs.Prelude.{is_some}
 use Rattle.std.proofs.Common.{◌≡◌, ℕ, ◌==◌, Bool, false, true, List, [], ◌∷◌, arith, inl, inr, length, refl}
-use Rattle.std.proofs.Common.{subst, sym, ◌∙◌, ◌&&◌, ◌+◌, ◌<◌, Option, Some, None, String, bytes_eq}
-use Rattle.std.proofs.Common.{if◌then◌else◌, string_bytes, ap, ap₂, codes, drop, ◌||◌, ◌⊎◌, cond, map}
-use Rattle.std.proofs.Common.{Bor, slice_index_or}
-use Rattle.std.proofs.lemmas.Bool.{cases_Bool}
-use Rattle.std.proofs.lemmas.List.{drop_more}
-use Rattle.std.specs.HashMap.{Updates, get_by_text, hash_map_len}
-use Rattle.std.specs.{List.list_any, Str.byte, Global.Global, Map.lookup, Option.option_or}
-use Rattle.std.specs.{Prelude.is_some, String.string_eq}
+use Rattle.std.proofs.Common.{subst, sym, ◌∙◌, ◌&&◌, ◌+◌, ◌<◌, Option, Some, None, String, bytes_eq, ap, ap₂}
+use Rattle.std.proofs.Common.{if◌then◌else◌, string_bytes, codes, drop, ◌||◌, ◌⊎◌, cond, map, Bor}
+use Rattle.std.proofs.Common.{slice_index_or}
+use Rattle.std.proofs.lemmas.{Bool.cases_Bool, List.drop_more, Slice.Eq.bytes_eq-Decides}
+use Rattle.std.specs.{HashMap.Updates, HashMap.get_by_text, HashMap.hash_map_len, List.list_any, Str.byte}
+use Rattle.std.specs.{Global.Global, Map.lookup, Option.option_or, String.string_eq, HashSet.contains_text}
 use Rattle.texting_robots.specs.Callers.{escaped, PlacedRule, by_value, label_by_value}
-use Rattle.texting_robots.specs.Escape.{is_escaped}
-use Rattle.texting_robots.proofs.RulesLemmas.{option_or_none}
-use Rattle.robots_warnings.proofs.ClosedLemmas.{differs}
+use Rattle.texting_robots.specs.{Escape.is_escaped, declared.labels.LabeledLine.LabeledLine, Group.is_group}
+use Rattle.texting_robots.proofs.{RulesLemmas.option_or_none}
+use Rattle.robots_warnings.proofs.ClosedLemmas.{differs, either}
 use Rattle.robots_warnings.specs.Conflicts.{allow_beside, compared, first_of}
 use Rattle.std.proofs.Math.Bool.{or-false, or-true}
 use Rattle.std.proofs.lemmas.Map.Text.{hash_map_updates_text, hash_set_updates_text}
-use Rattle.std.proofs.lemmas.Slice.Eq.{bytes_eq-Decides}
-use Rattle.robots_warnings.specs.Internal.Rules.{HasFirst, Lines}
+use Rattle.robots_warnings.specs.Internal.Rules.{HasFirst, Lines, Patterns}
+use Rattle.robots_warnings.specs.{File.lines_of, Closed.denies}
 use Rattle.std.specs.HashSet as set
-use Rattle.std.specs.HashSet.{contains_text}
-use Rattle.texting_robots.specs.declared.labels.LabeledLine.{LabeledLine}
-use Rattle.texting_robots.specs.Group.{is_group}
-use Rattle.robots_warnings.specs.File.{lines_of}
-use Rattle.robots_warnings.specs.{Internal.Rules.Patterns, Replaced.denies}
-use Rattle.robots_warnings.proofs.NameLemmas.{either}
 
 -- ---- rules that contradict each other
 

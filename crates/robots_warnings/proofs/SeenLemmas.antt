@@ -1,29 +1,25 @@
 -- How names and the values of rules are remembered, and how lines are found by them.
+use Rattle.std.specs.Prelude.{Err, IfOk, Ok, Result, slice_index}
 use Rattle.std.proofs.Common.{◌≡◌, ℕ, ◌+◌, ◌<◌, Bool, true, false, List, [], ◌∷◌, ◌++◌, ◌∙◌, ◌&&◌, ap, arith}
 use Rattle.std.proofs.Common.{drop, filter, if◌then◌else◌, inl, inr, length, map, refl, slice_index_or, sym}
 use Rattle.std.proofs.Common.{take, append_assoc, not, bytes_eq}
 use Rattle.std.proofs.lemmas.List.{drop_more, map-append, take_more, length_push}
-use Rattle.std.proofs.lemmas.{Bool.cases_Bool, Bool.or_parts, Simd.map-map}
+use Rattle.std.proofs.lemmas.Bool.{cases_Bool, or_parts}
+use Rattle.std.proofs.{lemmas.Simd.map-map, Math.Seq.take-append_seam}
 use Rattle.std.specs.List.{list_any, onto_first, slice_split, enumerate_from}
-use Rattle.std.specs.Prelude.{Err, IfOk, Ok, Result, slice_index}
 use Rattle.std.specs.{BTreeSet.BTreeSet, Borrow.Bor, Global.Vec}
-use Rattle.texting_robots.specs.declared.labels.LabeledLine.{LabeledLine}
-use Rattle.texting_robots.specs.Callers.{Allow, Disallow, Label, LineValue}
-use Rattle.texting_robots.specs.Callers.{by_value, label_by_value, file_lines}
-use Rattle.robots_warnings.specs.File.{lines_of}
-use Rattle.robots_warnings.specs.declared.spellings.Spelling.{Spelling}
+use Rattle.texting_robots.specs.{declared.labels.LabeledLine.LabeledLine, Callers.Allow}
+use Rattle.texting_robots.specs.Callers.{Disallow, Label, LineValue, by_value, label_by_value, file_lines}
+use Rattle.robots_warnings.specs.{File.lines_of, declared.spellings.Spelling.Spelling, Crawlers.is_past_limit}
+use Rattle.robots_warnings.specs.{declared.repeated.Seen.Seen, declared.values.Value.Value}
 use Rattle.robots_warnings.specs.Spellings.{is_agent_line, is_escape, is_unpaired_at, is_unpaired_line}
 use Rattle.robots_warnings.specs.Spellings.{spelled, spelled_escape}
 use Rattle.robots_warnings.specs.Internal.Names.{Key, AddsLine, HasNames, IsFoundUpto, past_limit_from}
 use Rattle.robots_warnings.specs.Internal.Values.{has_other_line, has_other_value}
-use Rattle.robots_warnings.proofs.{NameLemmas.either, StepLemmas.picked}
-use Rattle.std.specs.HashSet as hash
-use Rattle.robots_warnings.specs.declared.repeated.Seen.{Seen}
-use Rattle.robots_warnings.specs.declared.values.Value.{Value}
-use Rattle.robots_warnings.specs.Internal.Values as sets
+use Rattle.robots_warnings.proofs.{ClosedLemmas.either, StepLemmas.picked}
 use Rattle.robots_warnings.specs.Repeated.{above_next, is_checked, repeated_from}
-use Rattle.std.proofs.Math.Seq.{take-append_seam}
-use Rattle.robots_warnings.specs.NamesPastLimit.{is_past_limit}
+use Rattle.std.specs.HashSet as hash
+use Rattle.robots_warnings.specs.Internal.Values as sets
 
 -- ---- spellings
 

@@ -1,21 +1,17 @@
 -- Steps of loops over bytes and over lines.
 use Rattle.std.proofs.Common.{◌≡◌, ℕ, ◌+◌, ◌<◌, ◌==◌, ◌||◌, ◌&&◌, List, drop, length, refl, slice_index_or}
-use Rattle.std.proofs.Common.{Bool, map, not, take, ◌∷◌, [], arith, codes, false, nat_eq, ◌++◌, ap}
-use Rattle.std.proofs.Common.{append-nil, append_assoc, flat_map, sym, ◌∙◌, cond, true, if◌then◌else◌}
-use Rattle.std.proofs.Common.{inl, inr}
-use Rattle.std.proofs.lemmas.List.{drop_more, map-append, take_more}
+use Rattle.std.proofs.Common.{Bool, map, not, take, ◌∷◌, [], arith, codes, false, nat_eq, ◌++◌, ap, flat_map}
+use Rattle.std.proofs.Common.{append-nil, append_assoc, sym, ◌∙◌, cond, true, if◌then◌else◌, inl, inr}
+use Rattle.std.proofs.lemmas.List.{drop_more, map-append, take_more, Folds.list_any-append}
 use Rattle.robots_warnings.specs.File.{hash, is_blank, space, tab, lines_of}
-use Rattle.robots_warnings.specs.Positions.{group_number, last_group}
-use Rattle.robots_warnings.specs.{Facts.kinds_of, Facts.nul_at_every_other, Internal.kinds_with}
+use Rattle.robots_warnings.specs.{Positions.group_number, Positions.last_group, Facts.kinds_of}
+use Rattle.robots_warnings.specs.{Facts.nul_at_every_other, Internal.kinds_with, Message.WarningValue}
 use Rattle.robots_warnings.specs.Rules.{begins_dot_segment, from_first, somewhere}
-use Rattle.robots_warnings.specs.WarningValue.{WarningValue}
-use Rattle.std.proofs.Math.Bool.{or-false}
-use Rattle.std.proofs.lemmas.Bool.{cases_Bool}
-use Rattle.std.proofs.lemmas.List.{Folds.list_any-append, Concat.flat_map-append}
-use Rattle.texting_robots.specs.declared.labels.LabeledLine.{LabeledLine}
+use Rattle.std.proofs.{Math.Bool.or-false, lemmas.Bool.cases_Bool, lemmas.List.Concat.flat_map-append}
+use Rattle.std.proofs.{lemmas.Bool.Decides.nat_tests}
+use Rattle.texting_robots.specs.{declared.labels.LabeledLine.LabeledLine}
 use Rattle.texting_robots.specs.Callers.{by_value, label_by_value, Label}
 use Rattle.std.specs.{Option.option_or, List.starts_with}
-use Rattle.std.proofs.lemmas.Bool.Decides.{nat_tests}
 
 -- ---- the bytes of a line
 

@@ -1,30 +1,25 @@
 -- The conditions of warnings about a file, a request, a line and its position, grouped by what they inspect,
 -- in the order of output. Warnings.antt names those of the others.
-use Rattle.std.specs.Prelude.{ℕ, Bool, true, false, List, [], ◌∷◌, ◌++◌, ◌||◌, Option, None, Some}
-use Rattle.std.specs.Prelude.{if◌then◌else◌, nat_lt, not, ◌&&◌, ◌==◌, codes, nat_eq}
+use Rattle.std.specs.Prelude.{ℕ, Bool, true, false, List, [], ◌∷◌, ◌++◌, ◌||◌, Option, None, Some, nat_lt}
+use Rattle.std.specs.Prelude.{if◌then◌else◌, not, ◌&&◌, ◌==◌, codes, nat_eq}
 use Rattle.std.specs.{Str.byte, Str.is_utf8, List.starts_with}
-use Rattle.texting_robots.specs.Callers.{Allow, CrawlDelay, Disallow, LineValue, Label, Raw, Sitemap}
-use Rattle.texting_robots.specs.Callers.{UserAgent, is_own}
-use Rattle.texting_robots.specs.declared.labels.Membership.{Membership}
-use Rattle.robots_warnings.specs.declared.facts.FileFacts.{FileFacts}
-use Rattle.robots_warnings.specs.declared.positions.Preceding.{Preceding}
-use Rattle.robots_warnings.specs.declared.table.Cause.{Cause}
-use Rattle.robots_warnings.specs.declared.table.Cause.TheVariants as cause
-use Rattle.robots_warnings.specs.Contents.{comment_of, has_odd_comment, has_odd_delay, has_odd_space}
-use Rattle.robots_warnings.specs.Contents.{is_cut_short, is_cut_to_root, tail_of}
+use Rattle.texting_robots.specs.Callers.{Allow, Disallow, LineValue, Label, Raw, Sitemap, UserAgent, is_own}
+use Rattle.texting_robots.specs.{Callers.CrawlDelay, declared.labels.Membership.Membership}
+use Rattle.robots_warnings.specs.{declared.facts.FileFacts.FileFacts, declared.positions.Preceding.Preceding}
+use Rattle.robots_warnings.specs.{declared.table.Cause.Cause, Targets.has_odd_target, File.is_blank}
+use Rattle.robots_warnings.specs.Contents.{comment_of, has_odd_comment, has_odd_delay, has_odd_space, tail_of}
+use Rattle.robots_warnings.specs.Contents.{is_cut_short, is_cut_to_root}
 use Rattle.robots_warnings.specs.FieldNames.{begins_inner_field, is_misspelled, is_without_colon, meant_by}
 use Rattle.robots_warnings.specs.Positions.{are_joined, is_above_agents, is_empty_group, is_other_delay}
 use Rattle.robots_warnings.specs.Positions.{is_split, name_star}
-use Rattle.robots_warnings.specs.Rules.{before_byte, begins_dot_segment, begins_wildcard, has}
+use Rattle.robots_warnings.specs.Rules.{before_byte, begins_dot_segment, begins_wildcard, has, has_odd_start}
 use Rattle.robots_warnings.specs.Rules.{has_dollar_inside, has_more_after_dollar, has_odd_character}
-use Rattle.robots_warnings.specs.Rules.{has_odd_start}
 use Rattle.robots_warnings.specs.Rules.{has_quote_at_end, holds_otherwise, is_expression, is_quoted}
 use Rattle.robots_warnings.specs.Rules.{is_url_in_path, somewhere}
-use Rattle.robots_warnings.specs.Targets.{has_odd_target}
-use Rattle.robots_warnings.specs.Tokens.{is_product_token, is_usual_name}
+use Rattle.robots_warnings.specs.Crawlers.{is_product_token, is_usual_name}
 use Rattle.robots_warnings.specs.Urls.{begins_as_url, has_odd_host, is_absolute_url}
 use Rattle.robots_warnings.specs.SeveralValues.{has_several_values, several_values}
-use Rattle.robots_warnings.specs.{File.is_blank}
+use Rattle.robots_warnings.specs.declared.table.Cause.TheVariants as cause
 
 -- a warning, and whether its condition holds
 abbrev pub Check : Type 0

@@ -1,9 +1,43 @@
--- Rules that contradict each other: a Disallow and an Allow of the same, and a Disallow of everything beside
--- an empty Disallow, which is an Allow of `/` here, and no rule for RFC 9309 and Google.
-use Rattle.std.specs.Prelude.{◌≡◌, ℕ, ◌==◌, Bool, true, false, not, ◌&&◌, List, [], ◌∷◌, Contains, bytes_eq}
-use Rattle.std.specs.Prelude.{Option, None, Some, codes, if◌then◌else◌, is_some}
-use Rattle.std.specs.Option.{option_or}
-use Rattle.texting_robots.specs.Callers.{AreRulesFor, LineValue, PlacedRule, placed_rules}
+-- Rules that contradict each other, and empty Disallows.
+use Rattle.std.specs.Prelude.{ℕ, false, filter, slice_get, Contains, bytes_eq, Option, if◌then◌else◌, is_some}
+use Rattle.std.specs.Prelude.{◌≡◌, ◌+◌, ◌==◌, Bool, not, ◌||◌, ◌&&◌, List, [], ◌∷◌, Some, true, None, codes}
+use Rattle.std.specs.{Str.byte, Option.option_or}
+use Rattle.texting_robots.specs.Callers.{Allow, Label, LineValue, PlacedRule, AreRulesFor, placed_rules}
+use Rattle.texting_robots.specs.{Statement.IsStatement, declared.parser.statement.Kind.TheVariants.Disallow}
+use Rattle.robots_warnings.specs.{FieldNames.without_front}
+
+-- ---- Empty Disallows. Each is an Allow of `/` here, and no rule for RFC 9309 and Google.
+
+-- of the lines with these contents, the one with this number is a Disallow without a value
+abbrev pub IsEmptyDisallow : List (List ℕ) → ℕ → Type 0
+IsEmptyDisallow bodies number =
+    (position : ℕ) × (body : List ℕ) × (number ≡ position + 1) × (slice_get bodies position ≡ Some body)
+    × IsStatement Disallow [] body
+
+-- the rules where an empty Disallow is no rule; `is_empty` holds for the numbers of empty Disallows
+abbrev pub stated_rules : (is_empty : ℕ → Bool) → List PlacedRule → List PlacedRule
+stated_rules is_empty rules = filter (λ placed. not (is_empty placed.line)) rules
+
+-- ---- as a function; by the theorem `empty_disallows` of `warnings_laws` it agrees
+
+abbrev pub begins_with_d : List ℕ → Bool
+begins_with_d [] = false
+begins_with_d (b ∷ text) = b == byte "d" || b == byte "D"
+
+-- the line with this content is read as an Allow, but its field name begins with a `d`
+abbrev pub is_empty_disallow : LineValue → List ℕ → Bool
+is_empty_disallow (Allow value) body = begins_with_d (without_front body)
+is_empty_disallow _ body = false
+
+-- the line with this number is one; the lines are given with their contents
+abbrev pub is_empty_at : List (List ℕ) → List Label → ℕ → Bool
+is_empty_at [] labels number = false
+is_empty_at (body ∷ bodies) [] number = false
+is_empty_at (body ∷ bodies) (label ∷ labels) number =
+    (is_empty_disallow label.line body && label.number == number) || is_empty_at bodies labels number
+
+-- ---- Rules that contradict each other: a Disallow and an Allow of the same, and a Disallow of everything
+-- beside an empty Disallow, which is an Allow of `/` here, and no rule for RFC 9309 and Google.
 
 -- the pattern as it is compared with others: `/` in place of `*`, which matches the same paths and is as
 -- long, so that an Allow of one wins over a Disallow of the other

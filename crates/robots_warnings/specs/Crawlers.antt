@@ -1,14 +1,60 @@
--- Known crawlers: which group the vendor of each applies to it, and which one a similar name may mean.
-use Rattle.std.specs.Prelude.{ℕ, ◌+◌, ◌==◌, Bool, not, ◌&&◌, ◌||◌, List, [], ◌∷◌, Option, None, Some}
-use Rattle.std.specs.Prelude.{codes, find, if◌then◌else◌, is_none, is_some, length, map, nat_eq, nat_le}
-use Rattle.std.specs.Prelude.{bytes_eq, nat_lt, option_map, slice_index_or, take, unwrap_or}
-use Rattle.std.specs.List.{before_first, list_any, position_from}
-use Rattle.std.specs.Option.{option_or}
-use Rattle.std.specs.Str.{is_utf8, str_eq_ignore_ascii_case, str_to_ascii_lowercase}
-use Rattle.strsim.specs.Edits.{damerau}
-use Rattle.texting_robots.specs.Callers.{LineValue, UserAgent, is_named}
+-- Known crawlers, and names of crawlers.
+use Rattle.std.specs.Prelude.{ℕ, ◌-◌, ◌==◌, nat_eq, Bool, not, ◌||◌, ◌&&◌, List, bytes_eq, codes, length, ◌+◌}
+use Rattle.std.specs.Prelude.{drop, if◌then◌else◌, take, [], ◌∷◌, Option, None, Some, find, is_none, is_some}
+use Rattle.std.specs.Prelude.{map, nat_le, nat_lt, option_map, slice_index_or, unwrap_or, false, filter, ◌++◌}
+use Rattle.std.specs.Str.{byte, str_eq_ignore_ascii_case, trim, is_utf8, str_to_ascii_lowercase}
+use Rattle.std.specs.List.{ends_with, list_all, before_first, list_any, position_from, enumerate_from}
+use Rattle.std.specs.{Char.is_ascii_alphabetic, Char.is_ascii_digit, Option.option_or}
+use Rattle.robots_warnings.specs.{Rules.somewhere, Urls.begins_in_any_case}
+use Rattle.strsim.specs.{Edits.damerau}
+use Rattle.texting_robots.specs.Callers.{LineValue, UserAgent, is_named, file_lines}
 use Rattle.robots_warnings.specs.declared.crawlers.TheConstants.{CRAWLERS, WRONG_NAMES}
-use Rattle.robots_warnings.specs.Tokens.{ends_token}
+
+-- ---- The name of a crawler, in a request or in a user-agent line.
+
+-- the text starts or ends with Unicode white space
+abbrev pub has_space_around : List ℕ → Bool
+has_space_around text = not (bytes_eq (trim text) text)
+
+-- the byte can occur in a product token: ASCII letters, `_` and `-`
+abbrev pub is_token_byte : ℕ → Bool
+is_token_byte b = is_ascii_alphabetic b || b == byte "_" || b == byte "-"
+
+abbrev pub ends_token : ℕ → Bool
+ends_token b = not (is_token_byte b)
+
+-- the value is a product token, or `*`, which means every crawler
+abbrev pub is_product_token : List ℕ → Bool
+is_product_token value =
+    bytes_eq value (codes "*") || (not (length value == 0) && list_all is_token_byte value)
+
+-- the byte can occur in a name that isn't a product token: also digits, dots and spaces
+abbrev pub is_name_byte : ℕ → Bool
+is_name_byte b = is_token_byte b || (is_ascii_digit b || (b == byte "." || b == byte " "))
+
+-- the text starts with a word for a crawler
+abbrev pub begins_crawler_word : List ℕ → Bool
+begins_crawler_word text =
+    begins_in_any_case (codes "bot") text
+    || (begins_in_any_case (codes "crawler") text || begins_in_any_case (codes "spider") text)
+
+-- the text starts with `bot` and a space, and another name follows: such a word, but not just `bot`
+abbrev pub begins_names : List ℕ → Bool
+begins_names text =
+    begins_in_any_case (codes "bot ") text
+    && (somewhere begins_crawler_word (drop 4 text)
+    && not (str_eq_ignore_ascii_case (drop 4 text) (codes "bot")))
+
+-- the value is written as names of real crawlers that aren't product tokens are, such as `MJ12bot`,
+-- `Offline Explorer` and, with a star at its end, `Mediapartners-Google*`, and doesn't seem to be several
+-- names, as
+-- `Googlebot Bingbot` does, but not `Brightbot 1.0` or `Echobot Bot`
+abbrev pub is_usual_name : List ℕ → Bool
+is_usual_name value =
+    let name = if ends_with nat_eq value (codes "*") then take (length value - 1) value else value in
+    (not (length value == 0) && list_all is_name_byte name) && not (somewhere begins_names value)
+
+-- ---- Known crawlers: which group the vendor of each applies to it, and which one a similar name may mean.
 
 -- a crawler's name, and that of the group that its vendor applies to it if it has none of its own
 abbrev pub Row : Type 0
@@ -116,3 +162,20 @@ meant value =
 abbrev pub meant_in : LineValue → Option ℕ
 meant_in (UserAgent value) = meant value
 meant_in _ = None
+
+-- ---- Crawlers that a file names only past the size limit.
+
+-- a user-agent line with a name that none of these lines has, ASCII letters in any case
+abbrev pub has_new_name : List LineValue → LineValue → Bool
+has_new_name lines (UserAgent value) = not (is_named value lines)
+has_new_name lines _ = false
+
+-- a line of the file, given with its index, whose name is neither in the lines within the size limit nor in
+-- an earlier line of the file
+abbrev pub is_past_limit : List LineValue → List ℕ → ℕ × LineValue → Bool
+is_past_limit read file p = has_new_name (read ++ take p.0 (file_lines file)) p.1
+
+-- the numbers of such lines, counted from 1
+abbrev pub names_past_limit : List LineValue → List ℕ → List ℕ
+names_past_limit read file =
+    map (λ p. p.0 + 1) (filter (is_past_limit read file) (enumerate_from 0 (file_lines file)))

@@ -1,24 +1,20 @@
 -- Field names: which one was probably intended in an ignored line, and what is unusual about that of a
 -- directive.
-use Rattle.std.specs.Prelude.{ℕ, ◌+◌, ◌-◌, ◌==◌, nat_eq, nat_le, nat_lt, Bool, not, ◌||◌, ◌&&◌, List, []}
-use Rattle.std.specs.Prelude.{◌∷◌, Option, bytes_eq, codes, drop, find, if◌then◌else◌, length, map}
-use Rattle.std.specs.Prelude.{option_map, reverse, slice_index, take, unwrap_or}
+use Rattle.std.specs.Prelude.{ℕ, ◌+◌, ◌-◌, ◌==◌, nat_eq, nat_le, nat_lt, Bool, not, ◌||◌, ◌&&◌, List, [], ◌∷◌}
+use Rattle.std.specs.Prelude.{Option, bytes_eq, codes, drop, find, if◌then◌else◌, length, map, option_map}
+use Rattle.std.specs.Prelude.{reverse, slice_index, take, unwrap_or}
 use Rattle.std.specs.Char.{is_ascii_alphabetic, is_ascii_alphanumeric, is_ascii_uppercase}
-use Rattle.std.specs.Str.{byte, str_to_ascii_lowercase}
-use Rattle.std.specs.{List.before_first, List.ends_with, List.list_all, List.list_any, Option.option_or}
-use Rattle.strsim.specs.Edits.{levenshtein_row}
-use Rattle.texting_robots.specs.Statement.{field_names}
-use Rattle.texting_robots.specs.declared.parser.statement.Kind.{Kind}
-use Rattle.texting_robots.specs.declared.parser.statement.Kind.TheVariants as kind
-use Rattle.robots_warnings.specs.{File.hash, File.space, File.tab, Rules.after_byte, Rules.before_byte}
-use Rattle.robots_warnings.specs.{Rules.somewhere, Rules.has}
-use Rattle.robots_warnings.specs.Urls.{begins_as_url}
-use Rattle.robots_warnings.specs.SeveralValues.{begins_unseen}
+use Rattle.std.specs.{Str.byte, Str.str_to_ascii_lowercase, Option.option_or}
+use Rattle.std.specs.List.{before_first, ends_with, list_all, list_any}
+use Rattle.strsim.specs.{Edits.levenshtein_row}
+use Rattle.texting_robots.specs.{Statement.field_names, declared.parser.statement.Kind.Kind}
+use Rattle.robots_warnings.specs.{File.hash, File.space, File.tab, Urls.begins_as_url, Crawlers.is_token_byte}
+use Rattle.robots_warnings.specs.{SeveralValues.begins_unseen, declared.table.Cause.Cause}
+use Rattle.robots_warnings.specs.Rules.{after_byte, before_byte, somewhere, has}
 use Rattle.robots_warnings.specs.declared.field_names.TheConstants.{DIRECTIVES, KINDS, UNSUPPORTED}
-use Rattle.robots_warnings.specs.declared.table.Cause.{Cause}
 use Rattle.robots_warnings.specs.declared.table.Cause.TheVariants.{HostName, InvalidDelay, UnrecognizedLine}
 use Rattle.robots_warnings.specs.declared.table.Cause.TheVariants.{EqualsSign, UnseenInName}
-use Rattle.robots_warnings.specs.Tokens.{is_token_byte}
+use Rattle.texting_robots.specs.declared.parser.statement.Kind.TheVariants as kind
 
 -- ---- the tokens of a line
 

@@ -4,12 +4,12 @@ pub mod Rules
 pub mod Values
 pub mod Warned
 use Rattle.std.specs.Prelude.{◌≡◌, ℕ, ◌||◌, ◌++◌, List, Some, slice_get}
-use Rattle.std.specs.Borrow.{Bor}
+use Rattle.std.specs.{Borrow.Bor}
 use Rattle.texting_robots.specs.{Callers.LineValue, Group.is_agent}
-use Rattle.robots_warnings.specs.declared.facts.LineKinds.{LineKinds}
-use Rattle.printable_text.specs.declared.level.Level.{Level}
+use Rattle.robots_warnings.specs.declared.facts.{LineKinds.LineKinds}
+use Rattle.printable_text.specs.declared.level.{Level.Level}
 use Rattle.robots_warnings.specs.declared.table.{Cause.Cause, Topic.Topic}
-use Rattle.robots_warnings.specs.{Facts.has_text, Facts.is_extra, Facts.is_rule, WarningValue.WarningValue}
+use Rattle.robots_warnings.specs.{Facts.has_text, Facts.is_extra, Facts.is_rule, Message.WarningValue}
 
 -- these warnings are appended
 abbrev pub Adds : (old found more : List WarningValue) → Type 0

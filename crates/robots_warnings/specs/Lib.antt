@@ -1,7 +1,6 @@
 pub mod File
 pub mod Table
 pub mod Facts
-pub mod Tokens
 pub mod Urls
 pub mod FieldNames
 pub mod Rules
@@ -11,14 +10,10 @@ pub mod Contents
 pub mod Targets
 pub mod Checks
 pub mod Conflicts
-pub mod EmptyDisallows
 pub mod Closed
 pub mod Crawlers
-pub mod NamesPastLimit
 pub mod Spellings
 pub mod Repeated
-pub mod Replaced
-pub mod WarningValue
 pub mod Warnings
 pub mod Message
 pub mod Internal

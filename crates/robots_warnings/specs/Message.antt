@@ -1,22 +1,29 @@
--- The message of a warning as the parts of a line.
-use Rattle.std.specs.Prelude.{◌≡◌, ℕ, zero, suc, ◌<◌, Bool, true, false, List, [], ◌∷◌, ◌++◌, Option, Some}
+-- Warnings and their messages.
+use Rattle.std.specs.Prelude.{ℕ, List, Option, ◌≡◌, zero, suc, ◌<◌, Bool, true, false, [], ◌∷◌, ◌++◌, Some}
 use Rattle.std.specs.Prelude.{None, ◌==◌, codes, if◌then◌else◌, length, slice_index_or}
-use Rattle.std.specs.List.{list_all}
-use Rattle.std.proofs.Common.{arith, refl}
-use Rattle.std.proofs.lemmas.Bool.{and_parts}
-use borrow.Enum.Match.{tag_small}
+use Rattle.robots_warnings.specs.{declared.table.Cause.Cause, declared.warning.Detail.Detail, Crawlers.row_at}
+use Rattle.robots_warnings.specs.{contracts.table.Cause.the_type}
+use Rattle.std.specs.{List.list_all}
+use Rattle.std.proofs.{Common.arith, Common.refl, lemmas.Bool.and_parts}
 use Rattle.printable_text.specs.Text.{Absent, Fixed, Label, Number, Only, Part, PartValue, Untrusted, Word}
 use Rattle.printable_text.specs.Text.{is_fixed, label, only, parts_text}
-use Rattle.robots_warnings.specs.contracts.table.Cause.{the_type}
-use Rattle.robots_warnings.specs.declared.table.Cause.{Cause}
-use Rattle.robots_warnings.specs.declared.table.Cause.TheVariants.{ClosesEverything, ClosesSite}
-use Rattle.robots_warnings.specs.declared.table.Cause.TheVariants.{GoogleIgnoresStar, GooglebotGroup}
-use Rattle.robots_warnings.specs.declared.table.Cause.TheVariants.{MisspelledName}
-use Rattle.robots_warnings.specs.declared.warning.Detail.{Detail}
+use Rattle.robots_warnings.specs.declared.table.Cause.TheVariants.{ClosesEverything, GoogleIgnoresStar}
+use Rattle.robots_warnings.specs.declared.table.Cause.TheVariants.{ClosesSite, GooglebotGroup, MisspelledName}
 use Rattle.robots_warnings.specs.declared.warning.Detail.TheVariants.{Group, Line, Meant, Others, Rules}
-use Rattle.robots_warnings.specs.Crawlers.{row_at}
 use Rattle.robots_warnings.specs.Table.{all_names, all_texts, name_of, number_of, text_of}
-use Rattle.robots_warnings.specs.WarningValue.{WarningValue}
+use borrow.Enum.Match.{tag_small}
+
+-- ---- A warning as a value.
+
+-- a warning: the number of its line, if it is about one; the reason; the URL or the crawler's name, if its
+-- message begins with one; and what its message ends with, if it isn't its text
+pub record WarningValue : Type 0 where
+  pub line : Option ℕ
+  pub cause : Cause
+  pub about : Option (List ℕ)
+  pub detail : Option Detail
+
+-- ---- The message of a warning as the parts of a line.
 
 -- ---- fixed texts
 

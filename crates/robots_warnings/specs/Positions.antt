@@ -4,12 +4,10 @@ use Rattle.std.specs.Prelude.{Some, ◌==◌, bytes_eq, codes, if◌then◌else�
 use Rattle.std.specs.{Option.option_or, Str.str_eq_ignore_ascii_case}
 use Rattle.texting_robots.specs.Callers.{CrawlDelay, LineValue, Label, Raw, UserAgent}
 use Rattle.texting_robots.specs.{Group.is_agent, Group.is_group, Line.delay_in}
-use Rattle.texting_robots.specs.declared.labels.Membership.{Membership}
-use Rattle.texting_robots.specs.declared.labels.Membership.TheVariants.{Ungrouped}
+use Rattle.texting_robots.specs.declared.labels.Membership.{Membership, TheVariants.Ungrouped}
 use Rattle.robots_warnings.specs.declared.positions.Preceding.{Preceding}
 use Rattle.robots_warnings.specs.declared.positions.Preceding.TheVariants.{Agent, Delay, Other}
-use Rattle.robots_warnings.specs.Facts.{has_text, is_rule}
-use Rattle.robots_warnings.specs.{File.hash, File.is_blank, Rules.has}
+use Rattle.robots_warnings.specs.{Facts.has_text, Facts.is_rule, File.hash, File.is_blank, Rules.has}
 
 -- ---- what precedes a line
 

@@ -1,9 +1,8 @@
 -- Rules that repeat a rule above them in their group.
 use Rattle.std.specs.Prelude.{ℕ, Bool, true, false, not, ◌&&◌, List, [], ◌∷◌, ◌++◌, if◌then◌else◌}
-use Rattle.std.specs.List.{list_any}
+use Rattle.std.specs.{List.list_any}
 use Rattle.texting_robots.specs.Callers.{Allow, Disallow, LineValue, Label}
-use Rattle.texting_robots.specs.Group.{is_agent}
-use Rattle.texting_robots.specs.declared.labels.Membership.{Membership}
+use Rattle.texting_robots.specs.{Group.is_agent, declared.labels.Membership.Membership}
 use Rattle.robots_warnings.specs.{Checks.is_in_scope_of, Positions.is_outside, Spellings.is_rule_with}
 
 -- the line is a rule, and one of the lines above it in its group is a rule of the same kind with the same

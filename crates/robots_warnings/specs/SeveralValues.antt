@@ -2,8 +2,7 @@
 use Rattle.std.specs.Prelude.{ℕ, ◌==◌, nat_eq, nat_le, Bool, false, ◌||◌, ◌&&◌, List, [], ◌∷◌, codes, drop}
 use Rattle.std.specs.Prelude.{if◌then◌else◌, slice_index}
 use Rattle.std.specs.{Char.is_ascii_alphabetic, List.starts_with, Str.byte}
-use Rattle.robots_warnings.specs.Rules.{from_first, somewhere}
-use Rattle.robots_warnings.specs.declared.table.Cause.{Cause}
+use Rattle.robots_warnings.specs.{Rules.from_first, Rules.somewhere, declared.table.Cause.Cause}
 use Rattle.robots_warnings.specs.declared.table.Cause.TheVariants as cause
 
 -- the text starts with a space or a control character of ASCII other than DEL

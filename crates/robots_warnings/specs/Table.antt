@@ -2,13 +2,12 @@
 use Rattle.std.specs.Prelude.{ℕ, Bool, true, false, List, [], bytes_eq, map, not, slice_index_or}
 use Rattle.std.specs.List.{list_any}
 use denote.Enum.Declared.{tag_of}
-use Rattle.robots_warnings.specs.contracts.table.Cause.{the_type}
-use Rattle.printable_text.specs.declared.level.Level.{Level}
+use Rattle.robots_warnings.specs.contracts.table.{Cause.the_type}
+use Rattle.printable_text.specs.declared.level.{Level.Level}
+use Rattle.robots_warnings.specs.declared.table.{TheConstants.WARNINGS, Cause.Cause}
+use Rattle.robots_warnings.specs.declared.texts.TheConstants.{EXAMPLES, MESSAGES}
+use Rattle.robots_warnings.specs.declared.table.Topic.{Topic, TheVariants.Meaning, TheVariants.Syntax}
 use Rattle.printable_text.specs.declared.level.Level.TheVariants as level
-use Rattle.robots_warnings.specs.declared.{table.TheConstants.WARNINGS, texts.TheConstants.EXAMPLES}
-use Rattle.robots_warnings.specs.declared.texts.TheConstants.{MESSAGES}
-use Rattle.robots_warnings.specs.declared.table.{Cause.Cause, Topic.Topic}
-use Rattle.robots_warnings.specs.declared.table.Topic.TheVariants.{Meaning, Syntax}
 
 -- the index of a warning in the table
 abbrev pub number_of : Cause → ℕ

@@ -1,11 +1,11 @@
 -- The match target of a URL or a path, as crawlers ask for it, and its normal form, which RFC 9309 compares.
-use Rattle.std.specs.Prelude.{ℕ, Bool, not, ◌||◌, ◌&&◌, List, ◌++◌, None, Ok, Err, codes}
-use Rattle.std.specs.Prelude.{if◌then◌else◌, nat_eq}
-use Rattle.std.specs.{List.list_all, List.starts_with}
+use Rattle.std.specs.Prelude.{ℕ, Bool, not, ◌||◌, ◌&&◌, List, ◌++◌, None, Ok, Err, codes, if◌then◌else◌}
+use Rattle.std.specs.Prelude.{nat_eq}
+use Rattle.std.specs.List.{list_all, starts_with}
 use Rattle.url.specs.{Parts.Parts, Parser.parse_url}
 use Rattle.texting_robots.specs.{Address.is_web, Prepared.prepared, Prepared.with_delimiter}
-use Rattle.robots_warnings.specs.Rules.{begins_lone_percent, begins_odd_escape, has, is_delimiter}
-use Rattle.robots_warnings.specs.Rules.{needs_no_escape, somewhere}
+use Rattle.robots_warnings.specs.Rules.{begins_lone_percent, begins_odd_escape, has, is_delimiter, somewhere}
+use Rattle.robots_warnings.specs.Rules.{needs_no_escape}
 use Rattle.robots_warnings.specs.Urls.{begins_as_url, is_unparsable}
 
 -- a byte that the normal form of a path and a query may have: one that needs no escape, a delimiter, or `%`

@@ -1,30 +1,26 @@
 -- All warnings about a file and a request, in the order of output.
-use Rattle.std.specs.Prelude.{ℕ, ◌==◌, Bool, true, List, [], ◌∷◌, ◌++◌, ◌&&◌, Option, Some, None, codes}
-use Rattle.std.specs.Prelude.{flat_map, if◌then◌else◌, length, map, not, ◌||◌, ◌+◌, filter, slice_get}
+use Rattle.std.specs.Prelude.{ℕ, ◌==◌, Bool, true, List, [], ◌∷◌, ◌++◌, ◌&&◌, Option, Some, None, codes, map}
+use Rattle.std.specs.Prelude.{flat_map, if◌then◌else◌, length, not, ◌||◌, ◌+◌, filter, slice_get}
 use Rattle.texting_robots.specs.Callers.{LineValue, Label, bodies_read, is_named}
-use Rattle.robots_warnings.specs.declared.facts.FileFacts.{FileFacts}
-use Rattle.robots_warnings.specs.declared.positions.Preceding.{Preceding}
-use Rattle.robots_warnings.specs.declared.positions.Preceding.TheVariants.{Other}
-use Rattle.robots_warnings.specs.declared.table.Cause.{Cause}
-use Rattle.robots_warnings.specs.declared.table.Cause.TheVariants.{AllowedAndDisallowed, ClosesEverything}
-use Rattle.robots_warnings.specs.declared.table.Cause.TheVariants.{CutLine, EmptyDisallow, EscapedDelimiter}
-use Rattle.robots_warnings.specs.declared.table.Cause.TheVariants.{ClosesSite, GoogleIgnoresStar}
-use Rattle.robots_warnings.specs.declared.table.Cause.TheVariants.{GooglebotGroup, GroupPastSizeLimit}
-use Rattle.robots_warnings.specs.declared.table.Cause.TheVariants.{MisspelledName, NonstandardEscape}
-use Rattle.robots_warnings.specs.declared.table.Cause.TheVariants.{RepeatedRule, ReplacesStar}
+use Rattle.robots_warnings.specs.{declared.facts.FileFacts.FileFacts, Facts.suppresses_line_warnings}
+use Rattle.robots_warnings.specs.{File.lines_of, Repeated.repeated, Spellings.unpaired, Message.WarningValue}
+use Rattle.robots_warnings.specs.declared.positions.Preceding.{Preceding, TheVariants.Other}
+use Rattle.robots_warnings.specs.declared.table.Cause.{Cause, TheVariants.AllowedAndDisallowed}
+use Rattle.robots_warnings.specs.declared.table.Cause.TheVariants.{ClosesEverything, CutLine, EmptyDisallow}
+use Rattle.robots_warnings.specs.declared.table.Cause.TheVariants.{EscapedDelimiter, ClosesSite, RepeatedRule}
+use Rattle.robots_warnings.specs.declared.table.Cause.TheVariants.{GoogleIgnoresStar, GooglebotGroup}
+use Rattle.robots_warnings.specs.declared.table.Cause.TheVariants.{GroupPastSizeLimit, MisspelledName}
+use Rattle.robots_warnings.specs.declared.table.Cause.TheVariants.{NonstandardEscape, ReplacesStar}
 use Rattle.robots_warnings.specs.declared.warning.Detail.{Detail}
 use Rattle.robots_warnings.specs.declared.warning.Detail.TheVariants.{Group, Line, Meant, Others, Rules}
 use Rattle.robots_warnings.specs.Crawlers.{Row, crawlers, gets_other, is_given, meant, meant_in}
-use Rattle.robots_warnings.specs.Checks.{Check, file_checks, line_checks, position_checks}
-use Rattle.robots_warnings.specs.Checks.{is_in_scope_of, url_checks}
+use Rattle.robots_warnings.specs.Crawlers.{names_past_limit}
+use Rattle.robots_warnings.specs.Checks.{Check, file_checks, line_checks, position_checks, is_in_scope_of}
+use Rattle.robots_warnings.specs.Checks.{url_checks}
 use Rattle.robots_warnings.specs.Positions.{first_delay, last_group, preceding_with, sole_name}
-use Rattle.robots_warnings.specs.Replaced.{replacing, star_count}
-use Rattle.robots_warnings.specs.{Closed.closed_at, Closed.is_major, Conflicts.conflict}
-use Rattle.robots_warnings.specs.{Conflicts.overruled}
-use Rattle.robots_warnings.specs.{EmptyDisallows.is_empty_at, Facts.suppresses_line_warnings, File.lines_of}
-use Rattle.robots_warnings.specs.{NamesPastLimit.names_past_limit, Repeated.repeated}
+use Rattle.robots_warnings.specs.Closed.{replacing, star_count, closed_at, is_major}
+use Rattle.robots_warnings.specs.Conflicts.{conflict, overruled, is_empty_at}
 use Rattle.robots_warnings.specs.declared.spellings.Spelling.TheVariants.{Plain, Standard}
-use Rattle.robots_warnings.specs.{Spellings.unpaired, WarningValue.WarningValue}
 
 -- ---- warnings from checks
 

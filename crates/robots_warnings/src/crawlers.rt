@@ -1,16 +1,14 @@
 //! Known crawlers: which group the vendor of each applies to it, and which one a similar name may mean.
 ghost use Rattle.std.specs.Prelude.{◌≡◌, ◌++◌, [], IfOk, OnOk, map, option_map, slice_index_or, string_bytes};
-ghost use Rattle.std.specs.List.{list_any, position_from};
-ghost use Rattle.std.specs.Str.{str_eq_ignore_ascii_case};
+ghost use Rattle.std.specs.{List.list_any, List.position_from, Str.str_eq_ignore_ascii_case};
 ghost use Rattle.texting_robots.specs.Callers.{by_value, file_lines, label_by_value};
-ghost use Rattle.robots_warnings.specs.Crawlers.{crawlers, first_at_vendor, gets_other};
-ghost use Rattle.robots_warnings.specs.Crawlers.{group_at_vendor, is_given, is_known, is_meant, is_near};
-ghost use Rattle.robots_warnings.specs.Crawlers.{is_row_of, meant, meant_in, most_edits, name_at_vendor};
-ghost use Rattle.robots_warnings.specs.Crawlers.{name_for, other_group};
+ghost use Rattle.robots_warnings.specs.Crawlers.{crawlers, first_at_vendor, gets_other, group_at_vendor};
+ghost use Rattle.robots_warnings.specs.Crawlers.{is_given, is_known, is_meant, is_near, is_row_of, meant};
+ghost use Rattle.robots_warnings.specs.Crawlers.{meant_in, most_edits, name_at_vendor, name_for, other_group};
 ghost use Rattle.robots_warnings.specs.Crawlers.{row_at, value_at_vendor, wrong_names};
 ghost use Rattle.robots_warnings.specs.Internal.{Adds, row_value};
-ghost use Rattle.robots_warnings.specs.Warnings.{agent_warning, agent_warnings, name_warnings, vendor_warning};
-ghost use Rattle.robots_warnings.specs.Warnings.{vendor_warnings, warned_of_name};
+ghost use Rattle.robots_warnings.specs.Warnings.{agent_warning, agent_warnings, name_warnings};
+ghost use Rattle.robots_warnings.specs.Warnings.{vendor_warning, vendor_warnings, warned_of_name};
 
 use crate::file::first;
 use crate::table::Cause;

@@ -2,7 +2,7 @@
 ghost use Rattle.std.specs.Prelude.{◌≡◌, ℕ, IfOk, map};
 ghost use Rattle.std.specs.{BTreeSet.contains, Ordering.nat_cmp};
 ghost use Rattle.texting_robots.specs.Callers.{bodies_read, by_value, label_by_value};
-ghost use Rattle.robots_warnings.specs.EmptyDisallows.{is_empty_at, is_empty_disallow};
+ghost use Rattle.robots_warnings.specs.Conflicts.{is_empty_at, is_empty_disallow};
 
 use crate::field_names::without_front;
 use crate::file::counted;

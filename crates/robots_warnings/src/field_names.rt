@@ -1,13 +1,12 @@
 //! Field names: which one was probably intended in an ignored line, and what is unusual about that of a directive.
 ghost use Rattle.std.specs.Prelude.{◌≡◌, ◌≤◌, IfOk, length, map};
 ghost use Rattle.std.specs.List.{list_all, list_any, position_or_len};
-ghost use Rattle.robots_warnings.specs.FieldNames.{after_seam, begins_field, begins_inner_field};
-ghost use Rattle.robots_warnings.specs.FieldNames.{begins_with, directive_in, first_that, first_word};
-ghost use Rattle.robots_warnings.specs.FieldNames.{goes_on, has_host, is_accepted, is_any_accepted};
-ghost use Rattle.robots_warnings.specs.FieldNames.{is_either, is_host_byte, is_misspelled, is_name};
-ghost use Rattle.robots_warnings.specs.FieldNames.{is_space_or_tab, is_without_colon, may_either_mean};
-ghost use Rattle.robots_warnings.specs.FieldNames.{may_mean, meant_by, name_in, without_end, without_front};
-ghost use Rattle.robots_warnings.specs.FieldNames.{name_before};
+ghost use Rattle.robots_warnings.specs.FieldNames.{after_seam, begins_field, begins_inner_field, begins_with};
+ghost use Rattle.robots_warnings.specs.FieldNames.{directive_in, first_that, first_word, goes_on, has_host};
+ghost use Rattle.robots_warnings.specs.FieldNames.{is_accepted, is_any_accepted, is_either, is_host_byte};
+ghost use Rattle.robots_warnings.specs.FieldNames.{is_misspelled, is_name, is_space_or_tab, is_without_colon};
+ghost use Rattle.robots_warnings.specs.FieldNames.{may_either_mean, may_mean, meant_by, name_in, without_end};
+ghost use Rattle.robots_warnings.specs.FieldNames.{without_front, name_before};
 ghost use Rattle.robots_warnings.specs.Internal.{name_value};
 
 use crate::file::first;

@@ -1,7 +1,7 @@
 //! Crawlers that a file names only past the size limit.
 ghost use Rattle.std.specs.Prelude.{◌≡◌, IfOk, map};
 ghost use Rattle.texting_robots.specs.Callers.{by_value, label_by_value};
-ghost use Rattle.robots_warnings.specs.{File.lines_of, NamesPastLimit.names_past_limit};
+ghost use Rattle.robots_warnings.specs.{File.lines_of, Crawlers.names_past_limit};
 ghost use Rattle.robots_warnings.specs.Internal.Names.{AddsLine, HasNames};
 
 use crate::names::{Names, add_name};

@@ -1,12 +1,11 @@
 //! Conditions on the position of a line.
 ghost use Rattle.std.specs.Prelude.{◌≡◌, false, map, option_map};
-ghost use Rattle.std.specs.Str.{str_eq_ignore_ascii_case};
+ghost use Rattle.std.specs.{Str.str_eq_ignore_ascii_case};
 ghost use Rattle.texting_robots.specs.Callers.{by_value, label_by_value};
-ghost use Rattle.robots_warnings.specs.File.{lines_of};
-ghost use Rattle.robots_warnings.specs.Positions.{are_joined, begin_bare, begin_with_name, begin_with_rules};
-ghost use Rattle.robots_warnings.specs.Positions.{first_delay, is_bare, is_empty_group, is_other_delay};
-ghost use Rattle.robots_warnings.specs.Positions.{is_split, last_group, name_star, preceding_with};
-ghost use Rattle.robots_warnings.specs.Positions.{reach_name, sole_name};
+ghost use Rattle.robots_warnings.specs.{File.lines_of, Positions.are_joined};
+ghost use Rattle.robots_warnings.specs.Positions.{begin_with_name, begin_with_rules, is_bare, is_empty_group};
+ghost use Rattle.robots_warnings.specs.Positions.{begin_bare, first_delay, is_other_delay, preceding_with};
+ghost use Rattle.robots_warnings.specs.Positions.{is_split, last_group, name_star, reach_name, sole_name};
 
 use crate::facts::has_text;
 use crate::file::is_blank;

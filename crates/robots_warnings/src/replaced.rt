@@ -1,10 +1,11 @@
 //! Groups of crawlers that have none of the Disallow rules of `*`.
 ghost use Rattle.std.specs.Prelude.{◌≡◌, ◌||◌, ◌&&◌, Bool, IfOk, List, OnOk, bytes_eq, map, ℕ};
-ghost use Rattle.std.specs.{BTreeSet.contains, HashSet.contains_text, List.list_any, Str.str_to_ascii_lowercase};
+ghost use Rattle.std.specs.{BTreeSet.contains, HashSet.contains_text, List.list_any};
+ghost use Rattle.std.specs.{Str.str_to_ascii_lowercase};
 ghost use Rattle.texting_robots.specs.Callers.{LineValue, by_value, file_lines, label_by_value};
-ghost use Rattle.texting_robots.specs.Group.{is_group};
-ghost use Rattle.robots_warnings.specs.Replaced.{denies, is_lacking, is_partial, is_replacing, lacks_all, replacing};
-ghost use Rattle.robots_warnings.specs.Replaced.{star_count, star_rules};
+ghost use Rattle.texting_robots.specs.{Group.is_group};
+ghost use Rattle.robots_warnings.specs.Closed.{denies, is_lacking, is_partial, is_replacing, lacks_all};
+ghost use Rattle.robots_warnings.specs.Closed.{replacing, star_count, star_rules};
 ghost use Rattle.robots_warnings.specs.{File.lines_of, Positions.begin_with_one};
 ghost use Rattle.robots_warnings.specs.Internal.Names.{Key, key_cmp};
 ghost use Rattle.robots_warnings.specs.Internal.Rules.{HasDenied, HasThose, is_kept_in};

@@ -1,7 +1,9 @@
 //! Conditions on the name of a crawler.
 ghost use Rattle.std.specs.Prelude.{◌≡◌, ◌≤◌, length};
 ghost use Rattle.std.specs.List.{before_first, list_all, position_or_len};
-ghost use Rattle.robots_warnings.specs.Tokens.{begins_crawler_word, begins_names, ends_token, has_space_around, is_name_byte, is_product_token, is_token_byte, is_usual_name};
+ghost use Rattle.robots_warnings.specs.Crawlers.{begins_crawler_word, begins_names, ends_token, is_name_byte};
+ghost use Rattle.robots_warnings.specs.Crawlers.{has_space_around, is_product_token, is_token_byte};
+ghost use Rattle.robots_warnings.specs.Crawlers.{is_usual_name};
 
 use crate::rules::somewhere;
 use crate::urls::begins_in_any_case;

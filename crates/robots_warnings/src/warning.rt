@@ -41,7 +41,7 @@ pub struct Warning<'a> {
 pub(crate) type Found<'a> = Vec<Warning<'a>>;
 
 impl<'a> Model for Warning<'a> {
-    ghost use Rattle.robots_warnings.specs.WarningValue.{WarningValue};
+    ghost use Rattle.robots_warnings.specs.Message.{WarningValue};
 
     ghost Value = { WarningValue };
 

@@ -1,16 +1,13 @@
 //! All warnings about a file and a request.
 ghost use Rattle.std.specs.Prelude.{◌≡◌, [], IfOk, OnOk, flat_map, if◌then◌else◌, map, option_map};
 ghost use Rattle.texting_robots.specs.Callers.{bodies_read, by_value, file_lines, label_by_value};
-ghost use Rattle.robots_warnings.specs.Checks.{directive_checks, is_directive, raw_checks, rule_checks, value_checks};
-ghost use Rattle.robots_warnings.specs.Contents.{comment_of, tail_of};
-ghost use Rattle.robots_warnings.specs.EmptyDisallows.{is_empty_at};
-ghost use Rattle.robots_warnings.specs.Internal.{Adds};
-ghost use Rattle.robots_warnings.specs.Internal.Rules.{warnings_at};
-ghost use Rattle.robots_warnings.specs.Spellings.{unpaired};
-ghost use Rattle.robots_warnings.specs.Warnings.{crawler_warnings, file_lines_warnings, general_warnings};
-ghost use Rattle.robots_warnings.specs.Warnings.{group_warnings, line_warnings, past_limit_warnings};
-ghost use Rattle.robots_warnings.specs.Warnings.{position_warnings, url_warnings, warned, warned_at};
-ghost use Rattle.robots_warnings.specs.Warnings.{warned_beside, warnings};
+ghost use Rattle.robots_warnings.specs.{Checks.directive_checks, Contents.comment_of, Contents.tail_of};
+ghost use Rattle.robots_warnings.specs.{Conflicts.is_empty_at, Spellings.unpaired, Warnings.crawler_warnings};
+ghost use Rattle.robots_warnings.specs.Checks.{is_directive, raw_checks, rule_checks, value_checks};
+ghost use Rattle.robots_warnings.specs.Internal.{Adds, Rules.warnings_at};
+ghost use Rattle.robots_warnings.specs.Warnings.{file_lines_warnings, general_warnings, group_warnings};
+ghost use Rattle.robots_warnings.specs.Warnings.{line_warnings, past_limit_warnings, position_warnings};
+ghost use Rattle.robots_warnings.specs.Warnings.{url_warnings, warned, warned_at, warned_beside, warnings};
 
 use crate::checks::{
     Check, content_checks, field_checks, file_checks, form_checks, is_in_scope_of, position_checks,

@@ -1,12 +1,10 @@
 -- Pairs of adjacent bytes show where no user-agent line can begin, so that the code may skip those bytes.
-use Rattle.std.proofs.Common.{◌≡◌, ◌⊎◌, ℕ, zero, suc, ◌+◌, ◌<◌, Bool, true, false}
-use Rattle.std.proofs.Common.{List, [], ◌∷◌, length, take, drop, map, sym, refl, ap, ◌∙◌, arith}
-use Rattle.std.proofs.Common.{Some}
-use Rattle.std.proofs.Common.{◌==◌, ◌||◌, inl, inr}
+use Rattle.std.proofs.Common.{◌≡◌, ◌⊎◌, ℕ, zero, suc, ◌+◌, ◌<◌, Bool, true, false, List, [], ◌∷◌, length, map}
+use Rattle.std.proofs.Common.{take, drop, sym, refl, ap, ◌∙◌, arith, Some, ◌==◌, ◌||◌, inl, inr}
 use Rattle.std.specs.{List.list_any, Char.to_ascii_lowercase}
 use Rattle.std.proofs.lemmas.{Grind.common_steps, Bool.cases_Bool, Bool.eqb-true, Bool.ne_eqb}
-use Rattle.texting_robots.specs.{Cut.Pair, Cut.cr, Cut.lf, Group.is_agent, Group.is_agent_named}
-use Rattle.texting_robots.specs.Line.{LineValue, UserAgent}
+use Rattle.texting_robots.specs.Cut.{Pair, cr, lf}
+use Rattle.texting_robots.specs.{Group.is_agent, Group.is_agent_named, Line.LineValue, Line.UserAgent}
 use Rattle.texting_robots.specs.Internal.Agents.{NoneBegins, is_named_later, may_begin, may_end}
 use Rattle.texting_robots.specs.Internal.Cut.{before_byte, before_end, body_len, end_len, read_as, read_byte}
 use Rattle.texting_robots.specs.Internal.Line.{line_of, lines_of}

@@ -1,44 +1,47 @@
--- How `url` parses an absolute URL in normal form, and what the code finds by reading such a URL from its
--- start.
-use Rattle.std.proofs.Common.{◌≡◌, ℕ, ◌<◌, ◌&&◌, ◌||◌, ◌==◌, Bool, true, false, not}
-use Rattle.std.proofs.Common.{List, [], ◌∷◌, ◌++◌, All, IfSome, None, Ok, Option, Some, codes}
-use Rattle.std.proofs.Common.{decimal, drop, get_or, length, sym, refl, ap, ◌∙◌, subst, inl, inr}
-use Rattle.std.proofs.Common.{⊎_elim, arith, append_assoc, append-nil, ◌^◌, ◌-◌, ◌≢◌}
-use Rattle.std.proofs.Common.{length-append, take-append-drop, take_at, drop_at, is_some, nat_lt, option_map}
-use Rattle.std.proofs.Common.{slice_index, unwrap_or}
-use Rattle.std.specs.List.{list_all}
+-- Strings for which no match target is allocated: URLs in normal form, and others.
+use Rattle.std.specs.Prelude.{reverse}
+use Rattle.std.proofs.Common.{◌≡◌, ℕ, ◌<◌, ◌&&◌, ◌||◌, ◌==◌, Bool, true, false, not, List, [], ◌∷◌, ◌++◌, All}
+use Rattle.std.proofs.Common.{IfSome, None, Ok, Option, Some, codes, decimal, drop, get_or, length, sym, refl}
+use Rattle.std.proofs.Common.{ap, ◌∙◌, subst, inl, inr, ⊎_elim, arith, append_assoc, append-nil, ◌^◌, ◌-◌}
+use Rattle.std.proofs.Common.{◌≢◌, length-append, take-append-drop, take_at, drop_at, is_some, nat_lt, ◌+◌}
+use Rattle.std.proofs.Common.{option_map, slice_index, unwrap_or, ◌≤◌, Err, take, suc, is_err}
+use Rattle.std.specs.List.{list_all, prefix_len, suffix_len}
 use Rattle.std.specs.Char.{is_ascii_digit, is_ascii_lowercase, is_digit, to_ascii_lowercase}
 use Rattle.std.proofs.lemmas.Bool.{agree_below, cases_Bool, cond-false, cond-true, eqb-true, false≢true}
-use Rattle.std.proofs.lemmas.{Bool.Decides.nat_tests, List.take_all, List.Sums.suffix_len_is}
+use Rattle.std.proofs.lemmas.Bool.{Decides.nat_tests, cond_both}
+use Rattle.std.proofs.lemmas.List.{take_all, Sums.suffix_len_is, length-reverse, reverse-append}
 use Rattle.std.proofs.lemmas.List.Elements.{All-nil, All-weaker, All-take}
-use Rattle.percent_encoding.specs.declared.ascii_set.AsciiSet.{AsciiSet}
-use Rattle.percent_encoding.specs.{AsciiSet.should_percent_encode, Percent.IsKept, Percent.percent_encode}
+use Rattle.percent_encoding.specs.{declared.ascii_set.AsciiSet.AsciiSet, AsciiSet.should_percent_encode}
+use Rattle.percent_encoding.specs.Percent.{IsKept, percent_encode}
 use Rattle.url.specs.declared.sets.TheConstants.{FRAGMENT, SPECIAL_QUERY, USERINFO}
-use Rattle.url.specs.declared.{host.Host.TheVariants.Domain, scheme.SchemeType.TheVariants.SpecialNotFile}
+use Rattle.url.specs.{declared.host.Host.TheVariants.Domain, Host.IsDomainOf, Head.without_tail}
+use Rattle.url.specs.{declared.scheme.SchemeType.TheVariants.SpecialNotFile, Parser.parse_url}
+use Rattle.url.specs.{declared.error.ParseError.TheVariants.RelativeUrlWithoutBase}
 use Rattle.url.specs.Input.{is_empty, rsplit_once, split_once, when, is_c0_control_or_space}
 use Rattle.url.specs.Input.{is_tab_or_new_line, strip_tabs_and_new_lines, trim_c0_control_and_space}
 use Rattle.url.specs.Scheme.{IsScheme, default_port, scheme_len, scheme_type, is_file, is_slash, is_special}
-use Rattle.url.{specs.Host.IsDomainOf, specs.Head.without_tail, proofs.ParsedCanonical.before_special}
+use Rattle.url.proofs.{ParsedCanonical.before_special, PathLemmas.root_only, InputLemmas.All-take-prefix_len}
+use Rattle.url.proofs.{Theorems.parse_url-serialize_special}
+use Rattle.url.proofs.RoundTrip.{special_body, split_own_scheme}
 use Rattle.url.specs.Ipv4.{ends_in_a_number, is_number, last_label_of, parse_number}
 use Rattle.url.specs.Path.{IsSegmentList, dot_count, parse_path_start, parse_segments, push_segment}
 use Rattle.url.specs.Parts.{IsPortOf, IsValid, Parts, serialize, text_before, kind_of, text_between}
-use Rattle.url.specs.Parser.{parse_url, after_double_slash, and_then, parse_authority, parse_body}
-use Rattle.url.specs.Parser.{parse_by_scheme, before_tail, parse_parts, split_scheme, with_path, with_tail}
-use Rattle.url.specs.Parser.{skip_slashes}
+use Rattle.url.specs.Parser.{after_double_slash, parse_authority, parse_by_scheme, split_scheme, skip_slashes}
+use Rattle.url.specs.Parser.{and_then, parse_body, before_tail, parse_parts, with_path, with_tail, Parsed}
 use Rattle.url.specs.declared.slicing.Position.TheVariants.{AfterPath, AfterPort, BeforePath, BeforeUsername}
 use Rattle.url.proofs.TextLemmas.{All_body, authority_bytes, is_authority_byte}
-use Rattle.url.proofs.InputLemmas.{All-take-prefix_len, All_from_list_all, IsNot, Passes, StopsAt, filter_all}
-use Rattle.url.proofs.InputLemmas.{is_empty_nonempty, lowercase_other, map_fixed, prefix_len_at}
-use Rattle.url.proofs.InputLemmas.{prefix_len_is, split_once_none}
-use Rattle.url.proofs.{PathLemmas.root_only, Theorems.parse_url-serialize_special}
-use Rattle.url.proofs.RoundTrip.{special_body, split_own_scheme}
+use Rattle.url.proofs.InputLemmas.{All_from_list_all, IsNot, Passes, StopsAt, filter_all, is_empty_nonempty}
+use Rattle.url.proofs.InputLemmas.{lowercase_other, map_fixed, prefix_len_at, prefix_len_is, split_once_none}
 use Rattle.texting_robots.specs.Prepared.{with_delimiter, prepared, target_of}
 use Rattle.texting_robots.specs.declared.normalized.TheConstants.{FRAGMENT as TAIL, QUERY}
 use Rattle.texting_robots.specs.AllocationFree.{IsAuthority, IsDelimited, IsName, IsPath, IsSite, IsTarget}
-use Rattle.texting_robots.specs.Internal.Normalized.{EndsPath, Leaves, after_delimited, kept_prefix}
-use Rattle.texting_robots.specs.Internal.Normalized.{past_path, is_kept}
+use Rattle.texting_robots.specs.{Internal.Normalized.EndsPath, Escape.escaped}
+use Rattle.texting_robots.specs.Internal.Normalized.{Leaves, after_delimited, kept_prefix, past_path, is_kept}
 use Rattle.texting_robots.proofs.NormalizedLemmas.{after_at, kept_all, kept_but, not_ended, path_left}
 use Rattle.texting_robots.proofs.NormalizedLemmas.{occurs_all}
+
+-- ---- How `url` parses an absolute URL in normal form, and what the code finds by reading such a URL from
+-- its start.
 
 -- ---- the query and the fragment
 
@@ -378,3 +381,62 @@ target_read target tail rest end (path, assembled, is_path) following last none 
       is_query = is_query;
       is_fragment = is_fragment;
     }
+
+-- ---- Strings whose match target is the escaped string: those that can't be parsed as URLs, for example
+-- because they begin with a slash.
+
+abbrev slash : ℕ
+slash = 47
+
+-- how many bytes trimming removes at the end, given the reversed string
+abbrev trimmed_front : List ℕ → ℕ
+trimmed_front text = prefix_len is_c0_control_or_space text
+
+stops : (xs : List ℕ) → trimmed_front (xs ++ slash ∷ []) ≤ length xs
+stops [] = omega arith
+stops (x ∷ xs) =
+    cond_both (is_c0_control_or_space x) (1 + trimmed_front (xs ++ slash ∷ [])) 0
+    (λ n. n ≤ length (x ∷ xs))
+    (λ _. omega (arith, stops xs)) (λ _. omega arith)
+
+-- trimming keeps the leading slash
+trimmed : (rest : List ℕ) → trim_c0_control_and_space (slash ∷ rest)
+    ≡ slash ∷ take (length rest - suffix_len is_c0_control_or_space (slash ∷ rest)) rest
+unfolding trim_c0_control_and_space
+trimmed rest =
+    let taken = suffix_len is_c0_control_or_space (slash ∷ rest) in
+    let turned : taken ≡ trimmed_front (reverse rest ++ slash ∷ []) =
+    ap trimmed_front (reverse-append (slash ∷ []) rest) in
+    let few : taken ≤ length rest = omega (arith, turned, stops (reverse rest), length-reverse rest) in
+    let more : length (slash ∷ rest) - taken ≡ suc (length rest - taken) = omega (arith, few) in
+    ap (λ n. take n (slash ∷ rest)) more
+
+-- what `url` parses in a trimmed string
+parsed_from : List ℕ → Parsed Parts
+parsed_from text =
+    let hash = split_once 35 (strip_tabs_and_new_lines text) in
+    let question = split_once 63 hash.0 in
+    parse_by_scheme (split_scheme question.0) None question.0 question.1 hash.1
+
+no_url : (rest : List ℕ) → parse_url None (slash ∷ rest) ≡ Err RelativeUrlWithoutBase
+unfolding parse_url strip_tabs_and_new_lines split_once split_scheme scheme_len trim_c0_control_and_space
+    parsed_from
+no_url rest = ap parsed_from (trimmed rest)
+
+pub slash_prepared : (text : List ℕ) → slice_index text 0 ≡ slash → prepared text ≡ escaped text
+slash_prepared [] e = cc
+slash_prepared (b ∷ rest) e = rw e (ap by_answer (no_url rest))
+  where
+    by_answer : Parsed Parts → List ℕ
+    by_answer answer = elim answer [ Ok url ↦ target_of url | Err e ↦ escaped (slash ∷ rest) ]
+
+-- the match target of a string that isn't empty and can't be parsed as a URL
+pub unparsed_prepared : (b : ℕ) (text : List ℕ) → is_err (parse_url None (b ∷ text)) ≡ true
+    → prepared (b ∷ text) ≡ escaped (b ∷ text)
+unparsed_prepared b text is = by (parse_url None (b ∷ text)) is
+  where
+    by : (parsed : Parsed Parts) → is_err parsed ≡ true
+        → elim parsed as (λ _. List ℕ) [ Ok parts ↦ target_of parts | Err e ↦ escaped (b ∷ text) ]
+        ≡ escaped (b ∷ text)
+    by (Ok parts) isnt = cc
+    by (Err e) isnt = refl

@@ -1,20 +1,20 @@
 -- For each text either some rule decides or no rule matches, and a pattern matches a text or doesn't.
 -- Functions compute both.
-use Rattle.std.proofs.Common.{◌≡◌, ◌≢◌, ◌⊎◌, inl, inr, ℕ, zero, suc, cond, not, nat_lt}
-use Rattle.std.proofs.Common.{◌≤◌, Bool, true, false, ◌==◌, ◌&&◌, ◌||◌, List, [], ◌∷◌}
-use Rattle.std.proofs.Common.{◌++◌, length, Option, Some, None, option_map, refl, sym, ap, subst}
-use Rattle.std.proofs.Common.{◌∙◌, arith}
-use Rattle.std.specs.{Bool.Decides, Bool.MatchBool, List.All, List.Contains, Prelude.bytes_eq}
+use Rattle.std.specs.Prelude.{bytes_eq}
+use Rattle.std.proofs.Common.{◌≡◌, ◌≢◌, ◌⊎◌, inl, inr, ℕ, zero, suc, cond, not, nat_lt, ◌≤◌, Bool, true, ◌==◌}
+use Rattle.std.proofs.Common.{false, ◌&&◌, ◌||◌, List, [], ◌∷◌, ◌++◌, length, Option, Some, None, option_map}
+use Rattle.std.proofs.Common.{refl, sym, ap, subst, ◌∙◌, arith}
+use Rattle.std.specs.{Bool.Decides, Bool.MatchBool, List.All, List.Contains}
 use Rattle.std.proofs.lemmas.Bool.{cases_Bool, cases_lt, cases_order}
 use Rattle.std.proofs.lemmas.Bool.Decides.{Decides-and, Decides-eqb, Decides-like, Decides-or, nat_tests}
 use Rattle.std.proofs.lemmas.Bool.Decides.{not_from_Decides, when_false, when_true}
-use Rattle.std.proofs.lemmas.{List.get_or-map, List.length-map, Slice.Eq.bytes_eq-Decides}
+use Rattle.std.proofs.{lemmas.List.get_or-map, lemmas.List.length-map, lemmas.Slice.Eq.bytes_eq-Decides}
 use Rattle.std.proofs.lemmas.List.Elements.{All-cons, All-contains, All-nil}
 use Rattle.texting_robots.specs.Decision.{IsBetter, IsDecidingRule, IsDecidingLine}
 use Rattle.texting_robots.specs.Pattern.{IsSuffix, Matches, MatchesWith, dollar, star}
 use Rattle.texting_robots.specs.Rules.{PlacedRule, Rule, unplaced}
-use Rattle.texting_robots.specs.{Internal.Entries.rank, Verdict.IsVerdict, Verdict.robots_file}
-use Rattle.texting_robots.proofs.PatternLemmas.{none_left}
+use Rattle.texting_robots.specs.{Internal.Segments.rank, Verdict.IsVerdict, Verdict.robots_file}
+use Rattle.texting_robots.proofs.{SegmentLemmas.none_left}
 
 -- the proposition holds or doesn't
 abbrev pub Either : Type 0 → Type 0

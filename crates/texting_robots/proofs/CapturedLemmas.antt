@@ -1,18 +1,15 @@
 -- The code's state machine, `GroupTracker`, agrees with the specification, which uses indices of lines.
-use Rattle.std.proofs.Common.{◌≡◌, ◌↔◌, ◌≤◌, inl, inr, ℕ, zero, suc, ◌+◌, ◌<◌}
-use Rattle.std.proofs.Common.{nat_lt, Bool}
-use Rattle.std.proofs.Common.{true, false, not, ◌&&◌, ◌||◌, List, [], ◌∷◌, Option, Some, None}
-use Rattle.std.proofs.Common.{slice_get, drop, take, cond, length, add-one, ap, sym, refl, ◌∙◌, arith}
-use Rattle.std.specs.{Prelude.IsTrue, Prelude.filter, Bool.Decides}
+use Rattle.std.specs.Prelude.{IsTrue, filter}
+use Rattle.std.proofs.Common.{◌≡◌, ◌↔◌, ◌≤◌, inl, inr, ℕ, zero, suc, ◌+◌, ◌<◌, nat_lt, Bool, true, false, not}
+use Rattle.std.proofs.Common.{◌&&◌, ◌||◌, List, [], ◌∷◌, Option, Some, None, slice_get, drop, take, cond, ap}
+use Rattle.std.proofs.Common.{length, add-one, sym, refl, ◌∙◌, arith}
+use Rattle.std.specs.{Bool.Decides, List.list_any, List.cons_option, List.filter_map, List.enumerate_from}
 use Rattle.std.proofs.Math.Bool.{and-true, and-false, or_assoc, or_comm, or-false}
-use Rattle.std.specs.List.{list_any, cons_option, filter_map, enumerate_from}
-use Rattle.std.proofs.lemmas.Bool.{Decides.Decides-below_or, Decides.Decides-and, Decides.Decides-or}
-use Rattle.std.proofs.lemmas.Bool.{Decides.Decides-not, Decides.Decides-ltb, Decides.Decides-like, cases_Bool}
-use Rattle.std.proofs.lemmas.Bool.{and_left, and_right, le-ltb, lt-ltb}
-use Rattle.std.proofs.lemmas.List.{take_all}
+use Rattle.std.proofs.lemmas.Bool.{Decides.Decides-below_or, cases_Bool, and_left, and_right, le-ltb, lt-ltb}
+use Rattle.std.proofs.lemmas.Bool.Decides.{Decides-and, Decides-or, Decides-not, Decides-ltb, Decides-like}
+use Rattle.std.proofs.lemmas.{List.take_all}
 use Rattle.texting_robots.specs.{declared.groups.GroupTracker.GroupTracker, Rules.PlacedRule, Rules.Rule}
-use Rattle.texting_robots.specs.{Rules.unplaced}
-use Rattle.texting_robots.specs.Line.{LineValue, UserAgent, delay_in}
+use Rattle.texting_robots.specs.{Rules.unplaced, Line.LineValue, Line.UserAgent, Line.delay_in}
 use Rattle.texting_robots.specs.Group.{IsCaptured, group_name, is_agent, is_agent_named, is_group, passes_at}
 use Rattle.texting_robots.specs.Internal.Captured.{is_captured, some_below}
 use Rattle.texting_robots.specs.Executable.{captured_delays, captured_lines, placed_in, rule_in, rules_for}

@@ -1,11 +1,11 @@
 -- Collapsing a pattern.
-use Rattle.std.proofs.Common.{◌≡◌, ◌≢◌, ◌↔◌, ℕ, suc, ◌<◌, ◌≤◌, Bool, true}
-use Rattle.std.proofs.Common.{false, eqb, ◌==◌, ◌&&◌, inl, inr, List, [], ◌∷◌, ◌++◌, length}
-use Rattle.std.proofs.Common.{get_or, arith, refl, sym, ap, ◌∙◌, append_assoc, append-nil}
-use Rattle.std.{specs.List.starts_with, proofs.Math.Bool.and-true, proofs.lemmas.Cmp.nat_eq_equiv}
+use Rattle.std.proofs.Common.{ℕ, Bool, true, false, ◌==◌, ◌&&◌, List, get_or, arith, append_assoc, append-nil}
+use Rattle.std.proofs.Common.{◌≡◌, ◌≢◌, ◌↔◌, suc, ◌<◌, ◌≤◌, eqb, inl, inr, [], ◌∷◌, ◌++◌, refl, sym, ap, ◌∙◌}
+use Rattle.std.proofs.{Common.length, Math.Bool.and-true, lemmas.Cmp.nat_eq_equiv}
+use Rattle.std.specs.{List.starts_with}
 use Rattle.std.proofs.lemmas.Bool.{and_parts, cases_Bool, eq-eqb, eqb-true, ne_eqb}
 use Rattle.texting_robots.specs.Pattern.{MatchesWith, collapsed, star}
-use Rattle.texting_robots.proofs.PatternLemmas.{after_byte, star_star}
+use Rattle.texting_robots.proofs.SegmentLemmas.{after_byte, star_star}
 
 -- bytes that aren't stars are kept
 collapse_plain : (w q : List ℕ) → ((i : ℕ) → i < length w → get_or w i 0 ≢ star)

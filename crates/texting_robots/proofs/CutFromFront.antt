@@ -1,22 +1,18 @@
 -- The cut of a text, read from its start: the first line, and the lines of the rest.
-use Rattle.std.proofs.Common.{◌≡◌, ◌≢◌, ℕ, zero, suc, ◌+◌, ◌%◌, ◌^◌, ◌<◌, ◌≤◌}
-use Rattle.std.proofs.Common.{Bool, true, false, ◌==◌, ◌||◌, inl, inr, List, [], ◌∷◌}
-use Rattle.std.proofs.Common.{length, take, drop, get_or, map, sym, refl, ap, ◌∙◌, arith, cond}
-use Rattle.std.proofs.Common.{if◌then◌else◌, map-id, Option, Some, None, MatchOption, bit_or}
+use Rattle.std.proofs.Common.{◌≡◌, ◌≢◌, ℕ, zero, suc, ◌+◌, ◌%◌, ◌^◌, ◌<◌, ◌≤◌, Bool, true, false, ◌==◌, ◌||◌}
+use Rattle.std.proofs.Common.{inl, inr, List, [], ◌∷◌, length, take, drop, get_or, map, sym, refl, ap, ◌∙◌}
+use Rattle.std.proofs.Common.{arith, cond, if◌then◌else◌, map-id, Option, Some, None, MatchOption, bit_or}
 use Rattle.std.specs.{List.list_all, List.position_or_len, Int.trailing_zeros, Int.w64}
 use Rattle.std.proofs.lemmas.Bool.{cases_Bool, cond-false, eqb-true, ne_eqb}
-use Rattle.std.proofs.lemmas.List.{drop-map, get_or-take, take-map, length-map, length-take}
-use Rattle.std.proofs.lemmas.List.{Recursion.is_position_or_len}
-use Rattle.std.proofs.lemmas.List.Folds.{map_fixed}
-use Rattle.std.proofs.lemmas.List.Sums.{fails_before_first}
+use Rattle.std.proofs.lemmas.List.{drop-map, get_or-take, take-map, length-map, length-take, Folds.map_fixed}
+use Rattle.std.proofs.lemmas.List.{Recursion.is_position_or_len, Sums.fails_before_first}
 use lib.Lanes.{mask_l, top}
 use Rattle.std.proofs.Math.Bool.{or_assoc, or_comm, or_self, or-false}
 use Rattle.memchr.specs.Find.{is_byte2, is_byte3, IsFirstByte}
-use Rattle.texting_robots.proofs.{LaneLemmas.first_labeled, LaneLemmas.first_seen}
-use Rattle.texting_robots.proofs.RegionLemmas.{position_is, end_is}
-use Rattle.texting_robots.specs.Cut.{Pair, cr, lf}
-use Rattle.texting_robots.specs.Internal.Cut.{bodies_of, cut, body_len, empty_lines, end_len, is_feed}
-use Rattle.texting_robots.specs.Internal.Cut.{read_as, read_byte}
+use Rattle.texting_robots.proofs.LaneLemmas.{first_labeled, first_seen}
+use Rattle.texting_robots.proofs.LabelLemmas.{position_is, end_is}
+use Rattle.texting_robots.specs.{Cut.Pair, Cut.cr, Cut.lf, Internal.Cut.empty_lines}
+use Rattle.texting_robots.specs.Internal.Cut.{bodies_of, cut, body_len, end_len, is_feed, read_as, read_byte}
 use Rattle.texting_robots.proofs.CutLemmas.{byte_cases, cut_cons, cut_nil, pair_of}
 
 -- ---- the first line

@@ -1,32 +1,28 @@
 -- `delay_of` gives the delay of a text, and it is the only one.
-use Rattle.std.proofs.Common.{◌≡◌, inl, inr, ℕ, ◌*◌, ◌/◌, ◌^◌, ◌<◌, ◌≤◌, Bool}
-use Rattle.std.proofs.Common.{true, false, eqb, leb, ltb, List, [], ◌∷◌, ◌++◌, All, Option, Some}
-use Rattle.std.proofs.Common.{None, codes, get_or, length, map, refl, sym, ap, subst, ◌∙◌, arith}
-use Rattle.std.proofs.Common.{◌↔◌}
 use Rattle.std.specs.Prelude.{◌==◌, ◌||◌, Decides, MatchBool, slice_index}
+use Rattle.std.proofs.Common.{◌≡◌, inl, inr, ℕ, ◌*◌, ◌/◌, ◌^◌, ◌<◌, ◌≤◌, Bool, true, false, eqb, leb, ltb, []}
+use Rattle.std.proofs.Common.{List, ◌∷◌, ◌++◌, All, Option, Some, None, codes, get_or, length, map, refl, sym}
+use Rattle.std.proofs.Common.{ap, subst, ◌∙◌, arith, ◌↔◌}
 use Rattle.std.specs.Char.{IsAsciiDigit, is_ascii_digit, to_ascii_lowercase}
 use Rattle.std.specs.{Cmp.Lexicographic.bytes_decides, List.list_all, List.prefix_len, Option.option_and_then}
 use Rattle.std.specs.{Option.option_map, Str.byte, Str.str_eq_ignore_ascii_case, Str.str_to_ascii_lowercase}
 use Rattle.std.specs.Str.Parse.{digits_value, starts_with_minus, without_leading_sign}
-use Rattle.std.proofs.Math.Nat.{le-div_iff_mul-le, le-min, min-le_left, min-le_right, mul_assoc, mul-pos}
-use Rattle.std.proofs.Math.Nat.{one-le-pow}
-use Rattle.std.proofs.lemmas.Bool.{and_parts, and_right, cases_Bool, cases_lt, cond-false, cond-true}
-use Rattle.std.proofs.lemmas.Bool.{eqb-true, false_from_ne_true, le-leb, leb-true, lt-leb, lt-ltb, ltb-true}
-use Rattle.std.proofs.lemmas.Bool.{ne_eqb, or_cases}
+use Rattle.std.proofs.{Math.Nat.le-div_iff_mul-le, lemmas.Option.cond_some, lemmas.Str.Ascii.lowercase_is}
+use Rattle.std.proofs.Math.Nat.{le-min, min-le_left, min-le_right, mul_assoc, mul-pos, one-le-pow}
+use Rattle.std.proofs.lemmas.Bool.{and_parts, and_right, cases_Bool, cases_lt, cond-false, cond-true, le-leb}
+use Rattle.std.proofs.lemmas.Bool.{eqb-true, false_from_ne_true, leb-true, lt-leb, lt-ltb, ltb-true, ne_eqb}
+use Rattle.std.proofs.lemmas.Bool.{or_cases}
 use Rattle.std.proofs.lemmas.Bool.Decides.{Decides-and, Decides-by_and, Decides-eqb, Decides-ltb, Decides-or}
 use Rattle.std.proofs.lemmas.List.{drop_at, get_or-take, length-append, length-take, take-append-drop}
-use Rattle.std.proofs.lemmas.List.{take_at}
-use Rattle.std.proofs.lemmas.{List.Sums.prefix_len_passes, Option.cond_some}
+use Rattle.std.proofs.lemmas.List.{take_at, Sums.prefix_len_passes}
 use Rattle.std.proofs.lemmas.List.Elements.{All-head, All-nil, All-tail}
-use Rattle.std.proofs.lemmas.Str.Ascii.{lowercase_is}
 use Rattle.texting_robots.specs.Delay.{AtMost, Decimal, IsDelay, IsInfinite, IsNumeral, IsPoint, IsTail}
 use Rattle.texting_robots.specs.Delay.{NamesZero, NamesSeconds, Rounds, Writes, greatest_delay}
 use Rattle.texting_robots.specs.Delay.{negative_exponent, positive_exponent}
-use Rattle.texting_robots.specs.Internal.Delay.{HasDigits, after_digits, after_fraction, delay_after}
-use Rattle.texting_robots.specs.Internal.Delay.{delay_of, digits_in_front, exponent_of, fraction_in_front}
-use Rattle.texting_robots.specs.Internal.Delay.{is_infinite, is_numeral, is_zero, zero_of, number_of}
-use Rattle.texting_robots.specs.Internal.Delay.{number_with, rounded}
-use Rattle.texting_robots.proofs.CapturedLemmas.{cond_given}
+use Rattle.texting_robots.specs.Internal.Delay.{HasDigits, after_fraction, digits_in_front, fraction_in_front}
+use Rattle.texting_robots.specs.Internal.Delay.{after_digits, delay_after, delay_of, exponent_of, is_infinite}
+use Rattle.texting_robots.specs.Internal.Delay.{is_numeral, is_zero, zero_of, number_of, number_with, rounded}
+use Rattle.texting_robots.proofs.{CapturedLemmas.cond_given}
 
 -- ---- the computed tests
 

@@ -1,18 +1,14 @@
 -- The number that digits denote: bounded, cut off and rounded.
-use Rattle.std.proofs.Common.{◌≡◌, inl, inr, ℕ, zero, suc, ◌+◌, ◌-◌, ◌*◌, ◌/◌}
-use Rattle.std.proofs.Common.{◌^◌, ◌<◌, ◌≤◌, List, [], ◌∷◌, ◌++◌, All, length}
-use Rattle.std.proofs.Common.{get_or, take, drop, replicate, refl, sym, ap, ◌∙◌, append_assoc, add-one}
-use Rattle.std.proofs.Common.{rules}
-use Rattle.std.proofs.Common.{arith, drop-cons}
+use Rattle.std.proofs.Common.{◌≡◌, inl, inr, ℕ, zero, suc, ◌+◌, ◌-◌, ◌*◌, ◌/◌, ◌^◌, ◌<◌, ◌≤◌, List, [], ◌∷◌}
+use Rattle.std.proofs.Common.{◌++◌, All, length, get_or, take, drop, replicate, refl, sym, ap, ◌∙◌, add-one}
+use Rattle.std.proofs.Common.{append_assoc, rules, arith, drop-cons}
 use Rattle.std.specs.Char.{IsAsciiDigit, digit_value}
 use Rattle.std.specs.Str.{byte, Parse.digits_value, Parse.digits_value_after}
-use Rattle.std.proofs.Math.Nat.{div-div-eq-div-mul, div-one, mul-div_cancel, mul-div-mul_right}
-use Rattle.std.proofs.Math.Nat.{mul-le-mul_right, mul_assoc}
-use Rattle.std.proofs.Math.Nat.{one-le-pow, pow-le-pow_right, pow-suc, pow-zero}
-use Rattle.std.proofs.lemmas.{Bool.cases_lt, Int.Digits.digits_value_more, List.Elements.All-append}
-use Rattle.std.proofs.lemmas.{Nat.div-mul-add, Nat.pow-add, Str.digit_value_digit}
-use Rattle.std.proofs.lemmas.List.{drop_all, length-append, places as listed, same_lists, take-replicate}
-use Rattle.std.proofs.lemmas.List.{take_all}
+use Rattle.std.proofs.Math.Nat.{div-div-eq-div-mul, div-one, mul-div_cancel, mul-div-mul_right, mul_assoc}
+use Rattle.std.proofs.Math.Nat.{mul-le-mul_right, one-le-pow, pow-le-pow_right, pow-suc, pow-zero}
+use Rattle.std.proofs.lemmas.{Int.Digits.digits_value_more, List.Elements.All-append, Str.digit_value_digit}
+use Rattle.std.proofs.lemmas.{Nat.div-mul-add, List.length-append, List.places as listed, List.take-replicate}
+use Rattle.std.proofs.lemmas.{Bool.cases_lt, Nat.pow-add, List.drop_all, List.same_lists, List.take_all}
 use Rattle.texting_robots.specs.Delay.{Decimal, greatest_delay, negative_exponent, positive_exponent}
 use Rattle.texting_robots.specs.Internal.Delay.{HasDigits, bounded, places, rounded}
 

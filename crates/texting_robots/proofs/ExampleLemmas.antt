@@ -1,6 +1,6 @@
 -- Lemmas by which computation proves the worked examples.
-use Rattle.std.proofs.Common.{◌≡◌, ◌==◌, ℕ, nat_lt, ◌&&◌, Bool, true, false, List, length}
-use Rattle.std.proofs.Common.{Some, get_or, subst, refl}
+use Rattle.std.proofs.Common.{◌≡◌, ◌==◌, ℕ, nat_lt, ◌&&◌, Bool, true, false, List, length, Some, get_or, refl}
+use Rattle.std.proofs.Common.{subst}
 use Rattle.std.specs.{Bool.Decides, List.Any, List.list_any}
 use Rattle.std.proofs.lemmas.Bool.Decides.{Decides-and, Decides-ltb, Decides-eqb, not_from_Decides}
 use Rattle.std.proofs.lemmas.List.Folds.{Any-from_list_any, list_any-from_Any}
@@ -8,10 +8,9 @@ use Rattle.texting_robots.specs.Examples.{Answers, GivesDelay, GivesRules}
 use Rattle.texting_robots.specs.Executable.{delay_for, file_lines, placed_rules}
 use Rattle.texting_robots.specs.Pattern.{IsOverlong, MatchesWith, collapsed, dollar, longest_with_dollar}
 use Rattle.texting_robots.specs.Rules.{AreRulesFor, IsDelayFor, PlacedRule, Rule}
-use Rattle.texting_robots.proofs.BestLemmas.{allowed_by, answered, deciding_rule, line_by, matches}
-use Rattle.texting_robots.proofs.BestLemmas.{matches_decides}
-use Rattle.texting_robots.proofs.{GivenLemmas.delay_is_computed, HeldLemmas.computed_are}
-use Rattle.texting_robots.proofs.MainTheoremLemmas.{has_lines}
+use Rattle.texting_robots.proofs.{BestLemmas.allowed_by, GivenLemmas.delay_is_computed}
+use Rattle.texting_robots.proofs.BestLemmas.{answered, deciding_rule, line_by, matches, matches_decides}
+use Rattle.texting_robots.proofs.MainTheoremLemmas.{computed_are, has_lines}
 
 pub matching : (anchors : Bool) (pattern text : List ℕ) → matches anchors pattern text ≡ true
     → MatchesWith anchors pattern text

@@ -1,25 +1,192 @@
--- Each line has the membership that the specification states by indices of lines.
-use Rattle.std.proofs.Common.{◌≡◌, ◌⊎◌, inl, inr, ℕ, zero, suc, ◌+◌, ◌<◌, ◌≤◌}
-use Rattle.std.proofs.Common.{◌↔◌, Bool, true, false, not, ◌&&◌, ◌||◌, List, [], ◌∷◌}
-use Rattle.std.proofs.Common.{Some, slice_get, ◌-◌, length, length-drop, cond}
-use Rattle.std.proofs.Common.{slice_index_or, drop, take, map, ap, sym, subst, refl, ◌∙◌, add-one}
-use Rattle.std.proofs.Common.{arith}
-use Rattle.std.specs.{Bool.Decides, List.enumerate_from, List.list_any}
-use Rattle.std.proofs.lemmas.Bool.{cases_lt, cases_order, false_from_ne_true}
-use Rattle.std.proofs.lemmas.Bool.Decides.{Decides-and, Decides-at, Decides-like, Decides-or}
-use Rattle.std.proofs.lemmas.Bool.Decides.{not_from_Decides}
-use Rattle.std.proofs.lemmas.{List.get_or-drop, Option.slice_get-get_or}
-use Rattle.std.proofs.Math.Bool.{and-or_distrib_right, or_comm, or-and_distrib_left}
-use Rattle.std.proofs.lemmas.List.Sums.{fails_before_first, passes_at_first}
-use Rattle.std.proofs.Math.Nat.{add-zero, zero-add}
-use Rattle.texting_robots.specs.declared.labels.Membership.{Membership}
+-- The labels of lines: membership, and the first byte that passes a test.
+use Rattle.std.proofs.Common.{◌≡◌, ℕ, ◌+◌, ◌-◌, ◌≤◌, Bool, false, ◌||◌, List, length, get_or, arith, take, ap}
+use Rattle.std.proofs.Common.{drop, sym, ◌∙◌, Option, Some, None, is_some, true, not, inl, inr, [], ◌∷◌, cond}
+use Rattle.std.proofs.Common.{slice_get, map, refl, add-one, ◌⊎◌, zero, suc, ◌<◌, ◌↔◌, ◌&&◌, length-drop}
+use Rattle.std.proofs.Common.{slice_index_or, subst}
+use Rattle.std.specs.List.{list_any, position_or_len, before_first, enumerate_from, filter_map}
+use Rattle.std.proofs.lemmas.Bool.{false_from_ne_true, false≢true, or_parts, cases_Bool, cases_lt}
+use Rattle.std.proofs.lemmas.Bool.{cases_order, Decides.Decides-and, Decides.Decides-at, Decides.Decides-like}
+use Rattle.std.proofs.lemmas.Bool.{Decides.Decides-or, Decides.not_from_Decides}
+use Rattle.std.proofs.lemmas.List.{get_or_default, take-append-drop, take-take, take_all, take_rest}
+use Rattle.std.proofs.lemmas.List.{Folds.list_any-append, Folds.list_any_at, Folds.list_any_none, get_or-drop}
+use Rattle.std.proofs.lemmas.List.Sums.{position_or_len_is, fails_before_first, passes_at_first}
+use Rattle.memchr.specs.Find.{Passes, Nowhere, NoneBefore, IsFirstByte}
+use Rattle.std.specs.{Bool.then_some, Option.IfSome, Bool.Decides}
+use Rattle.std.proofs.Math.Bool.{or_comm, and-or_distrib_right, or-and_distrib_left}
+use Rattle.std.proofs.{Math.Nat.add-zero, lemmas.Option.slice_get-get_or, Math.Nat.zero-add}
+use Rattle.texting_robots.specs.{declared.groups.GroupTracker.GroupTracker, Rules.Rule}
+use Rattle.texting_robots.specs.{Internal.Captured.is_captured, declared.labels.Membership.Membership}
+use Rattle.texting_robots.specs.Group.{group_name, is_agent, is_group, IsCaptured, is_agent_named, passes_at}
+use Rattle.texting_robots.specs.Line.{Allow, Disallow, LineValue, Raw, UserAgent}
+use Rattle.texting_robots.specs.Labels.{is_own, label_at, labels_of, AreLabelsOf, AreOneRun, IsInGroup, Label}
+use Rattle.texting_robots.specs.Labels.{IsInOwnGroup, HasMembership, next_group, membership_of}
 use Rattle.texting_robots.specs.declared.labels.Membership.TheVariants.{Own, Other, Ungrouped}
-use Rattle.texting_robots.specs.Group.{IsCaptured, is_agent, is_agent_named, is_group, passes_at}
-use Rattle.texting_robots.specs.{Line.LineValue, Line.Raw, Line.UserAgent, Internal.Captured.is_captured}
-use Rattle.texting_robots.specs.Labels.{AreLabelsOf, AreOneRun, IsInGroup, IsInOwnGroup, Label, HasMembership}
-use Rattle.texting_robots.specs.Labels.{label_at, labels_of, next_group, membership_of}
-use Rattle.texting_robots.proofs.CapturedLemmas.{any_next, at_front, is_captured_decides, itself}
+use Rattle.texting_robots.specs.Executable.{placed_in, placed_rules, rule_in}
+use Rattle.texting_robots.specs.Internal.Group.{captured_ahead, from_captured, if_captured, labels_from, step}
+use Rattle.texting_robots.specs.Internal.Group.{own_rule_at, placed, membership_by, start_of}
+use Rattle.texting_robots.proofs.CapturedLemmas.{IsWalkAt, any_next, at_front, captured_walked, cond_same}
+use Rattle.texting_robots.proofs.CapturedLemmas.{occurs_first, occurs_next, is_captured_decides, itself}
 use Rattle.texting_robots.proofs.CapturedLemmas.{taken_decides, within}
+
+-- ---- The first byte that passes a test, as `memchr` finds it.
+
+pub position_is : (test : ℕ → Bool) (hay : List ℕ) (k : ℕ)
+    → NoneBefore (Passes test hay) 0 (length hay) k → Passes test hay k → position_or_len test hay ≡ k
+position_is test hay k none is = position_or_len_is test hay k 0 (omega (arith, none.high))
+    (λ i l. false_from_ne_true (test (get_or hay i 0)) (none.before i (omega arith) l)) (λ l. is)
+
+pub end_is : (test : ℕ → Bool) (hay : List ℕ) → Nowhere (Passes test hay) 0 (length hay)
+    → position_or_len test hay ≡ length hay
+end_is test hay none = position_or_len_is test hay (length hay) 0 (omega arith)
+    (λ i l. false_from_ne_true (test (get_or hay i 0)) (none i (omega arith) l))
+    (λ l. absurd (omega (arith, l)))
+
+pub first_is : (test : ℕ → Bool) (hay : List ℕ) (k : ℕ)
+    → NoneBefore (Passes test hay) 0 (length hay) k → Passes test hay k
+    → take k hay ≡ before_first test hay
+first_is test hay k none is = ap (λ n. take n hay) (sym (position_is test hay k none is))
+
+pub none_is : (test : ℕ → Bool) (hay : List ℕ) → Nowhere (Passes test hay) 0 (length hay)
+    → hay ≡ before_first test hay
+none_is test hay none = sym (take_all (length hay) hay (omega arith))
+    ∙ ap (λ n. take n hay) (sym (end_is test hay none))
+
+-- ---- whether some byte passes
+
+-- if no byte passes, none is found
+nowhere : (test : ℕ → Bool) (hay : List ℕ) → list_any test hay ≡ false
+    → Nowhere (Passes test hay) 0 (length hay)
+nowhere test hay none k low high is = false≢true (sym none ∙ list_any_at test hay k 0 high is)
+
+pub plain_is : (test : ℕ → Bool) (hay : List ℕ) → list_any test hay ≡ false
+    → hay ≡ before_first test hay
+plain_is test hay none = none_is test hay (nowhere test hay none)
+
+pub some_found : (test : ℕ → Bool) (hay : List ℕ) (found : Option ℕ) → IsFirstByte test hay found
+    → is_some found ≡ list_any test hay
+some_found test hay None none =
+    sym (list_any_none test hay
+    (λ k d l. false_from_ne_true _ (λ is. none k (omega arith) l (rw (get_or_default hay k 0 d l) is))))
+some_found test hay (Some k) first = sym (list_any_at test hay k 0 first.0.high first.1)
+
+-- if one of the first `k` bytes passes, then some byte passes
+pub front_tells : (test : ℕ → Bool) (text : List ℕ) (k : ℕ) → list_any test (take k text) ≡ true
+    → list_any test text ≡ true
+front_tells test text k some =
+    ap (list_any test) (sym (take-append-drop k text)) ∙ list_any-append test (take k text) (drop k text)
+    ∙ ap (λ x. x || list_any test (drop k text)) some
+
+-- if none of the first `k` bytes passes, the others decide
+pub skips_front : (test : ℕ → Bool) (text : List ℕ) (k : ℕ) → list_any test (take k text) ≡ false
+    → list_any test (drop k text) ≡ list_any test text
+skips_front test text k none =
+    ap (λ x. x || list_any test (drop k text)) (sym none)
+    ∙ sym (list_any-append test (take k text) (drop k text)) ∙ ap (list_any test) (take-append-drop k text)
+
+-- if none of the first `k` bytes passes, the last `k` decide, provided that both cover the text
+pub either_end : (test : ℕ → Bool) (text : List ℕ) (k : ℕ)
+    → k ≤ length text → length text ≤ k + k
+    → list_any test (take k text) ≡ false
+    → (let n = length text - k in
+    list_any test (take (length text - n) (drop n text)) ≡ list_any test text)
+either_end test text k within meet none =
+    let n = length text - k in
+    let front = take k text in
+    let parts = or_parts (list_any test (take n front)) (list_any test (drop n front))
+    (sym (list_any-append test (take n front) (drop n front))
+    ∙ ap (list_any test) (take-append-drop n front) ∙ none) in
+    let before = ap (list_any test) (sym (take-take n k text (omega arith))) ∙ parts.0 in
+    ap (list_any test) (take_rest text n) ∙ ap (λ x. x || list_any test (drop n text)) (sym before)
+    ∙ sym (list_any-append test (take n text) (drop n text))
+    ∙ ap (list_any test) (take-append-drop n text)
+
+-- ---- The membership of lines, as the iterator computes it and as the specification states it.
+
+-- ---- the labels of the specification
+
+-- `captured_ahead` is the test at the index of the next group line, or at the end if there is none
+ahead_is : (name : List ℕ) (all : List LineValue) (tracker : GroupTracker) (position : ℕ)
+    (lines : List LineValue)
+    → IsWalkAt name all position tracker → drop position all ≡ lines
+    → captured_ahead name tracker lines ≡ is_captured name all (position + position_or_len is_group lines)
+ahead_is name all tracker position [] splits left = rw add-zero (sym splits.captured)
+ahead_is name all tracker position (line ∷ lines) splits left = elim (cases_Bool (is_group line)) [
+  | inl is ↦ rw (is, add-zero) (sym splits.captured)
+  | inr isnt ↦
+      let (at, next) = at_front all position line lines left in
+      let further = position_or_len is_group lines in
+      let there : position + (1 + further) ≡ (position + 1) + further = omega arith in
+      let ahead = ahead_is name all (step name tracker line) (position + 1) lines
+      (occurs_next name all position tracker line at splits) next in
+      rw (isnt, there) (rw isnt at ahead)
+]
+
+-- what is known about the next group line is still known after a line that isn't one
+pub known_next : (name : List ℕ) (tracker : GroupTracker) (line : LineValue) (lines rest : List LineValue)
+    (known : Bool)
+    → lines ≡ line ∷ rest → captured_ahead name tracker lines ≡ known
+    → IfSome (then_some (not (is_group line)) known)
+    (λ ahead. captured_ahead name (step name tracker line) rest ≡ ahead)
+known_next name tracker line lines rest known next is = elim (cases_Bool (is_group line)) [
+  | inl group ↦ rw group tt
+  | inr other ↦ rw other (rw (next, other) at is)
+]
+
+-- whether a user-agent line is before the next index
+begun_next : (all : List LineValue) (position : ℕ) (line : LineValue) → slice_get all position ≡ Some line
+    → list_any is_agent (take (position + 1) all) ≡ (list_any is_agent (take position all) || is_agent line)
+begun_next all position line at =
+    rw (add-one, any_next is_agent all position, at)
+    (or_comm (is_agent line) (list_any is_agent (take position all)))
+
+labels_left : (name : List ℕ) (all : List LineValue) (tracker : GroupTracker) (position : ℕ)
+    (lines : List LineValue)
+    → IsWalkAt name all position tracker → drop position all ≡ lines
+    → map (label_at name all) (enumerate_from position lines)
+    ≡ labels_from name tracker (list_any is_agent (take position all)) position lines
+labels_left name all tracker position [] splits left = refl
+labels_left name all tracker position (line ∷ lines) splits left =
+    let (at, next) = at_front all position line lines left in
+    let captured = ahead_is name all tracker position (line ∷ lines) splits left in
+    let later = labels_left name all (step name tracker line) (position + 1) lines
+    (occurs_next name all position tracker line at splits) next in
+    rw (later, left, begun_next all position line at, captured) refl
+
+pub labels_are : (name : List ℕ) (lines : List LineValue)
+    → labels_of name lines ≡ labels_from name (start_of lines) false 0 lines
+labels_are name lines = labels_left name lines (start_of lines) 0 lines (occurs_first name lines) refl
+
+-- ---- the rules of the crawler's own lines
+
+own_if : (number : ℕ) (captured begun : Bool) (found : Option Rule)
+    → cond captured (placed number found) None
+    ≡ placed number (cond (is_own (cond captured Own (cond begun Other Ungrouped))) found None)
+own_if number true begun found = refl
+own_if number false true found = refl
+own_if number false false found = refl
+
+own_left : (name : List ℕ) (tracker : GroupTracker) (before : Bool) (position : ℕ) (lines : List LineValue)
+    → from_captured placed_in name tracker position lines
+    ≡ filter_map own_rule_at (labels_from name tracker before position lines)
+own_left name tracker before position [] = refl
+own_left name tracker before position (line ∷ lines) =
+    rw (own_left name (step name tracker line) (before || is_agent line) (position + 1) lines, at line) refl
+  where
+    at : (line : LineValue) → if_captured tracker (placed_in (position, line))
+        ≡ placed (position + 1) (cond (is_own (membership_by (captured_ahead name tracker (line ∷ lines))
+        (before || is_agent line) line)) (rule_in line) None)
+    at (Allow value) = own_if (position + 1) tracker.captured (before || false) (rule_in (Allow value))
+    at (Disallow value) = own_if (position + 1) tracker.captured (before || false) (rule_in (Disallow value))
+    at _ = simp cond_same
+
+pub own_rules : (agent : List ℕ) (lines : List LineValue)
+    → placed_rules agent lines ≡ filter_map own_rule_at (labels_of (group_name agent lines) lines)
+own_rules agent lines =
+    let name = group_name agent lines in
+    captured_walked placed_in name lines ∙ own_left name (start_of lines) false 0 lines
+    ∙ ap (filter_map own_rule_at) (sym (labels_are name lines))
+
+-- ---- Each line has the membership that the specification states by indices of lines.
 
 -- ---- tests of indices
 

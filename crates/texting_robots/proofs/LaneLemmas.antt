@@ -1,24 +1,21 @@
 -- The index of the first byte that passes a test, as vectors find it.
-use Rattle.std.proofs.Common.{◌≡◌, ℕ, zero, suc, ◌+◌, ◌-◌, ◌*◌, ◌%◌, ◌^◌, ◌<◌, ◌≤◌}
-use Rattle.std.proofs.Common.{◌==◌, ◌||◌, Bool, true, false, not, List, [], ◌∷◌, length, take, drop, map}
-use Rattle.std.proofs.Common.{sym, refl, ap, ◌∙◌, arith, cond}
-use Rattle.std.proofs.Common.{if◌then◌else◌, bit_or, inl, inr, Option, Some, None}
-use Rattle.std.specs.{List.list_all, List.list_any, List.position_or_len, List.prefix_len, Int.trailing_zeros}
-use Rattle.std.specs.{Int.w64}
+use Rattle.std.proofs.Common.{◌≡◌, ℕ, zero, suc, ◌+◌, ◌-◌, ◌*◌, ◌%◌, ◌^◌, ◌<◌, ◌≤◌, ◌==◌, ◌||◌, Bool, true}
+use Rattle.std.proofs.Common.{false, not, List, [], ◌∷◌, length, take, drop, map, sym, refl, ap, ◌∙◌, arith}
+use Rattle.std.proofs.Common.{cond, if◌then◌else◌, bit_or, inl, inr, Option, Some, None}
+use Rattle.std.specs.List.{list_all, list_any, position_or_len, prefix_len}
+use Rattle.std.specs.Int.{trailing_zeros, w64}
 use Rattle.std.proofs.lemmas.Bool.{cases_Bool, cases_lt, cond-true, cond-false, eq-eqb, ne_eqb}
 use lib.Dec.{ltb}
-use Rattle.std.proofs.lemmas.List.{length-drop, length-map, length-take, length-take-le}
-use Rattle.std.proofs.lemmas.List.{take-append-drop, take_all, take_rest}
-use Rattle.std.proofs.lemmas.List.{Folds.prefix_len-append, Sums.prefix_len-le-length}
+use Rattle.std.proofs.lemmas.List.{length-drop, length-map, length-take, length-take-le, take-append-drop}
+use Rattle.std.proofs.lemmas.List.{take_all, take_rest, Folds.prefix_len-append, Sums.prefix_len-le-length}
 use Rattle.std.proofs.lemmas.Simd.{first_set_mask_l, map-map, mask_l-mod}
 use lib.Lanes.{mask_l, top}
 use std.Path.{fun_ext}
-use Rattle.std.specs.Option.{unwrap_or}
-use Rattle.memchr.specs.Find.{IsFirstByte}
-use Rattle.texting_robots.specs.Escape.{is_escaped}
+use Rattle.std.specs.{Option.unwrap_or}
+use Rattle.memchr.specs.{Find.IsFirstByte}
+use Rattle.texting_robots.specs.{Escape.is_escaped, Internal.Segments.is_wildcard}
 use Rattle.texting_robots.specs.Pattern.{dollar, star}
-use Rattle.texting_robots.specs.Internal.Segments.{is_wildcard}
-use Rattle.texting_robots.proofs.RegionLemmas.{position_is, end_is}
+use Rattle.texting_robots.proofs.LabelLemmas.{position_is, end_is}
 
 -- the first flagged lane is the first byte that passes
 pub first_labeled : (f : ℕ → ℕ) (width : ℕ) (v lanes : List ℕ) → width ≤ 64

@@ -1,23 +1,21 @@
 -- Which changes of the lines have no effect.
-use Rattle.std.proofs.Common.{◌≡◌, ◌↔◌, inl, inr, ℕ, suc, ◌+◌, Bool, false, not}
-use Rattle.std.proofs.Common.{◌||◌, List, [], ◌∷◌, ◌++◌, Option, None, length, drop, filter}
-use Rattle.std.proofs.Common.{cond, codes, zero-add, add-zero, arith, sym, refl, ap, ◌∙◌, subst}
+use Rattle.std.proofs.Common.{◌≡◌, ◌↔◌, inl, inr, ℕ, suc, ◌+◌, Bool, false, not, ◌||◌, List, [], ◌∷◌, ◌++◌}
+use Rattle.std.proofs.Common.{Option, None, length, drop, filter, cond, codes, zero-add, add-zero, arith, sym}
+use Rattle.std.proofs.Common.{refl, ap, ◌∙◌, subst}
 use Rattle.std.specs.{List.Any, List.cons_option, List.filter_map, List.list_any, Str.str_to_ascii_lowercase}
 use Rattle.std.proofs.lemmas.Bool.{cases_Bool, false≢true, false_from_ne_true}
-use Rattle.std.proofs.lemmas.List.{Elements.filter_map-append, Folds.list_any-append}
+use Rattle.std.proofs.{lemmas.List.Elements.filter_map-append, lemmas.List.Folds.list_any-append}
 use Rattle.texting_robots.specs.{declared.groups.GroupTracker.GroupTracker, Rules.Rule, Pattern.IsOverlong}
-use Rattle.texting_robots.specs.{Verdict.IsVerdict}
+use Rattle.texting_robots.specs.{Verdict.IsVerdict, Laws.IsSameKind, Laws.Same, Laws.SameButSitemaps}
 use Rattle.texting_robots.specs.Line.{LineValue, Allow, Disallow, Sitemap, CrawlDelay, Raw, delay_in, is_raw}
 use Rattle.texting_robots.specs.Line.{is_sitemap}
 use Rattle.texting_robots.specs.Group.{group_name, is_agent, is_agent_named, is_group, IsCaptured}
 use Rattle.texting_robots.specs.Executable.{delay_for, rule_in, rules_for, sitemap_in, sitemaps_in}
 use Rattle.texting_robots.specs.Internal.Group.{start_of, step}
-use Rattle.texting_robots.specs.Laws.{IsSameKind, Same, SameButSitemaps}
-use Rattle.texting_robots.proofs.CapturedLemmas.{IsWalkAt, at_front, cond_same, delays_are, given_captured}
-use Rattle.texting_robots.proofs.CapturedLemmas.{is_captured_decides, only_agents, rules_are, occurs_first}
-use Rattle.texting_robots.proofs.CapturedLemmas.{occurs_next}
+use Rattle.texting_robots.proofs.{CapturedLemmas.IsWalkAt, MainTheoremLemmas.rejection_is_computed}
+use Rattle.texting_robots.proofs.CapturedLemmas.{at_front, cond_same, delays_are, given_captured, only_agents}
+use Rattle.texting_robots.proofs.CapturedLemmas.{is_captured_decides, rules_are, occurs_first, occurs_next}
 use Rattle.texting_robots.proofs.RulesLemmas.{before_agent, before_agents}
-use Rattle.texting_robots.proofs.HeldLemmas.{rejection_is_computed}
 
 -- ---- lists of lines with the same effect
 

@@ -1,20 +1,17 @@
 -- The computed lines are those of the text, and their values are ranges of it.
-use Rattle.std.proofs.Common.{◌≡◌, ◌⊎◌, ℕ, false, inl, inr, List, [], ◌∷◌, ◌++◌, map}
-use Rattle.std.proofs.Common.{sym, refl, ap, ◌∙◌, append_assoc, append-nil, Option, Some, None}
-use Rattle.std.proofs.Common.{◌==◌, ◌≢◌, arith, subst, ◌↔◌}
-use Rattle.std.specs.List.{AllZip}
+use Rattle.std.proofs.Common.{◌≡◌, ◌⊎◌, ℕ, false, inl, inr, List, [], ◌∷◌, ◌++◌, map, sym, refl, ap, ◌∙◌, ◌≢◌}
+use Rattle.std.proofs.Common.{append_assoc, append-nil, Option, Some, None, ◌==◌, arith, subst, ◌↔◌}
+use Rattle.std.specs.{List.AllZip}
 use Rattle.std.proofs.lemmas.Bool.{cases_Bool, cond-true, cond-false, ne_eqb, Decides.eqb_tells}
 use Rattle.texting_robots.specs.{declared.parser.statement.Kind.Kind, Cut.Pair, Cut.lf, Group.is_agent}
-use Rattle.texting_robots.specs.{Delay.IsDelay}
+use Rattle.texting_robots.specs.{Delay.IsDelay, Internal.Delay.delay_of, Internal.Statement.colon}
 use Rattle.texting_robots.specs.Executable.{file_bodies, file_lines, parsed}
-use Rattle.texting_robots.specs.Internal.{Cut.bodies_of, Cut.cut, Delay.delay_of}
+use Rattle.texting_robots.specs.Internal.Cut.{bodies_of, cut}
 use Rattle.texting_robots.specs.Statement.{IsAfterBlanks, IsAfterColon, IsStatement}
-use Rattle.texting_robots.specs.Internal.Statement.{colon, kind_by, skip_blanks, statement_of, tail_as}
-use Rattle.texting_robots.specs.Internal.Statement.{value_of}
-use Rattle.texting_robots.specs.Line.{AreFileBodiesOf, AreLinesOf, HoldRangesOf, HoldsRangeOf, IsLineOf}
-use Rattle.texting_robots.specs.Line.{IsLineWith, IsRangeOf}
-use Rattle.texting_robots.specs.Line.{LineValue, Raw, CrawlDelay, Sitemap, UserAgent, delay_in, is_sitemap}
-use Rattle.texting_robots.specs.Line.{nul_as_lf, without, without_front}
+use Rattle.texting_robots.specs.Internal.Statement.{kind_by, skip_blanks, statement_of, tail_as, value_of}
+use Rattle.texting_robots.specs.Line.{AreFileBodiesOf, AreLinesOf, HoldRangesOf, HoldsRangeOf, IsLineOf, Raw}
+use Rattle.texting_robots.specs.Line.{IsLineWith, IsRangeOf, LineValue, CrawlDelay, Sitemap, UserAgent}
+use Rattle.texting_robots.specs.Line.{delay_in, is_sitemap, nul_as_lf, without, without_front}
 use Rattle.texting_robots.specs.Internal.Line.{delay_or_raw, line_by, line_of, line_with}
 use Rattle.texting_robots.proofs.DelayLemmas.{delay_of_is, is_delay_of}
 use Rattle.texting_robots.proofs.CutLemmas.{is_cut, only_cut}

@@ -1,36 +1,83 @@
--- Reading an absolute URL that `url` would leave unchanged, part by part from its start.
-use Rattle.std.proofs.Common.{◌≡◌, ℕ, ◌<◌, ◌≤◌, Bool, true, false, ◌||◌, ◌==◌, not}
-use Rattle.std.proofs.Common.{List, [], ◌∷◌, ◌++◌, length, get_or, drop, drop_at, take_at, All, sym}
-use Rattle.std.proofs.Common.{refl, ap, ◌∙◌, ◌≢◌, subst, ⊎_elim, inl, inr, arith, append_assoc}
-use Rattle.std.proofs.Common.{take-append-drop, None, Some, decimal, cond, take, ◌+◌, Option, codes}
-use Rattle.std.proofs.Common.{◌^◌, ◌/◌, ◌&&◌, nat_lt, one-add, option_map, slice_index, suc, zero}
-use Rattle.std.specs.{Int.Bits.and_zero_r, Int.IsInRange, List.prefix_len}
-use Rattle.std.specs.Char.{is_ascii_lowercase, is_ascii_uppercase}
+-- Escaping, and absolute URLs in normal form.
+use Rattle.std.proofs.Common.{IsAscii, List, drop_at, take_at, append_assoc, decimal, option_map, slice_index}
+use Rattle.std.proofs.Common.{false, [], arith, length, get_or, subst, ⊎_elim, Option, codes, nat_lt, one-add}
+use Rattle.std.proofs.Common.{ℕ, ◌++◌, refl, Bool, true, ◌||◌, ◌==◌, drop, None, Some, cond, take, ◌&&◌, zero}
+use Rattle.std.proofs.Common.{◌≡◌, ◌<◌, ◌≤◌, ◌∷◌, ap, inl, inr, not, All, sym, ◌∙◌, ◌≢◌, ◌+◌, ◌^◌, ◌/◌, suc}
+use Rattle.std.specs.List.{list_any, prefix_len}
+use Rattle.std.proofs.{Math.Bool.or-true, Common.take-append-drop, lemmas.Bool.Decides.nat_tests}
+use Rattle.std.proofs.lemmas.Bool.{agree_below_at, cases_Bool, cases_lt, lt-ltb, le-ltb, and_parts, cases_eq}
+use Rattle.std.proofs.lemmas.Bool.{agree_below, cond-true, cond-false, ne_eqb, not-true, eq-eqb}
+use Rattle.std.proofs.lemmas.Str.Ascii.{IsAscii-cons, IsAscii-nil}
+use Rattle.percent_encoding.specs.{AsciiSet.should_percent_encode, declared.ascii_set.AsciiSet.AsciiSet}
+use Rattle.percent_encoding.specs.Percent.{percent_encode, percent_encode_byte, encode_byte, IsKept}
+use Rattle.texting_robots.specs.{declared.escape.TheConstants.ESCAPED, Prepared.with_delimiter}
+use Rattle.texting_robots.specs.Escape.{is_escaped, escape_byte, escaped}
+use Rattle.std.specs.{Int.Bits.and_zero_r, Int.IsInRange, Char.is_ascii_lowercase, Char.is_ascii_uppercase}
 use Rattle.std.specs.Str.Parse.{IsNumeral, digits_value, without_leading_plus}
-use Rattle.std.proofs.lemmas.{Option.none-some, Option.same_Some}
+use Rattle.std.proofs.lemmas.Option.{none-some, same_Some}
 use Rattle.std.proofs.lemmas.List.Sums.{prefix_len-le-length, prefix_len_passes}
 use Rattle.std.proofs.lemmas.Fmt.{decimal-digits_value, decimal_digit, first_decimal}
 use Rattle.std.proofs.lemmas.Str.Parse.{numerals_by_value, tells_digits, without_leading_plus_none}
-use Rattle.std.proofs.lemmas.Bool.{and_parts, agree_below, agree_below_at, cases_Bool, cases_eq, cases_lt}
-use Rattle.std.proofs.lemmas.Bool.{cond-true, cond-false, le-ltb, ne_eqb, not-true, eq-eqb, Decides.nat_tests}
 use Rattle.std.proofs.lemmas.List.{get_or_past, length-drop, length-take-le, drop-drop}
-use Rattle.std.proofs.lemmas.List.{Folds.length-prefix_len, Folds.prefix_len-append}
+use Rattle.std.proofs.lemmas.List.Folds.{length-prefix_len, prefix_len-append}
 use Rattle.std.proofs.lemmas.List.Elements.{All-head, All-tail, All-weaker}
-use Rattle.percent_encoding.specs.declared.ascii_set.AsciiSet.{AsciiSet}
-use Rattle.percent_encoding.specs.{AsciiSet.should_percent_encode, Percent.IsKept}
 use Rattle.url.specs.declared.sets.TheConstants.{FORBIDDEN_DOMAIN, PATH}
-use Rattle.url.specs.declared.scheme.SchemeType.TheVariants.{SpecialNotFile}
-use Rattle.url.specs.{Scheme.is_slash, Input.rsplit_once, Path.IsSegment, Path.dot_count, Path.join_segments}
+use Rattle.url.specs.{declared.scheme.SchemeType.TheVariants.SpecialNotFile, Scheme.is_slash, Path.IsSegment}
+use Rattle.url.specs.{Input.rsplit_once, Path.dot_count, Path.join_segments}
 use Rattle.url.proofs.{HostRoundTrip.All-decimal, PathLemmas.push_valid, InputLemmas.prefix_len_at}
 use Rattle.url.proofs.InputLemmas.{Passes, StopsAt, All-take-prefix_len, StopsAt-drop-prefix_len}
 use Rattle.texting_robots.specs.declared.normalized.TheConstants.{NAME, NUMBER, OPEN, SEGMENT, UPPER}
-use Rattle.texting_robots.specs.{AllocationFree.EndsSite, AllocationFree.IsAuthority, AllocationFree.IsName}
-use Rattle.texting_robots.specs.{AllocationFree.IsPath, AllocationFree.IsPort}
-use Rattle.texting_robots.specs.{Prepared.with_delimiter, Internal.Normalized.IsOther}
-use Rattle.texting_robots.specs.{Internal.Normalized.Leaves}
-use Rattle.texting_robots.specs.Internal.Normalized.{EndsPath, after, begins_dotted, begins_plainly}
-use Rattle.texting_robots.specs.Internal.Normalized.{kept_prefix}
-use Rattle.texting_robots.specs.Internal.Normalized.{past_path, past_segment, is_kept}
+use Rattle.texting_robots.specs.AllocationFree.{EndsSite, IsAuthority, IsName, IsPath, IsPort}
+use Rattle.texting_robots.specs.Internal.Normalized.{IsOther, Leaves, EndsPath, after, begins_dotted, is_kept}
+use Rattle.texting_robots.specs.Internal.Normalized.{begins_plainly, kept_prefix, past_path, past_segment}
+
+-- ---- The byte set in `escape.rt` escapes exactly the bytes that the specification escapes.
+
+same_ascii : (b : ℕ) → b < 128 → should_percent_encode ESCAPED b ≡ is_escaped b
+unfolding should_percent_encode
+same_ascii b low = agree_below_at (should_percent_encode ESCAPED) is_escaped 128 b refl low
+
+same_high : (b : ℕ) → 128 ≤ b → should_percent_encode ESCAPED b ≡ is_escaped b
+unfolding should_percent_encode
+same_high b high = rw (le-ltb b 128 high, lt-ltb 0x7E b (omega arith), or-true) refl
+
+pub same_test : (b : ℕ) → should_percent_encode ESCAPED b ≡ is_escaped b
+same_test b = elim (cases_lt b 128) [ inl low ↦ same_ascii b low | inr high ↦ same_high b high ]
+
+same_byte : (b : ℕ) → encode_byte ESCAPED b ≡ escape_byte b
+unfolding percent_encode_byte
+same_byte b = rw (same_test b) refl
+
+pub same_escape : (bytes : List ℕ) → percent_encode ESCAPED bytes ≡ escaped bytes
+unfolding percent_encode
+same_escape [] = refl
+same_escape (b ∷ bytes) = rw (same_byte b) (ap (λ rest. escape_byte b ++ rest) (same_escape bytes))
+
+-- if no byte is escaped, escaping changes nothing
+pub plain_stays : (bytes : List ℕ) → list_any is_escaped bytes ≡ false
+    → escaped bytes ≡ bytes
+plain_stays [] plain = refl
+plain_stays (b ∷ bytes) plain = elim (cases_Bool (is_escaped b)) [
+  | inl escapes ↦ let wrong = rw escapes at plain in cc
+  | inr stays ↦ rw (stays, plain_stays bytes (rw stays at plain)) refl
+]
+
+-- a byte that isn't escaped is ASCII
+plain_low : (b : ℕ) → is_escaped b ≡ false → b < 128
+plain_low b stays = elim (cases_lt b 128) [
+  | inl low ↦ low
+  | inr high ↦
+      let wrong = rw (le-ltb b 0x21 (omega arith), lt-ltb 0x7E b (omega arith), or-true) at stays in cc
+]
+
+pub plain_ascii : (bytes : List ℕ) → list_any is_escaped bytes ≡ false → IsAscii bytes
+plain_ascii [] plain = IsAscii-nil
+plain_ascii (b ∷ bytes) plain = elim (cases_Bool (is_escaped b)) [
+  | inl escapes ↦ let wrong = rw escapes at plain in cc
+  | inr stays ↦ IsAscii-cons b bytes (plain_low b stays) (plain_ascii bytes (rw stays at plain))
+]
+
+-- ---- Reading an absolute URL that `url` would leave unchanged, part by part from its start.
 
 -- ---- bytes that are kept
 

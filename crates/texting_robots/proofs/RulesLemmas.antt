@@ -1,19 +1,16 @@
 -- What the loops of the code preserve.
-use Rattle.std.proofs.Common.{◌≡◌, ℕ, Bool, true, false, not, cond, List, [], ◌∷◌, ◌++◌}
-use Rattle.std.proofs.Common.{Option, Some, None, length, slice_get, append_assoc, length-append, subst, sym}
-use Rattle.std.proofs.Common.{refl, ap, ◌∙◌, arith, inl, inr}
+use Rattle.std.proofs.Common.{◌≡◌, ℕ, Bool, true, false, not, cond, List, [], ◌∷◌, ◌++◌, Option, Some, None}
+use Rattle.std.proofs.Common.{length, append_assoc, length-append, subst, sym, refl, ap, ◌∙◌, arith, inl, inr}
+use Rattle.std.proofs.{Common.slice_get, lemmas.Bool.cases_Bool, lemmas.List.Elements.All-push}
 use Rattle.std.specs.List.{All, Any, before_first, cons_option, filter_map, last_or, list_any}
 use Rattle.std.specs.Option.{option_to_list, option_or, IfSome, IsSomeAnd}
-use Rattle.std.proofs.lemmas.Bool.{cases_Bool}
 use Rattle.std.proofs.lemmas.List.{append-nil, get_or-map, get_or_at, length-map, Sums.take_while-cons}
-use Rattle.std.proofs.lemmas.List.Elements.{All-push}
-use Rattle.texting_robots.specs.declared.error.Error.{Error}
+use Rattle.texting_robots.specs.{declared.error.Error.Error, Executable.sitemap_in, Pattern.IsOverlong}
+use Rattle.texting_robots.specs.{Error.IsMemoryErrorOr, Group.is_agent, Internal.Group.placed}
 use Rattle.texting_robots.specs.Line.{LineValue, Sitemap, delay_in, is_sitemap}
-use Rattle.texting_robots.specs.{Executable.sitemap_in, Pattern.IsOverlong, Error.IsMemoryErrorOr}
-use Rattle.texting_robots.specs.{Group.is_agent}
 use Rattle.texting_robots.specs.Rules.{IsFirstOverlong, PlacedRule, Rule, unplaced}
-use Rattle.texting_robots.specs.Internal.{Group.placed, Robot.IsRejectionOf, Robot.rejection_at}
-use Rattle.texting_robots.proofs.BestLemmas.{placed_of}
+use Rattle.texting_robots.specs.Internal.Robot.{IsRejectionOf, rejection_at}
+use Rattle.texting_robots.proofs.{BestLemmas.placed_of}
 use Rattle.texting_robots.specs.declared.error.Error.TheVariants as mine
 
 -- ---- what lines give

@@ -1,41 +1,31 @@
 -- Iterating over the lines of a name: what this gives, and where it starts.
-use Rattle.std.proofs.Common.{◌≡◌, inl, inr, ℕ, zero, suc, ◌+◌, ◌<◌, ◌≤◌, ◌==◌, Bool, true, false, ◌||◌}
-use Rattle.std.proofs.Common.{not, ◌&&◌, List, [], ◌∷◌, ◌++◌, Option, Some, None, length, drop, refl, ap, sym}
-use Rattle.std.proofs.Common.{◌∙◌, arith, cond, get_or, slice_get, take}
-use Rattle.std.specs.{Prelude.filter, List.Any, List.cons_option, List.filter_map, List.list_any}
+use Rattle.std.specs.Prelude.{filter}
+use Rattle.std.proofs.Common.{◌≡◌, inl, inr, ℕ, zero, suc, ◌+◌, ◌<◌, ◌≤◌, ◌==◌, Bool, true, false, ◌||◌, not}
+use Rattle.std.proofs.Common.{◌&&◌, List, [], ◌∷◌, ◌++◌, Option, Some, None, length, drop, refl, ap, sym, ◌∙◌}
+use Rattle.std.proofs.Common.{arith, cond, get_or, slice_get, take, IsPermutation, subst, ltb}
+use Rattle.std.specs.List.{Any, cons_option, filter_map, list_any}
 use Rattle.std.specs.Option.{option_or, option_to_list}
-use Rattle.std.proofs.lemmas.{Bool.eq-eqb, Bool.ne_eqb, Bool.Decides.eqb_tells}
-use Rattle.std.proofs.lemmas.List.{Elements.filter_agree}
-use Rattle.std.proofs.lemmas.List.{take_more}
-use Rattle.texting_robots.specs.Rules.{IsRejected, PlacedRule, Rule}
+use Rattle.std.proofs.lemmas.Bool.{eq-eqb, ne_eqb, cases_Bool, le-ltb, lt-ltb, ltb-false, ltb-true}
+use Rattle.std.proofs.{lemmas.Bool.Decides.eqb_tells, Math.Bool.and-false}
+use Rattle.std.proofs.lemmas.List.{Elements.filter_agree, take_more, append-nil, drop-drop}
+use Rattle.texting_robots.specs.Rules.{IsRejected, PlacedRule, Rule, unplaced}
 use Rattle.texting_robots.specs.Group.{group_name, is_agent, is_group}
-use Rattle.texting_robots.specs.{Pattern.IsOverlong, Robot.IsFileRejected, Internal.Group.from_captured}
-use Rattle.texting_robots.specs.Executable.{captured_delays, captured_lines, file_lines, placed_in}
-use Rattle.texting_robots.specs.Executable.{placed_rules}
-use Rattle.texting_robots.specs.declared.site.lines.Span.{Span}
-use Rattle.texting_robots.proofs.{CapturedLemmas.captured_walked, MainTheoremLemmas.has_lines}
-use Rattle.texting_robots.specs.Executable.{delay_before_agents, delay_for}
-use Rattle.texting_robots.specs.{Robot.IsRobotOf, Robot.RobotValue, Rules.unplaced}
-use Rattle.std.proofs.Common.{IsPermutation, subst}
-use Rattle.texting_robots.proofs.{HeldLemmas.rejection_is_computed, HeldLemmas.rules_are_computed}
-use Rattle.texting_robots.proofs.{GivenLemmas.delay_is_computed, RulesLemmas.any_unplaced}
-use Rattle.texting_robots.proofs.SiteLemmas.{delay_of_group, given_push, rule_of_group}
+use Rattle.texting_robots.specs.{Pattern.IsOverlong, Internal.Group.from_captured}
+use Rattle.texting_robots.specs.{declared.site.lines.Span.Span, declared.site.own.Position.Position}
+use Rattle.texting_robots.specs.Robot.{IsFileRejected, IsRobotOf, RobotValue}
+use Rattle.texting_robots.specs.Executable.{captured_delays, captured_lines, file_lines, placed_in, delay_for}
+use Rattle.texting_robots.specs.Executable.{placed_rules, delay_before_agents}
+use Rattle.texting_robots.proofs.{CapturedLemmas.captured_walked, GivenLemmas.delay_is_computed}
+use Rattle.texting_robots.proofs.{RulesLemmas.any_unplaced, SiteNameLemmas.drop_is}
+use Rattle.texting_robots.proofs.MainTheoremLemmas.{has_lines, rejection_is_computed, rules_are_computed}
+use Rattle.texting_robots.proofs.SiteLemmas.{delay_of_group, given_push, rule_of_group, none_later}
 use Rattle.texting_robots.specs.Line.{LineValue, UserAgent, delay_in}
-use Rattle.texting_robots.specs.Internal.Site.{Named, Tagged, delay_of, in_front, is_run_of, named}
-use Rattle.texting_robots.specs.Internal.Site.{listed, own_tagged, rule_of, tagged, tagged_from}
-use Rattle.texting_robots.specs.Internal.{Names.first_named, Own.AreOfFile, Own.IsWholeWalk, Own.is_later}
-use Rattle.texting_robots.specs.Internal.{Own.own_at, Own.own_from, Site.has_name}
-use Rattle.texting_robots.specs.declared.site.own.Position.{Position}
-use Rattle.texting_robots.proofs.SiteLemmas.{none_later}
-use Rattle.texting_robots.proofs.SiteNameLemmas.{drop_is, first_here, here, later_at, past_end}
-use Rattle.texting_robots.proofs.SiteNameLemmas.{runs_from_first}
-use Rattle.texting_robots.proofs.SiteRunLemmas.{Ascends, names_ascend, no_names, none_above, of_run}
-use Rattle.texting_robots.proofs.SiteRunLemmas.{some_names, starts}
-use Rattle.texting_robots.proofs.SiteRunLemmas.{tagged_ascends}
-use Rattle.std.proofs.Common.{ltb}
-use Rattle.std.proofs.lemmas.Bool.{cases_Bool, le-ltb, lt-ltb, ltb-false, ltb-true}
-use Rattle.std.proofs.lemmas.List.{append-nil, drop-drop}
-use Rattle.std.proofs.Math.Bool.{and-false}
+use Rattle.texting_robots.specs.Internal.Site.{Named, Tagged, delay_of, in_front, is_run_of, named, listed}
+use Rattle.texting_robots.specs.Internal.Site.{own_tagged, rule_of, tagged, tagged_from, first_named, own_at}
+use Rattle.texting_robots.specs.Internal.Site.{AreOfFile, IsWholeWalk, is_later, own_from, has_name}
+use Rattle.texting_robots.proofs.SiteNameLemmas.{first_here, here, later_at, past_end, runs_from_first}
+use Rattle.texting_robots.proofs.SiteRunLemmas.{Ascends, names_ascend, no_names, none_above, of_run, starts}
+use Rattle.texting_robots.proofs.SiteRunLemmas.{some_names, tagged_ascends}
 
 -- ---- the lines of one run come first
 

@@ -1,15 +1,15 @@
 -- Where the lines of a run begin, and what one more run gives.
-use Rattle.std.proofs.Common.{◌≡◌, ◌≢◌, ℕ, zero, suc, ◌+◌, ◌<◌, ◌≤◌, ◌==◌, Bool, true, false, ◌||◌}
-use Rattle.std.proofs.Common.{inl, inr, List, [], ◌∷◌, Some, length, drop, refl, ap, sym, ◌∙◌}
-use Rattle.std.proofs.Common.{arith, bytes_eq, cond, not, None, slice_get, subst, ◌&&◌}
-use Rattle.std.specs.{Prelude.filter, Str.str_to_ascii_lowercase}
-use Rattle.std.specs.List.{cons_option, list_any}
-use Rattle.std.proofs.lemmas.{Bool.and_parts, Bool.ne_eqb, Bool.Decides.eqb_tells}
+use Rattle.std.specs.Prelude.{filter}
+use Rattle.std.proofs.Common.{◌≡◌, ◌≢◌, ℕ, zero, suc, ◌+◌, ◌<◌, ◌≤◌, ◌==◌, Bool, true, false, ◌||◌, inl, inr}
+use Rattle.std.proofs.Common.{List, [], ◌∷◌, Some, length, drop, refl, ap, sym, ◌∙◌, arith, bytes_eq, cond}
+use Rattle.std.proofs.Common.{not, None, slice_get, subst, ◌&&◌}
+use Rattle.std.specs.{Str.str_to_ascii_lowercase, List.cons_option, List.list_any}
+use Rattle.std.proofs.lemmas.Bool.{and_parts, ne_eqb, Decides.eqb_tells}
 use Rattle.texting_robots.specs.Line.{LineValue, UserAgent}
 use Rattle.texting_robots.specs.Group.{is_agent, is_agent_named, is_group}
-use Rattle.texting_robots.specs.Internal.Site.{Named, Tagged, has_name, in_front, named, named_from}
-use Rattle.texting_robots.specs.Internal.Site.{count_after, run_after, tagged, tagged_from}
-use Rattle.texting_robots.proofs.SiteLemmas.{run_ends}
+use Rattle.texting_robots.specs.Internal.Site.{Named, Tagged, has_name, in_front, named, named_from, tagged}
+use Rattle.texting_robots.specs.Internal.Site.{count_after, run_after, tagged_from}
+use Rattle.texting_robots.proofs.{SiteLemmas.run_ends}
 
 -- the lines of a run
 abbrev pub of_run : ℕ → List Tagged → List Tagged

@@ -1,27 +1,62 @@
--- A line is a directive of at most one kind with at most one value: those that `statement_of` computes.
-use Rattle.std.proofs.Common.{◌≡◌, ◌⊎◌, ◌≢◌, ℕ, ◌<◌, ◌==◌, not, ◌||◌, inl}
-use Rattle.std.proofs.Common.{inr, List, [], ◌∷◌, ◌++◌, length, take, drop, map, sym, refl, ap}
-use Rattle.std.proofs.Common.{◌∙◌, arith, rules, cond, if◌then◌else◌, subst, Option, Some, None}
-use Rattle.std.proofs.Common.{length-append, nat_lt}
-use Rattle.std.specs.{Bool.Decides, Char.to_ascii_lowercase, Str.bytes_eq}
+-- Field names and directives.
+use Rattle.std.proofs.Common.{◌≡◌, ℕ, ◌+◌, ◌≤◌, true, List, [], ◌∷◌, Some, arith, drop, get_or, length, map}
+use Rattle.std.proofs.Common.{refl, take, false, sym, ap, ◌∙◌, ◌⊎◌, ◌≢◌, ◌<◌, ◌==◌, not, ◌||◌, inl, inr, ◌++◌}
+use Rattle.std.proofs.Common.{rules, cond, if◌then◌else◌, subst, Option, None, length-append, nat_lt}
+use Rattle.std.proofs.lemmas.List.{drop_more, length-map, Sums.take_while-cons, map-append, take-append-drop}
+use Rattle.std.proofs.lemmas.List.{take-map, drop_at}
+use Rattle.std.specs.{Char.to_ascii_lowercase, Str.bytes_eq, Bool.Decides}
+use Rattle.texting_robots.specs.Internal.Statement.{skip_blanks, after_blanks, after_separator, statement_of}
+use Rattle.texting_robots.specs.Internal.Statement.{after_any, space, kind_with, kind_by, region_of, value_of}
+use Rattle.texting_robots.specs.Internal.Statement.{begins, tab, colon, hash, tail_of, tail_as, trimmed}
+use Rattle.std.proofs.lemmas.Bool.{false_from_ne_true, cases_Bool, cond-true, cond-false, eqb-true, eqb-false}
+use Rattle.std.proofs.lemmas.Bool.{ne_eqb, ltb-true, lt-ltb, true≢false}
+use Rattle.std.proofs.lemmas.Slice.{Eq.bytes_eq-Decides}
 use Rattle.std.specs.List.{AllByRecursion as Each, Contains}
-use Rattle.std.proofs.lemmas.Bool.{cases_Bool, cond-true, cond-false, eqb-true, eqb-false, ne_eqb, ltb-true}
-use Rattle.std.proofs.lemmas.Bool.{lt-ltb, false_from_ne_true, true≢false}
 use Rattle.std.proofs.lemmas.Bool.Decides.{Decides-or, Decides-eqb}
 use Rattle.std.proofs.lemmas.Option.{option_and_then_some, same_Some, some_pair_parts}
-use Rattle.std.proofs.lemmas.{Slice.Eq.bytes_eq-Decides, List.Sums.take_while-cons}
-use Rattle.std.proofs.lemmas.List.{length-map, map-append, take-append-drop, take-map, drop_at}
-use Rattle.std.proofs.lemmas.Str.Ascii.{lowercase-lowercase}
+use Rattle.std.proofs.lemmas.Str.{Ascii.lowercase-lowercase}
 use Rattle.std.proofs.lemmas.List.Elements.{All-contains, All-from_recursion, Contains-append_right}
-use Rattle.texting_robots.specs.{declared.parser.statement.Kind.Kind, Trim.IsTrimOf}
-use Rattle.texting_robots.specs.declared.parser.statement.Kind.TheVariants.{UserAgent}
-use Rattle.texting_robots.specs.Statement.{field_names, IsBlank, StartsValue, IsAfterBlanks, IsAfterColon}
-use Rattle.texting_robots.specs.Statement.{IsStatement}
-use Rattle.texting_robots.specs.Internal.Statement.{space, tab, colon, hash, IsOptionalComment, skip_blanks}
-use Rattle.texting_robots.specs.Internal.Statement.{kind_with, kind_by, begins, after_any, after_blanks}
-use Rattle.texting_robots.specs.Internal.Statement.{after_separator, tail_of, tail_as, region_of, trimmed}
-use Rattle.texting_robots.specs.Internal.Statement.{value_of, statement_of}
+use Rattle.texting_robots.specs.declared.parser.statement.Kind.{Kind, TheVariants.UserAgent}
+use Rattle.texting_robots.specs.{Trim.IsTrimOf, Statement.field_names, Internal.Statement.IsOptionalComment}
+use Rattle.texting_robots.specs.Statement.{IsBlank, StartsValue, IsAfterBlanks, IsAfterColon, IsStatement}
 use Rattle.texting_robots.proofs.TrimLemmas.{trimmed_is_trim, is_trimmed, blanks_skipped}
+
+-- ---- A text that has the bytes of a usual field name begins with it.
+
+-- the bytes of the name are in the text from this position on
+abbrev pub HasAt : List ℕ → ℕ → List ℕ → Type 0
+HasAt text k [] = Unit {0}
+HasAt text k (b ∷ name) = (get_or text k 0 ≡ b) × HasAt text (k + 1) name
+
+front_of : (text name : List ℕ) (k : ℕ) → k + length name ≤ length text → HasAt text k name
+    → take (length name) (drop k text) ≡ name
+front_of text [] k within has = refl
+front_of text (b ∷ name) k within (here, more) =
+    rw (drop_more text k 0 (omega arith), here, front_of text name (k + 1) (omega arith) more) refl
+
+pub usual_is : (text name small : List ℕ) (others : List (List ℕ)) → length name ≤ length text
+    → HasAt text 0 name → length small ≡ length name → bytes_eq (map to_ascii_lowercase name) small ≡ true
+    → after_any (small ∷ others) text ≡ Some (drop (length name) text)
+usual_is text name small others within has sizes same =
+    rw (sizes, front_of text name 0 (omega arith) has, same) refl
+
+-- ---- Comparing a field name with an accepted name.
+
+module _ (name text key : List ℕ) (front : key ≡ take (length name) text) where
+  here : map to_ascii_lowercase (take (length (map to_ascii_lowercase name)) text)
+      ≡ map to_ascii_lowercase key
+  here = ap (λ n. map to_ascii_lowercase (take n text)) (length-map name to_ascii_lowercase)
+      ∙ ap (map to_ascii_lowercase) (sym front)
+
+  pub written_same : map to_ascii_lowercase key ≡ map to_ascii_lowercase name
+      → begins (map to_ascii_lowercase name) text ≡ true
+  written_same same = (bytes_eq-Decides _ _).1 (here ∙ same)
+
+  pub written_other : ¬ (map to_ascii_lowercase key ≡ map to_ascii_lowercase name)
+      → begins (map to_ascii_lowercase name) text ≡ false
+  written_other other = false_from_ne_true _ (λ same. other (sym here ∙ (bytes_eq-Decides _ _).0 same))
+
+-- ---- A line is a directive of at most one kind with at most one value: those that `statement_of` computes.
 
 -- ---- spaces and tabs
 

@@ -1,23 +1,21 @@
 -- `trimmed` computes the trim of a raw value, and the trim is unique.
-use Rattle.std.proofs.Common.{◌≡◌, ℕ, zero, suc, ◌+◌, ◌≤◌, ◌<◌, ◌-◌, Bool, true}
-use Rattle.std.proofs.Common.{false, cond, inl, inr, List, [], ◌∷◌, ◌++◌, length, take}
-use Rattle.std.proofs.Common.{drop, sym, refl, ap, ap₂, subst, ◌∙◌, append_assoc, append-nil, arith}
-use Rattle.std.proofs.Common.{IsTrue, Option, Some, None, length-append, slice_get, get_or}
+use Rattle.std.proofs.Common.{◌≡◌, ℕ, zero, suc, ◌+◌, ◌≤◌, ◌<◌, ◌-◌, Bool, true, false, cond, inl, inr, List}
+use Rattle.std.proofs.Common.{[], ◌∷◌, ◌++◌, length, take, drop, sym, refl, ap, ap₂, subst, ◌∙◌, append_assoc}
+use Rattle.std.proofs.Common.{append-nil, arith, IsTrue, Option, Some, None, length-append, slice_get, get_or}
 use Rattle.std.proofs.Math.{Seq.drop-nil, Utf8.scalars}
 use Rattle.std.specs.{List.AllByRecursion as Each, Str.IsUtf8, Str.encode_utf8_all}
 use Rattle.std.specs.Char.{is_ascii_graphic, is_whitespace, encode_utf8}
 use Rattle.std.proofs.lemmas.Bool.{and_parts, cases_Bool, cond-true, cond-false, Decides.nat_tests}
-use Rattle.std.proofs.lemmas.List.{append_cancel_right, drop_all, drop_at, drop-append-le, drop-drop}
-use Rattle.std.proofs.lemmas.List.{length-drop, length-take, take-append-drop, take-append-le, take_all}
-use Rattle.std.proofs.lemmas.List.{take_at, take_more}
-use Rattle.std.proofs.lemmas.Option.{slice_get-get_or}
+use Rattle.std.proofs.lemmas.{List.append_cancel_right, Option.slice_get-get_or}
+use Rattle.std.proofs.lemmas.List.{drop_all, drop_at, drop-append-le, drop-drop, length-drop, length-take}
+use Rattle.std.proofs.lemmas.List.{take-append-drop, take-append-le, take_all, take_at, take_more}
 use Rattle.std.proofs.lemmas.Str.{encode_ascii, encodes-append, IsUtf8-encode, IsCharBoundary-start}
 use Rattle.bstr.specs.Utf8.{Decoded, decoded, good, or_replacement, pieces, spans_from, IsLastPiece}
 use Rattle.bstr.specs.Trim.{kept_start, kept_end, trim_start_by, trim_end_by}
 use Rattle.bstr.proofs.lemmas.PieceLemmas.{piece-bounds, spans-first, spans-last, spans-nil, pieces-append}
 use Rattle.bstr.proofs.lemmas.PieceLemmas.{pieces-step, pieces-nil, StartsClean}
-use Rattle.bstr.proofs.lemmas.EncodeLemmas.{decoded-encode}
-use Rattle.bstr.proofs.lemmas.{SoundLemmas.SpellsChar-decoded, TrimLemmas.kept_end-snoc}
+use Rattle.bstr.proofs.lemmas.{EncodeLemmas.decoded-encode, SoundLemmas.SpellsChar-decoded}
+use Rattle.bstr.proofs.lemmas.{TrimLemmas.kept_end-snoc}
 use lib.Utf8.{low_scalar, scalar}
 use Rattle.texting_robots.specs.{Trim.IsSpaces, Trim.IsTrimOf, Statement.IsBlank, Internal.Statement.trimmed}
 

@@ -1,10 +1,11 @@
 -- The address of the robots.txt file for a URL.
-use Rattle.std.specs.Prelude.{ℕ, List, ◌++◌, ◌||◌, Bool, Option, Some, None, Ok, Err, codes}
-use Rattle.std.specs.Prelude.{bytes_eq, decimal, option_map, if◌then◌else◌}
+use Rattle.std.specs.Prelude.{ℕ, List, ◌++◌, ◌||◌, Bool, Option, Some, None, Ok, Err, codes, bytes_eq}
+use Rattle.std.specs.Prelude.{decimal, option_map, if◌then◌else◌}
 use Rattle.url.specs.declared.error.ParseError.TheVariants.{EmptyHost, SetHostOnCannotBeABaseUrl}
-use Rattle.url.specs.{Parts.Parts, Parts.cannot_be_a_base, Parts.nonempty_host, Host.host_text, Parser.Parsed}
-use Rattle.url.specs.{Parser.parse_url, Parser.and_then, declared.host.Host.Host}
-use Rattle.texting_robots.specs.Prepared.{with_delimiter}
+use Rattle.url.specs.Parts.{Parts, cannot_be_a_base, nonempty_host}
+use Rattle.url.specs.{Host.host_text, declared.host.Host.Host}
+use Rattle.url.specs.Parser.{Parsed, parse_url, and_then}
+use Rattle.texting_robots.specs.{Prepared.with_delimiter}
 
 -- whether the scheme is `http` or `https`
 abbrev pub is_web : List ℕ → Bool

@@ -1,16 +1,12 @@
 -- Strings for which a verdict doesn't allocate, since their match target can be borrowed.
-use Rattle.std.specs.Prelude.{◌≡◌, ◌≢◌, ◌⊎◌, ◌<◌, ◌^◌, ℕ, true, false}
-use Rattle.std.specs.Prelude.{List, [], ◌∷◌, ◌++◌, All, codes, decimal}
-use Rattle.std.specs.Prelude.{slice_index, Option, IfSome, option_map}
-use Rattle.std.specs.Char.{is_ascii_lowercase, is_ascii_uppercase}
-use Rattle.std.specs.Str.{byte}
-use Rattle.percent_encoding.specs.declared.ascii_set.AsciiSet.{AsciiSet}
-use Rattle.percent_encoding.specs.Percent.{IsKept}
-use Rattle.url.specs.declared.scheme.SchemeType.TheVariants.{SpecialNotFile}
+use Rattle.std.specs.Prelude.{◌≡◌, ◌≢◌, ◌⊎◌, ◌<◌, ◌^◌, ℕ, true, false, List, [], ◌∷◌, ◌++◌, All, codes}
+use Rattle.std.specs.Prelude.{decimal, slice_index, Option, IfSome, option_map}
+use Rattle.std.specs.{Char.is_ascii_lowercase, Char.is_ascii_uppercase, Str.byte}
+use Rattle.percent_encoding.specs.{declared.ascii_set.AsciiSet.AsciiSet, Percent.IsKept}
+use Rattle.url.specs.declared.scheme.SchemeType.{TheVariants.SpecialNotFile}
 use Rattle.url.specs.declared.sets.TheConstants.{FORBIDDEN_DOMAIN, FRAGMENT, SPECIAL_QUERY}
 use Rattle.url.specs.{Input.rsplit_once, Path.IsSegmentList}
-use Rattle.texting_robots.specs.Escape.{is_escaped}
-use Rattle.texting_robots.specs.Prepared.{with_delimiter}
+use Rattle.texting_robots.specs.{Escape.is_escaped, Prepared.with_delimiter}
 
 -- a host that `url` leaves unchanged, and whose last label begins with a letter, so that it isn't a number
 pub record IsName (host : List ℕ) : Type 0 where

@@ -1,6 +1,6 @@
 -- How a text is cut into line contents and line terminators.
-use Rattle.std.specs.Prelude.{◌≡◌, ◌≢◌, ◌⊎◌, ℕ, List, [], ◌∷◌, ◌++◌, All}
-use Rattle.std.specs.{Prelude.replicate, List.flat_map}
+use Rattle.std.specs.Prelude.{◌≡◌, ◌≢◌, ◌⊎◌, ℕ, List, [], ◌∷◌, ◌++◌, All, replicate}
+use Rattle.std.specs.List.{flat_map}
 
 abbrev pub cr : ℕ
 cr = 13

@@ -1,11 +1,9 @@
 -- Which line decides, and how many looks (counted byte comparisons) this takes.
-use Rattle.std.specs.Prelude.{◌≡◌, ◌≢◌, ◌⊎◌, ℕ, ◌*◌, ◌<◌, ◌≤◌, nat_le}
-use Rattle.std.specs.Prelude.{true, false, List}
-use Rattle.std.specs.Prelude.{Option, Some, None, Contains, count_by, length}
+use Rattle.std.specs.Prelude.{◌≡◌, ◌≢◌, ◌⊎◌, ℕ, ◌*◌, ◌<◌, ◌≤◌, nat_le, true, false, List, Option, Some, None}
+use Rattle.std.specs.Prelude.{Contains, count_by, length}
 use Rattle.texting_robots.specs.View.{LooksAtMost, ViewValue}
-use Rattle.texting_robots.specs.declared.decision.Decision.{Decision}
-use Rattle.texting_robots.specs.{Pattern.Matches, Rules.PlacedRule, Rules.unplaced}
-use Rattle.texting_robots.specs.Verdict.{IsVerdict, robots_file}
+use Rattle.texting_robots.specs.{declared.decision.Decision.Decision, Pattern.Matches, Rules.PlacedRule}
+use Rattle.texting_robots.specs.{Rules.unplaced, Verdict.IsVerdict, Verdict.robots_file}
 
 -- the rule matches the text, and no matching rule is longer
 pub record IsLongestMatch (rules : List PlacedRule) (text : List ℕ) (placed : PlacedRule) : Type 0 where

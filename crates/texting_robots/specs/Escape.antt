@@ -1,6 +1,5 @@
 -- Percent-encoding of patterns, and of strings that aren't URLs.
-use Rattle.std.specs.Prelude.{ℕ, ◌/◌, ◌%◌, Bool, true, ◌||◌, ◌==◌, nat_lt, List, []}
-use Rattle.std.specs.Prelude.{◌∷◌, if◌then◌else◌}
+use Rattle.std.specs.Prelude.{ℕ, ◌/◌, ◌%◌, Bool, true, ◌||◌, ◌==◌, nat_lt, List, [], ◌∷◌, if◌then◌else◌}
 use Rattle.std.specs.{Fmt.digit_glyph, List.flat_map, Str.byte}
 
 -- a byte that is escaped: a control character, a space, `"`, `<`, `>`, a backquote, or a non-ASCII byte

@@ -1,19 +1,17 @@
 -- Worked examples: what the specification means for small inputs. They are theorems, proved as contracts in
 -- `src/laws.rt`: `examples_of_lines` and those after it.
-use Rattle.std.specs.Prelude.{◌≡◌, ◌-◌, ◌^◌, ℕ, Bool, true, false, List, [], ◌∷◌}
-use Rattle.std.specs.Prelude.{◌++◌}
-use Rattle.std.specs.Prelude.{Option, Some, None, Ok, Err, codes, replicate, take}
+use Rattle.std.specs.Prelude.{◌≡◌, ◌-◌, ◌^◌, ℕ, Bool, true, false, List, [], ◌∷◌, ◌++◌, Option, Some, None}
+use Rattle.std.specs.Prelude.{Ok, Err, codes, replicate, take}
 use Rattle.url.specs.declared.error.ParseError.TheVariants.{EmptyHost, RelativeUrlWithoutBase}
 use Rattle.url.specs.declared.error.ParseError.TheVariants.{SetHostOnCannotBeABaseUrl}
-use Rattle.texting_robots.specs.declared.parser.statement.Kind.TheVariants as kind
 use Rattle.texting_robots.specs.{Address.robots_address, Decision.IsDecidingLine, Delay.IsDelay}
-use Rattle.texting_robots.specs.{Escape.escaped, Group.IsCaptured, Rules.AreRulesFor, Order.IsBefore}
-use Rattle.texting_robots.specs.Line.{AreFileLinesOf, AreLinesOf, HasLines, LineValue}
-use Rattle.texting_robots.specs.Line.{UserAgent, Allow, Disallow, Sitemap, CrawlDelay, Raw}
-use Rattle.texting_robots.specs.{Prepared.prepared, Robot.IsRobotOf, Robot.RobotValue}
+use Rattle.texting_robots.specs.{Escape.escaped, Group.IsCaptured, Order.IsBefore, Prepared.prepared}
+use Rattle.texting_robots.specs.{Robot.IsRobotOf, Robot.RobotValue, Statement.IsStatement, Verdict.IsVerdict}
+use Rattle.texting_robots.specs.Rules.{AreRulesFor, IsDelayFor, PlacedRule, unplaced}
+use Rattle.texting_robots.specs.Line.{AreFileLinesOf, AreLinesOf, HasLines, LineValue, UserAgent, Allow, Raw}
+use Rattle.texting_robots.specs.Line.{Disallow, Sitemap, CrawlDelay}
 use Rattle.texting_robots.specs.Pattern.{IsOverlong, Matches, MatchesStars, collapsed}
-use Rattle.texting_robots.specs.Rules.{IsDelayFor, PlacedRule, unplaced}
-use Rattle.texting_robots.specs.{Statement.IsStatement, Verdict.IsVerdict}
+use Rattle.texting_robots.specs.declared.parser.statement.Kind.TheVariants as kind
 
 -- ---- lines
 

@@ -2,14 +2,13 @@
 -- that both agree: `each_text_has_one_cut`, `each_text_has_its_lines`, `each_file_has_its_lines`,
 -- `each_agent_has_its_rules`, `each_agent_has_its_delay`, `each_file_has_its_sitemaps`. No contract of a
 -- robot depends on these functions.
-use Rattle.std.specs.Prelude.{ℕ, ◌+◌, Bool, true, false, List, Option, Some, None, filter, map}
-use Rattle.std.specs.Prelude.{slice_get, take, if◌then◌else◌}
+use Rattle.std.specs.Prelude.{ℕ, ◌+◌, Bool, true, false, List, Option, Some, None, filter, map, slice_get}
+use Rattle.std.specs.Prelude.{take, if◌then◌else◌}
 use Rattle.std.specs.List.{before_first, enumerate_from, filter_map, last_or, list_any}
 use Rattle.std.specs.{Option.option_or, Str.is_utf8}
-use Rattle.texting_robots.specs.Group.{group_name, is_agent}
+use Rattle.texting_robots.specs.{Group.group_name, Group.is_agent, Escape.escaped, Robot.file_limit}
 use Rattle.texting_robots.specs.Line.{LineValue, Allow, Disallow, Sitemap, delay_in, nul_as_lf, without_front}
 use Rattle.texting_robots.specs.Rules.{PlacedRule, Rule, placed, unplaced}
-use Rattle.texting_robots.specs.{Escape.escaped, Robot.file_limit}
 use Rattle.texting_robots.specs.Internal.{Captured.is_captured, Cut.bodies_of, Line.lines_of}
 -- the cut of a text, its delay, and whether a line is captured
 pub use Rattle.texting_robots.specs.Internal.{Cut.cut, Delay.delay_of, Captured.is_captured}

@@ -11,15 +11,8 @@ pub mod Delay
 pub mod Line
 pub mod Captured
 pub mod Group
-pub mod Haystack
-pub mod Border
-pub mod Stars
 pub mod Segments
-pub mod Entries
-pub mod Prefilter
 pub mod Agents
 pub mod Robot
 pub mod Site
-pub mod Names
-pub mod Own
 pub mod Normalized

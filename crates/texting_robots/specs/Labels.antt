@@ -1,14 +1,11 @@
 -- The lines of a file with their membership in a crawler's group.
-use Rattle.std.specs.Prelude.{◌≡◌, ◌⊎◌, ℕ, ◌+◌, ◌<◌, Bool, true, false, not, ◌||◌}
-use Rattle.std.specs.Prelude.{List}
-use Rattle.std.specs.Prelude.{IsTrue, Some, drop, if◌then◌else◌, map, slice_get, take}
+use Rattle.std.specs.Prelude.{◌≡◌, ◌⊎◌, ℕ, ◌+◌, ◌<◌, Bool, true, false, not, ◌||◌, List, IsTrue, Some, drop}
+use Rattle.std.specs.Prelude.{if◌then◌else◌, map, slice_get, take}
 use Rattle.std.specs.{List.enumerate_from, List.list_any, List.position_or_len, Str.str_to_ascii_lowercase}
-use Rattle.texting_robots.specs.declared.labels.LabeledLine.{LabeledLine}
-use Rattle.texting_robots.specs.declared.labels.Membership.{Membership}
+use Rattle.texting_robots.specs.{declared.labels.LabeledLine.LabeledLine, Line.LineValue, Line.by_value}
+use Rattle.texting_robots.specs.{declared.labels.Membership.Membership, Internal.Captured.is_captured}
 use Rattle.texting_robots.specs.declared.labels.Membership.TheVariants.{Own, Other, Ungrouped}
 use Rattle.texting_robots.specs.Group.{IsCaptured, is_agent, is_agent_named, is_group, passes_at}
-use Rattle.texting_robots.specs.{Line.LineValue, Line.by_value}
-use Rattle.texting_robots.specs.Internal.Captured.{is_captured}
 
 -- a line with its number, counted from 1, and its membership
 pub record Label : Type 0 where

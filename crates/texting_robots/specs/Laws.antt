@@ -1,11 +1,8 @@
 -- Predicates of the theorems in `laws`.
-use Rattle.std.specs.Prelude.{◌≡◌, ◌↔◌, ℕ, Bool, ◌==◌, ◌&&◌, List}
-use Rattle.std.specs.Prelude.{[]}
-use Rattle.std.specs.Prelude.{◌∷◌, slice_index, if◌then◌else◌}
+use Rattle.std.specs.Prelude.{◌≡◌, ◌↔◌, ℕ, Bool, ◌==◌, ◌&&◌, List, [], ◌∷◌, slice_index, if◌then◌else◌}
 use Rattle.texting_robots.specs.Executable.{delay_for, rules_for, sitemaps_in}
-use Rattle.texting_robots.specs.Rules.{IsRejected}
-use Rattle.texting_robots.specs.{Cut.cr, Cut.lf}
-use Rattle.texting_robots.specs.{Line.Allow, Line.Disallow, Line.LineValue, Verdict.IsVerdict}
+use Rattle.texting_robots.specs.{Rules.IsRejected, Cut.cr, Cut.lf, Verdict.IsVerdict}
+use Rattle.texting_robots.specs.Line.{Allow, Disallow, LineValue}
 
 -- each CR LF replaced with LF: the text without each CR that precedes an LF (`slice_index` is 0 past the
 -- end)

@@ -1,9 +1,9 @@
 -- Which line has which content, and which lines a text has.
-use Rattle.std.specs.Prelude.{◌≡◌, ◌⊎◌, ℕ, ◌==◌, Bool, true, false, List, [], ◌∷◌}
-use Rattle.std.specs.Prelude.{◌++◌, map, codes, IfSome, IsSome, Option, Some, None, if◌then◌else◌}
-use Rattle.std.specs.List.{AllZip}
+use Rattle.std.specs.Prelude.{◌≡◌, ◌⊎◌, ℕ, ◌==◌, Bool, true, false, List, [], ◌∷◌, ◌++◌, map, codes, IfSome}
+use Rattle.std.specs.Prelude.{IsSome, Option, Some, None, if◌then◌else◌}
+use Rattle.std.specs.{List.AllZip}
 use Rattle.texting_robots.specs.Cut.{Pair, IsCut, joined, lf}
-use Rattle.texting_robots.specs.{declared.parser.Line.Line, declared.parser.statement.Kind.Kind}
+use Rattle.texting_robots.specs.declared.parser.{Line.Line, statement.Kind.Kind}
 use Rattle.texting_robots.specs.{Delay.IsDelay, Pattern.IsSuffix, Statement.IsStatement}
 use Rattle.texting_robots.specs.declared.parser.Line.TheVariants as line
 use Rattle.texting_robots.specs.declared.parser.statement.Kind.TheVariants as kind

@@ -1,9 +1,8 @@
 -- What the main theorem states about a result.
 use Rattle.std.specs.Prelude.{Bool, List, ℕ, Result, IfErr, IfOk}
-use Rattle.texting_robots.specs.declared.error.Error.{Error}
+use Rattle.texting_robots.specs.{declared.error.Error.Error, Decision.LooksForRules, Error.IsMemoryErrorOr}
+use Rattle.texting_robots.specs.{Line.LineValue, Verdict.IsVerdict, View.ViewValue}
 use Rattle.texting_robots.specs.Rules.{IsRejected, PlacedRule, unplaced}
-use Rattle.texting_robots.specs.{Decision.LooksForRules, Error.IsMemoryErrorOr, Line.LineValue}
-use Rattle.texting_robots.specs.{Verdict.IsVerdict, View.ViewValue}
 
 -- `answer` is the result for an agent, lines that hold these rules for it, and the text of a view. Want of
 -- memory aside, it is an error exactly if some line holds an overlong rule for the agent. Otherwise it is

@@ -1,8 +1,7 @@
 -- The group lines that apply to a crawler, by value.
 use Rattle.std.specs.Prelude.{ℕ, Option}
-use Rattle.texting_robots.specs.{Executable.rule_in, Rules.PlacedRule, Rules.placed}
-use Rattle.texting_robots.specs.{Line.LineValue, Line.by_value, Line.delay_in}
-use Rattle.texting_robots.specs.declared.site.lines.GroupLine.{GroupLine}
+use Rattle.texting_robots.specs.{Executable.rule_in, Rules.PlacedRule, Rules.placed, Line.LineValue}
+use Rattle.texting_robots.specs.{Line.by_value, Line.delay_in, declared.site.lines.GroupLine.GroupLine}
 
 -- a group line, its number, counted from 1, and the number of the first line of the run of user-agent lines
 -- above it, or 0 if there is none

@@ -1,9 +1,8 @@
 -- What contracts state about a robot.
 use Rattle.std.specs.Prelude.{◌≡◌, ◌↔◌, ℕ, [], Bool, List, Option}
-use Rattle.texting_robots.specs.Rules.{AreRulesFor, AreSitemapsOf, IsDelayFor, IsRejected, PlacedRule}
-use Rattle.texting_robots.specs.Rules.{unplaced}
-use Rattle.texting_robots.specs.{Cost.cost_of, Decision.IsDecidingLine, Decision.LooksForRules, Line.HasLines}
-use Rattle.texting_robots.specs.{Line.LineValue, Verdict.IsVerdict, View.ViewValue}
+use Rattle.texting_robots.specs.{Rules.AreRulesFor, Cost.cost_of, Decision.IsDecidingLine, Line.HasLines}
+use Rattle.texting_robots.specs.{Decision.LooksForRules, Line.LineValue, Verdict.IsVerdict, View.ViewValue}
+use Rattle.texting_robots.specs.Rules.{AreSitemapsOf, IsDelayFor, IsRejected, PlacedRule, unplaced}
 
 -- how many bytes of a file are used
 abbrev pub file_limit : ℕ

@@ -1,12 +1,10 @@
 -- What applies to a crawler of the lines of a file. Rules and delays are specified by the positions of
 -- lines, counted from 0, and sitemaps line by line.
-use Rattle.std.specs.Prelude.{◌≡◌, ◌≢◌, ◌⊎◌, ◌↔◌, ℕ, ◌+◌, ◌<◌, ◌≤◌}
-use Rattle.std.specs.Prelude.{All, Bool, List, [], ◌∷◌, ◌++◌}
-use Rattle.std.specs.Prelude.{Option, Some, None, AllPairs, Contains, IsTrue, map, slice_get}
-use Rattle.std.specs.Prelude.{if◌then◌else◌, option_map}
-use Rattle.std.specs.Str.{is_utf8}
-use Rattle.texting_robots.specs.{Escape.escaped, Group.IsCaptured, Group.group_name, Group.is_agent}
-use Rattle.texting_robots.specs.{Group.passes_at, Pattern.IsOverlong}
+use Rattle.std.specs.Prelude.{Bool, Option, AllPairs, Contains, IsTrue, slice_get, if◌then◌else◌, option_map}
+use Rattle.std.specs.Prelude.{◌≡◌, ◌≢◌, ◌⊎◌, ◌↔◌, ℕ, ◌+◌, ◌<◌, ◌≤◌, All, List, [], ◌∷◌, ◌++◌, Some, None, map}
+use Rattle.std.specs.{Str.is_utf8}
+use Rattle.texting_robots.specs.{Escape.escaped, Pattern.IsOverlong}
+use Rattle.texting_robots.specs.Group.{IsCaptured, group_name, is_agent, passes_at}
 use Rattle.texting_robots.specs.Line.{Allow, CrawlDelay, Disallow, LineValue, Sitemap}
 
 -- the line is at the position, and is captured for the crawler, that is, applies to it

@@ -1,7 +1,6 @@
 //! Percent-encoding of patterns and match targets.
 ghost use Rattle.std.specs.Prelude.{◌≡◌, ◌++◌, All, IsOk, OnErr, OnOk, IfOk, false, length, string_bytes};
-ghost use Rattle.std.specs.Cow.{cow_str_bytes};
-ghost use Rattle.std.specs.List.{list_any};
+ghost use Rattle.std.specs.{Cow.cow_str_bytes, List.list_any};
 ghost use Rattle.texting_robots.specs.Escape.{escaped, is_escaped};
 
 use percent_encoding::{AsciiSet, CONTROLS, ascii_set, percent_encode, utf8_percent_encode};

@@ -2,11 +2,9 @@
 //! to the crawler. A first pass over a file finds the group name. A tracker that reads the lines in order then finds
 //! the captured ones.
 ghost use Rattle.std.specs.Prelude.{◌≡◌, not, false};
-ghost use Rattle.std.specs.Str.{str_to_ascii_lowercase};
-ghost use Rattle.texting_robots.specs.Group.{group_name};
-ghost use Rattle.texting_robots.specs.Labels.{is_named};
-ghost use Rattle.texting_robots.specs.Line.{by_value};
-ghost use Rattle.texting_robots.specs.Executable.{delay_before_agents};
+ghost use Rattle.std.specs.{Str.str_to_ascii_lowercase};
+ghost use Rattle.texting_robots.specs.{Group.group_name, Labels.is_named, Line.by_value};
+ghost use Rattle.texting_robots.specs.{Executable.delay_before_agents};
 ghost use Rattle.texting_robots.specs.Internal.Group.{captured_ahead, start_of, step};
 
 use crate::parser::{Kind, LazyLines, Line};

@@ -1,13 +1,12 @@
 //! Texts that patterns are matched against, with or without counted looks. A look is one comparison of a byte of the
 //! text.
-ghost use Rattle.std.specs.Prelude.{◌≡◌, ◌≢◌, ℕ, ◌+◌, ◌-◌, ◌<◌, ◌≤◌, ◌↔◌, ◌++◌, List, [], IfNone, IfSome, IsTrue, MatchOption, codes, drop, length};
+ghost use Rattle.std.specs.Prelude.{◌≡◌, ◌≢◌, ℕ, ◌+◌, ◌-◌, ◌<◌, ◌≤◌, ◌↔◌, ◌++◌, List, [], IfNone, IfSome};
+ghost use Rattle.std.specs.Prelude.{IsTrue, MatchOption, codes, drop, length};
 ghost use Rattle.std.specs.Option.{option_map_or};
 ghost use Rattle.memchr.specs.Find.{OccursAt};
-ghost use Rattle.texting_robots.specs.Internal.Border.{IsTable};
-ghost use Rattle.texting_robots.specs.Internal.Prefilter.{AreApart, Meets, pair_set};
-ghost use Rattle.texting_robots.specs.Internal.Stars.{IsRestAfterFirst, OccursNowhere};
+ghost use Rattle.texting_robots.specs.Internal.Segments.{IsTable, AreApart, Meets, pair_set, OccursNowhere};
+ghost use Rattle.texting_robots.specs.Internal.Segments.{IsRestAfterFirst, PassesTo};
 ghost use Rattle.texting_robots.specs.Pattern.{IsSuffix};
-ghost use Rattle.texting_robots.specs.Internal.Haystack.{PassesTo};
 
 use crate::prefilter::bigrams::BigramSet;
 use crate::prefilter::head::front;
@@ -192,7 +191,7 @@ pub(crate) struct Uncounted<'a> {
 
 impl<'a> Model for Uncounted<'a> {
     ghost use Rattle.std.specs.Prelude.{◌≡◌, ℕ, List};
-    ghost use Rattle.texting_robots.specs.Internal.Prefilter.{ArePairsOf, first_eight};
+    ghost use Rattle.texting_robots.specs.Internal.Segments.{ArePairsOf, first_eight};
 
     ghost Value = { List ℕ };
 

@@ -2,12 +2,10 @@
 //! does. A group line is an Allow, a Disallow or a Crawl-delay.
 ghost use Rattle.std.specs.Prelude.{◌≡◌, ◌≤◌, IfOk, IsOk, MatchOption, length};
 ghost use Rattle.std.specs.Iterator.{YieldsFirstBy, item_count};
-ghost use Rattle.texting_robots.specs.Group.{group_name};
+ghost use Rattle.texting_robots.specs.{Group.group_name, Line.HasLines, Line.by_value, Executable.file_lines};
+ghost use Rattle.texting_robots.specs.{Executable.placed_rules, Internal.Group.membership_by};
 ghost use Rattle.texting_robots.specs.Labels.{is_named, label_by_value, labels_of};
-ghost use Rattle.texting_robots.specs.Line.{HasLines, by_value};
-ghost use Rattle.texting_robots.specs.Executable.{file_lines, placed_rules};
 ghost use Rattle.texting_robots.specs.Rules.{HasNoRulesOrSitemaps, IsFirstOverlong, IsRejected};
-ghost use Rattle.texting_robots.specs.Internal.Group.{membership_by};
 
 use crate::groups::{GroupTracker, group_for};
 use crate::parser::{LazyLines, Line, lazy_file_lines};
@@ -56,9 +54,8 @@ pub struct LabeledLineIter<'n, 'a> {
 
 impl<'n, 'a> Model for LabeledLineIter<'n, 'a> {
     ghost use Rattle.std.specs.Prelude.{◌≡◌, ◌+◌, ◌<◌, ◌^◌, List, length};
-    ghost use Rattle.std.specs.Option.{IfSome};
-    ghost use Rattle.std.specs.Str.{str_to_ascii_lowercase};
-    ghost use Rattle.texting_robots.specs.Labels.{Label};
+    ghost use Rattle.std.specs.{Option.IfSome, Str.str_to_ascii_lowercase};
+    ghost use Rattle.texting_robots.specs.{Labels.Label};
     ghost use Rattle.texting_robots.specs.Internal.Group.{captured_ahead, labels_from};
 
     ghost Value = { List Label };

@@ -1,7 +1,6 @@
 //! Comparisons of many bytes at once.
 ghost use Rattle.std.specs.Prelude.{◌≡◌, ◌==◌, if◌then◌else◌};
-ghost use Rattle.std.specs.List.{list_all};
-ghost use Rattle.std.specs.Int.{trailing_zeros, w64};
+ghost use Rattle.std.specs.{List.list_all, Int.trailing_zeros, Int.w64};
 
 /// How many bytes are compared at once.
 pub(crate) const LANES: usize = 32;

@@ -1,28 +1,26 @@
 //! Theorems about the specification. Each is the contract of an empty function.
 ghost use Rattle.std.specs.Prelude.{◌≡◌, ◌≢◌, ◌<◌, ◌↔◌, ◌⊎◌, ℕ, Bool, true, false, not, List, [], ◌∷◌, ◌++◌};
-ghost use Rattle.std.specs.Prelude.{Any, ◌+◌, Option, Some, None, IsTrue, IsPermutation, Contains, codes, filter, length, slice_get};
+ghost use Rattle.std.specs.Prelude.{Any, ◌+◌, Option, Some, None, IsTrue, IsPermutation, Contains, codes};
+ghost use Rattle.std.specs.Prelude.{filter, length, slice_get};
 ghost use Rattle.std.specs.declared.cmp.Ordering.TheVariants.{Less, Equal};
-ghost use Rattle.std.specs.List.{filter_map, list_any};
-ghost use Rattle.std.specs.Str.{str_to_ascii_lowercase};
-ghost use Rattle.texting_robots.specs.declared.parser.statement.Kind.{Kind};
-ghost use Rattle.texting_robots.specs.Cut.{IsCut, Pair};
-ghost use Rattle.texting_robots.specs.Decision.{IsDecidingRule, IsDecidingLine};
-ghost use Rattle.texting_robots.specs.Delay.{IsDelay};
-ghost use Rattle.texting_robots.specs.Examples as example;
+ghost use Rattle.std.specs.{List.filter_map, List.list_any, Str.str_to_ascii_lowercase};
+ghost use Rattle.texting_robots.specs.{declared.parser.statement.Kind.Kind, Decision.IsDecidingRule};
+ghost use Rattle.texting_robots.specs.{Decision.IsDecidingLine, Statement.IsStatement, Verdict.robots_file};
+ghost use Rattle.texting_robots.specs.{Delay.IsDelay, Groups.lines_for, Order.pattern_cmp, Verdict.IsVerdict};
+ghost use Rattle.texting_robots.specs.{Cut.IsCut, Cut.Pair, Groups.groups, Order.IsBefore, Trim.IsTrimOf};
 ghost use Rattle.texting_robots.specs.Group.{IsCaptured, group_name, is_agent, is_group};
-ghost use Rattle.texting_robots.specs.Groups.{groups, lines_for};
 ghost use Rattle.texting_robots.specs.Laws.{IsSameKind, Same, SameButSitemaps, crlf_to_lf};
-ghost use Rattle.texting_robots.specs.Line.{AreFileLinesOf, AreLinesOf, HoldRangesOf, LineValue, delay_in, is_raw, is_sitemap};
+ghost use Rattle.texting_robots.specs.Line.{AreFileLinesOf, AreLinesOf, HoldRangesOf, LineValue, delay_in};
+ghost use Rattle.texting_robots.specs.Line.{is_raw, is_sitemap};
 ghost use Rattle.texting_robots.specs.Labels.{AreLabelsOf, Label, labels_of};
-ghost use Rattle.texting_robots.specs.Order.{IsBefore, pattern_cmp};
-ghost use Rattle.texting_robots.specs.Executable.{captured_delays, delay_for, file_lines, parsed, placed_in, placed_rules};
-ghost use Rattle.texting_robots.specs.Executable.{cut, delay_of, is_captured, rules_for, sitemaps_in};
+ghost use Rattle.texting_robots.specs.Executable.{captured_delays, delay_for, file_lines, parsed, placed_in};
+ghost use Rattle.texting_robots.specs.Executable.{placed_rules, cut, delay_of, is_captured, rules_for};
+ghost use Rattle.texting_robots.specs.Executable.{sitemaps_in};
 ghost use Rattle.texting_robots.specs.Pattern.{IsOverlong, Matches, MatchesWith, collapsed};
 ghost use Rattle.texting_robots.specs.Robot.{AnswerAlike, IsRobotOf, RobotValue};
-ghost use Rattle.texting_robots.specs.Rules.{AreRulesFor, AreSitemapsOf, HoldsRule, IsDelayFor, IsRejected, PlacedRule, Rule, unplaced};
-ghost use Rattle.texting_robots.specs.Statement.{IsStatement};
-ghost use Rattle.texting_robots.specs.Trim.{IsTrimOf};
-ghost use Rattle.texting_robots.specs.Verdict.{IsVerdict, robots_file};
+ghost use Rattle.texting_robots.specs.Rules.{AreRulesFor, AreSitemapsOf, HoldsRule, IsDelayFor, IsRejected};
+ghost use Rattle.texting_robots.specs.Rules.{PlacedRule, Rule, unplaced};
+ghost use Rattle.texting_robots.specs.Examples as example;
 
 /// Every input can be split into lines. Each value in them is a range of bytes of its line's content, except the `/` of an empty
 /// Disallow. Used by programs that show values: these are bytes of the input.

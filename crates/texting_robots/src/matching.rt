@@ -1,10 +1,7 @@
 //! Whether a pattern matches a text: its segments are searched for from left to right.
 ghost use Rattle.std.specs.Prelude.{◌≡◌, ◌+◌, ◌*◌, ◌≤◌, ◌↔◌, [], IsTrue, length};
-ghost use Rattle.texting_robots.specs.Cost.{looks_of};
-ghost use Rattle.texting_robots.specs.Pattern.{Matches};
-ghost use Rattle.texting_robots.specs.Internal.Haystack.{PassesTo};
-ghost use Rattle.texting_robots.specs.Internal.Segments.{EndsAs, IsEnding, IsNotLast};
-ghost use Rattle.texting_robots.specs.View.{LooksAtMost, seen_of};
+ghost use Rattle.texting_robots.specs.{Cost.looks_of, Pattern.Matches, View.LooksAtMost, View.seen_of};
+ghost use Rattle.texting_robots.specs.Internal.Segments.{PassesTo, EndsAs, IsEnding, IsNotLast};
 
 use crate::haystack::Haystack;
 use crate::segments::{Ending, Pattern};

@@ -1,15 +1,12 @@
 //! Patterns of rules: `*` matches any bytes, and `$` matches at the end of the text.
-ghost use Rattle.std.specs.Prelude.{◌≡◌, ◌≢◌, ◌+◌, ◌*◌, ◌≤◌, ◌↔◌, ◌==◌, IsTrue, IfErr, IfOk, IsErrOf, OnOk, length, string_bytes};
-ghost use Rattle.std.specs.Cmp.{partial_order_from_own_ties};
-ghost use Rattle.std.specs.Cmp.Lexicographic.{pointwise};
-ghost use Rattle.std.specs.Cmp.Rules.{comparing};
+ghost use Rattle.std.specs.Prelude.{◌≡◌, ◌≢◌, ◌+◌, ◌*◌, ◌≤◌, ◌↔◌, ◌==◌, IsTrue, IfErr, IfOk, IsErrOf, OnOk};
+ghost use Rattle.std.specs.Prelude.{length, string_bytes};
+ghost use Rattle.std.specs.Cmp.{partial_order_from_own_ties, Lexicographic.pointwise, Rules.comparing};
 ghost use Rattle.std.specs.Ordering.{as_partial_cmp, on};
-ghost use Rattle.std.proofs.Common.{rules};
-ghost use Rattle.texting_robots.specs.Internal.Stars.{IsCutAtStar};
-ghost use Rattle.texting_robots.specs.Error.{IsMemoryErrorOr};
-ghost use Rattle.texting_robots.specs.Order.{IsBefore, pattern_cmp};
+ghost use Rattle.std.proofs.{Common.rules};
+ghost use Rattle.texting_robots.specs.{Internal.Segments.IsCutAtStar, Error.IsMemoryErrorOr, Order.IsBefore};
+ghost use Rattle.texting_robots.specs.{Order.pattern_cmp, View.LooksAtMost};
 ghost use Rattle.texting_robots.specs.Pattern.{IsOverlong, Matches, MatchesStars, collapsed};
-ghost use Rattle.texting_robots.specs.View.{LooksAtMost};
 
 use crate::error::Error;
 use crate::haystack::{Uncounted, after_first};
@@ -34,8 +31,7 @@ pub struct MinRegex {
 
 impl Model for MinRegex {
     ghost use Rattle.std.specs.Prelude.{◌≡◌, ℕ, List, string_bytes};
-    ghost use Rattle.texting_robots.specs.Internal.Segments.{AreSegments};
-    ghost use Rattle.texting_robots.specs.Pattern.{collapsed};
+    ghost use Rattle.texting_robots.specs.{Internal.Segments.AreSegments, Pattern.collapsed};
 
     ghost Value = { List ℕ };
 

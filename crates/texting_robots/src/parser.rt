@@ -1,14 +1,11 @@
 //! The lines of a robots.txt file. The content of a line is its bytes without the line terminator.
-ghost use Rattle.std.specs.Prelude.{◌≡◌, ◌⊎◌, ◌<◌, ◌≤◌, ◌++◌, ◌∷◌, IfErr, IfOk, None, Some, false, length, map, option_map};
-ghost use Rattle.std.specs.Prelude.{ℕ, List};
+ghost use Rattle.std.specs.Prelude.{◌≡◌, ◌⊎◌, ◌<◌, ◌≤◌, ◌++◌, ◌∷◌, IfErr, IfOk, None, Some, false, length, ℕ};
+ghost use Rattle.std.specs.Prelude.{map, option_map, List};
 ghost use Rattle.std.specs.Iterator.{YieldsFirst, YieldsFirstBy, item_count};
-ghost use Rattle.std.specs.List.{AllZip};
+ghost use Rattle.std.specs.{List.AllZip, Str.str_to_ascii_lowercase};
 ghost use Rattle.texting_robots.specs.Executable.{file_bodies, file_lines, parsed};
-ghost use Rattle.texting_robots.specs.Internal.Cut.{bodies_of, read_as};
-ghost use Rattle.texting_robots.specs.Internal.Line.{line_of, line_with};
-ghost use Rattle.texting_robots.specs.Group.{is_agent, is_agent_named, is_group};
-ghost use Rattle.texting_robots.specs.Labels.{is_named};
-ghost use Rattle.std.specs.Str.{str_to_ascii_lowercase};
+ghost use Rattle.texting_robots.specs.Internal.{Cut.bodies_of, Cut.read_as, Line.line_of, Line.line_with};
+ghost use Rattle.texting_robots.specs.{Group.is_agent, Group.is_agent_named, Group.is_group, Labels.is_named};
 ghost use Rattle.texting_robots.specs.Line.{AreFileBodiesOf, AreFileLinesOf, AreLinesOf, HoldRangesOf};
 ghost use Rattle.texting_robots.specs.Line.{IsLineOf, by_value, delay_in, is_sitemap, nul_as_lf, value_in};
 ghost use Rattle.texting_robots.specs.Line.{without_front};
@@ -84,8 +81,7 @@ pub(crate) struct LazyLine<'a> {
 
 impl<'a> Model for LazyLine<'a> {
     ghost use Rattle.std.specs.Prelude.{◌≡◌};
-    ghost use Rattle.texting_robots.specs.Line.{LineValue};
-    ghost use Rattle.texting_robots.specs.Internal.Line.{line_of};
+    ghost use Rattle.texting_robots.specs.{Line.LineValue, Internal.Line.line_of};
     ghost use Rattle.texting_robots.specs.Internal.Statement.{kind_by, skip_blanks};
 
     ghost Value = { LineValue };
@@ -204,8 +200,7 @@ pub(crate) struct LazyLines<'a> {
 
 impl<'a> Model for LazyLines<'a> {
     ghost use Rattle.std.specs.Prelude.{List, map};
-    ghost use Rattle.texting_robots.specs.Line.{LineValue};
-    ghost use Rattle.texting_robots.specs.Internal.Line.{line_of};
+    ghost use Rattle.texting_robots.specs.{Line.LineValue, Internal.Line.line_of};
 
     ghost Value = { List LineValue };
 

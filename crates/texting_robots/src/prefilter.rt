@@ -1,7 +1,6 @@
 //! The prefilter: conditions on a text without which a pattern can't match it. Most rules are skipped by them.
 ghost use Rattle.std.specs.Prelude.{◌≡◌, ◌+◌, ◌≤◌, length, max, true};
-ghost use Rattle.texting_robots.specs.Internal.Prefilter.{AreApart, ArePrefilter, ending_pairs};
-ghost use Rattle.texting_robots.specs.Internal.Segments.{IsEnding};
+ghost use Rattle.texting_robots.specs.Internal.Segments.{AreApart, ArePrefilter, ending_pairs, IsEnding};
 
 pub(crate) mod bigrams;
 pub(crate) mod head;

@@ -1,14 +1,12 @@
 //! Reads a whole file for one crawler: the rules and the delay that apply, and the sitemaps.
-ghost use Rattle.std.specs.Prelude.{◌≡◌, ◌++◌, [], IfErr, IfOk, IsOk, MatchOption, None, OnOk, false, map, string_bytes, true};
+ghost use Rattle.std.specs.Prelude.{◌≡◌, ◌++◌, [], IfErr, IfOk, IsOk, MatchOption, None, OnOk, false, map};
+ghost use Rattle.std.specs.Prelude.{string_bytes, true};
 ghost use Rattle.std.specs.Option.{IfSome, IsSomeAnd, option_or, option_to_list};
-ghost use Rattle.std.specs.List.{list_any};
-ghost use Rattle.std.specs.Str.{is_utf8, str_to_ascii_lowercase};
-ghost use Rattle.texting_robots.specs.Internal.Entries.{AreEntries, rules_in};
-ghost use Rattle.texting_robots.specs.Error.{IsMemoryErrorOr};
-ghost use Rattle.texting_robots.specs.Escape.{is_escaped};
-ghost use Rattle.texting_robots.specs.Pattern.{IsOverlong};
-ghost use Rattle.texting_robots.specs.Executable.{file_lines, placed_rules, rule_in, rule_with, sitemap_in, sitemaps_in};
-ghost use Rattle.texting_robots.specs.Line.{delay_in};
+ghost use Rattle.std.specs.{List.list_any, Str.is_utf8, Str.str_to_ascii_lowercase};
+ghost use Rattle.texting_robots.specs.Internal.Segments.{AreEntries, rules_in};
+ghost use Rattle.texting_robots.specs.{Error.IsMemoryErrorOr, Escape.is_escaped, Pattern.IsOverlong};
+ghost use Rattle.texting_robots.specs.{Executable.file_lines, Line.delay_in};
+ghost use Rattle.texting_robots.specs.Executable.{placed_rules, rule_in, rule_with, sitemap_in, sitemaps_in};
 ghost use Rattle.texting_robots.specs.Internal.Group.{if_captured, placed, step, text_from};
 ghost use Rattle.texting_robots.specs.Internal.Robot.{IsComputedRobot, IsRejectionOf, rejection_at};
 

@@ -1,15 +1,12 @@
 //! The robot: what a robots.txt file means for one crawler.
-ghost use Rattle.std.specs.Prelude.{◌≡◌, ◌≢◌, ◌+◌, ◌*◌, ◌<◌, ◌≤◌, ◌^◌, IfErr, IfOk, IsOk, None, length, string_bytes, take};
-ghost use Rattle.texting_robots.specs.Cost.{cost_of};
+ghost use Rattle.std.specs.Prelude.{◌≡◌, ◌≢◌, ◌+◌, ◌*◌, ◌<◌, ◌≤◌, ◌^◌, IfErr, IfOk, IsOk, None, length, take};
+ghost use Rattle.std.specs.Prelude.{string_bytes};
+ghost use Rattle.texting_robots.specs.{Cost.cost_of, Error.IsMemoryErrorOr, Line.HasLines, Prepared.prepared};
+ghost use Rattle.texting_robots.specs.{AllocationFree.IsAllocationFree, Prepared.target_of, View.LooksAtMost};
+ghost use Rattle.texting_robots.specs.{Verdict.IsVerdict, Verdict.robots_file, View.seen_of};
 ghost use Rattle.texting_robots.specs.Decision.{IsDecidingLine, IsDecisionOn, LooksForRules};
-ghost use Rattle.texting_robots.specs.Error.{IsMemoryErrorOr};
-ghost use Rattle.texting_robots.specs.Line.{HasLines};
-ghost use Rattle.texting_robots.specs.AllocationFree.{IsAllocationFree};
-ghost use Rattle.texting_robots.specs.Prepared.{prepared, target_of};
 ghost use Rattle.texting_robots.specs.Robot.{IsFileRejected, IsRobotOfFile, file_limit};
 ghost use Rattle.texting_robots.specs.Rules.{HasNoRulesOrSitemaps, unplaced};
-ghost use Rattle.texting_robots.specs.Verdict.{IsVerdict, robots_file};
-ghost use Rattle.texting_robots.specs.View.{LooksAtMost, seen_of};
 
 pub use crate::decision::Decision;
 use crate::error::{Error, TooCostly};

@@ -1,7 +1,7 @@
 //! The segments of a pattern, which are the bytes between its stars, with their Knuth-Morris-Pratt failure tables.
 ghost use Rattle.std.specs.Prelude.{◌≡◌, ℕ, ◌+◌, ◌-◌, ◌≤◌, ◌↔◌, ◌++◌, ◌==◌, IsTrue, IfOk, length, take};
 ghost use Rattle.std.specs.List.{list_all, position_or_len, prefix_len};
-ghost use Rattle.texting_robots.specs.Internal.Border.{IsTable};
+ghost use Rattle.texting_robots.specs.Internal.Segments.{IsTable};
 ghost use Rattle.texting_robots.specs.Internal.Segments.{AddsSegments, AreSegments, Closes, IsCutAtWildcard, IsSpan, is_wildcard, part_of};
 ghost use Rattle.texting_robots.specs.Pattern.{IsOverlong, collapsed, star};
 

@@ -1,19 +1,16 @@
 //! A robots.txt file that is read once for many crawlers.
-ghost use Rattle.std.specs.Prelude.{◌≡◌, ◌≤◌, ◌++◌, [], All, Any, IfErr, IfOk, IsOk, None, OnOk, length, map, slice_get, string_bytes, take};
+ghost use Rattle.std.specs.Prelude.{◌≡◌, ◌≤◌, ◌++◌, [], All, Any, IfErr, IfOk, IsOk, None, OnOk, length, map};
+ghost use Rattle.std.specs.Prelude.{slice_get, string_bytes, take};
 ghost use Rattle.std.specs.List.{filter_map, list_any};
-ghost use Rattle.std.specs.Option.{option_to_list};
-ghost use Rattle.std.specs.Str.{str_to_ascii_lowercase};
-ghost use Rattle.texting_robots.specs.Agents.{agents_in};
-ghost use Rattle.texting_robots.specs.Executable.{captured_delays, file_lines, placed_rules, sitemap_in, sitemaps_in};
-ghost use Rattle.texting_robots.specs.Error.{IsMemoryErrorOr};
+ghost use Rattle.std.specs.{Option.option_to_list, Str.str_to_ascii_lowercase};
+ghost use Rattle.texting_robots.specs.{Agents.agents_in, Error.IsMemoryErrorOr, Line.HasLines, Line.by_value};
+ghost use Rattle.texting_robots.specs.{Labels.is_named, Pattern.IsOverlong, Robot.IsFileRejected};
+ghost use Rattle.texting_robots.specs.{Robot.IsRobotOfFile, Robot.IsRobotWithoutSitemaps, Robot.file_limit};
+ghost use Rattle.texting_robots.specs.Executable.{captured_delays, file_lines, placed_rules, sitemap_in};
+ghost use Rattle.texting_robots.specs.Executable.{sitemaps_in};
 ghost use Rattle.texting_robots.specs.Group.{group_name, is_agent};
-ghost use Rattle.texting_robots.specs.Line.{HasLines, by_value};
-ghost use Rattle.texting_robots.specs.Labels.{is_named};
-ghost use Rattle.texting_robots.specs.Pattern.{IsOverlong};
-ghost use Rattle.texting_robots.specs.Robot.{IsFileRejected, IsRobotOfFile, IsRobotWithoutSitemaps, file_limit};
 ghost use Rattle.texting_robots.specs.Rules.{AreRulesFor, AreSitemapsOf, HasNoRulesOrSitemaps, IsDelayFor};
-ghost use Rattle.texting_robots.specs.Internal.Entries.{AreEntries, rules_in};
-ghost use Rattle.texting_robots.specs.Internal.Group.{text_from};
+ghost use Rattle.texting_robots.specs.Internal.{Segments.AreEntries, Segments.rules_in, Group.text_from};
 ghost use Rattle.texting_robots.specs.OwnLines.{delay_of, rule_of};
 
 mod lines;

@@ -1,9 +1,9 @@
 -- The parts of a directive that has a colon after its field name: what is before and after a byte, what is
 -- between spaces and tabs, and the field name, which is one of the usual names.
-use Rattle.std.proofs.lemmas.Grind.{common_steps}
-use Rattle.std.proofs.Common.{rules, take, append-nil, append_assoc}
-use Rattle.std.proofs.Common.{◌≡◌, ◌≢◌, inl, inr, ℕ, ◌==◌, true, List, [], ◌∷◌, ◌++◌, ap, arith, drop, length}
-use Rattle.std.proofs.Common.{not, refl, subst, sym, ◌∙◌, reverse, ◌&&◌, Bool, false, bytes_eq, codes, map}
+use Rattle.std.proofs.lemmas.{Grind.common_steps, List.Sums.take_while-cons, Bool.Decides.nat_tests}
+use Rattle.std.proofs.Common.{rules, take, append-nil, append_assoc, ◌≡◌, ◌≢◌, inl, inr, ℕ, ◌==◌, true, List}
+use Rattle.std.proofs.Common.{[], ◌∷◌, ◌++◌, ap, arith, drop, length, not, refl, subst, sym, ◌∙◌, reverse}
+use Rattle.std.proofs.Common.{◌&&◌, Bool, false, bytes_eq, codes, map}
 use Rattle.std.specs.List.{AllByRecursion as Each, position_or_len, Contains, list_all, list_any}
 use Rattle.std.specs.{Char.to_ascii_lowercase, Str.str_to_ascii_lowercase}
 use Rattle.std.proofs.Math.Seq.{drop-append-add, drop-append_seam, take-append_seam}
@@ -13,15 +13,12 @@ use Rattle.robots_warnings.specs.FieldNames.{is_space_or_tab, without_end, witho
 use Rattle.robots_warnings.specs.FieldNames.{is_any_accepted, is_without_colon, name_in}
 use Rattle.robots_warnings.specs.Contents.{raw_value, comment_of, tail_of}
 use Rattle.robots_warnings.specs.Rules.{after_byte, before_byte}
-use Rattle.std.proofs.lemmas.List.Sums.{take_while-cons}
 use Rattle.texting_robots.specs.Statement.{field_names, IsAfterColon, IsBlank, IsStatement, StartsValue}
-use Rattle.texting_robots.specs.Trim.{IsTrimOf}
+use Rattle.texting_robots.specs.{Trim.IsTrimOf, declared.parser.statement.Kind.Kind}
 use Rattle.rfc9309_laws.proofs.KeyedLemmas.{leading_gone, word_of}
 use Rattle.rfc9309_laws.proofs.{HasFormLemmas.leading, SyntaxLemmas.each_weaker}
-use Rattle.std.proofs.lemmas.Bool.Decides.{nat_tests}
-use Rattle.texting_robots.proofs.TrimLemmas.{each_append}
-use Rattle.texting_robots.specs.declared.parser.statement.Kind.{Kind}
-use Rattle.texting_robots.specs.Internal.Statement.{IsOptionalComment}
+use Rattle.texting_robots.proofs.{TrimLemmas.each_append}
+use Rattle.texting_robots.specs.Internal.{Statement.IsOptionalComment}
 use Rattle.rfc9309_laws.specs.Rfc9309 as rfc
 
 -- ---- the first occurrence of a byte

@@ -1,32 +1,30 @@
 -- Which lines are empty Disallows, what `empty-disallow` says of rules, and what it means if no line has it.
-use Rattle.std.proofs.lemmas.Bool.{or_right, and_parts, not-true, cases_lt, false≢true}
-use Rattle.std.proofs.Common.{rules, ◌≡◌, ◌↔◌, ◌==◌, ◌&&◌, ◌||◌, ℕ, Bool, true, false, List, [], ◌∷◌, None}
-use Rattle.std.proofs.Common.{Some, ap, arith, codes, if◌then◌else◌, inl, inr, map, refl, slice_get}
-use Rattle.std.proofs.Common.{subst, suc, sym, zero, ◌∙◌, ◌<◌, Contains, Option, length, not}
 use Rattle.std.specs.Prelude.{is_some}
-use Rattle.std.proofs.lemmas.{Grind.common_steps, Bool.cases_Bool, Bool.eq-eqb, Bool.eqb-true, Bool.or_cases}
+use Rattle.std.proofs.lemmas.Bool.{or_right, and_parts, not-true, cases_lt, false≢true, cases_Bool, eq-eqb}
+use Rattle.std.proofs.lemmas.Bool.{eqb-true, or_cases}
+use Rattle.std.proofs.Common.{rules, ◌≡◌, ◌↔◌, ◌==◌, ◌&&◌, ◌||◌, ℕ, Bool, true, false, List, [], ◌∷◌, None}
+use Rattle.std.proofs.Common.{Some, ap, arith, codes, if◌then◌else◌, inl, inr, map, refl, slice_get, subst}
+use Rattle.std.proofs.Common.{suc, sym, zero, ◌∙◌, ◌<◌, Contains, Option, length, not}
+use Rattle.std.proofs.lemmas.{Grind.common_steps, Option.option_and_then_some, Option.same_Some}
 use Rattle.std.proofs.lemmas.Slice.Zip.{AllZip-left, AllZip-right}
-use Rattle.std.proofs.lemmas.Option.{option_and_then_some, same_Some}
-use Rattle.texting_robots.specs.Callers.{Allow, AreLabelsOf, Disallow, IsLineOf, Label}
-use Rattle.texting_robots.specs.Callers.{LineValue, bodies_read, lines_read, escaped, placed_rules, unplaced}
-use Rattle.texting_robots.specs.Callers.{AreRulesFor, IsDenied, IsVerdict, Matches, PlacedRule, Rule}
+use Rattle.texting_robots.specs.Callers.{Allow, AreLabelsOf, Disallow, IsLineOf, Label, LineValue, lines_read}
+use Rattle.texting_robots.specs.Callers.{bodies_read, escaped, placed_rules, unplaced, AreRulesFor, IsDenied}
+use Rattle.texting_robots.specs.Callers.{IsVerdict, Matches, PlacedRule, Rule}
 use Rattle.texting_robots.specs.Internal.Statement.{kind_by, kind_with, skip_blanks, statement_of, tail_as}
 use Rattle.texting_robots.proofs.StatementLemmas.{one_statement, statement_found}
-use Rattle.robots_warnings.specs.EmptyDisallows.{IsEmptyDisallow, begins_with_d, is_empty_at}
-use Rattle.robots_warnings.specs.EmptyDisallows.{is_empty_disallow, stated_rules}
-use Rattle.robots_warnings.specs.FieldNames.{without_front}
-use Rattle.warnings_laws.proofs.WarningLemmas.{is_stated}
-use Rattle.texting_robots.specs.Pattern.{MatchesWith}
-use Rattle.robots_needless.proofs.DistinctLemmas.{in_filter, to_filter}
-use Rattle.robots_warnings.specs.Conflicts.{IsOverruled, at_line, compared, first_line, is_like}
+use Rattle.robots_warnings.specs.Conflicts.{IsEmptyDisallow, begins_with_d, is_empty_at, is_empty_disallow}
+use Rattle.robots_warnings.specs.Conflicts.{stated_rules, IsOverruled, at_line, compared, first_line, is_like}
 use Rattle.robots_warnings.specs.Conflicts.{overruled_by, overruled_for}
+use Rattle.robots_warnings.specs.{FieldNames.without_front}
+use Rattle.warnings_laws.proofs.{WarningLemmas.is_stated}
+use Rattle.texting_robots.specs.{Pattern.MatchesWith, Line.IsLineWith, Statement.IsStatement}
+use Rattle.robots_needless.proofs.TogetherLemmas.{in_filter, to_filter, unplaced_of}
 use Rattle.warnings_laws.proofs.ConflictLemmas.{first_found, first_some, like_found, like_holds, listed}
 use Rattle.warnings_laws.proofs.ConflictLemmas.{also_listed, if_found, path_wins, unless_found}
 use Rattle.std.specs.{Option.IsSomeAnd, Char.to_ascii_lowercase, List.AllZip, Str.byte}
-use Rattle.texting_robots.proofs.{HeldLemmas.computed_are, LineLemmas.lines_of_file_bodies}
+use Rattle.texting_robots.proofs.{MainTheoremLemmas.computed_are, LineLemmas.lines_of_file_bodies}
 use Rattle.texting_robots.proofs.{BestLemmas.placed_of}
-use Rattle.texting_robots.specs.{Line.IsLineWith, Statement.IsStatement, declared.parser.statement.Kind.Kind}
-use Rattle.robots_needless.proofs.{TogetherLemmas.unplaced_of}
+use Rattle.texting_robots.specs.declared.parser.statement.{Kind.Kind}
 use Rattle.texting_robots.specs.declared.parser.statement.Kind.TheVariants as kind
 
 -- ---- a line

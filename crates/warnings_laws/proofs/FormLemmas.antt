@@ -1,32 +1,29 @@
 -- A line without a warning about its syntax has the form of its kind.
-use Rattle.std.proofs.lemmas.Grind.{common_steps}
+use Rattle.std.proofs.{lemmas.Grind.common_steps, lemmas.Bool.and_parts}
 use Rattle.std.proofs.Common.{◌≡◌, ◌≢◌, ◌⊎◌, inl, inr, ℕ, false, List, [], ◌∷◌, ◌++◌, ap, append-nil, codes}
 use Rattle.std.proofs.Common.{refl, subst, sym, ◌∙◌, ◌==◌, ◌||◌, true, Option, append_assoc, arith, not}
-use Rattle.std.proofs.lemmas.Bool.{not-true, and_parts, cases_Bool, eqb-true, eqb-false, false≢true}
-use Rattle.std.proofs.lemmas.Bool.{not-false, or_cases}
-use Rattle.texting_robots.specs.Callers.{Allow, Disallow, IsLineOf, UserAgent, CrawlDelay, LineValue, Raw}
-use Rattle.texting_robots.specs.Callers.{Sitemap}
+use Rattle.std.proofs.lemmas.Bool.{not-true, cases_Bool, eqb-true, eqb-false, false≢true, not-false, or_cases}
+use Rattle.texting_robots.specs.{Callers.Allow, Cut.lf, Trim.IsTrimOf, declared.parser.statement.Kind.Kind}
+use Rattle.texting_robots.specs.Callers.{Disallow, IsLineOf, UserAgent, CrawlDelay, LineValue, Raw, Sitemap}
 use Rattle.texting_robots.specs.Internal.Statement.{trimmed, IsOptionalComment}
 use Rattle.texting_robots.specs.Statement.{IsBlank, IsStatement}
 use Rattle.texting_robots.proofs.TrimLemmas.{blanks_skipped, each_append, is_trimmed}
 use Rattle.robots_warnings.specs.Contents.{comment_of, has_odd_comment, has_odd_space, raw_value, tail_of}
 use Rattle.robots_warnings.specs.Contents.{are_digits, is_plain_number}
 use Rattle.robots_warnings.specs.FieldNames.{is_misspelled, is_without_colon}
-use Rattle.robots_warnings.specs.Tokens.{is_product_token, is_usual_name}
+use Rattle.robots_warnings.specs.{Crawlers.is_product_token, Crawlers.is_usual_name, Checks.rule_checks}
+use Rattle.robots_warnings.specs.{SeveralValues.several_values, Table.topic_of, File.is_blank}
 use Rattle.warnings_laws.proofs.ColonLemmas.{HasColon, has_colon, tail_is, around, after_is, before_all}
 use Rattle.warnings_laws.proofs.ColonLemmas.{before_is, from_is, from_none}
 use Rattle.warnings_laws.proofs.QuietLemmas.{keyed, named, token, Empty, Path, Star, quiet, raw_cases}
 use Rattle.warnings_laws.proofs.QuietLemmas.{raw_plain, rule_value, not_quiet, in_order, IsQuietDirective}
 use Rattle.warnings_laws.proofs.QuietLemmas.{quiet_off, several_about, value_units}
-use Rattle.robots_warnings.specs.SeveralValues.{several_values}
 use Rattle.warnings_laws.specs.Syntax.{AreQuiet, IsQuietLine, form_of}
 use Rattle.robots_warnings.specs.Rules.{after_byte, before_byte, has}
 use Rattle.rfc9309_laws.proofs.KeyedLemmas.{has_at, word_of}
 use Rattle.std.specs.{List.AllByRecursion as Each, Char.is_ascii_digit, Str.is_utf8}
-use Rattle.texting_robots.specs.{Cut.lf, Trim.IsTrimOf, declared.parser.statement.Kind.Kind}
 use Rattle.rfc9309_laws.proofs.{HasFormLemmas.blank, SyntaxLemmas.passing}
 use Rattle.rfc9309_laws.specs.{LineForms.HasForm}
-use Rattle.robots_warnings.specs.{Checks.rule_checks, Table.topic_of, File.is_blank}
 use Rattle.warnings_laws.proofs.{WarningLemmas.is_stated}
 use Rattle.texting_robots.specs.declared.parser.statement.Kind.TheVariants as kind
 use Rattle.rfc9309_laws.specs.LineForms as form

@@ -1,13 +1,13 @@
 -- Warnings about groups. Lines with `two-delays` can be deleted: the delay of every crawler stays the same. A
 -- line with `replaces-star` is in the group of a crawler that has no Disallow of `*`.
-use Rattle.std.proofs.lemmas.Grind.{common_steps}
-use Rattle.std.proofs.Common.{rules, codes, if◌then◌else◌, inl, inr, refl, subst, sym, ◌≤◌, ◌-◌}
-use Rattle.std.proofs.Common.{◌≡◌, ◌+◌, ◌∙◌, ◌||◌, ℕ, suc, zero, Bool, true, false, not, List, [], ◌∷◌, All}
-use Rattle.std.proofs.Common.{Contains, Option, None, Some, filter, map, slice_get, take, ap, ap₂, arith}
+use Rattle.std.proofs.lemmas.{Grind.common_steps, Option.same_Some, Option.slice_get-map}
+use Rattle.std.proofs.Common.{rules, codes, if◌then◌else◌, inl, inr, refl, subst, sym, ◌≤◌, ◌-◌, ◌≡◌, ◌+◌, ℕ}
+use Rattle.std.proofs.Common.{◌∙◌, ◌||◌, suc, zero, Bool, true, false, not, List, [], ◌∷◌, All, Contains, map}
+use Rattle.std.proofs.Common.{Option, None, Some, filter, slice_get, take, ap, ap₂, arith}
 use Rattle.std.specs.List.{enumerate_from, fold, list_any, count_by}
 use Rattle.std.proofs.lemmas.Bool.{and_parts, cases_Bool, false≢true, cases_lt, not-true, or_cases, or_right}
-use Rattle.std.proofs.lemmas.List.{get_or-map, length-map}
-use Rattle.std.proofs.lemmas.Option.{same_Some, slice_get-map}
+use Rattle.std.proofs.lemmas.List.{get_or-map, length-map, Elements.Contains-append_cases, Sums.length-filter}
+use Rattle.std.proofs.lemmas.List.{Sorted.sum_by-IsPermutation}
 use Rattle.texting_robots.specs.Callers.{AreLabelsOf, CrawlDelay, Label, LineValue, UserAgent, delay_for}
 use Rattle.texting_robots.specs.Callers.{group_name, AreRulesFor, HoldsRule, PlacedRule, Rule, placed_rules}
 use Rattle.texting_robots.specs.Executable.{captured_delays, delay_before_agents}
@@ -16,26 +16,24 @@ use Rattle.texting_robots.specs.Internal.Group.{if_captured, start_of, step}
 use Rattle.texting_robots.proofs.CapturedLemmas.{delays_are, given_captured, only_agents, taken_decides}
 use Rattle.texting_robots.proofs.RulesLemmas.{before_agent, before_agents, first_more}
 use Rattle.robots_warnings.specs.Checks.{Check, position_checks}
-use Rattle.robots_warnings.specs.Positions.{are_different, first_delay, is_other_delay, last_group}
-use Rattle.robots_warnings.specs.Positions.{preceding_with, sole_name, begin_with_one}
+use Rattle.robots_warnings.specs.Positions.{are_different, first_delay, is_other_delay, last_group, sole_name}
+use Rattle.robots_warnings.specs.Positions.{preceding_with, begin_with_one}
 use Rattle.robots_warnings.specs.Warnings.{position_warnings, positions_from, warned, warned_at}
-use Rattle.warnings_laws.proofs.RepeatedLemmas.{among, holds_among, AreFrom, IsFrom, all_labels}
-use Rattle.warnings_laws.proofs.RepeatedLemmas.{first_or_later, here, labels_next}
-use Rattle.warnings_laws.proofs.WarningLemmas.{below_agent}
+use Rattle.warnings_laws.proofs.RepeatedLemmas.{among, holds_among, AreFrom, IsFrom, all_labels, here}
+use Rattle.warnings_laws.proofs.RepeatedLemmas.{first_or_later, labels_next}
+use Rattle.warnings_laws.proofs.{WarningLemmas.below_agent}
 use Rattle.std.proofs.lemmas.List.Folds.{Any-from_list_any, list_any-from_Any}
-use Rattle.texting_robots.specs.Labels.{AreOneRun, IsInOwnGroup}
-use Rattle.texting_robots.proofs.HeldLemmas.{computed_are, one_list}
+use Rattle.texting_robots.specs.{Labels.AreOneRun, Labels.IsInOwnGroup, Line.delay_in}
+use Rattle.texting_robots.proofs.MainTheoremLemmas.{computed_are, one_list}
 use Rattle.robots_warnings.specs.declared.positions.Preceding.TheVariants.{Agent, Delay, Other}
-use Rattle.robots_warnings.specs.Replaced.{denies, is_first_name, is_kept, is_partial, is_replacing}
-use Rattle.robots_warnings.specs.Replaced.{lacks_all, replacing, replacing_from, star_count, star_rules}
+use Rattle.robots_warnings.specs.Closed.{denies, is_first_name, is_kept, is_partial, is_replacing, lacks_all}
+use Rattle.robots_warnings.specs.Closed.{replacing, replacing_from, star_count, star_rules, is_whole_site}
 use Rattle.std.specs.{Option.option_or, Str.str_to_ascii_lowercase}
-use Rattle.std.proofs.{lemmas.List.Elements.Contains-append_cases, lemmas.List.Sorted.sum_by-IsPermutation}
-use Rattle.std.proofs.{lemmas.List.Sums.length-filter, lemmas.Slice.Eq.bytes_eq-Decides}
-use Rattle.texting_robots.specs.{declared.groups.GroupTracker.GroupTracker, Line.delay_in}
+use Rattle.std.proofs.lemmas.Slice.{Eq.bytes_eq-Decides}
+use Rattle.texting_robots.specs.declared.groups.{GroupTracker.GroupTracker}
 use Rattle.robots_needless.specs.{Needless.lines_without}
-use Rattle.robots_warnings.specs.{declared.positions.Preceding.Preceding}
-use Rattle.robots_warnings.specs.{declared.table.Cause.TheVariants.TwoDelays, File.lines_of}
-use Rattle.robots_warnings.specs.{WarningValue.WarningValue, Closed.is_whole_site}
+use Rattle.robots_warnings.specs.{declared.positions.Preceding.Preceding, File.lines_of, Message.WarningValue}
+use Rattle.robots_warnings.specs.declared.table.Cause.{TheVariants.TwoDelays}
 use Rattle.robots_warnings.specs.declared.positions.Preceding.TheVariants as preceding
 
 -- ---- what the warning says of its line

@@ -1,46 +1,39 @@
 -- Every file has an audit, and without `--needless` only one. Needless rules can be deleted together. What a
 -- report tells about the syntax of a file and its verdicts is so.
-use Rattle.std.proofs.lemmas.Grind.{common_steps}
-use Rattle.std.proofs.Common.{rules, false, true, ◌++◌, ap, None, Option, Some, if◌then◌else◌, is_none}
-use Rattle.std.proofs.Common.{◌≡◌, ◌≢◌, ◌≤◌, ◌↔◌, ℕ, Bool, inl, inr, List, [], ◌∷◌, Contains, IsUtf8, arith}
-use Rattle.std.proofs.Common.{codes, length, ltb-false, refl, subst, subst₂, sym, take, take_all, ◌⊎◌, suc}
-use Rattle.std.proofs.Common.{map, not, ◌==◌}
+use Rattle.std.specs.Prelude.{flat_map, is_some, zip, ◌||◌}
+use Rattle.std.proofs.{lemmas.Grind.common_steps, Common.rules}
+use Rattle.std.proofs.Common.{false, true, ◌++◌, ap, None, Option, Some, if◌then◌else◌, is_none, ◌≡◌, ◌≢◌, ℕ}
+use Rattle.std.proofs.Common.{◌≤◌, ◌↔◌, Bool, inl, inr, List, [], ◌∷◌, Contains, IsUtf8, arith, codes, length}
+use Rattle.std.proofs.Common.{ltb-false, refl, subst, subst₂, sym, take, take_all, ◌⊎◌, suc, map, not, ◌==◌}
 use Rattle.std.proofs.lemmas.Bool.{cases_Bool, false_from_ne_true, false≢true, ne_eqb, not-false, or_parts}
 use Rattle.texting_robots.specs.Callers.{IsVerdict, Label, LineValue, PlacedRule, agents_in, placed_rules}
 use Rattle.texting_robots.specs.Callers.{file_limit, rules_for, IsFirstOverlong, IsOverlong, IsRejected, Rule}
 use Rattle.texting_robots.specs.Callers.{delay_for, lines_read, unplaced, IsRobotOfFile, RobotValue}
-use Rattle.texting_robots.specs.Decision.{IsDecisionOn}
-use Rattle.robots_needless.specs.Deleted.{AreFoundIn, HaveSameRobot, IsLeftOf}
+use Rattle.texting_robots.specs.{Decision.IsDecisionOn, declared.decision.Decision.Decision}
+use Rattle.robots_needless.specs.Blocks.{AreFoundIn, HaveSameRobot, IsLeftOf}
 use Rattle.robots_needless.specs.Needless.{AreFound, AreNeedless, lines_without, numbers_of}
 use Rattle.robots_needless.proofs.{LeftLemmas.left_within, LeftLemmas.same_robot, SettledLemmas.nothing_found}
 use Rattle.audit_core.specs.Audit.{AgentValue, AreOfSitemaps, AuditValue, IsAgentAudit, IsAuditOf, IsRuling}
 use Rattle.audit_core.specs.Audit.{IsVerdictOn, VerdictValue, agents_requested, group_of, labeling_agent}
 use Rattle.audit_core.specs.Audit.{labels_requested, naming_line, rejects_some, sitemap_warning}
 use Rattle.audit_core.specs.Audit.{sitemaps_asked, warnings_found, warnings_requested}
-use Rattle.audit_core.specs.{Request.RequestValue, Asked.asked_target, Syntax.syntax_of}
-use Rattle.audit_core.specs.{Needless.needless_warning}
-use Rattle.std.specs.List.{All, AllByRecursion as Each, AllZip}
-use Rattle.std.specs.Bool.{Decides}
+use Rattle.audit_core.specs.{Needless.needless_warning, declared.syntax.Syntax.TheVariants.StandardVerdicts}
+use Rattle.audit_core.specs.{Request.RequestValue, Asked.asked_target, declared.syntax.Syntax.Syntax}
+use Rattle.audit_core.specs.Syntax.{syntax_of, has_standard_verdicts, has_syntax_warning, is_about_syntax}
+use Rattle.audit_core.specs.Syntax.{is_standard, keep_verdicts}
+use Rattle.std.specs.{List.All, List.AllByRecursion as Each, List.AllZip, Bool.Decides}
 use Rattle.std.proofs.lemmas.List.Elements.{All-cons, All-nil, recursion_from_All}
 use Rattle.texting_robots.proofs.RulesLemmas.{none_unplaced, some_overlong}
 use Rattle.texting_robots.proofs.VerdictLemmas.{one_line_decides, one_verdict}
-use Rattle.texting_robots.proofs.HeldLemmas.{rejection_is_computed}
-use Rattle.texting_robots.proofs.{BestLemmas.each_text_answered, ExampleLemmas.overlong_decides}
-use Rattle.robots_needless.specs.declared.needless.NeedlessRule.{NeedlessRule}
-use Rattle.robots_warnings.specs.{Closed.reach_of, Facts.is_too_large}
-use Rattle.texting_robots.specs.declared.decision.Decision.{Decision}
+use Rattle.texting_robots.proofs.{MainTheoremLemmas.rejection_is_computed, BestLemmas.each_text_answered}
+use Rattle.texting_robots.proofs.{ExampleLemmas.overlong_decides}
+use Rattle.robots_needless.specs.{declared.needless.NeedlessRule.NeedlessRule}
+use Rattle.robots_warnings.specs.{Closed.reach_of, File.labels_for, Warnings.warnings, Message.WarningValue}
+use Rattle.robots_warnings.specs.{Table.is_not_about_syntax, Table.keeps_verdicts, declared.table.Cause.Cause}
+use Rattle.robots_warnings.specs.Facts.{is_too_large, facts_of}
 use Rattle.rfc9309_laws.specs.Rfc9309.{Group, IsFile}
 use Rattle.rfc9309_laws.proofs.SyntaxLemmas.{each_front, passing}
-use Rattle.robots_warnings.specs.{Facts.facts_of, File.labels_for, Warnings.warnings}
-use Rattle.robots_warnings.specs.{WarningValue.WarningValue}
-use Rattle.robots_warnings.specs.Table.{is_not_about_syntax, keeps_verdicts}
-use Rattle.robots_warnings.specs.declared.table.Cause.{Cause}
-use Rattle.audit_core.specs.Syntax.{has_standard_verdicts, has_syntax_warning, is_about_syntax, is_standard}
-use Rattle.audit_core.specs.Syntax.{keep_verdicts}
-use Rattle.audit_core.specs.declared.syntax.Syntax.TheVariants.{Standard, StandardVerdicts}
-use Rattle.audit_core.specs.declared.syntax.Syntax.TheVariants.{StandardWithoutWarnings, Unstated}
-use Rattle.audit_core.specs.declared.syntax.Syntax.{Syntax}
-use Rattle.std.specs.Prelude.{flat_map, is_some, zip, ◌||◌}
+use Rattle.audit_core.specs.declared.syntax.Syntax.TheVariants.{Standard, StandardWithoutWarnings, Unstated}
 use Rattle.warnings_laws.proofs.SyntaxLemmas.{ArePassed, robot_stated, silence}
 use Rattle.warnings_laws.proofs.{VerdictLemmas.verdicts_stated}
 use Rattle.warnings_laws.specs.Syntax.{IsNotAboutSyntax, IsRobotStated, IsSilentOn, warnings_of}

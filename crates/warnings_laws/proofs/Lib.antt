@@ -10,11 +10,9 @@ pub mod PathLemmas
 pub mod RuleLemmas
 pub mod TwinLemmas
 pub mod ConflictLemmas
-pub mod ClosedLemmas
 pub mod EmptyDisallowLemmas
 pub mod RepeatedLemmas
 pub mod GroupLemmas
 pub mod VerdictLemmas
-pub mod CrawlerLemmas
 pub mod LawLemmas
 pub mod WarningLemmas

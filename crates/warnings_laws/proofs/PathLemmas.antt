@@ -1,29 +1,27 @@
 -- The value of a rule without certain warnings is compared here as RFC 9309 compares its standard spelling,
 -- which is the value itself unless it has a nonstandard escape.
-use Rattle.std.proofs.Common.{◌≡◌, ℕ, ◌+◌, ◌*◌, ◌<◌, ◌≤◌, ◌==◌, ◌&&◌, ◌||◌, Bool, true, false, inl, inr}
-use Rattle.std.proofs.Common.{List, [], ◌∷◌, ◌++◌, ap, ap₂, not, arith, codes, drop, length, refl, subst, suc}
-use Rattle.std.proofs.Common.{sym, ◌∙◌, nat_eq}
+use Rattle.std.proofs.Common.{◌≡◌, ℕ, ◌+◌, ◌*◌, ◌<◌, ◌≤◌, ◌==◌, ◌&&◌, ◌||◌, Bool, true, false, inl, inr, List}
+use Rattle.std.proofs.Common.{[], ◌∷◌, ◌++◌, ap, ap₂, not, arith, codes, drop, length, refl, subst, suc, sym}
+use Rattle.std.proofs.Common.{◌∙◌, nat_eq}
 use Rattle.std.specs.Char.{digit_value, is_ascii_hexdigit, to_ascii_uppercase}
 use Rattle.std.specs.List.{list_any, list_all, position_or_len, starts_with}
-use Rattle.std.proofs.lemmas.Bool.{Decides.nat_tests, agree_below_at, and_parts, and_right, cases_Bool}
-use Rattle.std.proofs.lemmas.Bool.{cases_lt, eqb-true, le-ltb, or_from, or_parts}
-use Rattle.std.proofs.lemmas.Bool.{and_from, not-false, not-true}
+use Rattle.std.proofs.lemmas.{Bool.Decides.nat_tests}
+use Rattle.std.proofs.lemmas.Bool.{agree_below_at, and_parts, and_right, cases_Bool, cases_lt, eqb-true}
+use Rattle.std.proofs.lemmas.Bool.{le-ltb, or_from, or_parts, and_from, not-false, not-true}
 use Rattle.std.proofs.lemmas.List.{Concat.flat_map-append, Folds.list_any-append}
 use Rattle.texting_robots.specs.Escape.{escape_byte, escaped, is_escaped}
-use Rattle.texting_robots.proofs.EscapeLemmas.{plain_stays}
-use Rattle.rfc9309_laws.specs.Matching.{is_kept, all_stay, has_dollar, in_rule, is_ended}
-use Rattle.rfc9309_laws.specs.Matching.{is_unreserved, normal_escape, normal_from, normal_octet, without_end}
-use Rattle.rfc9309_laws.specs.Matching.{normal_uri}
+use Rattle.texting_robots.proofs.{NormalizedLemmas.plain_stays}
+use Rattle.rfc9309_laws.specs.Matching.{is_kept, all_stay, has_dollar, in_rule, is_ended, is_unreserved}
+use Rattle.rfc9309_laws.specs.Matching.{normal_escape, normal_from, normal_octet, without_end, normal_uri}
 use Rattle.rfc9309_laws.specs.Comparable.{IsComparedAs, has_odd_escape, is_uri_octet}
 use Rattle.rfc9309_laws.proofs.NormalLemmas.{begins_escape, by_escapes, escape_first, escape_odd, escape_same}
 use Rattle.rfc9309_laws.proofs.NormalLemmas.{hex_not, normal_uris, octet_first}
 use Rattle.robots_warnings.specs.Targets.{asked_target, has_odd_target, is_normal, is_normal_byte}
-use Rattle.robots_warnings.specs.Urls.{begins_as_url, is_unparsable}
-use Rattle.robots_warnings.specs.declared.spellings.Spelling.TheVariants.{Standard}
+use Rattle.robots_warnings.specs.{Urls.begins_as_url, Urls.is_unparsable, Spellings.spelled}
+use Rattle.robots_warnings.specs.declared.spellings.Spelling.{TheVariants.Standard}
 use Rattle.robots_warnings.specs.Rules.{after_byte, before_byte, begins_odd_escape, has, somewhere}
-use Rattle.robots_warnings.specs.Spellings.{spelled}
-use Rattle.warnings_laws.proofs.{ColonLemmas.after_is, ColonLemmas.before_all, ColonLemmas.before_is}
-use Rattle.warnings_laws.proofs.FormLemmas.{split}
+use Rattle.warnings_laws.proofs.ColonLemmas.{after_is, before_all, before_is}
+use Rattle.warnings_laws.proofs.{FormLemmas.split}
 
 -- ---- tests of all bytes
 

@@ -1,24 +1,22 @@
 -- A rule with `repeated-rule` decides no verdict, and can be deleted.
-use Rattle.std.proofs.lemmas.Grind.{common_steps}
+use Rattle.std.proofs.lemmas.{Grind.common_steps, Option.same_Some, Slice.Eq.bytes_eq-Decides}
 use Rattle.std.proofs.lemmas.Bool.{and_parts, cases_Bool, cases_eq, eqb-true, false_from_ne_true, false≢true}
 use Rattle.std.proofs.Common.{◌≡◌, ◌+◌, ◌⊎◌, ℕ, suc, zero, Bool, true, false, List, [], ◌∷◌, ◌++◌, Contains}
-use Rattle.std.proofs.Common.{Some, arith, if◌then◌else◌, inl, inr, refl, slice_get, subst, sym, ◌≢◌, ◌<◌}
-use Rattle.std.proofs.Common.{◌≤◌, ◌↔◌, All, Option, ◌&&◌, ◌==◌, ap, ◌∙◌}
-use Rattle.texting_robots.specs.Callers.{AreLabelsOf, Label, LineValue, Allow, AreRulesFor, Disallow}
-use Rattle.texting_robots.specs.Callers.{IsCaptured, IsDecidingLine, IsDenied, IsVerdict, PlacedRule, Rule}
+use Rattle.std.proofs.Common.{Some, arith, if◌then◌else◌, inl, inr, refl, slice_get, subst, sym, ◌≢◌, ◌<◌, ap}
+use Rattle.std.proofs.Common.{◌≤◌, ◌↔◌, All, Option, ◌&&◌, ◌==◌, ◌∙◌}
+use Rattle.texting_robots.specs.Callers.{AreLabelsOf, Label, LineValue, Allow, AreRulesFor, Disallow, Rule}
+use Rattle.texting_robots.specs.Callers.{IsCaptured, IsDecidingLine, IsDenied, IsVerdict, PlacedRule}
 use Rattle.texting_robots.specs.Callers.{group_name, placed_rules, rules_for, unplaced}
 use Rattle.texting_robots.specs.Group.{is_agent, passes_at}
-use Rattle.std.proofs.lemmas.Option.{same_Some}
 use Rattle.robots_needless.specs.Blocks.{is_rule, keep_blocks_from, no_rule, with_rule}
 use Rattle.robots_needless.specs.Needless.{lines_without, without}
-use Rattle.robots_needless.proofs.TogetherLemmas.{unplaced_of, verdicts}
-use Rattle.robots_needless.proofs.{DistinctLemmas.in_filter, DistinctLemmas.to_filter, BlockLemmas.deleted}
+use Rattle.robots_needless.proofs.TogetherLemmas.{unplaced_of, verdicts, in_filter, to_filter}
+use Rattle.robots_needless.proofs.{BlockLemmas.deleted}
 use Rattle.robots_warnings.specs.Repeated.{above_next, is_checked, is_repeated, repeated, repeated_from}
 use Rattle.robots_warnings.specs.{File.lines_of, Spellings.is_rule_with}
-use Rattle.std.specs.List.{list_any}
+use Rattle.std.specs.{List.list_any}
 use Rattle.std.proofs.lemmas.List.{Elements.Contains-push_cases, Folds.Any-from_list_any}
-use Rattle.std.proofs.lemmas.Slice.Eq.{bytes_eq-Decides}
-use Rattle.texting_robots.proofs.{BestLemmas.placed_of, HeldLemmas.computed_are}
+use Rattle.texting_robots.proofs.{BestLemmas.placed_of, MainTheoremLemmas.computed_are}
 
 -- the rest are the lines from this position on
 pub record IsFrom (lines : List LineValue) (position : ℕ) (rest : List LineValue) : Type 0 where

@@ -1,35 +1,27 @@
 -- What a rule without warnings that are about verdicts has as its path: its value as read, which is compared
 -- as RFC 9309 compares its standard spelling.
-use Rattle.std.proofs.Common.{◌≡◌, ◌≢◌, ◌⊎◌, inl, inr, ℕ, ◌&&◌, ◌||◌, Bool, true, false, not, List, [], ◌∷◌}
-use Rattle.std.proofs.Common.{◌++◌, ap, arith, codes, drop, if◌then◌else◌, length, nat_lt, refl, subst, sym}
-use Rattle.std.proofs.Common.{◌∙◌}
-use Rattle.std.specs.List.{AllByRecursion as Each, list_any}
-use Rattle.std.specs.{Str.is_utf8}
-use Rattle.std.proofs.lemmas.Bool.{Decides.nat_tests, false≢true, not-true, or_left, or_parts, or_right}
-use Rattle.std.proofs.lemmas.Bool.{not-false}
+use Rattle.std.proofs.{Common.◌≡◌, lemmas.Bool.Decides.nat_tests, lemmas.Str.IsUtf8-from_is_utf8}
+use Rattle.std.proofs.Common.{◌≢◌, ◌⊎◌, inl, inr, ℕ, ◌&&◌, ◌||◌, Bool, true, false, not, List, [], ◌∷◌, ◌++◌}
+use Rattle.std.proofs.Common.{ap, arith, codes, drop, if◌then◌else◌, length, nat_lt, refl, subst, sym, ◌∙◌}
+use Rattle.std.specs.{List.AllByRecursion as Each, List.list_any, Str.is_utf8}
+use Rattle.std.proofs.lemmas.Bool.{false≢true, not-true, or_left, or_parts, or_right, not-false}
 use Rattle.texting_robots.specs.Callers.{Allow, Disallow, IsLineOf, LineValue}
-use Rattle.texting_robots.specs.{Statement.IsStatement, declared.parser.statement.Kind.Kind}
-use Rattle.texting_robots.specs.Trim.{IsTrimOf}
-use Rattle.rfc9309_laws.proofs.{CharLemmas.IsCharByte, CharLemmas.chars_text, MemberLemmas.slash_plain}
-use Rattle.rfc9309_laws.proofs.{Sources.allowed_in, Sources.member_in, Sources.written}
-use Rattle.rfc9309_laws.proofs.{SyntaxLemmas.each_front, SyntaxLemmas.each_weaker}
+use Rattle.texting_robots.specs.{Statement.IsStatement, declared.parser.statement.Kind.Kind, Trim.IsTrimOf}
+use Rattle.texting_robots.specs.{Internal.Statement.trimmed}
+use Rattle.rfc9309_laws.proofs.{HasFormLemmas.IsCharByte, HasFormLemmas.chars_text, MemberLemmas.slash_plain}
+use Rattle.rfc9309_laws.proofs.{SyntaxLemmas.each_front, SyntaxLemmas.each_weaker, ValueLemmas.visible_trim}
+use Rattle.rfc9309_laws.proofs.Sources.{allowed_in, member_in, written}
 use Rattle.rfc9309_laws.proofs.KeyedLemmas.{IsSolid, parts_at, parts_comment, solid_char, stripped_is}
-use Rattle.rfc9309_laws.proofs.ValueLemmas.{visible_trim}
 use Rattle.rfc9309_laws.specs.HasForm.{stripped, text_after, text_before}
-use Rattle.rfc9309_laws.specs.{Matching.all_stay}
-use Rattle.rfc9309_laws.specs.Comparable.{IsComparedAs}
-use Rattle.rfc9309_laws.specs.Rfc9309 as rfc
-use Rattle.texting_robots.specs.Internal.Statement.{trimmed}
+use Rattle.rfc9309_laws.specs.{Matching.all_stay, Comparable.IsComparedAs}
 use Rattle.texting_robots.proofs.TrimLemmas.{blanks_skipped, same_trim, trailing_blanks}
-use Rattle.std.proofs.lemmas.Str.{IsUtf8-from_is_utf8}
-use Rattle.robots_warnings.specs.declared.spellings.Spelling.TheVariants.{Standard}
+use Rattle.robots_warnings.specs.{declared.spellings.Spelling.TheVariants.Standard, Spellings.spelled}
+use Rattle.robots_warnings.specs.{declared.table.Cause.Cause, declared.table.Topic.Topic}
 use Rattle.robots_warnings.specs.Checks.{Check, directive_checks, line_checks, rule_checks, text_checks}
 use Rattle.robots_warnings.specs.Contents.{comment_of, raw_value, tail_of}
-use Rattle.robots_warnings.specs.Rules.{has, has_any, has_odd_character, before_byte, after_byte}
-use Rattle.robots_warnings.specs.Rules.{begins_oddly, has_dollar_inside, holds_otherwise, is_quoted}
-use Rattle.robots_warnings.specs.Spellings.{spelled}
+use Rattle.robots_warnings.specs.Rules.{has, has_any, has_odd_character, before_byte, after_byte, is_quoted}
+use Rattle.robots_warnings.specs.Rules.{begins_oddly, has_dollar_inside, holds_otherwise}
 use Rattle.robots_warnings.specs.Table.{is_meaning, is_not_about_syntax, is_syntax, keeps_verdicts, topic_of}
-use Rattle.robots_warnings.specs.declared.table.{Cause.Cause, Topic.Topic}
 use Rattle.robots_warnings.specs.declared.table.Topic.TheVariants.{Meaning, Syntax, Verdict}
 use Rattle.warnings_laws.proofs.ColonLemmas.{HasColon, IsPlainByte, around, has_colon, plain, tail_is}
 use Rattle.warnings_laws.proofs.FormLemmas.{raw_is, value_plain}
@@ -38,6 +30,7 @@ use Rattle.warnings_laws.proofs.QuietLemmas.{Empty, IsRuleValue, Path, Star, eac
 use Rattle.warnings_laws.proofs.QuietLemmas.{rule_value, started}
 use Rattle.warnings_laws.proofs.{SyntaxLemmas.AreQuietBy, WarningLemmas.is_stated}
 use Rattle.warnings_laws.specs.Syntax.{AreQuiet, is_quiet}
+use Rattle.rfc9309_laws.specs.Rfc9309 as rfc
 use Rattle.texting_robots.specs.declared.parser.statement.Kind.TheVariants as kind
 
 -- ---- a warning that keeps verdicts isn't about syntax

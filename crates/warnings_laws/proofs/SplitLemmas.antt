@@ -1,34 +1,29 @@
 -- Without a warning about a delay that splits a group, the merged groups of a file are unsplit
 -- (`is_unsplit`), so each crawler's rules are those of the standard. The proof walks through the source lines
 -- (`Sources`), as the warnings do: they keep one name above a line, which is enough to check the next group.
-use Rattle.std.proofs.lemmas.Grind.{common_steps}
-use Rattle.std.proofs.Common.{arith, rules, subst, sym, take}
-use Rattle.std.proofs.Common.{◌≡◌, ◌⊎◌, inl, inr, ℕ, Bool, true, false, not, ◌||◌, ◌&&◌, List, [], ◌∷◌}
-use Rattle.std.proofs.Common.{◌++◌, ◌∙◌, Option, Some, None, ap, codes, filter, if◌then◌else◌, map, refl}
+use Rattle.std.proofs.{lemmas.Grind.common_steps, lemmas.List.Folds.list_any-append, lemmas.Simd.map-map}
+use Rattle.std.proofs.Common.{arith, rules, subst, sym, take, ◌≡◌, ◌⊎◌, inl, inr, ℕ, Bool, true, false, not}
+use Rattle.std.proofs.Common.{◌||◌, ◌&&◌, List, [], ◌∷◌, ◌++◌, ◌∙◌, Option, Some, None, ap, codes, filter}
+use Rattle.std.proofs.Common.{if◌then◌else◌, map, refl}
 use Rattle.std.specs.List.{AllByRecursion as Each, list_all, list_any}
 use Rattle.std.proofs.Math.Bool.{or-false, or-true, or_assoc}
 use Rattle.std.proofs.lemmas.Bool.{and_from, and_parts, not-false, not-true}
-use Rattle.std.proofs.lemmas.{List.Folds.list_any-append, Simd.map-map}
 use Rattle.texting_robots.specs.Callers.{Allow, CrawlDelay, Disallow, Label, LineValue, Raw, Sitemap}
 use Rattle.texting_robots.specs.Callers.{UserAgent, file_bodies, file_limit, group_name, lines_read}
 use Rattle.texting_robots.specs.{Group.is_agent}
-use Rattle.texting_robots.proofs.LabelLemmas.{each_line_has_its_label}
-use Rattle.rfc9309_laws.specs.Rfc9309.{Group, IsFile, has_token, is_rule, is_token, merged}
-use Rattle.rfc9309_laws.specs.Rfc9309.{put_before, rules_for, standard_rules}
+use Rattle.texting_robots.proofs.{LabelLemmas.each_line_has_its_label}
+use Rattle.rfc9309_laws.specs.Rfc9309.{Group, IsFile, has_token, is_rule, is_token, merged, put_before}
+use Rattle.rfc9309_laws.specs.Rfc9309.{rules_for, standard_rules}
 use Rattle.rfc9309_laws.proofs.DelayLemmas.{has_rule, is_unsplit, left_above, rules_unsplit}
 use Rattle.rfc9309_laws.proofs.FileLemmas.{file_read, groups_written}
-use Rattle.rfc9309_laws.proofs.ReadLemmas.{lines_in}
-use Rattle.rfc9309_laws.proofs.Sources.{Parts, Source, allowed_in, is_not_raw, parts_in, put_both, source_of}
-use Rattle.rfc9309_laws.proofs.Sources.{with_source}
-use Rattle.rfc9309_laws.proofs.SyntaxLemmas.{each_front}
-use Rattle.robots_warnings.specs.declared.positions.Preceding.{Preceding}
+use Rattle.rfc9309_laws.proofs.{ReadLemmas.lines_in, Sources.allowed_in, SyntaxLemmas.each_front}
+use Rattle.rfc9309_laws.proofs.Sources.{Parts, Source, is_not_raw, parts_in, put_both, source_of, with_source}
+use Rattle.robots_warnings.specs.{declared.positions.Preceding.Preceding, Checks.Check, File.labels_for}
+use Rattle.robots_warnings.specs.{Checks.position_checks, File.lines_of, Message.WarningValue}
 use Rattle.robots_warnings.specs.declared.positions.Preceding.TheVariants.{Agent, Delay, Other}
-use Rattle.robots_warnings.specs.Positions.{begin_with_name, begin_with_rules, first_delay, is_delay}
-use Rattle.robots_warnings.specs.Positions.{is_split, last_group, name_again, name_star, preceding_with}
-use Rattle.robots_warnings.specs.Positions.{sole_name}
+use Rattle.robots_warnings.specs.Positions.{begin_with_name, begin_with_rules, first_delay, preceding_with}
+use Rattle.robots_warnings.specs.Positions.{is_delay, is_split, last_group, name_again, name_star, sole_name}
 use Rattle.robots_warnings.specs.Warnings.{positions_from, warned}
-use Rattle.robots_warnings.specs.{Checks.Check, Checks.position_checks, File.labels_for, File.lines_of}
-use Rattle.robots_warnings.specs.{WarningValue.WarningValue}
 use Rattle.warnings_laws.specs.Syntax.{AreGroupsWhole, IsNoSplit}
 use Rattle.warnings_laws.proofs.{QuietLemmas.each_back, SyntaxLemmas.each_given}
 

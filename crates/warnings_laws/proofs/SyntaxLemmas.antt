@@ -1,25 +1,21 @@
 -- A file without warnings about its syntax follows the grammar: its start is in order, each line has a form,
 -- and each rule is below a user-agent line.
-use Rattle.std.proofs.lemmas.Grind.{common_steps}
-use Rattle.std.proofs.Common.{rules}
-use Rattle.std.proofs.Common.{◌≡◌, ◌≢◌, inl, inr, ℕ, suc, ◌==◌, ◌&&◌, Bool, true, false, List, [], ◌∷◌, ◌++◌}
-use Rattle.std.proofs.Common.{All, nat_eq, not, refl, sym, take, zero, ◌<◌, Some, ap, arith, length, map}
-use Rattle.std.proofs.Common.{slice_get, subst, ◌∙◌, ◌||◌, None, Option, codes, flat_map, if◌then◌else◌}
+use Rattle.std.proofs.lemmas.{Grind.common_steps, List.Elements.All-from_recursion}
+use Rattle.std.proofs.Common.{rules, ◌≡◌, ◌≢◌, inl, inr, ℕ, suc, ◌==◌, ◌&&◌, Bool, true, false, List, [], ◌∷◌}
+use Rattle.std.proofs.Common.{◌++◌, All, nat_eq, not, refl, sym, take, zero, ◌<◌, Some, ap, arith, length}
+use Rattle.std.proofs.Common.{map, slice_get, subst, ◌∙◌, ◌||◌, None, Option, codes, flat_map, if◌then◌else◌}
 use Rattle.std.specs.List.{AllByRecursion as Each, list_any, starts_with, Contains, AllZip}
 use Rattle.std.proofs.lemmas.Bool.{and_parts, cases_Bool, eqb-true, false≢true, not-true, not-false}
-use Rattle.std.proofs.lemmas.{Option.slice_get-map, Option.slice_get_within, Option.same_Some}
-use Rattle.std.proofs.lemmas.Option.{get_or_from_slice_get}
+use Rattle.std.proofs.lemmas.Option.{slice_get-map, slice_get_within, same_Some, get_or_from_slice_get}
 use Rattle.std.specs.Option.{option_map, option_map_or}
 use Rattle.robots_warnings.specs.Facts.{has_damaged_mark, mark, is_rule, suppresses_line_warnings, facts_of}
-use Rattle.robots_warnings.specs.Positions.{is_above_agents, first_delay, preceding_with}
-use Rattle.robots_warnings.specs.Positions.{sole_name, last_group}
+use Rattle.robots_warnings.specs.Positions.{is_above_agents, preceding_with, sole_name, last_group}
+use Rattle.robots_warnings.specs.{Positions.first_delay, File.lines_of, File.labels_for, Message.WarningValue}
 use Rattle.robots_warnings.specs.Checks.{Check, file_checks, line_checks, position_checks}
 use Rattle.robots_warnings.specs.Table.{is_not_about_syntax, topic_of}
 use Rattle.robots_warnings.specs.Warnings.{line_warnings, lines_warnings, positions_from, warned, warning_of}
-use Rattle.robots_warnings.specs.Warnings.{file_lines_warnings, general_warnings, site_warnings}
-use Rattle.robots_warnings.specs.Warnings.{group_warnings, past_limit_warnings, position_warnings}
-use Rattle.robots_warnings.specs.Warnings.{url_warnings, warnings}
-use Rattle.robots_warnings.specs.{File.lines_of, File.labels_for, WarningValue.WarningValue}
+use Rattle.robots_warnings.specs.Warnings.{file_lines_warnings, general_warnings, site_warnings, url_warnings}
+use Rattle.robots_warnings.specs.Warnings.{group_warnings, past_limit_warnings, position_warnings, warnings}
 use Rattle.texting_robots.specs.Callers.{Allow, Disallow, Label, LineValue, UserAgent, IsLineOf, lines_read}
 use Rattle.texting_robots.specs.Callers.{IsRobotOfFile, RobotValue, file_bodies, file_limit, group_name}
 use Rattle.texting_robots.specs.{Group.is_agent, Line.without_front, Labels.AreLabelsOf}
@@ -29,17 +25,14 @@ use Rattle.warnings_laws.specs.Syntax.{form_of, AreQuiet, IsNotAboutSyntax, IsQu
 use Rattle.warnings_laws.specs.Syntax.{IsRobotStated, IsSilentOn, warnings_of}
 use Rattle.warnings_laws.proofs.QuietLemmas.{each_back, second}
 use Rattle.warnings_laws.proofs.{WarningLemmas.below_agent, FormLemmas.line_form}
-use Rattle.std.proofs.lemmas.List.Elements.{All-from_recursion}
-use Rattle.texting_robots.proofs.LabelLemmas.{each_line_has_its_label}
-use Rattle.texting_robots.proofs.{CapturedLemmas.some_passes, LineLemmas.lines_of_file_bodies}
-use Rattle.rfc9309_laws.proofs.LineFormLemmas.{forms_make_file}
-use Rattle.rfc9309_laws.proofs.{SyntaxLemmas.each_front, SyntaxLemmas.each_weaker, RobotLemmas.forms_robot}
-use Rattle.robots_warnings.specs.declared.facts.FileFacts.{FileFacts}
-use Rattle.robots_warnings.specs.declared.table.Cause.{Cause}
-use Rattle.robots_warnings.specs.declared.table.Cause.TheVariants.{CutLine}
-use Rattle.texting_robots.specs.Internal.Line.{line_of}
-use Rattle.robots_warnings.specs.declared.positions.Preceding.{Preceding}
-use Rattle.robots_warnings.specs.declared.positions.Preceding.TheVariants.{Other}
+use Rattle.texting_robots.proofs.{LabelLemmas.each_line_has_its_label, CapturedLemmas.some_passes}
+use Rattle.texting_robots.proofs.{LineLemmas.lines_of_file_bodies}
+use Rattle.rfc9309_laws.proofs.{LineFormLemmas.forms_make_file, RobotLemmas.forms_robot}
+use Rattle.rfc9309_laws.proofs.SyntaxLemmas.{each_front, each_weaker}
+use Rattle.robots_warnings.specs.declared.facts.{FileFacts.FileFacts}
+use Rattle.robots_warnings.specs.declared.table.Cause.{Cause, TheVariants.CutLine}
+use Rattle.texting_robots.specs.Internal.{Line.line_of}
+use Rattle.robots_warnings.specs.declared.positions.Preceding.{Preceding, TheVariants.Other}
 use Rattle.rfc9309_laws.specs.Rfc9309 as rfc
 use Rattle.rfc9309_laws.specs.LineForms as form
 

@@ -1,8 +1,8 @@
 -- The members of the groups of a file are those of the lines between user-agent lines. So beside a rule with
 -- a nonstandard escape that isn't warned of, its group has the standard spelling.
-use Rattle.std.proofs.Common.{◌≡◌, ◌≢◌, ◌⊎◌, inl, inr, ℕ, ◌==◌, Bool, true, false, List}
-use Rattle.std.proofs.Common.{[], ◌∷◌, Contains, ap, arith, codes, filter, flat_map}
-use Rattle.std.proofs.Common.{if◌then◌else◌, length, map, refl, subst, sym, ◌∙◌}
+use Rattle.std.proofs.Common.{◌≡◌, ◌≢◌, ◌⊎◌, inl, inr, ℕ, ◌==◌, Bool, true, false, List, [], ◌∷◌, Contains}
+use Rattle.std.proofs.Common.{ap, arith, codes, filter, flat_map, if◌then◌else◌, length, map, refl, subst}
+use Rattle.std.proofs.Common.{sym, ◌∙◌}
 use Rattle.std.specs.List.{AllByRecursion as Each, list_any, onto_first, slice_split}
 use Rattle.std.proofs.lemmas.Bool.{cases_Bool, false_from_ne_true, false≢true, not-false}
 use Rattle.std.proofs.lemmas.List.Elements.{All-contains, All-contains_itself, All-filter, All-from_recursion}
@@ -10,18 +10,17 @@ use Rattle.std.proofs.lemmas.List.Elements.{All-weaker, Contains-append_cases, C
 use Rattle.std.proofs.lemmas.List.Elements.{Contains-append_right, filter_passes, recursion_from_All}
 use Rattle.texting_robots.specs.Callers.{Allow, CrawlDelay, Disallow, Label, LineValue, Raw, Sitemap}
 use Rattle.texting_robots.specs.Callers.{UserAgent}
-use Rattle.texting_robots.specs.{Group.is_agent, Group.is_group}
-use Rattle.robots_needless.proofs.DistinctLemmas.{of_map, to_filter, to_map}
+use Rattle.texting_robots.specs.Group.{is_agent, is_group}
+use Rattle.robots_needless.proofs.TogetherLemmas.{of_map, to_filter, to_map}
 use Rattle.rfc9309_laws.proofs.{GroupLemmas.members_in, ReadLemmas.lines_in, SyntaxLemmas.each_front}
-use Rattle.rfc9309_laws.proofs.Sources.{Parts, Source, member_in, parts_in}
 use Rattle.rfc9309_laws.proofs.{ValueLemmas.visible_trim, VerdictLemmas.each_contains}
+use Rattle.rfc9309_laws.proofs.Sources.{Parts, Source, member_in, parts_in}
 use Rattle.rfc9309_laws.specs.Comparable.{HasTwin, IsComparedAs, IsFit, IsPlainPath}
-use Rattle.rfc9309_laws.specs.Matching.{all_stay}
-use Rattle.robots_warnings.specs.declared.spellings.Spelling.TheVariants.{Standard}
+use Rattle.rfc9309_laws.specs.{Matching.all_stay}
+use Rattle.robots_warnings.specs.{declared.spellings.Spelling.TheVariants.Standard, File.lines_of}
 use Rattle.robots_warnings.specs.Rules.{begins_odd_escape, begins_oddly, somewhere}
-use Rattle.robots_warnings.specs.Spellings.{unpaired, is_agent_line, is_rule_with, is_unpaired}
-use Rattle.robots_warnings.specs.Spellings.{is_unpaired_at, is_unpaired_line, spelled, unpaired_in}
-use Rattle.robots_warnings.specs.{File.lines_of}
+use Rattle.robots_warnings.specs.Spellings.{unpaired, is_agent_line, is_rule_with, is_unpaired, spelled}
+use Rattle.robots_warnings.specs.Spellings.{is_unpaired_at, is_unpaired_line, unpaired_in}
 use Rattle.warnings_laws.proofs.PathLemmas.{compared_as, odd_escapes, spelled_same, spelled_short}
 use Rattle.warnings_laws.proofs.RuleLemmas.{IsGoodLine, IsGoodPath, IsGoodRule, rule_of}
 use Rattle.warnings_laws.proofs.{QuietLemmas.each_back, QuietLemmas.first_byte, RepeatedLemmas.is_listed}

@@ -1,54 +1,48 @@
 -- If no warning is about syntax or verdicts, the verdicts are those of the standard: the rules of a crawler
 -- are fine (`TwinLemmas`), and no Disallow of everything is beside an empty Disallow.
-use Rattle.std.proofs.Common.{◌≡◌, ◌≢◌, ◌↔◌, inl, inr, ℕ, zero, suc, ◌<◌, ◌≤◌, Bool, true, false, List}
-use Rattle.std.proofs.Common.{[], ◌∷◌, Option, None, Some, Contains, ap, arith, if◌then◌else◌, length}
-use Rattle.std.proofs.Common.{map, refl, slice_get, subst, sym, take, ◌∙◌}
+use Rattle.std.specs.Prelude.{is_some}
+use Rattle.std.proofs.Common.{◌≡◌, ◌≢◌, ◌↔◌, inl, inr, ℕ, zero, suc, ◌<◌, ◌≤◌, Bool, true, false, List, []}
+use Rattle.std.proofs.Common.{◌∷◌, Option, None, Some, Contains, ap, arith, if◌then◌else◌, length, map, refl}
+use Rattle.std.proofs.Common.{slice_get, subst, sym, take, ◌∙◌}
 use Rattle.std.specs.List.{AllByRecursion as Each, AllZip, filter_map}
-use Rattle.std.specs.{Prelude.is_some}
 use Rattle.std.proofs.lemmas.Bool.{cases_Bool, cases_lt, false_from_ne_true, false≢true, ltb-false, not-true}
-use Rattle.std.proofs.lemmas.{List.take_all, Simd.map-map}
-use Rattle.texting_robots.specs.Callers.{Allow, Disallow, IsLineOf, IsRobotOfFile, IsVerdict, Label}
-use Rattle.texting_robots.specs.Callers.{LineValue, PlacedRule, RobotValue, Rule, escaped, file_limit}
-use Rattle.texting_robots.specs.Callers.{group_name, lines_read, placed_rules, unplaced}
-use Rattle.texting_robots.specs.Escape.{is_escaped}
+use Rattle.std.proofs.{lemmas.List.take_all, lemmas.Simd.map-map}
+use Rattle.texting_robots.specs.Callers.{Allow, Disallow, IsLineOf, IsRobotOfFile, IsVerdict, Label, Rule}
+use Rattle.texting_robots.specs.Callers.{LineValue, PlacedRule, RobotValue, escaped, file_limit, group_name}
+use Rattle.texting_robots.specs.Callers.{lines_read, placed_rules, unplaced}
+use Rattle.texting_robots.specs.{Escape.is_escaped, Internal.Line.line_of}
 use Rattle.texting_robots.specs.Executable.{captured_lines, placed_in, rules_for}
-use Rattle.texting_robots.specs.Internal.Line.{line_of}
-use Rattle.texting_robots.proofs.{BestLemmas.placed_of, HeldLemmas.computed_are, TrimLemmas.is_trimmed}
+use Rattle.texting_robots.proofs.{BestLemmas.placed_of, MainTheoremLemmas.computed_are, TrimLemmas.is_trimmed}
 use Rattle.rfc9309_laws.proofs.FileLemmas.{FileRead, file_with, groups_written, has_delays}
-use Rattle.rfc9309_laws.proofs.{ReadLemmas.file_sources, ReadLemmas.lines_in, RobotLemmas.rules_read}
+use Rattle.rfc9309_laws.proofs.ReadLemmas.{file_sources, lines_in}
+use Rattle.rfc9309_laws.proofs.{RobotLemmas.rules_read, SyntaxLemmas.each_front, SyntaxLemmas.each_weaker}
 use Rattle.rfc9309_laws.proofs.Sources.{Source, parts_in, source_of, written}
-use Rattle.rfc9309_laws.proofs.SyntaxLemmas.{each_front, each_weaker}
 use Rattle.rfc9309_laws.proofs.VerdictLemmas.{each_contains, octets_are, robot_agrees, zip_right}
-use Rattle.rfc9309_laws.specs.Comparable.{AreComparable}
+use Rattle.rfc9309_laws.specs.{Comparable.AreComparable}
 use Rattle.rfc9309_laws.specs.Matching.{IsRfcVerdict, all_stay, normal_from, normal_uri, octets}
 use Rattle.robots_warnings.specs.declared.spellings.Spelling.TheVariants.{Plain, Standard}
 use Rattle.robots_warnings.specs.Checks.{file_checks, line_checks}
 use Rattle.robots_warnings.specs.Conflicts.{compared, conflict, conflict_for, overruled, overruled_for}
-use Rattle.robots_warnings.specs.EmptyDisallows.{IsEmptyDisallow, is_empty_at}
-use Rattle.robots_warnings.specs.{File.lines_of, Rules.begins_oddly}
-use Rattle.robots_warnings.specs.Spellings.{unpaired, spelled}
-use Rattle.robots_warnings.specs.Table.{keeps_verdicts, topic_of}
+use Rattle.robots_warnings.specs.Conflicts.{IsEmptyDisallow, is_empty_at}
+use Rattle.robots_warnings.specs.{File.lines_of, Rules.begins_oddly, Spellings.unpaired, Spellings.spelled}
+use Rattle.robots_warnings.specs.{Table.keeps_verdicts, Table.topic_of, Message.WarningValue}
+use Rattle.robots_warnings.specs.{declared.facts.FileFacts.FileFacts, declared.table.Cause.Cause}
 use Rattle.robots_warnings.specs.Warnings.{crawler_warnings, group_warnings, position_warnings, rule_warnings}
 use Rattle.robots_warnings.specs.Warnings.{warned_at, warned_beside}
-use Rattle.robots_warnings.specs.WarningValue.{WarningValue}
-use Rattle.robots_warnings.specs.declared.facts.FileFacts.{FileFacts}
-use Rattle.robots_warnings.specs.declared.table.Cause.{Cause}
-use Rattle.robots_warnings.specs.declared.table.Cause.TheVariants as cause
-use Rattle.warnings_laws.proofs.{SplitLemmas.raw_parts, SplitLemmas.rules_not_split}
+use Rattle.warnings_laws.proofs.SplitLemmas.{raw_parts, rules_not_split}
 use Rattle.warnings_laws.proofs.ConflictLemmas.{conflict_holds, first_some}
 use Rattle.warnings_laws.proofs.EmptyDisallowLemmas.{empty_disallows, overruled_holds, root, rule_there}
 use Rattle.warnings_laws.proofs.QuietLemmas.{each_back, first_byte}
-use Rattle.warnings_laws.proofs.RuleLemmas.{IsGoodPath, IsKeptLine, good_line}
-use Rattle.warnings_laws.proofs.RuleLemmas.{kept_not_syntax}
+use Rattle.warnings_laws.proofs.RuleLemmas.{IsGoodPath, IsKeptLine, good_line, kept_not_syntax}
 use Rattle.warnings_laws.proofs.SyntaxLemmas.{ArePassed, AreQuietBy, bodies, bodies_quiet, facts, facts_quiet}
-use Rattle.warnings_laws.proofs.SyntaxLemmas.{labels, labels_are, name, passed_groups, passed_positions}
-use Rattle.warnings_laws.proofs.SyntaxLemmas.{quiets, reads, silence}
-use Rattle.warnings_laws.proofs.PathLemmas.{spelled_short}
+use Rattle.warnings_laws.proofs.SyntaxLemmas.{labels, labels_are, name, passed_groups, quiets, reads, silence}
+use Rattle.warnings_laws.proofs.{SyntaxLemmas.passed_positions, PathLemmas.spelled_short}
 use Rattle.warnings_laws.proofs.TwinLemmas.{AreFineGroups, IsFine, IsGood, each_flat, each_from, not_percent}
 use Rattle.warnings_laws.proofs.TwinLemmas.{rules_fine, sources_fine}
-use Rattle.robots_needless.proofs.DistinctLemmas.{of_map}
+use Rattle.robots_needless.proofs.{TogetherLemmas.of_map}
 use Rattle.warnings_laws.specs.Syntax.{AreGroupsWhole, IsNoSplit, IsNotAboutSyntax, IsSilentOn, warnings_of}
 use Rattle.warnings_laws.specs.Verdict.{AreVerdictsKept, IsAsOneOf, IsAsked, IsStandardVerdict, KeepsVerdicts}
+use Rattle.robots_warnings.specs.declared.table.Cause.TheVariants as cause
 use Rattle.rfc9309_laws.specs.Rfc9309 as rfc
 
 -- ---- warnings that aren't given

@@ -1,31 +1,23 @@
 -- Theorems about warnings: what the conditions of some warnings imply for rules, names and URLs.
-use Rattle.std.proofs.lemmas.Grind.{common_steps}
-use Rattle.std.proofs.Common.{rules, ◌||◌, ◌==◌, ap, arith, if◌then◌else◌, inl, inr, drop, suc}
-use Rattle.std.proofs.lemmas.Bool.{not-true}
-use Rattle.std.proofs.Common.{◌≡◌, ◌≢◌, ◌⊎◌, ◌<◌, ℕ, Bool, true, false, List, [], ◌∷◌, ◌++◌, Contains, codes}
-use Rattle.std.proofs.Common.{filter, map, not, Option, refl, slice_get, Some, subst, sym, take, ◌+◌}
-use Rattle.std.proofs.Common.{◌∙◌}
-use Rattle.std.specs.List.{enumerate_from, list_all, list_any, prefix_len}
-use Rattle.std.specs.Str.{byte, is_utf8, str_to_ascii_lowercase}
-use Rattle.std.specs.Char.{to_ascii_lowercase}
-use Rattle.std.proofs.lemmas.Bool.{or_cases, or_parts, cases_Bool, eqb-true, false≢true}
-use Rattle.texting_robots.specs.Callers.{Allow, AreLabelsOf, CrawlDelay, Disallow, HoldsRule, IsLineOf}
-use Rattle.texting_robots.specs.Callers.{LineValue, Label, Matches, Raw, Rule, Sitemap, HasMembership}
-use Rattle.texting_robots.specs.Callers.{UserAgent, escaped, file_lines, is_agent_named, is_named}
-use Rattle.texting_robots.specs.Escape.{escape_byte, is_escaped}
-use Rattle.texting_robots.specs.Group.{is_agent, passes_at}
-use Rattle.texting_robots.specs.Pattern.{MatchesWith, dollar, star}
+use Rattle.std.proofs.{lemmas.Grind.common_steps, lemmas.List.Folds.list_any-append}
+use Rattle.std.proofs.{lemmas.List.Elements.Contains-append_cases}
+use Rattle.std.proofs.Common.{rules, ◌||◌, ◌==◌, ap, arith, if◌then◌else◌, inl, inr, drop, suc, ◌≡◌, ◌≢◌, ◌⊎◌}
+use Rattle.std.proofs.Common.{◌<◌, ℕ, Bool, true, false, List, [], ◌∷◌, ◌++◌, Contains, codes, filter, map}
+use Rattle.std.proofs.Common.{not, Option, refl, slice_get, Some, subst, sym, take, ◌+◌, ◌∙◌}
+use Rattle.std.proofs.lemmas.Bool.{not-true, or_cases, or_parts, cases_Bool, eqb-true, false≢true}
+use Rattle.std.specs.{List.enumerate_from, List.list_all, List.list_any, List.prefix_len, Str.byte}
+use Rattle.std.specs.{Str.is_utf8, Str.str_to_ascii_lowercase, Char.to_ascii_lowercase, Option.option_map_or}
+use Rattle.texting_robots.specs.Callers.{Allow, AreLabelsOf, CrawlDelay, Disallow, HoldsRule, IsLineOf, Label}
+use Rattle.texting_robots.specs.Callers.{LineValue, Matches, Raw, Rule, Sitemap, HasMembership, UserAgent}
+use Rattle.texting_robots.specs.Callers.{escaped, file_lines, is_agent_named, is_named}
+use Rattle.texting_robots.specs.{Escape.escape_byte, Escape.is_escaped, Group.is_agent, Group.passes_at}
+use Rattle.texting_robots.specs.{Pattern.MatchesWith, Pattern.dollar, Pattern.star, Statement.IsStatement}
+use Rattle.texting_robots.specs.{declared.labels.Membership.Membership, Internal.Segments.is_wildcard}
 use Rattle.texting_robots.specs.declared.labels.Membership.TheVariants.{Other, Ungrouped, Own}
-use Rattle.robots_warnings.specs.Closed.{matches_no_path}
-use Rattle.robots_warnings.specs.NamesPastLimit.{has_new_name, is_past_limit, names_past_limit}
+use Rattle.robots_warnings.specs.{Closed.matches_no_path, Rules.begins_oddly, Rules.has_dollar_inside}
+use Rattle.robots_warnings.specs.Crawlers.{has_new_name, is_past_limit, names_past_limit}
 use Rattle.robots_warnings.specs.Positions.{is_above_agents, is_outside}
-use Rattle.robots_warnings.specs.Rules.{begins_oddly, has_dollar_inside}
-use Rattle.std.specs.{Option.option_map_or}
-use Rattle.std.proofs.{lemmas.List.Folds.list_any-append, lemmas.List.Elements.Contains-append_cases}
-use Rattle.texting_robots.specs.{declared.labels.Membership.Membership, Statement.IsStatement}
-use Rattle.texting_robots.specs.{Internal.Segments.is_wildcard}
-use Rattle.texting_robots.proofs.{CapturedLemmas.some_passes}
-use Rattle.texting_robots.proofs.{PatternLemmas.only_wildcards_match}
+use Rattle.texting_robots.proofs.{CapturedLemmas.some_passes, SegmentLemmas.only_wildcards_match}
 use Rattle.texting_robots.specs.declared.parser.statement.Kind.TheVariants as kind
 
 -- ---- conditions and lines

@@ -1,17 +1,16 @@
 -- What the silence of an audit means: a file without warnings about its syntax follows the extended grammar
 -- of RFC 9309 (`IsFile`).
 use Rattle.std.specs.Prelude.{◌≡◌, ◌≢◌, ℕ, Bool, true, not, ◌||◌, List, codes, take}
-use Rattle.std.specs.List.{AllByRecursion as Each}
-use Rattle.texting_robots.specs.Callers.{Allow, CrawlDelay, Disallow, LineValue, Raw, Sitemap}
-use Rattle.texting_robots.specs.Callers.{RobotValue, UserAgent, file_limit, lines_read}
-use Rattle.rfc9309_laws.specs.LineForms as form
-use Rattle.rfc9309_laws.specs.LineForms.{Form}
-use Rattle.rfc9309_laws.specs.Rfc9309 as rfc
-use Rattle.rfc9309_laws.specs.StandardRobot.{IsFileWith, IsRobotAs}
+use Rattle.std.specs.{List.AllByRecursion as Each}
+use Rattle.texting_robots.specs.Callers.{Allow, CrawlDelay, Disallow, LineValue, Raw, Sitemap, RobotValue}
+use Rattle.texting_robots.specs.Callers.{UserAgent, file_limit, lines_read}
+use Rattle.rfc9309_laws.specs.{LineForms.Form, StandardRobot.IsFileWith, StandardRobot.IsRobotAs}
 use Rattle.robots_warnings.specs.{Checks.Check, Checks.line_checks, Facts.facts_of, File.labels_for}
+use Rattle.robots_warnings.specs.{Table.is_not_about_syntax, Message.WarningValue}
 use Rattle.robots_warnings.specs.declared.table.Cause.TheVariants.{DelayAboveStar, DelaySplitsGroup}
-use Rattle.robots_warnings.specs.{Table.is_not_about_syntax, Warnings.position_warnings, Warnings.warnings}
-use Rattle.robots_warnings.specs.{WarningValue.WarningValue}
+use Rattle.robots_warnings.specs.Warnings.{position_warnings, warnings}
+use Rattle.rfc9309_laws.specs.LineForms as form
+use Rattle.rfc9309_laws.specs.Rfc9309 as rfc
 
 -- ---- warnings about syntax
 

@@ -1,11 +1,11 @@
 -- What the silence of an audit means for verdicts: those of RFC 9309.
 use Rattle.std.specs.Prelude.{◌≡◌, ℕ, Any, Bool, true, List}
-use Rattle.std.specs.List.{AllByRecursion as Each}
+use Rattle.std.specs.{List.AllByRecursion as Each}
 use Rattle.texting_robots.specs.Callers.{group_name, lines_read}
 use Rattle.rfc9309_laws.specs.Matching.{IsRfcVerdict, all_stay, normal_uri, octets}
+use Rattle.robots_warnings.specs.{Table.keeps_verdicts, Message.WarningValue}
+use Rattle.warnings_laws.specs.{Syntax.warnings_of}
 use Rattle.rfc9309_laws.specs.Rfc9309 as rfc
-use Rattle.robots_warnings.specs.{Table.keeps_verdicts, WarningValue.WarningValue}
-use Rattle.warnings_laws.specs.Syntax.{warnings_of}
 
 -- the warning is neither about the syntax of the file nor about its verdicts (topic `Meaning` in `table.rt`
 -- of robots_warnings)

@@ -1,32 +1,33 @@
 //! Theorems about the specification, each written as the contract of an empty function.
-ghost use Rattle.std.specs.Prelude.{◌&&◌, ◌||◌};
-ghost use Rattle.std.specs.Prelude.{[], All, Any, Bool, codes, Contains, false, if◌then◌else◌, IsSome, IsTrue};
-ghost use Rattle.std.specs.Prelude.{List, nat_eq, not, slice_get, Some, take, true, ℕ, ◌+◌, ◌↔◌, ◌∷◌, ◌≡◌, ◌≢◌};
-ghost use Rattle.std.specs.{List.count_by, List.list_any, List.starts_with, Str.byte, Str.is_utf8, Str.IsUtf8, Str.str_to_ascii_lowercase};
-ghost use Rattle.texting_robots.specs.Callers.{Allow, AreLabelsOf, AreRulesFor, Disallow, escaped, file_limit};
-ghost use Rattle.texting_robots.specs.Callers.{file_lines, HoldsRule, is_named, IsDecidingLine, IsDenied};
-ghost use Rattle.texting_robots.specs.Callers.{IsRobotOfFile, IsVerdict, Label, LineValue, Matches};
-ghost use Rattle.texting_robots.specs.Callers.{PlacedRule, RobotValue, Rule, agents_in, lines_read};
-ghost use Rattle.texting_robots.specs.Callers.{bodies_read, delay_for, rules_for, unplaced, UserAgent};
+ghost use Rattle.std.specs.Prelude.{◌&&◌, ◌||◌, [], All, Any, Bool, codes, Contains, false, if◌then◌else◌, ℕ};
+ghost use Rattle.std.specs.Prelude.{IsSome, IsTrue, List, nat_eq, not, slice_get, Some, take, true, ◌+◌, ◌↔◌};
+ghost use Rattle.std.specs.Prelude.{◌∷◌, ◌≡◌, ◌≢◌};
+ghost use Rattle.std.specs.List.{count_by, list_any, starts_with};
+ghost use Rattle.std.specs.Str.{byte, is_utf8, IsUtf8, str_to_ascii_lowercase};
+ghost use Rattle.texting_robots.specs.Callers.{Allow, AreLabelsOf, AreRulesFor, Disallow, escaped, HoldsRule};
+ghost use Rattle.texting_robots.specs.Callers.{file_limit, file_lines, is_named, IsDecidingLine, IsDenied};
+ghost use Rattle.texting_robots.specs.Callers.{IsRobotOfFile, IsVerdict, Label, LineValue, Matches, Rule};
+ghost use Rattle.texting_robots.specs.Callers.{PlacedRule, RobotValue, agents_in, lines_read, bodies_read};
+ghost use Rattle.texting_robots.specs.Callers.{delay_for, rules_for, unplaced, UserAgent};
 ghost use Rattle.texting_robots.specs.{Labels.IsInOwnGroup, Verdict.robots_file};
-ghost use Rattle.robots_needless.specs.Deleted.{HaveSameRobot, IsLeftOf};
+ghost use Rattle.robots_needless.specs.Blocks.{HaveSameRobot, IsLeftOf};
 ghost use Rattle.robots_needless.specs.Needless.{lines_without, numbers_of};
 ghost use Rattle.rfc9309_laws.specs.Rfc9309.{Group, IsFile, IsProductToken};
 ghost use Rattle.rfc9309_laws.specs.Matching.{all_stay, normal_uri};
-ghost use Rattle.warnings_laws.specs.{Syntax.IsRobotStated, Verdict.IsAsOneOf, Verdict.IsAsked, Verdict.IsStandardVerdict};
-ghost use Rattle.robots_warnings.specs.Conflicts.{IsConflict, IsOverruled, conflict, overruled, overruled_for};
-ghost use Rattle.robots_warnings.specs.EmptyDisallows.{IsEmptyDisallow, is_empty_at, stated_rules};
-ghost use Rattle.robots_warnings.specs.Closed.{line_closing, opened_paths, reach_of};
+ghost use Rattle.warnings_laws.specs.{Syntax.IsRobotStated};
+ghost use Rattle.warnings_laws.specs.Verdict.{IsAsOneOf, IsAsked, IsStandardVerdict};
+ghost use Rattle.robots_warnings.specs.Conflicts.{IsConflict, IsOverruled, conflict, overruled, is_empty_at};
+ghost use Rattle.robots_warnings.specs.Conflicts.{overruled_for, IsEmptyDisallow, stated_rules};
+ghost use Rattle.robots_warnings.specs.Closed.{line_closing, opened_paths, reach_of, replacing, star_count};
 ghost use Rattle.robots_warnings.specs.declared.closed.Reach.TheVariants.{Everything, Nothing};
-ghost use Rattle.robots_warnings.specs.Contents.{is_cut_to_root};
-ghost use Rattle.robots_warnings.specs.{NamesPastLimit.names_past_limit, Positions.is_above_agents};
-ghost use Rattle.robots_warnings.specs.{Repeated.repeated, Replaced.replacing, Replaced.star_count};
+ghost use Rattle.robots_warnings.specs.{Contents.is_cut_to_root, Crawlers.names_past_limit};
+ghost use Rattle.robots_warnings.specs.{Positions.is_above_agents, Repeated.repeated, Targets.has_odd_target};
+ghost use Rattle.robots_warnings.specs.{Urls.is_unparsable, Urls.begins_as_url, Warnings.position_warnings};
+ghost use Rattle.robots_warnings.specs.{Warnings.warned_at, declared.table.Cause.TheVariants.TwoDelays};
 ghost use Rattle.robots_warnings.specs.Rules.{begins_oddly, has_dollar_inside};
-ghost use Rattle.robots_warnings.specs.{Targets.has_odd_target, Urls.is_unparsable};
-ghost use Rattle.robots_warnings.specs.{Urls.begins_as_url, Warnings.position_warnings, Warnings.warned_at};
-ghost use Rattle.robots_warnings.specs.declared.table.Cause.TheVariants.{TwoDelays};
 ghost use Rattle.audit_core.specs.Audit.{AuditValue, IsAuditOf, agents_requested};
-ghost use Rattle.audit_core.specs.{Asked.asked_target, Request.RequestValue, Syntax.has_standard_verdicts, Syntax.is_standard};
+ghost use Rattle.audit_core.specs.{Asked.asked_target, Request.RequestValue};
+ghost use Rattle.audit_core.specs.Syntax.{has_standard_verdicts, is_standard};
 
 /// Without `--needless`, a request and a file have at most one audit, and so at most one report; with it, at most one for
 /// each list of needless rules.

@@ -1,15 +1,14 @@
 -- The comparison of two files as the code does it.
 use Rattle.std.specs.Prelude.{◌≡◌, ℕ, Bool, List, [], ◌∷◌, ◌++◌, if◌then◌else◌, map, not, take}
-use Rattle.std.specs.{BTreeSet.BTreeSet, BTreeSet.contains, BTreeSet.contains_text}
+use Rattle.std.specs.BTreeSet.{BTreeSet, contains, contains_text}
 use Rattle.texting_robots.specs.Callers.{PlacedRule, Rule, file_limit, label_by_value, lines_read}
 use Rattle.robots_warnings.specs.{File.lines_of, Internal.Names.Key, Internal.Names.key_cmp}
-use Rattle.audit_compare.specs.declared.compare.{Comparison.TheInside.Inside as InsideComparison}
-use Rattle.audit_compare.specs.declared.compare.{Side.TheInside.Inside as InsideSide}
-use Rattle.audit_compare.specs.declared.compared.{Compared.TheInside.Inside as InsideCompared}
+use Rattle.audit_compare.specs.declared.compare.Comparison.{TheInside.Inside as InsideComparison}
+use Rattle.audit_compare.specs.{declared.compare.Side.TheInside.Inside as InsideSide}
+use Rattle.audit_compare.specs.declared.compared.Compared.{TheInside.Inside as InsideCompared}
 use Rattle.audit_compare.specs.declared.compared.{UrlChange.TheInside.Inside as InsideChange, Version.Version}
-use Rattle.audit_compare.specs.declared.rule_sets.RuleSet.{RuleSet}
-use Rattle.audit_core.specs.declared.findings.Finding.{Finding}
-use Rattle.audit_core.specs.Findings.{finding_value}
+use Rattle.audit_compare.specs.declared.rule_sets.{RuleSet.RuleSet}
+use Rattle.audit_core.specs.{declared.findings.Finding.Finding, Findings.finding_value}
 use Rattle.audit_compare.specs.Compare.{ComparedValue, ComparisonValue, Difference, SideValue, UrlChangeValue}
 use Rattle.audit_compare.specs.Compare.{finding_of, has_rule, is_listed}
 

@@ -1,10 +1,9 @@
 -- The fields of an audit and its parts as values.
 use Rattle.std.specs.Prelude.{map}
-use Rattle.texting_robots.specs.Callers.{label_by_value}
-use Rattle.audit_core.specs.Audit.{AgentValue, AuditValue, VerdictValue}
-use Rattle.audit_core.specs.declared.audit.AgentAudit.TheInside.{Inside as InsideAgent}
-use Rattle.audit_core.specs.declared.audit.Audit.TheInside.{Inside as InsideAudit}
-use Rattle.audit_core.specs.declared.audit.Verdict.TheInside.{Inside as InsideVerdict}
+use Rattle.texting_robots.specs.{Callers.label_by_value}
+use Rattle.audit_core.specs.{Audit.VerdictValue, declared.audit.AgentAudit.TheInside.Inside as InsideAgent}
+use Rattle.audit_core.specs.{Audit.AgentValue, declared.audit.Verdict.TheInside.Inside as InsideVerdict}
+use Rattle.audit_core.specs.{Audit.AuditValue, declared.audit.Audit.TheInside.Inside as InsideAudit}
 
 abbrev pub verdict_of : InsideVerdict → VerdictValue
 verdict_of verdict = record { url = verdict.url.now; decision = verdict.decision }

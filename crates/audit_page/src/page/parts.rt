@@ -45,7 +45,7 @@ impl Page {
 }
 
 /// Appends a value, sanitized and escaped.
-#[tactic(auto, using(html_writer::proofs::TextLemmas::decimal_written))]
+#[tactic(auto, using(html_writer::proofs::WritingLemmas::decimal_written))]
 fn push_value(page: &mut Page, value: Value<'_>) -> Result<(), AllocError>
     ensures { OnOk result (page.new.out.items ≡ page.old.out.items ++ escaped (raw_value value.entry)) }
 {

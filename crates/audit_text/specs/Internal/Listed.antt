@@ -1,11 +1,11 @@
 -- The numbers of warnings as the code counts them.
 use Rattle.std.specs.Prelude.{◌≡◌, ℕ, List, [], ◌∷◌, slice_index_or, unwrap_or}
-use Rattle.std.specs.{BTreeMap.BTreeMap, BTreeMap.get_by, Borrow.Bor, Ordering.nat_cmp}
-use Rattle.std.specs.Cmp.Lexicographic.{slice_cmp}
-use Rattle.audit_core.specs.Counts.{rank}
-use Rattle.audit_text.specs.Listed.{count_of}
-use Rattle.printable_text.specs.declared.level.Level.{Level}
-use Rattle.robots_warnings.specs.WarningValue.{WarningValue}
+use Rattle.std.specs.BTreeMap.{BTreeMap, get_by}
+use Rattle.std.specs.{Borrow.Bor, Ordering.nat_cmp, Cmp.Lexicographic.slice_cmp}
+use Rattle.audit_core.specs.{Counts.rank}
+use Rattle.audit_text.specs.{Listed.count_of}
+use Rattle.printable_text.specs.{declared.level.Level.Level}
+use Rattle.robots_warnings.specs.{Message.WarningValue}
 
 -- the numbers of warnings with a name, one for each level
 abbrev pub Counts : Type 0

@@ -1,5 +1,5 @@
-use Rattle.rfc9309_laws.proofs.{FileLemmas.has_delays, RobotLemmas.forms_robot, RobotLemmas.rejected_as}
-use Rattle.rfc9309_laws.proofs.RobotLemmas.{robot_as}
+use Rattle.rfc9309_laws.proofs.FileLemmas.{has_delays}
+use Rattle.rfc9309_laws.proofs.RobotLemmas.{forms_robot, rejected_as, robot_as}
 use Rattle.rfc9309_laws.proofs.standard_robots.Goals as goal
 
 pub returns : goal.returns

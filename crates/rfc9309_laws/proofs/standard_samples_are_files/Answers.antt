@@ -4,13 +4,13 @@ use Rattle.std.specs.Str.{chars, is_utf8}
 use lib.Utf8.{encode}
 use Rattle.texting_robots.specs.Internal.{Cut.cut, Line.line_of, Statement.statement_of, Delay.delay_of}
 use Rattle.bstr.specs.{Trim.kept_end, Trim.kept_start, Utf8.pieces_from, Utf8.spans_from}
-use Rattle.rfc9309_laws.proofs.{FileLemmas.addresses_are, FileLemmas.file_read}
-use Rattle.rfc9309_laws.proofs.{Sources.written, RobotLemmas.group_is_wide, RobotLemmas.repeats_weaker}
+use Rattle.rfc9309_laws.proofs.{FileLemmas.addresses_are, FileLemmas.file_read, Sources.written}
+use Rattle.rfc9309_laws.proofs.RobotLemmas.{group_is_wide, repeats_weaker}
 use Rattle.rfc9309_laws.proofs.HasFormLemmas.{agent_passes, delay_passes, form_passes, keyed_passes}
 use Rattle.rfc9309_laws.proofs.HasFormLemmas.{pattern_with}
 use Rattle.rfc9309_laws.specs.LineForms.{Delay, Empty, Other, Sitemap}
 use Rattle.rfc9309_laws.proofs.SyntaxLemmas.{repeats_both, repeats_none, repeats_one}
-use Rattle.rfc9309_laws.specs.{Sample.cr, Sample.cr_lf, Sample.lf, Sample.path}
+use Rattle.rfc9309_laws.specs.Sample.{cr, cr_lf, lf, path}
 use Rattle.rfc9309_laws.specs.Rfc9309 as rfc
 use Rattle.rfc9309_laws.specs.Sample as sample
 use Rattle.rfc9309_laws.proofs.standard_samples_are_files.Goals as goal

@@ -1,92 +1,16 @@
 -- `robots_open` writes a pointer to a robot, which C owns from then on.
-use Rattle.robots_c.proofs.Borrowing.{
-  ensured_by,
-  List,
-  Word,
-  hands_on,
-  ◌≡◌,
-  ℕ,
-  [],
-  ◌∷◌,
-  refl,
-  flft,
-  ‵,
-  ◌⊛◌,
-  ◌$◌,
-  ◌∵◌,
-  !,
-  qed,
-  of_opd,
-  addr,
-  load,
-  look,
-  store,
-  assigns,
-  stop,
-  fld,
-  no_more,
-  and_then,
-  returns,
-  enter,
-  alloc_all,
-  pass_all,
-  free_all,
-  look_at,
-  get,
-  get_in,
-  sub,
-  whole,
-  through,
-  sets,
-  lands_as,
-  Lfts,
-  owns,
-  Ptr,
-  ptr_val,
-  types_at,
-  lasts,
-  Args,
-  fact,
-  goods,
-  meets,
-  place,
-  pointer,
-  pointer_typed,
-  heap,
-  tokens,
-  raw,
-  slice,
-  Lasts,
-}
-use Rattle.robots_c.proofs.Keeping.{
-  ftrue,
-  SProp,
-  id⊢,
-  sep,
-  ℤ,
-  pos,
-  ◌≢◌,
-  named,
-  await,
-  split,
-  move,
-  and_tt,
-  opens_out,
-  owned_now,
-  status_typed,
-  wrote,
-  emp,
-  last_value,
-  fsep,
-  usize,
-}
-use Rattle.robots_c.specs.File.{bytes_read}
-use Rattle.robots_c.specs.Kept.{Robots}
-use Rattle.robots_c.specs.Status.{HasFaultAt, IsWhyNoRobot}
+use Rattle.robots_c.proofs.Borrowing.{ensured_by, List, Word, hands_on, ◌≡◌, ℕ, [], ◌∷◌, refl, flft, ‵, ◌⊛◌}
+use Rattle.robots_c.proofs.Borrowing.{◌$◌, ◌∵◌, !, qed, of_opd, addr, load, look, store, assigns, stop, fld}
+use Rattle.robots_c.proofs.Borrowing.{no_more, and_then, returns, enter, alloc_all, pass_all, free_all, get}
+use Rattle.robots_c.proofs.Borrowing.{look_at, get_in, sub, whole, through, sets, lands_as, Lfts, owns, Ptr}
+use Rattle.robots_c.proofs.Borrowing.{ptr_val, types_at, lasts, Args, fact, goods, meets, place, pointer, raw}
+use Rattle.robots_c.proofs.Borrowing.{pointer_typed, heap, tokens, slice, Lasts}
+use Rattle.robots_c.proofs.Keeping.{ftrue, SProp, id⊢, sep, ℤ, pos, ◌≢◌, named, await, split, move, and_tt}
+use Rattle.robots_c.proofs.Keeping.{opens_out, owned_now, status_typed, wrote, emp, last_value, fsep, usize}
+use Rattle.robots_c.specs.{File.bytes_read, Kept.Robots, Status.HasFaultAt, Status.IsWhyNoRobot}
+use Rattle.robots_c.proofs.{handle.opened.Met.met, robots_open.Statement.statement}
 use Rattle.robots_c.specs.contracts.handle.opened as callee
-use Rattle.robots_c.proofs.handle.opened.Met.{met}
 use Rattle.robots_c.specs.contracts.robots_open as self
-use Rattle.robots_c.proofs.robots_open.Statement.{statement}
 use Rattle.robots_c.proofs.robots_open.Code as code
 
 pub robots_open_spec : {M : Type 1} → statement M

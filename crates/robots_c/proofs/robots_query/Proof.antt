@@ -1,52 +1,12 @@
 -- `robots_query` reads a borrowed robot.
-use Rattle.robots_c.proofs.Borrowing.{
-  ℕ,
-  [],
-  ◌∷◌,
-  refl,
-  raw,
-  ◌$◌,
-  ◌∵◌,
-  !,
-  qed,
-  done,
-  of_opd,
-  addr,
-  stop,
-  no_more,
-  and_then,
-  returns,
-  enter,
-  alloc_all,
-  pass_all,
-  free_all,
-  look_at,
-  get,
-  through,
-  sets,
-  lands_as,
-  Lfts,
-  lasts,
-  Args,
-  goods,
-  hands_on,
-  meets,
-  place,
-  reference,
-  borrows,
-  heap,
-  slice,
-  fact,
-  lent_place,
-  context,
-  ensured_by,
-}
-use Rattle.robots_c.specs.Kept.{Robots}
-use Rattle.robots_c.specs.File.{IsRobotOfSomeFile}
+use Rattle.robots_c.proofs.{Borrowing.ℕ, urls.query.Met.met, robots_query.Statement.statement}
+use Rattle.robots_c.proofs.Borrowing.{and_then, enter, alloc_all, pass_all, reference, lent_place, ensured_by}
+use Rattle.robots_c.proofs.Borrowing.{no_more, returns, free_all, look_at, through, lands_as, lasts, hands_on}
+use Rattle.robots_c.proofs.Borrowing.{refl, done, of_opd, addr, goods, meets, place, borrows, slice, context}
+use Rattle.robots_c.proofs.Borrowing.{[], ◌∷◌, raw, ◌$◌, ◌∵◌, !, qed, stop, get, sets, Lfts, Args, heap, fact}
+use Rattle.robots_c.specs.{Kept.Robots, File.IsRobotOfSomeFile}
 use Rattle.robots_c.specs.contracts.urls.query as callee
-use Rattle.robots_c.proofs.urls.query.Met.{met}
 use Rattle.robots_c.specs.contracts.robots_query as self
-use Rattle.robots_c.proofs.robots_query.Statement.{statement}
 use Rattle.robots_c.proofs.robots_query.Code as code
 
 pub robots_query_spec : {M : Type 1} → statement M

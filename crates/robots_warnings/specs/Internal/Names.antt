@@ -1,12 +1,11 @@
 -- Sets of names in lower case.
 use Rattle.std.specs.Prelude.{◌≡◌, ℕ, ◌+◌, Bool, bytes_eq, filter, length, map, not, ◌||◌, List, ◌++◌, ◌∷◌}
 use Rattle.std.specs.Prelude.{[]}
-use Rattle.std.specs.{BTreeSet.BTreeSet, BTreeSet.contains, Global.Vec, List.enumerate_from, List.list_any}
-use Rattle.std.specs.{Ordering.nat_cmp, Str.str_to_ascii_lowercase}
-use Rattle.std.specs.Cmp.Lexicographic.{slice_cmp}
-use Rattle.std.specs.declared.cmp.Ordering.{Ordering}
+use Rattle.std.specs.BTreeSet.{BTreeSet, contains}
+use Rattle.std.specs.{Global.Vec, List.enumerate_from, List.list_any, Ordering.nat_cmp}
+use Rattle.std.specs.{Str.str_to_ascii_lowercase, Cmp.Lexicographic.slice_cmp, declared.cmp.Ordering.Ordering}
 use Rattle.texting_robots.specs.Callers.{LineValue, file_lines, is_agent_named}
-use Rattle.robots_warnings.specs.NamesPastLimit.{has_new_name, is_past_limit, names_past_limit}
+use Rattle.robots_warnings.specs.Crawlers.{has_new_name, is_past_limit, names_past_limit}
 
 -- a name in lower case
 abbrev pub Key : Type 0

@@ -1,17 +1,15 @@
 -- What is found among the rules of a crawler: their lines by their patterns, as they are compared, and sets
 -- of patterns.
-use Rattle.std.specs.Prelude.{◌≡◌, ℕ, Bool, List, String, true, not, ◌||◌, ◌&&◌, length, map, nat_lt}
-use Rattle.std.specs.Prelude.{Option, Some, None, []}
-use Rattle.std.specs.HashSet.{HashSet, contains_text}
-use Rattle.std.specs.{Borrow.Bor, BTreeMap.BTreeMap, BTreeMap.get, BTreeSet.contains, BTreeSet.BTreeSet}
-use Rattle.std.specs.{Global.Global, Global.Vec, HashMap.HashMap}
+use Rattle.std.specs.Prelude.{◌≡◌, ℕ, Bool, List, String, true, not, ◌||◌, ◌&&◌, length, map, nat_lt, Option}
+use Rattle.std.specs.Prelude.{Some, None, []}
+use Rattle.std.specs.{HashSet.HashSet, HashSet.contains_text, Borrow.Bor, BTreeMap.BTreeMap, BTreeMap.get}
+use Rattle.std.specs.{BTreeSet.contains, BTreeSet.BTreeSet, Global.Global, Global.Vec, HashMap.HashMap}
 use Rattle.std.specs.{HashMap.get_by_text, Ordering.nat_cmp, List.list_any}
 use Rattle.texting_robots.specs.Callers.{LineValue, PlacedRule}
-use Rattle.robots_warnings.specs.declared.conflicts.RuleLines.{RuleLines}
+use Rattle.robots_warnings.specs.{declared.conflicts.RuleLines.RuleLines, Message.WarningValue}
+use Rattle.robots_warnings.specs.{Warnings.rule_warnings, Internal.Names.Key, Internal.Names.key_cmp}
 use Rattle.robots_warnings.specs.Conflicts.{conflict, first_line, is_like, overruled}
-use Rattle.robots_warnings.specs.Closed.{is_exempt, is_rival, is_whole_site}
-use Rattle.robots_warnings.specs.{WarningValue.WarningValue, Warnings.rule_warnings, Replaced.denies}
-use Rattle.robots_warnings.specs.Internal.Names.{Key, key_cmp}
+use Rattle.robots_warnings.specs.Closed.{is_exempt, is_rival, is_whole_site, denies}
 
 -- a map from patterns to lines, for any hash function
 abbrev pub Lines : Type 0 → Type 0

@@ -1,13 +1,12 @@
 -- Sets of the values of rules, and the rules of a group that were seen so far.
 use Rattle.std.specs.Prelude.{◌≡◌, ℕ, Bool, List, [], ◌∷◌, ◌||◌, bytes_eq, false, true, ◌++◌}
-use Rattle.std.specs.HashSet as hash
 use Rattle.std.specs.{HashSet.HashSet, List.list_any}
 use Rattle.texting_robots.specs.Callers.{LineValue, Allow, Disallow, Label}
-use Rattle.robots_warnings.specs.declared.values.Value.{Value}
+use Rattle.robots_warnings.specs.{declared.values.Value.Value, declared.spellings.Spelling.Spelling}
+use Rattle.robots_warnings.specs.{declared.repeated.Seen.Seen}
 use Rattle.robots_warnings.specs.Repeated.{above_next, is_repeated, repeated, repeated_from}
-use Rattle.robots_warnings.specs.declared.spellings.Spelling.{Spelling}
 use Rattle.robots_warnings.specs.Spellings.{has_other_escape, is_rule_with}
-use Rattle.robots_warnings.specs.declared.repeated.Seen.{Seen}
+use Rattle.std.specs.HashSet as hash
 
 abbrev pub value_eq : Value → Value → Bool
 value_eq one two = bytes_eq one.bytes.now two.bytes.now

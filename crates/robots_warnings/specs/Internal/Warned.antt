@@ -1,7 +1,6 @@
 -- The fields of a warning as a value.
 use Rattle.std.specs.Prelude.{option_map}
-use Rattle.robots_warnings.specs.declared.warning.Warning.TheInside.{Inside}
-use Rattle.robots_warnings.specs.WarningValue.{WarningValue}
+use Rattle.robots_warnings.specs.{declared.warning.Warning.TheInside.Inside, Message.WarningValue}
 
 abbrev pub warning_value : Inside → WarningValue
 warning_value warning =

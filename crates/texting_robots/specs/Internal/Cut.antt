@@ -1,9 +1,7 @@
 -- The cut as a function, which computes it from the end of the text, and the parts of its first pair.
-use Rattle.std.specs.Prelude.{ℕ, suc, ◌==◌, List, [], ◌∷◌, if◌then◌else◌, map, Bool, true}
-use Rattle.std.specs.Prelude.{false}
-use Rattle.std.specs.List.{prefix_len}
-use Rattle.texting_robots.specs.Cut.{Pair, cr, lf}
-use Rattle.texting_robots.specs.Line.{nul_as_lf}
+use Rattle.std.specs.Prelude.{ℕ, suc, ◌==◌, List, [], ◌∷◌, if◌then◌else◌, map, Bool, true, false}
+use Rattle.std.specs.{List.prefix_len}
+use Rattle.texting_robots.specs.{Cut.Pair, Cut.cr, Cut.lf, Line.nul_as_lf}
 
 -- a byte of a line's content is added to the first content
 abbrev pub before_body : ℕ → List Pair → List Pair

@@ -1,11 +1,9 @@
 -- The delay of a text as a function, which finds one part after the other.
-use Rattle.std.specs.Prelude.{ℕ, ◌+◌, ◌-◌, ◌*◌, ◌/◌, ◌^◌, ◌<◌, ◌==◌, ◌&&◌}
-use Rattle.std.specs.Prelude.{◌||◌, nat_lt, min, Bool, true, false, List, [], ◌∷◌, ◌++◌, All}
-use Rattle.std.specs.Prelude.{Option, Some, None, if◌then◌else◌, codes, drop, length}
-use Rattle.std.specs.Char.{IsAsciiDigit, is_ascii_digit}
-use Rattle.std.specs.List.{list_all, prefix_len, take_while}
-use Rattle.std.specs.Option.{option_and_then, option_map}
-use Rattle.std.specs.Str.{byte, str_eq_ignore_ascii_case}
+use Rattle.std.specs.Prelude.{ℕ, ◌+◌, ◌-◌, ◌*◌, ◌/◌, ◌^◌, ◌<◌, ◌==◌, ◌&&◌, ◌||◌, nat_lt, min, Bool, true, []}
+use Rattle.std.specs.Prelude.{false, List, ◌∷◌, ◌++◌, All, Option, Some, None, if◌then◌else◌, codes, drop}
+use Rattle.std.specs.Prelude.{length}
+use Rattle.std.specs.{Char.IsAsciiDigit, Char.is_ascii_digit, List.list_all, List.prefix_len, List.take_while}
+use Rattle.std.specs.{Option.option_and_then, Option.option_map, Str.byte, Str.str_eq_ignore_ascii_case}
 use Rattle.std.specs.Str.Parse.{digits_value, starts_with_minus, without_leading_sign}
 use Rattle.texting_robots.specs.Delay.{Decimal, greatest_delay, negative_exponent, positive_exponent}
 

@@ -1,14 +1,11 @@
 -- The state that the code updates line by line (`GroupTracker`), and what it finds in the lines.
-use Rattle.std.specs.Prelude.{ℕ, ◌+◌, Bool, false, not, ◌&&◌, ◌||◌, List, []}
-use Rattle.std.specs.Prelude.{◌∷◌, Option, Some, None, if◌then◌else◌}
+use Rattle.std.specs.Prelude.{ℕ, ◌+◌, Bool, false, not, ◌&&◌, ◌||◌, List, [], ◌∷◌, Option, Some, None}
+use Rattle.std.specs.Prelude.{if◌then◌else◌}
 use Rattle.std.specs.{List.cons_option, List.list_any, Str.is_utf8}
-use Rattle.texting_robots.specs.declared.groups.GroupTracker.{GroupTracker}
-use Rattle.texting_robots.specs.{Group.is_agent, Group.is_agent_named, Group.is_group, Line.LineValue}
-use Rattle.texting_robots.specs.declared.labels.Membership.{Membership}
+use Rattle.texting_robots.specs.{declared.groups.GroupTracker.GroupTracker, Group.is_agent, Group.is_group}
+use Rattle.texting_robots.specs.{Group.is_agent_named, Line.LineValue, declared.labels.Membership.Membership}
+use Rattle.texting_robots.specs.{Labels.Label, Labels.is_own, Executable.rule_in, Rules.PlacedRule}
 use Rattle.texting_robots.specs.declared.labels.Membership.TheVariants.{Own, Other, Ungrouped}
-use Rattle.texting_robots.specs.Labels.{Label, is_own}
-use Rattle.texting_robots.specs.Executable.{rule_in}
-use Rattle.texting_robots.specs.Rules.{PlacedRule}
 pub use Rattle.texting_robots.specs.Rules.{placed}
 
 -- before the first line

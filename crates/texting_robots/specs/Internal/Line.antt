@@ -1,11 +1,9 @@
 -- The lines of a text as a function.
 use Rattle.std.specs.Prelude.{ℕ, List, [], ◌∷◌, codes, map, Option, Some, None}
-use Rattle.texting_robots.specs.declared.parser.statement.Kind.{Kind}
-use Rattle.texting_robots.specs.Internal.Cut.{bodies_of}
-use Rattle.texting_robots.specs.Internal.Delay.{delay_of}
-use Rattle.texting_robots.specs.Internal.Statement.{statement_of}
-use Rattle.texting_robots.specs.declared.parser.statement.Kind.TheVariants as kind
+use Rattle.texting_robots.specs.{declared.parser.statement.Kind.Kind}
+use Rattle.texting_robots.specs.Internal.{Cut.bodies_of, Delay.delay_of, Statement.statement_of}
 use Rattle.texting_robots.specs.Line.{LineValue, UserAgent, Allow, Disallow, Sitemap, CrawlDelay, Raw}
+use Rattle.texting_robots.specs.declared.parser.statement.Kind.TheVariants as kind
 
 -- the line with this delay, or `Raw` with the whole content if there is none
 abbrev pub delay_or_raw : Option ℕ → List ℕ → LineValue

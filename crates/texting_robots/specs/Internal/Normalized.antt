@@ -1,10 +1,9 @@
 -- Absolute URLs that `url` leaves unchanged, read from their start.
-use Rattle.std.specs.Prelude.{◌≡◌, ◌⊎◌, ℕ, ◌==◌, Bool, not, List, [], ◌∷◌, ◌++◌}
-use Rattle.std.specs.Prelude.{take, drop, length, nat_lt, slice_index, if◌then◌else◌}
-use Rattle.std.specs.Prelude.{◌≢◌, ◌<◌, ◌^◌, ◌/◌, ◌&&◌, ◌||◌, decimal}
-use Rattle.std.specs.Prelude.{Option, None, Some}
+use Rattle.std.specs.Prelude.{◌≡◌, ◌⊎◌, ℕ, ◌==◌, Bool, not, List, [], ◌∷◌, ◌++◌, take, drop, length, nat_lt}
+use Rattle.std.specs.Prelude.{slice_index, if◌then◌else◌, ◌≢◌, ◌<◌, ◌^◌, ◌/◌, ◌&&◌, ◌||◌, decimal, Option}
+use Rattle.std.specs.Prelude.{None, Some}
 use Rattle.std.specs.{Int.Bits.bit_and, List.prefix_len, Str.byte}
-use Rattle.url.specs.Path.{dot_count}
+use Rattle.url.specs.{Path.dot_count}
 use Rattle.texting_robots.specs.declared.normalized.TheConstants.{SEGMENT, UPPER}
 
 -- the byte is in the set `part`: the table, at the lower half of the byte, has the bit of its upper half

@@ -1,12 +1,11 @@
 -- A robot by functions of its lines, and why there may be none.
 use Rattle.std.specs.Prelude.{◌≡◌, ⊤, ℕ, List, Any, IsPermutation}
-use Rattle.texting_robots.specs.{Line.LineValue, Pattern.IsOverlong, Robot.RobotValue, Rules.Rule}
+use Rattle.texting_robots.specs.{Line.LineValue, Pattern.IsOverlong, Robot.RobotValue}
+use Rattle.texting_robots.specs.{declared.error.Error.Error, declared.reading.Rejection.Rejection}
+use Rattle.texting_robots.specs.Rules.{Rule, IsFirstOverlong, PlacedRule}
 use Rattle.texting_robots.specs.Executable.{delay_for, placed_rules, rules_for, sitemaps_in}
-use Rattle.texting_robots.specs.Rules.{IsFirstOverlong, PlacedRule}
-use Rattle.texting_robots.specs.declared.error.Error.{Error}
-use Rattle.texting_robots.specs.declared.error.Error.TheVariants as error
-use Rattle.texting_robots.specs.declared.reading.Rejection.{Rejection}
 use Rattle.texting_robots.specs.declared.reading.Rejection.TheVariants.{Memory, Overlong}
+use Rattle.texting_robots.specs.declared.error.Error.TheVariants as error
 
 -- some rule of the lines is overlong
 abbrev pub SomeOverlong : List ℕ → List LineValue → Type 0

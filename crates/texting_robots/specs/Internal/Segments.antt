@@ -1,16 +1,79 @@
--- What the segments of a pattern match, given by the rest of the pattern after each of them.
-use Rattle.std.specs.Prelude.{◌≡◌, ◌≢◌, ◌↔◌, ℕ, ◌+◌, ◌-◌, ◌≤◌}
-use Rattle.std.specs.Prelude.{◌==◌, true, false, List, []}
-use Rattle.std.specs.Prelude.{◌∷◌, ◌++◌, All, drop, length, slice_index, slice_range, take}
-use Rattle.std.specs.List.{position_or_len, prefix_len}
-use Rattle.texting_robots.specs.declared.segments.Span.{Span}
-use Rattle.texting_robots.specs.declared.segments.Segment.{Segment}
-use Rattle.texting_robots.specs.declared.segments.Ending.{Ending}
+-- Segments of patterns: stars, borders, entries and the prefilter.
+use Rattle.std.specs.Prelude.{◌≡◌, ◌+◌, ◌*◌, ◌≤◌, ℕ, List, length, ◌≢◌, Option, Some, None, All, [], ◌∷◌, ◌-◌}
+use Rattle.std.specs.Prelude.{◌++◌, ◌<◌, slice_index, ◌↔◌, ◌==◌, true, false, drop, slice_range, take, ◌%◌}
+use Rattle.std.specs.Prelude.{◌^◌, IfSome, bit_and, bit_or, min, Bool, EachIndex, map, slice_index_or}
+use Rattle.std.specs.Prelude.{string_bytes, if◌then◌else◌}
+use Rattle.texting_robots.specs.{View.ViewValue, declared.prefilter.Prefilter.Prefilter, Rules.PlacedRule}
+use Rattle.std.specs.{Borrow.Bor, List.position_or_len, List.prefix_len, Int.w64, Int.from_le_bytes}
+use Rattle.texting_robots.specs.Pattern.{IsSuffix, star, dollar, Matches}
+use Rattle.texting_robots.specs.declared.segments.{Span.Span, Segment.Segment, Ending.Ending, Ends.Ends}
 use Rattle.texting_robots.specs.declared.segments.Ending.TheVariants.{Open, Closed, Last, Never}
-use Rattle.texting_robots.specs.declared.segments.Ends.{Ends}
-use Rattle.texting_robots.specs.Internal.Border.{IsTable}
-use Rattle.texting_robots.specs.Pattern.{dollar, IsSuffix, Matches, star}
+use Rattle.texting_robots.specs.declared.prefilter.head.{Head.Head}
+use Rattle.texting_robots.specs.declared.prefilter.bigrams.{BigramSet.BigramSet}
+use Rattle.std.specs.Ordering.{flip_args, nat_cmp, on, then_cmp}
+use Rattle.std.specs.declared.cmp.{Ordering.Ordering}
+use Rattle.texting_robots.specs.declared.rules.{Entry.Entry, Unsorted.Unsorted}
 pub use Rattle.texting_robots.specs.Pattern.{is_wildcard}
+
+-- ---- How many looks are taken until less of a text is left.
+
+-- the text is the same, and at most two looks were taken for each byte that was left before and no longer
+-- is
+pub record PassesTo (old new : ViewValue) (before after : List ℕ) : Type 0 where
+  pub text : new.text ≡ old.text
+  pub looks : old.looks ≤ new.looks
+  pub cost : new.looks + 2 * length after ≤ old.looks + 2 * length before
+
+-- ---- A pattern cut at its first star, and the first occurrence of a segment in a text.
+
+-- the pattern from a star on, given by what follows the star, if there is one
+abbrev pub from_star : Option (Bor (List ℕ)) → List ℕ
+from_star None = []
+from_star (Some following) = star ∷ following.now
+
+-- the segment precedes the pattern's first star, and the rest follows that star, if there is one
+pub record IsCutAtStar (pattern segment : List ℕ) (rest : Option (Bor (List ℕ))) : Type 0 where
+  pub plain : All (λ b. b ≢ star) segment
+  pub parts : pattern ≡ segment ++ from_star rest
+
+-- the rest follows the first occurrence of the segment in the text: after any other occurrence less is left
+pub record IsRestAfterFirst (segment text rest : List ℕ) : Type 0 where
+  pub front : List ℕ
+  pub splits : text ≡ front ++ (segment ++ rest)
+  pub first : (other after : List ℕ) → text ≡ other ++ (segment ++ after) → IsSuffix after rest
+
+-- the segment doesn't occur in the text
+abbrev pub OccursNowhere : List ℕ → List ℕ → Type 0
+OccursNowhere segment text = (front rest : List ℕ) → text ≢ front ++ (segment ++ rest)
+
+-- ---- The borders of the prefixes of a segment, for the Knuth-Morris-Pratt algorithm. A border of some bytes
+-- is a prefix of them, other than all of them, that is also a suffix.
+
+-- if the segment is placed at this position of the text, it has the same bytes as the text there, as far as
+-- these are before `end`
+abbrev pub Agrees : List ℕ → List ℕ → ℕ → ℕ → Type 0
+Agrees text segment at end =
+    (k : ℕ) → k < length segment → at + k < end → slice_index text (at + k) ≡ slice_index segment k
+
+-- the first `border` bytes of the segment are the longest border of its first `len` bytes
+pub record IsLongestBorder (segment : List ℕ) (len border : ℕ) : Type 0 where
+  pub proper : border < len
+  pub agrees : Agrees segment segment (len - border) len
+  pub longest : (longer : ℕ) → border < longer → longer < len
+      → ¬ Agrees segment segment (len - longer) len
+
+-- the table has the longest border of the segment's first byte, of its first two bytes, and so on
+abbrev pub AreBorders : List ℕ → List ℕ → Type 0
+AreBorders segment table =
+    (len : ℕ) → 0 < len → len ≤ length table
+    → IsLongestBorder segment len (slice_index table (len - 1))
+
+-- it has them for all prefixes of the segment except the empty one and the segment itself
+pub record IsTable (segment table : List ℕ) : Type 0 where
+  pub long : length table ≡ length segment - 1
+  pub borders : AreBorders segment table
+
+-- ---- What the segments of a pattern match, given by the rest of the pattern after each of them.
 
 -- the pattern is empty, or begins with a wildcard
 abbrev pub IsAtWildcard : List ℕ → Type 0
@@ -122,3 +185,165 @@ pub record AddsSegments (pattern : List ℕ) (ends : Ends) (old_segments new_seg
   pub put_segments : new_segments ≡ old_segments ++ segments
   pub put_tables : new_borders ≡ old_borders ++ tables
   pub are_segments : AreSegments pattern ends segments new_borders
+
+-- ---- The prefilter: conditions on a text without which a pattern can't match it.
+
+-- ---- the beginning
+
+-- the first eight bytes as a little-endian number; a shorter text is padded with zeros
+abbrev pub first_eight : List ℕ → ℕ
+first_eight text = from_le_bytes w64 text
+
+-- ones for the first n bytes of eight
+abbrev pub ones_below : ℕ → ℕ
+ones_below n = 2 ^ (8 * min n 8) - 1
+
+-- the first bytes of the segment, at most eight, and ones for them
+pub record IsHeadOf (segment : List ℕ) (head : Head) : Type 0 where
+  pub mask : head.mask ≡ ones_below (length segment)
+  pub bytes : head.bytes ≡ bit_and (first_eight segment) head.mask
+
+-- `front`, the first eight bytes of a text, has the bytes of the head where the mask has ones
+abbrev pub Fits : Head → ℕ → Type 0
+Fits head front = bit_and front head.mask ≡ head.bytes
+
+-- ---- bigrams (pairs of adjacent bytes), as sets of 64 bits
+
+-- the bit of a bigram
+abbrev pub pair_bit : ℕ → ℕ → ℕ
+pair_bit first second = 2 ^ ((first + 2 * second) % 64)
+
+-- the bit of the byte and the next one, if there is one
+abbrev pub front_bit : ℕ → List ℕ → ℕ
+front_bit first [] = 0
+front_bit first (second ∷ rest) = pair_bit first second
+
+-- the bits of all bigrams of a text
+unfoldable pub pair_set : List ℕ → ℕ
+pair_set [] = 0
+pair_set (first ∷ rest) = bit_or (front_bit first rest) (pair_set rest)
+
+-- each bit of the first set is in the second
+abbrev pub AreWithin : ℕ → ℕ → Type 0
+AreWithin few many = bit_or few many ≡ many
+
+-- the bigrams are those of the text, if they are known
+abbrev pub ArePairsOf : List ℕ → Option BigramSet → Type 0
+ArePairsOf text pairs = IfSome pairs (λ known. known.bits ≡ pair_set text)
+
+-- the bigrams of the bytes that a text has to end with
+abbrev pub ending_pairs : List ℕ → Ending → ℕ
+ending_pairs pattern Open = 0
+ending_pairs pattern Closed = 0
+ending_pairs pattern (Last span) = pair_set (part_of pattern span)
+ending_pairs pattern Never = 0
+
+-- ---- masks: some bigrams without which a rule can't match, by which many rules are skipped at once
+
+-- the masks of this range exist, and none is a subset of the text's bigrams
+abbrev pub AreApart : List ℕ → ℕ → ℕ → ℕ → Type 0
+AreApart masks text from to =
+    (k : ℕ) → from ≤ k → k < to → (k < length masks) × ¬ AreWithin (slice_index masks k) text
+
+-- ---- both
+
+-- the text begins with the bytes of the head, and has the bigrams
+pub record Meets (prefilter : Prefilter) (text : List ℕ) : Type 0 where
+  pub head : Fits prefilter.head (first_eight text)
+  pub pairs : AreWithin prefilter.pairs.bits (pair_set text)
+
+-- every text that the pattern matches meets the prefilter
+abbrev pub ArePrefilter : List ℕ → Prefilter → Type 0
+ArePrefilter pattern prefilter = (text : List ℕ) → Matches pattern text → Meets prefilter text
+
+-- ---- Rules by their ranges of shared vectors.
+
+-- how many bytes the pattern has
+abbrev pub len_of : Entry → ℕ
+len_of entry = entry.pattern.end - entry.pattern.start
+
+-- twice the length, plus one for an Allow
+abbrev pub rank : ℕ → Bool → ℕ
+rank len allows = 2 * len + (if allows then 1 else 0)
+
+-- the ranges contain a pattern and its segments, whose failure tables are in `borders`; every text that the
+-- pattern matches meets the prefilter
+pub record IsEntry (text : List ℕ) (segments : List Segment) (borders : List ℕ) (entry : Entry) : Type 0 where
+  pub pattern : IsSpan text entry.pattern
+  pub searched : IsSpan segments entry.segments
+  pub is_cut : AreSegments (part_of text entry.pattern) entry.ends (part_of segments entry.segments) borders
+  pub needed : ArePrefilter (part_of text entry.pattern) entry.prefilter
+
+abbrev pub IsEntryOf : Unsorted → Entry → Type 0
+IsEntryOf all entry = IsEntry (string_bytes all.text) all.segments.items all.borders.items entry
+
+-- each entry is one of these vectors, and there are no more masks than entries
+pub record AreEntries (all : Unsorted) : Type 0 where
+  pub known : All (IsEntryOf all) all.entries.items
+  pub masks : length all.masks.items ≤ length all.entries.items
+
+abbrev pub pattern_of : Unsorted → Entry → List ℕ
+pattern_of all entry = part_of (string_bytes all.text) entry.pattern
+
+-- the pattern, whether it allows, and its line
+abbrev pub placed_at : List ℕ → Entry → PlacedRule
+placed_at text entry = record { rule = (part_of text entry.pattern, entry.is_allow); line = entry.line }
+
+abbrev pub rules_in : Unsorted → List PlacedRule
+rules_in all = map (placed_at (string_bytes all.text)) all.entries.items
+
+-- ---- the order
+
+abbrev pub rank_in : Entry → ℕ
+rank_in entry = rank (len_of entry) entry.is_allow
+
+abbrev pub line_in : Entry → ℕ
+line_in entry = entry.line
+
+-- which of two entries is tried first
+abbrev pub entry_cmp : Entry → Entry → Ordering
+entry_cmp = then_cmp (flip_args (on rank_in nat_cmp)) (on line_in nat_cmp)
+
+-- the higher rank is first, and for the same rank the earlier line
+pub record GoesBefore (first second : Entry) : Type 0 where
+  pub higher : rank_in second ≤ rank_in first
+  pub earlier : rank_in second ≡ rank_in first → first.line ≤ second.line
+
+-- ---- the first matching rule
+
+-- a default, for positions without an entry
+abbrev pub no_entry : Entry
+no_entry =
+    let none : Span = record { start = 0; end = 0 } in
+    record {
+      prefilter = record { head = record { bytes = 0; mask = 0 }; pairs = record { bits = 0 } };
+      pattern = none;
+      segments = none;
+      ends = record { first_len = 0; ending = Open };
+      line = 0;
+      is_allow = false;
+    }
+
+-- the bigrams of the prefilter, and those of at most nine bytes before the first wildcard
+abbrev pub mask_in : List ℕ → Entry → ℕ
+mask_in text entry =
+    bit_or entry.prefilter.pairs.bits
+    (pair_set (take (min entry.ends.first_len 9) (part_of text entry.pattern)))
+
+abbrev pub HaveMasks : List ℕ → List Entry → List ℕ → Type 0
+HaveMasks text entries masks =
+    EachIndex masks (λ k. slice_index masks k ≡ mask_in text (slice_index_or entries k no_entry))
+
+-- the rule at this position matches the text
+abbrev pub MatchesAt : Unsorted → ℕ → List ℕ → Type 0
+MatchesAt all at text =
+    Matches (pattern_of all (slice_index_or all.entries.items at no_entry)) text
+
+abbrev pub NoneMatches : Unsorted → List ℕ → Type 0
+NoneMatches all text = (k : ℕ) → k < length all.entries.items → ¬ MatchesAt all k text
+
+-- the rule at this position matches the text, and none before it does
+abbrev pub IsFirstMatch : Unsorted → List ℕ → ℕ → Type 0
+IsFirstMatch all text at =
+    (at < length all.entries.items) × MatchesAt all at text
+    × ((k : ℕ) → k < at → ¬ MatchesAt all k text)

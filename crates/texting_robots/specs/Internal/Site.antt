@@ -1,17 +1,18 @@
--- The group lines of a file, each with the run of user-agent lines that is above it, and the names of these
--- runs. A run is a sequence of user-agent lines with no group line between them.
-use Rattle.std.specs.Prelude.{◌≡◌, ℕ, ◌+◌, ◌==◌, Bool, not, ◌&&◌, ◌||◌, false, List, []}
-use Rattle.std.specs.Prelude.{◌∷◌, Option, Some, None, drop, filter, map, take}
-use Rattle.std.specs.Prelude.{if◌then◌else◌, bytes_eq}
-use Rattle.std.specs.{List.cons_option, List.filter_map, List.list_any, Option.option_or}
-use Rattle.std.specs.{Str.str_to_ascii_lowercase}
-use Rattle.texting_robots.specs.{Group.is_agent, Group.is_group, Line.LineValue, Line.UserAgent}
+-- The lines of a site: names, group lines and iterations over them.
+use Rattle.std.specs.Prelude.{◌≡◌, ℕ, ◌+◌, ◌==◌, Bool, not, ◌&&◌, ◌||◌, false, List, [], ◌∷◌, Option, Some}
+use Rattle.std.specs.Prelude.{None, drop, filter, map, take, if◌then◌else◌, bytes_eq, ◌*◌, ◌%◌, ◌<◌, ◌≤◌, ◌≢◌}
+use Rattle.std.specs.Prelude.{get_or, length, slice_get, ◌++◌, ltb}
+use Rattle.std.specs.List.{cons_option, filter_map, list_any, position_or_len}
+use Rattle.std.specs.{Option.option_or, Str.str_to_ascii_lowercase}
+use Rattle.texting_robots.specs.Group.{is_agent, is_group}
+use Rattle.texting_robots.specs.{Line.LineValue, Line.UserAgent, Line.delay_in, Internal.Line.line_of}
 use Rattle.texting_robots.specs.Executable.{delay_before_agents, file_lines, sitemap_in, sitemaps_in}
-use Rattle.texting_robots.specs.declared.site.lines.AgentLine.{AgentLine}
-use Rattle.texting_robots.specs.declared.site.lines.KeptLine.{KeptLine}
-use Rattle.texting_robots.specs.declared.site.lines.Span.{Span}
-use Rattle.texting_robots.specs.{Line.delay_in, Internal.Line.line_of}
+use Rattle.texting_robots.specs.declared.site.lines.{AgentLine.AgentLine, KeptLine.KeptLine, Span.Span}
+use Rattle.texting_robots.specs.declared.site.own.{Position.Position}
 pub use Rattle.texting_robots.specs.OwnLines.{Tagged, delay_of, rule_of, tag_of}
+
+-- ---- The group lines of a file, each with the run of user-agent lines that is above it, and the names of
+-- these runs. A run is a sequence of user-agent lines with no group line between them.
 
 -- the name of a user-agent line, its run, and how many group lines are above it
 pub record Named : Type 0 where
@@ -114,3 +115,65 @@ pub record IsIndexOf (text : List ℕ) (groups : List KeptLine) (names : List Na
   pub names_are : names ≡ named (file_lines text)
   pub sitemaps_are : filter_map (listed text) sitemaps ≡ sitemaps_in (file_lines text)
   pub early_is : early ≡ delay_before_agents (file_lines text)
+
+-- ---- A hash table over the names of user-agent lines.
+
+-- how many lines are before the first one with the name: all, if none has it
+abbrev pub first_named : List ℕ → List Named → ℕ
+first_named name names = position_or_len (has_name name) names
+
+abbrev pub hash_from : ℕ → List ℕ → ℕ
+hash_from hash [] = hash
+hash_from hash (b ∷ bs) = hash_from ((hash * 33 + b) % 16777216) bs
+
+-- the bucket of a name in lowercase, of `count` buckets
+abbrev pub bucket_of : ℕ → List ℕ → ℕ
+bucket_of count name = hash_from 0 name % count
+
+-- the name of the line is in this bucket
+abbrev pub is_in : ℕ → ℕ → Named → Bool
+is_in count bucket named = bucket_of count (str_to_ascii_lowercase named.name) == bucket
+
+-- among the lines from `from` on, each bucket's head is its first line, and each line is linked to the next
+-- line in its bucket
+pub record AreLinked (from : ℕ) (names : List Named) (heads nexts : List ℕ) : Type 0 where
+  pub buckets : length heads ≡ length names
+  pub followed : length nexts ≡ length names
+  pub heads_are : (b : ℕ) → b < length names
+      → get_or heads b 0 ≡ from + position_or_len (is_in (length names) b) (drop from names)
+  pub nexts_are : (i : ℕ) (n : Named) → from ≤ i → slice_get names i ≡ Some n → get_or nexts i 0
+      ≡ i + 1 + position_or_len (is_in (length names) (bucket_of (length names)
+      (str_to_ascii_lowercase n.name)))
+      (drop (i + 1) names)
+
+-- ---- An iteration over the group lines that apply to the crawlers with a group name.
+
+-- the run `other` is after `run`, and one of these user-agent lines is in it and has the name
+abbrev pub is_later : List ℕ → ℕ → List Named → ℕ → Bool
+is_later name run names other = ltb run other && is_run_of name names other
+
+-- the leading group lines of `rest` that are in this run, and the group lines of later runs in which one of
+-- these user-agent lines has the name
+abbrev pub own_from : List ℕ → ℕ → List Tagged → List Named → List Tagged → List Tagged
+own_from name run rest names tags = in_front run rest ++ filter (λ t. is_later name run names t.run) tags
+
+-- the lines that are left at a position
+abbrev pub own_at : List ℕ → Position → List Named → List Tagged → List Tagged
+own_at name position names tags =
+    own_from name position.run (drop position.at tags) (drop position.name_index names) tags
+
+-- the names and group lines are those of a file
+abbrev pub AreOfFile : List Named → List Tagged → Type 0
+AreOfFile names tags = (lines : List LineValue) × (names ≡ named lines) × (tags ≡ tagged lines)
+
+-- and the user-agent line at the position has the name, or none is left
+abbrev pub IsWalk : List ℕ → Position → List Named → List Tagged → Type 0
+IsWalk name position names tags =
+    (first_named name (drop position.name_index names) ≡ 0) × AreOfFile names tags
+
+-- the iteration has all lines that apply: those of the runs that contain the name, or all if the file has
+-- no user-agent line
+abbrev pub IsWholeWalk : List ℕ → List Named → List Tagged → List Tagged → Type 0
+IsWholeWalk name names tags walk =
+    (lines : List LineValue) → names ≡ named lines → tags ≡ tagged lines
+    → (names ≡ [] → walk ≡ in_front 0 tags) × (names ≢ [] → walk ≡ own_tagged name lines)

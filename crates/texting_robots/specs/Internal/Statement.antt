@@ -1,15 +1,11 @@
 -- The directive in the content of a line, as a function that reads it from its start.
-use Rattle.std.specs.Prelude.{◌≡◌, ◌⊎◌, ℕ, ◌==◌, ◌||◌, Bool, nat_lt, List, []}
-use Rattle.std.specs.Prelude.{◌∷◌, map, length, take, drop, Option, Some, None, if◌then◌else◌}
-use Rattle.std.specs.Prelude.{option_and_then}
-use Rattle.std.specs.List.{before_first}
-use Rattle.std.specs.Char.{to_ascii_lowercase, is_whitespace}
-use Rattle.std.specs.Str.{bytes_eq}
+use Rattle.std.specs.Prelude.{◌≡◌, ◌⊎◌, ℕ, ◌==◌, ◌||◌, Bool, nat_lt, List, [], ◌∷◌, map, length, take, drop}
+use Rattle.std.specs.Prelude.{Option, Some, None, if◌then◌else◌, option_and_then}
+use Rattle.std.specs.{List.before_first, Char.to_ascii_lowercase, Char.is_whitespace, Str.bytes_eq}
 use Rattle.bstr.specs.Trim.{trim_start_by, trim_end_by}
-use Rattle.texting_robots.specs.declared.parser.statement.Kind.{Kind}
+use Rattle.texting_robots.specs.{declared.parser.statement.Kind.Kind, Statement.field_names}
 use Rattle.texting_robots.specs.declared.parser.statement.Kind.TheVariants.{UserAgent, Allow, Disallow}
 use Rattle.texting_robots.specs.declared.parser.statement.Kind.TheVariants.{Sitemap, CrawlDelay}
-use Rattle.texting_robots.specs.Statement.{field_names}
 
 abbrev pub space : ℕ
 space = 32

@@ -1,9 +1,8 @@
 //! Skips lines that can't be user-agent lines, many bytes at a time and without cutting them.
 ghost use Rattle.std.specs.Prelude.{◌≡◌, ℕ, ◌+◌, ◌<◌, List, false, length, true};
-ghost use Rattle.std.specs.List.{list_any};
-ghost use Rattle.texting_robots.specs.Group.{is_agent_named};
+ghost use Rattle.std.specs.{List.list_any};
+ghost use Rattle.texting_robots.specs.{Group.is_agent_named, Internal.Cut.read_as, Internal.Line.lines_of};
 ghost use Rattle.texting_robots.specs.Internal.Agents.{NoneBegins, is_named_later, may_begin, may_end};
-ghost use Rattle.texting_robots.specs.Internal.{Cut.read_as, Line.lines_of};
 
 use super::cut::{after_end, body_len};
 

@@ -1,11 +1,9 @@
 //! Crawl delays: how long a crawler has to wait between two requests.
 ghost use Rattle.std.specs.Prelude.{◌≡◌, ◌==◌, ◌≤◌, All, length, take};
 ghost use Rattle.std.specs.Char.{IsAsciiDigit, is_ascii_digit};
-ghost use Rattle.std.specs.List.{list_all, prefix_len};
-ghost use Rattle.std.specs.Option.{option_copied};
-ghost use Rattle.std.specs.Str.{byte};
+ghost use Rattle.std.specs.{List.list_all, List.prefix_len, Option.option_copied, Str.byte};
 ghost use Rattle.std.specs.Str.Parse.{digits_value_after, starts_with_minus, without_leading_sign};
-ghost use Rattle.texting_robots.specs.Delay.{IsDelay};
+ghost use Rattle.texting_robots.specs.{Delay.IsDelay};
 ghost use Rattle.texting_robots.specs.Internal.Delay as steps;
 
 use std::marker::Model;
@@ -19,8 +17,7 @@ struct Number<'a> {
 }
 
 impl<'a> Model for Number<'a> {
-    ghost use Rattle.texting_robots.specs.Internal.Delay.{HasDigits};
-    ghost use Rattle.texting_robots.specs.Delay.{Decimal};
+    ghost use Rattle.texting_robots.specs.{Internal.Delay.HasDigits, Delay.Decimal};
 
     ghost Value = { Decimal };
 

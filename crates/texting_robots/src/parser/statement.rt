@@ -195,7 +195,7 @@ fn holds_hash(text: &[u8]) -> bool
 }
 
 /// What precedes the first `#`.
-#[tactic(auto, using(crate::proofs::RegionLemmas::first_is, crate::proofs::RegionLemmas::none_is))]
+#[tactic(auto, using(crate::proofs::LabelLemmas::first_is, crate::proofs::LabelLemmas::none_is))]
 #[inline(never)]
 fn before_hash<'a>(tail: &'a [u8]) -> &'a [u8]
     ensures { result.now ≡ region_of tail.now }
@@ -207,7 +207,7 @@ fn before_hash<'a>(tail: &'a [u8]) -> &'a [u8]
 }
 
 /// The raw value: what precedes the comment. It first tests whether there is a comment, since most tails have none.
-#[tactic(auto, using(crate::proofs::RegionLemmas::plain_is))]
+#[tactic(auto, using(crate::proofs::LabelLemmas::plain_is))]
 fn region_of<'a>(tail: &'a [u8]) -> &'a [u8]
     ensures { result.now ≡ region_of tail.now }
 {

@@ -1,6 +1,6 @@
 //! The bigrams (pairs of adjacent bytes) of a text, as a small set.
 ghost use Rattle.std.specs.Prelude.{◌≡◌, ◌↔◌, IsTrue, bit_or};
-ghost use Rattle.texting_robots.specs.Internal.Prefilter.{AreWithin, pair_bit, pair_set};
+ghost use Rattle.texting_robots.specs.Internal.Segments.{AreWithin, pair_bit, pair_set};
 
 /// A set of bigrams. Each bigram has one of 64 bits, and some share one.
 #[derive(Clone, Copy)]

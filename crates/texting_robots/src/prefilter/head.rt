@@ -1,6 +1,6 @@
 //! The first bytes of a text, compared all at once.
 ghost use Rattle.std.specs.Prelude.{◌≡◌, ◌≤◌, ◌↔◌, IsTrue, length, slice_index_or, take};
-ghost use Rattle.texting_robots.specs.Internal.Prefilter.{Fits, IsHeadOf, first_eight, ones_below};
+ghost use Rattle.texting_robots.specs.Internal.Segments.{Fits, IsHeadOf, first_eight, ones_below};
 
 /// The first bytes of a segment, at most eight, and a mask of ones for them.
 #[derive(Clone, Copy)]

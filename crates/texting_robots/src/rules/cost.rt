@@ -1,11 +1,10 @@
 //! What a query costs at most, and a query with a budget.
-ghost use Rattle.std.specs.Prelude.{◌≡◌, ◌≢◌, ◌+◌, ◌<◌, ◌≤◌, ◌^◌, IfErr, IfNone, IfOk, IfSome, IsOk, None, length, max};
-ghost use Rattle.std.specs.Option.{option_map_or};
-ghost use Rattle.texting_robots.specs.Cost.{cost_of};
+ghost use Rattle.std.specs.Prelude.{◌≡◌, ◌≢◌, ◌+◌, ◌<◌, ◌≤◌, ◌^◌, IfErr, IfNone, IfOk, IfSome, IsOk, None};
+ghost use Rattle.std.specs.Prelude.{length, max};
+ghost use Rattle.std.specs.{Option.option_map_or};
+ghost use Rattle.texting_robots.specs.{Cost.cost_of, Verdict.robots_file, View.LooksAtMost, View.seen_of};
 ghost use Rattle.texting_robots.specs.Decision.{IsDecidingLine, IsDecisionOn};
-ghost use Rattle.texting_robots.specs.Internal.Entries.{AreEntries, IsFirstMatch, NoneMatches, rules_in};
-ghost use Rattle.texting_robots.specs.Verdict.{robots_file};
-ghost use Rattle.texting_robots.specs.View.{LooksAtMost, seen_of};
+ghost use Rattle.texting_robots.specs.Internal.Segments.{AreEntries, IsFirstMatch, NoneMatches, rules_in};
 
 use super::{NO_RULE, Rules, Unsorted};
 use crate::decision::Decision;

@@ -1,8 +1,7 @@
 //! The user-agent lines of a file, found by their names.
 ghost use Rattle.std.specs.Prelude.{◌≡◌, ◌+◌, ◌<◌, ◌==◌, ◌%◌, IfOk, drop, length, map, replicate};
-ghost use Rattle.std.specs.List.{position_or_len};
-ghost use Rattle.std.specs.Str.{str_to_ascii_lowercase};
-ghost use Rattle.texting_robots.specs.Internal.Names.{AreLinked, first_named, hash_from, bucket_of, is_in};
+ghost use Rattle.std.specs.{List.position_or_len, Str.str_to_ascii_lowercase};
+ghost use Rattle.texting_robots.specs.Internal.Site.{AreLinked, first_named, hash_from, bucket_of, is_in};
 ghost use Rattle.texting_robots.specs.Internal.Site.{named_of};
 
 use crate::site::lines::AgentLine;
@@ -25,8 +24,7 @@ pub(crate) struct Names {
 
 impl Model for Names {
     ghost use Rattle.std.specs.Prelude.{List, map};
-    ghost use Rattle.texting_robots.specs.Internal.Names.{AreLinked};
-    ghost use Rattle.texting_robots.specs.Internal.Site.{Named, named_of};
+    ghost use Rattle.texting_robots.specs.Internal.Site.{AreLinked, Named, named_of};
 
     ghost Value = { List Named };
 

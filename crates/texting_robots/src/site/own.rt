@@ -1,10 +1,8 @@
 //! The lines kept by a site that apply to one crawler.
 ghost use Rattle.std.specs.Prelude.{◌≡◌, ◌+◌, ◌<◌, ◌≤◌, ◌∷◌, [], MatchOption, drop, length, map};
-ghost use Rattle.std.specs.Iterator.{YieldsFirstBy, item_count};
-ghost use Rattle.std.specs.Str.{str_to_ascii_lowercase};
-ghost use Rattle.texting_robots.specs.Internal.Own.{AreOfFile, IsWalk, IsWholeWalk, own_at};
-ghost use Rattle.texting_robots.specs.Internal.Site.{in_front, tag_at};
-ghost use Rattle.texting_robots.specs.OwnLines.{tag_of};
+ghost use Rattle.std.specs.{Iterator.YieldsFirstBy, Iterator.item_count, Str.str_to_ascii_lowercase};
+ghost use Rattle.texting_robots.specs.{Internal.Site.AreOfFile, OwnLines.tag_of};
+ghost use Rattle.texting_robots.specs.Internal.Site.{IsWalk, IsWholeWalk, own_at, in_front, tag_at};
 
 use crate::site::lines::{GroupLine, KeptLine};
 use crate::site::names::Names;
@@ -37,8 +35,7 @@ pub struct OwnLines<'s, 'n> {
 impl<'s, 'n> Model for OwnLines<'s, 'n> {
     ghost use Rattle.std.specs.Prelude.{List, map};
     ghost use Rattle.std.specs.Str.{str_to_ascii_lowercase};
-    ghost use Rattle.texting_robots.specs.Internal.Own.{IsWalk, own_at};
-    ghost use Rattle.texting_robots.specs.Internal.Site.{tag_at};
+    ghost use Rattle.texting_robots.specs.Internal.Site.{IsWalk, own_at, tag_at};
     ghost use Rattle.texting_robots.specs.OwnLines.{Tagged};
 
     ghost Value = { List Tagged };

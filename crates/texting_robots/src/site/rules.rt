@@ -1,9 +1,7 @@
 //! The rules that apply to one crawler.
 ghost use Rattle.std.specs.Prelude.{◌≡◌, IfOk, string_bytes};
 ghost use Rattle.std.specs.Iterator.{YieldsFirst, item_count};
-ghost use Rattle.texting_robots.specs.Executable.{rule_with};
-ghost use Rattle.texting_robots.specs.OwnLines.{rule_of, tag_of};
-ghost use Rattle.texting_robots.specs.Rules.{placed};
+ghost use Rattle.texting_robots.specs.{Executable.rule_with, OwnLines.rule_of, OwnLines.tag_of, Rules.placed};
 
 use crate::escape::{holds_escaped, push_escaped};
 use crate::parser::Line;
@@ -25,8 +23,7 @@ pub struct SiteRule<'s> {
 }
 
 impl<'s> Model for SiteRule<'s> {
-    ghost use Rattle.texting_robots.specs.Escape.{escaped};
-    ghost use Rattle.texting_robots.specs.Rules.{PlacedRule};
+    ghost use Rattle.texting_robots.specs.{Escape.escaped, Rules.PlacedRule};
 
     ghost Value = { PlacedRule };
 
@@ -61,9 +58,8 @@ pub struct SiteRules<'s, 'n> {
 
 impl<'s, 'n> Model for SiteRules<'s, 'n> {
     ghost use Rattle.std.specs.Prelude.{List};
-    ghost use Rattle.std.specs.List.{filter_map};
-    ghost use Rattle.texting_robots.specs.Rules.{PlacedRule};
-    ghost use Rattle.texting_robots.specs.OwnLines.{rule_of};
+    ghost use Rattle.std.specs.{List.filter_map};
+    ghost use Rattle.texting_robots.specs.{Rules.PlacedRule, OwnLines.rule_of};
 
     ghost Value = { List PlacedRule };
 

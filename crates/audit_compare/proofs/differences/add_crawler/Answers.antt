@@ -1,9 +1,8 @@
 use Rattle.std.proofs.Common.{◌≡◌, ◌∙◌, false, subst, sym}
-use Rattle.std.proofs.lemmas.Bool.{cond-false}
-use Rattle.audit_compare.specs.Compare.{ComparedValue, differences, has_same_rules, is_rejected}
-use Rattle.audit_compare.specs.Compare.{is_unchanged, same_rules}
-use Rattle.audit_compare.specs.Internal.Compare.{Adds}
-use Rattle.audit_compare.proofs.CompareLemmas.{adds_more}
+use Rattle.std.proofs.{lemmas.Bool.cond-false}
+use Rattle.audit_compare.specs.{Compare.ComparedValue, Internal.Compare.Adds}
+use Rattle.audit_compare.specs.Compare.{differences, has_same_rules, is_rejected, is_unchanged, same_rules}
+use Rattle.audit_compare.proofs.{CompareLemmas.adds_more}
 use Rattle.audit_compare.proofs.differences.add_crawler.Goals as goal
 
 pub returns : goal.returns

@@ -1,8 +1,7 @@
 use Rattle.std.proofs.Common.{◌++◌, false, map, subst, true}
-use Rattle.audit_compare.specs.Compare.{ComparedValue, delay_changes, differences, group_changes, rule_change}
-use Rattle.audit_compare.specs.Compare.{url_change}
-use Rattle.audit_compare.specs.Internal.Compare.{Adds}
-use Rattle.audit_compare.proofs.CompareLemmas.{adds_more}
+use Rattle.audit_compare.specs.{Compare.ComparedValue, Internal.Compare.Adds}
+use Rattle.audit_compare.specs.Compare.{delay_changes, differences, group_changes, rule_change, url_change}
+use Rattle.audit_compare.proofs.{CompareLemmas.adds_more}
 use Rattle.audit_compare.proofs.differences.add_differences.Goals as goal
 
 pub returns : goal.returns

@@ -1,4 +1,4 @@
-use Rattle.audit_compare.proofs.RuleSetLemmas.{none_listed, reported_alike, same_rules_decide_alike}
+use Rattle.audit_compare.proofs.CompareLemmas.{none_listed, reported_alike, same_rules_decide_alike}
 use Rattle.audit_compare.proofs.laws.same_rules_decide_alike.Goals as goal
 
 pub returns : goal.returns

@@ -1,6 +1,5 @@
-use Rattle.std.proofs.Common.{arith}
-use Rattle.std.proofs.lemmas.Grind.{common_steps}
-use Rattle.audit_compare.proofs.CompareLemmas.{messages_of}
+use Rattle.std.proofs.{Common.arith, lemmas.Grind.common_steps}
+use Rattle.audit_compare.proofs.{CompareLemmas.messages_of}
 use Rattle.audit_compare.proofs.report.reported.Goals as goal
 
 pub returns-clause-text : goal.returns-clause-text

@@ -2,12 +2,10 @@ use Rattle.std.proofs.Common.{◌≡◌, ◌∙◌, ℕ, ◌+◌, ◌<◌, ◌||
 use Rattle.std.proofs.Common.{refl, string_bytes, sym, take, true}
 use Rattle.std.specs.BTreeSet.{BTreeSet, Updates, contains_text}
 use Rattle.std.specs.{Global.Global, String.string_cmp}
-use Rattle.std.proofs.Math.Bool.{beq}
-use Rattle.std.proofs.lemmas.Bool.{not-false}
-use Rattle.std.proofs.lemmas.List.Folds.{list_any_more}
-use Rattle.std.proofs.lemmas.Map.Text.{btree_set_updates_text}
-use Rattle.texting_robots.specs.Callers.{PlacedRule}
-use Rattle.robots_warnings.proofs.NameLemmas.{either}
+use Rattle.std.proofs.Math.{Bool.beq}
+use Rattle.std.proofs.lemmas.{Bool.not-false, List.Folds.list_any_more, Map.Text.btree_set_updates_text}
+use Rattle.texting_robots.specs.{Callers.PlacedRule}
+use Rattle.robots_warnings.proofs.{ClosedLemmas.either}
 use Rattle.audit_compare.specs.Compare.{has_rule, is_same_rule}
 use Rattle.audit_compare.proofs.rule_sets.patterns_of.Goals as goal
 

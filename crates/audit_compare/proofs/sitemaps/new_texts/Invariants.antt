@@ -1,6 +1,5 @@
 use Rattle.std.proofs.Common.{◌≡◌, ◌++◌, drop, map, take}
-use Rattle.audit_compare.specs.Compare.{new_texts}
-use Rattle.audit_compare.specs.Internal.Compare.{HasTexts}
+use Rattle.audit_compare.specs.{Compare.new_texts, Internal.Compare.HasTexts}
 use Rattle.audit_compare.proofs.sitemaps.new_texts.Given as goal
 
 abbrev pub invariant-loop-text : goal.invariant-loop-text

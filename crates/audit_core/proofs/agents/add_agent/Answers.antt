@@ -1,5 +1,5 @@
 use Rattle.std.proofs.lemmas.Result.{on_ok_weaker}
-use Rattle.audit_core.proofs.AgentLemmas.{agent_added}
+use Rattle.audit_core.proofs.AuditLemmas.{agent_added}
 use Rattle.audit_core.proofs.agents.add_agent.Goals as goal
 
 pub returns-in_ok-add_name-in-Some : goal.returns-in_ok-add_name-in-Some

@@ -1,8 +1,7 @@
 use Rattle.std.proofs.Common.{◌≡◌, drop, map}
-use Rattle.texting_robots.specs.Callers.{label_by_value}
-use Rattle.audit_core.specs.Audit.{crawlers_in, with_names}
-use Rattle.robots_warnings.specs.File.{lines_of}
-use Rattle.audit_core.specs.Internal.Agents.{HasAgents}
+use Rattle.texting_robots.specs.{Callers.label_by_value}
+use Rattle.audit_core.specs.{Audit.crawlers_in, Audit.with_names, Internal.Agents.HasAgents}
+use Rattle.robots_warnings.specs.{File.lines_of}
 use Rattle.audit_core.proofs.agents.crawlers_in.Given as goal
 
 abbrev pub invariant-loop-labeled : goal.invariant-loop-labeled

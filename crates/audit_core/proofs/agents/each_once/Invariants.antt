@@ -1,7 +1,6 @@
 use Rattle.std.proofs.Common.{◌≡◌, [], drop, map}
-use Rattle.texting_robots.specs.Callers.{UserAgent}
-use Rattle.audit_core.specs.Audit.{with_names}
-use Rattle.audit_core.specs.Internal.Agents.{HasAgents}
+use Rattle.texting_robots.specs.{Callers.UserAgent}
+use Rattle.audit_core.specs.{Audit.with_names, Internal.Agents.HasAgents}
 use Rattle.audit_core.proofs.agents.each_once.Given as goal
 
 abbrev pub invariant-loop-name : goal.invariant-loop-name

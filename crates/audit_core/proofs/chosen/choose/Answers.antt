@@ -1,7 +1,6 @@
-use Rattle.std.proofs.Common.{map, rules}
-use Rattle.std.proofs.lemmas.Fn.{filter_same}
-use Rattle.robots_warnings.specs.{Table.name_of, WarningValue.WarningValue}
-use Rattle.audit_core.specs.Chosen.{is_chosen}
+use Rattle.std.proofs.{Common.map, Common.rules, lemmas.Fn.filter_same}
+use Rattle.robots_warnings.specs.{Table.name_of, Message.WarningValue}
+use Rattle.audit_core.specs.{Chosen.is_chosen}
 use Rattle.audit_core.proofs.chosen.choose.Goals as goal
 
 pub returns : goal.returns

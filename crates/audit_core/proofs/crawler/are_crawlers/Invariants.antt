@@ -1,6 +1,6 @@
 use Rattle.std.proofs.Common.{◌≡◌, drop, map}
 use Rattle.std.specs.List.{list_all}
-use Rattle.audit_core.specs.Crawler.{is_crawler_name}
+use Rattle.audit_core.specs.Request.{is_crawler_name}
 use Rattle.audit_core.proofs.crawler.are_crawlers.Given as goal
 
 abbrev pub invariant-loop-name : goal.invariant-loop-name

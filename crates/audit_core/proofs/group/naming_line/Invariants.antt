@@ -1,8 +1,7 @@
 use Rattle.std.proofs.Common.{◌≡◌, ◌+◌, drop, map}
-use Rattle.std.specs.List.{position_from}
-use Rattle.std.specs.Str.{str_to_ascii_lowercase}
+use Rattle.std.specs.{List.position_from, Str.str_to_ascii_lowercase}
 use Rattle.texting_robots.specs.Callers.{is_agent_named, label_by_value}
-use Rattle.robots_warnings.specs.File.{lines_of}
+use Rattle.robots_warnings.specs.{File.lines_of}
 use Rattle.audit_core.proofs.group.naming_line.Given as goal
 
 abbrev pub invariant-loop-at : goal.invariant-loop-at

@@ -1,5 +1,5 @@
 use Rattle.std.proofs.Common.{◌≡◌, ◌++◌, drop, map}
-use Rattle.audit_core.proofs.ListLemmas.{asked}
+use Rattle.audit_core.proofs.AuditLemmas.{asked}
 use Rattle.audit_core.proofs.sitemaps.ask_about_all.Given as goal
 
 abbrev pub invariant-loop-labeled : goal.invariant-loop-labeled

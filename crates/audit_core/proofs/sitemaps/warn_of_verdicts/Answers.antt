@@ -1,5 +1,5 @@
 use Rattle.std.proofs.Common.{append-nil, drop, sym, ◌∙◌}
-use Rattle.audit_core.proofs.ListLemmas.{zip_none}
+use Rattle.audit_core.proofs.AuditLemmas.{zip_none}
 use Rattle.audit_core.proofs.sitemaps.warn_of_verdicts.Goals as goal
 
 pub returns-in_default : goal.returns-in_default

@@ -1,4 +1,4 @@
-use Rattle.audit_expect.specs.Internal.Expect.{HasNone}
+use Rattle.audit_expect.specs.Internal.Expectations.{HasNone}
 use Rattle.audit_expect.proofs.expect.find_separator.Given as goal
 
 abbrev pub invariant-loop-place : goal.invariant-loop-place

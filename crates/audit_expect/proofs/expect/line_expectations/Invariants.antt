@@ -1,6 +1,6 @@
 use Rattle.std.proofs.Common.{◌≡◌, ◌+◌, ◌++◌, ◌≤◌, length, map}
 use Rattle.audit_expect.specs.Expect.{entries_from, expectation_in, lines, malformed_from}
-use Rattle.audit_expect.specs.Internal.Expect.{expectation_value}
+use Rattle.audit_expect.specs.Internal.Expectations.{expectation_value}
 use Rattle.audit_expect.proofs.expect.line_expectations.Given as goal
 
 abbrev pub invariant-loop-rest : goal.invariant-loop-rest

@@ -1,6 +1,6 @@
 use Rattle.std.proofs.Common.{ap, subst, sym}
 use Rattle.audit_core.specs.Internal.{IsReading}
-use Rattle.audit_expect.specs.Internal.{Expect.expectation_value, Expectations.checked_value}
+use Rattle.audit_expect.specs.Internal.Expectations.{expectation_value, checked_value}
 use Rattle.audit_expect.proofs.ExpectationsLemmas.{failures_next}
 use Rattle.audit_expect.proofs.expectations.failures.Goals as goal
 

@@ -1,6 +1,6 @@
 use Rattle.std.proofs.Common.{map, take}
 use Rattle.audit_core.specs.{Findings.finding_value, Internal.IsReading}
-use Rattle.audit_expect.specs.Internal.{Expect.expectation_value, Expectations.AreFailuresOn}
+use Rattle.audit_expect.specs.Internal.Expectations.{expectation_value, AreFailuresOn}
 use Rattle.audit_expect.proofs.expectations.failures.Given as goal
 
 abbrev pub invariant-loop-expectation : goal.invariant-loop-expectation

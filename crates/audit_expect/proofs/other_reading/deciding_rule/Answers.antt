@@ -1,7 +1,7 @@
 use Rattle.std.proofs.Common.{option_map, rules, subst}
 use Rattle.std.proofs.lemmas.List.{take_all, take_more}
 use Rattle.texting_robots.specs.Callers.{Matches}
-use Rattle.audit_expect.specs.Internal.OtherReading.{IsDecidedBy}
+use Rattle.audit_expect.specs.Internal.Expectations.{IsDecidedBy}
 use Rattle.audit_expect.proofs.OtherReadingLemmas.{here, past}
 use Rattle.audit_expect.proofs.other_reading.deciding_rule.Goals.{else-branch, then-branch}
 use Rattle.audit_expect.proofs.other_reading.deciding_rule.Goals as goal

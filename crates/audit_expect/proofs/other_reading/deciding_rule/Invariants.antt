@@ -1,5 +1,5 @@
 use Rattle.std.proofs.Common.{option_map, take}
-use Rattle.audit_expect.specs.Internal.OtherReading.{IsDecidedBy}
+use Rattle.audit_expect.specs.Internal.Expectations.{IsDecidedBy}
 use Rattle.audit_expect.proofs.other_reading.deciding_rule.Given as goal
 
 abbrev pub invariant-loop-rule : goal.invariant-loop-rule

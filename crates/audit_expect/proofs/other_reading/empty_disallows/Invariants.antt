@@ -1,7 +1,6 @@
 use Rattle.std.proofs.Common.{◌≡◌, ◌++◌, map}
-use Rattle.texting_robots.specs.Callers.{file_bodies}
-use Rattle.texting_robots.specs.Internal.Line.{line_of}
-use Rattle.audit_expect.specs.Internal.OtherReading.{is_empty, marks_of}
+use Rattle.texting_robots.specs.{Callers.file_bodies, Internal.Line.line_of}
+use Rattle.audit_expect.specs.Internal.Expectations.{is_empty, marks_of}
 use Rattle.audit_expect.proofs.other_reading.empty_disallows.Given as goal
 
 abbrev pub invariant-loop-body : goal.invariant-loop-body

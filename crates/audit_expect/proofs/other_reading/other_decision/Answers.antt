@@ -1,7 +1,7 @@
 use Rattle.std.proofs.Common.{◌≡◌, false, rules}
 use Rattle.std.specs.Option.{option_map_or}
 use Rattle.texting_robots.specs.Callers.{file_bodies, file_lines, placed_rules}
-use Rattle.audit_expect.specs.Internal.OtherReading.{is_marked}
+use Rattle.audit_expect.specs.Internal.Expectations.{is_marked}
 use Rattle.audit_expect.proofs.OtherReadingLemmas.{decided_otherwise, others_accepted, unchanged}
 use Rattle.audit_expect.proofs.other_reading.other_decision.Goals as goal
 

@@ -1,8 +1,7 @@
-use Rattle.std.proofs.Common.{ap, not, rules, ◌∙◌}
-use Rattle.std.proofs.lemmas.Fn.{filter_same}
+use Rattle.std.proofs.{Common.ap, Common.not, Common.rules, Common.◌∙◌, lemmas.Fn.filter_same}
 use Rattle.texting_robots.specs.Callers.{PlacedRule, file_bodies}
-use Rattle.robots_warnings.specs.EmptyDisallows.{stated_rules}
-use Rattle.audit_expect.specs.Internal.OtherReading.{is_marked, others_of}
+use Rattle.robots_warnings.specs.{Conflicts.stated_rules}
+use Rattle.audit_expect.specs.Internal.Expectations.{is_marked, others_of}
 use Rattle.audit_expect.proofs.other_reading.other_rules.Goals as goal
 
 pub returns : goal.returns

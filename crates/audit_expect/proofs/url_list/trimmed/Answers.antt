@@ -1,5 +1,4 @@
-use Rattle.std.proofs.Common.{refl}
-use Rattle.std.proofs.lemmas.Str.Ascii.{trim_ascii_is}
+use Rattle.std.proofs.{Common.refl, lemmas.Str.Ascii.trim_ascii_is}
 use Rattle.audit_expect.proofs.url_list.trimmed.Goals as goal
 
 pub returns : goal.returns

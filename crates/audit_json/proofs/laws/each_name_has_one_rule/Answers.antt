@@ -1,4 +1,4 @@
-use Rattle.audit_json.proofs.RuleLemmas.{level_for_each, one_rule_each}
+use Rattle.audit_json.proofs.JsonLemmas.{level_for_each, one_rule_each}
 use Rattle.audit_json.proofs.laws.each_name_has_one_rule.Goals as goal
 
 pub returns : goal.returns

@@ -1,9 +1,8 @@
 use Rattle.std.proofs.Common.{List, ℕ, flat_map, sym, ap, ◌∙◌, map-id}
 use Rattle.std.specs.Str.{encode_utf8_all}
-use Rattle.std.proofs.lemmas.Iterator.{YieldsList-from_chars}
-use Rattle.std.proofs.lemmas.Iterator.Consumers.{YieldsList-end}
+use Rattle.std.proofs.lemmas.Iterator.{YieldsList-from_chars, Consumers.YieldsList-end}
 use Rattle.audit_json.specs.Sarif.{literal_char, literal_text}
-use Rattle.audit_json.proofs.SarifLemmas.{literal_next}
+use Rattle.audit_json.proofs.JsonLemmas.{literal_next}
 use Rattle.audit_json.proofs.sarif.literal_text.Goals as goal
 
 pub loop-char-preserved : goal.loop-char-preserved

@@ -2,7 +2,7 @@ use Rattle.std.proofs.Common.{ap, map, ◌∙◌}
 use Rattle.serde_json.specs.Written.{has_float}
 use Rattle.audit_core.specs.Findings.{finding_value}
 use Rattle.audit_json.specs.Sarif.{uri_of}
-use Rattle.audit_json.proofs.SarifLemmas.{log_whole}
+use Rattle.audit_json.proofs.JsonLemmas.{log_whole}
 use Rattle.audit_json.proofs.sarif.sarif_text.Goals as goal
 
 pub json_line-requires : goal.json_line-requires

@@ -1,6 +1,5 @@
-use Rattle.std.proofs.Common.{sym}
-use Rattle.std.proofs.lemmas.List.{length-map}
-use Rattle.texting_robots.specs.Callers.{label_by_value}
+use Rattle.std.proofs.{Common.sym, lemmas.List.length-map}
+use Rattle.texting_robots.specs.{Callers.label_by_value}
 use Rattle.audit_page.proofs.page.row_count.Goals as goal
 
 pub returns : goal.returns

@@ -1,6 +1,5 @@
-use Rattle.std.proofs.Common.{not, rules}
-use Rattle.std.proofs.lemmas.Fn.{filter_same}
-use Rattle.audit_core.specs.Audit.{VerdictValue}
+use Rattle.std.proofs.{Common.not, Common.rules, lemmas.Fn.filter_same}
+use Rattle.audit_core.specs.{Audit.VerdictValue}
 use Rattle.audit_text.proofs.denied.keep_denied.Goals as goal
 
 pub returns : goal.returns

@@ -1,6 +1,5 @@
 use Rattle.std.proofs.Common.{arith, get_or-set_other, get_or-set_same}
-use Rattle.std.proofs.lemmas.Bool.Decides.{nat_tests}
-use Rattle.std.proofs.lemmas.Map.Text.{text_keys}
+use Rattle.std.proofs.{lemmas.Bool.Decides.nat_tests, lemmas.Map.Text.text_keys}
 use Rattle.audit_text.proofs.listed.count.Goals as goal
 
 pub overflow_add-numbers : goal.overflow_add-numbers

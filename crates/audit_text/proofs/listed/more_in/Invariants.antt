@@ -1,7 +1,6 @@
 use Rattle.std.proofs.Common.{◌≡◌, List, map, take}
-use Rattle.audit_text.specs.Internal.Listed.{AreCounts}
-use Rattle.audit_text.specs.Listed.{more_of}
-use Rattle.robots_warnings.specs.WarningValue.{WarningValue}
+use Rattle.audit_text.specs.{Internal.Listed.AreCounts, Listed.more_of}
+use Rattle.robots_warnings.specs.{Message.WarningValue}
 use Rattle.audit_text.proofs.listed.more_in.Given as goal
 
 abbrev pub invariant-loop-warning : goal.invariant-loop-warning

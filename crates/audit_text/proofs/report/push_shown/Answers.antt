@@ -1,7 +1,6 @@
-use Rattle.std.proofs.Common.{◌∙◌}
-use Rattle.std.proofs.lemmas.Result.{on_ok_weaker}
-use Rattle.robots_warnings.specs.Internal.Warned.{warning_value}
-use Rattle.audit_text.proofs.ReportLemmas.{shown_built}
+use Rattle.std.proofs.{Common.◌∙◌, lemmas.Result.on_ok_weaker}
+use Rattle.robots_warnings.specs.Internal.{Warned.warning_value}
+use Rattle.audit_text.proofs.{ReportLemmas.shown_built}
 use Rattle.audit_text.proofs.report.push_shown.Goals as goal
 
 pub returns : goal.returns

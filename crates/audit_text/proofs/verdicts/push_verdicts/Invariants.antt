@@ -1,6 +1,6 @@
 use Rattle.std.proofs.Common.{◌≡◌, ◌++◌, map, option_map, string_bytes, take}
 use Rattle.printable_text.specs.Text.{written}
-use Rattle.audit_text.specs.Verdicts.{verdict_line}
+use Rattle.audit_text.specs.Report.{verdict_line}
 use Rattle.audit_text.proofs.verdicts.push_verdicts.Given as goal
 
 abbrev pub invariant-loop-verdict : goal.invariant-loop-verdict

@@ -1,4 +1,4 @@
-use Rattle.html_writer.proofs.ReaderLemmas.{page_read, tree_read}
+use Rattle.html_writer.proofs.WritingLemmas.{page_read, tree_read}
 use Rattle.html_writer.proofs.laws.written_trees_are_read_back.Goals as goal
 
 pub returns : goal.returns

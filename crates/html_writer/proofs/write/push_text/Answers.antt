@@ -1,6 +1,5 @@
-use Rattle.std.proofs.Common.{arith}
-use Rattle.std.proofs.lemmas.Grind.{common_steps}
-use Rattle.html_writer.proofs.TextLemmas.{escaped-is}
+use Rattle.std.proofs.{Common.arith, lemmas.Grind.common_steps}
+use Rattle.html_writer.proofs.{WritingLemmas.escaped-is}
 use Rattle.html_writer.proofs.write.push_text.Goals as goal
 
 pub returns : goal.returns

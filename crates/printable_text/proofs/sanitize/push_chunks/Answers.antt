@@ -1,7 +1,6 @@
-use Rattle.std.proofs.Common.{◌≡◌, ◌<◌, arith, length}
-use Rattle.std.proofs.lemmas.Bool.Decides.{nat_tests}
+use Rattle.std.proofs.{Common.◌≡◌, Common.◌<◌, Common.arith, Common.length, lemmas.Bool.Decides.nat_tests}
 use Rattle.bstr.proofs.lemmas.PieceLemmas.{piece-bounds, size-within}
-use Rattle.printable_text.proofs.{LinesLemmas.starts_on, SanitizeLemmas.all_added, SanitizeLemmas.chunk_added}
+use Rattle.printable_text.proofs.SanitizeLemmas.{starts_on, all_added, chunk_added}
 use Rattle.printable_text.proofs.sanitize.push_chunks.Goals as goal
 
 pub split_at-requires : goal.split_at-requires

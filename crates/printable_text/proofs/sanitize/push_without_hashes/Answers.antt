@@ -1,10 +1,10 @@
 use Rattle.std.proofs.Common.{◌≡◌, ℕ, List, [], ◌∷◌, ◌++◌, ap, append-nil, append_assoc, flat_map, map-id}
 use Rattle.std.proofs.Common.{string_bytes, sym, ◌∙◌}
-use Rattle.std.specs.Str.{encode_utf8_all}
-use Rattle.std.proofs.lemmas.{Grind.flat_map-append, Iterator.YieldsList-from_chars, Str.encodes-append}
-use Rattle.std.proofs.lemmas.Iterator.Consumers.{YieldsList-end}
-use Rattle.printable_text.specs.Sanitize.{without_hash}
-use Rattle.printable_text.proofs.LinesLemmas.{starts_on}
+use Rattle.std.specs.{Str.encode_utf8_all}
+use Rattle.std.proofs.lemmas.{Grind.flat_map-append, Str.encodes-append}
+use Rattle.std.proofs.lemmas.Iterator.{YieldsList-from_chars, Consumers.YieldsList-end}
+use Rattle.printable_text.specs.{Sanitize.without_hash}
+use Rattle.printable_text.proofs.{SanitizeLemmas.starts_on}
 use Rattle.printable_text.proofs.sanitize.push_without_hashes.Goals as goal
 
 -- one more character is appended

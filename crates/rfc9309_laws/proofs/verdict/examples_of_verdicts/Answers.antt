@@ -8,7 +8,8 @@ use Rattle.texting_robots.specs.Verdict.{IsVerdict}
 use Rattle.texting_robots.proofs.BestLemmas.{allowed_by, answered, deciding_rule}
 use Rattle.texting_robots.proofs.TrimLemmas.{graphic_trim, trimmed_is_trim}
 use Rattle.rfc9309_laws.specs.Comparable.{AreComparable, HasTwin, IsFit, IsPathOf, IsPlainPath}
-use Rattle.rfc9309_laws.specs.{Examples.mixed_rules, Examples.page_rules, Examples.tsu, ReadAs.IsReadAs}
+use Rattle.rfc9309_laws.specs.Examples.{mixed_rules, page_rules, tsu}
+use Rattle.rfc9309_laws.specs.StandardRobot.{IsReadAs}
 use Rattle.rfc9309_laws.specs.Matching.{IsRfcVerdict, Reading, all_stay, as_in_table, filled, has_dollar}
 use Rattle.rfc9309_laws.specs.Matching.{is_ended, normal_from, normal_path, normal_uri, octets, without_end}
 use Rattle.rfc9309_laws.proofs.{SyntaxLemmas.passing, ValueLemmas.visible_trim}

@@ -6,8 +6,8 @@ use Rattle.audit_compare.specs.Compare.{all_differences, found_in, report_lines}
 use Rattle.audit_expect.specs.Expectations.{failure, fails}
 use Rattle.audit_expect.proofs.ExpectationsLemmas.{expect_printable}
 use Rattle.audit_text.specs.Explain.{list_line}
-use Rattle.audit_text.proofs.ExplainLemmas.{explanation_printable}
-use Rattle.robots_audit.proofs.OutputLemmas.{listed_printable}
+use Rattle.audit_text.proofs.ReportLemmas.{explanation_printable}
+use Rattle.robots_audit.proofs.MessageLemmas.{listed_printable}
 use Rattle.robots_audit.proofs.laws.no_other_report_steers_a_terminal.Goals as goal
 
 pub returns : goal.returns

@@ -1,5 +1,5 @@
 use Rattle.std.proofs.lemmas.List.{drop_more}
-use Rattle.robots_c.proofs.BatchLemmas.{next_utf8, not_utf8}
+use Rattle.robots_c.proofs.NumberLemmas.{next_utf8, not_utf8}
 use Rattle.robots_c.proofs.batch.are_utf8.Goals as goal
 
 pub returns-in-Err : goal.returns-in-Err

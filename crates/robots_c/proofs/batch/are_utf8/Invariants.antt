@@ -1,5 +1,5 @@
 use Rattle.std.proofs.Common.{drop}
-use Rattle.robots_c.proofs.BatchLemmas.{SameUtf8}
+use Rattle.robots_c.proofs.NumberLemmas.{SameUtf8}
 use Rattle.robots_c.proofs.batch.are_utf8.Given as goal
 
 abbrev pub invariant-loop-end : goal.invariant-loop-end

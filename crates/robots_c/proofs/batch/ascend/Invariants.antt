@@ -1,5 +1,5 @@
 use Rattle.std.proofs.Common.{drop}
-use Rattle.robots_c.proofs.BatchLemmas.{SameAscent}
+use Rattle.robots_c.proofs.NumberLemmas.{SameAscent}
 use Rattle.robots_c.proofs.batch.ascend.Given as goal
 
 abbrev pub invariant-loop-end : goal.invariant-loop-end

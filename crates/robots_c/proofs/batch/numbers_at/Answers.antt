@@ -1,8 +1,7 @@
 use Rattle.std.proofs.Common.{IsUtf8, SFits, rules, w64, ◌∙◌}
-use Rattle.std.proofs.lemmas.{Int.to_z-of_z, List.drop_all, List.drop_more, Result.err_from_is_err_and}
-use Rattle.std.proofs.lemmas.Slice.Zip.{AllZip-long}
-use Rattle.std.proofs.lemmas.List.Elements.{All-head}
-use Rattle.robots_c.proofs.BatchLemmas.{all_so_far, count_pieces, one_more_end, only_memory}
+use Rattle.std.proofs.lemmas.{Int.to_z-of_z, Result.err_from_is_err_and, Slice.Zip.AllZip-long}
+use Rattle.std.proofs.lemmas.List.{drop_all, drop_more, Elements.All-head}
+use Rattle.robots_c.proofs.NumberLemmas.{all_so_far, count_pieces, one_more_end, only_memory}
 use Rattle.robots_c.proofs.batch.numbers_at.Goals as goal
 
 pub returns-in_err-number-clause-fault : goal.returns-in_err-number-clause-fault

@@ -1,5 +1,5 @@
 use Rattle.std.proofs.Common.{drop}
-use Rattle.robots_c.proofs.BatchLemmas.{SoFar}
+use Rattle.robots_c.proofs.NumberLemmas.{SoFar}
 use Rattle.robots_c.proofs.batch.numbers_at.Given as goal
 
 abbrev pub invariant-loop-end : goal.invariant-loop-end

@@ -1,5 +1,4 @@
-use Rattle.std.proofs.Common.{ap, take, ◌∙◌}
-use Rattle.std.proofs.lemmas.List.{take_min}
+use Rattle.std.proofs.{Common.ap, Common.take, Common.◌∙◌, lemmas.List.take_min}
 use Rattle.robots_c.proofs.file.bytes_read.Goals as goal
 
 pub returns : goal.returns

@@ -1,4 +1,4 @@
-use Rattle.robots_c.proofs.MatrixLemmas.{as_many_rows}
+use Rattle.robots_c.proofs.NumberLemmas.{as_many_rows}
 use Rattle.robots_c.proofs.matrix.matrix.Goals as goal
 
 pub returns-clause-count : goal.returns-clause-count

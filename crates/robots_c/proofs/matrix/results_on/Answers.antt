@@ -1,7 +1,6 @@
-use Rattle.std.proofs.Common.{SFits, rules, subst, w64}
-use Rattle.std.proofs.lemmas.Int.{to_z-of_z}
-use Rattle.robots_c.specs.Results.{IsResultOn}
-use Rattle.robots_c.proofs.MatrixLemmas.{one_more_target}
+use Rattle.std.proofs.{Common.SFits, Common.rules, Common.subst, Common.w64, lemmas.Int.to_z-of_z}
+use Rattle.robots_c.specs.{Results.IsResultOn}
+use Rattle.robots_c.proofs.{NumberLemmas.one_more_target}
 use Rattle.robots_c.proofs.matrix.results_on.Goals as goal
 
 pub loop-target-preserved : goal.loop-target-preserved

@@ -1,9 +1,7 @@
-use Rattle.std.proofs.Common.{arith, sym, ◌∙◌}
+use Rattle.std.proofs.{Common.arith, Common.sym, Common.◌∙◌, lemmas.Iterator.Splits.YieldsList-from_str_split}
+use Rattle.std.proofs.{lemmas.List.length_push, Math.Seq.take-length}
 use Rattle.std.proofs.lemmas.Iterator.Consumers.{YieldsList-at, YieldsList-end, YieldsList-turn}
-use Rattle.std.proofs.lemmas.Iterator.Splits.{YieldsList-from_str_split}
-use Rattle.std.proofs.lemmas.List.{length_push}
-use Rattle.std.proofs.Math.Seq.{take-length}
-use Rattle.robots_c.proofs.MatrixLemmas.{one_more_row, shared_row}
+use Rattle.robots_c.proofs.NumberLemmas.{one_more_row, shared_row}
 use Rattle.robots_c.proofs.matrix.rows_of.Goals as goal
 
 pub loop-agent-preserved-then-is_named : goal.loop-agent-preserved-then-is_named

@@ -1,9 +1,7 @@
-use Rattle.std.proofs.Common.{arith}
+use Rattle.std.proofs.{Common.arith, Math.Seq.take-length}
 use Rattle.std.proofs.lemmas.Iterator.Consumers.{YieldsList-at, YieldsList-end, YieldsList-turn}
-use Rattle.std.proofs.lemmas.Iterator.Splits.{YieldsList-from_str_split}
-use Rattle.std.proofs.lemmas.List.{length_push}
-use Rattle.std.proofs.Math.Seq.{take-length}
-use Rattle.robots_c.proofs.MatrixLemmas.{one_more_mapped}
+use Rattle.std.proofs.lemmas.{Iterator.Splits.YieldsList-from_str_split, List.length_push}
+use Rattle.robots_c.proofs.{NumberLemmas.one_more_mapped}
 use Rattle.robots_c.proofs.matrix.targets_of.Goals as goal
 
 pub loop-url-preserved : goal.loop-url-preserved

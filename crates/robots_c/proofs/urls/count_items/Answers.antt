@@ -1,6 +1,5 @@
-use Rattle.std.proofs.Common.{arith, ◌==◌}
-use Rattle.std.proofs.lemmas.List.Splits.{length-slice_split}
-use Rattle.robots_c.specs.Results.{lf}
+use Rattle.std.proofs.{Common.arith, Common.◌==◌, lemmas.List.Splits.length-slice_split}
+use Rattle.robots_c.specs.{Results.lf}
 use Rattle.robots_c.proofs.urls.count_items.Goals as goal
 
 pub returns : goal.returns

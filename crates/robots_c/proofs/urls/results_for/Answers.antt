@@ -1,8 +1,7 @@
 use Rattle.std.proofs.Common.{SFits, arith, rules, w64}
-use Rattle.std.proofs.lemmas.{Int.to_z-of_z, List.length_push, Slice.Zip.AllZip-long}
+use Rattle.std.proofs.{lemmas.Int.to_z-of_z, lemmas.List.length_push, lemmas.Slice.Zip.AllZip-long}
+use Rattle.std.proofs.{lemmas.Iterator.Splits.YieldsList-from_str_split, Math.Seq.take-length}
 use Rattle.std.proofs.lemmas.Iterator.Consumers.{YieldsList-at, YieldsList-end, YieldsList-turn}
-use Rattle.std.proofs.lemmas.Iterator.Splits.{YieldsList-from_str_split}
-use Rattle.std.proofs.Math.Seq.{take-length}
 use Rattle.robots_c.proofs.NumberLemmas.{lines_fit, one_more}
 use Rattle.robots_c.proofs.urls.results_for.Goals as goal
 

@@ -1,7 +1,7 @@
 use Rattle.std.proofs.Common.{◌≡◌}
 use Rattle.std.specs.Iterator.Adapters.{enumerate_count, enumerate_source}
 use Rattle.texting_robots.specs.Callers.{file_bodies}
-use Rattle.robots_needless.specs.{Blocks.is_found, Blocks.left_from, Deleted.begin_with_mark}
+use Rattle.robots_needless.specs.Blocks.{is_found, left_from, begin_with_mark}
 use Rattle.robots_needless.proofs.front.left_begin_with_mark.Given as goal
 
 abbrev pub invariant-loop-index : goal.invariant-loop-index

@@ -1,4 +1,4 @@
-use Rattle.robots_needless.proofs.GenericLemmas.{covers_by_generic, generic_by_covers, matches_generic}
+use Rattle.robots_needless.proofs.SettledLemmas.{covers_by_generic, generic_by_covers, matches_generic}
 use Rattle.robots_needless.proofs.laws.one_match_decides_covering.Goals as goal
 
 pub returns-clause-covers : goal.returns-clause-covers

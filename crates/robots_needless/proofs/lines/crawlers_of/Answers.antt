@@ -1,7 +1,7 @@
 use Rattle.std.proofs.Common.{◌∙◌, Bor, List, ℕ, bytes_eq, codes, map, subst, sym}
 use Rattle.std.specs.List.{Contains}
 use Rattle.std.proofs.lemmas.{List.Folds.Any-from_list_any, List.map-append, Slice.Eq.bytes_eq-Decides}
-use Rattle.robots_needless.proofs.DistinctLemmas.{to_map}
+use Rattle.robots_needless.proofs.TogetherLemmas.{to_map}
 use Rattle.robots_needless.proofs.SettledLemmas.{among_names, among_pushed}
 use Rattle.robots_needless.proofs.lines.crawlers_of.Goals as goal
 

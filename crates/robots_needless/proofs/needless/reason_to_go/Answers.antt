@@ -1,7 +1,6 @@
-use Rattle.std.proofs.Common.{List}
-use Rattle.std.proofs.lemmas.Option.{IfSome_then}
+use Rattle.std.proofs.{Common.List, lemmas.Option.IfSome_then}
 use Rattle.texting_robots.specs.Rules.{PlacedRule, unplaced}
-use Rattle.robots_needless.specs.declared.needless.Reason.{Reason}
+use Rattle.robots_needless.specs.declared.needless.{Reason.Reason}
 use Rattle.robots_needless.specs.Internal.{AreAmong, AreNear, Goes, HasNoRival}
 use Rattle.robots_needless.proofs.TogetherLemmas.{no_rival_near, overruled_goes}
 use Rattle.robots_needless.proofs.needless.reason_to_go.Goals as goal

@@ -1,7 +1,6 @@
 use Rattle.std.proofs.Common.{All, subst}
-use Rattle.std.proofs.lemmas.{Bool.ne_eqb, List.take_all}
-use Rattle.std.proofs.lemmas.List.Elements.{All-more}
-use Rattle.robots_needless.specs.Internal.{IsPlainByte}
+use Rattle.std.proofs.{lemmas.Bool.ne_eqb, lemmas.List.take_all, lemmas.List.Elements.All-more}
+use Rattle.robots_needless.specs.{Internal.IsPlainByte}
 use Rattle.robots_needless.proofs.rule.is_plain.Goals as goal
 
 pub loop-byte-preserved : goal.loop-byte-preserved

@@ -2,7 +2,7 @@ use Rattle.std.proofs.Common.{◌≡◌, ◌∙◌, ap, arith, length, refl, str
 use Rattle.texting_robots.specs.Pattern.{IsOverlong}
 use Rattle.texting_robots.proofs.RulesLemmas.{rejected_wider}
 use Rattle.robots_needless.specs.Internal.{generic}
-use Rattle.robots_needless.proofs.GenericLemmas.{escaped_below}
+use Rattle.robots_needless.proofs.SettledLemmas.{escaped_below}
 use Rattle.robots_needless.proofs.rule.prepared.Goals as goal
 
 pub generic_text-requires : goal.generic_text-requires

@@ -1,6 +1,5 @@
-use Rattle.std.proofs.Common.{◌+◌, arith}
-use Rattle.std.proofs.lemmas.List.{length-drop, take_all}
-use Rattle.robots_verdict.proofs.InputLemmas.{line_before}
+use Rattle.std.proofs.{Common.◌+◌, Common.arith, lemmas.List.length-drop, lemmas.List.take_all}
+use Rattle.robots_verdict.proofs.{InputLemmas.line_before}
 use Rattle.robots_verdict.proofs.header.first_line.Goals as goal
 
 pub returns : goal.returns

@@ -1,5 +1,4 @@
-use Rattle.std.proofs.Common.{rules}
-use Rattle.std.proofs.lemmas.List.{map-append}
+use Rattle.std.proofs.{Common.rules, lemmas.List.map-append}
 use Rattle.robots_verdict.proofs.InputLemmas.{goes_first, goes_more, if_memory, no_bytes, no_split, not_empty}
 use Rattle.robots_verdict.proofs.InputLemmas.{rest_shorter, some_bytes, some_url, split_found}
 use Rattle.robots_verdict.proofs.header.split.Goals as goal

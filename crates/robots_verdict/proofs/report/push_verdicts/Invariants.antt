@@ -1,5 +1,5 @@
 use Rattle.std.proofs.Common.{map, string_bytes, take}
-use Rattle.robots_verdict.specs.Verdicts.{AddsVerdicts}
+use Rattle.robots_verdict.specs.Report.{AddsVerdicts}
 use Rattle.robots_verdict.proofs.report.push_verdicts.Given as goal
 
 abbrev pub invariant-loop-url : goal.invariant-loop-url

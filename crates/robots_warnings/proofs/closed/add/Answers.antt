@@ -1,7 +1,7 @@
 use Rattle.std.proofs.Common.{bytes_eq, string_bytes, true, ◌∙◌}
 use Rattle.std.specs.HashSet.{contains_text}
 use Rattle.std.proofs.lemmas.Map.Text.{hash_set_updates_text}
-use Rattle.robots_warnings.proofs.NameLemmas.{either}
+use Rattle.robots_warnings.proofs.ClosedLemmas.{either}
 use Rattle.robots_warnings.proofs.closed.add.Goals as goal
 
 pub returns : goal.returns

@@ -1,7 +1,7 @@
 use Rattle.std.proofs.Common.{◌≡◌, OnOk, flat_map, map, subst}
 use Rattle.texting_robots.specs.Callers.{file_lines, label_by_value}
-use Rattle.robots_warnings.specs.{Internal.Adds, Internal.Rules.agents_at, Warnings.closing_warnings}
-use Rattle.robots_warnings.specs.Warnings.{site_warnings}
+use Rattle.robots_warnings.specs.Internal.{Adds, Rules.agents_at}
+use Rattle.robots_warnings.specs.Warnings.{closing_warnings, site_warnings}
 use Rattle.robots_warnings.proofs.closed.warn_of_closed.Goals as goal
 
 pub returns : goal.returns

@@ -1,8 +1,7 @@
 use Rattle.std.proofs.Common.{Bor, ℕ, List, rules, sym, tests, ◌∙◌}
-use Rattle.std.proofs.lemmas.Iterator.{YieldsList-from_slice}
-use Rattle.std.proofs.lemmas.Iterator.Search.{any_from_yields_List}
+use Rattle.std.proofs.lemmas.Iterator.{YieldsList-from_slice, Search.any_from_yields_List}
 use Rattle.std.specs.Str.{str_eq_ignore_ascii_case}
-use Rattle.robots_warnings.proofs.TableLemmas.{any_part}
+use Rattle.robots_warnings.proofs.ClosedLemmas.{any_part}
 use Rattle.robots_warnings.proofs.crawlers.is_given.Goals as goal
 
 pub returns : goal.returns

@@ -1,7 +1,7 @@
 use Rattle.std.proofs.Common.{ap, sym, ◌∙◌}
 use Rattle.std.specs.{List.list_any, Str.str_eq_ignore_ascii_case}
 use Rattle.robots_warnings.specs.{Crawlers.Row, Crawlers.is_known, Internal.row_value}
-use Rattle.robots_warnings.proofs.TableLemmas.{any_part}
+use Rattle.robots_warnings.proofs.ClosedLemmas.{any_part}
 use Rattle.robots_warnings.proofs.crawlers.is_known.Goals as goal
 
 pub returns : goal.returns

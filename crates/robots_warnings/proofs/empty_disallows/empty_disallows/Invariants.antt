@@ -1,7 +1,7 @@
 use Rattle.std.proofs.Common.{◌≡◌, ◌||◌, ℕ, map}
 use Rattle.std.specs.{BTreeSet.contains, Ordering.nat_cmp}
 use Rattle.texting_robots.specs.Callers.{bodies_read, label_by_value}
-use Rattle.robots_warnings.specs.EmptyDisallows.{is_empty_at}
+use Rattle.robots_warnings.specs.Conflicts.{is_empty_at}
 use Rattle.robots_warnings.proofs.empty_disallows.empty_disallows.Given as goal
 
 -- the numbers found and those of the remaining lines are all

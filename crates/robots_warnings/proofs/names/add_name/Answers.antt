@@ -1,4 +1,4 @@
-use Rattle.robots_warnings.proofs.NameLemmas.{name_added}
+use Rattle.robots_warnings.proofs.ClosedLemmas.{name_added}
 use Rattle.robots_warnings.proofs.names.add_name.Goals as goal
 
 pub returns : goal.returns

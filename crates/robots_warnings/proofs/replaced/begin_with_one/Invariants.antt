@@ -1,8 +1,7 @@
 use Rattle.std.proofs.Common.{◌≡◌, ℕ, Bool, List, length, map}
-use Rattle.std.specs.Str.{str_to_ascii_lowercase}
-use Rattle.texting_robots.specs.Callers.{label_by_value}
-use Rattle.robots_warnings.specs.{File.lines_of, Positions.begin_with_one}
-use Rattle.robots_warnings.specs.Internal.Rules.{HasThose}
+use Rattle.std.specs.{Str.str_to_ascii_lowercase}
+use Rattle.texting_robots.specs.{Callers.label_by_value}
+use Rattle.robots_warnings.specs.{File.lines_of, Positions.begin_with_one, Internal.Rules.HasThose}
 use Rattle.robots_warnings.proofs.replaced.begin_with_one.Given as goal
 
 abbrev pub invariant-loop-rest : goal.invariant-loop-rest

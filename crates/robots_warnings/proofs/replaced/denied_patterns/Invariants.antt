@@ -1,7 +1,7 @@
 use Rattle.std.proofs.Common.{◌≡◌, ◌||◌, ℕ, List}
 use Rattle.std.specs.{HashSet.contains_text, List.list_any}
 use Rattle.texting_robots.specs.Callers.{file_lines}
-use Rattle.robots_warnings.specs.Replaced.{denies, star_rules}
+use Rattle.robots_warnings.specs.Closed.{denies, star_rules}
 use Rattle.robots_warnings.proofs.replaced.denied_patterns.Given as goal
 
 abbrev pub invariant-loop-rule : goal.invariant-loop-rule

@@ -1,7 +1,7 @@
 use Rattle.std.proofs.Common.{◌≡◌}
 use Rattle.std.specs.List.{list_any}
 use Rattle.texting_robots.specs.Callers.{file_lines}
-use Rattle.robots_warnings.specs.Replaced.{is_partial, star_rules}
+use Rattle.robots_warnings.specs.Closed.{is_partial, star_rules}
 use Rattle.robots_warnings.proofs.replaced.has_partial.Given as goal
 
 abbrev pub invariant-loop-rule : goal.invariant-loop-rule

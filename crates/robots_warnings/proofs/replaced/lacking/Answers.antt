@@ -1,8 +1,8 @@
 use Rattle.std.proofs.Common.{◌<◌, ◌&&◌, arith, bytes_eq, length}
 use Rattle.std.specs.Str.{str_to_ascii_lowercase}
 use Rattle.texting_robots.specs.Callers.{file_lines}
-use Rattle.robots_warnings.specs.Replaced.{lacks_all}
-use Rattle.robots_warnings.proofs.NameLemmas.{any_next}
+use Rattle.robots_warnings.specs.Closed.{lacks_all}
+use Rattle.robots_warnings.proofs.ClosedLemmas.{any_next}
 use Rattle.robots_warnings.proofs.replaced.lacking.Goals as goal
 
 pub loop-agent-preserved : goal.loop-agent-preserved

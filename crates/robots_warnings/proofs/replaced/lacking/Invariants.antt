@@ -1,7 +1,7 @@
 use Rattle.std.proofs.Common.{map, take}
 use Rattle.texting_robots.specs.Callers.{file_lines}
 use Rattle.robots_warnings.specs.Internal.Rules.{HasDenied, HasThose}
-use Rattle.robots_warnings.specs.Replaced.{is_lacking, star_rules}
+use Rattle.robots_warnings.specs.Closed.{is_lacking, star_rules}
 use Rattle.robots_warnings.proofs.replaced.lacking.Given as goal
 
 abbrev pub invariant-loop-agent : goal.invariant-loop-agent

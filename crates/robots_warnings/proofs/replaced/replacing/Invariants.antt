@@ -1,8 +1,7 @@
 use Rattle.std.proofs.Common.{◌≡◌, ◌++◌, length, map}
 use Rattle.texting_robots.specs.Callers.{file_lines, label_by_value}
-use Rattle.robots_warnings.specs.declared.positions.Preceding.TheVariants.{Other}
-use Rattle.robots_warnings.specs.Internal.Rules.{HasThose}
-use Rattle.robots_warnings.specs.Replaced.{is_lacking, replacing_from}
+use Rattle.robots_warnings.specs.{declared.positions.Preceding.TheVariants.Other, Internal.Rules.HasThose}
+use Rattle.robots_warnings.specs.Closed.{is_lacking, replacing_from}
 use Rattle.robots_warnings.proofs.replaced.replacing.Given as goal
 
 -- the numbers found and those among the remaining lines are all numbers

@@ -1,6 +1,6 @@
 use Rattle.std.proofs.Common.{◌≡◌, ◌+◌, filter, length, not}
 use Rattle.texting_robots.specs.Callers.{PlacedRule, file_lines}
-use Rattle.robots_warnings.specs.Replaced.{star_count}
+use Rattle.robots_warnings.specs.Closed.{star_count}
 use Rattle.robots_warnings.proofs.replaced.star_count.Given as goal
 
 abbrev pub invariant-loop-rule : goal.invariant-loop-rule

@@ -1,6 +1,5 @@
-use Rattle.std.proofs.Common.{arith, rules}
-use Rattle.std.proofs.lemmas.Grind.{common_steps}
-use Rattle.robots_warnings.proofs.StepLemmas.{from_first_next}
+use Rattle.std.proofs.{Common.arith, Common.rules, lemmas.Grind.common_steps}
+use Rattle.robots_warnings.proofs.{StepLemmas.from_first_next}
 use Rattle.robots_warnings.proofs.rules.from_first.Goals as goal
 
 pub returns-then-test : goal.returns-then-test

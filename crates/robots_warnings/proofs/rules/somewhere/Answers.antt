@@ -1,6 +1,5 @@
-use Rattle.std.proofs.Common.{arith}
-use Rattle.std.proofs.lemmas.Grind.{common_steps}
-use Rattle.robots_warnings.proofs.StepLemmas.{somewhere_first}
+use Rattle.std.proofs.{Common.arith, lemmas.Grind.common_steps}
+use Rattle.robots_warnings.proofs.{StepLemmas.somewhere_first}
 use Rattle.robots_warnings.proofs.rules.somewhere.Goals as goal
 
 pub returns : goal.returns

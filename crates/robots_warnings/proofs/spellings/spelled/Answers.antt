@@ -1,5 +1,4 @@
-use Rattle.std.proofs.Common.{◌∙◌, append-nil, arith, sym}
-use Rattle.std.proofs.lemmas.Grind.{common_steps}
+use Rattle.std.proofs.{Common.◌∙◌, Common.append-nil, Common.arith, Common.sym, lemmas.Grind.common_steps}
 use Rattle.robots_warnings.proofs.SeenLemmas.{next_byte, next_escape, no_bytes}
 use Rattle.robots_warnings.proofs.spellings.spelled.Goals as goal
 

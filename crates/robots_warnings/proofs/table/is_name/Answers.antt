@@ -1,7 +1,7 @@
 use Rattle.std.proofs.Common.{ℕ, List, ap, bytes_eq, sym, ◌∙◌}
 use Rattle.std.specs.List.{list_any}
 use Rattle.robots_warnings.specs.{Internal.Row, Table.is_name}
-use Rattle.robots_warnings.proofs.TableLemmas.{any_part}
+use Rattle.robots_warnings.proofs.ClosedLemmas.{any_part}
 use Rattle.robots_warnings.proofs.table.is_name.Goals as goal
 
 pub returns : goal.returns

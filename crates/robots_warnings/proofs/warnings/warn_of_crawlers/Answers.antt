@@ -1,8 +1,8 @@
 use Rattle.std.proofs.Common.{◌≡◌, OnOk, ap, flat_map, map, subst, ◌∙◌}
 use Rattle.std.specs.{BTreeSet.contains, Ordering.nat_cmp}
 use Rattle.texting_robots.specs.Callers.{bodies_read, file_lines, label_by_value}
-use Rattle.robots_warnings.specs.Conflicts.{conflict, overruled}
-use Rattle.robots_warnings.specs.{EmptyDisallows.is_empty_at, Internal.Adds, Internal.Rules.warnings_at}
+use Rattle.robots_warnings.specs.Conflicts.{conflict, overruled, is_empty_at}
+use Rattle.robots_warnings.specs.Internal.{Adds, Rules.warnings_at}
 use Rattle.robots_warnings.specs.Warnings.{crawler_warnings, rule_warnings}
 use Rattle.robots_warnings.proofs.warnings.warn_of_crawlers.Goals as goal
 

@@ -1,6 +1,6 @@
 use Rattle.std.proofs.Common.{◌∙◌, sym, arith}
 use Rattle.texting_robots.specs.Escape.{is_escaped}
-use Rattle.texting_robots.proofs.RegionLemmas.{either_end, front_tells}
+use Rattle.texting_robots.proofs.LabelLemmas.{either_end, front_tells}
 use Rattle.texting_robots.proofs.escape.few_hold_escaped.Goals as goal
 
 pub returns-else-four_hold_escaped : goal.returns-else-four_hold_escaped

@@ -1,6 +1,6 @@
 use Rattle.std.proofs.Common.{◌∙◌, sym}
 use Rattle.texting_robots.specs.Escape.{is_escaped}
-use Rattle.texting_robots.proofs.RegionLemmas.{front_tells, skips_front}
+use Rattle.texting_robots.proofs.LabelLemmas.{front_tells, skips_front}
 use Rattle.texting_robots.proofs.escape.holds_escaped.Goals as goal
 
 pub returns-then-sixteen_hold_escaped : goal.returns-then-sixteen_hold_escaped

@@ -1,6 +1,6 @@
 use Rattle.std.proofs.Common.{◌++◌, ap, string_bytes, rules, sym, ◌∙◌}
 use Rattle.std.proofs.lemmas.Result.{on_ok_weaker}
-use Rattle.texting_robots.proofs.EscapeLemmas.{plain_stays, same_escape}
+use Rattle.texting_robots.proofs.NormalizedLemmas.{plain_stays, same_escape}
 use Rattle.texting_robots.proofs.escape.push_escaped.Goals as goal
 
 pub returns-then-holds_escaped : goal.returns-then-holds_escaped

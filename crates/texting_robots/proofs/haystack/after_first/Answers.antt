@@ -1,5 +1,5 @@
 use Rattle.std.proofs.Common.{arith}
-use Rattle.texting_robots.proofs.PlacingLemmas.{after_found, found_nowhere}
+use Rattle.texting_robots.proofs.SearchLemmas.{after_found, found_nowhere}
 use Rattle.texting_robots.proofs.haystack.after_first.Goals as goal
 
 pub returns-in_err-at : goal.returns-in_err-at

@@ -1,5 +1,5 @@
 use Rattle.std.proofs.Common.{refl}
-use Rattle.texting_robots.proofs.{MainTheoremLemmas.nothing_of, HeldLemmas.rejection_is_computed}
+use Rattle.texting_robots.proofs.MainTheoremLemmas.{nothing_of, rejection_is_computed}
 use Rattle.texting_robots.proofs.labels.first_overlong_line.Goals.{in-Ok, in-Err-Overlong, in-Err-Memory}
 use Rattle.texting_robots.proofs.labels.first_overlong_line.Goals as goal
 

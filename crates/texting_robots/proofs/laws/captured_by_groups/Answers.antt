@@ -1,4 +1,4 @@
-use Rattle.texting_robots.proofs.GroupsLemmas.{captured_in_groups, delays_of_groups, rules_of_groups}
+use Rattle.texting_robots.proofs.SiteLemmas.{captured_in_groups, delays_of_groups, rules_of_groups}
 use Rattle.texting_robots.proofs.laws.captured_by_groups.Goals as goal
 
 pub returns : goal.returns

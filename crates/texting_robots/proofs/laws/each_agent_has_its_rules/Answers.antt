@@ -1,6 +1,6 @@
-use Rattle.texting_robots.{specs.Executable.placed_rules, proofs.MainTheoremLemmas.answer_alike}
-use Rattle.texting_robots.proofs.HeldLemmas.{computed_are, one_list, rejection_is_computed}
-use Rattle.texting_robots.proofs.HeldLemmas.{rules_are_computed}
+use Rattle.texting_robots.specs.Executable.{placed_rules}
+use Rattle.texting_robots.proofs.MainTheoremLemmas.{answer_alike, computed_are, one_list, rules_are_computed}
+use Rattle.texting_robots.proofs.MainTheoremLemmas.{rejection_is_computed}
 use Rattle.texting_robots.proofs.laws.each_agent_has_its_rules.Goals as goal
 
 pub returns-clause-some : goal.returns-clause-some

@@ -6,7 +6,7 @@ use Rattle.texting_robots.specs.{Pattern.collapsed, Rules.unplaced}
 use Rattle.texting_robots.specs.Internal.{Cut.cut, Delay.delay_of, Line.line_of, Statement.statement_of}
 use Rattle.texting_robots.proofs.ExampleLemmas.{answers, any_overlong_decides}
 use Rattle.texting_robots.proofs.GivenLemmas.{delay_is_computed, sitemaps_are_computed}
-use Rattle.texting_robots.proofs.HeldLemmas.{computed_are, rejection_is_computed}
+use Rattle.texting_robots.proofs.MainTheoremLemmas.{computed_are, rejection_is_computed}
 use Rattle.texting_robots.proofs.LineLemmas.{lines_are}
 use lib.Utf8.{encode}
 use Rattle.texting_robots.proofs.laws.example_of_a_file.Goals as goal

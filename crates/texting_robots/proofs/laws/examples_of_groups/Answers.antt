@@ -1,11 +1,10 @@
+use Rattle.std.specs.Prelude.{codes}
 use Rattle.std.proofs.{Common.refl, lemmas.Bool.Decides.not_from_Decides}
-use Rattle.std.specs.{Prelude.codes, Str.chars, Str.is_utf8}
+use Rattle.std.specs.Str.{chars, is_utf8}
 use Rattle.bstr.specs.{Trim.kept_end, Trim.kept_start, Utf8.pieces_from, Utf8.spans_from}
-use Rattle.texting_robots.specs.Examples.{early_delays, groups, one_rule, rejected_delay, simple}
-use Rattle.texting_robots.specs.Examples.{three_values}
-use Rattle.texting_robots.specs.Examples.{two_delays}
+use Rattle.texting_robots.specs.{Examples.early_delays, Executable.file_lines}
+use Rattle.texting_robots.specs.Examples.{groups, one_rule, rejected_delay, simple, three_values, two_delays}
 use Rattle.texting_robots.specs.Internal.{Cut.cut, Delay.delay_of, Line.line_of, Statement.statement_of}
-use Rattle.texting_robots.specs.Executable.{file_lines}
 use Rattle.texting_robots.proofs.{CapturedLemmas.is_captured_decides, MainTheoremLemmas.has_lines}
 use Rattle.texting_robots.proofs.ExampleLemmas.{gives_delay, gives_rules}
 use lib.Utf8.{encode}

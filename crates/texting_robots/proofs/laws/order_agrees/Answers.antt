@@ -1,4 +1,4 @@
-use Rattle.texting_robots.proofs.OrderLemmas.{not_both, not_equal, one_holds, transitive}
+use Rattle.texting_robots.proofs.VerdictLemmas.{not_both, not_equal, one_holds, transitive}
 use Rattle.texting_robots.proofs.laws.order_agrees.Goals as goal
 
 pub returns-clause-one : goal.returns-clause-one

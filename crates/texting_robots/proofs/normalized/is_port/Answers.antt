@@ -1,9 +1,8 @@
 use Rattle.std.proofs.Common.{◌≡◌, ◌==◌, ◌∙◌, Ok, ap, arith, not, sym}
 use Rattle.std.proofs.lemmas.Bool.{and_parts, false≢true, ne_eqb, Decides.nat_tests}
-use Rattle.std.proofs.lemmas.Fmt.{IsAscii-decimal, parse-decimal}
-use Rattle.std.proofs.lemmas.Str.{IsUtf8-from_ascii}
+use Rattle.std.proofs.lemmas.{Fmt.IsAscii-decimal, Fmt.parse-decimal, Str.IsUtf8-from_ascii}
 use Rattle.texting_robots.specs.Internal.Normalized.{IsOther, begins_plainly}
-use Rattle.texting_robots.proofs.normalized.is_port.Goals.{After-from_str_radix}
+use Rattle.texting_robots.proofs.normalized.is_port.{Goals.After-from_str_radix}
 use Rattle.texting_robots.proofs.NormalizedLemmas.{decimal_plain, decimal_read}
 use Rattle.texting_robots.proofs.normalized.is_port.Goals as goal
 

@@ -1,12 +1,11 @@
 use Rattle.std.proofs.Common.{[], ◌∙◌, ap, arith, length, rules, sym}
 use Rattle.std.proofs.lemmas.{Bool.false≢true, List.nil_from_length, Option.none-some, Option.same_Some}
-use Rattle.texting_robots.specs.{Internal.Normalized.after_delimited}
-use Rattle.texting_robots.specs.{declared.normalized.TheConstants.FRAGMENT}
-use Rattle.texting_robots.specs.declared.normalized.TheConstants.{QUERY}
+use Rattle.texting_robots.specs.Internal.{Normalized.after_delimited}
+use Rattle.texting_robots.specs.declared.normalized.TheConstants.{FRAGMENT, QUERY}
 use Rattle.texting_robots.proofs.AllocationFreeLemmas.{tail_left, target_past, target_read}
-use Rattle.url.proofs.PathLemmas.{no_segments}
-use Rattle.url.specs.declared.scheme.SchemeType.TheVariants.{SpecialNotFile}
-use Rattle.texting_robots.proofs.NormalizedLemmas.{path_read}
+use Rattle.url.proofs.{PathLemmas.no_segments}
+use Rattle.url.specs.declared.scheme.SchemeType.{TheVariants.SpecialNotFile}
+use Rattle.texting_robots.proofs.{NormalizedLemmas.path_read}
 use Rattle.texting_robots.proofs.normalized.is_target.Goals as goal
 
 pub returns-in_default : goal.returns-in_default

@@ -1,5 +1,5 @@
 use Rattle.std.proofs.Common.{◌≡◌, ◌+◌, true}
-use Rattle.texting_robots.specs.Internal.Prefilter.{AreApart}
+use Rattle.texting_robots.specs.Internal.Segments.{AreApart}
 use Rattle.texting_robots.proofs.prefilter.are_apart.Given as goal
 
 abbrev pub invariant-loop-k : goal.invariant-loop-k

@@ -1,5 +1,5 @@
 use Rattle.std.proofs.Common.{◌≤◌, ◌-◌, length, max}
-use Rattle.texting_robots.specs.Internal.Prefilter.{AreApart}
+use Rattle.texting_robots.specs.Internal.Segments.{AreApart}
 use Rattle.texting_robots.proofs.prefilter.first_near.Given as goal
 
 abbrev pub invariant-loop-at : goal.invariant-loop-at

@@ -1,7 +1,7 @@
 use Rattle.std.proofs.Common.{◌≡◌, ◌++◌, map, slice_get, string_bytes}
 use Rattle.std.specs.{List.All, Option.option_or}
 use Rattle.std.specs.Iterator.Adapters.{enumerate_count, enumerate_source}
-use Rattle.texting_robots.specs.Internal.{Entries.AreEntries, Entries.rules_in, Group.from_captured}
+use Rattle.texting_robots.specs.Internal.{Segments.AreEntries, Segments.rules_in, Group.from_captured}
 use Rattle.texting_robots.specs.Executable.{captured_delays, file_lines, placed_in, placed_rules, sitemaps_in}
 use Rattle.texting_robots.specs.{Group.group_name, Line.delay_in, Pattern.IsOverlong, Rules.PlacedRule}
 use Rattle.texting_robots.proofs.reading.read_file.Given as goal

@@ -1,5 +1,5 @@
 use Rattle.std.proofs.Common.{◌≡◌, ℕ, ◌<◌, length, get_or}
-use Rattle.texting_robots.specs.Internal.Entries.{no_entry, mask_in}
+use Rattle.texting_robots.specs.Internal.Segments.{no_entry, mask_in}
 use Rattle.texting_robots.proofs.rules.put_masks.Given as goal
 
 abbrev pub invariant-loop-at : goal.invariant-loop-at

@@ -1,7 +1,7 @@
 use Rattle.std.proofs.Common.{◌≡◌, ◌∷◌, [], Some, sym, subst, ◌∙◌}
-use Rattle.std.proofs.lemmas.{Bool.Decides.Decides-eqb, Slice.Eq.strip_prefix_is}
-use Rattle.texting_robots.{specs.Pattern.dollar, specs.Pattern.Matches}
-use Rattle.texting_robots.{proofs.PatternLemmas.only_wildcards_match}
+use Rattle.std.proofs.{lemmas.Bool.Decides.Decides-eqb, lemmas.Slice.Eq.strip_prefix_is}
+use Rattle.texting_robots.specs.Pattern.{dollar, Matches}
+use Rattle.texting_robots.proofs.{SegmentLemmas.only_wildcards_match}
 use Rattle.texting_robots.proofs.segments.closes.Goals as goal
 
 pub returns-in-Some : goal.returns-in-Some

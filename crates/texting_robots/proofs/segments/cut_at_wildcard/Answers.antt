@@ -1,6 +1,5 @@
-use Rattle.std.proofs.Common.{not, arith}
-use Rattle.std.proofs.lemmas.List.Sums.{prefix_len-le-length}
-use Rattle.texting_robots.specs.Internal.Segments.{is_wildcard}
+use Rattle.std.proofs.{Common.not, Common.arith, lemmas.List.Sums.prefix_len-le-length}
+use Rattle.texting_robots.specs.{Internal.Segments.is_wildcard}
 use Rattle.texting_robots.proofs.segments.cut_at_wildcard.Goals as goal
 
 pub split_at-requires : goal.split_at-requires

@@ -1,6 +1,6 @@
 use Rattle.std.proofs.Common.{◌+◌, arith}
-use Rattle.texting_robots.proofs.BorderLemmas.{IsFirstOpen, adds_entry, adds_more, longest_border, open_back}
-use Rattle.texting_robots.proofs.BorderLemmas.{open_farther, open_more, open_next}
+use Rattle.texting_robots.proofs.SearchLemmas.{IsFirstOpen, adds_entry, adds_more, longest_border, open_back}
+use Rattle.texting_robots.proofs.SearchLemmas.{open_farther, open_more, open_next}
 use Rattle.texting_robots.proofs.segments.push_borders.Goals.{then-segment-position}
 use Rattle.texting_robots.proofs.segments.push_borders.Goals.{else-segment-position+else-matched-gt0}
 use Rattle.texting_robots.proofs.segments.push_borders.Goals as goal

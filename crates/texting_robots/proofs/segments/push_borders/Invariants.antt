@@ -1,5 +1,5 @@
 use Rattle.std.proofs.Common.{◌≡◌, ◌+◌, ◌-◌, ◌*◌, ◌≤◌, length}
-use Rattle.texting_robots.proofs.BorderLemmas.{AddsBorders, IsFirstOpen}
+use Rattle.texting_robots.proofs.SearchLemmas.{AddsBorders, IsFirstOpen}
 use Rattle.texting_robots.proofs.segments.push_borders.Given as goal
 
 -- the segment is searched for in itself, and the borders of its first `position` bytes were appended

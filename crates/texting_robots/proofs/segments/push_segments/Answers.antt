@@ -1,10 +1,9 @@
 use Rattle.std.proofs.Common.{◌≡◌, ◌∷◌, [], Some, None, drop, length, arith, sym, ap, ◌∙◌}
 use Rattle.std.proofs.lemmas.Bool.{eqb-true, false≢true, iff_false, Decides.Decides-eqb}
 use Rattle.std.proofs.lemmas.{List.take_all, Slice.Eq.strip_prefix_is}
-use Rattle.texting_robots.specs.Pattern.{star}
+use Rattle.texting_robots.specs.{Pattern.star}
 use Rattle.texting_robots.proofs.SegmentLemmas.{cut_closed, cut_first, cut_last, cut_more, cut_never}
-use Rattle.texting_robots.proofs.SegmentLemmas.{cut_open}
-use Rattle.texting_robots.proofs.SegmentLemmas.{IsFromStar}
+use Rattle.texting_robots.proofs.SegmentLemmas.{cut_open, IsFromStar}
 use Rattle.texting_robots.proofs.segments.push_segments.Goals as goal
 
 pub loop-following-init : goal.loop-following-init

@@ -1,4 +1,4 @@
-use Rattle.warnings_laws.proofs.ClosedLemmas.{closes_everything}
+use Rattle.warnings_laws.proofs.ConflictLemmas.{closes_everything}
 use Rattle.warnings_laws.proofs.laws.closes_everything.Goals as goal
 
 pub returns : goal.returns

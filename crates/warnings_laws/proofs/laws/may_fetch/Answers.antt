@@ -1,4 +1,4 @@
-use Rattle.warnings_laws.proofs.ClosedLemmas.{fetches_everything, fetches_nothing}
+use Rattle.warnings_laws.proofs.ConflictLemmas.{fetches_everything, fetches_nothing}
 use Rattle.warnings_laws.proofs.laws.may_fetch.Goals as goal
 
 pub returns-clause-everything : goal.returns-clause-everything

@@ -1,4 +1,4 @@
-use Rattle.warnings_laws.proofs.{CrawlerLemmas.everyone_reported, LawLemmas.verdicts_of_the_standard}
+use Rattle.warnings_laws.proofs.{QuietLemmas.everyone_reported, LawLemmas.verdicts_of_the_standard}
 use Rattle.warnings_laws.proofs.laws.verdicts_are_those_of_the_standard.Goals as goal
 
 pub returns-clause-verdicts : goal.returns-clause-verdicts

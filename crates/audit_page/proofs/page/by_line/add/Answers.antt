@@ -1,7 +1,6 @@
-use Rattle.std.proofs.Common.{rules}
-use Rattle.std.specs.Vec.{vec_len}
-use Rattle.std.proofs.lemmas.Option.{slice_get_read}
-use Rattle.audit_page.proofs.ByLineLemmas.{pushed_at}
+use Rattle.std.proofs.{Common.rules, lemmas.Option.slice_get_read}
+use Rattle.std.specs.{Vec.vec_len}
+use Rattle.audit_page.proofs.{ByLineLemmas.pushed_at}
 use Rattle.audit_page.proofs.page.by_line.add.Goals as goal
 
 pub returns : goal.returns

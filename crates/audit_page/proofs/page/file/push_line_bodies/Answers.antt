@@ -1,6 +1,4 @@
-use Rattle.std.proofs.Common.{◌≡◌, arith}
-use Rattle.std.proofs.Math.Path.{fun_ext}
-use Rattle.std.proofs.lemmas.Grind.{common_steps}
+use Rattle.std.proofs.{Common.◌≡◌, Common.arith, Math.Path.fun_ext, lemmas.Grind.common_steps}
 use Rattle.audit_page.specs.{Internal.list_at, Page.about_line}
 use Rattle.audit_page.proofs.page.file.push_line_bodies.Goals as goal
 

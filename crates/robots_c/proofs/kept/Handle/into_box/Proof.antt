@@ -31,21 +31,17 @@ use denote.Triple.Spec.{triple_of}
 use denote.Triple.Call.{calls_at_last}
 use denote.Triple.Table.{framed}
 use denote.Triple.Walked.{Stays, stay_dropped, walk_of}
-use Rattle.std.proofs.alloc.Calls.{Goes-blank, handle_tells}
+use Rattle.std.proofs.{alloc.Calls.Goes-blank, alloc.Calls.handle_tells, Shapes.after}
 use Rattle.std.proofs.raw_atomic.Walks.{proved_at, leaves}
-use Rattle.std.proofs.Shapes.{after}
-use Rattle.std_alloc.specs.Box.Ownership.{box_owns}
-use Rattle.std_alloc.proofs.BoxSteps.Form as box
+use Rattle.std_alloc.specs.{Box.Ownership.box_owns}
 use Rattle.std_alloc.proofs.BoxSteps.Steps.{box_out, box_in}
-use Rattle.std_alloc.proofs.ResultValues.{and_tt}
+use Rattle.std_alloc.proofs.{ResultValues.and_tt, boxed.Box.from_raw.Met.met}
+use Rattle.robots_c.proofs.{Borrowing.Good, Keeping.heap_box, kept.Handle.into_box.Statement.statement}
+use Rattle.robots_c.specs.contracts.kept.Handle.into_box.{ended, clauses, Key.name as #self}
+use Rattle.std_alloc.proofs.BoxSteps.Form as box
 use Rattle.std.proofs.impls.GlobalAllocator.TheImpl.Met as heap
 use Rattle.std_alloc.specs.contracts.boxed.Box.from_raw as callee
-use Rattle.std_alloc.proofs.boxed.Box.from_raw.Met.{met}
 use Rattle.robots_c.specs.contracts.kept.Handle as Handle
-use Rattle.robots_c.proofs.{Borrowing.Good, Keeping.heap_box}
-use Rattle.robots_c.specs.contracts.kept.Handle.into_box.{ended, clauses}
-use Rattle.robots_c.specs.contracts.kept.Handle.into_box.Key.{name as #self}
-use Rattle.robots_c.proofs.kept.Handle.into_box.Statement.{statement}
 use Rattle.robots_c.proofs.kept.Handle.into_box.Code as code
 use Rattle.robots_c.proofs.Destruct++none.drop.Code as none
 

@@ -34,20 +34,17 @@ use denote.Triple.Spec.{triple_of}
 use denote.Triple.Call.{calls_at}
 use denote.Triple.Table.{framed}
 use denote.Triple.Walked.{Stays, stay_dropped, Goes-dropped, walk_of}
-use Rattle.std.proofs.alloc.Calls.{Goes-blank}
-use Rattle.std.proofs.raw_atomic.Walks.{proved_at, leaves}
-use Rattle.std_alloc.specs.Box.Ownership.{box_owns}
-use Rattle.std_alloc.proofs.BoxSteps.Form as box
+use Rattle.std.proofs.{alloc.Calls.Goes-blank, raw_atomic.Walks.proved_at, raw_atomic.Walks.leaves}
+use Rattle.std_alloc.specs.{Box.Ownership.box_owns}
 use Rattle.std_alloc.proofs.BoxSteps.Steps.{box_out, box_in}
-use Rattle.std_alloc.proofs.ResultValues.{and_tt}
+use Rattle.std_alloc.proofs.{ResultValues.and_tt, boxed.Box.into_raw.Met.met}
+use Rattle.robots_c.proofs.Keeping.{heap_box, word, kept_in}
+use Rattle.robots_c.specs.contracts.kept.Kept.boxed.{ended, clauses, Key.name as #self}
+use Rattle.robots_c.proofs.{kept.Kept.boxed.Statement.statement}
+use Rattle.std_alloc.proofs.BoxSteps.Form as box
 use Rattle.std.specs.contracts.alloc.Global as Global
 use Rattle.std.proofs.impls.GlobalAllocator.TheImpl.Met as heap
 use Rattle.std_alloc.specs.contracts.boxed.Box.into_raw as callee
-use Rattle.std_alloc.proofs.boxed.Box.into_raw.Met.{met}
-use Rattle.robots_c.proofs.Keeping.{heap_box, word, kept_in}
-use Rattle.robots_c.specs.contracts.kept.Kept.boxed.{ended, clauses}
-use Rattle.robots_c.specs.contracts.kept.Kept.boxed.Key.{name as #self}
-use Rattle.robots_c.proofs.kept.Kept.boxed.Statement.{statement}
 use Rattle.robots_c.proofs.kept.Kept.boxed.Code as code
 use Rattle.robots_c.proofs.Destruct++none.drop.Code as none
 

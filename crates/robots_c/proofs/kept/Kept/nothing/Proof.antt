@@ -23,11 +23,9 @@ use denote.Steps.{nothing}
 use denote.Param.{bounded, param}
 use denote.Triple.Walked.{Stays, stay_dropped, Goes-dropped, walk_of}
 use Rattle.std.proofs.raw_atomic.Walks.{proved_at, leaves}
-use Rattle.std_alloc.proofs.ResultValues.{and_tt}
-use Rattle.robots_c.proofs.Keeping.{word, kept_in}
-use Rattle.robots_c.specs.contracts.kept.Kept.nothing.{ended, clauses}
-use Rattle.robots_c.specs.contracts.kept.Kept.nothing.Key.{name as #self}
-use Rattle.robots_c.proofs.kept.Kept.nothing.Statement.{statement}
+use Rattle.std_alloc.proofs.{ResultValues.and_tt}
+use Rattle.robots_c.proofs.{Keeping.word, Keeping.kept_in, kept.Kept.nothing.Statement.statement}
+use Rattle.robots_c.specs.contracts.kept.Kept.nothing.{ended, clauses, Key.name as #self}
 use Rattle.robots_c.proofs.kept.Kept.nothing.Code as code
 
 pub nothing_spec : {M : Type 1} → statement M

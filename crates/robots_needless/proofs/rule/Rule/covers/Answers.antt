@@ -1,5 +1,5 @@
 use Rattle.std.proofs.Common.{◌∙◌}
-use Rattle.robots_needless.proofs.GenericLemmas.{covers_by}
+use Rattle.robots_needless.proofs.SettledLemmas.{covers_by}
 use Rattle.robots_needless.proofs.rule.Rule.covers.Goals as goal
 
 pub returns : goal.returns

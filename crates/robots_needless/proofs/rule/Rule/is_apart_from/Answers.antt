@@ -1,5 +1,5 @@
 use Rattle.std.proofs.Common.{◌∙◌}
-use Rattle.robots_needless.proofs.GenericLemmas.{apart_by}
+use Rattle.robots_needless.proofs.SettledLemmas.{apart_by}
 use Rattle.robots_needless.proofs.rule.Rule.is_apart_from.Goals as goal
 
 pub returns : goal.returns

@@ -1,5 +1,5 @@
 use Rattle.std.proofs.Common.{◌∙◌}
-use Rattle.robots_needless.proofs.GenericLemmas.{not_true, nothing_by}
+use Rattle.robots_needless.proofs.SettledLemmas.{not_true, nothing_by}
 use Rattle.robots_needless.proofs.rule.Rule.matches_nothing.Goals as goal
 
 pub returns : goal.returns

@@ -1,6 +1,6 @@
 use Rattle.std.proofs.Common.{[], refl, sym}
 use Rattle.robots_warnings.specs.{Internal.Text, Table.all_causes, Table.text_of}
-use Rattle.robots_warnings.proofs.TableLemmas.{own_row, part_at}
+use Rattle.robots_warnings.proofs.ClosedLemmas.{own_row, part_at}
 use Rattle.robots_warnings.proofs.table.Cause.message_row.Goals as goal
 
 pub returns-clause-own : goal.returns-clause-own

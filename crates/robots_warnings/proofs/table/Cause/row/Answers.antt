@@ -1,9 +1,8 @@
-use Rattle.std.proofs.Common.{[]}
-use Rattle.robots_warnings.specs.Internal.{Row}
-use Rattle.printable_text.specs.declared.level.Level.TheVariants as level
+use Rattle.std.proofs.{Common.[]}
+use Rattle.robots_warnings.specs.{Internal.Row, declared.table.Topic.TheVariants.Syntax}
 use Rattle.robots_warnings.specs.Table.{level_of, name_of, topic_of}
-use Rattle.robots_warnings.specs.declared.table.Topic.TheVariants.{Syntax}
-use Rattle.robots_warnings.proofs.TableLemmas.{own_row, part_in}
+use Rattle.robots_warnings.proofs.ClosedLemmas.{own_row, part_in}
+use Rattle.printable_text.specs.declared.level.Level.TheVariants as level
 use Rattle.robots_warnings.proofs.table.Cause.row.Goals as goal
 
 pub returns-clause-own : goal.returns-clause-own

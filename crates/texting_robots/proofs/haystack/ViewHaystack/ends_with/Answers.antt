@@ -1,7 +1,7 @@
 use Rattle.std.proofs.Common.{◌-◌, length, sym, ap, subst, arith}
 use Rattle.std.proofs.lemmas.Bool.{leb-true}
 use Rattle.memchr.specs.Find.{OccursAt}
-use Rattle.texting_robots.proofs.PlacingLemmas.{ends_short, ends_with}
+use Rattle.texting_robots.proofs.SearchLemmas.{ends_short, ends_with}
 use Rattle.texting_robots.proofs.haystack.ViewHaystack.ends_with.Goals as goal
 
 pub returns-then-segment-len-clause-answer : goal.returns-then-segment-len-clause-answer

@@ -1,8 +1,7 @@
 use Rattle.std.proofs.Common.{◌≡◌, ◌+◌, ◌-◌, drop, length, subst, ◌∙◌, arith}
 use Rattle.std.proofs.lemmas.Bool.{iff_false}
-use Rattle.texting_robots.specs.Internal.Stars.{IsRestAfterFirst}
-use Rattle.texting_robots.proofs.BorderLemmas.{open_back, open_found, open_none}
-use Rattle.texting_robots.proofs.PlacingLemmas.{after_found, found_nowhere}
+use Rattle.texting_robots.specs.Internal.Segments.{IsRestAfterFirst}
+use Rattle.texting_robots.proofs.SearchLemmas.{open_back, open_found, open_none, after_found, found_nowhere}
 use Rattle.texting_robots.proofs.haystack.ViewHaystack.find.Goals as goal
 
 pub returns-then-position-len-clause-none : goal.returns-then-position-len-clause-none

@@ -1,5 +1,5 @@
 use Rattle.std.proofs.Common.{◌≡◌, ◌+◌, ◌-◌, ◌*◌, ◌≤◌, length}
-use Rattle.texting_robots.proofs.BorderLemmas.{IsFirstOpen}
+use Rattle.texting_robots.proofs.SearchLemmas.{IsFirstOpen}
 use Rattle.texting_robots.proofs.haystack.ViewHaystack.find.Given as goal
 
 -- the search has taken at most twice as many looks as offsets were passed, less the matched bytes

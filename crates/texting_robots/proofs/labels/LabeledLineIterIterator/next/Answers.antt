@@ -1,6 +1,7 @@
 use Rattle.std.proofs.Common.{◌≡◌, arith, sym}
 use Rattle.std.specs.Str.{str_to_ascii_lowercase}
-use Rattle.texting_robots.{specs.Internal.Group.captured_ahead, proofs.MembershipLemmas.known_next}
+use Rattle.texting_robots.specs.Internal.Group.{captured_ahead}
+use Rattle.texting_robots.proofs.LabelLemmas.{known_next}
 use Rattle.texting_robots.proofs.labels.LabeledLineIterIterator.next.Goals.{in-Some, in-None}
 use Rattle.texting_robots.proofs.labels.LabeledLineIterIterator.next.Goals as goal
 

@@ -1,5 +1,5 @@
 use Rattle.std.proofs.Common.{◌↔◌, length}
-use Rattle.texting_robots.specs.{Internal.Stars.from_star, Pattern.MatchesStars}
+use Rattle.texting_robots.specs.{Internal.Segments.from_star, Pattern.MatchesStars}
 use Rattle.texting_robots.proofs.minregex.MinRegex.match_stars.Given as goal
 
 -- the rest of the pattern decides about the rest of the text

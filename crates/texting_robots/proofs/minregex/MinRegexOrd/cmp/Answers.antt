@@ -1,4 +1,4 @@
-use Rattle.texting_robots.proofs.OrderLemmas.{less_is_before, equal_is_same}
+use Rattle.texting_robots.proofs.VerdictLemmas.{less_is_before, equal_is_same}
 use Rattle.texting_robots.proofs.minregex.MinRegexOrd.cmp.Goals as goal
 
 pub returns-clause-less : goal.returns-clause-less

@@ -1,9 +1,9 @@
 use Rattle.std.proofs.Common.{◌∙◌, ◌||◌, List, ℕ, take, sym, ap, arith}
 use Rattle.std.proofs.lemmas.{Bool.Decides.nat_tests, List.nil_from_length}
 use Rattle.std.specs.{List.list_any, Str.str_to_ascii_lowercase}
-use Rattle.texting_robots.specs.{Group.is_agent_named, Internal.Cut.read_as, Internal.Line.line_of}
-use Rattle.texting_robots.specs.{Internal.Line.lines_of, Internal.Agents.is_named_later}
-use Rattle.texting_robots.proofs.{AgentLemmas.first_or_later, AgentLemmas.none_named}
+use Rattle.texting_robots.specs.{Group.is_agent_named}
+use Rattle.texting_robots.specs.Internal.{Cut.read_as, Line.line_of, Line.lines_of, Agents.is_named_later}
+use Rattle.texting_robots.proofs.AgentLemmas.{first_or_later, none_named}
 use Rattle.texting_robots.proofs.parser.LazyLines.name_agent.Goals as goal
 
 pub returns-then-names : goal.returns-then-names

@@ -1,6 +1,6 @@
 use Rattle.std.proofs.Common.{[], ◌∷◌, arith, codes, refl}
 use Rattle.std.proofs.lemmas.List.{take_rest}
-use Rattle.texting_robots.proofs.UsualLemmas.{usual_is}
+use Rattle.texting_robots.proofs.StatementLemmas.{usual_is}
 use Rattle.texting_robots.proofs.parser.statement.after_usual.Goals as goal
 
 pub returns-in-85 : goal.returns-in-85

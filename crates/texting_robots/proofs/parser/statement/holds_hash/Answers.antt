@@ -1,6 +1,6 @@
 use Rattle.std.proofs.Common.{◌∙◌, ◌==◌, sym, arith}
 use Rattle.texting_robots.specs.Internal.Statement.{hash}
-use Rattle.texting_robots.proofs.RegionLemmas.{either_end, some_found}
+use Rattle.texting_robots.proofs.LabelLemmas.{either_end, some_found}
 use Rattle.texting_robots.proofs.parser.statement.holds_hash.Goals as goal
 
 pub returns-else-holds_hash_among : goal.returns-else-holds_hash_among

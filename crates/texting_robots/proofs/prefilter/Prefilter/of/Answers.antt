@@ -1,7 +1,6 @@
-use Rattle.std.proofs.Common.{◌≡◌}
-use Rattle.std.proofs.lemmas.List.{drop_all, drop_more}
+use Rattle.std.proofs.{Common.◌≡◌, lemmas.List.drop_all, lemmas.List.drop_more}
 use Rattle.texting_robots.specs.Internal.{Segments.no_segment}
-use Rattle.texting_robots.proofs.PrefilterLemmas.{are_prefilter, or_assoc, segment_pairs}
+use Rattle.texting_robots.proofs.FirstLemmas.{are_prefilter, or_assoc, segment_pairs}
 use Rattle.texting_robots.proofs.prefilter.Prefilter.of.Goals as goal
 
 pub loop-segment-preserved : goal.loop-segment-preserved

@@ -1,5 +1,5 @@
 use Rattle.std.{proofs.Common.◌≡◌, proofs.Common.drop, specs.Int.RustNames.bit_or}
-use Rattle.texting_robots.proofs.PrefilterLemmas.{segment_pairs}
+use Rattle.texting_robots.proofs.FirstLemmas.{segment_pairs}
 use Rattle.texting_robots.proofs.prefilter.Prefilter.of.Given as goal
 
 -- the bigrams so far and those of the remaining segments are all the bigrams

@@ -1,6 +1,5 @@
 use Rattle.std.proofs.Common.{List, subst, ap}
-use Rattle.texting_robots.specs.{Robot.RobotValue, Rules.PlacedRule}
-use Rattle.texting_robots.specs.{Rules.unplaced, Verdict.IsVerdict}
+use Rattle.texting_robots.specs.{Robot.RobotValue, Rules.PlacedRule, Rules.unplaced, Verdict.IsVerdict}
 use Rattle.texting_robots.proofs.robot.Robot.decision_prepared.Goals as goal
 
 pub returns-clause-verdict : goal.returns-clause-verdict

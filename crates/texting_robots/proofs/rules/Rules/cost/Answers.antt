@@ -1,7 +1,8 @@
 use Rattle.std.proofs.Common.{◌≡◌, ◌+◌, ◌<◌, ap, arith, get_or, length}
-use Rattle.std.proofs.lemmas.List.{get_or_default}
-use Rattle.texting_robots.specs.{Cost.looks_of, Internal.Entries.no_entry, Internal.Entries.pattern_of}
-use Rattle.texting_robots.{specs.View.seen_of, proofs.CostLemmas.cost_more, proofs.CostLemmas.cost_upto}
+use Rattle.std.proofs.lemmas.{List.get_or_default}
+use Rattle.texting_robots.specs.{Cost.looks_of, View.seen_of}
+use Rattle.texting_robots.specs.Internal.Segments.{no_entry, pattern_of}
+use Rattle.texting_robots.proofs.FirstLemmas.{cost_more, cost_upto}
 use Rattle.texting_robots.proofs.rules.Rules.cost.Goals as goal
 
 pub loop-entry-preserved : goal.loop-entry-preserved

@@ -1,7 +1,5 @@
-use Rattle.std.proofs.Common.{inr}
-use Rattle.std.proofs.lemmas.{Bool.iff_false, List.length-map}
-use Rattle.texting_robots.proofs.FirstLemmas.{first_looks, none_occurs}
-use Rattle.texting_robots.proofs.BestLemmas.{none_denies}
+use Rattle.std.proofs.{Common.inr, lemmas.Bool.iff_false, lemmas.List.length-map}
+use Rattle.texting_robots.proofs.{FirstLemmas.first_looks, FirstLemmas.none_occurs, BestLemmas.none_denies}
 use Rattle.texting_robots.proofs.rules.Rules.decide_by.Goals as goal
 
 pub returns-in-Some-clause-verdict : goal.returns-in-Some-clause-verdict

@@ -1,6 +1,6 @@
 use Rattle.std.proofs.Common.{string_bytes, arith}
 use Rattle.std.proofs.lemmas.List.Sorted.{All-permutation, IsPermutation-map, length_permutation}
-use Rattle.texting_robots.specs.Internal.Entries.{IsEntry, placed_at}
+use Rattle.texting_robots.specs.Internal.Segments.{IsEntry, placed_at}
 use Rattle.texting_robots.proofs.rules.Rules.sorted.Goals as goal
 
 pub put_masks-requires : goal.put_masks-requires

@@ -1,6 +1,5 @@
-use Rattle.std.proofs.Common.{ap, sym}
-use Rattle.std.proofs.lemmas.List.{get_or_read}
-use Rattle.texting_robots.specs.{declared.rules.Entry.Entry, Internal.Entries.no_entry}
+use Rattle.std.proofs.{Common.ap, Common.sym, lemmas.List.get_or_read}
+use Rattle.texting_robots.specs.{declared.rules.Entry.Entry, Internal.Segments.no_entry}
 use Rattle.texting_robots.proofs.FirstLemmas.{first_decides, first_line}
 use Rattle.texting_robots.proofs.rules.Unsorted.decision_at.Goals as goal
 

@@ -1,7 +1,6 @@
 use Rattle.std.proofs.Common.{◌+◌, ◌*◌, ◌<◌, ◌≡◌, add-one, arith, length, mul-suc}
 use Rattle.std.proofs.{Math.Nat.mul-le-mul_left, lemmas.Bool.iff_false}
-use Rattle.texting_robots.proofs.{CostLemmas.cost_more, CostLemmas.cost_within}
-use Rattle.texting_robots.proofs.{FirstLemmas.apart_tried, FirstLemmas.tried_more}
+use Rattle.texting_robots.proofs.FirstLemmas.{cost_more, cost_within, apart_tried, tried_more}
 use Rattle.texting_robots.proofs.rules.Unsorted.first_match.Goals as goal
 
 pub rules-preserved : goal.rules-preserved

@@ -1,7 +1,6 @@
 use Rattle.std.proofs.Common.{◌≡◌, ◌+◌, arith, length, ◌∙◌}
 use Rattle.std.proofs.lemmas.Bool.{iff_false}
-use Rattle.texting_robots.proofs.CostLemmas.{cost_more, cost_within, over_limit, under_limit}
-use Rattle.texting_robots.proofs.FirstLemmas.{tried_more}
+use Rattle.texting_robots.proofs.FirstLemmas.{cost_more, cost_within, over_limit, under_limit, tried_more}
 use Rattle.texting_robots.proofs.rules.Unsorted.first_within.Goals as goal
 
 pub returns-then-saturating_add-limit-clause-costly : goal.returns-then-saturating_add-limit-clause-costly

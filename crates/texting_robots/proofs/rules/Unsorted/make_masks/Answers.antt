@@ -1,6 +1,6 @@
 use Rattle.std.proofs.Common.{arith, refl}
 use Rattle.std.specs.Vec.{vec_len}
-use Rattle.texting_robots.proofs.SortLemmas.{at_most}
+use Rattle.texting_robots.proofs.VerdictLemmas.{at_most}
 use Rattle.texting_robots.proofs.rules.Unsorted.make_masks.Goals as goal
 
 pub returns-clause-known : goal.returns-clause-known

@@ -1,8 +1,8 @@
 use Rattle.std.proofs.Common.{ℕ, List, length, slice_range, string_bytes, ap}
 use Rattle.std.proofs.Common.{subst, ◌∙◌, arith, length-append}
-use Rattle.texting_robots.specs.{Internal.Prefilter.ArePrefilter, Internal.Segments.AreSegments}
+use Rattle.texting_robots.specs.Internal.Segments.{ArePrefilter, AreSegments}
 use Rattle.texting_robots.specs.{Escape.escaped}
-use Rattle.texting_robots.proofs.SharingLemmas.{after_old, entries_pushed, entry_new, rules_pushed}
+use Rattle.texting_robots.proofs.SearchLemmas.{after_old, entries_pushed, entry_new, rules_pushed}
 use Rattle.texting_robots.proofs.rules.Unsorted.push.Goals as goal
 
 pub new-requires : goal.new-requires

@@ -1,6 +1,6 @@
 use Rattle.std.proofs.Common.{ap, arith, length, length-append, take}
-use Rattle.std.proofs.lemmas.List.{length-take-le}
-use Rattle.texting_robots.proofs.{CostLemmas.within_looks, SegmentLemmas.first_in_front}
+use Rattle.std.proofs.lemmas.{List.length-take-le}
+use Rattle.texting_robots.proofs.{FirstLemmas.within_looks, SegmentLemmas.first_in_front}
 use Rattle.texting_robots.proofs.segments.Pattern.matches.Goals as goal
 
 pub returns-in_default-clause-cost : goal.returns-in_default-clause-cost

@@ -1,6 +1,6 @@
 use Rattle.std.proofs.Common.{◌↔◌, ◌+◌, ◌≤◌, List, ℕ, drop, length}
-use Rattle.texting_robots.specs.{Internal.Haystack.PassesTo, Pattern.Matches}
-use Rattle.texting_robots.specs.Internal.Segments.{AreLeft, IsUnsearched}
+use Rattle.texting_robots.specs.Internal.Segments.{PassesTo, AreLeft, IsUnsearched}
+use Rattle.texting_robots.specs.Pattern.{Matches}
 use Rattle.texting_robots.proofs.segments.Pattern.matches.Given as goal
 
 -- the rest of the pattern decides about the rest of the text

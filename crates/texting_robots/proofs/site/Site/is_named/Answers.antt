@@ -1,9 +1,8 @@
 use Rattle.std.proofs.Common.{ap, length, ltb, sym, ◌∙◌}
-use Rattle.std.specs.Str.{str_to_ascii_lowercase}
-use Rattle.std.specs.List.{list_any}
-use Rattle.std.proofs.lemmas.List.{length-map}
-use Rattle.texting_robots.specs.{Executable.file_lines, Internal.Names.first_named, Internal.Site.has_name}
-use Rattle.texting_robots.specs.{Internal.Site.named_of}
+use Rattle.std.specs.{Str.str_to_ascii_lowercase, List.list_any}
+use Rattle.std.proofs.lemmas.{List.length-map}
+use Rattle.texting_robots.specs.{Executable.file_lines}
+use Rattle.texting_robots.specs.Internal.Site.{first_named, has_name, named_of}
 use Rattle.texting_robots.proofs.{SiteNameLemmas.first_within, SiteRunLemmas.names_any}
 use Rattle.texting_robots.proofs.site.Site.is_named.Goals as goal
 

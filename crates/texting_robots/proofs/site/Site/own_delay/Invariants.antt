@@ -1,7 +1,6 @@
 use Rattle.std.proofs.Common.{◌≡◌, slice_get}
-use Rattle.std.specs.List.{filter_map}
-use Rattle.texting_robots.specs.Executable.{captured_delays, file_lines}
-use Rattle.texting_robots.specs.Internal.{Site.delay_of}
+use Rattle.std.specs.{List.filter_map}
+use Rattle.texting_robots.specs.{Executable.captured_delays, Executable.file_lines, Internal.Site.delay_of}
 use Rattle.texting_robots.proofs.site.Site.own_delay.Given as goal
 
 abbrev pub invariant-loop-line : goal.invariant-loop-line

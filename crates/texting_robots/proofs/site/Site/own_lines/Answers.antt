@@ -1,7 +1,7 @@
 use Rattle.std.proofs.Common.{◌≡◌, ℕ, List, map, subst, sym, ◌∙◌}
-use Rattle.texting_robots.specs.{Executable.file_lines}
+use Rattle.texting_robots.specs.Executable.{file_lines}
 use Rattle.texting_robots.specs.Internal.Site.{delay_of, rule_of, tag_at, tagged}
-use Rattle.texting_robots.proofs.{SiteLemmas.delays_of_runs, SiteLemmas.rules_of_runs}
+use Rattle.texting_robots.proofs.SiteLemmas.{delays_of_runs, rules_of_runs}
 use Rattle.texting_robots.proofs.SiteOwnLemmas.{delays_of_all, given_whole, rules_of_all}
 use Rattle.texting_robots.proofs.site.Site.own_lines.Goals as goal
 

@@ -1,8 +1,7 @@
-use Rattle.std.proofs.Common.{Some, append_assoc, ◌∙◌}
-use Rattle.std.proofs.lemmas.List.Elements.{All-push}
+use Rattle.std.proofs.{Common.Some, Common.append_assoc, Common.◌∙◌, lemmas.List.Elements.All-push}
 use Rattle.texting_robots.specs.{Pattern.IsOverlong, Rules.PlacedRule}
 use Rattle.texting_robots.proofs.RulesLemmas.{given_none, rejected_wider}
-use Rattle.texting_robots.proofs.SiteOwnLemmas.{any_between}
+use Rattle.texting_robots.proofs.{SiteOwnLemmas.any_between}
 use Rattle.texting_robots.proofs.site.Site.own_rules.Goals as goal
 
 pub loop-rule-preserved : goal.loop-rule-preserved

@@ -1,8 +1,7 @@
 use Rattle.std.proofs.Common.{◌≡◌, ◌++◌}
-use Rattle.std.specs.List.{All}
-use Rattle.texting_robots.specs.{Pattern.IsOverlong, Rules.PlacedRule}
-use Rattle.texting_robots.specs.Executable.{file_lines, placed_rules}
-use Rattle.texting_robots.specs.Internal.Entries.{AreEntries, rules_in}
+use Rattle.std.specs.{List.All}
+use Rattle.texting_robots.specs.{Pattern.IsOverlong, Internal.Segments.AreEntries, Internal.Segments.rules_in}
+use Rattle.texting_robots.specs.{Rules.PlacedRule, Executable.file_lines, Executable.placed_rules}
 use Rattle.texting_robots.proofs.site.Site.own_rules.Given as goal
 
 abbrev pub invariant-loop-rule : goal.invariant-loop-rule

@@ -1,9 +1,9 @@
 use Rattle.std.proofs.Common.{List, IsPermutation, refl, rules, subst}
-use Rattle.texting_robots.specs.{Executable.file_lines, Executable.sitemaps_in, Pattern.IsOverlong}
-use Rattle.texting_robots.specs.{Rules.PlacedRule, Rules.Rule}
+use Rattle.texting_robots.specs.Executable.{file_lines, sitemaps_in}
+use Rattle.texting_robots.specs.{Pattern.IsOverlong, Rules.PlacedRule, Rules.Rule}
 use Rattle.texting_robots.proofs.MainTheoremLemmas.{no_rules_of, read_delay, robot_of}
-use Rattle.texting_robots.proofs.{RulesLemmas.none_unplaced, RulesLemmas.rejected_wider}
-use Rattle.texting_robots.proofs.SiteOwnLemmas.{file_rejected}
+use Rattle.texting_robots.proofs.RulesLemmas.{none_unplaced, rejected_wider}
+use Rattle.texting_robots.proofs.{SiteOwnLemmas.file_rejected}
 use Rattle.texting_robots.proofs.site.Site.robot_without_sitemaps.Goals as goal
 
 pub returns-in-Err-clause-rejected : goal.returns-in-Err-clause-rejected

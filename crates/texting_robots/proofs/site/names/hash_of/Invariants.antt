@@ -1,6 +1,6 @@
 use Rattle.std.proofs.Common.{◌≡◌, ◌<◌, drop}
 use Rattle.std.specs.Str.{str_to_ascii_lowercase}
-use Rattle.texting_robots.specs.Internal.Names.{hash_from}
+use Rattle.texting_robots.specs.Internal.Site.{hash_from}
 use Rattle.texting_robots.proofs.site.names.hash_of.Given as goal
 
 abbrev pub invariant-loop-byte : goal.invariant-loop-byte

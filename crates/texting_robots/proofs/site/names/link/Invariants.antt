@@ -1,5 +1,5 @@
 use Rattle.std.proofs.Common.{◌≤◌, length, map}
-use Rattle.texting_robots.specs.Internal.{Names.AreLinked, Site.named_of}
+use Rattle.texting_robots.specs.Internal.Site.{AreLinked, named_of}
 use Rattle.texting_robots.proofs.site.names.link.Given as goal
 
 abbrev pub invariant-loop-position : goal.invariant-loop-position

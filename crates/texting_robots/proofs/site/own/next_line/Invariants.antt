@@ -1,6 +1,6 @@
 use Rattle.std.proofs.Common.{◌≡◌, ◌-◌, drop, length, map}
 use Rattle.std.specs.Str.{str_to_ascii_lowercase}
-use Rattle.texting_robots.specs.Internal.{Names.first_named, Own.own_at, Own.own_from, Site.tag_at}
+use Rattle.texting_robots.specs.Internal.Site.{first_named, own_at, own_from, tag_at}
 use Rattle.texting_robots.proofs.site.own.next_line.Given as goal
 
 abbrev pub invariant-loop-line : goal.invariant-loop-line

@@ -1,7 +1,6 @@
-use Rattle.std.proofs.Common.{drop, arith}
-use Rattle.std.proofs.lemmas.List.{length-drop, take_rest}
-use Rattle.std.specs.Int.{Bits.or_zero_r}
-use Rattle.texting_robots.proofs.PrefilterLemmas.{no_pairs, pairs_step, two_pairs}
+use Rattle.std.proofs.{Common.drop, Common.arith, lemmas.List.length-drop, lemmas.List.take_rest}
+use Rattle.std.specs.{Int.Bits.or_zero_r}
+use Rattle.texting_robots.proofs.FirstLemmas.{no_pairs, pairs_step, two_pairs}
 use Rattle.texting_robots.proofs.prefilter.bigrams.BigramSet.of.Goals as goal
 
 pub loop-rest-preserved : goal.loop-rest-preserved

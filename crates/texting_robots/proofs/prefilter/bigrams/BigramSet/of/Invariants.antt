@@ -1,5 +1,5 @@
 use Rattle.std.{proofs.Common.◌≡◌, proofs.Common.length, specs.Int.RustNames.bit_or}
-use Rattle.texting_robots.specs.Internal.Prefilter.{pair_set}
+use Rattle.texting_robots.specs.Internal.Segments.{pair_set}
 use Rattle.texting_robots.proofs.prefilter.bigrams.BigramSet.of.Given as goal
 
 -- the bits so far and those of the rest are all the bits

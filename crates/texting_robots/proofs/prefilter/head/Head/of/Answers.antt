@@ -1,6 +1,6 @@
 use Rattle.std.proofs.Common.{◌≡◌, drop, length, take, take-append-drop}
 use Rattle.std.proofs.lemmas.List.{length-take-le}
-use Rattle.texting_robots.proofs.PrefilterLemmas.{same_masked}
+use Rattle.texting_robots.proofs.FirstLemmas.{same_masked}
 use Rattle.texting_robots.proofs.prefilter.head.Head.of.Goals as goal
 
 pub returns : goal.returns

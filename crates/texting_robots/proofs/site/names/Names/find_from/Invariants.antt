@@ -1,6 +1,6 @@
 use Rattle.std.proofs.Common.{◌≡◌, ◌+◌, ◌-◌, drop, length}
 use Rattle.std.specs.{List.position_or_len, Str.str_to_ascii_lowercase}
-use Rattle.texting_robots.specs.Internal.Names.{bucket_of, first_named, is_in}
+use Rattle.texting_robots.specs.Internal.Site.{bucket_of, first_named, is_in}
 use Rattle.texting_robots.proofs.site.names.Names.find_from.Given as goal
 
 abbrev pub invariant-loop-position : goal.invariant-loop-position
