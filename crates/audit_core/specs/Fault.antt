@@ -1,5 +1,5 @@
 -- The message for each error, and the exit status.
-use Rattle.std.specs.Prelude.{◌≡◌, ℕ, nat_eq, Bool, true, false, not, ◌&&◌, ◌||◌, List, [], ◌∷◌, ◌++◌, Option}
+use Rattle.std.specs.Prelude.{◌≡◌, ℕ, nat_eq, Bool, not, ◌&&◌, ◌||◌, List, [], ◌∷◌, ◌++◌, Option}
 use Rattle.std.specs.Prelude.{Some, None, Result, Ok, Err, bytes_eq, codes, if◌then◌else◌, map, string_bytes}
 use Rattle.std.specs.{List.ends_with, List.find, List.starts_with, Str.byte}
 use Rattle.std.proofs.{Common.refl}

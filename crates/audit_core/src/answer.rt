@@ -1,5 +1,4 @@
 //! What a run answers: a report for standard output, an outcome for the exit status, and warnings.
-ghost use Rattle.std.specs.Prelude.{◌≡◌};
 ghost use Rattle.audit_core.specs.Answer.{IsText, Writes};
 
 use crate::fault::Fault;

@@ -1,5 +1,5 @@
 //! The names of crawlers in arguments and in the file of `--expect`.
-ghost use Rattle.std.specs.Prelude.{◌≡◌, IfErr, IsTrue, OnOk, map, not, option_map};
+ghost use Rattle.std.specs.Prelude.{◌≡◌, IfErr, IsTrue, OnOk, map, option_map};
 ghost use Rattle.std.specs.{Char.is_ascii_digit, List.list_all, List.list_any};
 ghost use Rattle.audit_core.specs.Request.{single, IsNoCrawlerIn, has_version, is_crawler_name, is_own_name};
 ghost use Rattle.audit_core.specs.Request.{name_flaw};

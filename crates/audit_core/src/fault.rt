@@ -1,5 +1,5 @@
 //! Errors, their messages, and the exit status.
-ghost use Rattle.std.specs.Prelude.{◌≡◌, ◌++◌, ◌∷◌, [], IfOk, OnOk, map, string_bytes};
+ghost use Rattle.std.specs.Prelude.{◌≡◌, ◌++◌, IfOk, OnOk, map, string_bytes};
 ghost use Rattle.printable_text.specs.Raw.{raw_line, raw_text};
 ghost use Rattle.printable_text.specs.Text.{line_text, part_text, parts_text, written};
 ghost use Rattle.audit_core.specs.Fault.{IsArgument, IsUnknown, begins_as_host, entry_text, fault_parts};

@@ -1,7 +1,7 @@
 //! Texts that several reports share: a delay, which group applies to a crawler, and that the file is rejected for it.
 ghost use Rattle.std.specs.Prelude.{◌≡◌, ◌++◌, ◌∷◌, [], OnOk, option_map, string_bytes};
 ghost use Rattle.printable_text.specs.Raw.{raw_line, raw_text, raw_value};
-ghost use Rattle.printable_text.specs.Text.{line_text, part_text, parts_text, value_text, written};
+ghost use Rattle.printable_text.specs.Text.{part_text, parts_text, value_text, written};
 ghost use Rattle.audit_core.specs.Texts.{delay_value, group_end, group_line, group_reason, group_text, group_value};
 ghost use Rattle.audit_core.specs.Texts.{may_fetch, rejected_lines, rejected_parts};
 

@@ -5,7 +5,7 @@ use Rattle.std.specs.Prelude.{length, string_bytes}
 use Rattle.std.specs.{List.list_any, List.starts_with, Option.option_to_list, Str.byte, Str.is_utf8}
 use Rattle.robots_warnings.specs.Rules.{after_byte, before_byte, has, somewhere}
 use Rattle.robots_warnings.specs.{Facts.mark, Facts.without_start, Urls.is_absolute_url}
-use Rattle.audit_core.specs.declared.fault.{Entry.Entry, Fault.Fault, Flaw.Flaw}
+use Rattle.audit_core.specs.declared.fault.{Entry.Entry, Fault.Fault}
 use Rattle.audit_core.specs.declared.fault.Fault.TheVariants.{Empty, Malformed, Memory}
 use Rattle.audit_core.specs.declared.fault.Flaw.TheVariants.{Agent, Form, NotUtf8, Path, Url}
 use Rattle.audit_core.specs.{Request.is_crawler_name, Request.is_word, Fault.MalformedLine}

@@ -1,5 +1,4 @@
 -- Rules by value.
-use Rattle.std.specs.Prelude.{string_bytes}
 use Rattle.audit_json.specs.{declared.sarif.SarifRule.SarifRule, Sarif.SarifRuleValue}
 
 abbrev pub rule_value : SarifRule → SarifRuleValue

@@ -4,7 +4,7 @@ use Rattle.std.proofs.Common.{◌≡◌, ◌∙◌, ℕ, true, List, [], ◌∷�
 use Rattle.std.proofs.Common.{map, refl, sym}
 use Rattle.std.proofs.lemmas.{Bool.and_parts, Bool.not-true, List.append-nil}
 use Rattle.html_writer.specs.{Html.AreAttributes, Reader.read_document}
-use Rattle.html_writer.specs.Html.{Attribute, Html, IsContent, attribute_bytes, doctype, document, end_tag}
+use Rattle.html_writer.specs.Html.{Attribute, IsContent, attribute_bytes, doctype, document, end_tag}
 use Rattle.html_writer.specs.Html.{escaped, has_attribute, is_among, is_css, is_name, is_ordinary, is_title}
 use Rattle.html_writer.specs.Html.{start_tag, style_bytes, tag_close, tag_open, void_close, void_names}
 use Rattle.html_writer.proofs.WritingLemmas.{followed_content, written-followed, page_read, escaped-append}

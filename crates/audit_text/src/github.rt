@@ -1,5 +1,5 @@
 //! Findings as annotations of a workflow on GitHub: one workflow command per line.
-ghost use Rattle.std.specs.Prelude.{◌≡◌, ◌++◌, ◌∷◌, [], IfOk, OnOk, map, string_bytes};
+ghost use Rattle.std.specs.Prelude.{◌≡◌, ◌++◌, ◌∷◌, [], IfOk, OnOk, map};
 ghost use Rattle.printable_text.specs.Lines.{ended};
 ghost use Rattle.audit_text.specs.Github.{command, command_label, escaped, escaped_byte, github_text};
 ghost use Rattle.audit_text.specs.Github.{line_property, property_text};

@@ -12,11 +12,11 @@ use Rattle.html_writer.specs.Html.{IsText, attribute, attribute_bytes, document,
 use Rattle.html_writer.specs.Html.{is_character, is_css, is_letter, is_name, is_name_byte, is_ordinary}
 use Rattle.html_writer.specs.Html.{is_style, is_text, void_names}
 use Rattle.std.proofs.lemmas.List.{append-nil, Concat.flat_map_single}
-use Rattle.html_writer.specs.Reader.{Kind, Opened, Reader, Tag, after_attribute_value, any_content, character}
-use Rattle.html_writer.specs.Reader.{attribute_name, attribute_value, data_state, element_of, emit, finished}
+use Rattle.html_writer.specs.Reader.{Kind, Opened, Reader, Tag, after_attribute_value, any_content}
+use Rattle.html_writer.specs.Reader.{attribute_name, attribute_value, data_state, finished}
 use Rattle.html_writer.specs.Reader.{end_tag_name, has_elements, has_references, kind_in, kind_of, new_tag}
-use Rattle.html_writer.specs.Reader.{only_text, outside, raw_text, read, read_document, reader, run, tag_name}
-use Rattle.html_writer.specs.Reader.{tag_open, text_of, to, with_step}
+use Rattle.html_writer.specs.Reader.{only_text, raw_text, read, read_document, reader, run, tag_name}
+use Rattle.html_writer.specs.Reader.{tag_open, to}
 use Rattle.html_writer.specs.Html as html
 
 -- ---- Escaping: texts one after the other, and numbers.

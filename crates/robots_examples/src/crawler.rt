@@ -1,5 +1,5 @@
 //! A polite crawler's plan for a site.
-ghost use Rattle.std.specs.Prelude.{◌≡◌, ◌+◌, IfErr, IfOk, IfSome, map, min, take, unwrap_or};
+ghost use Rattle.std.specs.Prelude.{◌≡◌, IfErr, IfOk, map, min, take, unwrap_or};
 ghost use Rattle.robots_examples.specs.Crawler.{AreAllowed};
 ghost use Rattle.texting_robots.specs.Callers.{IsFileRejected, IsMemoryErrorOr, IsRobotOfFile, RobotValue};
 ghost use Rattle.texting_robots.specs.Callers.{file_limit, unplaced};

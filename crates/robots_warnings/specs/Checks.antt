@@ -1,7 +1,7 @@
 -- The conditions of warnings about a file, a request, a line and its position, grouped by what they inspect,
 -- in the order of output. Warnings.antt names those of the others.
 use Rattle.std.specs.Prelude.{ℕ, Bool, true, false, List, [], ◌∷◌, ◌++◌, ◌||◌, Option, None, Some, nat_lt}
-use Rattle.std.specs.Prelude.{if◌then◌else◌, not, ◌&&◌, ◌==◌, codes, nat_eq}
+use Rattle.std.specs.Prelude.{if◌then◌else◌, not, ◌&&◌, codes, nat_eq}
 use Rattle.std.specs.{Str.byte, Str.is_utf8, List.starts_with}
 use Rattle.texting_robots.specs.Callers.{Allow, Disallow, LineValue, Label, Raw, Sitemap, UserAgent, is_own}
 use Rattle.texting_robots.specs.{Callers.CrawlDelay, declared.labels.Membership.Membership}

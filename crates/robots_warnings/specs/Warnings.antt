@@ -1,5 +1,5 @@
 -- All warnings about a file and a request, in the order of output.
-use Rattle.std.specs.Prelude.{ℕ, ◌==◌, Bool, true, List, [], ◌∷◌, ◌++◌, ◌&&◌, Option, Some, None, codes, map}
+use Rattle.std.specs.Prelude.{ℕ, ◌==◌, Bool, true, List, [], ◌∷◌, ◌++◌, ◌&&◌, Option, Some, None, map}
 use Rattle.std.specs.Prelude.{flat_map, if◌then◌else◌, length, not, ◌||◌, ◌+◌, filter, slice_get}
 use Rattle.texting_robots.specs.Callers.{LineValue, Label, bodies_read, is_named}
 use Rattle.robots_warnings.specs.{declared.facts.FileFacts.FileFacts, Facts.suppresses_line_warnings}

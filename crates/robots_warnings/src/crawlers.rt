@@ -1,5 +1,5 @@
 //! Known crawlers: which group the vendor of each applies to it, and which one a similar name may mean.
-ghost use Rattle.std.specs.Prelude.{◌≡◌, ◌++◌, [], IfOk, OnOk, map, option_map, slice_index_or, string_bytes};
+ghost use Rattle.std.specs.Prelude.{◌≡◌, ◌++◌, [], IfOk, OnOk, map, option_map, slice_index_or};
 ghost use Rattle.std.specs.{List.list_any, List.position_from, Str.str_eq_ignore_ascii_case};
 ghost use Rattle.texting_robots.specs.Callers.{by_value, file_lines, label_by_value};
 ghost use Rattle.robots_warnings.specs.Crawlers.{crawlers, first_at_vendor, gets_other, group_at_vendor};

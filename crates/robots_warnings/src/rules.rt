@@ -1,7 +1,7 @@
 //! Conditions on the value of an Allow or a Disallow line.
 ghost use Rattle.std.specs.Prelude.{◌≡◌, ◌<◌, ◌≤◌, ◌==◌, ◌&&◌, ◌||◌, ℕ, Bool, List, false, length, not, true};
 ghost use Rattle.std.specs.Char.{digit_value, is_ascii_hexdigit};
-ghost use Rattle.std.specs.{Fn.FnReturnsAt, List.list_any, List.position_or_len, Str.is_utf8};
+ghost use Rattle.std.specs.{Fn.FnReturnsAt, List.position_or_len, Str.is_utf8};
 ghost use Rattle.robots_warnings.specs.Rules.{after_byte, before_byte, begins_delimiter, begins_dot_segment, begins_host, begins_quote};
 ghost use Rattle.robots_warnings.specs.Rules.{begins_lone_percent, begins_odd_escape, begins_oddly, begins_sign, begins_wildcard, from_first};
 ghost use Rattle.robots_warnings.specs.Rules.{has, has_any, has_dollar_inside, has_more_after_dollar};

@@ -1,13 +1,13 @@
 //! Theorems about the specification. Each is the contract of an empty function.
 ghost use Rattle.std.specs.Prelude.{◌≡◌, ◌≢◌, ◌<◌, ◌↔◌, ◌⊎◌, ℕ, Bool, true, false, not, List, [], ◌∷◌, ◌++◌};
-ghost use Rattle.std.specs.Prelude.{Any, ◌+◌, Option, Some, None, IsTrue, IsPermutation, Contains, codes};
+ghost use Rattle.std.specs.Prelude.{Any, ◌+◌, Option, Some, None, IsTrue, IsPermutation, Contains};
 ghost use Rattle.std.specs.Prelude.{filter, length, slice_get};
 ghost use Rattle.std.specs.declared.cmp.Ordering.TheVariants.{Less, Equal};
 ghost use Rattle.std.specs.{List.filter_map, List.list_any, Str.str_to_ascii_lowercase};
 ghost use Rattle.texting_robots.specs.{declared.parser.statement.Kind.Kind, Decision.IsDecidingRule};
 ghost use Rattle.texting_robots.specs.{Decision.IsDecidingLine, Statement.IsStatement, Verdict.robots_file};
 ghost use Rattle.texting_robots.specs.{Delay.IsDelay, Groups.lines_for, Order.pattern_cmp, Verdict.IsVerdict};
-ghost use Rattle.texting_robots.specs.{Cut.IsCut, Cut.Pair, Groups.groups, Order.IsBefore, Trim.IsTrimOf};
+ghost use Rattle.texting_robots.specs.{Cut.IsCut, Cut.Pair, Groups.groups, Order.IsBefore};
 ghost use Rattle.texting_robots.specs.Group.{IsCaptured, group_name, is_agent, is_group};
 ghost use Rattle.texting_robots.specs.Laws.{IsSameKind, Same, SameButSitemaps, crlf_to_lf};
 ghost use Rattle.texting_robots.specs.Line.{AreFileLinesOf, AreLinesOf, HoldRangesOf, LineValue, delay_in};

@@ -1,5 +1,5 @@
 //! Patterns of rules: `*` matches any bytes, and `$` matches at the end of the text.
-ghost use Rattle.std.specs.Prelude.{◌≡◌, ◌≢◌, ◌+◌, ◌*◌, ◌≤◌, ◌↔◌, ◌==◌, IsTrue, IfErr, IfOk, IsErrOf, OnOk};
+ghost use Rattle.std.specs.Prelude.{◌≡◌, ◌+◌, ◌*◌, ◌↔◌, ◌==◌, IsTrue, IfErr, IfOk, OnOk};
 ghost use Rattle.std.specs.Prelude.{length, string_bytes};
 ghost use Rattle.std.specs.Cmp.{partial_order_from_own_ties, Lexicographic.pointwise, Rules.comparing};
 ghost use Rattle.std.specs.Ordering.{as_partial_cmp, on};

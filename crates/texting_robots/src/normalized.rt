@@ -1,15 +1,15 @@
 //! Absolute URLs that the crate `url` would leave unchanged. Their match target is their last part, so it can be
 //! borrowed.
-ghost use Rattle.std.specs.Prelude.{◌≡◌, ◌<◌, ◌≤◌, ◌≢◌, ◌↔◌, ℕ, List, drop, false, true, length, map, slice_index};
+ghost use Rattle.std.specs.Prelude.{◌≡◌, ◌<◌, ◌≤◌, ◌≢◌, ◌↔◌, ℕ, List, false, true, length, map, slice_index};
 ghost use Rattle.std.specs.Prelude.{IfSome, IsSome, IsSomeAnd, IsTrue, option_map};
 ghost use Rattle.std.specs.Char.{is_ascii_lowercase};
 ghost use Rattle.std.specs.List.{prefix_len};
 ghost use Rattle.std.specs.Simd.Lanes.{Each1};
 ghost use Rattle.url.specs.{Input.rsplit_once, Path.dot_count, Path.dot_len};
-ghost use Rattle.texting_robots.specs.AllocationFree.{EndsSite, IsAuthority, IsPath, IsNormalizedUrl, IsPort, IsSite, IsTarget};
+ghost use Rattle.texting_robots.specs.AllocationFree.{EndsSite, IsAuthority, IsNormalizedUrl, IsPort, IsSite, IsTarget};
 ghost use Rattle.texting_robots.specs.Prepared.{prepared};
 ghost use Rattle.texting_robots.specs.Internal.Normalized.{after, after_delimited, begins_dotted, begins_plainly, kept_prefix};
-ghost use Rattle.texting_robots.specs.Internal.Normalized.{EndsPath, IsOther, Leaves, past_path, is_kept};
+ghost use Rattle.texting_robots.specs.Internal.Normalized.{IsOther, Leaves, past_path, is_kept};
 
 use std::simd::prelude::*;
 

@@ -1,5 +1,5 @@
 //! One verdict by one file, for one crawler. The contract is the main theorem.
-ghost use Rattle.std.specs.Prelude.{◌≡◌, ℕ, IfErr, IsOk, List, take};
+ghost use Rattle.std.specs.Prelude.{◌≡◌, IfErr, IsOk, List, take};
 ghost use Rattle.texting_robots.specs.{MainTheorem.IsAnswerOf, Robot.file_limit};
 ghost use Rattle.texting_robots.specs.Rules.{AreRulesFor, HasNoRulesOrSitemaps, PlacedRule};
 ghost use Rattle.texting_robots.specs.Line.{AreFileLinesOf, HasLines, LineValue};

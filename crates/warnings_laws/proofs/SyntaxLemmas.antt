@@ -20,7 +20,6 @@ use Rattle.texting_robots.specs.Callers.{Allow, Disallow, Label, LineValue, User
 use Rattle.texting_robots.specs.Callers.{IsRobotOfFile, RobotValue, file_bodies, file_limit, group_name}
 use Rattle.texting_robots.specs.{Group.is_agent, Line.without_front, Labels.AreLabelsOf}
 use Rattle.rfc9309_laws.specs.LineForms.{AreRulesBelowAgents, Form, HasForm, AreForms}
-use Rattle.rfc9309_laws.specs.Rfc9309.{Group, IsFile}
 use Rattle.warnings_laws.specs.Syntax.{form_of, AreQuiet, IsNotAboutSyntax, IsQuietLine, HasSyntax}
 use Rattle.warnings_laws.specs.Syntax.{IsRobotStated, IsSilentOn, warnings_of}
 use Rattle.warnings_laws.proofs.QuietLemmas.{each_back, second}

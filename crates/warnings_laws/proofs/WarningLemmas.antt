@@ -6,7 +6,7 @@ use Rattle.std.proofs.Common.{◌<◌, ℕ, Bool, true, false, List, [], ◌∷�
 use Rattle.std.proofs.Common.{not, Option, refl, slice_get, Some, subst, sym, take, ◌+◌, ◌∙◌}
 use Rattle.std.proofs.lemmas.Bool.{not-true, or_cases, or_parts, cases_Bool, eqb-true, false≢true}
 use Rattle.std.specs.{List.enumerate_from, List.list_all, List.list_any, List.prefix_len, Str.byte}
-use Rattle.std.specs.{Str.is_utf8, Str.str_to_ascii_lowercase, Char.to_ascii_lowercase, Option.option_map_or}
+use Rattle.std.specs.{Str.is_utf8, Str.str_to_ascii_lowercase, Option.option_map_or}
 use Rattle.texting_robots.specs.Callers.{Allow, AreLabelsOf, CrawlDelay, Disallow, HoldsRule, IsLineOf, Label}
 use Rattle.texting_robots.specs.Callers.{LineValue, Matches, Raw, Rule, Sitemap, HasMembership, UserAgent}
 use Rattle.texting_robots.specs.Callers.{escaped, file_lines, is_agent_named, is_named}

@@ -1,6 +1,6 @@
 //! What the silence of an audit means for verdicts: they are those of RFC 9309, sections 2.2.2 and 2.2.3, in
 //! the reading that `IsStandardVerdict` names.
-ghost use Rattle.std.specs.Prelude.{◌≡◌, ◌↔◌, ℕ, Bool, IfOk, List, take};
+ghost use Rattle.std.specs.Prelude.{◌↔◌, ℕ, Bool, IfOk, List, take};
 ghost use Rattle.texting_robots.specs.Callers.{IsRobotOfFile, IsVerdict, RobotValue, file_limit, unplaced};
 ghost use Rattle.rfc9309_laws.specs.Rfc9309.{Group, IsFile};
 ghost use Rattle.warnings_laws.specs.Verdict.{AreVerdictsKept, IsAsked, IsStandardVerdict};

@@ -1,5 +1,5 @@
 //! Skips lines that can't be user-agent lines, many bytes at a time and without cutting them.
-ghost use Rattle.std.specs.Prelude.{◌≡◌, ℕ, ◌+◌, ◌<◌, List, false, length, true};
+ghost use Rattle.std.specs.Prelude.{◌≡◌, ℕ, ◌+◌, ◌<◌, List, length, true};
 ghost use Rattle.std.specs.{List.list_any};
 ghost use Rattle.texting_robots.specs.{Group.is_agent_named, Internal.Cut.read_as, Internal.Line.lines_of};
 ghost use Rattle.texting_robots.specs.Internal.Agents.{NoneBegins, is_named_later, may_begin, may_end};

@@ -1,5 +1,5 @@
 //! The user-agent lines of a file, found by their names.
-ghost use Rattle.std.specs.Prelude.{◌≡◌, ◌+◌, ◌<◌, ◌==◌, ◌%◌, IfOk, drop, length, map, replicate};
+ghost use Rattle.std.specs.Prelude.{◌≡◌, ◌+◌, ◌<◌, ◌%◌, IfOk, drop, length, map, replicate};
 ghost use Rattle.std.specs.{List.position_or_len, Str.str_to_ascii_lowercase};
 ghost use Rattle.texting_robots.specs.Internal.Site.{AreLinked, first_named, hash_from, bucket_of, is_in};
 ghost use Rattle.texting_robots.specs.Internal.Site.{named_of};

@@ -1,4 +1,3 @@
-use Rattle.std.proofs.Common.{rules}
 use Rattle.texting_robots.specs.Callers.{file_bodies, file_lines, placed_rules}
 use Rattle.audit_expect.proofs.OtherReadingLemmas.{decided_normally, normal_accepted, others_accepted}
 use Rattle.audit_expect.proofs.other_reading.normal_decision.Goals as goal

@@ -1,4 +1,4 @@
-use Rattle.std.proofs.Common.{◌≡◌, ◌++◌, map, true, zip}
+use Rattle.std.proofs.Common.{◌≡◌, ◌++◌, map, zip}
 use Rattle.serde_json.specs.View.{view}
 use Rattle.texting_robots.specs.Callers.{file_bodies, label_by_value}
 use Rattle.audit_json.specs.Json.{line_json}

@@ -1,4 +1,4 @@
-use Rattle.std.proofs.Common.{◌≡◌, ◌++◌, drop, map, string_bytes}
+use Rattle.std.proofs.Common.{◌≡◌, ◌++◌, drop, map}
 use Rattle.texting_robots.specs.Callers.{file_lines}
 use Rattle.robots_warnings.specs.{Internal.row_value, Warnings.vendor_warnings}
 use Rattle.robots_warnings.proofs.crawlers.warn_of_vendors.Given as goal
