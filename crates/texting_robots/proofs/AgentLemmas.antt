@@ -14,8 +14,6 @@ use Rattle.texting_robots.proofs.CutFromFront.{bodies_nil, first_line, next_body
 use Rattle.texting_robots.proofs.LineLemmas.{agent_or_other, kind_is}
 use Rattle.texting_robots.specs.declared.parser.statement.Kind.TheVariants as kind
 
--- ---- line content that doesn't begin as a user-agent line does
-
 abbrev IsOther : List ℕ → Type 0
 IsOther [] = Unit {0}
 IsOther (b ∷ body) = may_begin b ≡ false
@@ -28,7 +26,6 @@ pub no_agent : (line : LineValue) (name : List ℕ) → is_agent line ≡ false
 no_agent (UserAgent value) name other = cc
 no_agent _ name other = refl
 
--- a byte that can't begin a user-agent line is neither a space, a tab, `U` nor `u`
 begins_no : (b : ℕ) → may_begin b ≡ false
     → ((b == space) ≡ false) × ((b == tab) ≡ false) × ((b == 85) ≡ false) × ((b == 117) ≡ false)
 begins_no b other = parts (b == space) (b == tab) (b == 85) (b == 117) other
@@ -57,8 +54,6 @@ names_none name body other = elim (agent_or_other _ _ (kind_is body)) [
   | inl is ↦ absurd (other_kind body other is)
   | inr none ↦ no_agent _ name none
 ]
-
--- ---- adding a byte at the start
 
 abbrev names_in : List ℕ → List Pair → Bool
 names_in name pairs = list_any (is_agent_named name) (map line_of (map (λ (p : Pair). p.body) pairs))
@@ -127,8 +122,6 @@ passed_over name n (suc k) (b ∷ c ∷ text) within none =
     (λ at next below is. none (suc at) (suc next) (omega arith) (omega arith))
     ∙ one_more name n b c text (none 0 1 (omega arith) (omega arith))
 
--- ---- the first line and the later ones
-
 pub first_or_later : (name : List ℕ) (n : Bool) (rest : List ℕ) → 0 < length rest
     → list_any (is_agent_named name) (lines_of (read_as n rest))
     ≡ (is_agent_named name (line_of (take (body_len (read_as n rest)) rest)) || is_named_later name n rest)
@@ -140,7 +133,6 @@ pub later_lines : (name : List ℕ) (n : Bool) (rest : List ℕ) → 0 < length 
     ≡ is_named_later name n rest)
 later_lines name n rest some = rw (next_body n rest some) refl
 
--- a line and its terminator together aren't empty
 pub advances : (n : Bool) (rest : List ℕ) → 0 < length rest
     → (let k = body_len (read_as n rest) in 0 < k + end_len (read_as n (drop k rest)))
 advances n [] some = absurd (omega (arith, some))

@@ -40,10 +40,7 @@ use Rattle.texting_robots.specs.Internal.Normalized.{Leaves, after_delimited, ke
 use Rattle.texting_robots.proofs.NormalizedLemmas.{after_at, kept_all, kept_but, not_ended, path_left}
 use Rattle.texting_robots.proofs.NormalizedLemmas.{occurs_all}
 
--- ---- How `url` parses an absolute URL in normal form, and what the code finds by reading such a URL from
--- its start.
-
--- ---- the query and the fragment
+-- ---- How `url` parses an absolute URL in normal form
 
 module _ (delimiter : ℕ) (part : List ℕ) (set : AsciiSet)
     (same : agree_below (is_kept part) (kept_but set (λ x. false)) 256 ≡ true) where
@@ -74,9 +71,6 @@ module _ (delimiter : ℕ) (part : List ℕ) (set : AsciiSet)
       ∙ cond-true (delimiter == delimiter) _ _ (grind (arith, nat_tests))
       ∙ after_at part inside rest stand stops
 
--- ---- the host
-
--- a label that begins with a letter isn't a number
 no_number : (label : List ℕ) → is_ascii_lowercase (slice_index label 0) ≡ true
     → (not (is_empty label) && list_all is_ascii_digit label || is_number (parse_number label))
     ≡ false
@@ -109,14 +103,11 @@ domain_of (b ∷ host) name =
       omega arith,
     )
 
--- ---- the parts of a URL
-
 port_text : (port : Option ℕ) → with_delimiter (codes ":") (option_map decimal port)
     ≡ when (is_some port) (codes ":") ++ (unwrap_or (option_map decimal port) [] ++ [])
 port_text None = refl
 port_text (Some n) = sym (append-nil _)
 
--- the parts of a site (scheme, host and port)
 record SiteOf (site : List ℕ) : Type 0 where
   scheme : List ℕ
   host : List ℕ
@@ -195,7 +186,6 @@ tail_text None (Some fragment) = simp append-nil
 tail_text (Some query) None = simp append-nil
 tail_text (Some query) (Some fragment) = simp append-nil
 
--- the match target is the end of a serialized URL
 pub target_last : (u : Parts) → serialize u ≡ text_before u BeforePath ++ target_of u
 target_last u = simp (append_assoc, append-nil, ← tail_text u.query u.fragment)
 
@@ -204,7 +194,6 @@ prepared_parsed : (url : List ℕ) (u : Parts) → 0 < length url → parse_url 
 prepared_parsed [] u some parsed = absurd (omega arith)
 prepared_parsed (b ∷ text) u some parsed = rw (parsed, prepared) refl
 
--- the match target of such a URL is what follows the site
 pub prepared_plain : (url target : List ℕ) → Leaves IsSite url target → (is : IsTarget target)
     → 0 < length is.path → prepared url ≡ target
 prepared_plain url target (front, assembled, is_site) is some =
@@ -221,15 +210,12 @@ prepared_plain url target (front, assembled, is_site) is some =
     let parsed = ap (parse_url None) text ∙ parse_url-serialize_special u None is_valid site.kind in
     prepared_parsed url u long parsed ∙ sym written
 
--- ---- a site without a path
-
 abbrev is_visible : ℕ → Bool
 is_visible b = nat_lt 32 b && not (b == 35) && not (b == 63)
 
 abbrev Visible : List ℕ → Type 0
 Visible = All (Passes is_visible)
 
--- parsing removes no bytes from such a string
 clean : (text : List ℕ) → Visible text
     → strip_tabs_and_new_lines (trim_c0_control_and_space text) ≡ text
 unfolding strip_tabs_and_new_lines trim_c0_control_and_space
@@ -260,7 +246,6 @@ module _ (front : List ℕ) (site : SiteOf front) where
   abbrev authority : List ℕ
   authority = text_between alone BeforeUsername AfterPort
 
-  -- the authority ends at a slash or at the end
   by_end : (more : List ℕ) → StopsAt (λ b. not (is_slash (kind_of alone) b)) more
       → after_double_slash site.scheme (skip_slashes (47 ∷ 47 ∷ (authority ++ more)))
       ≡ and_then (parse_authority site.scheme authority)
@@ -316,15 +301,12 @@ module _ (front : List ℕ) (site : SiteOf front) where
       ∙ ap (λ (v : Parts). Ok (with_tail v None None))
       (before_special (without_tail alone) None None (ap is_special site.kind))
 
--- the match target of a site without a path is `/`, which `url` adds
 pub prepared_alone : (front : List ℕ) → IsSite front → prepared front ≡ codes "/"
 prepared_alone front is_site =
     let site = site_of front is_site in
     let long : 0 < length front = let whole = simp length-append at
     (ap length site.assembled) in omega arith in
     prepared_parsed front (alone front site) long (alone_parsed front site)
-
--- ---- the path, the query and the fragment
 
 module _ (target : List ℕ) (is : IsTarget target) where
   tail_ends : EndsPath (is.query ++ is.fragment)
@@ -362,7 +344,6 @@ module _ (target : List ℕ) (is : IsTarget target) where
       by [] same = absurd (not_ended target slash (subst EndsPath (sym same) tail_ends))
       by (b ∷ path) same = omega arith
 
--- what was read from the start is a match target in normal form
 pub target_read : (target tail rest end : List ℕ) → Leaves IsPath target tail
     → rest ≡ after_delimited 63 QUERY.now tail → end ≡ after_delimited 35 TAIL.now rest → end ≡ []
     → IsTarget target
@@ -382,8 +363,7 @@ target_read target tail rest end (path, assembled, is_path) following last none 
       is_fragment = is_fragment;
     }
 
--- ---- Strings whose match target is the escaped string: those that can't be parsed as URLs, for example
--- because they begin with a slash.
+-- ---- Strings that can't be parsed as URLs, for example because they begin with a slash
 
 abbrev slash : ℕ
 slash = 47
@@ -399,7 +379,6 @@ stops (x ∷ xs) =
     (λ n. n ≤ length (x ∷ xs))
     (λ _. omega (arith, stops xs)) (λ _. omega arith)
 
--- trimming keeps the leading slash
 trimmed : (rest : List ℕ) → trim_c0_control_and_space (slash ∷ rest)
     ≡ slash ∷ take (length rest - suffix_len is_c0_control_or_space (slash ∷ rest)) rest
 unfolding trim_c0_control_and_space
@@ -411,7 +390,6 @@ trimmed rest =
     let more : length (slash ∷ rest) - taken ≡ suc (length rest - taken) = omega (arith, few) in
     ap (λ n. take n (slash ∷ rest)) more
 
--- what `url` parses in a trimmed string
 parsed_from : List ℕ → Parsed Parts
 parsed_from text =
     let hash = split_once 35 (strip_tabs_and_new_lines text) in
@@ -430,7 +408,6 @@ slash_prepared (b ∷ rest) e = rw e (ap by_answer (no_url rest))
     by_answer : Parsed Parts → List ℕ
     by_answer answer = elim answer [ Ok url ↦ target_of url | Err e ↦ escaped (slash ∷ rest) ]
 
--- the match target of a string that isn't empty and can't be parsed as a URL
 pub unparsed_prepared : (b : ℕ) (text : List ℕ) → is_err (parse_url None (b ∷ text)) ≡ true
     → prepared (b ∷ text) ≡ escaped (b ∷ text)
 unparsed_prepared b text is = by (parse_url None (b ∷ text)) is

@@ -1,5 +1,4 @@
--- For each text either some rule decides or no rule matches, and a pattern matches a text or doesn't.
--- Functions compute both.
+-- For each text some rule decides or none matches, and a pattern matches or doesn't; functions compute both.
 use Rattle.std.specs.Prelude.{bytes_eq}
 use Rattle.std.proofs.Common.{◌≡◌, ◌≢◌, ◌⊎◌, inl, inr, ℕ, zero, suc, cond, not, nat_lt, ◌≤◌, Bool, true, ◌==◌}
 use Rattle.std.proofs.Common.{false, ◌&&◌, ◌||◌, List, [], ◌∷◌, ◌++◌, length, Option, Some, None, option_map}
@@ -16,19 +15,14 @@ use Rattle.texting_robots.specs.Rules.{PlacedRule, Rule, unplaced}
 use Rattle.texting_robots.specs.{Internal.Segments.rank, Verdict.IsVerdict, Verdict.robots_file}
 use Rattle.texting_robots.proofs.{SegmentLemmas.none_left}
 
--- the proposition holds or doesn't
 abbrev pub Either : Type 0 → Type 0
 Either P = P ⊎ (¬ P)
-
--- ---- matching
 
 -- some suffix of the text passes
 abbrev some_end : (List ℕ → Bool) → List ℕ → Bool
 some_end test [] = test []
 some_end test (x ∷ t) = test (x ∷ t) || some_end test t
 
--- `at_end`: the text is empty, and `passes` is true; `following`: the text begins with the byte, and the rest
--- passes
 abbrev at_end : Bool → List ℕ → Bool
 at_end passes [] = passes
 at_end passes (x ∷ t) = false
@@ -37,7 +31,6 @@ abbrev following : ℕ → (List ℕ → Bool) → List ℕ → Bool
 following b test [] = false
 following b test (x ∷ t) = (x == b) && test t
 
--- whether the pattern matches the text, as a function
 abbrev pub matches : Bool → List ℕ → List ℕ → Bool
 matches anchors [] t = true
 matches anchors (b ∷ q) t =
@@ -87,9 +80,6 @@ matches_decides anchors (b ∷ q) t = elim (cases_Bool (b == star)) [
   ])
 ]
 
--- ---- rules with and without their lines
-
--- a rule without its line belongs to some rule with its line
 pub placed_of : (rules : List PlacedRule) (rule : Rule) → Contains (unplaced rules) rule
     → (placed : PlacedRule) × Contains rules placed × (placed.rule ≡ rule)
 placed_of [] rule (k, below, at) = absurd (omega arith)
@@ -109,12 +99,10 @@ unplaced_of rules placed (k, below, at) =
 abbrev pub rank_of : PlacedRule → ℕ
 rank_of placed = rank (length placed.rule.0) placed.rule.1
 
--- the first rule ranks higher; or both rank the same, and its line isn't later
 pub record IsPreferred (first second : PlacedRule) : Type 0 where
   pub higher : rank_of second ≤ rank_of first
   pub earlier : rank_of second ≡ rank_of first → first.line ≤ second.line
 
--- whether the first rule is preferred, as a function; if not, the second is
 abbrev prefers : PlacedRule → PlacedRule → Bool
 prefers first second =
     cond (rank_of first == rank_of second) (not (nat_lt second.line first.line))
@@ -141,7 +129,6 @@ preferred_trans first second third one two =
       earlier = λ same. omega (arith, one.earlier (omega arith), two.earlier (omega arith));
     }
 
--- a rule that ranks at least as high is at least as long
 no_longer : (m n : ℕ) (a b : Bool) → rank n b ≤ rank m a → n ≤ m
 no_longer m n a b h = grind (arith, nat_tests)
 
@@ -156,7 +143,6 @@ better_isnt_after first second is (inr (same, inl (allows, denies))) =
 better_isnt_after first second is (inr (same, inr (kinds, sooner))) =
     let after = is.earlier (rw (same, kinds) refl) in omega arith
 
--- if the other rule matches the text, this rule is preferred to it
 abbrev pub IsAbove : List ℕ → PlacedRule → PlacedRule → Type 0
 IsAbove text placed other = Matches other.rule.0 text → IsPreferred placed other
 
@@ -174,7 +160,6 @@ best_decides rules text placed is = record {
       (All-contains (IsAbove text placed) rules other is.best listed matches);
 }
 
--- the deciding rule is at least as long as each rule that matches
 pub deciding_longest : (rules : List PlacedRule) (text : List ℕ) (placed other : PlacedRule)
     → IsDecidingRule rules text placed → Contains rules other → Matches other.rule.0 text
     → length other.rule.0 ≤ length placed.rule.0
@@ -184,7 +169,6 @@ deciding_longest rules text placed other decides listed matches =
       | inr most ↦ most
     ]
 
--- the deciding rule gives the verdict
 pub verdict_by : (rules : List PlacedRule) (text : List ℕ) (placed : PlacedRule) (answer : Bool)
     → IsDecidingRule rules text placed → placed.rule.1 ≡ answer → text ≢ robots_file
     → IsVerdict (unplaced rules) text answer
@@ -208,7 +192,6 @@ verdict_by rules text placed false decides deny other = (
       ],
 )
 
--- no rule matches the text (then the verdict is "allowed")
 abbrev pub NoMatch : List PlacedRule → List ℕ → Type 0
 NoMatch rules text = (placed : PlacedRule) → Contains rules placed → ¬ Matches placed.rule.0 text
 
@@ -218,7 +201,6 @@ none_denies rules text none (other, p, splits, matches, longest) =
     let (found, listed, rule) = placed_of rules (p, false) splits in
     none found listed (rw rule matches)
 
--- the best of the rules that match, as a function
 abbrev before : PlacedRule → Option PlacedRule → PlacedRule
 before rule None = rule
 before rule (Some placed) = cond (prefers rule placed) rule placed
@@ -272,9 +254,6 @@ best_is text (rule ∷ rules) = elim (cases_Bool (matches true rule.rule.0 text)
       | inr after ↦ rw after (later placed (λ _. when_false _ _ after (one_preferred rule placed)) is)
     ]
 
--- ---- the verdict and the line
-
--- the deciding rule as a function, with its verdict and its line
 abbrev pub deciding_rule : List PlacedRule → List ℕ → Option PlacedRule
 deciding_rule rules text = cond (bytes_eq text robots_file) None (best_of text rules)
 
@@ -309,7 +288,6 @@ answered rules text = elim (cases_Bool (bytes_eq text robots_file)) [
         let decides = best_decides rules text placed is in
         (verdict_by rules text placed placed.rule.1 decides refl differs, (differs, placed, decides, refl))
 
--- each text has a verdict and a deciding line, or no line that decides
 pub record Answered (rules : List PlacedRule) (text : List ℕ) : Type 0 where
   pub allowed : Bool
   pub number : Option ℕ

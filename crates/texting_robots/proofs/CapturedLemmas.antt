@@ -15,13 +15,11 @@ use Rattle.texting_robots.specs.Internal.Captured.{is_captured, some_below}
 use Rattle.texting_robots.specs.Executable.{captured_delays, captured_lines, placed_in, rule_in, rules_for}
 use Rattle.texting_robots.specs.Internal.Group.{from_captured, if_captured, placed, start_of, step}
 
--- ---- tests of indices: of user-agent lines, of group lines, and of user-agent lines with the name
-
--- a group line is after index `j` and before index `i`
+-- a group line is between `j` and `i`
 abbrev crossed : (ℕ → Bool) → ℕ → ℕ → Bool
 crossed G j i = some_below (λ k. nat_lt j k && G k) i
 
--- and a user-agent line is after that group line and before `i`
+-- and a user-agent line is between that line and `i`
 abbrev broken : (ℕ → Bool) → (ℕ → Bool) → ℕ → ℕ → Bool
 broken A G j i = some_below (λ l. A l && crossed G j l) i
 
@@ -33,8 +31,6 @@ open_at G N i = some_below (λ j. N j && not (crossed G j i)) i
 abbrev named_at : (ℕ → Bool) → (ℕ → Bool) → (ℕ → Bool) → ℕ → Bool
 named_at A G N i = some_below (λ j. N j && not (broken A G j i)) i
 
--- ---- the computed test decides the specification
-
 below_decides : (test : ℕ → Bool) (P : ℕ → Type 0) → ((k : ℕ) → Decides (test k) (P k))
     → (n : ℕ) → Decides (some_below test n) ((k : ℕ) × (k < n) × P k)
 below_decides test P each n = Decides-below_or test P (some_below test) each refl (λ _. refl) n
@@ -42,14 +38,12 @@ below_decides test P each n = Decides-below_or test P (some_below test) each ref
 pub itself : (b : Bool) → Decides b (b ≡ true)
 itself b = (λ h. h, λ h. h)
 
--- an index at which a test passes is that of a line
 pub within : (test : LineValue → Bool) (lines : List LineValue) (k : ℕ)
     → passes_at test lines k ≡ true → k < length lines
 within test [] k h = cc
 within test (line ∷ lines) zero h = omega arith
 within test (line ∷ lines) (suc k) h = let less = within test lines k h in omega arith
 
--- whether one of the first `n + 1` lines passes, in terms of the first `n`
 pub any_next : (test : LineValue → Bool) (lines : List LineValue) (n : ℕ)
     → list_any test (take (suc n) lines) ≡ (passes_at test lines n || list_any test (take n lines))
 any_next test [] zero = refl
@@ -111,8 +105,6 @@ is_captured_decides name lines i =
     (named_decides (passes_at is_agent lines) (passes_at is_group lines)
     (passes_at (is_agent_named name) lines) i))
 
--- ---- the next index
-
 below_same : (f g : ℕ → Bool) (n : ℕ) → ((j : ℕ) → j < n → f j ≡ g j)
     → some_below f n ≡ some_below g n
 below_same f g zero same = refl
@@ -151,7 +143,6 @@ broken_next A G j i = at (A i)
     at true = absorbed A G j i
     at false = refl
 
--- the last index, or an earlier one
 here_or_before : (N : ℕ → Bool) (f g : ℕ → Bool) (i : ℕ) → f i ≡ false
     → ((j : ℕ) → j < i → f j ≡ g j)
     → some_below (λ j. N j && not (f j)) (suc i) ≡ (N i || some_below (λ j. N j && not (g j)) i)
@@ -182,8 +173,6 @@ open_next G N i =
     at true = ap (λ b. N i || b) (none_below _ i (λ j less. and-false (N j)))
     at false = refl
 
--- ---- the state machine
-
 abbrev pub open_in : List ℕ → List LineValue → ℕ → Bool
 open_in name lines i = open_at (passes_at is_group lines) (passes_at (is_agent_named name) lines) i
 
@@ -191,7 +180,6 @@ abbrev named_in : List ℕ → List LineValue → ℕ → Bool
 named_in name lines i =
     named_at (passes_at is_agent lines) (passes_at is_group lines) (passes_at (is_agent_named name) lines) i
 
--- the state agrees with the specification at this index
 pub record IsWalkAt (name : List ℕ) (lines : List LineValue) (i : ℕ) (tracker : GroupTracker) : Type 0 where
   pub captured : is_captured name lines i ≡ tracker.captured
   pub named : open_in name lines i ≡ tracker.named
@@ -199,7 +187,6 @@ pub record IsWalkAt (name : List ℕ) (lines : List LineValue) (i : ℕ) (tracke
 pub occurs_first : (name : List ℕ) (lines : List LineValue) → IsWalkAt name lines 0 (start_of lines)
 occurs_first name lines = record { captured = or-false _; named = refl }
 
--- the tests at the next index, in terms of the line at this one
 named_on : (name : List ℕ) (lines : List LineValue) (i : ℕ) (line : LineValue)
     → slice_get lines i ≡ Some line
     → is_captured name lines (i + 1) ≡ (not (list_any is_agent lines)
@@ -245,8 +232,6 @@ at_front [] (suc n) line rest h = cc
 at_front (x ∷ lines) zero line rest h = (cc, cc)
 at_front (x ∷ lines) (suc n) line rest h =
     let (at, next) = at_front lines n line rest h in (at, rw add-one (rw add-one at next))
-
--- ---- what captured lines give
 
 pub cond_same : {X : Type 0} (b : Bool) (x : X) → cond b x x ≡ x
 cond_same true x = refl

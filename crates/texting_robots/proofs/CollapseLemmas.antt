@@ -7,7 +7,6 @@ use Rattle.std.proofs.lemmas.Bool.{and_parts, cases_Bool, eq-eqb, eqb-true, ne_e
 use Rattle.texting_robots.specs.Pattern.{MatchesWith, collapsed, star}
 use Rattle.texting_robots.proofs.SegmentLemmas.{after_byte, star_star}
 
--- bytes that aren't stars are kept
 collapse_plain : (w q : List ℕ) → ((i : ℕ) → i < length w → get_or w i 0 ≢ star)
     → collapsed (w ++ q) ≡ w ++ collapsed q
 unfolding collapsed
@@ -16,7 +15,6 @@ collapse_plain (b ∷ w) q plain =
     let other : (b == star) ≡ false = ne_eqb b star (plain 0 (omega arith)) in
     rw other (ap (λ x. b ∷ x) (collapse_plain w q (λ i l. plain (suc i) (omega arith))))
 
--- a star is kept if no star follows it
 collapse_one : (q : List ℕ) → get_or q 0 0 ≢ star → collapsed (star ∷ q) ≡ star ∷ collapsed q
 unfolding collapsed
 collapse_one q other = rw (ne_eqb (get_or q 0 0) star other) refl
@@ -44,7 +42,6 @@ unfolding collapsed
 collapse_end rest plain =
     ap collapsed (sym (append-nil rest)) ∙ collapse_plain rest [] plain ∙ append-nil rest
 
--- Collapsing changes no match.
 pub collapse_keeps_meaning : (anchors : Bool) (p t : List ℕ)
     → MatchesWith anchors (collapsed p) t ↔ MatchesWith anchors p t
 unfolding collapsed
@@ -58,15 +55,12 @@ collapse_keeps_meaning anchors (b ∷ q) t = elim (cases_Bool ((b == star) && (g
   | inr other ↦ rw other (after_byte anchors b (collapsed q) q (collapse_keeps_meaning anchors q) t)
 ]
 
--- ---- the length of a collapsed pattern
-
 pub length_none : (q : List ℕ) → length q ≡ 0 → length (collapsed q) ≡ 0
 unfolding collapsed
 length_none [] none = refl
 length_none (b ∷ q) none = absurd (omega (arith, none))
 
 module _ (b : ℕ) (q : List ℕ) where
-  -- a star that another one follows
   pub length_merged : b ≡ star → (get_or q 0 0 == star) ≡ true
       → length (collapsed (b ∷ q)) ≡ length (collapsed q)
   unfolding collapsed

@@ -9,8 +9,6 @@ use Rattle.texting_robots.specs.Internal.Line.{line_of, lines_of}
 use Rattle.texting_robots.proofs.CutLemmas.{byte_cases, cut_cons, pair_of}
 use Rattle.texting_robots.proofs.{LineLemmas.each_text_has_its_lines}
 
--- ---- the line contents of a text, from its end
-
 abbrev bodies_in : List Pair → List (List ℕ)
 bodies_in pairs = map (λ pair. pair.body) pairs
 
@@ -53,7 +51,6 @@ with_step b pairs = elim (byte_cases b) [
 pub step : (b : ℕ) (text : List ℕ) → bodies_of (b ∷ text) ≡ body_step b (bodies_of text)
 step b text = ap bodies_in (cut_cons b text) ∙ with_step b (cut text)
 
--- a CR before an LF adds no line
 return_before_feed : (b : ℕ) (text : List ℕ) → b ≡ cr → slice_index text 0 ≡ lf
     → bodies_of (b ∷ text) ≡ bodies_of text
 return_before_feed b [] return feed = absurd (omega (arith, feed))
@@ -75,7 +72,6 @@ feed_stays : (byte : ℕ) (text : List ℕ) → (lf == byte) ≡ false → slice
 feed_stays byte [] no_lf feed = refl
 feed_stays byte (c ∷ text) no_lf feed = cond-false _ _ _ (ap (λ x. x == byte) feed ∙ no_lf)
 
--- dropping a leading byte that isn't CR or LF gives the same before and after CR LF is replaced by LF
 without_alone : (byte : ℕ) (text : List ℕ) → (lf == byte) ≡ false → (cr == byte) ≡ false
     → without byte (crlf_to_lf text) ≡ crlf_to_lf (without byte text)
 without_alone byte [] no_lf no_cr = refl

@@ -15,15 +15,12 @@ use Rattle.texting_robots.specs.{Cut.Pair, Cut.cr, Cut.lf, Internal.Cut.empty_li
 use Rattle.texting_robots.specs.Internal.Cut.{bodies_of, cut, body_len, end_len, is_feed, read_as, read_byte}
 use Rattle.texting_robots.proofs.CutLemmas.{byte_cases, cut_cons, cut_nil, pair_of}
 
--- ---- the first line
-
 abbrev pub after_body : List ℕ → List ℕ
 after_body text = drop (body_len text) text
 
 abbrev pub after_end : List ℕ → List ℕ
 after_end text = drop (end_len text) text
 
--- what follows the first line and its terminator
 abbrev pub rest_of : List ℕ → List ℕ
 rest_of text = after_end (after_body text)
 
@@ -61,12 +58,8 @@ bodies_first (b ∷ text) some = ap (map (λ (p : Pair). p.body)) (first_line b 
 pub bodies_nil : bodies_of [] ≡ []
 bodies_nil = ap (map (λ (p : Pair). p.body)) cut_nil
 
--- ---- reading NUL as LF
-
 pub read_as_is : (text : List ℕ) → read_as false text ≡ text
 read_as_is text = map-id text
-
--- ---- skipping a terminator in a loop
 
 pub past_return : (n : Bool) (after : List ℕ)
     → drop (end_len (read_as n (cr ∷ after))) (cr ∷ after) ≡ drop (end_len (read_as n after)) after
@@ -101,8 +94,6 @@ no_end n b after not_cr not_lf = rw (not_lf, plain n) refl
     plain true = elim (cases_Bool (b == 0)) [ inl z ↦ rw z refl | inr nz ↦ rw nz (ne_eqb b cr not_cr) ]
     plain false = ne_eqb b cr not_cr
 
--- ---- empty lines
-
 pub no_empty_line : (n : Bool) (b : ℕ) (after : List ℕ) → is_feed n b ≡ false
     → empty_lines n (b ∷ after) ≡ 0
 no_empty_line n b after isnt = rw isnt refl
@@ -111,9 +102,6 @@ pub an_empty_line : (n : Bool) (b : ℕ) (after : List ℕ) → is_feed n b ≡ 
     → empty_lines n (b ∷ after) ≡ 1 + empty_lines n after
 an_empty_line n b after is = rw is refl
 
--- ---- the length of a line, as a search finds it
-
--- the test passes exactly those bytes that are read as CR or LF
 abbrev Ends : Bool → (ℕ → Bool) → Type 0
 Ends n test = (b : ℕ) → test b ≡ (read_byte n b == lf || read_byte n b == cr)
 
@@ -139,7 +127,6 @@ ends_with_nul b = elim (cases_Bool (b == 0)) [
   | inr other ↦ rw (other, or-false) (or_comm (b == cr) (b == lf))
 ]
 
--- the result of `memchr`
 pub body_found : (n : Bool) (test : ℕ → Bool) (text : List ℕ) (found : Option ℕ) → Ends n test
     → IsFirstByte test text found
     → (let len = body_len (read_as n text) in
@@ -148,8 +135,7 @@ body_found n test text None ends none = sym (body_by n test ends text) ∙ end_i
 body_found n test text (Some k) ends first =
     (sym (body_by n test ends text) ∙ position_is test text k first.0 first.1, first.0.high)
 
--- searching only the first `k` bytes of a text: either they contain the end of the line, or they all belong
--- to it
+-- searching only the first `k` bytes of a text: they contain the end of the line, or all belong to it
 pub front_seen : (n : Bool) (text : List ℕ) (k len : ℕ) → k ≤ length text
     → len ≡ body_len (read_as n (take k text))
     → (len < k → body_len (read_as n text) ≡ len)
@@ -163,9 +149,6 @@ front_seen n text k len within len_is =
       λ all. sym (by text) ∙ seen.1 (omega arith) ∙ ap (λ m. k + m) (by (drop k text)),
     )
 
--- ---- the lanes of a vector that end a line
-
--- a lane is flagged if one of three comparisons holds
 abbrev flag : ℕ → ℕ → ℕ
 flag third b =
     bit_or (bit_or (cond (b == cr) 255 0) (cond (b == lf) 255 0)) (cond (b == third) 255 0)
@@ -199,7 +182,6 @@ pub labeled_first : (n : Bool) (f : ℕ → ℕ) (width : ℕ) (v lanes : List �
 labeled_first n f width v lanes fits long lanes_are ends =
     first_labeled f width v lanes fits long lanes_are ∙ body_by n (λ b. top 7 (f b)) ends v
 
--- reading NUL as LF changes nothing within a line
 body_plain : (n : Bool) (text : List ℕ)
     → take (body_len (read_as n text)) (read_as n text) ≡ take (body_len (read_as n text)) text
 body_plain n text =
@@ -219,8 +201,6 @@ body_plain n text =
       | inl nul ↦ (let wrong : true ≡ false = rw nul at plain in cc)
       | inr other ↦ cond-false _ _ _ other
     ]
-
--- ---- the next line
 
 pub next_body : (n : Bool) (rest : List ℕ) → 0 < length rest
     → (let k = body_len (read_as n rest) in

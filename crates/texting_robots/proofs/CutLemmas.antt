@@ -32,14 +32,11 @@ byte_cases b = elim (cases_eq b lf) [
 pub at_other : (b : ℕ) (pairs : List Pair) → IsBodyByte b → before_byte b pairs ≡ before_body b pairs
 at_other b pairs other = rw (ne_eqb b lf other.1, ne_eqb b cr other.0) refl
 
--- ---- a pair, and the pairs after it
-
--- the first of these pairs, if there is one, has line content that isn't empty
 abbrev BeginWithBody : List Pair → Type 0
 BeginWithBody [] = Unit {0}
 BeginWithBody (next ∷ more) = next.body ≢ []
 
--- how a line ends before the later pairs: without a terminator as the last one, by CRs, or by an LF
+-- how a line ends: without a terminator, as the last one, by CRs, or by an LF
 data EndsBy : List ℕ → List ℕ → List Pair → Type 0 where
   nothing : {b : ℕ} {body : List ℕ} → EndsBy (b ∷ body) [] []
   returns : {body : List ℕ} {later : List Pair} (k : ℕ) → BeginWithBody later
@@ -53,8 +50,6 @@ record IsPairBefore (pair : Pair) (later : List Pair) : Type 0 where
 abbrev ArePairs : List Pair → Type 0
 ArePairs [] = Unit {0}
 ArePairs (pair ∷ later) = IsPairBefore pair later × ArePairs later
-
--- ---- such pairs are a cut
 
 pair_at : (pairs : List Pair) → ArePairs pairs
     → (front back : List Pair) (pair : Pair) → pairs ≡ front ++ pair ∷ back → IsPairBefore pair back
@@ -98,8 +93,6 @@ joined_is_cut pairs are =
           λ front back pair next e. goes_on (pair_at pairs are front (next ∷ back) pair e).ends;
     }
 
--- ---- the pairs of a cut are such pairs
-
 ends_by : (body ending : List ℕ) (later : List Pair) → IsLineEnd ending
     → (ending ≡ [] → (later ≡ []) × (body ≢ []))
     → ((next : Pair) (more : List Pair) → later ≡ next ∷ more → All (λ byte. byte ≢ lf) ending
@@ -132,9 +125,6 @@ cut_occurs (pair ∷ later) text is = (
   }),
 )
 
--- ---- `cut` computes a cut
-
--- `more` are such pairs, and their bytes are the byte `b` and those of `pairs`
 abbrev Adds : ℕ → List Pair → List Pair → Type 0
 Adds b pairs more = ArePairs more × (joined more ≡ b ∷ joined pairs)
 
@@ -180,9 +170,6 @@ walked (b ∷ text) =
 pub is_cut : (text : List ℕ) → IsCut (cut text) text
 is_cut text = let (are, whole) = walked text in subst (IsCut (cut text)) whole (joined_is_cut (cut text) are)
 
--- ---- each cut is the one that `cut` computes
-
--- a CR is a terminator by itself if no empty line follows
 lone_return : (pairs : List Pair) → BeginWithBody pairs
     → before_end pairs ≡ pair_of [] (cr ∷ []) ∷ pairs
 lone_return [] begin = refl

@@ -24,8 +24,6 @@ use Rattle.texting_robots.specs.Internal.Delay.{after_digits, delay_after, delay
 use Rattle.texting_robots.specs.Internal.Delay.{is_numeral, is_zero, zero_of, number_of, number_with, rounded}
 use Rattle.texting_robots.proofs.{CapturedLemmas.cond_given}
 
--- ---- the computed tests
-
 digit_decides : (b : ℕ) → Decides (is_ascii_digit b) (IsAsciiDigit b)
 digit_decides b = Decides-and (leb 48 b) (leb b 57) (leb-true 48 b, le-leb 48 b) (leb-true b 57, le-leb b 57)
 
@@ -48,8 +46,6 @@ infinite_decides text =
     Decides-or (str_eq_ignore_ascii_case text (codes "inf"))
     (str_eq_ignore_ascii_case text (codes "infinity"))
     (bytes_decides lowered (codes "inf")) (bytes_decides lowered (codes "infinity"))
-
--- ---- a number is parsed as written
 
 abbrev Stops : List ℕ → Type 0
 Stops rest = is_ascii_digit (slice_index rest 0) ≡ false
@@ -100,8 +96,6 @@ number_read text n h =
     let found = digits_read n.whole (h.point ++ (n.fraction ++ h.tail)) h.whole is.stop in
     let some = lt-ltb 0 (length (n.whole ++ n.fraction)) h.some in
     rw (h.is_text, found.0, found.1, is.digits, is.following, last.1, some) refl
-
--- ---- what is parsed is the number written
 
 digits_are : (text : List ℕ) → All IsAsciiDigit (digits_in_front text)
 digits_are text k d below =
@@ -182,7 +176,6 @@ number_found text n e =
       is_tail = exponent_found tail parts.1.0 parts.1.1;
     })
 
--- the parts of a parsed number consist of digits
 pub has_digits : (text : List ℕ) (n : Decimal) → number_of text ≡ Some n → length text < 2 ^ 63
     → HasDigits n
 has_digits text n e short =
@@ -196,8 +189,6 @@ has_digits text n e short =
     digits tail exponent (inl (none, empty)) =
         rw empty (All-nil IsAsciiDigit)
     digits tail exponent (inr (is, numeral)) = numeral.1
-
--- ---- a number's microseconds
 
 pub rounded_rounds : (n : Decimal) → Rounds n (rounded n)
 rounded_rounds n =
@@ -219,9 +210,7 @@ rounded_rounds n =
 rounds_same : (n : Decimal) (d e : ℕ) → Rounds n d → Rounds n e → d ≡ e
 rounds_same n d e a b = omega (arith, b.greatest d a.bound a.at_most, a.greatest e b.bound b.at_most)
 
--- ---- the delay of a text
-
--- an infinite delay begins with a letter, so it isn't a number
+-- infinity begins with a letter, so it isn't a number
 infinite_number : (text word : List ℕ) → map to_ascii_lowercase text ≡ byte "i" ∷ word
     → number_of text ≡ None
 infinite_number [] word e = cc

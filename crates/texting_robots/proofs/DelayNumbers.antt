@@ -18,7 +18,6 @@ after n ds = digits_value_after 10 n ds
 abbrev value : List ℕ → ℕ
 value ds = digits_value 10 ds
 
--- bounding a number before digits are appended doesn't change the bounded result
 bound_first : (n : ℕ) (ds : List ℕ) → bounded (after (bounded n) ds) ≡ bounded (after n ds)
 bound_first n [] = omega arith
 bound_first n (d ∷ ds) =
@@ -26,8 +25,6 @@ bound_first n (d ∷ ds) =
     sym (bound_first (bounded n * 10 + digit_value d) ds)
     ∙ ap (λ x. bounded (after x ds)) same
     ∙ bound_first (n * 10 + digit_value d) ds
-
--- ---- the loop that appends digits
 
 pub digit_there : (ds : List ℕ) (i : ℕ) → All IsAsciiDigit ds → i < length ds
     → byte "0" ≤ get_or ds i 0
@@ -50,8 +47,6 @@ all_digits_read n ds i r e end bound =
     let none : bounded (after n []) ≡ r = rw (drop_all i ds end) at e in
     omega arith
 
--- ---- digits after digits, and zeros
-
 after-append : (n : ℕ) (xs ys : List ℕ) → after n (xs ++ ys) ≡ after (after n xs) ys
 after-append n [] ys = refl
 after-append n (x ∷ xs) ys = after-append (n * 10 + digit_value x) xs ys
@@ -69,9 +64,6 @@ value_zeros ds k = after-append 0 ds (zeros k) ∙ after_zeros (value ds) k
 take_parts : (n : ℕ) (xs ys : List ℕ) → take n xs ++ take (n - length xs) ys ≡ take n (xs ++ ys)
 take_parts n xs ys = same_lists _ _ (search (rules, listed)) (λ k d h. grind (arith, listed))
 
--- ---- rounding down
-
--- cutting digits off divides by a power of ten
 cut_off : (ds : List ℕ) → All IsAsciiDigit ds → (k : ℕ)
     → value ds / 10 ^ k ≡ value (take (length ds - k) ds)
 cut_off ds digits zero =
@@ -129,9 +121,6 @@ at_position n digits = at (n.whole ++ n.fraction) digits (length n.whole) (lengt
               ∙ ap (λ xs. value xs * 10 ^ (a - b)) all ∙ ap (λ i. value (take p ds) * 10 ^ i) missing)
         ]
 
--- ---- twenty zeros
-
--- more zeros give the same bounded number
 far : (v k : ℕ) → 20 ≤ k → bounded (v * 10 ^ 20) ≡ bounded (v * 10 ^ k)
 far zero k more = omega arith
 far (suc v) k more =
@@ -159,9 +148,6 @@ twenty ds p room = elim (cases_lt (length ds + 20) p) [
       ∙ ap bounded (value_zeros (take p ds) (p - length ds)))
 ]
 
--- ---- what the code computes
-
--- the number of three lists of digits, bounded after each list
 joined : (xs ys zs : List ℕ)
     → bounded (after (bounded (after (bounded (after 0 xs)) ys)) zs) ≡ bounded (value (xs ++ (ys ++ zs)))
 joined xs ys zs =

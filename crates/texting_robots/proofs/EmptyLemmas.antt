@@ -16,7 +16,6 @@ feed_adds b text feed =
     (cut_cons b text ∙ cond-true _ _ _ feed)
     ∙ ap (λ line. line ∷ lines_of text) (line_without_kind [] [] refl refl)
 
--- what lines give, from the number of lines before them on, is what the lines after the empty ones give
 pub past_empty : {X : Type 0} (given : ℕ → List LineValue → X)
     → ((position : ℕ) (left : List LineValue)
     → given position (Raw [] ∷ left) ≡ given (position + 1) left)
@@ -34,8 +33,6 @@ past_empty given step n position (b ∷ text) =
           ∙ ap (λ p. given p (lines_of (read_as n (drop k text)))) (omega arith))
       | inr other ↦ rw other (ap (λ p. given p (lines_of (read_as n (b ∷ text)))) (omega arith))
     ]
-
--- ---- what a site keeps of the lines
 
 module _ (n : Bool) (position : ℕ) (text : List ℕ) where
   abbrev k : ℕ

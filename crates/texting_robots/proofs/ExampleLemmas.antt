@@ -24,9 +24,6 @@ pub answers : (rules : List PlacedRule) (text : List ℕ)
     → Answers rules text (allowed_by (deciding_rule rules text)) (line_by (deciding_rule rules text))
 answers rules text = let is = answered rules text in record { verdict = is.0; deciding = is.1 }
 
--- ---- rules that are too long
-
--- some item passes
 any_decides : {X : Type 0} (P : X → Type 0) (test : X → Bool) → ((x : X) → Decides (test x) (P x))
     → (xs : List X) → Decides (list_any test xs) (Any P xs)
 any_decides P test each xs = (
@@ -52,8 +49,6 @@ pub any_overlong_decides : (rules : List Rule)
     → Decides (list_any (λ (rule : Rule). is_overlong rule.0) rules)
     (Any (λ (rule : Rule). IsOverlong rule.0) rules)
 any_overlong_decides rules = any_decides _ _ (λ (rule : Rule). overlong_decides rule.0) rules
-
--- ---- what a file gives a crawler
 
 pub gives_rules : (agent file : List ℕ) → GivesRules agent file (placed_rules agent (file_lines file))
 gives_rules agent file =

@@ -27,10 +27,7 @@ use Rattle.texting_robots.specs.Decision.{IsDecidingRule, IsLongestMatch, LooksF
 use Rattle.texting_robots.proofs.BestLemmas.{IsAbove, IsBest, IsPreferred, NoMatch, best_decides, longer}
 use Rattle.texting_robots.proofs.BestLemmas.{deciding_longest, rank_of, verdict_by}
 
--- ---- A text that a pattern matches begins as its first segment does, and has the bigrams of its other
--- segments.
-
--- ---- the beginning
+-- ---- A matched text begins as the first segment does, and has the bigrams of the others.
 
 -- the bytes of the segment are those of the text, as far as both go
 same_below : (segment rest : List ℕ) → first_eight (segment ++ rest) % 2 ^ (8 * min (length segment) 8)
@@ -47,13 +44,10 @@ same_masked segment rest =
     and_mask (first_eight (segment ++ rest)) size ∙ same_below segment rest
     ∙ sym (and_mask (first_eight segment) size)
 
--- a text that begins with a segment fits the segment's head
 beginning_fits : (segment rest : List ℕ) (head : Head) → IsHeadOf segment head
     → Fits head (first_eight (segment ++ rest))
 beginning_fits segment rest head is =
     rw (is.bytes, is.mask) (same_masked segment rest)
-
--- ---- bigrams: pairs of adjacent bytes
 
 pub or_assoc : (a b c : ℕ) → bit_or (bit_or a b) c ≡ bit_or a (bit_or b c)
 or_assoc a b c =
@@ -75,7 +69,6 @@ within_through : (few some many : ℕ) → AreWithin few some → AreWithin some
 within_through few some many h k =
     ap (bit_or few) (sym k) ∙ sym (or_assoc few some many) ∙ ap (λ x. bit_or x many) h ∙ k
 
--- a prefix of a text has no bigrams other than those of the text
 front_within : (front rest : List ℕ) → AreWithin (pair_set front) (pair_set (front ++ rest))
 unfolding pair_set
 front_within [] rest = or_zero_l (pair_set rest)
@@ -87,7 +80,6 @@ front_within (b ∷ c ∷ front) rest =
     within_both bit (pair_set (c ∷ front)) (bit_or bit more) first
     (within_later (pair_set (c ∷ front)) bit more (front_within (c ∷ front) rest))
 
--- nor has a suffix
 end_within : (front rest : List ℕ) → AreWithin (pair_set rest) (pair_set (front ++ rest))
 unfolding pair_set
 end_within [] rest = or_self (pair_set rest)
@@ -95,7 +87,7 @@ end_within (b ∷ front) rest =
     let more = front ++ rest in
     within_later (pair_set rest) (front_bit b more) (pair_set more) (end_within front rest)
 
--- loop step: the first bigram is moved from the remaining text to the bits so far
+-- loop step: the first bigram is moved to the bits so far
 pub pairs_step : (bits bit whole : ℕ) (rest : List ℕ) → 2 ≤ length rest
     → bit ≡ pair_bit (get_or rest 0 0) (get_or rest 1 0) → bit_or bits (pair_set rest) ≡ whole
     → bit_or (bit_or bits bit) (pair_set (drop 1 rest)) ≡ whole
@@ -104,7 +96,7 @@ pairs_step bits bit whole (b ∷ c ∷ rest) long is h =
     rw (or_assoc, is) h
 pairs_step bits bit whole rest long is h = absurd (omega arith)
 
--- loop step: the first two bigrams are moved, one after the other
+-- loop step: two bigrams are moved, one after the other
 pub two_pairs : (bits one two whole : ℕ) (rest : List ℕ) → 3 ≤ length rest
     → one ≡ pair_bit (get_or rest 0 0) (get_or rest 1 0)
     → two ≡ pair_bit (get_or rest 1 0) (get_or rest 2 0)
@@ -121,9 +113,6 @@ no_pairs [] short = refl
 no_pairs (b ∷ []) short = refl
 no_pairs (b ∷ c ∷ rest) short = absurd (omega arith)
 
--- ---- all segments
-
--- the bigrams of all segments, and those of the ending
 abbrev pub segment_pairs : List ℕ → Ending → List Segment → ℕ
 segment_pairs pattern ending [] = ending_pairs pattern ending
 segment_pairs pattern ending (segment ∷ segments) =
@@ -135,7 +124,6 @@ ending_within pattern (Last span) t (front, e) =
     rw e (end_within front (part_of pattern span))
 ending_within pattern ending t ends = or_zero_l (pair_set t)
 
--- the rest of a pattern matches only texts with the bigrams of the remaining segments
 left_within : (pattern : List ℕ) (ending : Ending) (segments : List Segment) (left : List ℕ)
     → AreLeft pattern ending segments left → (t : List ℕ) → Matches left t
     → AreWithin (segment_pairs pattern ending segments) (pair_set t)
@@ -150,7 +138,6 @@ left_within pattern ending (segment ∷ segments) left (rest, is, more) t m =
     let both = within_both _ later (pair_set (part ++ after)) (front_within part after) following in
     rw e (within_through pairs (pair_set (part ++ after)) _ both (end_within front (part ++ after)))
 
--- a text that a pattern matches passes its prefilter
 pub are_prefilter : {pattern : List ℕ} {ends : Ends} {segments : List Segment} {borders : List ℕ}
     (prefilter : Prefilter)
     → AreSegments pattern ends segments borders → IsHeadOf (take ends.first_len pattern) prefilter.head
@@ -163,7 +150,6 @@ are_prefilter {pattern} {ends} {segments} prefilter are head pairs text m =
     (left_within pattern ends.ending segments are.rest are.left rest n) (end_within first rest) in
     rw (e, pairs) (record { head = beginning_fits first rest prefilter.head head; pairs = within })
 
--- a text that begins with a segment has the bigrams of the segment's first bytes
 pub beginning_within : (pattern rest text : List ℕ) (few first : ℕ) → few ≤ first
     → text ≡ take first pattern ++ rest → AreWithin (pair_set (take few pattern)) (pair_set text)
 beginning_within pattern rest text few first less e =
@@ -177,7 +163,6 @@ beginning_within pattern rest text few first less e =
 
 -- ---- The looks for a pattern, and those for all rules.
 
--- `new` is within a bound for each kind of pattern
 pub within_looks : (p : List ℕ) (ends : Ends) (segments : List Segment) (borders : List ℕ)
     → AreSegments p ends segments borders → (n old new : ℕ) → (n < ends.first_len → new ≤ old)
     → new ≤ old + 2 * n → (IsUnsearched segments ends.ending → new ≤ old + ends.first_len)
@@ -190,7 +175,6 @@ within_looks p ends segments borders are n old new short all first =
     (λ _. cond_both (get_or p k 0 == star) (2 * n) k within (λ _. all)
     (λ other. first (are.unsearched (eqb-false (get_or p k 0) star other)))))
 
--- what the rules before this index cost
 abbrev pub cost_upto : Unsorted → ℕ → ℕ → ℕ
 cost_upto all n at = cost_of (take at (rules_in all)) n
 
@@ -209,8 +193,6 @@ module _ (all : Unsorted) (n at : ℕ) where
 
   pub cost_within : cost_upto all n at ≤ cost_of (rules_in all) n
   cost_within = sum_by-take-le _ (rules_in all) at
-
--- ---- saturating sums
 
 module _ (limit sum seen most now more : ℕ) (is_sum : sum ≡ min (seen + most) (2 ^ 64 - 1))
     (is_seen : seen ≡ min now (2 ^ 64 - 1)) (is_most : most ≡ min more (2 ^ 64 - 1)) where
@@ -232,8 +214,6 @@ count_front p (x ∷ xs) (suc n) within passes =
     count_front p xs n (omega arith) (λ k d below. passes (suc k) d (omega arith)) in
     rw (sum_by-cons (λ (y : PlacedRule). cond (p y) 1 0) x xs, here) (omega arith)
 
--- ---- looks
-
 at_most_more : (old new : ViewValue) (few many : ℕ) → few ≤ many → LooksAtMost old new few
     → LooksAtMost old new many
 at_most_more old new few many more is =
@@ -246,7 +226,6 @@ pub record AreTried (all : Unsorted) (old new : ViewValue) (at : ℕ) : Type 0 w
   pub grows : old.looks ≤ new.looks
   pub spent : new.looks ≤ old.looks + cost_upto all (length old.text) at
 
--- a text that an entry's pattern matches has all bigrams of the entry's mask
 mask_within : (all : Unsorted) (entry : Entry) → IsEntryOf all entry → (text : List ℕ)
     → Matches (pattern_of all entry) text
     → AreWithin (mask_in (string_bytes all.text) entry) (pair_set text)
@@ -277,7 +256,6 @@ apart_tried all old new from to are masked up within apart tried =
       spent = omega (arith, more);
     }
 
--- one more rule was tried
 pub tried_more : (all : Unsorted) (old now new : ViewValue) (at : ℕ) (entry : Entry)
     → at < length all.entries.items → entry ≡ get_or all.entries.items at entry
     → ¬ Matches (pattern_of all entry) old.text → new.text ≡ now.text → now.looks ≤ new.looks
@@ -298,8 +276,6 @@ tried_more all old now new at entry within is other same grows spent tried =
       grows = omega (arith, tried.grows);
       spent = omega (arith, tried.spent, more);
     }
-
--- ---- the first that matches
 
 part_length : {X : Type 0} (xs : List X) (span : Span) → IsSpan xs span
     → length (part_of xs span) ≡ span.end - span.start
@@ -358,8 +334,7 @@ module _ (all : Unsorted) (known : All (IsEntryOf all) all.entries.items) where
           → IsVerdict (unplaced (rules_in all)) text (entry_at at).is_allow
       first_decides = verdict_by (rules_in all) text (placed at) (entry_at at).is_allow first_line refl
 
-      -- each rule up to the first that matches is at least as long as the longest one that matches, so the
-      -- bound for `at + 1` rules is within the bound of `as_long_as`
+      -- each rule up to the first that matches is at least as long as the longest one that matches
       first_tried : (rule : PlacedRule) → IsLongestMatch (rules_in all) text rule
           → 2 * length text * (at + 1) ≤ 2 * length text * as_long_as rule (rules_in all)
       first_tried rule is =
@@ -375,7 +350,6 @@ module _ (all : Unsorted) (known : All (IsEntryOf all) all.entries.items) where
             | inr late ↦ let same : k ≡ at = omega arith in rw same best
           ]))))
 
-    -- the looks up to the first that matches
     pub first_looks : (old new : ViewValue) (at : ℕ) → IsFirstMatch all old.text at
         → LooksAtMost old new (2 * length old.text * (at + 1)) → LooksForRules (rules_in all) old new
     first_looks old new at found looks =

@@ -15,16 +15,12 @@ use Rattle.texting_robots.specs.{Internal.Captured.is_captured, Escape.escaped, 
 use Rattle.texting_robots.proofs.CapturedLemmas.{cond_given, is_captured_decides, kept_next, some_passes}
 use Rattle.texting_robots.proofs.RulesLemmas.{before_agent, before_agents, last_more, option_or_none}
 
--- ---- The delay and the sitemaps of a crawler in the specification are those that the functions compute.
+-- ---- The computed delay and sitemaps of a crawler are those of the specification.
 
--- ---- the first and the last index at which a number is found
-
--- the option is the number found first, or `None` if there is none
 abbrev FirstAt : (ℕ → ℕ → Type 0) → Option ℕ → Type 0
 FirstAt P None = Nowhere P
 FirstAt P (Some n) = IsFirst P n
 
--- the option is the number found last, or `None` if there is none
 abbrev LastOf : (ℕ → ℕ → Type 0) → Option ℕ → Type 0
 LastOf P None = Nowhere P
 LastOf P (Some n) = IsLast P n
@@ -74,14 +70,11 @@ first_same P Q None same none = λ k n is. none k n ((same k n).1 is)
 first_same P Q (Some n) same (position, is, least) =
     (position, (same position n).0 is, λ other m has. least other m ((same other m).1 has))
 
--- ---- captured delays
-
 a_delay : (line : LineValue) (delay : ℕ) → delay_in line ≡ Some delay
     → line ≡ CrawlDelay (Some delay)
 a_delay (CrawlDelay (Some d)) delay is = ap (λ (o : Option ℕ). CrawlDelay o) is
 a_delay _ delay is = cc
 
--- the line at the index is a delay, and its index in the file passes a test
 abbrev DelayAt : (ℕ → Bool) → ℕ → List LineValue → ℕ → ℕ → Type 0
 DelayAt test n lines k delay = (slice_get lines k ≡ Some (CrawlDelay (Some delay)))
     × (test (n + k) ≡ true)
@@ -127,8 +120,6 @@ captured_first agent lines =
     ))
     (delays_from (is_captured name lines) 0 lines)
 
--- ---- delays before the first user-agent line
-
 abbrev BeforeAgents : List LineValue → ℕ → ℕ → Type 0
 BeforeAgents lines k delay =
     (slice_get lines k ≡ Some (CrawlDelay (Some delay)))
@@ -152,7 +143,6 @@ before_step line lines isnt = record {
     following none zero less is = cc
     following none (suc j) less is = none j (omega arith) is
 
--- the last item of the list, or else the given option
 last_some : (x : ℕ) (xs : List ℕ) → (n : ℕ) × (last_or (Some x) xs ≡ Some n)
 last_some x [] = (x, refl)
 last_some x (y ∷ xs) = last_some y xs
@@ -176,7 +166,6 @@ last_before (line ∷ lines) = elim (cases_Bool (is_agent line)) [
         let other = rw same at agent in cc
     none agent (suc k) delay (is, early) = early 0 (omega arith) agent
 
--- a delay before all user-agent lines is before the one at this index
 early : (lines : List LineValue) (at : ℕ) → passes_at is_agent lines at ≡ true → (k delay : ℕ)
     → BeforeAgents lines k delay → IsEarlyDelay lines k delay
 early lines at agent k delay (is, none) =
@@ -199,8 +188,6 @@ last_early lines = elim (cases_Bool (list_any is_agent lines)) [
       early lines agent.0 agent.1 position n is,
       λ other m has. greatest other m (has.0, has.1),
     )
-
--- ---- the crawler's delay
 
 is_delay_for : (agent : List ℕ) (lines : List LineValue) (first last : Option ℕ)
     → FirstAt (IsCapturedDelay agent lines) first → LastOf (IsEarlyDelay lines) last
@@ -244,9 +231,6 @@ delay_is_computed agent lines delay =
     let is = is_delay_for agent lines _ _ (captured_first agent lines) (last_early lines) in
     (λ has. one_delay_for agent lines _ _ has is, λ same. rw same is)
 
--- ---- sitemaps
-
--- the sitemap that the line lists, or none
 abbrev Lists : LineValue → Option (List ℕ) → Type 0
 Lists line None = (sitemap : List ℕ) → ¬ ListsSitemap line sitemap
 Lists line (Some sitemap) = ListsSitemap line sitemap
@@ -286,21 +270,17 @@ sitemaps_are_computed lines sitemaps = (
   λ same. rw same (are_sitemaps lines),
 )
 
--- ---- The rules that are computed from lines are those that the lines hold.
+-- ---- The computed rules are those that the lines hold.
 
--- ---- what is computed comes from one of the lines
-
--- what is given by the lines whose index passes a test, where the first line has index `n`
+-- what is given by the lines whose index passes a test; the first line has index `n`
 abbrev pub given_from : {X : Type 0} → (ℕ × LineValue → Option X) → (ℕ → Bool) → ℕ → List LineValue → List X
 given_from given test n lines = filter_map given (filter (λ p. test p.0) (enumerate_from n lines))
 
--- such a line gives it
 abbrev pub Gives : {X : Type 0} → (ℕ × LineValue → Option X) → (ℕ → Bool) → ℕ → List LineValue → X → Type 0
 Gives given test n lines found =
     (k : ℕ) × (position : ℕ) × (line : LineValue) × (position ≡ n + k) × (slice_get lines k ≡ Some line)
     × (cond (test position) (given (position, line)) None ≡ Some found)
 
--- an item is in a list if it is the first one or in the rest
 cons_has : {X : Type 0} (o : Option X) (xs : List X) (x : X)
     → Contains (cons_option o xs) x ↔ ((o ≡ Some x) ⊎ Contains xs x)
 cons_has None xs x = (λ has. inr has, λ either. elim either [ inl is ↦ cc | inr has ↦ has ])
@@ -314,7 +294,6 @@ cons_has {X} (Some y) xs x = (to, from)
     from (inl is) = (0, omega arith, cc)
     from (inr (k, below, at)) = (suc k, omega arith, at)
 
--- it comes from the first line or from a later one
 module _ {X : Type 0} (given : ℕ × LineValue → Option X) (test : ℕ → Bool) (n : ℕ) (line : LineValue)
     (lines : List LineValue) (found : X)
     (later : Contains (given_from given test (n + 1) lines) found
@@ -349,10 +328,7 @@ given_come given test n (line ∷ lines) found =
       λ gives. from (back given test n line lines found later gives),
     )
 
--- ---- that line holds the rule
-
 module _ (agent : List ℕ) (lines : List LineValue) (position : ℕ) (found : PlacedRule) where
-  -- the rule has the number of this line, which holds it
   abbrev IsHeld : Type 0
   IsHeld = (found.line ≡ position + 1) × HoldsRule agent lines position found.rule
 

@@ -51,9 +51,6 @@ pub none_is : (test : ℕ → Bool) (hay : List ℕ) → Nowhere (Passes test ha
 none_is test hay none = sym (take_all (length hay) hay (omega arith))
     ∙ ap (λ n. take n hay) (sym (end_is test hay none))
 
--- ---- whether some byte passes
-
--- if no byte passes, none is found
 nowhere : (test : ℕ → Bool) (hay : List ℕ) → list_any test hay ≡ false
     → Nowhere (Passes test hay) 0 (length hay)
 nowhere test hay none k low high is = false≢true (sym none ∙ list_any_at test hay k 0 high is)
@@ -69,21 +66,18 @@ some_found test hay None none =
     (λ k d l. false_from_ne_true _ (λ is. none k (omega arith) l (rw (get_or_default hay k 0 d l) is))))
 some_found test hay (Some k) first = sym (list_any_at test hay k 0 first.0.high first.1)
 
--- if one of the first `k` bytes passes, then some byte passes
 pub front_tells : (test : ℕ → Bool) (text : List ℕ) (k : ℕ) → list_any test (take k text) ≡ true
     → list_any test text ≡ true
 front_tells test text k some =
     ap (list_any test) (sym (take-append-drop k text)) ∙ list_any-append test (take k text) (drop k text)
     ∙ ap (λ x. x || list_any test (drop k text)) some
 
--- if none of the first `k` bytes passes, the others decide
 pub skips_front : (test : ℕ → Bool) (text : List ℕ) (k : ℕ) → list_any test (take k text) ≡ false
     → list_any test (drop k text) ≡ list_any test text
 skips_front test text k none =
     ap (λ x. x || list_any test (drop k text)) (sym none)
     ∙ sym (list_any-append test (take k text) (drop k text)) ∙ ap (list_any test) (take-append-drop k text)
 
--- if none of the first `k` bytes passes, the last `k` decide, provided that both cover the text
 pub either_end : (test : ℕ → Bool) (text : List ℕ) (k : ℕ)
     → k ≤ length text → length text ≤ k + k
     → list_any test (take k text) ≡ false
@@ -100,9 +94,7 @@ either_end test text k within meet none =
     ∙ sym (list_any-append test (take n text) (drop n text))
     ∙ ap (list_any test) (take-append-drop n text)
 
--- ---- The membership of lines, as the iterator computes it and as the specification states it.
-
--- ---- the labels of the specification
+-- ---- The membership of lines, as the iterator computes it.
 
 -- `captured_ahead` is the test at the index of the next group line, or at the end if there is none
 ahead_is : (name : List ℕ) (all : List LineValue) (tracker : GroupTracker) (position : ℕ)
@@ -121,7 +113,7 @@ ahead_is name all tracker position (line ∷ lines) splits left = elim (cases_Bo
       rw (isnt, there) (rw isnt at ahead)
 ]
 
--- what is known about the next group line is still known after a line that isn't one
+-- what is known about the next group line stays known after a line that isn't one
 pub known_next : (name : List ℕ) (tracker : GroupTracker) (line : LineValue) (lines rest : List LineValue)
     (known : Bool)
     → lines ≡ line ∷ rest → captured_ahead name tracker lines ≡ known
@@ -132,7 +124,6 @@ known_next name tracker line lines rest known next is = elim (cases_Bool (is_gro
   | inr other ↦ rw other (rw (next, other) at is)
 ]
 
--- whether a user-agent line is before the next index
 begun_next : (all : List LineValue) (position : ℕ) (line : LineValue) → slice_get all position ≡ Some line
     → list_any is_agent (take (position + 1) all) ≡ (list_any is_agent (take position all) || is_agent line)
 begun_next all position line at =
@@ -155,8 +146,6 @@ labels_left name all tracker position (line ∷ lines) splits left =
 pub labels_are : (name : List ℕ) (lines : List LineValue)
     → labels_of name lines ≡ labels_from name (start_of lines) false 0 lines
 labels_are name lines = labels_left name lines (start_of lines) 0 lines (occurs_first name lines) refl
-
--- ---- the rules of the crawler's own lines
 
 own_if : (number : ℕ) (captured begun : Bool) (found : Option Rule)
     → cond captured (placed number found) None
@@ -188,8 +177,6 @@ own_rules agent lines =
 
 -- ---- Each line has the membership that the specification states by indices of lines.
 
--- ---- tests of indices
-
 not_both : (lines : List LineValue) (k : ℕ) → passes_at is_agent lines k ≡ true
     → ¬ (passes_at is_group lines k ≡ true)
 not_both [] k agent group = cc
@@ -204,12 +191,9 @@ named_agent name (UserAgent value ∷ lines) zero h = refl
 named_agent name (line ∷ lines) zero h = h
 named_agent name (line ∷ lines) (suc k) h = named_agent name lines k h
 
--- decides a conjunction whose second test only decides if the first proposition holds
 and_given : {P Q : Type 0} (x y : Bool) → Decides x P → (P → Decides y Q) → Decides (x && y) (P × Q)
 and_given true y first second = (λ h. (first.0 refl, (second (first.0 refl)).0 h), λ (p, q). (second p).1 q)
 and_given false y first second = (λ h. cc, λ (p, q). first.1 p)
-
--- ---- the next rule or delay
 
 pub record IsNext (lines : List LineValue) (position next : ℕ) : Type 0 where
   pub from : position ≤ next
@@ -237,8 +221,6 @@ is_next lines position = record {
     at : (k : ℕ) → k < length lines
         → passes_at is_group lines k ≡ is_group (slice_index_or lines k (Raw []))
     at k less = rw (slice_get-get_or lines k (Raw []) less) refl
-
--- ---- user-agent lines
 
 module _ (name : List ℕ) (lines : List LineValue) (position next : ℕ) (is : IsNext lines position next) where
   abbrev NamedInRun : Type 0
@@ -311,15 +293,13 @@ module _ (name : List ℕ) (lines : List LineValue) (position next : ℕ) (is : 
     | inr more ↦ let from = is.from in omega arith
   ]
 
--- ---- the membership of a line
-
 module _ (name : List ℕ) (lines : List LineValue) (position : ℕ) (line : LineValue)
     (at : slice_get lines position ≡ Some line) where
   abbrev next : ℕ
   next = next_group lines position
 
-  -- a rule or delay is in the crawler's own group if it is captured, and a user-agent line is if the next
-  -- rule or delay is captured, or one at the end of the file would be
+  -- a user-agent line is in the crawler's own group if the next rule or delay is captured, or one at the end
+  -- of the file would be
   own_decides : Decides ((is_agent line || is_group line) && is_captured name lines next)
       (IsInOwnGroup name lines position)
   own_decides =
@@ -340,7 +320,6 @@ module _ (name : List ℕ) (lines : List LineValue) (position : ℕ) (line : Lin
       Decides-like _ (run_named name lines position next is agent)
       (named_captures name lines position next is agent) captured))))
 
-  -- a group line is in a group exactly if a user-agent line is before it
   in_group_decides : Decides ((is_agent line || is_group line) && list_any is_agent
       (take (position + 1) lines))
       (IsInGroup lines position)
@@ -352,7 +331,6 @@ module _ (name : List ℕ) (lines : List LineValue) (position : ℕ) (line : Lin
       (λ (group, j, less, agent). (group, (j, less, agent)))
       (Decides-and _ _ (itself (passes_at is_group lines position)) (taken_decides is_agent lines position))))
 
-  -- a line's membership, by the tests of its own group and of all groups
   occurs_by : (own some : Bool) → Decides own (IsInOwnGroup name lines position)
       → Decides some (IsInGroup lines position)
       → HasMembership name lines position (cond own Own (cond some Other Ungrouped))
@@ -369,7 +347,6 @@ module _ (name : List ℕ) (lines : List LineValue) (position : ℕ) (line : Lin
   only_by own some Ungrouped is begun (isnt, none) =
       rw (false_from_ne_true own (λ h. isnt (is.0 h)), false_from_ne_true some (λ h. none (begun.0 h))) refl
 
-  -- these tests are those of `membership_of`
   by_tests : (kind captured begun : Bool)
       → cond (not kind) Ungrouped (cond captured Own (cond begun Other Ungrouped))
       ≡ cond (kind && captured) Own (cond (kind && begun) Other Ungrouped)
@@ -383,8 +360,6 @@ module _ (name : List ℕ) (lines : List LineValue) (position : ℕ) (line : Lin
       → membership ≡ membership_of name lines (position, line)
   occurs_only membership splits =
       only_by _ _ membership own_decides in_group_decides splits ∙ sym (by_tests _ _ _)
-
--- ---- the labels of all lines
 
 abbrev IsLabelAt : List ℕ → List LineValue → ℕ → Label → Type 0
 IsLabelAt name lines position label = (label.number ≡ position + 1)

@@ -31,8 +31,6 @@ first_labeled f width v lanes fits long lanes_are =
     ∙ first_set_mask_l test v width long (omega arith)
 
 module _ (test : ℕ → Bool) (text : List ℕ) where
-  -- searching only the first `k` bytes: either one of them is the first that passes, or the search goes on
-  -- after them
   pub first_seen : (k : ℕ) → k ≤ length text
       → (let here = position_or_len test (take k text) in
       (here < k → position_or_len test text ≡ here)
@@ -50,8 +48,7 @@ module _ (test : ℕ → Bool) (text : List ℕ) where
         λ all. seen ∙ cond-true _ _ _ (eq-eqb here k (omega arith)),
       )
 
-  -- if none of the first `k` bytes passes, the first that does is among the last `k`, provided that both
-  -- cover the text
+  -- the last `k` bytes, if the first and the last `k` cover the text
   pub last_seen : (k : ℕ) → k ≤ length text → length text ≤ k + k
       → k ≤ position_or_len test (take k text)
       → (let n = length text - k in
@@ -74,13 +71,11 @@ module _ (test : ℕ → Bool) (text : List ℕ) where
       let most = prefix_len-le-length (λ b. not (test b)) (take k text) in
       omega (arith, length-take k text)
 
-  -- the result of `memchr`
   pub found_or_end : (found : Option ℕ) → IsFirstByte test text found
       → unwrap_or found (length text) ≡ position_or_len test text
   found_or_end None none = sym (end_is test text none)
   found_or_end (Some k) first = sym (position_is test text k first.0 first.1)
 
--- if the first `k` bytes pass, the rest determines the length of the leading bytes that pass
 pub all_seen : (test : ℕ → Bool) (k : ℕ) (text : List ℕ) → k ≤ length text
     → list_all test (take k text) ≡ true → prefix_len test text ≡ k + prefix_len test (drop k text)
 all_seen test zero text within all = omega arith
@@ -89,8 +84,6 @@ all_seen test (suc k) (b ∷ text) within all = elim (cases_Bool (test b)) [
   | inl is ↦ rw is (omega (arith, all_seen test k text (omega (arith, within)) (rw is at all)))
   | inr other ↦ let wrong = rw other at all in cc
 ]
-
--- ---- the lanes with a star or a dollar
 
 abbrev flag : ℕ → ℕ
 flag b = bit_or (cond (b == star) 255 0) (cond (b == dollar) 255 0)
@@ -111,9 +104,6 @@ pub first_wildcard_lane : (width : ℕ) (v lanes : List ℕ) → width ≤ 64 �
 first_wildcard_lane width v lanes fits long lanes_are = first_labeled flag width v lanes fits long lanes_are
     ∙ ap (λ test. position_or_len test v) (fun_ext label_is)
 
--- ---- the lanes with an escaped byte
-
--- some lane is flagged exactly if some byte passes
 pub any_flagged : (f : ℕ → ℕ) (v lanes : List ℕ) → length v ≤ 64 → lanes ≡ map f v
     → not (mask_l (map (top 7) lanes) % 2 ^ 64 == 0) ≡ list_any (λ b. top 7 (f b)) v
 any_flagged f v lanes fits lanes_are =

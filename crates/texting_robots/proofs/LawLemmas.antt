@@ -17,8 +17,6 @@ use Rattle.texting_robots.proofs.CapturedLemmas.{at_front, cond_same, delays_are
 use Rattle.texting_robots.proofs.CapturedLemmas.{is_captured_decides, rules_are, occurs_first, occurs_next}
 use Rattle.texting_robots.proofs.RulesLemmas.{before_agent, before_agents}
 
--- ---- lists of lines with the same effect
-
 along : {X : Type 0} (P : X → Type 0) (x y : X) → x ≡ y → P x ↔ P y
 along P x y e = (subst P e, subst P (sym e))
 
@@ -73,8 +71,6 @@ same_alike agent lines others are = same_from agent lines agent others
         ap (λ b. let tracker : GroupTracker = record { captured = not b; named = false } in tracker)
         are.agents in
         same ∙ rw (name, start) refl
-
--- ---- lines that are left out
 
 pub record IsNeutral (line : LineValue) : Type 0 where
   pub agent : is_agent line ≡ false
@@ -187,13 +183,9 @@ pub sitemaps_change_nothing_else : (agent : List ℕ) (lines others : List LineV
     → SameButSitemaps agent lines agent others
 sitemaps_change_nothing_else = same_kept (λ line. not (is_sitemap line)) sitemap_neutral
 
--- ---- crawlers' names in another case
-
 pub agent_case : (agent other : List ℕ) (lines : List LineValue)
     → str_to_ascii_lowercase agent ≡ str_to_ascii_lowercase other → Same agent lines other lines
 agent_case agent other lines same = (same_from agent lines other lines (rw same refl) (rw same refl), refl)
-
--- ---- another value in a line that isn't captured
 
 record IsAlike (line other : LineValue) : Type 0 where
   agent : is_agent line ≡ is_agent other
@@ -209,7 +201,6 @@ same_kind (Disallow value) (Disallow other) same =
     record { agent = refl; named = λ name. refl; group = refl; delay = refl; sitemap = refl }
 same_kind line other differ = absurd differ
 
--- the state after these lines
 abbrev walked : List ℕ → GroupTracker → List LineValue → GroupTracker
 walked name tracker [] = tracker
 walked name tracker (line ∷ lines) = walked name (step name tracker line) lines
@@ -225,7 +216,6 @@ occurs_walked name all tracker position (line ∷ front) back splits left =
     let sum : position + suc (length front) ≡ (position + 1) + length front = omega arith in
     rw sum (occurs_walked name all (step name tracker line) (position + 1) front back here next)
 
--- lines that give the same after these lines also give the same together with them
 captured_after : {X : Type 0} (given : LineValue → Option X) (name : List ℕ) (tracker : GroupTracker)
     (front back others : List LineValue)
     → given_captured given name (walked name tracker front) back

@@ -18,8 +18,6 @@ use Rattle.texting_robots.proofs.CutLemmas.{is_cut, only_cut}
 use Rattle.texting_robots.proofs.StatementLemmas.{statement_found, found_statement, unstated}
 use Rattle.texting_robots.specs.declared.parser.statement.Kind.TheVariants as kind
 
--- ---- from line content to a line
-
 pub line_stated : (body : List ℕ) (kind : Kind) (value : List ℕ)
     → statement_of body ≡ Some (kind, value) → line_of body ≡ line_with kind value body
 unfolding line_of
@@ -98,8 +96,6 @@ each_text_has_its_lines text lines = (
   λ same. subst (λ all. AreLinesOf all text) (sym same) (parsed_are_lines text),
 )
 
--- ---- the line contents of a file
-
 pub file_bodies_are : (text : List ℕ) (bodies : List (List ℕ)) → bodies ≡ file_bodies text
     → AreFileBodiesOf bodies text
 file_bodies_are text bodies same =
@@ -109,8 +105,6 @@ pub lines_of_file_bodies : (text : List ℕ) (bodies : List (List ℕ)) → bodi
     → AllZip IsLineOf (file_lines text) bodies
 lines_of_file_bodies text bodies same =
     subst (AllZip IsLineOf (file_lines text)) (sym same) (are_lines (file_bodies text))
-
--- ---- a line that is parsed by its directive
 
 module _ (body text : List ℕ) (is : text ≡ skip_blanks body) where
   pub line_without_kind : kind_by text ≡ None → line_of body ≡ Raw body
@@ -181,8 +175,6 @@ sitemap_or_other found (Sitemap value) (inl same) = inl (sym same)
 sitemap_or_other found (Sitemap value) (inr none) = cc
 sitemap_or_other found _ is = inr refl
 
--- ---- ranges
-
 range_of_range : (part middle whole : List ℕ) → IsRangeOf part middle → IsRangeOf middle whole
     → IsRangeOf part whole
 range_of_range part middle whole (before, after, is) (first, last, all) =
@@ -232,7 +224,6 @@ taken_off byte (b ∷ text) = elim (cases_Bool (b == byte)) [
   | inr isnt ↦ ([], sym (cond-false _ _ _ isnt))
 ]
 
--- a byte other than NUL and LF is read unchanged, and no other byte is read as that byte
 read_other : (byte b : ℕ) → byte ≢ 0 → byte ≢ lf → (nul_as_lf b == byte) ≡ (b == byte)
 read_other byte b some other = elim (eqb_tells b 0) [
   | inl (is, same) ↦ rw is (ne_eqb lf byte (λ s. other (sym s))
@@ -248,7 +239,6 @@ without_read byte (b ∷ text) some other = elim (cases_Bool (b == byte)) [
   | inr isnt ↦ rw (isnt, read_other byte b some other, isnt) refl
 ]
 
--- dropping the byte order mark gives the same before and after NUL is read as LF
 pub front_read : (text : List ℕ) → map nul_as_lf (without_front text) ≡ without_front (map nul_as_lf text)
 front_read text =
     let one = without 0xEF text in

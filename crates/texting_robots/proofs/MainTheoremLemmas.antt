@@ -28,14 +28,11 @@ use Rattle.texting_robots.proofs.VerdictLemmas.{after_first, same_elements, long
 use Rattle.texting_robots.proofs.VerdictLemmas.{same_verdicts}
 use Rattle.texting_robots.specs.Decision.{IsDecidingLine, IsDecidingRule, LooksForRules, as_long_as}
 
--- ---- The rules that lines hold are those that `placed_rules` computes, in any order.
-
--- ---- lists in which no line occurs twice
+-- ---- The rules that lines hold are the computed ones, in any order.
 
 abbrev pub AreApart : List PlacedRule → Type 0
 AreApart rules = AllPairs (λ (one other : PlacedRule). one.line ≢ other.line) rules
 
--- rules with the same line are at the same index
 one_position : (rules : List PlacedRule) → AreApart rules → (i j : ℕ) (d : PlacedRule) → i < length rules
     → j < length rules → (get_or rules i d).line ≡ (get_or rules j d).line → i ≡ j
 one_position rules apart i j d p q same =
@@ -81,7 +78,6 @@ apart_first : (first : PlacedRule) (rules : List PlacedRule) → AreApart (first
 apart_first first rules apart (k, below, at) =
     apart 0 (suc k) first (omega arith) (omega arith) (ap (λ (placed : PlacedRule). placed.line) (sym at))
 
--- the rule is listed, and isn't the first
 abbrev IsOther : PlacedRule → List PlacedRule → PlacedRule → Type 0
 IsOther first rules placed = Contains rules placed × ¬ ◌≡◌ {A = PlacedRule} first placed
 
@@ -95,7 +91,6 @@ following first rules apart placed = (
   λ (has, other). after_first first rules placed other has,
 )
 
--- lists with the same members, each once, are permutations of each other
 pub same_members : (rules others : List PlacedRule) → AreApart rules → AreApart others
     → ((placed : PlacedRule) → Contains rules placed ↔ Contains others placed)
     → IsPermutation rules others
@@ -119,9 +114,6 @@ same_members (first ∷ rules) others one two same =
     )) in
     IsPermutation-trans _ _ _ (IsPermutation-cons first _ _ rest) (IsPermutation-sym _ _ moved)
 
--- ---- each list of lines has its rules
-
--- the line number of a rule is the index of its line plus one
 given_number : (passes : Bool) (position : ℕ) (line : LineValue) (found : PlacedRule)
     → cond passes (placed_in (position, line)) None ≡ Some found → found.line ≡ position + 1
 given_number passes position line found is = at (rule_in line) ((cond_given passes _ found).0 is).1
@@ -130,7 +122,6 @@ given_number passes position line found is = at (rule_in line) ((cond_given pass
     at None is = cc
     at (Some rule) is = cc
 
--- adding a rule whose line differs from those of the others
 apart_with : (first : Option PlacedRule) (rules : List PlacedRule)
     → ((found : PlacedRule) → first ≡ Some found
     → All (λ (other : PlacedRule). found.line ≢ other.line) rules)
@@ -140,7 +131,6 @@ apart_with (Some found) rules differs apart =
     AllPairs-cons (λ (one other : PlacedRule). one.line ≢ other.line) found rules
     (differs found refl) apart
 
--- each line gives at most one rule
 rules_apart : (test : ℕ → Bool) (n : ℕ) (lines : List LineValue)
     → AreApart (given_from placed_in test n lines)
 rules_apart test n [] = λ i j d less within. absurd (omega arith)
@@ -177,7 +167,6 @@ permuted_are agent lines rules others moved are = record {
   once = apart_permuted rules others moved are.once;
 }
 
--- the rules that the lines hold are the computed ones, in any order
 pub rules_are_computed : (agent : List ℕ) (lines : List LineValue) (rules : List PlacedRule)
     → AreRulesFor agent lines rules ↔ IsPermutation (placed_rules agent lines) rules
 rules_are_computed agent lines rules = (
@@ -185,7 +174,6 @@ rules_are_computed agent lines rules = (
   λ moved. permuted_are agent lines _ rules moved (computed_are agent lines),
 )
 
--- a file is rejected exactly if one of the computed rules is too long
 pub rejection_is_computed : (agent : List ℕ) (lines : List LineValue)
     → IsRejected agent lines ↔ Any (λ (rule : Rule). IsOverlong rule.0) (rules_for agent lines)
 rejection_is_computed agent lines = (
@@ -200,9 +188,7 @@ rejection_is_computed agent lines = (
       (position, found.rule, holds, subst (λ (r : Rule). IsOverlong r.0) (sym same) overlong),
 )
 
--- ---- What follows from the rules that lines hold, in whatever order they are listed.
-
--- ---- in any order
+-- ---- What follows from the rules that lines hold.
 
 looks_permuted : (rules others : List PlacedRule) (old new : ViewValue) → IsPermutation rules others
     → LooksForRules rules old new → LooksForRules others old new
@@ -235,25 +221,21 @@ pub answer_alike : (agent : List ℕ) (lines : List LineValue) (rules others : L
 answer_alike agent lines rules others are have =
     permuted_alike rules others (one_list agent lines rules others are have)
 
--- these rules decide as the computed rules do
 pub answers_computed : (agent : List ℕ) (lines : List LineValue) (rules : List PlacedRule)
     → AreRulesFor agent lines rules → AnswerAlike rules (placed_rules agent lines)
 answers_computed agent lines rules are =
     answer_alike agent lines rules (placed_rules agent lines) are (computed_are agent lines)
 
--- ---- the robot of a file
-
 pub lines_are_read : (file : List ℕ) → AreFileLinesOf (lines_read file) (take file_limit file)
 lines_are_read file = (each_text_has_its_lines (map nul_as_lf (take file_limit file)) _).1 refl
 
--- a property of the lines that a file has holds for these lines, since they are unique
+-- the lines of a file are unique, so a property of them holds for these
 pub of_lines : (file : List ℕ) (P : List LineValue → Type 0) → HasLines file P
     → (lines : List LineValue) → AreFileLinesOf lines file → P lines
 of_lines file P (all, have, is) lines are =
     let each = each_text_has_its_lines (map nul_as_lf file) in
     subst P ((each all).0 have ∙ sym ((each lines).0 are)) is
 
--- the robot is that of the computed lines
 pub read_robot : (agent file : List ℕ) (robot : RobotValue)
     → IsRobotOfFile agent (take file_limit file) robot
     → IsRobotOf agent (lines_read file) robot
@@ -284,7 +266,6 @@ robot_of agent file robot is =
       accepted = λ rejected. is.accepted ((rejection_is_computed agent lines).0 rejected);
     })
 
--- a file that gives a robot isn't rejected
 pub not_rejected : (agent file : List ℕ) (robot : RobotValue) → IsRobotOfFile agent file robot
     → ¬ IsFileRejected agent file
 not_rejected agent file robot (lines, are, is) rejected =
@@ -296,7 +277,6 @@ rejected_of agent file number is =
     has_lines file (IsRejected agent)
     ((rejection_is_computed agent (file_lines file)).1 (some_overlong _ number is))
 
--- if a file gives a crawler no rule, none is computed for it
 pub no_rules_of : (agent file : List ℕ) → HasLines file (λ lines. AreRulesFor agent lines [])
     → placed_rules agent (file_lines file) ≡ []
 no_rules_of agent file (lines, are, rules) =
@@ -304,20 +284,16 @@ no_rules_of agent file (lines, are, rules) =
     let none = nil_from_length (placed_rules agent lines) (sym (length_permutation _ _ moved)) in
     rw ((each_text_has_its_lines (map nul_as_lf file) lines).0 are) at none
 
--- a property of a file's sitemaps determines them
 pub sitemaps_of : (file : List ℕ) (sitemaps : List (List ℕ))
     → HasLines file (λ lines. AreSitemapsOf lines sitemaps) → sitemaps ≡ sitemaps_in (file_lines file)
 sitemaps_of file sitemaps (lines, are, is) =
     rw ((each_text_has_its_lines (map nul_as_lf file) lines).0 are) at
     ((sitemaps_are_computed lines sitemaps).0 is)
 
--- if a file gives a crawler nothing, no rule and no sitemap is computed for it
 pub nothing_of : (agent file : List ℕ) → HasLines file (HasNoRulesOrSitemaps agent)
     → (placed_rules agent (file_lines file) ≡ []) × (sitemaps_in (file_lines file) ≡ [])
 nothing_of agent file (lines, are, (rules, sitemaps)) =
     (no_rules_of agent file (lines, are, rules), sym (sitemaps_of file [] (lines, are, sitemaps)))
-
--- ---- a result
 
 no_looks : (view : ViewValue) (n : ℕ) → LooksAtMost view view n
 no_looks view n = record { text = refl; looks = omega arith; cost = omega arith }
@@ -349,8 +325,6 @@ unanswered agent file lines rules view (Err x) e are same rejected = record {
   };
 }
 
--- ---- the deciding line and the verdict
-
 pub deciding_line_holds_its_rule : (agent : List ℕ) (lines : List LineValue) (rules : List PlacedRule)
     (text : List ℕ) (number : ℕ) → AreRulesFor agent lines rules
     → IsDecidingLine rules text (Some number)
@@ -360,7 +334,6 @@ deciding_line_holds_its_rule agent lines rules text number are (differs, found, 
     let (position, is, holds) = (are.held found).0 decides.listed in
     (found, decides, at, position, sym at ∙ is, holds)
 
--- all rules that a line holds are of the same kind
 one_kind : (agent : List ℕ) (lines : List LineValue) (position : ℕ) (rule other : Rule)
     → HoldsRule agent lines position rule → HoldsRule agent lines position other → rule.1 ≡ other.1
 one_kind agent lines position rule other one two = kinds rule.1 other.1 (sym one.line.0 ∙ two.line.0)

@@ -31,7 +31,7 @@ use Rattle.texting_robots.specs.AllocationFree.{EndsSite, IsAuthority, IsName, I
 use Rattle.texting_robots.specs.Internal.Normalized.{IsOther, Leaves, EndsPath, after, begins_dotted, is_kept}
 use Rattle.texting_robots.specs.Internal.Normalized.{begins_plainly, kept_prefix, past_path, past_segment}
 
--- ---- The byte set in `escape.rt` escapes exactly the bytes that the specification escapes.
+-- ---- The byte set in `escape.rt` escapes the bytes that the specification escapes.
 
 same_ascii : (b : ℕ) → b < 128 → should_percent_encode ESCAPED b ≡ is_escaped b
 unfolding should_percent_encode
@@ -53,7 +53,6 @@ unfolding percent_encode
 same_escape [] = refl
 same_escape (b ∷ bytes) = rw (same_byte b) (ap (λ rest. escape_byte b ++ rest) (same_escape bytes))
 
--- if no byte is escaped, escaping changes nothing
 pub plain_stays : (bytes : List ℕ) → list_any is_escaped bytes ≡ false
     → escaped bytes ≡ bytes
 plain_stays [] plain = refl
@@ -62,7 +61,6 @@ plain_stays (b ∷ bytes) plain = elim (cases_Bool (is_escaped b)) [
   | inr stays ↦ rw (stays, plain_stays bytes (rw stays at plain)) refl
 ]
 
--- a byte that isn't escaped is ASCII
 plain_low : (b : ℕ) → is_escaped b ≡ false → b < 128
 plain_low b stays = elim (cases_lt b 128) [
   | inl low ↦ low
@@ -77,19 +75,15 @@ plain_ascii (b ∷ bytes) plain = elim (cases_Bool (is_escaped b)) [
   | inr stays ↦ IsAscii-cons b bytes (plain_low b stays) (plain_ascii bytes (rw stays at plain))
 ]
 
--- ---- Reading an absolute URL that `url` would leave unchanged, part by part from its start.
-
--- ---- bytes that are kept
+-- ---- Reading an absolute URL that `url` would leave unchanged, part by part.
 
 none_past : (part : List ℕ) (b : ℕ) → 256 ≤ b → is_kept part b ≡ false
 unfolding is_kept
 none_past part b high = rw (get_or_past UPPER.now (b / 16) 0 (omega arith), and_zero_r) refl
 
--- the bytes that a set keeps, except for some
 abbrev pub kept_but : AsciiSet → (ℕ → Bool) → ℕ → Bool
 kept_but set other b = not (should_percent_encode set b) && not (other b)
 
--- a part of a URL consists of such bytes
 module _ (part : List ℕ) (set : AsciiSet) (other : ℕ → Bool)
     (same : agree_below (is_kept part) (kept_but set other) 256 ≡ true) where
   same_at : (b : ℕ) → is_kept part b ≡ kept_but set other b
@@ -110,10 +104,7 @@ module _ (part : List ℕ) (set : AsciiSet) (other : ℕ → Bool)
       → All (Passes (is_kept part)) xs
   occurs_all xs kept none k d inside = rw (same_at (get_or xs k d), kept k d inside, none k d inside) refl
 
--- ---- the leading bytes
-
--- the leading bytes that are kept, in terms of the first `n`: if all these are kept, the following ones count
--- too
+-- the leading bytes that are kept, from the first `n`: if all these are kept, the following ones count too
 module _ (part : List ℕ) (n len : ℕ) (text : List ℕ) (inside : n ≤ length text)
     (front : len ≡ prefix_len (is_kept part) (take n text)) where
   by_front : prefix_len (is_kept part) text
@@ -143,9 +134,7 @@ module _ (part xs ys : List ℕ) (passes : All (Passes (is_kept part)) xs)
   pub after_at : after part (xs ++ ys) ≡ ys
   after_at = drop_at xs ys _ (sym (prefix_len_at (is_kept part) xs ys passes stops))
 
--- ---- the path
-
--- from within a segment: first skip to the end of the segment
+-- from within a segment: first skip to its end
 past_rest : (text : List ℕ) → past_segment text ≡ past_path (after SEGMENT.now text)
 unfolding past_segment is_kept
 past_rest [] = refl
@@ -157,7 +146,6 @@ past_rest (b ∷ text) = elim (cases_eq b 47) [
   ]
 ]
 
--- a first segment that isn't a dot segment is skipped
 pub past_more : (text : List ℕ) → get_or text 0 0 ≡ 47
     → dot_count (kept_prefix SEGMENT.now (drop 1 text)) ≡ 0
     → past_path text ≡ past_path (after SEGMENT.now (drop 1 text))
@@ -171,7 +159,6 @@ unfolding past_segment
 past_dots [] slash dots = absurd (omega arith)
 past_dots (b ∷ text) slash dots = rw (slash, ne_eqb _ 0 dots) refl
 
--- a slash ends a segment
 pub after_slash : (text : List ℕ) → get_or text 0 0 ≡ 47 → after SEGMENT.now text ≡ text
 unfolding is_kept
 after_slash [] slash = refl
@@ -186,7 +173,6 @@ two_dots [] one two slash = absurd (omega arith)
 two_dots (a ∷ []) one two slash = absurd (omega arith)
 two_dots (a ∷ b ∷ []) one two slash = absurd (omega arith)
 
--- a path followed by what is skipped is a path
 pub path_read : (n : ℕ) (path text rest : List ℕ) → IsPath path → length text ≤ n
     → past_path text ≡ Some rest → Leaves IsPath (path ++ text) rest
 unfolding is_kept should_percent_encode
@@ -226,7 +212,6 @@ pub not_ended : (text : List ℕ) → get_or text 0 0 ≡ 47 → ¬ (EndsPath te
 not_ended [] e ends = omega arith
 not_ended (b ∷ text) e ends = ⊎_elim (λ delimiter. omega arith) (λ delimiter. omega arith) ends
 
--- a path is skipped completely
 pub path_left : (text rest : List ℕ) → EndsPath rest → Leaves IsPath text rest
     → past_path text ≡ Some rest
 unfolding is_kept should_percent_encode
@@ -247,8 +232,6 @@ path_left text rest ends (path, assembled, is_path) =
         ∙ ap past_path (after_at SEGMENT.now s later passes stops)
         ∙ by segments (All-tail (IsSegment SpecialNotFile) s segments each)
 
--- ---- segments that don't begin with a dot or a percent escape
-
 abbrev is_open : ℕ → Bool
 is_open b = not (b == 46 || b == 37) && (b == 47 || is_kept SEGMENT.now b)
 
@@ -268,7 +251,6 @@ undotted (b ∷ text) plain = elim (cases_Bool (is_kept SEGMENT.now b)) [
   | inr outside ↦ rw outside refl
 ]
 
--- skipping a slash or a byte of a segment, if what follows doesn't begin with a dot or a percent escape
 past_one : (b : ℕ) (text : List ℕ) → (b == 47 || is_kept SEGMENT.now b) ≡ true
     → begins_dotted text ≡ false → past_segment (b ∷ text) ≡ past_segment text
 unfolding past_segment
@@ -279,7 +261,6 @@ past_one b text within plain = elim (cases_eq b 47) [
       rw (ne_eqb b 47 other, inside) refl
 ]
 
--- skipping open bytes: up to the last one, and beyond it
 past_open : (n b : ℕ) (text : List ℕ) → n ≤ prefix_len (is_kept OPEN.now) text
     → (b == 47 || is_kept SEGMENT.now b) ≡ true
     → (past_segment (b ∷ text) ≡ past_segment (drop n (b ∷ text)))
@@ -293,7 +274,6 @@ past_open (suc n) b (c ∷ text) few within =
     let more = past_open n c text (omega (arith, rw stand at few)) next in
     (step ∙ more.0, λ last. step ∙ more.1 last)
 
--- a byte that isn't open, and is neither a dot nor a percent sign, isn't part of a path
 closed : (text : List ℕ) → StopsAt (is_kept OPEN.now) text → begins_dotted text ≡ false
     → after SEGMENT.now text ≡ text
 closed [] stops plain = refl
@@ -322,9 +302,6 @@ plain_end (b ∷ text) plain rest slash front back =
           ∙ past_rest rest ∙ ap past_path (closed rest stops plain),
     )
 
--- ---- the port
-
--- what follows a site begins neither with a byte of a host nor with a digit
 ends_stops : (rest : List ℕ) → EndsSite rest
     → StopsAt (is_kept NAME.now) rest × StopsAt (is_kept NUMBER.now) rest
 unfolding is_kept
@@ -338,7 +315,6 @@ number_occurs b digit =
     (omega arith) in
     rw (le-ltb b 48 (omega arith)) at test
 
--- digits without a plus sign or a superfluous zero at the start are the decimal form of their number
 pub decimal_read : (digits : List ℕ) (port : ℕ) → begins_plainly digits ≡ true
     → (IsNumeral 10 (without_leading_plus digits)
     × (digits_value 10 (without_leading_plus digits) < 2 ^ 16))
@@ -356,7 +332,6 @@ decimal_plain zero small = rw (decimal_digit 0 (omega arith)) refl
 decimal_plain (suc n) small =
     let first = first_decimal (suc n) (omega arith) (omega arith) in grind (arith, nat_tests)
 
--- a port in decimal form is read as such
 pub port_left : (own : ℕ) (text rest : List ℕ) → get_or text 0 0 ≡ 58 → EndsSite rest
     → Leaves (IsPort own) text rest
     → IsOther own (kept_prefix NUMBER.now (drop 1 text)) × (after NUMBER.now (drop 1 text) ≡ rest)
@@ -387,8 +362,6 @@ port_read own (b ∷ following) colon (port, digits, small, other) = (
       ∙ ap (λ t. t ++ after NUMBER.now following) digits),
   (Some port, refl, (small, other)),
 )
-
--- ---- the host and the port
 
 pub authority_read : (own : ℕ) (text rest : List ℕ)
     → is_ascii_lowercase (slice_index (rsplit_once 46 (kept_prefix NAME.now text)).1 0) ≡ true

@@ -13,20 +13,14 @@ use Rattle.texting_robots.specs.Internal.Robot.{IsRejectionOf, rejection_at}
 use Rattle.texting_robots.proofs.{BestLemmas.placed_of}
 use Rattle.texting_robots.specs.declared.error.Error.TheVariants as mine
 
--- ---- what lines give
-
 pub no_sitemap : (line : LineValue) → is_sitemap line ≡ false → sitemap_in line ≡ None
 no_sitemap (Sitemap value) isnt = cc
 no_sitemap _ isnt = refl
 
--- an error for one cause is also an error for a weaker one
 pub rejected_wider : (P Q : Type 0) (e : Error) → (P → Q) → IsMemoryErrorOr P e → IsMemoryErrorOr Q e
 rejected_wider P Q mine.InvalidRule wider is = wider is
 rejected_wider P Q other wider is = is
 
--- ---- the first pass
-
--- the lines before the first user-agent line, one by one
 abbrev pub before_agent : List LineValue → List LineValue
 before_agent [] = []
 before_agent (line ∷ lines) = cond (is_agent line) [] (line ∷ before_agent lines)
@@ -49,13 +43,11 @@ pub last_more : {X : Type 0} (last o : Option X) (xs : List X)
 last_more last None xs = refl
 last_more last (Some x) xs = refl
 
--- ---- the second pass
-
 cons_is : {X : Type 0} (o : Option X) (xs : List X) → cons_option o xs ≡ option_to_list o ++ xs
 cons_is None xs = refl
 cons_is (Some x) xs = refl
 
--- loop step: the result of one more item was appended to the earlier results, and the later ones give `xs`
+-- loop step: the result of one more item was appended, and the later ones give `xs`
 pub given_more : {X : Type 0} (o : Option X) (xs old new : List X) → new ≡ old ++ option_to_list o
     → new ++ xs ≡ old ++ cons_option o xs
 given_more o xs old new added = rw (added, append_assoc, cons_is o xs) refl
@@ -67,7 +59,6 @@ first_more None None new xs added = rw added refl
 first_more (Some x) None new xs added = rw added refl
 first_more o (Some z) new xs added = rw added refl
 
--- if all items together give nothing, then each of them gives nothing
 pub given_none : {X : Type 0} (o : Option X) (xs old : List X) → old ++ cons_option o xs ≡ []
     → o ≡ None
 given_none None xs old none = refl
@@ -82,8 +73,6 @@ all_added P old new (Some x) added here before = rw added (All-push P old x befo
 pub option_or_none : {X : Type 0} (o : Option X) → option_or o None ≡ o
 option_or_none None = refl
 option_or_none (Some x) = refl
-
--- ---- rules without their lines
 
 pub any_unplaced : (P : Rule → Type 0) (rules : List PlacedRule) → Any (λ placed. P placed.rule) rules
     → Any P (unplaced rules)
@@ -104,9 +93,7 @@ none_unplaced P rules none (k, rule, below, at, is) =
     let (placed, (n, less, here), same) = placed_of rules rule (k, below, at) in
     none n placed less (subst P (sym (rw here same)) is)
 
--- ---- the rule for which a file is rejected
-
--- the rules collected so far aren't too long, and that of this captured line is
+-- the rule of this captured line is the first that is too long
 pub first_overlong : (number : ℕ) (captured : Bool) (rule : Option Rule) (taken left all : List PlacedRule)
     → taken ++ cons_option (cond captured (placed number rule) None) left ≡ all
     → All (λ (other : PlacedRule). ¬ IsOverlong other.rule.0) taken
@@ -135,7 +122,6 @@ some_overlong rules number is =
       is.overlong,
     )
 
--- the rejection that an error at a line leads to
 pub rejected_at : (number : ℕ) (captured : Bool) (rule : Option Rule) (taken left all : List PlacedRule)
     → (e : Error) → taken ++ cons_option (cond captured (placed number rule) None) left ≡ all
     → All (λ (other : PlacedRule). ¬ IsOverlong other.rule.0) taken

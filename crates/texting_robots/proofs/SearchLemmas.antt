@@ -19,7 +19,6 @@ use Rattle.texting_robots.proofs.SegmentLemmas.{end_matches, in_front, plain_sta
 
 -- ---- What is in shared vectors stays there when more is added.
 
--- the range of the items that were added
 pub record IsNew {X : Type 0} (old new : List X) (span : Span) : Type 0 where
   pub start : span.start ≡ length old
   pub end : span.end ≡ length new
@@ -48,7 +47,6 @@ module _ {X : Type 0} (xs more : List X) (span : Span) where
       let sizes = length-append xs more in
       record { ordered = omega arith; within = omega arith }
 
--- what follows the old items is what was added
 pub after_old : {X : Type 0} (xs more : List X) (start : ℕ) → start ≡ length xs
     → slice_range (xs ++ more) start (length (xs ++ more)) ≡ more
 after_old xs more start is =
@@ -100,7 +98,6 @@ module _ (text more_text : List ℕ) (segments more_segments : List Segment)
   entries_pushed entries entry known is =
       All-push IsNow entries entry (All-weaker IsOld IsNow entry_kept entries known) is
 
--- the pattern, its other segments and the tables were pushed
 module _ (text pattern : List ℕ) (segments searched : List Segment) (borders : List ℕ) (entry : Entry) where
   pub record IsPushed : Type 0 where
     pub pattern_span : IsNew text (text ++ pattern) entry.pattern
@@ -137,14 +134,12 @@ module _ (text more : List ℕ) (segments : List Segment) (borders : List ℕ) w
       let pushed = map_push (placed_at (text ++ more)) entries entry in
       rw (pushed, rules_kept entries known, part_new text more entry.pattern pattern) refl
 
--- ---- The Knuth-Morris-Pratt search. It serves two tasks: a segment is searched for in a text, and in itself
--- from offset 1 on, which gives the borders of its prefixes. `position` is the next offset of the text to
--- compare, and the `matched` bytes before it agree with the segment. That the leftmost occurrence of a
--- segment loses no match is `first_is_enough` of PlacingLemmas; how many looks a search takes is in the
--- invariant of `find`.
+-- ---- The Knuth-Morris-Pratt search, of a segment in a text, and in itself from offset 1 on, which gives the
+-- borders of its prefixes. `position` is the next offset of the text to compare; the `matched` bytes before
+-- it agree with the segment.
 
--- The first offset from `low` on where the segment may still occur is `position - matched`. There it agrees
--- with the text up to `position`, and at each earlier offset it disagrees with the text before `end`.
+-- From `low` on, the segment may first occur at `position - matched`. There it agrees with the text up to
+-- `position`, and at each earlier offset it disagrees with the text before `end`.
 pub record IsFirstOpen (text segment : List ℕ) (low end position matched : ℕ) : Type 0 where
   pub following : low + matched ≤ position
   pub agrees : Agrees text segment (position - matched) position
@@ -153,8 +148,8 @@ pub record IsFirstOpen (text segment : List ℕ) (low end position matched : ℕ
 byte_at : (text : List ℕ) {i j : ℕ} → i ≡ j → get_or text i 0 ≡ get_or text j 0
 byte_at text = ap (λ position. get_or text position 0)
 
--- Where the text agrees with the first `len` bytes of the segment at `at`, the segment agrees with the text
--- `far` bytes later exactly if it agrees with itself there.
+-- Where the text agrees with the segment, it agrees `far` bytes later exactly if the segment agrees with
+-- itself there.
 module _ (text segment : List ℕ) (at far there len end : ℕ) where
   agrees_farther : there ≡ at + far → end ≡ at + len → len ≤ length segment
       → Agrees text segment at end
@@ -170,7 +165,6 @@ module _ (text segment : List ℕ) (at far there len end : ℕ) where
 
 module _ {text segment : List ℕ} where
   module _ {low end position matched : ℕ} (first : IsFirstOpen text segment low end position matched) where
-    -- An offset that is ruled out stays ruled out when more of the text is considered.
     pub open_farther : (later : ℕ) → end ≤ later → IsFirstOpen text segment low later position matched
     open_farther later le = record {
       following = first.following;
@@ -178,7 +172,6 @@ module _ {text segment : List ℕ} where
       closed = λ at from before agrees. first.closed at from before (λ k l m. agrees k l (omega arith));
     }
 
-    -- The next byte agrees.
     pub open_more : get_or text position 0 ≡ get_or segment matched 0
         → IsFirstOpen text segment low end (position + 1) (matched + 1)
     open_more next =
@@ -191,7 +184,6 @@ module _ {text segment : List ℕ} where
           closed = λ at from before. first.closed at from (omega arith);
         }
 
-    -- The next byte differs.
     module _ (within : position < end) (some : matched < length segment)
         (differs : get_or text position 0 ≢ get_or segment matched 0) where
       closed_here : (at : ℕ) → low ≤ at → at ≤ position - matched → ¬ Agrees text segment at end
@@ -200,7 +192,6 @@ module _ {text segment : List ℕ} where
           (λ here. differs (byte_at text (omega arith) ∙ agrees matched some (omega arith)))
           (cases_lt at (position - matched))
 
-      -- Nothing was matched: the next offset is the first one that is still possible.
       pub open_next : matched ≡ 0 → IsFirstOpen text segment low end (position + 1) matched
       open_next none =
           record {
@@ -234,7 +225,6 @@ module _ {text segment : List ℕ} where
     open_before : Nowhere (OccursAt text segment) low (position - matched)
     open_before at from before occurs = first.closed at from before (λ k l m. occurs.reads k l)
 
-    -- All bytes agree: the segment occurs here, and nowhere before.
     pub open_found : matched ≡ length segment → position ≤ length text
         → FindsNeedle text segment low (Some (position - length segment))
     open_found all within =
@@ -243,15 +233,13 @@ module _ {text segment : List ℕ} where
           record { fits = omega arith; reads = λ k l. first.agrees k (omega arith) (omega arith) },
         )
 
-    -- The text is at its end: the segment doesn't occur.
     pub open_none : matched < length segment → position ≡ length text → FindsNeedle text segment low None
     open_none some last at from upto occurs =
         ⊎_elim (λ before. open_before at from before occurs) (λ l. omega arith)
         (cases_lt at (position - matched))
 
 module _ {segment : List ℕ} where
-  -- When the segment is searched for in itself, the matched bytes are the longest proper border of the bytes
-  -- read.
+  -- In a search of the segment in itself, the matched bytes are the longest proper border of the bytes read.
   pub longest_border : {len border : ℕ} → IsFirstOpen segment segment 1 len len border
       → IsLongestBorder segment len border
   longest_border {len} {border} first =
@@ -294,7 +282,6 @@ module _ {segment old now : List ℕ} {len : ℕ} (adds : AddsBorders segment ol
         borders = borders_push adds.table border adds.borders (rw long longest);
       }
 
-  -- Each entry of the table is the longest proper border of a prefix of its segment.
   pub adds_entry : (count : ℕ) → 0 < count → count ≤ len → (at : ℕ)
       → at ≡ length old + count - 1
       → (entry : ℕ) → entry ≡ get_or now at entry → IsLongestBorder segment count entry
@@ -306,7 +293,7 @@ module _ {segment old now : List ℕ} {len : ℕ} (adds : AddsBorders segment ol
       let same = read ∙ in_table ∙ get_or_default_zero adds.table (count - 1) entry (omega arith) in
       subst (IsLongestBorder segment count) (sym same) (adds.borders count some (omega arith))
 
--- ---- The first occurrence of a segment is enough, and what a search finds is that occurrence.
+-- ---- The first occurrence of a segment is enough, and a search finds it.
 
 -- if `R` holds for a text whenever it holds for a suffix of it, the first occurrence of the segment is enough
 pub first_is_enough : (R : List ℕ → Type 0) (segment t : List ℕ)
@@ -319,7 +306,6 @@ first_is_enough R segment t grows rest following = (
 )
 
 module _ (t : List ℕ) where
-  -- what follows a later offset is a suffix
   suffix_drop : (i j : ℕ) → i ≤ j → IsSuffix (drop j t) (drop i t)
   suffix_drop i j le =
       let between = take (j - i) (drop i t) in
@@ -327,7 +313,6 @@ module _ (t : List ℕ) where
       let rest = drop-drop (j - i) i t ∙ ap (λ n. drop n t) there in
       (between, sym (take-append-drop (j - i) (drop i t)) ∙ ap (λ x. between ++ x) rest)
 
-  -- a suffix begins at some later offset
   suffix_position : (i : ℕ) (u : List ℕ) → i ≤ length t → IsSuffix u (drop i t)
       → (j : ℕ) × (i ≤ j) × (j + length u ≡ length t) × (drop j t ≡ u)
   suffix_position i u le (front, e) =
@@ -337,7 +322,6 @@ module _ (t : List ℕ) where
       (i + length front, omega arith, omega arith, is)
 
   module _ (segment : List ℕ) where
-    -- if the segment occurs at an offset, then the text begins with it from there on
     pub occurs_here : (at : ℕ) → OccursAt t segment at → drop at t ≡ segment ++ drop (at + length segment) t
     occurs_here at here = at_from_reads 0 t segment at here.fits here.reads
 
@@ -350,8 +334,6 @@ module _ (t : List ℕ) where
         (record { fits = omega arith; reads = at_reads 0 t segment at rest e }, following)
 
     module _ (from : ℕ) (within : from ≤ length t) where
-      -- if the search from `from` on finds `at`, then what follows that occurrence is the rest after the
-      -- first one
       pub after_found : (at : ℕ) → FindsNeedle t segment from (Some at)
           → IsRestAfterFirst segment (drop from t) (drop (at + length segment) t)
       after_found at (none, here) =
@@ -369,14 +351,12 @@ module _ (t : List ℕ) where
                 subst (λ x. IsSuffix x (drop (at + length segment) t)) rest less;
           }
 
-      -- if no occurrence is found, there is none
       pub found_nowhere : FindsNeedle t segment from None → OccursNowhere segment (drop from t)
       found_nowhere none other after e =
           let (position, ahead, sizes, is) = suffix_position from (segment ++ after) within (other, e) in
           none position ahead (omega arith) (here_occurs after position (omega arith) is).0
 
     module _ (position : ℕ) where
-      -- the text from an offset on ends with the segment exactly if the segment fits and occurs at the end
       pub ends_with : position + length segment ≤ length t
           → IsSuffix segment (drop position t) ↔ OccursAt t segment (length t - length segment)
       ends_with fits =
@@ -392,15 +372,12 @@ module _ (t : List ℕ) where
                 subst (λ x. IsSuffix x (drop position t)) e (suffix_drop position last (omega arith)),
           )
 
-      -- if the text ends with the segment, then the segment fits
       pub ends_short : position ≤ length t → IsSuffix segment (drop position t)
           → position + length segment ≤ length t
       ends_short le i = let (at, ahead, size, is) = suffix_position position segment le i in omega arith
 
--- ---- Matching with stars as the only wildcards: the rest of the pattern, from a star on, decides about the
--- rest of the text.
+-- ---- Matching with stars as the only wildcards.
 
--- the rest of the pattern matches a text if it matches a suffix of it
 left_grows : (left : Option (Bor (List ℕ))) (s t : List ℕ) → IsSuffix s t
     → MatchesStars (from_star left) s → MatchesStars (from_star left) t
 left_grows None s t i m = end_matches false t
@@ -411,17 +388,14 @@ module _ {p segment : List ℕ} {left : Option (Bor (List ℕ))} (t : List ℕ)
   abbrev LeftMatches : List ℕ → Type 0
   LeftMatches = MatchesStars (from_star left)
 
-  -- first the segment at the start, then the rest of the pattern
   pub stars_in_front : MatchesStars p t
       ↔ ((after : List ℕ) × (t ≡ segment ++ after) × LeftMatches after)
   stars_in_front = rw cut.parts (in_front false segment (from_star left) t (plain_stars segment cut.plain))
 
-  -- after a star, the segment may be anywhere
   stars_somewhere : MatchesStars (star ∷ p) t
       ↔ ((after : List ℕ) × IsSuffix (segment ++ after) t × LeftMatches after)
   stars_somewhere = rw cut.parts (somewhere false segment (from_star left) t (plain_stars segment cut.plain))
 
-  -- its first occurrence is enough
   pub stars_here : (rest : List ℕ) → IsRestAfterFirst segment t rest
       → MatchesStars (star ∷ p) t ↔ LeftMatches rest
   stars_here rest following =
@@ -429,6 +403,5 @@ module _ {p segment : List ℕ} {left : Option (Bor (List ℕ))} (t : List ℕ)
       let (first, back) = first_is_enough LeftMatches segment t (left_grows left) rest following in
       (λ m. first (to m), λ n. from (back n))
 
-  -- if it doesn't occur, nothing matches
   pub stars_nowhere : OccursNowhere segment t → ¬ MatchesStars (star ∷ p) t
   stars_nowhere nowhere m = let (after, (front, e), n) = stars_somewhere.0 m in nowhere front after e

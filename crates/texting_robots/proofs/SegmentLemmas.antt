@@ -19,11 +19,9 @@ use Rattle.texting_robots.specs.declared.segments.Ending.TheVariants.{Open, Clos
 
 -- ---- What a pattern matches, segment by segment.
 
--- a byte that matches only itself
 abbrev pub IsPlain : Bool → ℕ → Type 0
 IsPlain anchors b = ((b == star) ≡ false) × ((anchors && (b == dollar)) ≡ false)
 
--- a segment without stars or dollars, if only stars are wildcards, or both are
 pub plain_stars : (segment : List ℕ) → All (λ b. b ≢ star) segment → All (IsPlain false) segment
 plain_stars = All-weaker (λ b. b ≢ star) (IsPlain false) (λ b other. (ne_eqb b star other, refl))
 
@@ -33,17 +31,14 @@ plain_wildcards =
     All-weaker (λ b. is_wildcard b ≡ false) (IsPlain true)
     (λ b other. or_parts (b == star) (b == dollar) other)
 
--- if `P` and `Q` are equivalent, then it is also equivalent that they hold for some text with `R`
 under : {R : List ℕ → Type 0} (P Q : List ℕ → Type 0) → ((t : List ℕ) → P t ↔ Q t)
     → ((t : List ℕ) × R t × P t) ↔ ((t : List ℕ) × R t × Q t)
 under P Q same = (λ (t, r, p). (t, r, (same t).0 p), λ (t, r, q). (t, r, (same t).1 q))
 
--- a suffix of a suffix
 pub suffix_trans : {a b c : List ℕ} → IsSuffix a b → IsSuffix b c → IsSuffix a c
 suffix_trans {a} (f, e) (g, h) = (g ++ f, h ∙ ap (λ x. g ++ x) e ∙ sym (append_assoc g f a))
 
 module _ (anchors : Bool) where
-  -- a plain segment has to be at the start of the text
   pub in_front : (segment q t : List ℕ) → All (IsPlain anchors) segment → MatchesWith anchors (segment ++ q) t
       ↔ ((after : List ℕ) × (t ≡ segment ++ after) × MatchesWith anchors q after)
   unfolding MatchesWith
@@ -56,7 +51,6 @@ module _ (anchors : Bool) where
         λ (after, e, n). (segment ++ after, e, (later (segment ++ after)).1 (after, refl, n)),
       )
 
-  -- after a star, it may be anywhere in the text
   pub somewhere : (segment q t : List ℕ) → All (IsPlain anchors) segment
       → MatchesWith anchors (star ∷ (segment ++ q)) t
       ↔ ((after : List ℕ) × IsSuffix (segment ++ after) t × MatchesWith anchors q after)
@@ -66,13 +60,11 @@ module _ (anchors : Bool) where
     λ (after, i, n). (segment ++ after, i, (in_front segment q (segment ++ after) all).1 (after, refl, n)),
   )
 
-  -- a pattern that begins with a star matches a text if it matches a suffix of it
   pub star_grows : (q s t : List ℕ) → IsSuffix s t
       → MatchesWith anchors (star ∷ q) s → MatchesWith anchors (star ∷ q) t
   unfolding MatchesWith
   star_grows q s t i (u, j, m) = (u, suffix_trans j i, m)
 
-  -- the first of two stars has no effect
   pub star_star : (q t : List ℕ) → (get_or q 0 0 == star) ≡ true
       → MatchesWith anchors (star ∷ q) t ↔ MatchesWith anchors q t
   unfolding MatchesWith
@@ -80,7 +72,6 @@ module _ (anchors : Bool) where
   star_star (c ∷ q) t two =
       rw (eqb-true c star two) (λ (s, i, m). star_grows q s t i m, λ m. (t, ([], refl), m))
 
-  -- more stars after the first have no effect either
   pub star_stars : (q t : List ℕ)
       → MatchesWith anchors (star ∷ after_stars q) t ↔ MatchesWith anchors (star ∷ q) t
   star_stars [] t = (λ m. m, λ m. m)
@@ -95,7 +86,6 @@ module _ (anchors : Bool) where
     | inr other ↦ rw other (λ m. m, λ m. m)
   ]
 
-  -- patterns that match the same also match the same with one byte before them
   pub after_byte : (b : ℕ) (p q : List ℕ)
       → ((t : List ℕ) → MatchesWith anchors p t ↔ MatchesWith anchors q t)
       → (t : List ℕ) → MatchesWith anchors (b ∷ p) t ↔ MatchesWith anchors (b ∷ q) t
@@ -108,12 +98,10 @@ module _ (anchors : Bool) where
     ]
   ]
 
--- an empty pattern matches any text
 pub end_matches : (anchors : Bool) (t : List ℕ) → MatchesWith anchors [] t
 unfolding MatchesWith
 end_matches anchors t = tt
 
--- only patterns of stars and dollars match the empty text
 pub none_left : (front s : List ℕ) → [] ≡ front ++ s → s ≡ []
 none_left [] s e = sym e
 none_left (b ∷ front) s e = cc
@@ -135,7 +123,6 @@ only_wildcards_match (b ∷ q) =
       ]
     ]
 
--- a pattern that closes matches only the empty text; any other that begins with a dollar matches nothing
 pub closes_decides : (q t : List ℕ) → Closes q → Matches q t ↔ (t ≡ [])
 unfolding MatchesWith
 closes_decides q t c = rw c.dollar (λ (s, (e, gone), m). e, λ e. ([], (e, refl), c.empty))
@@ -145,7 +132,6 @@ unfolding MatchesWith
 dollar_matches_none q t other (s, (e, gone), m) =
     other (record { following = q; dollar = refl; empty = rw gone at m })
 
--- a pattern that begins with a wildcard and doesn't close matches a text if it matches a suffix of it
 pub grows_at_wildcard : (q : List ℕ) → IsAtWildcard q → ¬ Closes q → Grows q
 unfolding MatchesWith
 grows_at_wildcard [] at_wildcard other = λ s t i m. tt
@@ -156,7 +142,6 @@ grows_at_wildcard (b ∷ q) at_wildcard other = elim (or_cases (b == star) (b ==
       rw e (λ s t i m. absurd (dollar_matches_none q s (rw e at other) m))
 ]
 
--- any other pattern that begins with a wildcard matches nothing
 pub wildcard_matches_none : (q t : List ℕ) → IsAtWildcard q → q ≢ []
     → ((rest : List ℕ) → q ≢ star ∷ rest)
     → ¬ Closes q → ¬ Matches q t
@@ -169,14 +154,11 @@ wildcard_matches_none (b ∷ q) t at_wildcard some no_star other = elim
 
 -- ---- Cutting a pattern into segments from left to right, and what the segments decide.
 
--- ---- what segments decide
-
 module _ {p : List ℕ} {ends : Ends} {segments : List Segment} {borders : List ℕ}
     (are : AreSegments p ends segments borders) (t : List ℕ) where
   abbrev first : List ℕ
   first = take ends.first_len p
 
-  -- if the text begins with the first segment, the rest of the pattern decides
   pub first_in_front : (following : List ℕ) → t ≡ first ++ following
       → Matches p t ↔ Matches are.rest following
   first_in_front following split =
@@ -186,9 +168,6 @@ module _ {p : List ℕ} {ends : Ends} {segments : List Segment} {borders : List 
         λ n. from (following, split, n),
       )
 
--- ---- the first wildcard
-
--- the segment before the first wildcard, and the rest from there on
 pub cut_at_first : (pattern : List ℕ) (k : ℕ) → k ≡ position_or_len is_wildcard pattern
     → IsCutAtWildcard pattern (take k pattern) (drop k pattern)
 cut_at_first pattern k first = record {
@@ -215,8 +194,6 @@ cut_at_first pattern k first = record {
         by true is = refl
         by false is = cc
 
--- ---- from a star on
-
 -- the rest of the pattern is a star, more stars, and `next`, which is a segment and the rest after it
 pub record IsFromStar (left next segment rest : List ℕ) : Type 0 where
   pub following : List ℕ
@@ -225,14 +202,12 @@ pub record IsFromStar (left next segment rest : List ℕ) : Type 0 where
   pub cut : IsCutAtWildcard next segment rest
 
 module _ {left next segment rest : List ℕ} (is : IsFromStar left next segment rest) where
-  -- `next` is a suffix of the rest
   next_in : IsSuffix next left
   next_in =
       let n = prefix_len (λ b. b == star) is.following in
       let split = sym (take-append-drop n is.following) ∙ ap (λ x. take n is.following ++ x) (sym is.skips) in
       (star ∷ take n is.following, is.star_first ∙ ap (λ x. star ∷ x) split)
 
-  -- the segment may be anywhere in the text, and after it the rest decides
   star_decides : (t : List ℕ) → Matches left t ↔ Somewhere segment rest t
   star_decides t =
       let (to, from) = star_stars true is.following t in
@@ -240,12 +215,10 @@ module _ {left next segment rest : List ℕ} (is : IsFromStar left next segment 
       let e = sym is.skips ∙ is.cut.parts in
       rw is.star_first (λ m. parts (rw e at (from m)), λ h. to (rw e (whole h)))
 
-  -- if the rest doesn't close, it matches a text if it matches a suffix of it
   star_is_left : ¬ Closes rest → IsLeft left segment rest
   star_is_left other = record
       { decides = star_decides; grows = grows_at_wildcard rest is.cut.at_wildcard other }
 
-  -- if the rest closes, the segment has to be at the end of the text
   star_is_last : Closes rest → (t : List ℕ) → Matches left t ↔ IsSuffix segment t
   star_is_last closes t =
       let (to, from) = star_decides t in
@@ -256,13 +229,9 @@ module _ {left next segment rest : List ℕ} (is : IsFromStar left next segment 
         λ i. from ([], rw append-nil i, (at_end []).1 refl),
       )
 
--- ---- the ranges of segments and tables
-
--- the range of the pattern from where `next` begins to where `rest` begins
 abbrev pub between : List ℕ → List ℕ → List ℕ → Span
 between p next rest = record { start = length p - length next; end = length p - length rest }
 
--- the bytes between two suffixes of the pattern
 spanned : (p next segment rest : List ℕ) → IsSuffix next p → next ≡ segment ++ rest
     → IsSpan p (between p next rest) × (part_of p (between p next rest) ≡ segment)
 spanned p next segment rest (front, e) f =
@@ -272,7 +241,6 @@ spanned p next segment rest (front, e) f =
     let bytes = ap (take size) (end_rest p next front e ∙ f) ∙ take_at segment rest size (omega arith) in
     (record { ordered = omega arith; within = omega arith }, bytes)
 
--- a table is in the list of tables where it was put
 segment_put : (p tables table more : List ℕ) (span : Span) → IsSpan p span
     → IsTable (part_of p span) table
     → IsSegment p (tables ++ (table ++ more)) (record { span = span; table = length tables })
@@ -284,9 +252,6 @@ segment_put p tables table more span is_span is_table =
     let same = there ∙ take_at table more size (omega arith) in
     record { span = is_span; fits = omega arith; table = rw same is_table }
 
--- ---- the steps of cutting
-
--- the rest of the pattern consists of these segments and this ending
 pub record IsRest (pattern borders left : List ℕ) (segments : List Segment) (ending : Ending) : Type 0 where
   pub known : All (IsSegment pattern borders) segments
   pub is_ending : IsEnding pattern ending
@@ -304,7 +269,6 @@ pub record IsCutUpto (pattern : List ℕ) (first_len : ℕ) (old_segments segmen
       (segments ++ more)
       old_borders (borders ++ table)
 
--- the first segment is before the first star or dollar
 pub cut_first : (p segment left : List ℕ) (segments : List Segment) (borders : List ℕ)
     → IsCutAtWildcard p segment left
     → IsCutUpto p (length segment) segments segments borders borders left
@@ -359,15 +323,12 @@ module _ {p : List ℕ} {first_len : ℕ} {old_segments segments : List Segment}
       } in
       rw (← append-nil segments, ← append-nil borders) (upto.completes [] [] ending rest)
 
-  -- the rest is empty
   pub cut_open : left ≡ [] → AddsWith Open
   cut_open none = done Open tt (λ t. rw none (λ _. tt, λ _. end_matches true t)) (inl tt)
 
-  -- the rest is a dollar that closes
   pub cut_closed : Closes left → AddsWith Closed
   cut_closed closes = done Closed tt (λ t. closes_decides left t closes) (inl tt)
 
-  -- the rest begins with a dollar that doesn't close
   pub cut_never : left ≢ [] → ((q : List ℕ) → left ≢ star ∷ q)
       → ¬ Closes left → AddsWith Never
   cut_never some no_star other =
@@ -386,12 +347,10 @@ module _ {p : List ℕ} {first_len : ℕ} {old_segments segments : List Segment}
     is_span : IsSpan p span × (part_of p span ≡ segment)
     is_span = spanned p next segment rest next_in_p is.cut.parts
 
-    -- the segment is before a dollar that closes
     pub cut_last : Closes rest → AddsWith (Last span)
     cut_last closes = done (Last span) is_span.0 (λ t. rw is_span.1 (star_is_last is closes t))
         (inr (is.following, is.star_first))
 
-    -- the segment and its table were added
     pub cut_more : (at : ℕ) (table : List ℕ) → at ≡ length borders → ¬ Closes rest
         → IsTable segment table
         → IsCutUpto p first_len old_segments (segments ++ record { span = span; table = at } ∷ [])

@@ -23,15 +23,12 @@ use Rattle.texting_robots.specs.Groups.{GroupValue, grouped_from, groups, is_for
 
 -- ---- What the `GroupTracker` captures for a name is what the runs with that name contain.
 
--- ---- the names of runs
-
 not_of : (name : List ℕ) (r : ℕ) (n : Named) → n.run ≢ r → is_of name r n ≡ false
 not_of name r n other = rw (ne_eqb n.run r other) (and-false _)
 
 here_of : (name : List ℕ) (n : Named) → is_of name n.run n ≡ has_name name n
 here_of name n = rw (eq-eqb n.run n.run refl) (and-true _)
 
--- adding a name
 one_more : (name : List ℕ) (names : List Named) (n : Named) (r : ℕ)
     → is_run_of name (names ++ n ∷ []) r ≡ (is_run_of name names r || is_of name r n)
 one_more name names n r =
@@ -60,16 +57,13 @@ pub run_ends : (is_group joins : Bool) → is_group ≡ true → (not is_group &
 run_ends true joins is = refl
 run_ends false joins is = cc
 
--- ---- the state for a name, and the runs
-
--- the state captures exactly if the current run has the name, and no later run has the name yet
+-- the state captures exactly if the current run has the name; no later run has it yet
 record BelongsTo (name : List ℕ) (walk : GroupTracker) (run : ℕ) (joins : Bool)
     (before : List Named) : Type 0 where
   captured : walk.captured ≡ is_run_of name before run
   named : walk.named ≡ (joins && walk.captured)
   first : (r : ℕ) → run < r → is_run_of name before r ≡ false
 
--- after a user-agent line that joins the current run
 in_run : (name value : List ℕ) (walk : GroupTracker) (run count : ℕ) (before : List Named)
     → BelongsTo name walk run true before
     → BelongsTo name (step name walk (UserAgent value)) run true
@@ -95,7 +89,6 @@ in_run name value walk run count before splits =
     swapped false true = refl
     swapped false false = refl
 
--- after a user-agent line that begins a run
 in_new_run : (name value : List ℕ) (walk : GroupTracker) (run position count : ℕ) (before : List Named)
     → run ≤ position
     → BelongsTo name walk run false before
@@ -118,7 +111,6 @@ in_new_run name value walk run position count before within splits =
       ) refl;
     }
 
--- after another line
 after_other : (name : List ℕ) (walk : GroupTracker) (run : ℕ) (joins is_group : Bool) (before : List Named)
     → BelongsTo name walk run joins before
     → BelongsTo name (record { captured = walk.captured; named = not is_group && walk.named }) run
@@ -127,13 +119,11 @@ after_other name walk run joins true before splits =
     record { captured = splits.captured; named = refl; first = splits.first }
 after_other name walk run joins false before splits = splits
 
--- nothing is found in a line
 pub nothing_here : {X : Type 0} (captured : Bool) (o : Option X) (rest : List X) → o ≡ None
     → cons_option (cond captured o None) rest ≡ rest
 nothing_here true o rest none = rw none refl
 nothing_here false o rest none = refl
 
--- what a line other than a user-agent line adds, depending on its run
 other_next : {X : Type 0} (is_group : Bool) (given : Tagged → Option X) (name : List ℕ) (captured : Bool)
     (tag : Tagged) (names : List Named) (tags : List Tagged) (rest : List X) (here : Option X)
     → given tag ≡ here → (is_group ≡ false → here ≡ None)
@@ -205,7 +195,6 @@ found_in_runs given of_tag fits none name walk run joins position count before a
     (found_in_runs given of_tag fits none name (step name walk line) run joined (position + 1) below
     before all lines (omega arith) (after_other name walk run joins (is_group line) before splits) are)
 
--- the same for a complete file with user-agent lines
 pub found_in_own : {X : Type 0} (given : ℕ × LineValue → Option X) (of_tag : Tagged → Option X)
     → ((position run : ℕ) (line : LineValue)
     → of_tag (record { number = position + 1; line = line; run = run }) ≡ given (position, line))
@@ -217,8 +206,6 @@ found_in_own given of_tag fits none name lines some =
     ∙ found_in_runs given of_tag fits none name (start_of lines) 0 false 0 0 [] (named lines) lines
     (omega arith)
     (record { captured = ap not some; named = refl; first = λ r above. refl }) refl
-
--- ---- rules and delays
 
 pub rule_of_group : (position : ℕ) (line : LineValue) → is_group line ≡ false → placed_in (position, line)
     ≡ None
@@ -243,8 +230,6 @@ delays_of_runs agent lines some =
     found_in_own (λ p. delay_in p.1) delay_of (λ position run line. refl) delay_of_group
     (group_name agent lines) lines some
 
--- ---- the index of a file
-
 pub given_push : {X Y : Type 0} (h : X → Option Y) (xs : List X) (x : X)
     → filter_map h (xs ++ x ∷ []) ≡ filter_map h xs ++ option_to_list (h x)
 given_push h xs x = filter_map-append h xs (x ∷ []) ∙ ap (λ ys. filter_map h xs ++ ys) (one (h x))
@@ -252,8 +237,6 @@ given_push h xs x = filter_map-append h xs (x ∷ []) ∙ ap (λ ys. filter_map 
     one : {Y : Type 0} (o : Option Y) → cons_option o [] ≡ option_to_list o
     one None = refl
     one (Some y) = refl
-
--- ---- the last delay before the first user-agent line
 
 pub agents_more : (begun : Bool) (line : LineValue) (left : List LineValue)
     → ((begun || is_agent line) || list_any is_agent left) ≡ (begun || list_any is_agent (line ∷ left))
@@ -295,7 +278,6 @@ moved true true c = refl
 moved true false c = refl
 moved false b c = refl
 
--- a user-agent line more
 with_agent : (name value : List ℕ) (position : ℕ) (named : Bool) (above : List (ℕ × LineValue))
     (groups : List GroupValue) (is : Bool) → is ≡ bytes_eq (str_to_ascii_lowercase value) name
     → captured_of name (is || named) (is || named) above groups
@@ -312,7 +294,6 @@ with_agent name value position named (l ∷ above) groups is same =
     rw (← same, not_joined name groups) (ap (λ b. cond b (l ∷ (above ++ rest)) rest)
     (sym (or-false (is || named)) ∙ moved is named false))
 
--- another line more
 with_other : (is_group : Bool) (name : List ℕ) (line : ℕ × LineValue) (captured named : Bool)
     (above : List (ℕ × LineValue)) (groups : List GroupValue)
     → cons_option (cond captured (cond is_group (Some line) None) None)
@@ -322,7 +303,6 @@ with_other true name line true named above groups = rw (and-false (is_empty abov
 with_other true name line false named above groups = rw (and-false (is_empty above)) refl
 with_other false name line captured named above groups = nothing_here captured None _ refl
 
--- the line, if it is a rule or a delay
 abbrev group_line : ℕ × LineValue → Option (ℕ × LineValue)
 group_line line = cond (is_group line.1) (Some line) None
 
@@ -342,8 +322,6 @@ walked name tracker position (line ∷ lines) =
     ap (cons_option (cond tracker.captured (group_line (position, line)) None))
     (walked name (step name tracker line) (position + 1) lines)
     ∙ with_other (is_group line) name (position, line) tracker.captured tracker.named below.above below.groups
-
--- ---- lines that are rules or delays
 
 kept_groups : (lines : List (ℕ × LineValue))
     → filter (λ (l : ℕ × LineValue). is_group l.1) lines ≡ filter_map group_line lines

@@ -21,8 +21,6 @@ use Rattle.texting_robots.specs.{Group.is_group, Line.LineValue, Line.UserAgent,
 
 -- ---- Lookup by name: the buckets of a hash table, and the lines that iterating over a bucket visits.
 
--- ---- first indices
-
 pub drop_is : {X : Type 0} (xs : List X) (i : ℕ) (x : X) → slice_get xs i ≡ Some x
     → drop i xs ≡ x ∷ drop (i + 1) xs
 drop_is xs i x at =
@@ -36,8 +34,7 @@ pub first_later : {X : Type 0} (p : X → Bool) (x : X) (xs : List X) → p x �
     → position_or_len p (x ∷ xs) ≡ suc (position_or_len p xs)
 first_later p x xs isnt = rw isnt (omega arith)
 
--- searching for the first item that passes the weaker test `r`, and from there for the first that passes `p`,
--- finds the first that passes `p`
+-- searching by the weaker test `r`, and from there by `p`, finds the first that passes `p`
 skip : {X : Type 0} (p r : X → Bool) → ((x : X) → r x ≡ false → p x ≡ false) → (xs : List X)
     → position_or_len r xs + position_or_len p (drop (position_or_len r xs) xs) ≡ position_or_len p xs
 skip p r weaker [] = refl
@@ -62,8 +59,6 @@ here p x xs first = elim (cases_Bool (p x)) [
   | inl is ↦ is
   | inr isnt ↦ absurd (let wrong = rw isnt at first in omega arith)
 ]
-
--- ---- the table
 
 pub linked_none : (count : ℕ) (names : List Named) (heads nexts : List ℕ) → count ≡ length names
     → heads ≡ replicate count count → length nexts ≡ count → AreLinked count names heads nexts
@@ -110,9 +105,6 @@ linked_more names position bucket n heads nexts at its within linked =
       ];
     }
 
--- ---- iterating over a bucket
-
--- a name in another bucket is a different name
 pub other_bucket : (name : List ℕ) (count : ℕ) (n : Named) → is_in count (bucket_of count name) n ≡ false
     → has_name name n ≡ false
 other_bucket name count n isnt = elim (cases_Bool (has_name name n)) [
@@ -122,7 +114,6 @@ other_bucket name count n isnt = elim (cases_Bool (has_name name n)) [
   | inr other ↦ other
 ]
 
--- searching from the first line of the name's bucket finds the first line with the name
 pub from_bucket : (name : List ℕ) (count : ℕ) (names : List Named)
     → let start = position_or_len (is_in count (bucket_of count name)) names in
     start + first_named name (drop start names) ≡ first_named name names
@@ -151,7 +142,6 @@ next_in_bucket name position next bucket names its are =
       rest = let same = from_bucket name N after in rw rest (omega arith);
     }
 
--- the line that the code reads at an index
 pub agent_at : (lines : List AgentLine) (names : List Named) (position : ℕ) (line : AgentLine)
     → map named_of lines ≡ names → position < length lines → line ≡ get_or lines position line
     → slice_get names position ≡ Some (named_of line)
@@ -217,7 +207,6 @@ passed name names position n at isnt =
       first_later (has_name name) n (drop (position + 1) names) isnt,
     )
 
--- a line with the name is in the name's bucket
 pub named_bucket : (name : List ℕ) (names : List Named) (position : ℕ) (n : Named) → slice_get names position
     ≡ Some n
     → first_named name (drop position names) ≡ 0
@@ -241,8 +230,6 @@ some_at names position within = (
   get_or names position no_name,
   slice_get-get_or names position no_name within,
 )
-
--- ---- the runs of a name
 
 pub runs_from_first : (name : List ℕ) (names : List Named) (r : ℕ)
     → is_run_of name (drop (first_named name names) names) r ≡ is_run_of name names r
@@ -293,8 +280,6 @@ pub front_past : (text : List ℕ) (lines : List KeptLine) (at run : ℕ) → le
 front_past text lines at run past =
     ap (in_front run) (past_end (map (tag_at text) lines) at (omega (arith, length-map lines (tag_at text))))
 
--- ---- whether a name occurs
-
 pub first_within : (name : List ℕ) (names : List Named)
     → ltb (first_named name names) (length names) ≡ list_any (has_name name) names
 first_within name [] = refl
@@ -336,7 +321,6 @@ same_suc a b = elim (eqb_tells a b) [
   | inr (isnt, other) ↦ ne_eqb (suc a) (suc b) (λ same. other (omega arith)) ∙ sym isnt
 ]
 
--- a line is the first one with its name exactly if no earlier line has the name
 first_if : (name : List ℕ) (names : List Named) (position : ℕ) (n : Named) → slice_get names position ≡ Some n
     → has_name name n ≡ true
     → (first_named name names == position) ≡ not (list_any (has_name name) (take position names))
@@ -356,7 +340,6 @@ any_map : {X Y : Type 0} (p : Y → Bool) (f : X → Y) (xs : List X) → list_a
 any_map p f [] = refl
 any_map p f (x ∷ xs) = ap (λ b. p (f x) || b) (any_map p f xs)
 
--- a line is the first one with its name exactly if its name isn't among the earlier ones
 among : (names : List Named) (position : ℕ) (n : Named) → slice_get names position ≡ Some n
     → (first_named (str_to_ascii_lowercase n.name) names == position)
     ≡ not (is_among n.name (take position (map name_of names)))
@@ -367,7 +350,6 @@ among names position n at =
     ∙ any_map (λ (other : List ℕ). bytes_eq (str_to_ascii_lowercase other) name) name_of
     (take position names)))
 
--- the names that remain at an index
 abbrev pub left_at : ℕ → List Named → List (List ℕ)
 left_at position names =
     filter is_utf8 (each_once (take position (map name_of names)) (drop position (map name_of names)))
@@ -391,7 +373,6 @@ value_at : (names : List Named) (position : ℕ) (n : Named) → slice_get names
     → slice_get (map name_of names) position ≡ Some n.name
 value_at names position n at = slice_get-map name_of names position ∙ ap (option_map name_of) at
 
--- the line isn't the first one with its name
 pub left_again : (names : List Named) (position : ℕ) (n : Named) → slice_get names position ≡ Some n
     → first_named (str_to_ascii_lowercase n.name) names ≢ position → left_at (position + 1) names
     ≡ left_at position names
@@ -405,7 +386,6 @@ left_again names position n at other =
     dropped true xs ys isnt = refl
     dropped false xs ys isnt = cc
 
--- the line is the first one with its name
 pub left_first : (names : List Named) (position : ℕ) (n : Named) → slice_get names position ≡ Some n
     → first_named (str_to_ascii_lowercase n.name) names ≡ position
     → left_at position names ≡ cons_option (text_from n.name) (left_at (position + 1) names)

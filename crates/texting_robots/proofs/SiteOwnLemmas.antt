@@ -27,8 +27,6 @@ use Rattle.texting_robots.proofs.SiteNameLemmas.{first_here, here, later_at, pas
 use Rattle.texting_robots.proofs.SiteRunLemmas.{Ascends, names_ascend, no_names, none_above, of_run, starts}
 use Rattle.texting_robots.proofs.SiteRunLemmas.{some_names, tagged_ascends}
 
--- ---- the lines of one run come first
-
 run_first : (p : ℕ → Bool) (r : ℕ) (tags : List Tagged) → ((q : ℕ) → q ≤ r → p q ≡ false) → Ascends tags
     → filter (λ t. (t.run == r) || p t.run) tags ≡ of_run r tags ++ filter (λ t. p t.run) tags
 run_first p r [] none ascends = refl
@@ -47,9 +45,6 @@ run_first p r (t ∷ tags) none (first, rest) = elim (eqb_tells t.run r) [
   ])
 ]
 
--- ---- later runs
-
--- the next line has the name, and belongs to a later run
 later_next : (name : List ℕ) (run : ℕ) (n : Named) (names : List Named) (r : ℕ) → has_name name n ≡ true
     → run < n.run → ((q : ℕ) → q < n.run → is_run_of name names q ≡ false)
     → is_later name run (n ∷ names) r ≡ ((r == n.run) || is_later name n.run names r)
@@ -63,7 +58,6 @@ later_next name run n names r has above none = elim (eqb_tells r n.run) [
       ])
 ]
 
--- the next line belongs to a run that was visited
 later_same : (name : List ℕ) (run : ℕ) (n : Named) (names : List Named) (r : ℕ) → n.run ≤ run
     → is_later name run (n ∷ names) r ≡ is_later name run names r
 later_same name run n names r least = elim (cases_Bool (ltb run r)) [
@@ -87,7 +81,6 @@ none_below name (n ∷ names) least q above below =
 
 -- ---- the iteration
 
--- the runs of the name are the same from the next line with the name on
 runs_after : (name : List ℕ) (names : List Named) (name_index next r : ℕ)
     → next ≡ name_index + 1 + first_named name (drop (name_index + 1) names)
     → is_run_of name (drop next names) r ≡ is_run_of name (drop (name_index + 1) names) r
@@ -106,7 +99,6 @@ first_kept name name_index next names are =
     (name_index + 1) names))
     ∙ first_here (has_name name) (drop (name_index + 1) names)
 
--- the iteration moves on to a later run
 pub next_run : (name : List ℕ) (run name_index next : ℕ) (names : List Named) (tags rest : List Tagged)
     (n : Named)
     → slice_get names name_index ≡ Some n → first_named name (drop name_index names) ≡ 0
@@ -143,7 +135,6 @@ next_run name run name_index next names tags rest n at first (lines, named_is, t
     ∙ ap (λ (ns : List Named). filter (λ t. is_later name run ns t.run) tags) (sym left)
     ∙ ap (λ ts. ts ++ filter (λ t. is_later name run (drop name_index names) t.run) tags) (sym gone)
 
--- the iteration skips a line of the same run
 pub same_run : (name : List ℕ) (run name_index next : ℕ) (names : List Named) (tags rest : List Tagged)
     (n : Named)
     → slice_get names name_index ≡ Some n → n.run ≤ run
@@ -160,7 +151,6 @@ none_pass : (p : ℕ → Bool) (tags : List Tagged) → ((q : ℕ) → p q ≡ f
 none_pass p [] none = refl
 none_pass p (t ∷ tags) none = rw (none t.run) (none_pass p tags none)
 
--- the iteration ends
 pub at_end : (name : List ℕ) (run name_index : ℕ) (names : List Named) (tags rest : List Tagged)
     → slice_get names name_index ≡ None → in_front run rest ≡ [] → own_from name run rest
     (drop name_index names) tags ≡ []
@@ -173,8 +163,6 @@ at_end name run name_index names tags rest out gone =
     past (x ∷ xs) zero out = cc
     past (x ∷ xs) (suc i) out = past xs i out
 
--- ---- where it starts
-
 no_run : (name : List ℕ) (lines : List LineValue) → is_run_of name (named lines) 0 ≡ false
 no_run name lines = none_later name 0 0 false 0 0 lines (omega arith) (omega arith) (λ wrong. cc)
 
@@ -183,7 +171,6 @@ later_than_none : (name : List ℕ) (lines : List LineValue) (r : ℕ)
 later_than_none name lines zero = sym (no_run name lines)
 later_than_none name lines (suc r) = rw (lt-ltb 0 (suc r) (omega arith)) refl
 
--- in a file with user-agent lines
 pub own_named : (name : List ℕ) (lines : List LineValue)
     → own_from name 0 [] (drop (first_named name (named lines)) (named lines)) (tagged lines)
     ≡ own_tagged name lines
@@ -191,7 +178,6 @@ own_named name lines = filter_agree _ _
     (λ (t : Tagged). ap (λ b. ltb 0 t.run && b) (runs_from_first name (named lines) t.run)
     ∙ later_than_none name lines t.run) (tagged lines)
 
--- in a file without user-agent lines
 pub own_unnamed : (name : List ℕ) (names : List Named) (tags : List Tagged) (name_index : ℕ) → names ≡ []
     → own_from name 0 tags (drop name_index names) tags ≡ in_front 0 tags
 own_unnamed name names tags name_index none =
@@ -227,9 +213,6 @@ whole_walk name position (n ∷ names) tags first at_zero unnamed some = λ line
       ∙ own_named name lines,
 )
 
--- ---- a file with no user-agent line
-
--- what a line other than a user-agent line adds
 added : {X : Type 0} (is_group : Bool) (given : Tagged → Option X) (tag : Tagged) (tags : List Tagged)
     (here : Option X) → given tag ≡ here → (is_group ≡ false → here ≡ None)
     → cons_option here (filter_map given tags)
@@ -290,8 +273,6 @@ delays_of_all agent lines without =
     (group_name agent lines) lines
     without
 
--- ---- what a complete iteration gives
-
 pub given_whole : {X : Type 0} (given : Tagged → Option X) (all : List X) (name : List ℕ) (names : List Named)
     (tags walk : List Tagged) (lines : List LineValue) → names ≡ named lines → tags ≡ tagged lines
     → IsWholeWalk name names tags walk
@@ -317,8 +298,6 @@ any_between P x xs old all are is = subst (Any P) are (after P x xs old is)
     after P x xs (y ∷ old) is = let (k, z, less, at, has) = after P x xs old is in
         (suc k, z, omega arith, at, has)
 
--- ---- adding a sitemap
-
 pub listed_more : (text : List ℕ) (sitemaps : List Span) (i : ℕ) (d : Span) → i < length sitemaps
     → filter_map (listed text) (take (i + 1) sitemaps)
     ≡ filter_map (listed text) (take i sitemaps) ++ option_to_list (listed text (get_or sitemaps i d))
@@ -326,16 +305,12 @@ listed_more text sitemaps i d within =
     ap (filter_map (listed text)) (take_more sitemaps i d within) ∙ given_push (listed text) (take i sitemaps)
     (get_or sitemaps i d)
 
--- ---- a file that is rejected
-
 pub file_rejected : (agent file : List ℕ)
     → Any (λ (placed : PlacedRule). IsOverlong placed.rule.0) (placed_rules agent (file_lines file))
     → IsFileRejected agent file
 file_rejected agent file some =
     has_lines file (IsRejected agent) ((rejection_is_computed agent (file_lines file)).1
     (any_unplaced (λ (rule : Rule). IsOverlong rule.0) (placed_rules agent (file_lines file)) some))
-
--- ---- if nothing is given, each item gives nothing
 
 pub given_nothing : {X Y : Type 0} (h : X → Option Y) (x : X) (xs : List X) → filter_map h (x ∷ xs) ≡ []
     → (h x ≡ None) × (filter_map h xs ≡ [])
@@ -350,8 +325,6 @@ pub none_at : {X Y : Type 0} (h : X → Option Y) (xs : List X) (i : ℕ) (d : X
 none_at h [] i d within none = absurd (omega arith)
 none_at h (x ∷ xs) zero d within none = (given_nothing h x xs none).0
 none_at h (x ∷ xs) (suc i) d within none = none_at h xs i d (omega arith) (given_nothing h x xs none).1
-
--- ---- crawlers with the same group
 
 pub same_robot : (agent other : List ℕ) (lines : List LineValue) (robot : RobotValue)
     → group_name agent lines ≡ group_name other lines → IsRobotOf agent lines robot

@@ -11,7 +11,6 @@ use Rattle.texting_robots.specs.Internal.Site.{Named, Tagged, has_name, in_front
 use Rattle.texting_robots.specs.Internal.Site.{count_after, run_after, tagged_from}
 use Rattle.texting_robots.proofs.{SiteLemmas.run_ends}
 
--- the lines of a run
 abbrev pub of_run : ℕ → List Tagged → List Tagged
 of_run run tags = filter (λ t. t.run == run) tags
 
@@ -79,8 +78,6 @@ front_is_run run (t ∷ tags) (here, later) (first, rest) = elim (eqb_tells t.ru
   | inr (isnt, other) ↦ rw isnt (sym (none_above run t.run tags (omega arith) first))
 ]
 
--- ---- names, whatever their runs
-
 names_from : (name : List ℕ) (run : ℕ) (joins : Bool) (position count : ℕ) (lines : List LineValue)
     → list_any (has_name name) (named_from run joins position count lines)
     ≡ list_any (is_agent_named name) lines
@@ -121,8 +118,6 @@ has_names lines (n ∷ names) are =
   where
     filled : {n : Named} (names : List Named) → n ∷ names ≡ [] → ⊥
     filled names is = cc
-
--- ---- the runs of names ascend
 
 -- a run below these lines is at least this one, if the current one is, or is closed
 named_above : (least run : ℕ) (joins : Bool) (position count : ℕ) (lines : List LineValue)
@@ -171,8 +166,6 @@ pub names_ascend : (lines : List LineValue) (i j : ℕ) (m n : Named) → i < j
     → slice_get (named lines) i ≡ Some m → slice_get (named lines) j ≡ Some n → m.run ≤ n.run
 names_ascend lines i j m n less here there =
     ascend_from 0 false 0 0 lines (omega arith) i j m n less here there
-
--- ---- where the lines of a run begin
 
 pub record IsStart (tags : List Tagged) (n : Named) : Type 0 where
   pub within : n.start ≤ length tags

@@ -23,7 +23,6 @@ use Rattle.texting_robots.proofs.TrimLemmas.{trimmed_is_trim, is_trimmed, blanks
 
 -- ---- A text that has the bytes of a usual field name begins with it.
 
--- the bytes of the name are in the text from this position on
 abbrev pub HasAt : List ℕ → ℕ → List ℕ → Type 0
 HasAt text k [] = Unit {0}
 HasAt text k (b ∷ name) = (get_or text k 0 ≡ b) × HasAt text (k + 1) name
@@ -39,8 +38,6 @@ pub usual_is : (text name small : List ℕ) (others : List (List ℕ)) → lengt
     → after_any (small ∷ others) text ≡ Some (drop (length name) text)
 usual_is text name small others within has sizes same =
     rw (sizes, front_of text name 0 (omega arith) has, same) refl
-
--- ---- Comparing a field name with an accepted name.
 
 module _ (name text key : List ℕ) (front : key ≡ take (length name) text) where
   here : map to_ascii_lowercase (take (length (map to_ascii_lowercase name)) text)
@@ -58,19 +55,15 @@ module _ (name text key : List ℕ) (front : key ≡ take (length name) text) wh
 
 -- ---- A line is a directive of at most one kind with at most one value: those that `statement_of` computes.
 
--- ---- spaces and tabs
-
 blank_decides : (b : ℕ) → Decides (b == space || b == tab) (IsBlank b)
 blank_decides b = Decides-or (b == space) (b == tab) (Decides-eqb b space) (Decides-eqb b tab)
 
--- leading spaces and tabs are skipped, whatever follows them
 pub skip_front : (blanks left : List ℕ) → Each IsBlank blanks
     → skip_blanks (blanks ++ left) ≡ skip_blanks left
 skip_front [] left all = refl
 skip_front (b ∷ blanks) left all = cond-true _ _ _ ((blank_decides b).1 all.0)
     ∙ skip_front blanks left all.1
 
--- the text doesn't begin with a space or tab, so nothing is skipped
 abbrev pub NoBlank : List ℕ → Type 0
 NoBlank [] = Unit {0}
 NoBlank (b ∷ text) = ¬ IsBlank b
@@ -80,7 +73,6 @@ kept [] plain = refl
 kept (b ∷ text) plain =
     cond-false _ _ _ (false_from_ne_true (b == space || b == tab) (λ is. plain ((blank_decides b).0 is)))
 
--- the text is spaces and tabs, and then `left`
 abbrev Skipped : List ℕ → List ℕ → Type 0
 Skipped left text = (blanks : List ℕ) × Each IsBlank blanks × (text ≡ blanks ++ left) × NoBlank left
 
@@ -94,9 +86,6 @@ skipped (b ∷ text) = elim (cases_Bool (b == space || b == tab)) [
       rw isnt ([], tt, refl, λ blank. true≢false (sym ((blank_decides b).1 blank) ∙ isnt))
 ]
 
--- ---- field names
-
--- a text that selects a kind of directive doesn't begin with a space or tab
 plain_by : (kind : Kind) (text : List ℕ) → kind_by text ≡ Some kind → NoBlank text
 plain_by kind [] is = tt
 plain_by kind (b ∷ text) is = λ blank. at blank is
@@ -116,7 +105,6 @@ any_small : (list : List (List ℕ)) (text : List ℕ)
 any_small [] text = refl
 any_small (s ∷ list) text = rw (take-map, any_small list text) refl
 
--- the accepted name is recognized as one of this kind, whatever follows it
 abbrev IsRead : Kind → List ℕ → Type 0
 IsRead kind s = (more text : List ℕ) → (kind_by (s ++ more) ≡ Some kind)
     × (after_small (field_names kind) (s ++ more) text ≡ Some (drop (length s) text))
@@ -125,7 +113,6 @@ each_read : (kind : Kind) → Each (IsRead kind) (field_names kind)
 each_read UserAgent = search rules
 each_read _ = search rules
 
--- lower case selects the same kind
 kind_small : (text : List ℕ) → kind_by text ≡ kind_by (map to_ascii_lowercase text)
 kind_small [] = refl
 kind_small (b ∷ text) = ap kind_with (sym (lowercase-lowercase b))
@@ -146,7 +133,6 @@ key_found kind key rest is =
       drop_at key rest _ (sym (length-map key to_ascii_lowercase)),
     ) (refl, refl)
 
--- the text is a field name and the rest
 found_key : (list : List (List ℕ)) (text rest : List ℕ) → after_any list text ≡ Some rest
     → (key : List ℕ) × Contains list (map to_ascii_lowercase key) × (text ≡ key ++ rest)
 found_key [] text rest is = let none : None ≡ Some rest = is in cc
@@ -163,10 +149,6 @@ found_key (s ∷ list) text rest is = elim (cases_Bool (begins s text)) [
       (key, Contains-append_right (s ∷ []) list _ among, whole)
 ]
 
--- ---- separators
-
--- if the tail begins with neither a space, a tab nor a colon, nothing is skipped, and only spaces and tabs
--- separate
 spaced : (rest tail : List ℕ) → StartsValue tail
     → (skip_blanks tail ≡ tail) × (after_separator rest tail ≡ after_blanks rest tail)
 spaced rest [] plain = (refl, refl)
@@ -185,13 +167,12 @@ tail_found tail rest (inr (b ∷ blanks, all, some, whole, plain)) =
     ap skip_blanks whole ∙ skip_front (b ∷ blanks) tail all ∙ same in
     rw (reads, blanks_alone, short, same) refl
 
--- the rest has a separator and a tail, and the code found that tail without its leading spaces and tabs
+-- the code found the tail without its leading spaces and tabs
 abbrev Tailed : List ℕ → List ℕ → Type 0
 Tailed rest found =
     (tail : List ℕ) × (IsAfterColon tail rest ⊎ IsAfterBlanks tail rest)
     × (found ≡ skip_blanks tail)
 
--- if any spaces or tabs precede what is left, they are the separator
 blanks_found : (rest left found : List ℕ) → Skipped left rest → StartsValue left
     → after_blanks rest left ≡ Some found → Tailed rest found
 blanks_found rest left found (blanks, all, whole, _) plain is =
@@ -217,13 +198,10 @@ found_tail rest (c ∷ left) found s is = elim (cases_Bool (c == colon)) [
   | inr other ↦ blanks_found rest (c ∷ left) found s (s.3, eqb-false c colon other) (rw other at is)
 ]
 
--- ---- raw values
-
 region_step : (b : ℕ) (tail : List ℕ) → region_of (b ∷ tail)
     ≡ cond (not (b == hash)) (b ∷ region_of tail) []
 region_step b tail = take_while-cons (λ byte. not (byte == hash)) b tail
 
--- the tail is a raw value without `#`, and possibly a comment
 abbrev Parted : List ℕ → List ℕ → Type 0
 Parted region tail = (comment : List ℕ) × (tail ≡ region ++ comment)
     × Each (λ byte. byte ≢ hash) region × IsOptionalComment comment
@@ -244,7 +222,6 @@ region_is [] comment plain (inr (text, is)) = ap region_of is ∙ region_step ha
 region_is (b ∷ region) comment plain is =
     rw (region_step b (region ++ comment), ne_eqb b hash plain.0, region_is region comment plain.1 is) refl
 
--- spaces and tabs before the value change nothing
 value_skipped : (tail : List ℕ) → value_of (skip_blanks tail) ≡ value_of tail
 value_skipped tail =
     let (blanks, all, whole, _) = skipped tail in
@@ -260,8 +237,6 @@ value_skipped tail =
     at [] all = refl
     at (b ∷ blanks) all =
         first b (blanks ++ skip_blanks tail) all.0 ∙ ap (λ t. b ∷ t) (at blanks all.1)
-
--- ---- the directive
 
 pub statement_found : (kind : Kind) (value body : List ℕ) → IsStatement kind value body
     → statement_of body ≡ Some (kind, value)
@@ -279,7 +254,6 @@ statement_found kind value body s =
     ∙ is_trimmed s.region value s.trimmed in
     rw (reads, key.0, key.1, tail_found s.tail s.rest s.separated, is) refl
 
--- a field name of the kind, a separator and a tail are a directive
 stated : (kind : Kind) (body rest found : List ℕ)
     → after_any (field_names kind) (skip_blanks body) ≡ Some rest → tail_of rest ≡ Some found
     → IsStatement kind (value_of found) body

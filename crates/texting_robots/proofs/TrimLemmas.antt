@@ -19,9 +19,6 @@ use Rattle.bstr.proofs.lemmas.{TrimLemmas.kept_end-snoc}
 use lib.Utf8.{low_scalar, scalar}
 use Rattle.texting_robots.specs.{Trim.IsSpaces, Trim.IsTrimOf, Statement.IsBlank, Internal.Statement.trimmed}
 
--- ---- UTF-8 units
-
--- the character that the first UTF-8 unit decodes to, and the bytes after that unit
 abbrev first_char : List ℕ → ℕ
 first_char bytes = or_replacement (decoded bytes).char
 
@@ -41,11 +38,9 @@ by_units P none more bytes = at (length bytes) bytes (omega arith)
         let bounds = piece-bounds (b ∷ rest) (omega arith) in
         more (b ∷ rest) (omega arith) (at n _ (simp length-drop (omega arith)))
 
--- a white space character is a Unicode scalar value, so it is decoded as itself
 pub white_scalar : (c : ℕ) → is_whitespace c ≡ true → scalar c ≡ true
 white_scalar c white = low_scalar c (grind (arith, nat_tests))
 
--- bytes whose first unit decodes to white space begin with the encoding of that character
 written : (bytes : List ℕ) → is_whitespace (first_char bytes) ≡ true
     → bytes ≡ encode_utf8 (first_char bytes) ++ following bytes
 written bytes = at (decoded bytes).char refl
@@ -58,7 +53,6 @@ written bytes = at (decoded bytes).char refl
 
 -- ---- the start
 
--- shifting all spans shifts the result
 shifted : (k n off n' off' : ℕ) (ps : List Decoded) → n' ≡ k + n → off' ≡ k + off
     → kept_start is_whitespace n' (spans_from off' ps)
     ≡ k + kept_start is_whitespace n (spans_from off ps)
@@ -73,7 +67,6 @@ shifted k n off n' off' (p ∷ ps) long far =
 abbrev from_start : List ℕ → List ℕ
 from_start bytes = trim_start_by is_whitespace bytes
 
--- leading white space is dropped, and anything else is kept
 start_step : (bytes : List ℕ) → 0 < length bytes
     → from_start bytes ≡ cond (is_whitespace (first_char bytes)) (from_start (following bytes)) bytes
 unfolding kept_start
@@ -100,7 +93,6 @@ encode_some : (c : ℕ) → 0 < length (encode_utf8 c)
 unfolding encode_utf8
 encode_some c = grind (arith, nat_tests)
 
--- a character at the start
 start_char : (c : ℕ) (rest : List ℕ) → scalar c ≡ true → from_start (encode_utf8 c ++ rest)
     ≡ cond (is_whitespace c) (from_start rest) (encode_utf8 c ++ rest)
 start_char c rest is =
@@ -119,7 +111,6 @@ start_spaces (c ∷ cs) rest all =
     ∙ start_char c (encode_utf8_all cs ++ rest) (white_scalar c all.0) ∙ cond-true _ _ _ all.0
     ∙ start_spaces cs rest all.1
 
--- what is dropped is white space
 abbrev Started : List ℕ → Type 0
 Started bytes = (chars : List ℕ) × AllWhite chars × (bytes ≡ encode_utf8_all chars ++ from_start bytes)
 
@@ -142,7 +133,6 @@ started = by_units Started ([], tt, sym (drop-nil _)) (λ bytes some (chars, all
 abbrev end_of : List ℕ → ℕ
 end_of bytes = kept_end is_whitespace 0 (spans_from 0 (pieces bytes))
 
--- a character at the end
 end_char : (rest : List ℕ) (c : ℕ) → scalar c ≡ true → end_of (rest ++ encode_utf8 c)
     ≡ cond (is_whitespace c) (end_of rest) (length (rest ++ encode_utf8 c))
 end_char rest c is =
@@ -173,11 +163,9 @@ end_spaces (c ∷ cs) rest all =
     ∙ end_spaces cs (rest ++ encode_utf8 c) all.1
     ∙ end_char rest c (white_scalar c all.0) ∙ cond-true _ _ _ all.0
 
--- only white space follows the offset `end`
 abbrev Ended : List ℕ → ℕ → Type 0
 Ended text end = (end ≤ length text) × IsSpaces (drop end text)
 
--- adding a UTF-8 unit
 ended_next : (bytes text : List ℕ) (end : ℕ) → 0 < length bytes → Ended text end
     → (let n = (decoded bytes).size in
     Ended (text ++ take n bytes) (cond (is_whitespace (first_char bytes)) end (length text + n)))
@@ -218,8 +206,6 @@ ended = by_units (λ bytes. (text : List ℕ) (end : ℕ) → Ended text end
     (rw (append_assoc, take-append-drop, long) at
     (later (text ++ take n bytes) _ (ended_next bytes text end some e))))
 
--- ---- the trim
-
 pub trimmed_is_trim : (region : List ℕ) → IsTrimOf (trimmed region) region
 trimmed_is_trim region =
     let (chars, all, cut) = started region in
@@ -252,7 +238,6 @@ trimmed_is_trim region =
           omega (arith, same, within, length-drop (end_of rest) rest);
     }
 
--- the trim is unique
 pub is_trimmed : (region value : List ℕ) → IsTrimOf value region → trimmed region ≡ value
 is_trimmed region value u =
     let t = trimmed_is_trim region in
@@ -274,9 +259,6 @@ pub same_trim : (text region value : List ℕ) → trimmed text ≡ trimmed regi
 same_trim text region value same t =
     subst (λ v. IsTrimOf v text) (same ∙ is_trimmed region value t) (trimmed_is_trim text)
 
--- ---- spaces and tabs
-
--- spaces and tabs are white space
 blank_spaces : (blanks : List ℕ) → Each IsBlank blanks
     → AllWhite blanks × (encode_utf8_all blanks ≡ blanks)
 unfolding encode_utf8
@@ -290,7 +272,6 @@ blank_spaces (b ∷ blanks) (is, all) =
     at (inl e) = rw e (refl, refl)
     at (inr e) = rw e (refl, refl)
 
--- leading spaces and tabs don't change the trim
 pub blanks_skipped : (blanks region : List ℕ) → Each IsBlank blanks
     → trimmed (blanks ++ region) ≡ trimmed region
 blanks_skipped blanks region all =
@@ -298,7 +279,6 @@ blanks_skipped blanks region all =
     ap (trim_end_by is_whitespace)
     (ap (λ t. from_start (t ++ region)) (sym same) ∙ start_spaces blanks region white)
 
--- nor do trailing ones
 end_blanks : (left blanks : List ℕ) → Each IsBlank blanks
     → trim_end_by is_whitespace (left ++ blanks) ≡ trim_end_by is_whitespace left
 end_blanks left blanks all =
@@ -326,23 +306,18 @@ pub trailing_blanks : (text blanks : List ℕ) → IsUtf8 text → Each IsBlank 
     → trimmed (text ++ blanks) ≡ trimmed text
 trailing_blanks text blanks (chars, (is, whole)) all = rw (← whole) (blanks_after_chars chars blanks is all)
 
--- ---- visible bytes at both ends
-
--- a visible byte is a character that isn't white space
 graphic_char : (b : ℕ) → is_ascii_graphic b ≡ true
     → (scalar b ≡ true) × (is_whitespace b ≡ false) × (encode_utf8 b ≡ b ∷ [])
 graphic_char b is =
     let low : b < 128 = grind (arith, nat_tests) in
     (low_scalar b (omega arith), grind (arith, nat_tests), encode_ascii b low)
 
--- a visible byte at the start is kept
 graphic_first : (b : ℕ) (rest : List ℕ) → is_ascii_graphic b ≡ true
     → from_start (b ∷ rest) ≡ b ∷ rest
 graphic_first b rest is =
     let (scalar_b, dark, one) = graphic_char b is in
     (rw one at (start_char b rest scalar_b)) ∙ cond-false _ _ _ dark
 
--- trimming leaves a string unchanged if its first and last bytes are visible
 pub graphic_trim : (b : ℕ) (rest : List ℕ) → is_ascii_graphic b ≡ true
     → is_ascii_graphic (get_or (b ∷ rest) (length rest) 0) ≡ true → trimmed (b ∷ rest) ≡ b
     ∷ rest

@@ -17,10 +17,10 @@ use Rattle.std.proofs.lemmas.Cmp.{back_total, by_ranked, nat_cmp_total, nat_list
 use Rattle.std.proofs.lemmas.Cmp.{then_total, tied_itself}
 use Rattle.texting_robots.specs.Internal.Segments.{GoesBefore, entry_cmp, line_in, rank_in}
 
--- ---- The verdict depends only on which rules are listed, not on their order.
+-- ---- The verdict depends on which rules are listed, not on their order.
 
--- if each Disallow of `rules` is among `others`, and each Allow of `others` is among `rules`, then `others`
--- deny what `rules` deny
+-- if `others` have each Disallow of `rules`, and `rules` each Allow of `others`, then `others` deny what
+-- `rules` deny
 denied_by : (rules others : List Rule) (text : List ℕ)
     → ((p : List ℕ) → Contains rules (p, false) → Contains others (p, false))
     → ((q : List ℕ) → Contains others (q, true) → Contains rules (q, true))
@@ -28,13 +28,11 @@ denied_by : (rules others : List Rule) (text : List ℕ)
 denied_by rules others text denies allows (other, p, has, matches, longest) =
     (other, p, denies p has, matches, λ q splits. longest q (allows q splits))
 
--- a permutation has the same members
 pub same_elements : {X : Type 0} (xs ys : List X) → IsPermutation xs ys → (x : X)
     → Contains xs x ↔ Contains ys x
 same_elements xs ys same x =
     (Contains-permutation xs ys x same, Contains-permutation ys xs x (IsPermutation-sym xs ys same))
 
--- a member that isn't the first item is in the rest
 pub after_first : {X : Type 0} (first : X) (rest : List X) (x : X) → ¬ ◌≡◌ {A = X} first x
     → Contains (first ∷ rest) x → Contains rest x
 after_first first rest x other (zero, below, at) = absurd (other at)
@@ -107,8 +105,6 @@ length_decides deny allow text other denies allows = (
   ),
 )
 
--- ---- the line that decides
-
 pub longest_permuted : (rules others : List PlacedRule) (text : List ℕ) (placed : PlacedRule)
     → IsPermutation rules others
     → IsLongestMatch rules text placed → IsLongestMatch others text placed
@@ -138,7 +134,6 @@ deciding_permuted rules others text (Some line) same (differs, placed, decides, 
       at,
     )
 
--- rules in any order give the same verdicts
 pub same_verdicts : (rules others : List PlacedRule) → IsPermutation rules others
     → (text : List ℕ) (answer : Bool)
     → IsVerdict (unplaced others) text answer ↔ IsVerdict (unplaced rules) text answer
@@ -156,8 +151,6 @@ same_lines rules others same text line = (
   deciding_permuted rules others text line same,
 )
 
--- ---- one line decides
-
 kind_not_better : (one other : PlacedRule) → length one.rule.0 ≡ length other.rule.0
     → ¬ IsBetter one other
     → one.rule.1 ≡ true → other.rule.1 ≡ true
@@ -166,7 +159,6 @@ kind_not_better one other same not allows = elim (cases_Bool other.rule.1) [
   | inr denies ↦ absurd (not (inr (same, inl (allows, denies))))
 ]
 
--- two rules of which neither is better have the same line
 same_line : (one other : PlacedRule) → ¬ IsBetter one other → ¬ IsBetter other one
     → one.line ≡ other.line
 same_line one other not nor = elim (cases_order (length one.rule.0) (length other.rule.0)) [
@@ -189,7 +181,6 @@ none_decides rules text line none (differs, placed, decides, at) = elim none [
   | inr nothing ↦ nothing placed decides.listed decides.matches
 ]
 
--- rules have one verdict on a text
 pub one_verdict : (rules : List Rule) (text : List ℕ) (one two : Bool) → IsVerdict rules text one
     → IsVerdict rules text two → one ≡ two
 one_verdict rules text true true is is_too = refl
@@ -207,8 +198,6 @@ one_line_decides rules text (Some line) (Some other) (_, a, first, at) (_, b, se
     (first.best b second.listed second.matches) in
     ap (λ n. Some n) (sym at ∙ same ∙ there)
 
--- ---- What a comparison of patterns by the order means.
-
 pub cmp_less : (x y : ℕ) → x < y → nat_cmp x y ≡ Less
 cmp_less x y h = sym (nat_cmp_is x y Less h)
 
@@ -219,7 +208,6 @@ cmp_same x = tied_itself nat_cmp_total x
 abbrev IsSmaller : List ℕ → List ℕ → Type 0
 IsSmaller p q = (k : ℕ) × (take k p ≡ take k q) × (slice_index p k < slice_index q k)
 
--- what the result of comparing two strings of the same length means
 abbrev Compared : Ordering → List ℕ → List ℕ → Type 0
 Compared o p q = MatchOrdering o (IsSmaller p q) (p ≡ q) (IsSmaller q p)
 
@@ -253,7 +241,6 @@ pattern_total : IsTotalOrder pattern_cmp
 pattern_total =
     then_total (back_total (on_total (λ (p : List ℕ). length p) nat_cmp_total)) nat_list_cmp_total
 
--- what the result of comparing two patterns means
 pattern_compared : (p q : List ℕ)
     → MatchOrdering (pattern_cmp p q) (IsBefore p q) (p ≡ q) (IsBefore q p)
 pattern_compared p q = by_length (nat_cmp (length q) (length p)) (ranked (length q) (length p) _ refl)
@@ -302,7 +289,7 @@ transitive p q r first second =
     (less_is_before p r).0
     (pattern_total.trans p q r ((less_is_before p q).1 first) ((less_is_before q r).1 second))
 
--- ---- What the order of sorted entries means.
+-- ---- The order of patterns and of sorted entries.
 
 abbrev pub is_before : Entry → Entry → Bool
 is_before a b = is_lt (entry_cmp a b)
@@ -339,7 +326,6 @@ pub pairs_sorted : (entries : List Entry) → IsSortedBy is_before entries → A
 pairs_sorted entries sorted i j d before within =
     goes_before _ _ (sorted_far is_before weak entries sorted i j d (omega arith) within)
 
--- whether the masks could be made or not, there are no more than this number
 pub at_most : {X Y : Type 0} (made : Result X Y) (n m : ℕ) → m ≤ n → (if is_ok made then n else m) ≤ n
 at_most (Ok _) n m within = omega arith
 at_most (Err _) n m within = within

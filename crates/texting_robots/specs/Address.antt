@@ -7,11 +7,10 @@ use Rattle.url.specs.{Host.host_text, declared.host.Host.Host}
 use Rattle.url.specs.Parser.{Parsed, parse_url, and_then}
 use Rattle.texting_robots.specs.{Prepared.with_delimiter}
 
--- whether the scheme is `http` or `https`
 abbrev pub is_web : List ℕ → Bool
 is_web scheme = bytes_eq scheme (codes "http") || bytes_eq scheme (codes "https")
 
--- the address for this host, which may be missing, with `:` and the port unless the port is the default one
+-- the address for this host, with `:` and the port unless that is the default one
 abbrev pub address_at : Parts → Option (Host (List ℕ)) → Parsed (List ℕ)
 address_at url None = Err EmptyHost
 address_at url (Some host) =
@@ -19,12 +18,11 @@ address_at url (Some host) =
     (option_map decimal url.port)
     ++ codes "/robots.txt")
 
--- the address for the parts of a URL
 abbrev pub robots_address_of : Parts → Parsed (List ℕ)
 robots_address_of url =
     if cannot_be_a_base url then Err SetHostOnCannotBeABaseUrl
     else (if is_web url.scheme then address_at url (nonempty_host url) else Err EmptyHost)
 
--- the address for a string, by the specification of parsing that `url` exports
+-- the address for a string, parsed as `url` specifies
 abbrev pub robots_address : List ℕ → Parsed (List ℕ)
 robots_address text = and_then (parse_url None text) robots_address_of

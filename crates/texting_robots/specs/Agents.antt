@@ -20,7 +20,6 @@ abbrev pub agent_in : LineValue → Option (List ℕ)
 agent_in (UserAgent name) = Some name
 agent_in _ = None
 
--- the names in user-agent lines, in order and each once. A product token is a string, so a name that isn't
--- UTF-8 can't be that of a crawler
+-- the names in user-agent lines, in order and each once; a product token is a string, so others aren't names
 abbrev pub agents_in : List LineValue → List (List ℕ)
 agents_in lines = filter is_utf8 (each_once [] (filter_map agent_in lines))

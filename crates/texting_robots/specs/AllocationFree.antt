@@ -8,7 +8,7 @@ use Rattle.url.specs.declared.sets.TheConstants.{FORBIDDEN_DOMAIN, FRAGMENT, SPE
 use Rattle.url.specs.{Input.rsplit_once, Path.IsSegmentList}
 use Rattle.texting_robots.specs.{Escape.is_escaped, Prepared.with_delimiter}
 
--- a host that `url` leaves unchanged, and whose last label begins with a letter, so that it isn't a number
+-- a host that `url` leaves unchanged; its last label begins with a letter, so that it isn't a number
 pub record IsName (host : List ℕ) : Type 0 where
   pub allowed : All (IsKept FORBIDDEN_DOMAIN) host
   pub small : All (λ b. is_ascii_uppercase b ≡ false) host
@@ -20,7 +20,6 @@ IsPort own text =
     (port : Option ℕ) × (text ≡ with_delimiter (codes ":") (option_map decimal port))
     × IfSome port (λ n. (n < 2 ^ 16) × (n ≢ own))
 
--- a host name and a port
 pub record IsAuthority (own : ℕ) (text : List ℕ) : Type 0 where
   pub host : List ℕ
   pub port : List ℕ
@@ -34,7 +33,7 @@ IsSite text =
     ((authority : List ℕ) × (text ≡ codes "https://" ++ authority) × IsAuthority 443 authority)
     ⊎ ((authority : List ℕ) × (text ≡ codes "http://" ++ authority) × IsAuthority 80 authority)
 
--- segments, each after its slash, of which none is a dot segment and in which no byte has to be escaped
+-- segments, each after its slash, none of them a dot segment, in which no byte has to be escaped
 abbrev pub IsPath : List ℕ → Type 0
 IsPath path = IsSegmentList SpecialNotFile path
 
@@ -53,13 +52,13 @@ pub record IsTarget (text : List ℕ) : Type 0 where
   pub is_query : IsDelimited (codes "?") SPECIAL_QUERY query
   pub is_fragment : IsDelimited (codes "#") FRAGMENT fragment
 
--- what may follow a site: nothing, or the slash of a path
+-- nothing, or the slash of a path
 abbrev pub EndsSite : List ℕ → Type 0
 EndsSite [] = Unit {0}
 EndsSite (b ∷ rest) = b ≡ byte "/"
 
--- an absolute URL with a host name and without a user, which `url` leaves unchanged; but the path may be
--- missing, so that `url` adds a slash, if there is no query and no fragment either
+-- an absolute URL with a host name and no user, which `url` leaves unchanged, or to which it adds the slash
+-- of the path if there is no query and no fragment either
 pub record IsNormalizedUrl (url : List ℕ) : Type 0 where
   pub site : List ℕ
   pub target : List ℕ
@@ -73,6 +72,6 @@ abbrev pub IsPlainPath : List ℕ → Type 0
 IsPlainPath text = ((text ≡ []) ⊎ (slice_index text 0 ≡ byte "/"))
     × All (λ b. is_escaped b ≡ false) text
 
--- a verdict on this string doesn't allocate; contracts state that it isn't an error
+-- a verdict on this string doesn't allocate
 abbrev pub IsAllocationFree : List ℕ → Type 0
 IsAllocationFree text = IsPlainPath text ⊎ IsNormalizedUrl text

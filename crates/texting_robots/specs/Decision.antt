@@ -12,8 +12,8 @@ pub record IsLongestMatch (rules : List PlacedRule) (text : List ℕ) (placed : 
   pub longest : (other : PlacedRule) → Contains rules other → Matches other.rule.0 text
       → length other.rule.0 ≤ length placed.rule.0
 
--- `one` is longer than `other`; or they have the same length, and `one` is an Allow and `other` a Disallow;
--- or they have the same length and kind, and `one` is in an earlier line
+-- `one` is longer; or it is as long, and an Allow if `other` is a Disallow, or of the same kind in an earlier
+-- line
 abbrev pub IsBetter : PlacedRule → PlacedRule → Type 0
 IsBetter one other =
     (length other.rule.0 < length one.rule.0)

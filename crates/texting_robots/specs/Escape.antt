@@ -12,6 +12,5 @@ escape_byte b =
     if is_escaped b then byte "%" ∷ digit_glyph true (b / 16 % 16) ∷ digit_glyph true (b % 16) ∷ []
     else b ∷ []
 
--- each byte of the text, escaped
 abbrev pub escaped : List ℕ → List ℕ
 escaped bytes = flat_map escape_byte bytes

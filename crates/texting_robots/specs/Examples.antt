@@ -1,5 +1,4 @@
--- Worked examples: what the specification means for small inputs. They are theorems, proved as contracts in
--- `src/laws.rt`: `examples_of_lines` and those after it.
+-- Worked examples: what the specification means for small inputs. `src/laws.rt` proves them as theorems.
 use Rattle.std.specs.Prelude.{◌≡◌, ◌-◌, ◌^◌, ℕ, Bool, true, false, List, [], ◌∷◌, ◌++◌, Option, Some, None}
 use Rattle.std.specs.Prelude.{Ok, Err, codes, replicate, take}
 use Rattle.url.specs.declared.error.ParseError.TheVariants.{EmptyHost, RelativeUrlWithoutBase}
@@ -60,7 +59,7 @@ nonstandard_keys =
     ∷ Disallow (codes "/e") ∷ [])
     (codes "dissallow: /a\ndissalow: /b\ndisalow: /c\ndiasllow: /d\ndisallaw: /e")
 
--- a colon, spaces and tabs, or both separate field name and value; the value excludes white space around it
+-- a colon, spaces and tabs, or both separate field name and value, which excludes white space around it
 abbrev pub separators : Type 0
 separators =
     AreLinesOf
@@ -91,11 +90,9 @@ empty_values =
     AreLinesOf (Allow (codes "/") ∷ Allow (codes "/") ∷ Allow [] ∷ [])
     (codes "Disallow:\nDisallow #/x\nAllow:")
 
--- a Crawl-delay whose value isn't a delay is `Raw`, with the whole line and its comment
+-- a Crawl-delay whose value isn't a delay is `Raw`, with its comment
 abbrev pub no_number : Type 0
 no_number = AreLinesOf (Raw (codes "Crawl-delay: wait # x") ∷ []) (codes "Crawl-delay: wait # x")
-
--- ---- delays
 
 -- a number of seconds, in microseconds
 abbrev pub seconds : Type 0
@@ -121,7 +118,6 @@ minus =
     IsDelay (codes "-0") (Some 0) × IsDelay (codes "-1") None × IsDelay (codes "-1e-99") None
     × IsDelay (codes "-inf") None
 
--- these aren't delays
 abbrev pub no_delay : Type 0
 no_delay =
     IsDelay [] None × IsDelay (codes ".") None × IsDelay (codes "nan") None × IsDelay (codes "1e") None
@@ -129,7 +125,6 @@ no_delay =
 
 -- ---- groups
 
--- a rule with the number of its line
 abbrev pub allow_at : ℕ → List ℕ → PlacedRule
 allow_at line pattern = record { rule = (pattern, true); line = line }
 
@@ -185,8 +180,8 @@ groups =
     ++ codes "user-agent: BarBot\ndisallow: /\nallow: /y/\n\n\nallow: /w/\n"
     ++ codes "user-agent: BazBot\n\nuser-agent: FooBot\nallow: /z/\ndisallow: /"
 
--- groups with the same name are merged; an empty line ends neither a group nor a run of user-agent lines; a
--- rule above the first user-agent line applies to no crawler
+-- groups with one name are merged; an empty line ends neither group nor run; a rule above all applies to no
+-- crawler
 abbrev pub merged_groups : Type 0
 merged_groups =
     GivesRules (codes "FooBot") groups
@@ -285,8 +280,7 @@ overlong = ¬ IsOverlong (long 4094 (codes "$")) × IsOverlong (long 4095 (codes
 abbrev pub not_overlong : Type 0
 not_overlong = ¬ IsOverlong (long 4093 (codes "**$")) × ¬ IsOverlong (long 4095 (codes "b"))
 
--- a longer pattern is before a shorter one, with all of its stars counted; of two patterns of the same
--- length, the one with the smaller byte is first
+-- a longer pattern is first, with all of its stars counted; else the one with the smaller byte
 abbrev pub order : Type 0
 order =
     IsBefore (codes "/ab") (codes "/a") × IsBefore (codes "/a**") (codes "/a*")
@@ -341,8 +335,6 @@ robots_file =
 abbrev pub empty_allow : Type 0
 empty_allow = Answers (deny_at 1 (codes "/") ∷ allow_at 2 [] ∷ []) (codes "/x") false (Some 1)
 
--- ---- URLs and other strings
-
 -- the match target of a URL is its path, query and fragment
 abbrev pub prepared_url : Type 0
 prepared_url =
@@ -356,7 +348,6 @@ prepared_path =
     × (prepared (codes "/%aa") ≡ codes "/%aa")
     × (prepared [] ≡ codes "/")
 
--- these bytes are escaped too
 abbrev pub escapes : Type 0
 escapes = escaped (codes "/a b\"<>`") ≡ codes "/a%20b%22%3C%3E%60"
 
@@ -367,14 +358,11 @@ address =
     ≡ Ok (codes "https://example.com:80/robots.txt"))
     × (robots_address (codes "http://user@example.com:80/x") ≡ Ok (codes "http://example.com/robots.txt"))
 
--- these have no address
 abbrev pub no_address : Type 0
 no_address =
     (robots_address (codes "ftp://linux-isos.org/") ≡ Err EmptyHost)
     × (robots_address (codes "mailto:ferris@rust.com") ≡ Err SetHostOnCannotBeABaseUrl)
     × (robots_address (codes "/rust/v1/index.html") ≡ Err RelativeUrlWithoutBase)
-
--- ---- one file, from its bytes to verdicts
 
 abbrev pub ferris_file : List ℕ
 ferris_file =
@@ -398,15 +386,12 @@ ferris_robot = record {
   rules = ferris_rules;
 }
 
--- the file has these lines
 abbrev pub lines : Type 0
 lines = AreFileLinesOf ferris_lines ferris_file
 
--- they have this delay, these sitemaps and these rules for the crawler
 abbrev pub robot : Type 0
 robot = IsRobotOf (codes "FerrisCrawler") ferris_lines ferris_robot
 
--- and the rules have these verdicts
 abbrev pub answers : Type 0
 answers =
     Answers ferris_rules (codes "/ocean/reef.html") true (Some 2)

@@ -1,7 +1,5 @@
--- The relations as functions, for contracts that are equations, such as that of a report. Theorems state
--- that both agree: `each_text_has_one_cut`, `each_text_has_its_lines`, `each_file_has_its_lines`,
--- `each_agent_has_its_rules`, `each_agent_has_its_delay`, `each_file_has_its_sitemaps`. No contract of a
--- robot depends on these functions.
+-- The relations as functions, for contracts that are equations. Theorems state that both agree, such as
+-- `each_text_has_one_cut`. No contract of a robot depends on these functions.
 use Rattle.std.specs.Prelude.{ℕ, ◌+◌, Bool, true, false, List, Option, Some, None, filter, map, slice_get}
 use Rattle.std.specs.Prelude.{take, if◌then◌else◌}
 use Rattle.std.specs.List.{before_first, enumerate_from, filter_map, last_or, list_any}
@@ -10,12 +8,8 @@ use Rattle.texting_robots.specs.{Group.group_name, Group.is_agent, Escape.escape
 use Rattle.texting_robots.specs.Line.{LineValue, Allow, Disallow, Sitemap, delay_in, nul_as_lf, without_front}
 use Rattle.texting_robots.specs.Rules.{PlacedRule, Rule, placed, unplaced}
 use Rattle.texting_robots.specs.Internal.{Captured.is_captured, Cut.bodies_of, Line.lines_of}
--- the cut of a text, its delay, and whether a line is captured
 pub use Rattle.texting_robots.specs.Internal.{Cut.cut, Delay.delay_of, Captured.is_captured}
 
--- ---- lines
-
--- the lines of a text
 abbrev pub parsed : List ℕ → List LineValue
 parsed text = lines_of (without_front text)
 
@@ -23,21 +17,16 @@ parsed text = lines_of (without_front text)
 abbrev pub file_lines : List ℕ → List LineValue
 file_lines text = parsed (map nul_as_lf text)
 
--- the contents of these lines: each line unchanged, but without its terminator
+-- the contents of these lines, without their terminators
 abbrev pub file_bodies : List ℕ → List (List ℕ)
 file_bodies text = bodies_of (without_front (map nul_as_lf text))
 
--- the lines of the first `file_limit` bytes
 abbrev pub lines_read : List ℕ → List LineValue
 lines_read file = file_lines (take file_limit file)
 
--- and their contents
 abbrev pub bodies_read : List ℕ → List (List ℕ)
 bodies_read file = file_bodies (take file_limit file)
 
--- ---- rules
-
--- the rule with this value, if the value is UTF-8
 abbrev pub rule_with : List ℕ → Bool → Option Rule
 rule_with value is_allow = if is_utf8 value then Some (escaped value, is_allow) else None
 
@@ -46,12 +35,11 @@ rule_in (Allow value) = rule_with value true
 rule_in (Disallow value) = rule_with value false
 rule_in _ = None
 
--- the lines at captured positions, in order, each with its position, counted from 0; only an Allow, a
--- Disallow or a Crawl-delay has an effect
+-- the captured lines, each with its position, counted from 0; only rules and delays have an effect
 abbrev pub captured_lines : List ℕ → List LineValue → List (ℕ × LineValue)
 captured_lines name lines = filter (λ p. is_captured name lines p.0) (enumerate_from 0 lines)
 
--- the rule of the line at a position, if it has one, with the number of the line
+-- the rule of the line at a position, with the number of the line
 abbrev pub placed_in : ℕ × LineValue → Option PlacedRule
 placed_in p = placed (p.0 + 1) (rule_in p.1)
 
@@ -63,9 +51,6 @@ placed_rules agent lines = filter_map placed_in (captured_lines (group_name agen
 abbrev pub rules_for : List ℕ → List LineValue → List Rule
 rules_for agent lines = unplaced (placed_rules agent lines)
 
--- ---- delays and sitemaps
-
--- the captured delays, in order
 abbrev pub captured_delays : List ℕ → List LineValue → List ℕ
 captured_delays agent lines = filter_map (λ p. delay_in p.1) (captured_lines (group_name agent lines) lines)
 

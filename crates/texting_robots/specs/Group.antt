@@ -1,11 +1,8 @@
--- Which lines are captured for a crawler, that is, apply to it. Lines are given by their positions in a
--- file.
+-- Which lines are captured for a crawler, that is, apply to it. Lines are given by their positions in a file.
 use Rattle.std.specs.Prelude.{◌⊎◌, ℕ, ◌<◌, Bool, true, false, List, IsTrue, codes, slice_get}
 use Rattle.std.specs.Prelude.{bytes_eq, if◌then◌else◌}
 use Rattle.std.specs.{List.list_any, Option.option_map_or, Str.str_to_ascii_lowercase}
 use Rattle.texting_robots.specs.Line.{Allow, CrawlDelay, Disallow, LineValue, UserAgent}
-
--- ---- kinds of lines
 
 abbrev pub is_agent : LineValue → Bool
 is_agent (UserAgent value) = true
@@ -23,15 +20,12 @@ abbrev pub is_agent_named : List ℕ → LineValue → Bool
 is_agent_named name (UserAgent value) = bytes_eq (str_to_ascii_lowercase value) name
 is_agent_named name _ = false
 
--- ---- captured lines
-
 -- the product token in lowercase if some user-agent line has it, else `*`
 abbrev pub group_name : List ℕ → List LineValue → List ℕ
 group_name agent lines =
     let lowered = str_to_ascii_lowercase agent in
     if list_any (is_agent_named lowered) lines then lowered else codes "*"
 
--- whether there is a line at this position that passes the test
 abbrev pub passes_at : (LineValue → Bool) → List LineValue → ℕ → Bool
 passes_at test lines at = option_map_or test (slice_get lines at) false
 
@@ -46,8 +40,8 @@ abbrev pub IsNamedBefore : List ℕ → List LineValue → ℕ → Type 0
 IsNamedBefore name lines i =
     (j : ℕ) × (j < i) × IsTrue (passes_at (is_agent_named name) lines j) × ¬ (HasNewRun lines j i)
 
--- whether a group line at this position is captured for the crawlers with this group name: there is no
--- user-agent line, or the nearest run of user-agent lines above the position contains the name
+-- a group line at this position is captured for this group name: there is no user-agent line, or the nearest
+-- run of user-agent lines above the position contains the name
 abbrev pub IsCaptured : List ℕ → List LineValue → ℕ → Type 0
 IsCaptured name lines i =
     ((k : ℕ) → ¬ IsTrue (passes_at is_agent lines k)) ⊎ IsNamedBefore name lines i

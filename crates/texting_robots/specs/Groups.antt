@@ -4,8 +4,7 @@ use Rattle.std.specs.Prelude.{ℕ, ◌+◌, Bool, List, [], ◌∷◌, ◌++◌,
 use Rattle.std.specs.{List.list_any, Str.str_to_ascii_lowercase}
 use Rattle.texting_robots.specs.{Group.is_group, Line.LineValue, Line.UserAgent}
 
--- the names in the user-agent lines of a group, and its rules and delays, each with the position of its line,
--- counted from 0
+-- the names of a group, and its rules and delays, each with the position of its line, counted from 0
 pub record GroupValue : Type 0 where
   pub names : List (ℕ × List ℕ)
   pub lines : List (ℕ × LineValue)
@@ -15,8 +14,7 @@ pub record Grouped : Type 0 where
   pub above : List (ℕ × LineValue)
   pub groups : List GroupValue
 
--- one more name, with these rules and delays and these groups below it. If a group follows at once, the name
--- belongs to it; otherwise it begins a group
+-- one more name above these lines and groups; it joins a group that follows at once, and else begins one
 abbrev pub with_name : ℕ × List ℕ → List (ℕ × LineValue) → List GroupValue → List GroupValue
 with_name name [] (group ∷ groups) = record { names = name ∷ group.names; lines = group.lines } ∷ groups
 with_name name lines groups = record { names = name ∷ []; lines = lines } ∷ groups
@@ -35,7 +33,6 @@ abbrev pub grouped_from : ℕ → List LineValue → Grouped
 grouped_from position [] = record { above = []; groups = [] }
 grouped_from position (line ∷ lines) = with_line position line (grouped_from (position + 1) lines)
 
--- the groups of a file, in order
 abbrev pub groups : List LineValue → List GroupValue
 groups lines = (grouped_from 0 lines).groups
 

@@ -13,38 +13,33 @@ pub record Label : Type 0 where
   pub membership : Membership
   pub line : LineValue
 
--- ---- membership
-
 -- each group line (an Allow, a Disallow or a Crawl-delay) is above both positions, or below both
 abbrev pub AreOneRun : List LineValue → ℕ → ℕ → Type 0
 AreOneRun lines i j =
     (k : ℕ) → IsTrue (passes_at is_group lines k) → ((k < i) × (k < j)) ⊎ ((i < k) × (j < k))
 
--- the line at the position is a captured group line; or it is a user-agent line, and its run, which no
--- group line interrupts, contains the name
+-- a captured group line, or a user-agent line whose run, which no group line interrupts, contains the name
 abbrev pub IsInOwnGroup : List ℕ → List LineValue → ℕ → Type 0
 IsInOwnGroup name lines position =
     (IsTrue (passes_at is_group lines position) × IsCaptured name lines position)
     ⊎ (IsTrue (passes_at is_agent lines position)
     × (j : ℕ) × IsTrue (passes_at (is_agent_named name) lines j) × AreOneRun lines position j)
 
--- the line at the position is a user-agent line, or a group line below a user-agent line
+-- a user-agent line, or a group line below one
 abbrev pub IsInGroup : List LineValue → ℕ → Type 0
 IsInGroup lines position =
     IsTrue (passes_at is_agent lines position)
     ⊎ (IsTrue (passes_at is_group lines position)
     × (j : ℕ) × (j < position) × IsTrue (passes_at is_agent lines j))
 
--- the membership of the line at the position for a group name: in the crawler's group, in another, or in
--- none
+-- the membership of the line at the position, for a group name
 abbrev pub HasMembership : List ℕ → List LineValue → ℕ → Membership → Type 0
 HasMembership name lines position Own = IsInOwnGroup name lines position
 HasMembership name lines position Other = (¬ IsInOwnGroup name lines position) × IsInGroup lines position
 HasMembership name lines position Ungrouped = (¬ IsInOwnGroup name lines position)
     × (¬ IsInGroup lines position)
 
--- the labels are those of these lines, in order: each has the number of its line, counted from 1, and the
--- membership of that line
+-- the labels of these lines, in order, with their numbers, counted from 1, and their memberships
 pub record AreLabelsOf (name : List ℕ) (lines : List LineValue) (labels : List Label) : Type 0 where
   pub lines_are : map (λ (label : Label). label.line) labels ≡ lines
   pub each : (position : ℕ) (label : Label) → slice_get labels position ≡ Some label
@@ -52,11 +47,11 @@ pub record AreLabelsOf (name : List ℕ) (lines : List LineValue) (labels : List
 
 -- ---- labels as a function; by the theorem `each_line_has_its_label` it agrees with `AreLabelsOf`
 
--- the position of the first group line from this position on, or the number of lines
+-- the position of the first group line from this one on, or the number of lines
 abbrev pub next_group : List LineValue → ℕ → ℕ
 next_group lines at = at + position_or_len is_group (drop at lines)
 
--- the membership of a line, given with its position; a user-agent line is treated like the next group line
+-- a user-agent line is treated like the next group line
 abbrev pub membership_of : List ℕ → List LineValue → ℕ × LineValue → Membership
 membership_of name lines p =
     if not (is_agent p.1 || is_group p.1) then Ungrouped
@@ -67,22 +62,17 @@ membership_of name lines p =
 abbrev pub label_at : List ℕ → List LineValue → ℕ × LineValue → Label
 label_at name lines p = record { number = p.0 + 1; membership = membership_of name lines p; line = p.1 }
 
--- all labels, in order
 abbrev pub labels_of : List ℕ → List LineValue → List Label
 labels_of name lines = map (label_at name lines) (enumerate_from 0 lines)
-
--- ---- labels and names
 
 -- a labeled line by value, wherever its bytes are in memory
 abbrev pub label_by_value : LabeledLine → Label
 label_by_value labeled =
     record { number = labeled.number; membership = labeled.membership; line = by_value labeled.line }
 
--- whether the line is in the crawler's own group
 abbrev pub is_own : Membership → Bool
 is_own Own = true
 is_own _ = false
 
--- whether some user-agent line names the crawler
 abbrev pub is_named : List ℕ → List LineValue → Bool
 is_named agent lines = list_any (is_agent_named (str_to_ascii_lowercase agent)) lines

@@ -21,8 +21,6 @@ by_value (line.Sitemap value) = Sitemap value.now
 by_value (line.CrawlDelay delay) = CrawlDelay delay
 by_value (line.Raw body) = Raw body.now
 
--- ---- the line of a line's content
-
 -- the line of a directive of this kind with this value; an empty Disallow is an Allow of `/`, and a
 -- Crawl-delay whose value isn't a delay is `Raw`, with the whole content
 abbrev pub IsLineWith : Kind → List ℕ → List ℕ → LineValue → Type 0
@@ -41,33 +39,29 @@ IsLineOf line body =
     ((kind : Kind) × (value : List ℕ) × IsStatement kind value body × IsLineWith kind value body line)
     ⊎ (((kind : Kind) (value : List ℕ) → ¬ IsStatement kind value body) × (line ≡ Raw body))
 
--- ---- the lines of a text
-
 -- the text without this byte, if the byte is its first
 abbrev pub without : ℕ → List ℕ → List ℕ
 without byte [] = []
 without byte (first ∷ text) = if first == byte then text else first ∷ text
 
--- the text without a byte order mark: without a leading EF, then without a leading BB, then without a
--- leading BF
+-- the text without a byte order mark: without a leading EF, then a leading BB, then a leading BF
 abbrev pub without_front : List ℕ → List ℕ
 without_front text = without 0xBF (without 0xBB (without 0xEF text))
 
--- these are the lines of the text: those of the contents in its cut, without the byte order mark
+-- the lines of the contents in the text's cut, without the byte order mark
 pub record AreLinesOf (lines : List LineValue) (text : List ℕ) : Type 0 where
   pub pairs : List Pair
   pub is_cut : IsCut pairs (without_front text)
   pub each : AllZip IsLineOf lines (map (λ pair. pair.body) pairs)
 
--- LF in place of NUL
 abbrev pub nul_as_lf : ℕ → ℕ
 nul_as_lf byte = if byte == 0 then lf else byte
 
--- these are the lines of the file, in which each NUL is read as LF
+-- the lines of the file, in which each NUL is read as LF
 abbrev pub AreFileLinesOf : List LineValue → List ℕ → Type 0
 AreFileLinesOf lines text = AreLinesOf lines (map nul_as_lf text)
 
--- these are the contents of the file's lines, one for each line: those of the same cut
+-- the contents of the file's lines: those of the same cut
 abbrev pub AreFileBodiesOf : List (List ℕ) → List ℕ → Type 0
 AreFileBodiesOf bodies text = (pairs : List Pair) × IsCut pairs (without_front (map nul_as_lf text))
     × (bodies ≡ map (λ pair. pair.body) pairs)
@@ -76,9 +70,6 @@ AreFileBodiesOf bodies text = (pairs : List Pair) × IsCut pairs (without_front 
 abbrev pub HasLines : List ℕ → (List LineValue → Type 0) → Type 0
 HasLines file P = (lines : List LineValue) × AreFileLinesOf lines file × P lines
 
--- ---- which bytes a line has
-
--- the bytes of the line, if it has bytes
 abbrev pub value_in : LineValue → Option (List ℕ)
 value_in (UserAgent value) = Some value
 value_in (Allow value) = Some value
@@ -99,15 +90,12 @@ HoldsRangeOf (CrawlDelay delay) body = IsSome delay
 HoldsRangeOf (Raw value) body = value ≡ body
 HoldsRangeOf line body = IfSome (value_in line) (λ value. IsRangeOf value body)
 
--- the bytes of each line are a range of its content, and the pairs, joined, are the text without its byte
--- order mark
+-- the bytes of each line are a range of its content; the pairs are the text without its byte order mark
 pub record HoldRangesOf (lines : List LineValue) (text : List ℕ) : Type 0 where
   pub pairs : List Pair
   pub is_cut : IsCut pairs (without_front text)
   pub whole : IsSuffix (joined pairs) text
   pub each : AllZip HoldsRangeOf lines (map (λ pair. pair.body) pairs)
-
--- ---- other properties of a line
 
 abbrev pub is_sitemap : LineValue → Bool
 is_sitemap (Sitemap value) = true
@@ -117,7 +105,6 @@ abbrev pub is_raw : LineValue → Bool
 is_raw (Raw body) = true
 is_raw _ = false
 
--- the delay in the line
 abbrev pub delay_in : LineValue → Option ℕ
 delay_in (CrawlDelay delay) = delay
 delay_in _ = None

@@ -14,10 +14,8 @@ pub record Tagged : Type 0 where
 abbrev pub tag_of : GroupLine → Tagged
 tag_of group = record { number = group.number; line = by_value group.line; run = group.run }
 
--- the rule in a group line
 abbrev pub rule_of : Tagged → Option PlacedRule
 rule_of t = placed t.number (rule_in t.line)
 
--- the delay in a group line
 abbrev pub delay_of : Tagged → Option ℕ
 delay_of t = delay_in t.line

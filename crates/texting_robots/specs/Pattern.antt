@@ -8,7 +8,6 @@ star = 42
 abbrev pub dollar : ℕ
 dollar = 36
 
--- a star or a dollar
 abbrev pub is_wildcard : ℕ → Bool
 is_wildcard b = (b == star) || (b == dollar)
 
@@ -28,8 +27,7 @@ Consumes anchors b t s =
     (MatchBool (anchors && (b == dollar)) ((t ≡ []) × (s ≡ []))
     (t ≡ b ∷ s))
 
--- the pattern matches from the start of the text, but not necessarily up to its end: its bytes consume the
--- text one after the other
+-- the pattern matches a prefix of the text, or all of it: its bytes consume the text one after the other
 unfoldable pub MatchesWith : Bool → List ℕ → List ℕ → Type 0
 MatchesWith anchors [] t = Unit {0}
 MatchesWith anchors (b ∷ q) t = (s : List ℕ) × Consumes anchors b t s × MatchesWith anchors q s
@@ -42,8 +40,7 @@ Matches pattern text = MatchesWith true pattern text
 abbrev pub MatchesStars : List ℕ → List ℕ → Type 0
 MatchesStars pattern text = MatchesWith false pattern text
 
--- the pattern with one star in place of each run of stars: without each star that precedes another one
--- (`slice_index` is 0 past the end)
+-- one star in place of each run of stars: no star precedes another one (`slice_index` is 0 past the end)
 unfoldable pub collapsed : List ℕ → List ℕ
 collapsed [] = []
 collapsed (b ∷ q) = if (b == star) && (slice_index q 0 == star) then collapsed q else b ∷ collapsed q

@@ -12,8 +12,7 @@ with_delimiter delimiter (Some text) = delimiter ++ text
 abbrev pub target_of : Parts → List ℕ
 target_of url = url.path ++ with_delimiter (codes "?") url.query ++ with_delimiter (codes "#") url.fragment
 
--- the match target of a string, which patterns are compared with; `url` exports the specification of what a
--- URL is
+-- the match target of a string, which patterns are compared with; `url` specifies what a URL is
 abbrev pub prepared : List ℕ → List ℕ
 prepared [] = codes "/"
 prepared text = elim (parse_url None text) [ Ok url ↦ target_of url | Err e ↦ escaped text ]

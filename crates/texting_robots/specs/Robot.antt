@@ -8,24 +8,22 @@ use Rattle.texting_robots.specs.Rules.{AreSitemapsOf, IsDelayFor, IsRejected, Pl
 abbrev pub file_limit : ℕ
 file_limit = 512000
 
--- the delay, the sitemaps, and the rules with their lines
 pub record RobotValue : Type 0 where
   pub delay : Option ℕ
   pub sitemaps : List (List ℕ)
   pub rules : List PlacedRule
 
--- the robot is the one for this crawler and a file with these lines, and none of its rules is overlong
+-- the robot for this crawler and these lines; none of its rules is overlong
 pub record IsRobotOf (agent : List ℕ) (lines : List LineValue) (robot : RobotValue) : Type 0 where
   pub delay : IsDelayFor agent lines robot.delay
   pub sitemaps : AreSitemapsOf lines robot.sitemaps
   pub rules : AreRulesFor agent lines robot.rules
   pub accepted : ¬ IsRejected agent lines
 
--- the robot is the one for this crawler and this file
 abbrev pub IsRobotOfFile : List ℕ → List ℕ → RobotValue → Type 0
 IsRobotOfFile agent file robot = HasLines file (λ lines. IsRobotOf agent lines robot)
 
--- the same, but the robot has no sitemaps, whatever the file lists
+-- the same without sitemaps, whatever the file lists
 abbrev pub IsRobotWithoutSitemaps : List ℕ → List ℕ → RobotValue → Type 0
 IsRobotWithoutSitemaps agent file robot =
     (robot.sitemaps ≡ []) × (sitemaps : List (List ℕ))

@@ -1,5 +1,4 @@
--- What applies to a crawler of the lines of a file. Rules and delays are specified by the positions of
--- lines, counted from 0, and sitemaps line by line.
+-- What applies to a crawler of the lines of a file, by their positions, counted from 0.
 use Rattle.std.specs.Prelude.{Bool, Option, AllPairs, Contains, IsTrue, slice_get, if◌then◌else◌, option_map}
 use Rattle.std.specs.Prelude.{◌≡◌, ◌≢◌, ◌⊎◌, ◌↔◌, ℕ, ◌+◌, ◌<◌, ◌≤◌, All, List, [], ◌∷◌, ◌++◌, Some, None, map}
 use Rattle.std.specs.{Str.is_utf8}
@@ -12,8 +11,6 @@ abbrev pub IsCapturedAt : List ℕ → List LineValue → ℕ → LineValue → 
 IsCapturedAt agent lines position line =
     (slice_get lines position ≡ Some line) × IsCaptured (group_name agent lines) lines position
 
--- ---- rules
-
 -- a pattern, and whether it allows
 abbrev pub Rule : Type 0
 Rule = List ℕ × Bool
@@ -23,11 +20,9 @@ pub record PlacedRule : Type 0 where
   pub rule : Rule
   pub line : ℕ
 
--- the rule, if there is one, with this line
 abbrev pub placed : ℕ → Option Rule → Option PlacedRule
 placed line rule = option_map (λ (r : Rule). record { rule = r; line = line }) rule
 
--- the rules without their lines
 abbrev pub unplaced : List PlacedRule → List Rule
 unplaced rules = map (λ (placed : PlacedRule). placed.rule) rules
 
@@ -60,42 +55,35 @@ abbrev pub IsRejected : List ℕ → List LineValue → Type 0
 IsRejected agent lines =
     (position : ℕ) × (rule : Rule) × HoldsRule agent lines position rule × IsOverlong rule.0
 
--- ---- delays
-
 -- P holds for the number at some position, and at no earlier position for any number
 abbrev pub IsFirst : (ℕ → ℕ → Type 0) → ℕ → Type 0
 IsFirst P number = (position : ℕ) × P position number × ((other n : ℕ) → P other n → position ≤ other)
 
--- P holds for the number at some position, and at no later position for any number
+-- and at no later position
 abbrev pub IsLast : (ℕ → ℕ → Type 0) → ℕ → Type 0
 IsLast P number = (position : ℕ) × P position number × ((other n : ℕ) → P other n → other ≤ position)
 
--- P holds at no position for any number
 abbrev pub Nowhere : (ℕ → ℕ → Type 0) → Type 0
 Nowhere P = (position n : ℕ) → ¬ P position n
 
--- the line at the position is a captured delay of this many microseconds
+-- a captured delay of this many microseconds
 abbrev pub IsCapturedDelay : List ℕ → List LineValue → ℕ → ℕ → Type 0
 IsCapturedDelay agent lines position delay = IsCapturedAt agent lines position (CrawlDelay (Some delay))
 
--- the line at the position is a delay above the first user-agent line, and there is such a line
+-- a delay above the first user-agent line, which exists
 abbrev pub IsEarlyDelay : List LineValue → ℕ → ℕ → Type 0
 IsEarlyDelay lines position delay =
     (slice_get lines position ≡ Some (CrawlDelay (Some delay)))
     × ((k : ℕ) → k < position → ¬ IsTrue (passes_at is_agent lines k))
     × (k : ℕ) × (position < k) × IsTrue (passes_at is_agent lines k)
 
--- the crawler's delay: the first captured one; if there is none, the last one above the first user-agent
--- line
+-- the first captured delay; if there is none, the last one above the first user-agent line
 abbrev pub IsDelayFor : List ℕ → List LineValue → Option ℕ → Type 0
 IsDelayFor agent lines (Some delay) =
     IsFirst (IsCapturedDelay agent lines) delay
     ⊎ (Nowhere (IsCapturedDelay agent lines) × IsLast (IsEarlyDelay lines) delay)
 IsDelayFor agent lines None = Nowhere (IsCapturedDelay agent lines) × Nowhere (IsEarlyDelay lines)
 
--- ---- sitemaps
-
--- the line is a sitemap line with this value, which is UTF-8
 abbrev pub ListsSitemap : LineValue → List ℕ → Type 0
 ListsSitemap line sitemap = (line ≡ Sitemap sitemap) × IsTrue (is_utf8 sitemap)
 
@@ -107,6 +95,5 @@ AreSitemapsOf (line ∷ lines) sitemaps =
     × (sitemaps ≡ first ∷ later))
     ⊎ (((sitemap : List ℕ) → ¬ ListsSitemap line sitemap) × AreSitemapsOf lines sitemaps)
 
--- the lines hold no rule for the crawler, and list no sitemap
 abbrev pub HasNoRulesOrSitemaps : List ℕ → List LineValue → Type 0
 HasNoRulesOrSitemaps agent lines = AreRulesFor agent lines [] × AreSitemapsOf lines []

@@ -34,9 +34,8 @@ IsAfterBlanks tail rest =
     (blanks : List ℕ) × Each IsBlank blanks × (blanks ≢ []) × (rest ≡ blanks ++ tail)
     × StartsValue tail
 
--- `body`, the content of a line, is a directive of this kind with this value: spaces and tabs, a field name
--- of this kind, ASCII letters in any case, a separator, a raw value without `#`, and then nothing or a
--- comment; the value is the raw value, trimmed
+-- a directive: spaces and tabs, a field name of this kind, ASCII letters in any case, a separator, a raw
+-- value without `#`, and nothing or a comment; the value is the raw value, trimmed
 pub record IsStatement (kind : Kind) (value body : List ℕ) : Type 0 where
   pub margin : List ℕ
   pub key : List ℕ

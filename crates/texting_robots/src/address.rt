@@ -7,7 +7,6 @@ ghost use Rattle.texting_robots.specs.Address.{robots_address, robots_address_of
 use std::alloc::{AllocError, Global};
 use url::{ParseError, Url};
 
-/// Appends `:` and the port, if there is one.
 fn push_port(alloc: Global, text: &mut String, port: Option<u16>) -> Result<(), AllocError>
     ensures { OnOk result (string_bytes text.new
         ≡ string_bytes text.old ++ with_delimiter (codes ":") (option_map decimal port)) }
@@ -19,7 +18,6 @@ fn push_port(alloc: Global, text: &mut String, port: Option<u16>) -> Result<(), 
     Ok(())
 }
 
-/// The address with this scheme, host and port.
 fn text_of(alloc: Global, scheme: &str, host: &str, port: Option<u16>) -> Result<String, AllocError>
     ensures { IfOk result (λ s. string_bytes s
         ≡ scheme.now ++ codes "://" ++ host.now ++ with_delimiter (codes ":") (option_map decimal port)
@@ -33,10 +31,8 @@ fn text_of(alloc: Global, scheme: &str, host: &str, port: Option<u16>) -> Result
     Ok(text)
 }
 
-/// The address of the robots.txt file of the site that a parsed URL is on.
-///
-/// The result is the error `SetHostOnCannotBeABaseUrl` for a URL that can't be a base, and `EmptyHost` for one that
-/// isn't `http` or `https` or has no host. If an allocation fails, it is `OutOfMemory` or `Overflow`.
+/// The address of the robots.txt file of the site that a parsed URL is on. The errors are those of
+/// [`get_robots_url`].
 pub fn robots_url_of(alloc: Global, url: &Url) -> Result<String, ParseError>
     ensures { GivesBy string_bytes result (robots_address_of url.now) }
 {
@@ -57,9 +53,9 @@ pub fn robots_url_of(alloc: Global, url: &Url) -> Result<String, ParseError>
 ///
 /// # Errors
 ///
-/// The error of `url` for a string that `url` can't parse, `SetHostOnCannotBeABaseUrl` for a URL that can't be a base,
-/// and `EmptyHost` for one that isn't `http` or `https` or has no host. `OutOfMemory` if an allocation fails, and
-/// `Overflow` if a URL has more bytes than `url` can count.
+/// The error of `url` for a string that it can't parse, `SetHostOnCannotBeABaseUrl` for a URL that can't be a
+/// base, and `EmptyHost` for one that isn't `http` or `https` or has no host. `OutOfMemory` if an allocation
+/// fails, and `Overflow` if a URL has more bytes than `url` can count.
 pub fn get_robots_url(alloc: Global, url: &str) -> Result<String, ParseError>
     ensures { GivesBy string_bytes result (robots_address url.now) }
 {

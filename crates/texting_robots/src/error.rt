@@ -2,10 +2,9 @@
 use std::alloc::{AllocError, AllocFailed};
 use thiserror::Error;
 
-/// Why a call fails.
 #[derive(Debug, Drop, Error)]
 pub enum Error {
-    /// The file can't be parsed. No call returns this, since every file can be parsed.
+    /// No call returns this, since every file can be parsed.
     #[error("Failed to parse robots.txt")]
     InvalidRobots,
     /// A pattern contains `$` and has more than 4,096 bytes, each run of stars counted as one. `Robot::new` counts the

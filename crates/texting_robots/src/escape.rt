@@ -8,13 +8,12 @@ use std::alloc::{AllocError, Global};
 use std::borrow::CowStr;
 use std::simd::prelude::*;
 
-/// The ASCII bytes that are escaped.
 const ESCAPED: AsciiSet = ascii_set!(CONTROLS.add(b' ').add(b'"').add(b'<').add(b'>').add(b'`'));
 
 /// From this length on, bytes are tested by a loop that the compiler vectorizes.
 const MANY_BYTES: usize = 128;
 
-/// The string with each byte of `ESCAPED` and each non-ASCII byte escaped. It is borrowed if there is no such byte.
+/// The escaped string. It is borrowed if no byte is escaped.
 pub(crate) fn escaped<'a>(alloc: Global, text: &'a str) -> Result<CowStr<'a, Global>, AllocError>
     ensures ok { IfOk result (λ s. cow_str_bytes s ≡ escaped text.now) }
     ensures without_memory { All (λ b. is_escaped b ≡ false) text.now → IsOk result }
@@ -25,7 +24,6 @@ pub(crate) fn escaped<'a>(alloc: Global, text: &'a str) -> Result<CowStr<'a, Glo
     utf8_percent_encode(text, ESCAPED).into_cow(alloc)
 }
 
-/// Whether a byte is escaped.
 fn is_escaped(byte: u8) -> bool
     ensures { result ≡ is_escaped byte }
 {
@@ -37,7 +35,7 @@ fn is_escaped(byte: u8) -> bool
         | (byte == b'`')
 }
 
-/// Whether some byte is escaped. It tests all bytes without an early exit, so that the compiler can vectorize the loop.
+/// All bytes are tested without an early exit, so that the compiler can vectorize the loop.
 fn holds_escaped_among(bytes: &[u8]) -> bool
     ensures { result ≡ list_any is_escaped bytes.now }
 {
@@ -48,7 +46,6 @@ fn holds_escaped_among(bytes: &[u8]) -> bool
     holds
 }
 
-/// Whether one of four bytes is escaped.
 #[inline(always)]
 fn four_hold_escaped(bytes: &[u8]) -> bool
     requires { length bytes.now ≡ 4 }
@@ -64,7 +61,6 @@ fn four_hold_escaped(bytes: &[u8]) -> bool
     escaped.any()
 }
 
-/// Whether one of eight bytes is escaped.
 #[inline(always)]
 fn eight_hold_escaped(bytes: &[u8]) -> bool
     requires { length bytes.now ≡ 8 }
@@ -80,7 +76,6 @@ fn eight_hold_escaped(bytes: &[u8]) -> bool
     escaped.any()
 }
 
-/// Whether one of sixteen bytes is escaped.
 #[inline(always)]
 fn sixteen_hold_escaped(bytes: &[u8]) -> bool
     requires { length bytes.now ≡ 16 }
@@ -96,8 +91,7 @@ fn sixteen_hold_escaped(bytes: &[u8]) -> bool
     escaped.any()
 }
 
-/// Whether some of at most 32 bytes is escaped. Four or more are tested as two parts of equal length, which may
-/// overlap.
+/// Four bytes or more are tested as two parts of equal length, which may overlap.
 fn few_hold_escaped(bytes: &[u8]) -> bool
     ensures { result ≡ list_any is_escaped bytes.now }
 {
@@ -110,8 +104,8 @@ fn few_hold_escaped(bytes: &[u8]) -> bool
     }
 }
 
-/// Whether some byte is escaped. More than 32 bytes are tested sixteen at a time, with an early exit, and more than
-/// `MANY_BYTES` all at once.
+/// More than 32 bytes are tested sixteen at a time, with an early exit, and more than `MANY_BYTES` all at
+/// once.
 #[inline(never)]
 pub(crate) fn holds_escaped(bytes: &[u8]) -> bool
     ensures { result ≡ list_any is_escaped bytes.now }
@@ -129,8 +123,7 @@ pub(crate) fn holds_escaped(bytes: &[u8]) -> bool
     few_hold_escaped(rest)
 }
 
-/// Appends the string with each byte of `ESCAPED` and each non-ASCII byte escaped. Most strings hold no such byte and
-/// are copied in one go.
+/// Appends the escaped string. Most strings hold no escaped byte and are copied in one go.
 pub(crate) fn push_escaped(
     out: &mut String,
     text: &str,
@@ -145,9 +138,9 @@ pub(crate) fn push_escaped(
     out.push_str(text)
 }
 
-/// Appends any bytes, escaped as patterns are: each control character, space, `"`, `<`, `>`, backquote and non-ASCII
-/// byte becomes `%` and two uppercase hexadecimal digits. So what is appended is printable ASCII. If an allocation
-/// fails, nothing is appended.
+/// Appends any bytes, escaped as patterns are: each control character, space, `"`, `<`, `>`, backquote and
+/// non-ASCII byte becomes `%` and two uppercase hexadecimal digits. If an allocation fails, nothing is
+/// appended.
 pub fn push_escaped_bytes(out: &mut String, bytes: &[u8]) -> Result<(), AllocError>
     ensures ok { OnOk result (string_bytes out.new ≡ string_bytes out.old ++ escaped bytes.now) }
     ensures rejected { OnErr result (string_bytes out.new ≡ string_bytes out.old) }

@@ -1,6 +1,6 @@
-//! Which lines apply to a crawler. A group line is an Allow, a Disallow or a Crawl-delay; it is captured if it applies
-//! to the crawler. A first pass over a file finds the group name. A tracker that reads the lines in order then finds
-//! the captured ones.
+//! Which lines apply to a crawler. A group line is an Allow, a Disallow or a Crawl-delay; it is captured if
+//! it applies to the crawler. A first pass finds the group name. A tracker that reads the lines in order then
+//! finds the captured ones.
 ghost use Rattle.std.specs.Prelude.{◌≡◌, not, false};
 ghost use Rattle.std.specs.{Str.str_to_ascii_lowercase};
 ghost use Rattle.texting_robots.specs.{Group.group_name, Labels.is_named, Line.by_value};
@@ -12,17 +12,15 @@ use crate::parser::{Kind, LazyLines, Line};
 /// What the first pass over a file finds out for a crawler.
 #[derive(Drop)]
 pub(crate) struct Group<'a> {
-    /// The group name: the crawler's product token if a user-agent line has it, else `*`.
+    /// The crawler's product token if a user-agent line has it, else `*`.
     pub(crate) name: &'a [u8],
-    /// Whether a user-agent line names the crawler.
     pub(crate) is_named: bool,
-    /// The tracker before the first line.
     pub(crate) start: GroupTracker,
     /// The last delay above the first user-agent line, if there are both.
     pub(crate) delay_before_agents: Option<u64>,
 }
 
-/// The first pass. It reads the lines up to the first user-agent line, among which a delay may be, and then looks for a
+/// Reads the lines up to the first user-agent line, among which a delay may be, and then looks for a
 /// user-agent line that names the crawler.
 #[tactic(auto, using(crate::proofs::RulesLemmas::last_more, crate::proofs::NameLemmas::tested_names))]
 #[inline(never)]
@@ -73,7 +71,6 @@ pub(crate) struct GroupTracker {
 }
 
 impl GroupTracker {
-    /// The state before the first line of a file that has user-agent lines, or has none.
     fn start(has_agents: bool) -> Self
         ensures captured { result.captured ≡ not has_agents }
         ensures named { result.named ≡ false }
@@ -84,7 +81,6 @@ impl GroupTracker {
         }
     }
 
-    /// Reads one line.
     #[tactic(auto, using(crate::proofs::NameLemmas::tested_names))]
     pub(crate) fn step(&mut self, name: &[u8], line: Line<'_>)
         ensures { self.new ≡ step (str_to_ascii_lowercase name.now) self.old (by_value line.entry) }
@@ -99,8 +95,7 @@ impl GroupTracker {
         }
     }
 
-    /// Whether the next group line of those that are left is captured. If none is left: whether one after the last line
-    /// would be.
+    /// Whether the next group line is captured. If none is left: whether one after the last line would be.
     pub(crate) fn ahead(self, name: &[u8], left: LazyLines<'_>) -> bool
         ensures { result ≡ captured_ahead (str_to_ascii_lowercase name.now) self left.entry }
     {

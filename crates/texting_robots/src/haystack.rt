@@ -1,4 +1,4 @@
-//! Texts that patterns are matched against, with or without counted looks. A look is one comparison of a byte of the
+//! Texts that patterns are matched against. A look, which may be counted, is one comparison of a byte of the
 //! text.
 ghost use Rattle.std.specs.Prelude.{◌≡◌, ◌≢◌, ℕ, ◌+◌, ◌-◌, ◌<◌, ◌≤◌, ◌↔◌, ◌++◌, List, [], IfNone, IfSome};
 ghost use Rattle.std.specs.Prelude.{IsTrue, MatchOption, codes, drop, length};
@@ -22,7 +22,6 @@ pub(crate) struct Near {
     pub(crate) end: usize,
 }
 
-/// A text that patterns are matched against.
 pub(crate) trait Haystack {
     ghost use Rattle.std.specs.Prelude.{ℕ, List};
     ghost use Rattle.texting_robots.specs.View.{ViewValue};
@@ -30,24 +29,20 @@ pub(crate) trait Haystack {
     /// A position in the text. What is left of the text begins there.
     type Rest: Copy;
 
-    /// The text, and the number of counted looks.
     ghost seen: { Self → ViewValue };
 
-    /// Whether it is a position in this text.
     ghost is_rest: { Self.Rest → List ℕ → Type 0 };
 
-    /// What is left of the text from this position on.
     ghost left: { Self.Rest → List ℕ → List ℕ };
 
-    /// Whether the text is `/robots.txt`. This isn't a look.
+    /// This isn't a look.
     fn is_robots_file(&self) -> bool
         ensures { IsTrue result ↔ ((seen self.now).text ≡ codes "/robots.txt") };
 
-    /// Whether to skip rules by these bigram masks, instead of trying all from the first one on. Either result is
-    /// correct; it only affects speed.
+    /// Whether to skip rules by these bigram masks, instead of trying all. It only affects speed.
     fn passes_over(&self, masks: &[u64]) -> bool;
 
-    /// The range of rules to try next, between `from` and `end`. By their bigram masks, the rules before this range
+    /// The range of rules to try next, between `from` and `end`. By their bigram masks, the rules before it
     /// can't match the text. This takes no looks.
     fn next(&mut self, masks: &[u64], from: usize, end: usize) -> Near
         requires from { from < end }
@@ -59,13 +54,11 @@ pub(crate) trait Haystack {
         ensures apart { AreApart masks.now (pair_set (seen self.old).text) from result.start }
         ensures same { seen self.new ≡ seen self.old };
 
-    /// Whether a pattern with this prefilter may match the text. It returns true if the text meets the prefilter. This
-    /// takes no looks.
+    /// Whether a pattern with this prefilter may match the text. This takes no looks.
     fn may_match(&mut self, prefilter: Prefilter) -> bool
         ensures answer { Meets prefilter (seen self.old).text → IsTrue result }
         ensures same { seen self.new ≡ seen self.old };
 
-    /// What is left after the segment, if the text begins with it.
     fn begins_with(&mut self, segment: &[u8]) -> Option<Self::Rest>
         ensures none { IfNone result ((following : List ℕ) → (seen self.old).text ≢ segment.now ++ following) }
         ensures some { IfSome result (λ rest. is_rest rest (seen self.old).text
@@ -76,7 +69,7 @@ pub(crate) trait Haystack {
         ensures short { length (seen self.old).text < length segment.now
             → (seen self.new).looks ≡ (seen self.old).looks };
 
-    /// What is left after the first occurrence of the segment in `rest`. `table` is the failure table of the segment.
+    /// What is left after the first occurrence of the segment in `rest`. `table` is its failure table.
     fn find(&mut self, rest: Self::Rest, segment: &[u8], table: &[u32]) -> Option<Self::Rest>
         requires rest { is_rest rest (seen self.old).text }
         requires table { IsTable segment.now table.now }
@@ -86,13 +79,12 @@ pub(crate) trait Haystack {
         ensures cost { PassesTo (seen self.old) (seen self.new) (left rest (seen self.old).text)
             (option_map_or (λ following. left following (seen self.old).text) result []) };
 
-    /// Whether what is left ends with the segment.
     fn ends_with(&mut self, rest: Self::Rest, segment: &[u8]) -> bool
         requires { is_rest rest (seen self.old).text }
         ensures answer { IsTrue result ↔ IsSuffix segment.now (left rest (seen self.old).text) }
         ensures cost { PassesTo (seen self.old) (seen self.new) (left rest (seen self.old).text) [] };
 
-    /// Whether nothing is left. This isn't a look.
+    /// This isn't a look.
     fn is_at_end(&self, rest: Self::Rest) -> bool
         requires { is_rest rest (seen self.now).text }
         ensures { IsTrue result ↔ (left rest (seen self.now).text ≡ []) };
@@ -160,7 +152,6 @@ impl<'a> Haystack for View<'a> {
     }
 }
 
-/// Whether the segment occurs at this position of the text.
 fn occurs_at(view: &mut View<'_>, at: usize, segment: &[u8]) -> bool
     requires { at ≤ length view.old.text }
     ensures answer { IsTrue result ↔ OccursAt view.old.text segment.now at }
@@ -201,7 +192,6 @@ impl<'a> Model for Uncounted<'a> {
 }
 
 impl<'a> Uncounted<'a> {
-    /// The text.
     pub(crate) fn new(text: &'a [u8]) -> Self
         ensures { result ≡ text.now }
     {
@@ -212,7 +202,7 @@ impl<'a> Uncounted<'a> {
         }
     }
 
-    /// The bigrams of the text. They are computed once.
+    /// They are computed once.
     fn pairs(&mut self) -> BigramSet
         ensures pairs { result.bits ≡ pair_set self.old }
         ensures same { self.new ≡ self.old }
@@ -274,7 +264,6 @@ impl<'a> Haystack for Uncounted<'a> {
     }
 }
 
-/// What follows the first occurrence of the segment in the text.
 pub(crate) fn after_first<'a>(text: &'a [u8], segment: &[u8]) -> Option<&'a [u8]>
     ensures { MatchOption result (OccursNowhere segment.now text.now)
         (λ rest. IsRestAfterFirst segment.now text.now rest.now) }

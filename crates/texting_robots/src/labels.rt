@@ -1,5 +1,5 @@
-//! The lines of a file with their membership in a crawler's group, for programs that show a site owner what each line
-//! does. A group line is an Allow, a Disallow or a Crawl-delay.
+//! The lines of a file with their membership in a crawler's group, for programs that show a site owner what
+//! each line does. A group line is an Allow, a Disallow or a Crawl-delay.
 ghost use Rattle.std.specs.Prelude.{◌≡◌, ◌≤◌, IfOk, IsOk, MatchOption, length};
 ghost use Rattle.std.specs.Iterator.{YieldsFirstBy, item_count};
 ghost use Rattle.texting_robots.specs.{Group.group_name, Line.HasLines, Line.by_value, Executable.file_lines};
@@ -21,34 +21,30 @@ pub enum Membership {
     Own,
     /// In another group: any other group line below a user-agent line, or any other user-agent line.
     Other,
-    /// In no group: an ignored line, a sitemap, or a group line above all user-agent lines. The crawler's delay may
-    /// still be from such a line. If a file has no user-agent line, all group lines are `Own`.
+    /// In no group: an ignored line, a sitemap, or a group line above all user-agent lines, which may still
+    /// have the crawler's delay. If a file has no user-agent line, all group lines are `Own`.
     Ungrouped,
 }
 
 /// A line of a file with its number and its membership.
 #[derive(Clone, Copy, PartialEq, Eq, Debug)]
 pub struct LabeledLine<'a> {
-    /// Its number, counted from 1 among all lines of the file, as in `Decision`.
+    /// Counted from 1 among all lines of the file, as in `Decision`.
     pub number: usize,
-    /// Whether it belongs to the crawler's group.
     pub membership: Membership,
-    /// The line.
     pub line: Line<'a>,
 }
 
 /// An iterator over the labeled lines of a file. It doesn't allocate.
 #[derive(Drop)]
 pub struct LabeledLineIter<'n, 'a> {
-    /// The group name for the crawler.
     name: &'n [u8],
     lines: LazyLines<'a>,
-    /// How many lines were returned.
     position: usize,
     tracker: GroupTracker,
     /// Whether a user-agent line was returned.
     begun: bool,
-    /// If known: whether the next group line applies to the crawler, or, if none is left, whether one at the end would.
+    /// If known: whether the next group line applies to the crawler, or, if none is left, whether one would.
     ahead: Option<bool>,
 }
 
@@ -66,8 +62,6 @@ impl<'n, 'a> Model for LabeledLineIter<'n, 'a> {
         × IfSome s.ahead (λ known. captured_ahead (str_to_ascii_lowercase s.name.now) s.tracker s.lines ≡ known) };
 }
 
-/// The membership of a line. `captured` states whether the next group line, which may be this one, applies to the
-/// crawler; `begun` whether this line or one above is a user-agent line.
 fn membership_of(captured: bool, begun: bool, line: Line<'_>) -> Membership
     ensures { result ≡ membership_by captured begun (by_value line.entry) }
 {
@@ -126,22 +120,16 @@ pub fn labeled_lines<'n, 'a>(agent: &'n str, txt: &'a [u8]) -> LabeledLineIter<'
     }
 }
 
-/// Whether a user-agent line of the file `txt` names the crawler with the product token `agent`, ASCII letters in any
-/// case. A crawler that isn't named gets the groups of `*`, or all rules and delays if the file has no user-agent line.
-/// It doesn't allocate. All bytes are read, as by [`labeled_lines`].
+/// Whether a user-agent line of the file `txt` names the crawler with the product token `agent`, ASCII
+/// letters in any case. It doesn't allocate. All bytes are read, as by [`labeled_lines`].
 pub fn is_named(agent: &str, txt: &[u8]) -> bool
     ensures { result ≡ is_named agent.now (file_lines txt.now) }
 {
     group_for(agent.as_bytes(), lazy_file_lines(txt)).is_named
 }
 
-/// The number of the first line with a rule that is too long, for the crawler with the product token `agent`, if there
-/// is one. Because of such a line, `Robot::new` rejects a file with [`Error::InvalidRule`](crate::Error::InvalidRule).
-/// All bytes are read, as by [`labeled_lines`].
-///
-/// # Errors
-///
-/// `AllocError` if an allocation fails.
+/// The number of the first line with a rule that is too long for this crawler, because of which `Robot::new`
+/// rejects the file. All bytes are read, as by [`labeled_lines`].
 pub fn first_overlong_line(
     alloc: Global,
     agent: &str,

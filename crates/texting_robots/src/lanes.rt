@@ -5,7 +5,7 @@ ghost use Rattle.std.specs.{List.list_all, Int.trailing_zeros, Int.w64};
 /// How many bytes are compared at once.
 pub(crate) const LANES: usize = 32;
 
-/// The position of the lowest bit that is set in the mask, or `lanes` if none is.
+/// The lowest bit that is set in the mask, or `lanes` if none is.
 #[inline(always)]
 pub(crate) fn first_lane(mask: u64, lanes: usize) -> usize
     ensures { result ≡ (if mask == 0 then lanes else trailing_zeros w64 mask) }
@@ -17,8 +17,7 @@ pub(crate) fn first_lane(mask: u64, lanes: usize) -> usize
     }
 }
 
-/// Whether each byte equals `byte`. It tests all bytes without an early exit, so that the compiler can vectorize the
-/// loop.
+/// All bytes are tested without an early exit, so that the compiler can vectorize the loop.
 pub(crate) fn all_are(bytes: &[u8], byte: u8) -> bool
     ensures { result ≡ list_all (λ b. b == byte) bytes.now }
 {

@@ -1,4 +1,5 @@
-//! Theorems about the specification. Each is the contract of an empty function.
+//! Theorems about the specification. Each is the contract of an empty function. That each input has exactly
+//! one result means that contracts which state this result determine it.
 ghost use Rattle.std.specs.Prelude.{◌≡◌, ◌≢◌, ◌<◌, ◌↔◌, ◌⊎◌, ℕ, Bool, true, false, not, List, [], ◌∷◌, ◌++◌};
 ghost use Rattle.std.specs.Prelude.{Any, ◌+◌, Option, Some, None, IsTrue, IsPermutation, Contains};
 ghost use Rattle.std.specs.Prelude.{filter, length, slice_get};
@@ -22,30 +23,28 @@ ghost use Rattle.texting_robots.specs.Rules.{AreRulesFor, AreSitemapsOf, HoldsRu
 ghost use Rattle.texting_robots.specs.Rules.{PlacedRule, Rule, unplaced};
 ghost use Rattle.texting_robots.specs.Examples as example;
 
-/// Every input can be split into lines. Each value in them is a range of bytes of its line's content, except the `/` of an empty
-/// Disallow. Used by programs that show values: these are bytes of the input.
+/// Every input can be split into lines. Each value is a range of bytes of its line's content, except the `/`
+/// of an empty Disallow.
 pub fn parse_takes_all()
     ensures { (text : List ℕ) → (lines : List LineValue) × AreLinesOf lines text × HoldRangesOf lines text }
 {}
 
-/// Adding or removing ignored lines (`Raw`) changes no rule, verdict, delay, sitemap or rejection. So a stray line
-/// affects no crawler. It may change line numbers.
+/// Ignored lines (`Raw`) change no rule, verdict, delay, sitemap or rejection, but may change line numbers.
 pub fn raw_changes_nothing()
     ensures { (agent : List ℕ) (lines others : List LineValue)
         → filter (λ line. not (is_raw line)) lines ≡ filter (λ line. not (is_raw line)) others
         → Same agent lines agent others }
 {}
 
-/// Replacing an Allow with another Allow, or a Disallow with another Disallow, changes no rule, verdict, delay, sitemap
-/// or rejection for a crawler to which the line doesn't apply.
+/// Another Allow in place of an Allow, or another Disallow in place of a Disallow, changes nothing for a
+/// crawler to which the line doesn't apply.
 pub fn uncaptured_reaches_nothing()
     ensures { (agent : List ℕ) (front back : List LineValue) (line other : LineValue) → IsSameKind line other
         → (let lines = front ++ line ∷ back in ¬ IsCaptured (group_name agent lines) lines (length front)
         → Same agent lines agent (front ++ other ∷ back)) }
 {}
 
-/// Sitemap lines affect only the sitemaps, and these are the same for every crawler. Used by stores that keep one list
-/// of sitemaps for each host.
+/// Sitemap lines affect only the sitemaps, and these are the same for every crawler.
 pub fn sitemaps_for_all()
     ensures others { (agent : List ℕ) (lines others : List LineValue)
         → filter (λ line. not (is_sitemap line)) lines ≡ filter (λ line. not (is_sitemap line)) others
@@ -54,14 +53,13 @@ pub fn sitemaps_for_all()
         → IsRobotOf agent lines robot → IsRobotOf other lines another → robot.sitemaps ≡ another.sitemaps }
 {}
 
-/// Reordering the rules changes no verdict. Used by audits that show rules in another order.
+/// Reordering the rules changes no verdict.
 pub fn order_changes_nothing()
     ensures { (rules others : List Rule) (text : List ℕ) (answer : Bool) → IsPermutation rules others
         → IsVerdict rules text answer → IsVerdict others text answer }
 {}
 
-/// One more Disallow never makes a denied URL allowed, and one more Allow never makes an allowed URL denied. Used by
-/// audits that remove rules one at a time.
+/// One more Disallow never makes a denied URL allowed, and one more Allow never makes an allowed URL denied.
 pub fn one_more_rule()
     ensures disallow { (front back : List Rule) (pattern text : List ℕ) → IsVerdict (front ++ back) text false
         → IsVerdict (front ++ (pattern, false) ∷ back) text false }
@@ -69,8 +67,7 @@ pub fn one_more_rule()
         → IsVerdict (front ++ (pattern, true) ∷ back) text true }
 {}
 
-/// Collapsing runs of stars doesn't change what a pattern matches. Which of two matching rules is longer is decided
-/// before collapsing. Used by audits that show collapsed patterns.
+/// Collapsing runs of stars doesn't change what a pattern matches. Which rule is longer is decided before it.
 pub fn collapse_keeps_meaning()
     ensures meaning { (anchors : Bool) (pattern text : List ℕ)
         → MatchesWith anchors (collapsed pattern) text ↔ MatchesWith anchors pattern text }
@@ -78,20 +75,19 @@ pub fn collapse_keeps_meaning()
         → IsVerdict ((deny, false) ∷ (allow, true) ∷ []) text false ↔ (length allow < length deny) }
 {}
 
-/// Crawlers whose product tokens differ only in the case of ASCII letters get the same rules, delay and sitemaps. Used
-/// by stores that keep one result for such crawlers.
+/// Crawlers whose product tokens differ only in the case of ASCII letters get the same rules, delay and
+/// sitemaps.
 pub fn agent_case()
     ensures { (agent other : List ℕ) (lines : List LineValue)
         → str_to_ascii_lowercase agent ≡ str_to_ascii_lowercase other → Same agent lines other lines }
 {}
 
-/// The match target `/robots.txt` is always allowed. Used by crawlers that fetch the file again.
+/// The match target `/robots.txt` is always allowed.
 pub fn robots_file_allowed()
     ensures { (rules : List Rule) → IsVerdict rules robots_file true }
 {}
 
-/// `IsBefore` is a strict total order: of two different patterns exactly one is before the other, no pattern is before
-/// itself, and the order is transitive. Used by ordered maps and sets of patterns.
+/// `IsBefore` is a strict total order.
 pub fn order_agrees()
     ensures one { (p q : List ℕ) → (p ≡ q) ⊎ (IsBefore p q ⊎ IsBefore q p) }
     ensures not_both { (p q : List ℕ) → IsBefore p q → ¬ IsBefore q p }
@@ -99,38 +95,33 @@ pub fn order_agrees()
     ensures transitive { (p q r : List ℕ) → IsBefore p q → IsBefore q r → IsBefore p r }
 {}
 
-/// Replacing each CR LF with LF doesn't change the lines. Used by programs that show lines with their position in the
-/// file.
+/// Replacing each CR LF with LF doesn't change the lines.
 pub fn cr_lf_is_lf()
     ensures { (text : List ℕ) (lines : List LineValue) → AreLinesOf lines (crlf_to_lf text) ↔ AreLinesOf lines text }
 {}
 
-/// Each text has exactly one cut into line contents and terminators. So the specification of lines is unambiguous.
+/// Each text has exactly one cut into line contents and terminators.
 pub fn each_text_has_one_cut()
     ensures { (text : List ℕ) → IsCut (cut text) text × ((pairs : List Pair) → IsCut pairs text → pairs ≡ cut text) }
 {}
 
-/// The content of a line is a directive of at most one kind, with one value. So the specification of lines is
-/// unambiguous.
+/// The content of a line is a directive of at most one kind, with one value.
 pub fn one_statement_fits()
     ensures { (kind other : Kind) (value text body : List ℕ) → IsStatement kind value body
         → IsStatement other text body → (kind ≡ other) × (value ≡ text) }
 {}
 
-/// Each text denotes exactly one delay or none, as `delay_of` computes it. So the specification of delays is
-/// unambiguous.
+/// Each text denotes exactly one delay or none, as `delay_of` computes it.
 pub fn each_text_has_one_delay()
     ensures { (text : List ℕ) (delay : Option ℕ) → IsDelay text delay ↔ delay ≡ delay_of text }
 {}
 
-/// Each text has exactly one list of lines, which `parsed` computes. So the contract of `robots_txt_parse` determines
-/// the lines.
+/// Each text has exactly one list of lines, which `parsed` computes.
 pub fn each_text_has_its_lines()
     ensures { (text : List ℕ) (lines : List LineValue) → AreLinesOf lines text ↔ lines ≡ parsed text }
 {}
 
-/// Each file has exactly one list of lines, which `file_lines` computes. So the lines in the contracts of
-/// `allowed_in_file` and `Robot::new` are determined.
+/// Each file has exactly one list of lines, which `file_lines` computes.
 pub fn each_file_has_its_lines()
     ensures some { (text : List ℕ) → (lines : List LineValue) × AreFileLinesOf lines text }
     ensures one { (text : List ℕ) (lines others : List LineValue) → AreFileLinesOf lines text
@@ -138,36 +129,32 @@ pub fn each_file_has_its_lines()
     ensures computed { (text : List ℕ) (lines : List LineValue) → AreFileLinesOf lines text ↔ lines ≡ file_lines text }
 {}
 
-/// `is_captured`, which is a function, agrees with `IsCaptured`, which is a relation. It connects the computed lists of
-/// captured lines with the contract of `Robot::new`.
+/// `is_captured`, which is a function, agrees with `IsCaptured`, which is a relation.
 #[tactic(auto, using(crate::proofs::CapturedLemmas::is_captured_decides))]
 pub fn captured_agrees()
     ensures { (name : List ℕ) (lines : List LineValue) (i : ℕ)
         → IsTrue (is_captured name lines i) ↔ IsCaptured name lines i }
 {}
 
-/// Each line has exactly one label, which `labels_of` computes. So the contract of `labels::labeled_lines`, which uses
-/// `labels_of`, agrees with `AreLabelsOf`.
+/// Each line has exactly one label, which `labels_of` computes.
 pub fn each_line_has_its_label()
     ensures { (name : List ℕ) (lines : List LineValue) (labels : List Label)
         → AreLabelsOf name lines labels ↔ labels ≡ labels_of name lines }
 {}
 
-/// The comparison of patterns by `cmp` and `partial_cmp` agrees with `IsBefore` and with equality. Used by ordered maps
-/// and sets of patterns.
+/// The comparison of patterns by `cmp` and `partial_cmp` agrees with `IsBefore` and with equality.
 pub fn comparison_agrees()
     ensures less { (p q : List ℕ) → (pattern_cmp p q ≡ Less) ↔ IsBefore p q }
     ensures equal { (p q : List ℕ) → (pattern_cmp p q ≡ Equal) ↔ (p ≡ q) }
 {}
 
-/// At most one line decides about a text. So the contract of `Robot::decision` determines the line.
+/// At most one line decides about a text.
 pub fn one_line_decides()
     ensures { (rules : List PlacedRule) (text : List ℕ) (line other : Option ℕ)
         → IsDecidingLine rules text line → IsDecidingLine rules text other → line ≡ other }
 {}
 
-/// The deciding line applies to the crawler, and is an Allow or a Disallow whose escaped value is the deciding pattern.
-/// Used by programs that show a site owner why a URL is allowed or not.
+/// The deciding line applies to the crawler, and is an Allow or a Disallow with the deciding pattern.
 pub fn deciding_line_holds_its_rule()
     ensures { (agent : List ℕ) (lines : List LineValue) (rules : List PlacedRule) (text : List ℕ) (number : ℕ)
         → AreRulesFor agent lines rules → IsDecidingLine rules text (Some number)
@@ -175,8 +162,8 @@ pub fn deciding_line_holds_its_rule()
         × (position : ℕ) × (number ≡ position + 1) × HoldsRule agent lines position placed.rule }
 {}
 
-/// The deciding line determines the verdict: an Allow allows, and a Disallow denies. If no line decides, the verdict is
-/// "allowed". Used by programs that show a site owner why a URL is allowed or not.
+/// The deciding line determines the verdict: an Allow allows, and a Disallow denies. If no line decides, the
+/// verdict is "allowed".
 pub fn deciding_line_gives_the_verdict()
     ensures line { (agent : List ℕ) (lines : List LineValue) (rules : List PlacedRule) (text : List ℕ) (position : ℕ)
         (rule : Rule) → AreRulesFor agent lines rules → IsDecidingLine rules text (Some (position + 1))
@@ -185,9 +172,8 @@ pub fn deciding_line_gives_the_verdict()
         → IsVerdict (unplaced rules) text true }
 {}
 
-/// Lines have exactly one list of rules for a crawler, up to order, and the order changes no result. `placed_rules`
-/// computes the list, which also determines whether the lines are rejected. So the rules in the contracts of
-/// `allowed_in_file` and `Robot::new` are determined up to order.
+/// Lines have exactly one list of rules for a crawler, up to order, and the order changes no result.
+/// `placed_rules` computes the list, which also determines whether the lines are rejected.
 pub fn each_agent_has_its_rules()
     ensures some { (agent : List ℕ) (lines : List LineValue) → (rules : List PlacedRule) × AreRulesFor agent lines rules }
     ensures one { (agent : List ℕ) (lines : List LineValue) (rules others : List PlacedRule)
@@ -200,21 +186,19 @@ pub fn each_agent_has_its_rules()
         → IsRejected agent lines ↔ Any (λ (rule : Rule). IsOverlong rule.0) (rules_for agent lines) }
 {}
 
-/// Lines have exactly one delay for a crawler, or none, as `delay_for` computes it. So the contract of `Robot::new`
-/// determines the delay.
+/// Lines have exactly one delay for a crawler, or none, as `delay_for` computes it.
 pub fn each_agent_has_its_delay()
     ensures { (agent : List ℕ) (lines : List LineValue) (delay : Option ℕ)
         → IsDelayFor agent lines delay ↔ delay ≡ delay_for agent lines }
 {}
 
-/// Lines have exactly one list of sitemaps, which `sitemaps_in` computes. So the contract of `Robot::new` determines
-/// the sitemaps.
+/// Lines have exactly one list of sitemaps, which `sitemaps_in` computes.
 pub fn each_file_has_its_sitemaps()
     ensures { (lines : List LineValue) (sitemaps : List (List ℕ))
         → AreSitemapsOf lines sitemaps ↔ sitemaps ≡ sitemaps_in lines }
 {}
 
-/// Worked examples of lines, each a theorem. `specs/Examples.antt` shows by them what the specification means.
+/// Worked examples, each a theorem. `specs/Examples.antt` shows by them what the specification means.
 pub fn examples_of_lines()
     ensures line_ends { example.line_ends }
     ensures lf_before_cr { example.lf_before_cr }
@@ -231,7 +215,6 @@ pub fn examples_of_lines()
     ensures no_number { example.no_number }
 {}
 
-/// Worked examples of delays.
 pub fn examples_of_delays()
     ensures seconds { example.seconds }
     ensures rounded_down { example.rounded_down }
@@ -240,7 +223,6 @@ pub fn examples_of_delays()
     ensures no_delay { example.no_delay }
 {}
 
-/// Worked examples of groups.
 pub fn examples_of_groups()
     ensures own_group { example.own_group }
     ensures two_names { example.two_names }
@@ -254,7 +236,6 @@ pub fn examples_of_groups()
     ensures which_delay { example.which_delay }
 {}
 
-/// Worked examples of patterns.
 pub fn examples_of_patterns()
     ensures beginning { example.beginning }
     ensures stars { example.stars }
@@ -268,7 +249,6 @@ pub fn examples_of_patterns()
     ensures order { example.order }
 {}
 
-/// Worked examples of verdicts, with the lines that decide.
 pub fn examples_of_verdicts()
     ensures longest { example.longest }
     ensures no_match { example.no_match }
@@ -279,7 +259,6 @@ pub fn examples_of_verdicts()
     ensures empty_allow { example.empty_allow }
 {}
 
-/// Worked examples of match targets and of addresses of robots.txt files.
 pub fn examples_of_urls()
     ensures prepared_url { example.prepared_url }
     ensures prepared_path { example.prepared_path }
@@ -288,15 +267,14 @@ pub fn examples_of_urls()
     ensures no_address { example.no_address }
 {}
 
-/// One file, from its bytes to verdicts.
 pub fn example_of_a_file()
     ensures lines { example.lines }
     ensures robot { example.robot }
     ensures answers { example.answers }
 {}
 
-/// If a file has user-agent lines, the rules and delays that apply to a crawler are those in the groups with its group
-/// name, in file order. So the specification by positions agrees with the groups of RFC 9309.
+/// If a file has user-agent lines, the rules and delays for a crawler are those in the groups with its group
+/// name, in file order: the specification by positions agrees with the groups of RFC 9309.
 pub fn captured_by_groups()
     ensures lines { (name : List ℕ) (lines : List LineValue) (position : ℕ) (line : LineValue)
         → list_any is_agent lines ≡ true → slice_get lines position ≡ Some line → IsTrue (is_group line)
@@ -308,8 +286,8 @@ pub fn captured_by_groups()
         ≡ filter_map (λ line. delay_in line.1) (lines_for (group_name agent lines) (groups lines)) }
 {}
 
-/// Crawlers with the same group name have the same robots. Used by callers that keep one robot for all crawlers that a
-/// file doesn't name.
+/// Crawlers with the same group name have the same robots, so callers can keep one for all that a file
+/// doesn't name.
 #[tactic(auto, using(crate::proofs::SiteOwnLemmas::same_robot))]
 pub fn one_robot_a_group()
     ensures { (agent other : List ℕ) (lines : List LineValue) (robot : RobotValue)

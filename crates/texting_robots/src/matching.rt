@@ -7,7 +7,7 @@ use crate::haystack::Haystack;
 use crate::segments::{Ending, Pattern};
 
 impl<'a> Pattern<'a> {
-    /// Whether the pattern matches from the start of the text. It needn't match up to the end.
+    /// Whether the pattern matches from the start of the text, not necessarily up to its end.
     #[inline(always)]
     pub(crate) fn matches<A: Haystack>(&self, haystack: &mut A) -> bool
         ensures answer { IsTrue result ↔ Matches self.now (A.seen haystack.old).text }
@@ -31,7 +31,7 @@ impl<'a> Pattern<'a> {
         ends_as(haystack, rest, self.bytes, self.ends.ending)
     }
 
-    /// How many looks [`Pattern::matches`] takes at most on a text of this length. It is at most `u64::MAX`.
+    /// How many looks [`Pattern::matches`] takes at most on a text of this length, at most `u64::MAX`.
     pub(crate) fn most_looks(&self, len: usize) -> u64
         ensures { result ≡ seen_of (looks_of self.now len) }
     {
@@ -46,7 +46,6 @@ impl<'a> Pattern<'a> {
     }
 }
 
-/// Whether what is left of the text fits the ending of the pattern.
 fn ends_as<A: Haystack>(haystack: &mut A, rest: A::Rest, pattern: &[u8], ending: Ending) -> bool
     requires rest { A.is_rest rest (A.seen haystack.old).text }
     requires ending { IsEnding pattern.now ending }

@@ -18,8 +18,8 @@ use std::cmp::Ordering;
 use std::fmt::{self, Debug, Formatter};
 use std::marker::Model;
 
-/// A pattern, ready for matching. Patterns are compared by their bytes before collapsing: the longer one is first, and
-/// patterns of the same length are ordered by bytes.
+/// A pattern, ready for matching. By `cmp` the longer one is first, before collapsing, and patterns of the
+/// same length are ordered by bytes.
 #[derive(Drop)]
 pub struct MinRegex {
     pattern: String,
@@ -42,12 +42,13 @@ impl Model for MinRegex {
 }
 
 impl MinRegex {
-    /// Makes a pattern of these bytes. They aren't escaped here.
+    /// A pattern of these bytes, which aren't escaped here.
     ///
     /// # Errors
     ///
-    /// `Error::InvalidRule` if the pattern contains `$` and has more than 4,096 bytes, each run of stars counted as
-    /// one. `Error::Memory` if an allocation fails, or if an index into the pattern needs more than 32 bits.
+    /// `Error::InvalidRule` if the pattern contains `$` and has more than 4,096 bytes, each run of stars
+    /// counted as one. `Error::Memory` if an allocation fails, or if an index into the pattern needs more
+    /// than 32 bits.
     pub fn new(alloc: Global, pattern: &str) -> Result<Self, Error>
         ensures ok { IfOk result (λ regex. regex ≡ pattern.now) }
         ensures accepted { OnOk result (¬ IsOverlong pattern.now) }
@@ -71,10 +72,6 @@ impl MinRegex {
     }
 
     /// An equal pattern.
-    ///
-    /// # Errors
-    ///
-    /// `Error::Memory` if an allocation fails.
     pub fn clone(&self, alloc: Global) -> Result<Self, Error>
         ensures ok { IfOk result (λ regex. regex ≡ self.now) }
         ensures memory { IfErr result (λ e. e ≡ Error.Memory) }
@@ -88,8 +85,8 @@ impl MinRegex {
         })
     }
 
-    /// Whether the pattern matches from the start of the view's text. It needn't match up to the end. It doesn't
-    /// allocate, and takes at most 2 × (length of the text) looks.
+    /// Whether the pattern matches from the start of the view's text, not necessarily up to its end. It
+    /// doesn't allocate, and takes at most 2 × (length of the text) looks.
     pub fn matches_view(&self, view: &mut View<'_>) -> bool
         ensures answer { IsTrue result ↔ Matches self.now view.old.text }
         ensures looks { LooksAtMost view.old view.new (2 * length view.old.text) }
@@ -97,7 +94,6 @@ impl MinRegex {
         self.as_pattern().matches(view)
     }
 
-    /// The pattern, borrowed with its segments.
     fn as_pattern(&self) -> Pattern<'_>
         ensures { result ≡ self.now }
     {
@@ -109,7 +105,8 @@ impl MinRegex {
         )
     }
 
-    /// Whether the pattern matches from the start of the text. It needn't match up to the end. It doesn't allocate.
+    /// Whether the pattern matches from the start of the text, not necessarily up to its end. It doesn't
+    /// allocate.
     pub fn is_match(&self, text: &str) -> bool
         ensures { IsTrue result ↔ Matches self.now text.now }
     {
@@ -117,8 +114,8 @@ impl MinRegex {
             .matches(&mut Uncounted::new(text.as_bytes()))
     }
 
-    /// Whether the argument `pattern`, with `$` as an ordinary byte, matches from the start of the text. `self` isn't
-    /// used. It doesn't allocate.
+    /// The same for the argument `pattern`, with `$` as an ordinary byte. `self` isn't used. It doesn't
+    /// allocate.
     pub fn match_stars(&self, pattern: &[u8], text: &[u8]) -> bool
         ensures { IsTrue result ↔ MatchesStars pattern.now text.now }
     {
@@ -195,7 +192,6 @@ impl PartialOrd for MinRegex {
     }
 }
 
-/// A longer pattern is first. Patterns of the same length are ordered by their bytes.
 fn order(left: &MinRegex, right: &MinRegex) -> Ordering
     ensures { result ≡ pattern_cmp left.now right.now }
 {
@@ -206,7 +202,6 @@ fn order(left: &MinRegex, right: &MinRegex) -> Ordering
         .then(left.pattern.as_bytes().cmp(right.pattern.as_bytes()))
 }
 
-/// The pattern, collapsed: with one star in place of each run of stars.
 fn collapse_stars(alloc: Global, pattern: &str) -> Result<String, AllocError>
     ensures { IfOk result (λ text. string_bytes text ≡ collapsed pattern.now) }
 {
@@ -223,7 +218,6 @@ fn collapse_stars(alloc: Global, pattern: &str) -> Result<String, AllocError>
     Ok(text)
 }
 
-/// What precedes the first star, and what follows it, if there is one.
 fn cut_at_star(pattern: &[u8]) -> (&[u8], Option<&[u8]>)
     ensures { IsCutAtStar pattern.now result.0.now result.1 }
 {

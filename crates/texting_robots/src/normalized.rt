@@ -13,9 +13,9 @@ ghost use Rattle.texting_robots.specs.Internal.Normalized.{IsOther, Leaves, past
 
 use std::simd::prelude::*;
 
-/// One bit for each upper half of an ASCII byte. The tables below are sets of bytes that `url` leaves unchanged in a
-/// part of a URL. A table is indexed by the lower half of a byte, and has the bits of those upper halves with which the
-/// byte is in the set.
+/// One bit for each upper half of an ASCII byte. The tables below are sets of bytes that `url` leaves
+/// unchanged in a part of a URL. A table is indexed by the lower half of a byte, and has the bits of the
+/// upper halves with which the byte is in the set.
 const UPPER: &[u8; 16] = &[1, 2, 4, 8, 16, 32, 64, 128, 0, 0, 0, 0, 0, 0, 0, 0];
 
 const NAME: &[u8; 16] = &[
@@ -41,7 +41,6 @@ const FRAGMENT: &[u8; 16] = &[
 
 const NUMBER: &[u8; 16] = &[8, 8, 8, 8, 8, 8, 8, 8, 8, 8, 0, 0, 0, 0, 0, 0];
 
-/// The elements of a table at these indexes.
 fn looked_up(table: &[u8; 16], places: u8x16) -> u8x16
     requires { Each1 (λ k. k < 16) places }
     ensures { result ≡ map (slice_index table.now) places }
@@ -49,7 +48,6 @@ fn looked_up(table: &[u8; 16], places: u8x16) -> u8x16
     u8x16::from_array(*table).swizzle_dyn_within::<16>(places)
 }
 
-/// How many of sixteen bytes are in the set before the first one that isn't.
 fn prefix_len_in_sixteen(part: &[u8; 16], bytes: u8x16) -> usize
     ensures { result ≡ prefix_len (is_kept part.now) bytes }
 {
@@ -63,7 +61,7 @@ fn prefix_len_in_sixteen(part: &[u8; 16], bytes: u8x16) -> usize
     }
 }
 
-/// The same for fewer bytes. It isn't inlined, so that the buffer for the bytes is only needed if it is called.
+/// It isn't inlined, so that the buffer for the bytes is only needed if it is called.
 #[inline(never)]
 fn front_len(part: &[u8; 16], text: &[u8]) -> usize
     requires { length text.now < 16 }
@@ -75,7 +73,6 @@ fn front_len(part: &[u8; 16], text: &[u8]) -> usize
     prefix_len_in_sixteen(part, u8x16::from_array(bytes)).min(text.len())
 }
 
-/// What follows the leading bytes that are in the set.
 #[tactic(auto, using(crate::proofs::NormalizedLemmas::after_few, crate::proofs::NormalizedLemmas::after_all))]
 fn after<'a>(part: &[u8; 16], text: &'a [u8]) -> &'a [u8]
     ensures { result.now ≡ after part.now text.now }
@@ -91,7 +88,6 @@ fn after<'a>(part: &[u8; 16], text: &'a [u8]) -> &'a [u8]
     &rest[front_len(part, rest)..]
 }
 
-/// The leading bytes that are in the set, and what follows them.
 fn split<'a>(part: &[u8; 16], text: &'a [u8]) -> (&'a [u8], &'a [u8])
     ensures front { result.0.now ≡ kept_prefix part.now text.now }
     ensures rest { result.1.now ≡ after part.now text.now }
@@ -100,7 +96,6 @@ fn split<'a>(part: &[u8; 16], text: &'a [u8]) -> (&'a [u8], &'a [u8])
     (&text[..text.len() - rest.len()], rest)
 }
 
-/// The label after the last dot of a host.
 fn last_label(host: &[u8]) -> &[u8]
     ensures { result.now ≡ (rsplit_once 46 host.now).1 }
 {
@@ -110,7 +105,6 @@ fn last_label(host: &[u8]) -> &[u8]
     }
 }
 
-/// Whether the text begins with a lowercase ASCII letter.
 fn begins_with_letter(text: &[u8]) -> bool
     ensures { result ≡ is_ascii_lowercase (slice_index text.now 0) }
 {
@@ -120,7 +114,6 @@ fn begins_with_letter(text: &[u8]) -> bool
     }
 }
 
-/// Whether the digits have no leading `+`, and no leading zero except in a single `0`.
 fn begins_plainly(digits: &[u8]) -> bool
     ensures { result ≡ begins_plainly digits.now }
 {
@@ -130,8 +123,7 @@ fn begins_plainly(digits: &[u8]) -> bool
     }
 }
 
-/// Whether these are the digits of a port that isn't the default one, `own`, as `url` writes a port: without leading
-/// zeros. Few URLs have a port, so it isn't inlined either.
+/// Few URLs have a port, so it isn't inlined either.
 #[inline(never)]
 fn is_port(own: u16, digits: &[u8]) -> bool
     ensures { IsTrue result ↔ IsOther own digits.now }
@@ -145,8 +137,7 @@ fn is_port(own: u16, digits: &[u8]) -> bool
     }
 }
 
-/// What follows the colon and the port, or the whole text if it doesn't begin with a colon. It is `None` if the port
-/// isn't as `url` writes it, or is the scheme's default port, `own`.
+/// `None` if the port isn't as `url` writes it, or is the scheme's default port, `own`.
 fn after_port(own: u16, text: &[u8]) -> Option<&[u8]>
     ensures some { IfSome result (λ rest. Leaves (IsPort own) text.now rest.now) }
     ensures whole { (rest : List ℕ) → EndsSite rest → Leaves (IsPort own) text.now rest
@@ -163,7 +154,6 @@ fn after_port(own: u16, text: &[u8]) -> Option<&[u8]>
     }
 }
 
-/// What follows a host and its port.
 #[inline(always)]
 fn after_authority(own: u16, text: &[u8]) -> Option<&[u8]>
     ensures some { IfSome result (λ rest. Leaves (IsAuthority own) text.now rest.now) }
@@ -178,7 +168,6 @@ fn after_authority(own: u16, text: &[u8]) -> Option<&[u8]>
     }
 }
 
-/// What follows the scheme, the host and the port.
 fn after_site(url: &[u8]) -> Option<&[u8]>
     ensures some { IfSome result (λ rest. Leaves IsSite url.now rest.now) }
     ensures whole { (rest : List ℕ) → EndsSite rest → Leaves IsSite url.now rest
@@ -202,7 +191,7 @@ fn dot_len(text: &[u8]) -> usize
     }
 }
 
-/// Whether the segment consists of one or two dots, each of which may be escaped.
+/// One or two dots, each of which may be escaped.
 #[tactic(auto, unfolding(url::specs::Path::dot_count))]
 fn is_dots(segment: &[u8]) -> bool
     ensures { IsTrue result ↔ (dot_count segment.now ≢ 0) }
@@ -212,7 +201,6 @@ fn is_dots(segment: &[u8]) -> bool
     dot != 0 && dot_len(rest) == rest.len()
 }
 
-/// Whether the text begins with a dot or an escape.
 fn begins_dotted(text: &[u8]) -> bool
     ensures { result ≡ begins_dotted text.now }
 {
@@ -267,8 +255,6 @@ fn after_path(text: &[u8]) -> Option<&[u8]>
     Some(rest)
 }
 
-/// What follows the delimiter and the bytes after it that are in the set, or all of the text if the delimiter isn't its
-/// first byte.
 fn after_delimited<'a>(delimiter: u8, part: &[u8; 16], text: &'a [u8]) -> &'a [u8]
     ensures { result.now ≡ after_delimited delimiter part.now text.now }
 {
@@ -278,7 +264,6 @@ fn after_delimited<'a>(delimiter: u8, part: &[u8; 16], text: &'a [u8]) -> &'a [u
     }
 }
 
-/// Whether the text is a path, a query and a fragment that `url` leaves unchanged.
 fn is_target(text: &[u8]) -> bool
     ensures { IsTrue result ↔ IsTarget text.now }
 {
@@ -289,8 +274,8 @@ fn is_target(text: &[u8]) -> bool
     after_delimited(b'#', FRAGMENT, fragment).is_empty()
 }
 
-/// The path, query and fragment of an absolute URL that `url` would leave unchanged, or `/` if only the slash of the
-/// path is missing.
+/// The match target of a URL that `url` would leave unchanged, or of which only the slash of the path is
+/// missing.
 pub(crate) fn borrowed_target(url: &str) -> Option<&str>
     ensures text { IfSome result (λ target. target.now ≡ prepared url.now) }
     ensures plain { IsNormalizedUrl url.now → IsSome result }

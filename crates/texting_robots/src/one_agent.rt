@@ -9,14 +9,11 @@ use crate::robot::Robot;
 use crate::view::View;
 use std::alloc::Global;
 
-/// Whether the crawler with the product token `agent` may fetch the URL whose match target is the text of the view,
-/// according to the first [`FILE_LIMIT`](crate::robot::FILE_LIMIT) bytes of the file `txt`.
+/// Whether the crawler with the product token `agent` may fetch the URL whose match target is the text of the
+/// view, according to the first [`FILE_LIMIT`](crate::robot::FILE_LIMIT) bytes of the file `txt`.
 ///
-/// It is [`Robot::new`] and [`Robot::allowed_view`] in one call. To query a file more than once, keep the robot.
-///
-/// # Errors
-///
-/// As for [`Robot::new`].
+/// It is [`Robot::new`], with its errors, and [`Robot::allowed_view`] in one call. To query a file more than
+/// once, keep the robot.
 pub fn allowed_in_file(
     alloc: Global,
     agent: &str,

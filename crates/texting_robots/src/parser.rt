@@ -25,7 +25,7 @@ use statement::{kind_by, skip_blanks, tail_as, value_of};
 use std::alloc::{AllocError, Global};
 use std::marker::Model;
 
-/// A line of a file. A value is what is between the separator and the comment, without Unicode white space at both
+/// A line of a file. A value is what is between separator and comment, without Unicode white space at its
 /// ends.
 #[derive(Clone, Copy, PartialEq, Eq, Debug)]
 pub enum Line<'a> {
@@ -37,14 +37,15 @@ pub enum Line<'a> {
     Disallow(&'a [u8]),
     /// The address of a sitemap.
     Sitemap(&'a [u8]),
-    /// How many microseconds a crawler has to wait between two requests. The parser never returns `None` here.
+    /// How many microseconds a crawler has to wait between two requests. The parser never returns `None`
+    /// here.
     CrawlDelay(Option<u64>),
     /// Any other line: its whole content.
     Raw(&'a [u8]),
 }
 
 impl<'a> Line<'a> {
-    /// The bytes that the line has: its value, or its whole content if it is `Raw`. A delay has a number and no bytes.
+    /// The value, or the whole content if it is `Raw`. A delay has a number and no bytes.
     pub fn value(self) -> Option<&'a [u8]>
         ensures { option_map (λ value. value.now) result ≡ value_in (by_value self.entry) }
     {
@@ -58,7 +59,6 @@ impl<'a> Line<'a> {
         }
     }
 
-    /// Whether it is an Allow, a Disallow or a Crawl-delay.
     pub(crate) fn is_group(self) -> bool
         ensures { result ≡ is_group (by_value self.entry) }
     {
@@ -69,13 +69,12 @@ impl<'a> Line<'a> {
     }
 }
 
-/// A line that is cut out and not parsed yet. The first letter of its field name determines which directive it may be.
+/// A line that isn't parsed yet.
 #[derive(Drop)]
 pub(crate) struct LazyLine<'a> {
     body: &'a [u8],
-    /// The content without leading spaces and tabs.
     text: &'a [u8],
-    /// The kind of directive whose field names begin with the first letter of `text`.
+    /// Determined by the first letter of `text`.
     kind: Option<Kind>,
 }
 
@@ -92,7 +91,6 @@ impl<'a> Model for LazyLine<'a> {
 }
 
 impl<'a> LazyLine<'a> {
-    /// The line with this content.
     #[inline(always)]
     pub(crate) fn new(body: &'a [u8]) -> Self
         ensures { result ≡ line_of body.now }
@@ -105,7 +103,7 @@ impl<'a> LazyLine<'a> {
         }
     }
 
-    /// The only kind of directive that the line may be. It may also be none.
+    /// The only kind of directive that the line may be.
     #[inline(always)]
     pub(crate) fn kind(&self) -> Option<Kind>
         ensures agent { (result ≡ Some Kind.UserAgent) ⊎ (is_agent self.now ≡ false) }
@@ -115,7 +113,6 @@ impl<'a> LazyLine<'a> {
         self.kind
     }
 
-    /// Whether it is a user-agent line that names the crawler.
     #[tactic(auto, using(crate::proofs::AgentLemmas::no_agent, crate::proofs::NameLemmas::tested_names))]
     fn names(&self, agent: &[u8]) -> bool
         ensures { result ≡ is_agent_named (str_to_ascii_lowercase agent.now) self.now }
@@ -129,7 +126,6 @@ impl<'a> LazyLine<'a> {
         }
     }
 
-    /// Parses the line.
     #[tactic(auto, using(crate::proofs::LineLemmas::line_read, crate::proofs::LineLemmas::line_without_tail, crate::proofs::LineLemmas::line_without_kind))]
     #[inline(always)]
     pub(crate) fn read(&self) -> Line<'a>
@@ -145,8 +141,7 @@ impl<'a> LazyLine<'a> {
     }
 }
 
-/// The content of the first line of a text that isn't empty, and what follows the line terminator. `nul_ends`
-/// determines whether NUL is read as LF.
+/// `nul_ends` determines whether NUL is read as LF.
 #[inline(always)]
 pub(crate) fn split_line<'a>(text: &'a [u8], nul_ends: bool) -> (&'a [u8], &'a [u8])
     requires { 0 < length text.now }
@@ -208,8 +203,7 @@ impl<'a> Model for LazyLines<'a> {
 }
 
 impl<'a> LazyLines<'a> {
-    /// Whether one of the lines names the crawler. Lines that can't be user-agent lines are skipped many bytes at a
-    /// time.
+    /// Lines that can't be user-agent lines are skipped many bytes at a time.
     pub(crate) fn name_agent(&self, agent: &[u8]) -> bool
         ensures { result ≡ is_named agent.now self.now }
     {
@@ -225,7 +219,6 @@ impl<'a> LazyLines<'a> {
         false
     }
 
-    /// The lines that are left, for another pass.
     pub(crate) fn again(&self) -> Self
         ensures { result ≡ self.now }
     {
@@ -279,7 +272,6 @@ impl<'a> Iterator for LineIter<'a> {
     }
 }
 
-/// The text without a byte order mark: without a leading EF, then without a leading BB, then without a leading BF.
 pub(crate) fn without_front<'a>(text: &'a [u8]) -> &'a [u8]
     ensures value { result.now ≡ without_front text.now }
     ensures end { (front : List ℕ) × (text.now ≡ front ++ result.now) }
@@ -289,8 +281,8 @@ pub(crate) fn without_front<'a>(text: &'a [u8]) -> &'a [u8]
     text.strip_prefix(b"\xBF").unwrap_or(text)
 }
 
-/// The lines of a text, in order. NUL isn't a line terminator here, unlike in [`file_lines`]. It doesn't allocate.
-/// After `None` it returns no more lines.
+/// The lines of a text, in order. NUL isn't a line terminator here, unlike in [`file_lines`]. It doesn't
+/// allocate.
 #[tactic(auto, using(crate::proofs::LineLemmas::lines_are, crate::proofs::LineLemmas::lines_range))]
 pub fn lines<'a>(input: &'a [u8]) -> LineIter<'a>
     ensures value { result ≡ parsed input.now }
@@ -308,8 +300,8 @@ pub fn lines<'a>(input: &'a [u8]) -> LineIter<'a>
     }
 }
 
-/// The contents of a file's lines, one for each line of [`file_lines`], including field names and comments. They are
-/// slices of `input`, and contain no CR, LF or NUL. It doesn't allocate.
+/// The contents of the lines of [`file_lines`], including field names and comments. They are slices of
+/// `input`, and contain no CR, LF or NUL. It doesn't allocate.
 #[tactic(auto, using(crate::proofs::LineLemmas::file_bodies_are, crate::proofs::LineLemmas::lines_of_file_bodies))]
 pub fn file_bodies<'a>(input: &'a [u8]) -> BodyIter<'a>
     ensures value { result ≡ file_bodies input.now }
@@ -323,7 +315,6 @@ pub fn file_bodies<'a>(input: &'a [u8]) -> BodyIter<'a>
     }
 }
 
-/// The lines of a file, not parsed yet. NUL is read as LF.
 pub(crate) fn lazy_file_lines<'a>(input: &'a [u8]) -> LazyLines<'a>
     ensures value { result ≡ file_lines input.now }
     ensures count { length result ≤ length input.now }
@@ -345,7 +336,6 @@ pub fn file_lines<'a>(input: &'a [u8]) -> LineIter<'a>
     }
 }
 
-/// The line of a directive of this kind with this value.
 #[tactic(auto, using(crate::proofs::DelayLemmas::is_delay_of))]
 #[inline(always)]
 fn line_with<'a>(kind: Kind, value: &'a [u8], body: &'a [u8]) -> Line<'a>
@@ -366,7 +356,6 @@ fn line_with<'a>(kind: Kind, value: &'a [u8], body: &'a [u8]) -> Line<'a>
     }
 }
 
-/// The lines in a vector.
 fn collected<'a>(alloc: Global, lines: LineIter<'a>) -> Result<Vec<Line<'a>>, AllocError>
     ensures { IfOk result (λ all. map by_value all.items ≡ lines.entry) }
 {
@@ -378,10 +367,6 @@ fn collected<'a>(alloc: Global, lines: LineIter<'a>) -> Result<Vec<Line<'a>>, Al
 }
 
 /// All lines of a text, in order. NUL isn't a line terminator here, unlike in [`file_lines`].
-///
-/// # Errors
-///
-/// `Error::Memory` if an allocation fails.
 #[tactic(auto, using(crate::proofs::LineLemmas::lines_are, crate::proofs::LineLemmas::lines_range))]
 pub fn robots_txt_parse<'a>(alloc: Global, input: &'a [u8]) -> Result<Vec<Line<'a>>, Error>
     ensures value { IfOk result (λ lines. map by_value lines.items ≡ parsed input.now) }

@@ -17,7 +17,6 @@ pub(crate) struct Prefilter {
 }
 
 impl Prefilter {
-    /// The conditions without which the pattern can't match a text.
     pub(crate) fn of(pattern: &Pattern<'_>) -> Self
         ensures { ArePrefilter pattern.now result }
     {
@@ -33,7 +32,6 @@ impl Prefilter {
     }
 }
 
-/// The bigrams of the bytes that a text has to end with.
 fn ending_pairs(pattern: &[u8], ending: Ending) -> BigramSet
     requires { IsEnding pattern.now ending }
     ensures { result.bits ≡ ending_pairs pattern.now ending }
@@ -44,8 +42,7 @@ fn ending_pairs(pattern: &[u8], ending: Ending) -> BigramSet
     }
 }
 
-/// Whether none of the eight masks from this index on is a subset of the text's bigrams. It tests all eight without an
-/// early exit, since in the usual case none is.
+/// All eight masks are tested without an early exit, since usually none is a subset.
 fn are_apart(masks: &[u64], from: usize, text: u64) -> bool
     requires { from + 8 ≤ length masks.now }
     ensures { result ≡ true → AreApart masks.now text from (from + 8) }
@@ -57,9 +54,8 @@ fn are_apart(masks: &[u64], from: usize, text: u64) -> bool
     apart
 }
 
-/// Goes through the masks in blocks of eight from this index on. The result is the start of the first block with a mask
-/// that is a subset of the text's bigrams, or the index from which fewer than eight are left. It isn't inlined, so that
-/// calls with few rules don't pay for it.
+/// The start of the first block of eight with a mask that is a subset of the text's bigrams, or the index
+/// from which fewer than eight are left. It isn't inlined, so that calls with few rules don't pay for it.
 #[inline(never)]
 pub(crate) fn first_near(masks: &[u64], from: usize, text: u64) -> usize
     ensures from { from ≤ result }

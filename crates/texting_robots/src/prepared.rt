@@ -11,8 +11,8 @@ use std::alloc::{AllocError, Global};
 use std::borrow::CowStr;
 use url::{ParseError, Position, Url};
 
-/// The match target of a URL, or of a path alone. It is borrowed for a path in which no byte is escaped, and for a URL
-/// that [`borrowed_target`] accepts. A string that begins with a slash isn't a URL, so it isn't parsed.
+/// The match target. It is borrowed for a path in which no byte is escaped, and for a URL that
+/// [`borrowed_target`] accepts. A string that begins with a slash isn't a URL, so it isn't parsed.
 pub(crate) fn prepare<'a>(alloc: Global, url: &'a str) -> Result<CowStr<'a, Global>, Error>
     ensures ok { IfOk result (λ text. cow_str_bytes text ≡ prepared url.now) }
     ensures memory { IfErr result (λ e. e ≡ Error.Memory) }
@@ -34,7 +34,7 @@ pub(crate) fn prepare<'a>(alloc: Global, url: &'a str) -> Result<CowStr<'a, Glob
     }
 }
 
-/// The path, query and fragment of a URL, in the allocation of the URL.
+/// In the allocation of the URL.
 fn into_target(url: Url) -> Result<String, AllocError>
     ensures { IfOk result (λ text. string_bytes text ≡ target_of url) }
 {
@@ -44,7 +44,7 @@ fn into_target(url: Url) -> Result<String, AllocError>
     Ok(text)
 }
 
-/// The path, query and fragment of a URL, which are adjacent at its end. It doesn't allocate.
+/// The path, query and fragment are adjacent at the end of a URL.
 pub(crate) fn target(url: &Url) -> &str
     ensures { result.now ≡ target_of url.now }
 {

@@ -19,7 +19,6 @@ use percent_encoding::ascii_str;
 use std::alloc::{AllocError, Global};
 use std::marker::Model;
 
-/// The parts of a robot.
 #[derive(Drop)]
 pub(crate) struct Parts {
     pub(crate) delay: Option<u64>,
@@ -39,13 +38,11 @@ impl Model for Parts {
 /// Why there is no robot for a file.
 #[derive(Drop)]
 pub(crate) enum Rejection {
-    /// The crawler's rule in the line with this number is too long, and no rule before it is.
+    /// The crawler's first rule that is too long is in the line with this number.
     Overlong(usize),
-    /// An allocation failed.
     Memory,
 }
 
-/// The rejection for an error at the line with this number.
 fn rejection_at(number: usize, error: Error) -> Rejection
     ensures { result ≡ rejection_at number error }
 {
@@ -55,21 +52,17 @@ fn rejection_at(number: usize, error: Error) -> Rejection
     }
 }
 
-/// What was found in the lines so far.
 #[derive(Drop)]
 pub(crate) struct RobotBuilder {
-    /// The state of the group tracker before the next line.
     pub(crate) tracker: GroupTracker,
     /// The first delay that applies.
     pub(crate) delay: Option<u64>,
-    /// The sitemaps, in file order.
     pub(crate) sitemaps: Vec<String>,
-    /// The rules that apply.
     pub(crate) rules: Unsorted,
 }
 
-/// The value as a string, if it is UTF-8, and whether some byte of it is escaped. Most values have no such byte, and
-/// nothing is decoded then.
+/// The value as a string, if it is UTF-8, and whether some byte of it is escaped. If none is, nothing is
+/// decoded.
 fn decoded<'a>(value: &'a [u8]) -> Option<(&'a str, bool)>
     ensures { MatchOption result (is_utf8 value.now ≡ false) (λ decoded. (is_utf8 value.now ≡ true)
         × (decoded.0.now ≡ value.now) × (decoded.1 ≡ list_any is_escaped value.now)) }
@@ -83,7 +76,6 @@ fn decoded<'a>(value: &'a [u8]) -> Option<(&'a str, bool)>
     }
 }
 
-/// The value as a string, if it is UTF-8.
 pub(crate) fn as_text<'a>(value: &'a [u8]) -> Option<&'a str>
     ensures { MatchOption result (is_utf8 value.now ≡ false)
         (λ text. (is_utf8 value.now ≡ true) × (text.now ≡ value.now)) }
@@ -94,7 +86,6 @@ pub(crate) fn as_text<'a>(value: &'a [u8]) -> Option<&'a str>
     }
 }
 
-/// Adds the rule with this value, if the value is UTF-8.
 fn push_rule(rules: &mut Unsorted, value: &[u8], is_allow: bool, line: usize) -> Result<(), Error>
     requires { AreEntries rules.old }
     ensures known { OnOk result (AreEntries rules.new) }
@@ -111,7 +102,6 @@ fn push_rule(rules: &mut Unsorted, value: &[u8], is_allow: bool, line: usize) ->
     }
 }
 
-/// Adds a value, if it is UTF-8.
 pub(crate) fn push_text(
     alloc: Global,
     texts: &mut Vec<String>,
@@ -129,7 +119,6 @@ pub(crate) fn push_text(
 }
 
 impl RobotBuilder {
-    /// Nothing yet.
     pub(crate) fn new(alloc: Global, start: GroupTracker) -> Self
         ensures known { AreEntries result.rules }
         ensures tracker { result.tracker ≡ start }
@@ -145,8 +134,8 @@ impl RobotBuilder {
         }
     }
 
-    /// Adds what is in a line. It allocates only for a rule or a sitemap. If group lines don't apply here, only lines
-    /// that may be user-agent lines or sitemaps are parsed.
+    /// It allocates only for a rule or a sitemap. If group lines don't apply here, only lines that may be
+    /// user-agent lines or sitemaps are parsed.
     #[tactic(auto, using(crate::proofs::RulesLemmas::no_sitemap))]
     pub(crate) fn take(
         &mut self,

@@ -1,4 +1,4 @@
-//! The robot: what a robots.txt file means for one crawler.
+//! The robot.
 ghost use Rattle.std.specs.Prelude.{◌≡◌, ◌≢◌, ◌+◌, ◌*◌, ◌<◌, ◌≤◌, ◌^◌, IfErr, IfOk, IsOk, None, length, take};
 ghost use Rattle.std.specs.Prelude.{string_bytes};
 ghost use Rattle.texting_robots.specs.{Cost.cost_of, Error.IsMemoryErrorOr, Line.HasLines, Prepared.prepared};
@@ -27,7 +27,7 @@ pub struct Robot {
     /// How many microseconds the crawler has to wait between two requests, if the file specifies that. It may be
     /// `u64::MAX`, as for `Crawl-delay: inf`, so cap it before you add it to a time.
     pub delay: Option<u64>,
-    /// The sitemaps that the file lists, in file order. They are the same for every crawler.
+    /// The sitemaps that the file lists, in file order, the same for every crawler.
     pub sitemaps: Vec<String>,
     pub(crate) rules: Rules,
 }
@@ -44,15 +44,14 @@ impl Model for Robot {
 impl Robot {
     /// Reads the first [`FILE_LIMIT`] bytes of the file `txt` for the crawler with the product token `agent`.
     ///
-    /// `agent` is compared in full with the values of user-agent lines, ASCII letters in any case. It isn't trimmed.
-    /// Lines that aren't directives are ignored. Apart from `Error::Memory`, a file is rejected only if a rule that
-    /// applies to this crawler is too long. Only rules and sitemaps are allocated.
+    /// `agent` is compared in full with the values of user-agent lines, ASCII letters in any case. It isn't
+    /// trimmed. Lines that aren't directives are ignored. Only rules and sitemaps are allocated.
     ///
     /// # Errors
     ///
-    /// `Error::InvalidRule` if a rule that applies to this crawler, in UTF-8, contains `$` and has more than 4,096
-    /// bytes, escaped and with each run of stars counted as one. There is no robot then, and the caller decides how to
-    /// treat a file that it can't use. `Error::Memory` if an allocation fails.
+    /// `Error::InvalidRule` if a rule that applies to this crawler, in UTF-8, contains `$` and has more than
+    /// 4,096 bytes, escaped and with each run of stars counted as one. The caller decides how to treat a file
+    /// that it can't use. `Error::Memory` if an allocation fails.
     pub fn new(alloc: Global, agent: &str, txt: &[u8]) -> Result<Self, Error>
         ensures robot { IfOk result (IsRobotOfFile agent.now (take file_limit txt.now)) }
         ensures rejected { IfErr result (IsMemoryErrorOr (IsFileRejected agent.now (take file_limit txt.now))) }
@@ -63,8 +62,8 @@ impl Robot {
 
     /// Reads the first `limit` bytes of the file `txt`, or all if there are fewer, like [`Robot::new`].
     ///
-    /// The limit counts the bytes of the original file, including a byte order mark. If it cuts a line, the first part
-    /// of that line is read as a line.
+    /// The limit includes a byte order mark. If it cuts a line, the first part of that line is read as a
+    /// line.
     ///
     /// # Errors
     ///
@@ -85,8 +84,8 @@ impl Robot {
         }
     }
 
-    /// How many bytes of memory it takes: its own size and the capacities of its vectors. For each rule it is at least
-    /// 64 bytes. Only this bound is proved; tests compare the number with what was allocated.
+    /// How many bytes of memory it takes: its own size and the capacities of its vectors. Only a bound is
+    /// proved; tests compare the number with what was allocated.
     pub fn bytes(&self) -> usize
         ensures { seen_of (64 * length self.now.rules) ≤ result }
     {
@@ -99,12 +98,12 @@ impl Robot {
             .saturating_add(self.rules.bytes())
     }
 
-    /// The match target of a URL, which patterns are compared with: its path, query and fragment, as the crate `url`
-    /// writes them.
+    /// The match target of a URL, which patterns are compared with: its path, query and fragment, as the
+    /// crate `url` writes them.
     ///
-    /// For the empty string it is `/`. A string that isn't a URL, such as a path alone, is escaped as patterns are, and
-    /// otherwise unchanged. A string with neither a scheme nor a leading slash, such as `example.com/a`, usually
-    /// matches no rule, and so is allowed.
+    /// For the empty string it is `/`. A string that isn't a URL, such as a path alone, is escaped as
+    /// patterns are. One with neither a scheme nor a leading slash, such as `example.com/a`, usually matches
+    /// no rule, and so is allowed.
     ///
     /// # Errors
     ///
@@ -116,10 +115,10 @@ impl Robot {
         Ok(prepare(alloc, url)?.into_owned(alloc)?)
     }
 
-    /// Whether the crawler may fetch a URL, or a path alone. Any other string is matched too, as described at
-    /// [`Robot::prepare_url`], and so is usually allowed. The call doesn't allocate for a path of which nothing is
-    /// escaped. Nor does it for an absolute `http` or `https` URL that has a host name and no user, and that `url`
-    /// would leave unchanged, or to which it would only add a missing slash at the end.
+    /// Whether the crawler may fetch a URL, or a path alone. Any other string is matched as described at
+    /// [`Robot::prepare_url`]. The call doesn't allocate for a path of which nothing is escaped. Nor does it
+    /// for an absolute `http` or `https` URL that has a host name and no user, and that `url` would leave
+    /// unchanged, or to which it would only add a missing slash at the end.
     ///
     /// # Errors
     ///
@@ -148,8 +147,8 @@ impl Robot {
     }
 
     /// Whether the crawler may fetch a URL, or a path alone, and the line that decides. It reads the URL as
-    /// [`Robot::allowed`] does, and allocates only if that call does. It counts no comparisons, so it is faster than
-    /// [`Robot::decision`] for the match target of the URL. The result is the same.
+    /// [`Robot::allowed`] does, and allocates only if that call does. It counts no comparisons, so it is
+    /// faster than [`Robot::decision`], with the same result.
     ///
     /// # Errors
     ///
@@ -164,8 +163,8 @@ impl Robot {
         Ok(self.decision_prepared(text.as_str()))
     }
 
-    /// Whether the crawler may fetch the URL with this match target, and the line that decides. The result is that of
-    /// [`Robot::decision`], but no comparisons are counted. It doesn't allocate.
+    /// Whether the crawler may fetch the URL with this match target, and the line that decides. No
+    /// comparisons are counted. It doesn't allocate.
     pub fn decision_prepared(&self, text: &str) -> Decision
         ensures verdict { IsVerdict (unplaced self.now.rules) text.now result.allowed }
         ensures line { IsDecidingLine self.now.rules text.now result.line }
@@ -173,9 +172,9 @@ impl Robot {
         self.rules.decide_uncounted(text.as_bytes())
     }
 
-    /// Whether the crawler may fetch the URL whose match target is the text of the view. It doesn't allocate. For each
-    /// rule it takes at most 2 × (length of the text) looks; a look is one call of [`View::same`]. If a rule matches,
-    /// only rules count that are at least as long as the longest matching one.
+    /// Whether the crawler may fetch the URL whose match target is the text of the view. It doesn't allocate.
+    /// For each rule it takes at most 2 × (length of the text) looks; a look is one call of [`View::same`].
+    /// If a rule matches, only rules count that are at least as long as the longest matching one.
     pub fn allowed_view(&self, view: &mut View<'_>) -> bool
         ensures verdict { IsVerdict (unplaced self.now.rules) view.old.text result }
         ensures looks { LooksForRules self.now.rules view.old view.new }
@@ -184,8 +183,7 @@ impl Robot {
         self.decision(view).allowed
     }
 
-    /// Whether the crawler may fetch the URL whose match target is the text of the view, and the line that decides. It
-    /// doesn't allocate. The bound on its looks is that of [`Robot::allowed_view`].
+    /// The same, and the line that decides. It doesn't allocate. The bound on its looks is the same.
     pub fn decision(&self, view: &mut View<'_>) -> Decision
         ensures verdict { IsVerdict (unplaced self.now.rules) view.old.text result.allowed }
         ensures line { IsDecidingLine self.now.rules view.old.text result.line }
@@ -195,21 +193,20 @@ impl Robot {
         self.rules.decide(view)
     }
 
-    /// What [`Robot::decision`] costs at most for a text of this length: its looks, and one for each rule. It is at
-    /// most `u64::MAX`.
+    /// What [`Robot::decision`] costs at most for a text of this length: its looks, and one for each rule.
     pub fn cost(&self, len: usize) -> u64
         ensures { result ≡ seen_of (cost_of self.now.rules len) }
     {
         self.rules.cost(len)
     }
 
-    /// The result of [`Robot::decision`], unless that may take more looks than the budget. Here each rule that is tried
-    /// counts as a look, too. It doesn't allocate. Use it for files that may be hostile.
+    /// The result of [`Robot::decision`], unless that may take more looks than the budget, by which each rule
+    /// that is tried counts as a look, too. It doesn't allocate. Use it for files that may be hostile.
     ///
     /// # Errors
     ///
-    /// `TooCostly` if the next rule might take more looks than are left of the budget. There is no verdict then. A new
-    /// view and a budget of at least [`Robot::cost`] never lead to it.
+    /// `TooCostly` if the next rule might take more looks than are left of the budget. A new view and a
+    /// budget of at least [`Robot::cost`] never lead to it.
     pub fn decision_within(&self, view: &mut View<'_>, budget: u64) -> Result<Decision, TooCostly>
         ensures decision { IfOk result (IsDecisionOn self.now.rules view.old.text) }
         ensures looks { LooksAtMost view.old view.new budget }

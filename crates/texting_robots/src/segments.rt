@@ -11,16 +11,14 @@ use std::alloc::AllocError;
 use std::marker::Model;
 use std::simd::prelude::*;
 
-/// Matches any bytes.
 pub(crate) const STAR: u8 = b'*';
 
-/// Matches at the end of the text.
 const DOLLAR: u8 = b'$';
 
 /// How many bytes a pattern with `$` may have, each run of stars counted as one.
 const LONGEST_WITH_DOLLAR: usize = 4096;
 
-/// A range of indexes of a list. They are kept in four bytes each, so that rules are small.
+/// A range of indexes of a list, in four bytes each, so that rules are small.
 #[derive(Clone, Copy)]
 pub(crate) struct Span {
     pub(crate) start: u32,
@@ -28,7 +26,6 @@ pub(crate) struct Span {
 }
 
 impl Span {
-    /// The range with these ends, unless they need more than 32 bits.
     pub(crate) fn between(start: usize, end: usize) -> Result<Self, AllocError>
         ensures { IfOk result (λ span. span ≡ record { start = start; end = end }) }
     {
@@ -38,14 +35,12 @@ impl Span {
         })
     }
 
-    /// How many elements it has.
     pub(crate) fn len(&self) -> u32
         ensures { result ≡ self.now.end - self.now.start }
     {
         self.end.saturating_sub(self.start)
     }
 
-    /// The elements of the range.
     #[inline(always)]
     pub(crate) fn part<'a, T>(&self, items: &'a [T]) -> &'a [T]
         requires { IsSpan items.now self.now }
@@ -55,7 +50,7 @@ impl Span {
     }
 }
 
-/// The number in four bytes. What needs more doesn't fit into memory as rules are kept.
+/// A number with more than 32 bits doesn't fit into memory as rules are kept.
 pub(crate) fn narrow(number: usize) -> Result<u32, AllocError>
     ensures { IfOk result (λ narrow. narrow ≡ number) }
 {
@@ -65,8 +60,8 @@ pub(crate) fn narrow(number: usize) -> Result<u32, AllocError>
     }
 }
 
-/// A segment that may occur anywhere after the one before, and where its failure table begins in the list of all
-/// tables.
+/// A segment that may occur anywhere after the one before, and where its failure table begins in the list of
+/// all.
 #[derive(Clone, Copy)]
 pub(crate) struct Segment {
     pub(crate) span: Span,
@@ -93,7 +88,7 @@ pub(crate) struct Ends {
     pub(crate) ending: Ending,
 }
 
-/// A pattern, borrowed with its segments and their failure tables.
+/// A pattern, borrowed with its segments.
 #[derive(Drop)]
 pub(crate) struct Pattern<'a> {
     pub(crate) bytes: &'a [u8],
@@ -114,7 +109,6 @@ impl<'a> Model for Pattern<'a> {
 }
 
 impl<'a> Pattern<'a> {
-    /// The pattern with these segments and failure tables.
     pub(crate) fn new(
         bytes: &'a [u8],
         ends: Ends,
@@ -133,7 +127,6 @@ impl<'a> Pattern<'a> {
     }
 }
 
-/// The index of the first star or dollar among the first eight bytes, or eight if there is none.
 #[inline(always)]
 fn wildcard_in_eight(pattern: &[u8]) -> usize
     requires { 8 ≤ length pattern.now }
@@ -144,7 +137,6 @@ fn wildcard_in_eight(pattern: &[u8]) -> usize
     first_lane(labels.to_bitmask(), 8)
 }
 
-/// The index of the first star or dollar among the first sixteen bytes, or sixteen if there is none.
 #[inline(always)]
 fn wildcard_in_sixteen(pattern: &[u8]) -> usize
     requires { 16 ≤ length pattern.now }
@@ -155,8 +147,8 @@ fn wildcard_in_sixteen(pattern: &[u8]) -> usize
     first_lane(labels.to_bitmask(), 16)
 }
 
-/// The index of the first star or dollar, or the length if there is none. Eight to 32 bytes are compared as two parts
-/// of equal length, which may overlap. Of more bytes the first sixteen are compared first.
+/// Eight to 32 bytes are compared as two parts of equal length, which may overlap. Of more bytes the first
+/// sixteen are compared first.
 fn first_wildcard(pattern: &[u8]) -> usize
     ensures { result ≡ position_or_len is_wildcard pattern.now }
 {
@@ -182,7 +174,6 @@ fn first_wildcard(pattern: &[u8]) -> usize
     len - 16 + wildcard_in_sixteen(&pattern[len - 16..])
 }
 
-/// What precedes the first star or dollar, and the rest from there on.
 #[tactic(auto, using(crate::proofs::SegmentLemmas::cut_at_first))]
 fn cut_at_wildcard(pattern: &[u8]) -> (&[u8], &[u8])
     ensures { IsCutAtWildcard pattern.now result.0.now result.1.now }
@@ -190,7 +181,7 @@ fn cut_at_wildcard(pattern: &[u8]) -> (&[u8], &[u8])
     pattern.split_at(first_wildcard(pattern))
 }
 
-/// How many leading stars there are, counted one by one.
+/// Counted one by one.
 fn few_stars_len(pattern: &[u8]) -> usize
     ensures value { result ≡ prefix_len (λ b. b == star) pattern.now }
     ensures within { result ≤ length pattern.now }
@@ -198,7 +189,7 @@ fn few_stars_len(pattern: &[u8]) -> usize
     pattern.iter().take_while(|b| **b == STAR).count()
 }
 
-/// How many leading stars there are. Many are counted `LANES` at a time.
+/// Many are counted `LANES` at a time.
 fn stars_len(pattern: &[u8]) -> usize
     ensures value { result ≡ prefix_len (λ b. b == star) pattern.now }
     ensures within { result ≤ length pattern.now }
@@ -210,14 +201,12 @@ fn stars_len(pattern: &[u8]) -> usize
     pattern.len() - rest.len() + few_stars_len(rest)
 }
 
-/// Whether there are only stars and dollars.
 fn only_wildcards(pattern: &[u8]) -> bool
     ensures { result ≡ list_all is_wildcard pattern.now }
 {
     pattern.iter().all(|b| *b == STAR || *b == DOLLAR)
 }
 
-/// Whether it is a dollar, followed only by stars and dollars.
 fn closes(pattern: &[u8]) -> bool
     ensures { IsTrue result ↔ Closes pattern.now }
 {
@@ -227,7 +216,7 @@ fn closes(pattern: &[u8]) -> bool
     }
 }
 
-/// How many bytes a pattern has, each run of stars counted as one.
+/// Each run of stars counts as one.
 fn collapsed_len(pattern: &[u8]) -> usize
     ensures { result ≡ length (collapsed pattern.now) }
 {
@@ -242,7 +231,6 @@ fn collapsed_len(pattern: &[u8]) -> usize
     len
 }
 
-/// Whether a pattern contains `$` and is too long for that.
 #[tactic(auto, using(crate::proofs::CollapseLemmas::length_within))]
 pub(crate) fn is_overlong(pattern: &[u8]) -> bool
     ensures { IsTrue result ↔ IsOverlong pattern.now }
@@ -253,8 +241,8 @@ pub(crate) fn is_overlong(pattern: &[u8]) -> bool
     pattern.contains(&DOLLAR) && collapsed_len(pattern) > LONGEST_WITH_DOLLAR
 }
 
-/// Appends the failure table of a segment. It has the length of the longest border of each prefix, except the empty one
-/// and the segment itself. A border is a shorter prefix that is also a suffix.
+/// Appends the length of the longest border of each prefix of a segment, except the empty one and the segment
+/// itself. A border is a shorter prefix that is also a suffix.
 fn push_borders(borders: &mut Vec<u32>, segment: &[u8]) -> Result<(), AllocError>
     ensures { IfOk result (λ _. (table : _) × (borders.new.items ≡ borders.old.items ++ table)
         × IsTable segment.now table) }

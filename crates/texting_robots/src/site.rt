@@ -1,4 +1,4 @@
-//! A robots.txt file that is read once for many crawlers.
+//! A site.
 ghost use Rattle.std.specs.Prelude.{◌≡◌, ◌≤◌, ◌++◌, [], All, Any, IfErr, IfOk, IsOk, None, OnOk, length, map};
 ghost use Rattle.std.specs.Prelude.{slice_get, string_bytes, take};
 ghost use Rattle.std.specs.List.{filter_map, list_any};
@@ -36,13 +36,12 @@ use std::marker::Model;
 /// user-agent lines, and the position of each Allow, Disallow, Crawl-delay and sitemap.
 #[derive(Drop)]
 pub struct Site {
-    /// The bytes that were read.
     text: Vec<u8>,
     /// The group lines (Allow, Disallow and Crawl-delay), in file order.
     lines: Vec<KeptLine>,
     names: Names,
     sitemaps: Vec<Span>,
-    /// The last delay above the first user-agent line.
+    /// The last one above the first user-agent line.
     early: Option<u64>,
 }
 
@@ -57,7 +56,6 @@ impl Model for Site {
     ghost invariant = { λ s. IsIndexOf s.text.items s.lines.items s.names s.sitemaps.items s.early };
 }
 
-/// Adds a name, if it is UTF-8.
 fn push_name<'a>(names: &mut Vec<&'a str>, name: &'a [u8]) -> Result<(), AllocError>
     ensures { OnOk result (map (λ name. name.now) names.new.items
         ≡ map (λ name. name.now) names.old.items ++ option_to_list (text_from name.now)) }
@@ -69,7 +67,6 @@ fn push_name<'a>(names: &mut Vec<&'a str>, name: &'a [u8]) -> Result<(), AllocEr
     Ok(())
 }
 
-/// Adds the sitemap of a line, if the line has one.
 fn push_sitemap(alloc: Global, sitemaps: &mut Vec<String>, line: Line<'_>) -> Result<(), AllocError>
     ensures added { OnOk result (map string_bytes sitemaps.new.items ≡ map string_bytes sitemaps.old.items
         ++ option_to_list (sitemap_in (by_value line.entry))) }
@@ -82,12 +79,8 @@ fn push_sitemap(alloc: Global, sitemaps: &mut Vec<String>, line: Line<'_>) -> Re
 }
 
 impl Site {
-    /// Reads the first [`FILE_LIMIT`] bytes of the file `txt`, in one pass.
-    ///
-    /// # Errors
-    ///
-    /// `AllocError` if an allocation fails. No file is rejected here: if a rule is too long, [`Site::robot`] returns an
-    /// error for the crawlers that it applies to.
+    /// Reads the first [`FILE_LIMIT`] bytes of the file `txt`, in one pass. No file is rejected here: if a
+    /// rule is too long, [`Site::robot`] returns an error for the crawlers that it applies to.
     pub fn new(alloc: Global, txt: &[u8]) -> Result<Self, AllocError>
         ensures { IfOk result (λ site. site ≡ take file_limit txt.now) }
     {
@@ -95,10 +88,6 @@ impl Site {
     }
 
     /// Reads the first `limit` bytes of the file `txt`, or all if there are fewer, like [`Site::new`].
-    ///
-    /// # Errors
-    ///
-    /// As for [`Site::new`].
     pub fn with_limit(alloc: Global, txt: &[u8], limit: usize) -> Result<Self, AllocError>
         ensures { IfOk result (λ site. site ≡ take limit txt.now) }
     {
@@ -114,8 +103,8 @@ impl Site {
         })
     }
 
-    /// How many bytes of memory it takes: its own size and the capacities of its vectors. Only a bound is proved; tests
-    /// compare the number with what was allocated.
+    /// How many bytes of memory it takes: its own size and the capacities of its vectors. Only a bound is
+    /// proved.
     pub fn bytes(&self) -> usize
         ensures { length self.now ≤ result }
     {
@@ -161,12 +150,8 @@ impl Site {
         }
     }
 
-    /// The names in user-agent lines that are UTF-8, in file order, including `*`. If names differ only in the case of
-    /// ASCII letters, only the first is returned.
-    ///
-    /// # Errors
-    ///
-    /// `AllocError` if an allocation fails.
+    /// The names in user-agent lines that are UTF-8, in file order, including `*`. Of names that differ only
+    /// in the case of ASCII letters, only the first is returned.
     pub fn agents(&self, alloc: Global) -> Result<Vec<&str>, AllocError>
         ensures { IfOk result (λ agents. map (λ agent. agent.now) agents.items ≡ agents_in (file_lines self.now)) }
     {
@@ -180,7 +165,7 @@ impl Site {
         Ok(agents)
     }
 
-    /// The group lines that apply to the crawler, in file order. It allocates nothing.
+    /// The group lines that apply to the crawler, in file order. It doesn't allocate.
     pub fn own_lines<'s, 'n>(&'s self, agent: &'n str) -> OwnLines<'s, 'n>
         ensures rules { filter_map rule_of result ≡ placed_rules agent.now (file_lines self.now) }
         ensures delays { filter_map delay_of result ≡ captured_delays agent.now (file_lines self.now) }
@@ -188,7 +173,7 @@ impl Site {
         OwnLines::new(&self.text, &self.lines, &self.names, self.group_name(agent))
     }
 
-    /// The rules that apply to the crawler, in file order. It allocates nothing.
+    /// The rules that apply to the crawler, in file order. It doesn't allocate.
     pub fn rules<'s, 'n>(&'s self, agent: &'n str) -> SiteRules<'s, 'n>
         ensures { result ≡ placed_rules agent.now (file_lines self.now) }
     {
@@ -197,7 +182,6 @@ impl Site {
         }
     }
 
-    /// The rules that apply to the crawler, prepared for matching.
     fn own_rules(&self, alloc: Global, agent: &str) -> Result<Unsorted, Error>
         ensures known { IfOk result AreEntries }
         ensures rules { IfOk result (λ own. rules_in own ≡ placed_rules agent.now (file_lines self.now)) }
@@ -220,12 +204,8 @@ impl Site {
         Ok(own)
     }
 
-    /// The robot for the crawler with the product token `agent`, like that of [`Robot::new`], but without sitemaps. Of
-    /// the group lines it parses only those that apply to this crawler. Only rules are allocated.
-    ///
-    /// # Errors
-    ///
-    /// As for [`Robot::new`].
+    /// The robot of [`Robot::new`] for the crawler with the product token `agent`, with its errors, but
+    /// without sitemaps. Only group lines that apply to this crawler are parsed. Only rules are allocated.
     pub fn robot_without_sitemaps(&self, alloc: Global, agent: &str) -> Result<Robot, Error>
         ensures robot { IfOk result (IsRobotWithoutSitemaps agent.now self.now) }
         ensures rejected { IfErr result (IsMemoryErrorOr (IsFileRejected agent.now self.now)) }
@@ -242,11 +222,7 @@ impl Site {
         })
     }
 
-    /// The robot that [`Site::robot_without_sitemaps`] makes, with a copy of the sitemaps.
-    ///
-    /// # Errors
-    ///
-    /// As for [`Robot::new`].
+    /// The robot of [`Robot::new`] for the crawler with the product token `agent`, with its errors.
     pub fn robot(&self, alloc: Global, agent: &str) -> Result<Robot, Error>
         ensures robot { IfOk result (IsRobotOfFile agent.now self.now) }
         ensures rejected { IfErr result (IsMemoryErrorOr (IsFileRejected agent.now self.now)) }
@@ -262,7 +238,6 @@ impl Site {
         }
     }
 
-    /// The first delay that applies to the crawler.
     fn own_delay(&self, agent: &str) -> Option<u64>
         ensures { result ≡ slice_get (captured_delays agent.now (file_lines self.now)) 0 }
     {
@@ -276,16 +251,14 @@ impl Site {
         None
     }
 
-    /// How many microseconds the crawler with the product token `agent` has to wait between two requests, if the file
-    /// specifies that. It is the delay of the crawler's robot, but it is also returned if a rule is too long. It
-    /// doesn't allocate.
+    /// How many microseconds the crawler with the product token `agent` has to wait between two requests, if
+    /// the file specifies that. It is also returned if a rule is too long. It doesn't allocate.
     pub fn delay(&self, agent: &str) -> Option<u64>
         ensures { HasLines self.now (λ lines. IsDelayFor agent.now lines result) }
     {
         self.own_delay(agent).or(self.early)
     }
 
-    /// The sitemaps that the file lists.
     fn all_sitemaps(&self, alloc: Global) -> Result<Vec<String>, AllocError>
         ensures sitemaps { IfOk result (λ sitemaps. map string_bytes sitemaps.items ≡ sitemaps_in (file_lines self.now)) }
         ensures without_memory { sitemaps_in (file_lines self.now) ≡ [] → IsOk result }
@@ -299,11 +272,7 @@ impl Site {
         Ok(all)
     }
 
-    /// The sitemaps that the file lists, in file order. They are the same for every crawler.
-    ///
-    /// # Errors
-    ///
-    /// `AllocError` if an allocation fails.
+    /// The sitemaps that the file lists, in file order, the same for every crawler.
     pub fn sitemaps(&self, alloc: Global) -> Result<Vec<String>, AllocError>
         ensures { IfOk result (λ sitemaps. HasLines self.now (λ lines. AreSitemapsOf lines (map string_bytes sitemaps.items))) }
     {

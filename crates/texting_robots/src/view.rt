@@ -27,7 +27,6 @@ impl<'a> Model for View<'a> {
 }
 
 impl<'a> View<'a> {
-    /// A view of the text, with no looks yet.
     pub fn new(text: &'a str) -> Self
         ensures text { result.text ≡ text.now }
         ensures looks { result.looks ≡ 0 }
@@ -64,7 +63,6 @@ impl<'a> View<'a> {
         self.text.as_bytes()[at] == byte
     }
 
-    /// Counts one look.
     pub(crate) fn count_one(&mut self)
         ensures text { self.new.text ≡ self.old.text }
         ensures looks { self.new.looks ≡ self.old.looks + 1 }
@@ -80,7 +78,7 @@ impl<'a> View<'a> {
         self.text == "/robots.txt"
     }
 
-    /// How many looks were taken, at most `u64::MAX`.
+    /// At most `u64::MAX`.
     pub fn seen(&self) -> u64
         ensures { result ≡ seen_of self.now.looks }
     {

@@ -19,7 +19,6 @@ NoneBegins text n =
     (at next : ℕ) → at < n → next ≡ at + 1 → may_end (slice_index text at) ≡ true
     → may_begin (slice_index text next) ≡ false
 
--- a line after the first one names the crawler
 abbrev pub is_named_later : List ℕ → Bool → List ℕ → Bool
 is_named_later name nul_ends text =
     list_any (is_agent_named name) (drop 1 (lines_of (read_as nul_ends text)))

@@ -4,7 +4,6 @@ use Rattle.std.specs.List.{list_any}
 use Rattle.texting_robots.specs.Group.{is_agent, is_agent_named, is_group, passes_at}
 use Rattle.texting_robots.specs.Line.{LineValue}
 
--- some number below this one passes the test
 abbrev pub some_below : (ℕ → Bool) → ℕ → Bool
 some_below test zero = false
 some_below test (suc n) = test n || some_below test n

@@ -3,7 +3,6 @@ use Rattle.std.specs.Prelude.{ℕ, suc, ◌==◌, List, [], ◌∷◌, if◌then
 use Rattle.std.specs.{List.prefix_len}
 use Rattle.texting_robots.specs.{Cut.Pair, Cut.cr, Cut.lf, Line.nul_as_lf}
 
--- a byte of a line's content is added to the first content
 abbrev pub before_body : ℕ → List Pair → List Pair
 before_body byte [] = record { body = byte ∷ []; ending = [] } ∷ []
 before_body byte (pair ∷ later) = record { body = byte ∷ pair.body; ending = pair.ending } ∷ later
@@ -16,18 +15,15 @@ before_end (pair ∷ later) = elim pair.body [
   | _ ∷ _ ↦ record { body = []; ending = cr ∷ [] } ∷ pair ∷ later
 ]
 
--- the pairs of a text after one more byte is added at its start
 abbrev pub before_byte : ℕ → List Pair → List Pair
 before_byte byte pairs =
     if byte == lf then record { body = []; ending = lf ∷ [] } ∷ pairs
     else (if byte == cr then before_end pairs else before_body byte pairs)
 
--- the pairs of a text
 unfoldable pub cut : List ℕ → List Pair
 cut [] = []
 cut (byte ∷ text) = before_byte byte (cut text)
 
--- the line contents of a text
 abbrev pub bodies_of : List ℕ → List (List ℕ)
 bodies_of text = map (λ pair. pair.body) (cut text)
 
@@ -53,6 +49,6 @@ read_as nul_ends text = map (read_byte nul_ends) text
 abbrev pub is_feed : Bool → ℕ → Bool
 is_feed nul_ends byte = read_byte nul_ends byte == lf
 
--- how many such bytes the text begins with; each of them is an empty line
+-- how many such bytes the text begins with; each is an empty line
 abbrev pub empty_lines : Bool → List ℕ → ℕ
 empty_lines nul_ends text = prefix_len (is_feed nul_ends) text

@@ -11,14 +11,12 @@ abbrev pub is_infinite : List ℕ → Bool
 is_infinite text = str_eq_ignore_ascii_case text (codes "inf") || str_eq_ignore_ascii_case text
     (codes "infinity")
 
--- the leading digits, and what follows them
 abbrev pub digits_in_front : List ℕ → List ℕ
 digits_in_front text = take_while is_ascii_digit text
 
 abbrev pub after_digits : List ℕ → List ℕ
 after_digits text = drop (prefix_len is_ascii_digit text) text
 
--- the digits after a leading point, and what follows them
 abbrev pub fraction_in_front : List ℕ → List ℕ
 fraction_in_front [] = []
 fraction_in_front (b ∷ text) = if b == byte "." then digits_in_front text else []
@@ -47,7 +45,6 @@ number_of text =
     let rest = after_digits text in
     number_with (digits_in_front text) (fraction_in_front rest) (exponent_of (after_fraction rest))
 
--- the parts of a number in a text
 pub record HasDigits (n : Decimal) : Type 0 where
   pub whole : All IsAsciiDigit n.whole
   pub fraction : All IsAsciiDigit n.fraction
@@ -61,7 +58,6 @@ bounded n = min n greatest_delay
 abbrev pub places : Decimal → ℕ
 places n = length n.whole + 6 + positive_exponent n - negative_exponent n
 
--- a number of seconds in microseconds, rounded down
 abbrev pub rounded : Decimal → ℕ
 rounded n =
     let micros = digits_value 10 (n.whole ++ n.fraction) * 10 ^ 6 * 10 ^ positive_exponent n in

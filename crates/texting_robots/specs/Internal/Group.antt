@@ -8,20 +8,15 @@ use Rattle.texting_robots.specs.{Labels.Label, Labels.is_own, Executable.rule_in
 use Rattle.texting_robots.specs.declared.labels.Membership.TheVariants.{Own, Other, Ungrouped}
 pub use Rattle.texting_robots.specs.Rules.{placed}
 
--- before the first line
 abbrev pub start_of : List LineValue → GroupTracker
 start_of lines = record { captured = not (list_any is_agent lines); named = false }
 
--- after one more line
 abbrev pub step : List ℕ → GroupTracker → LineValue → GroupTracker
 step name tracker line = record {
   captured = if is_agent line then is_agent_named name line || tracker.named else tracker.captured;
   named = is_agent_named name line || (not (is_group line) && tracker.named);
 }
 
--- ---- what is in captured lines
-
--- what is found in the next line, if it is captured
 abbrev pub if_captured : {X : Type 0} → GroupTracker → Option X → Option X
 if_captured tracker found = if tracker.captured then found else None
 
@@ -33,11 +28,8 @@ from_captured given name tracker position (line ∷ lines) =
     cons_option (if_captured tracker (given (position, line)))
     (from_captured given name (step name tracker line) (position + 1) lines)
 
--- the value, if it is UTF-8
 abbrev pub text_from : List ℕ → Option (List ℕ)
 text_from value = if is_utf8 value then Some value else None
-
--- ---- membership
 
 -- whether the first group line of these, or one at the end, is captured
 abbrev pub captured_ahead : List ℕ → GroupTracker → List LineValue → Bool
@@ -45,8 +37,7 @@ captured_ahead name tracker [] = tracker.captured
 captured_ahead name tracker (line ∷ lines) =
     if is_group line then tracker.captured else captured_ahead name (step name tracker line) lines
 
--- the membership of a line; `captured`: the next group line is captured; `begun`: this line or one above is
--- a user-agent line
+-- `captured`: the next group line is captured; `begun`: this line or one above is a user-agent line
 abbrev pub membership_by : Bool → Bool → LineValue → Membership
 membership_by captured begun line =
     if not (is_agent line || is_group line) then Ungrouped
@@ -61,6 +52,6 @@ labels_from name tracker before position (line ∷ lines) =
     record { number = position + 1; membership = membership; line = line }
     ∷ labels_from name (step name tracker line) begun (position + 1) lines
 
--- the rule in a labeled line, if the line is in the crawler's own group, with the number of the line
+-- the rule in a labeled line of the crawler's own group
 abbrev pub own_rule_at : Label → Option PlacedRule
 own_rule_at label = placed label.number (if is_own label.membership then rule_in label.line else None)

@@ -5,12 +5,11 @@ use Rattle.texting_robots.specs.Internal.{Cut.bodies_of, Delay.delay_of, Stateme
 use Rattle.texting_robots.specs.Line.{LineValue, UserAgent, Allow, Disallow, Sitemap, CrawlDelay, Raw}
 use Rattle.texting_robots.specs.declared.parser.statement.Kind.TheVariants as kind
 
--- the line with this delay, or `Raw` with the whole content if there is none
 abbrev pub delay_or_raw : Option ℕ → List ℕ → LineValue
 delay_or_raw None body = Raw body
 delay_or_raw (Some delay) body = CrawlDelay (Some delay)
 
--- the line of a directive of this kind with this value; `body` is the content of the line
+-- `body` is the content of the line
 abbrev pub line_with : Kind → List ℕ → List ℕ → LineValue
 line_with kind.UserAgent value body = UserAgent value
 line_with kind.Allow value body = Allow value
@@ -23,10 +22,8 @@ abbrev pub line_by : Option (Kind × List ℕ) → List ℕ → LineValue
 line_by None body = Raw body
 line_by (Some found) body = line_with found.0 found.1 body
 
--- the line with this content
 unfoldable pub line_of : List ℕ → LineValue
 line_of body = line_by (statement_of body) body
 
--- the lines of a text
 abbrev pub lines_of : List ℕ → List LineValue
 lines_of text = map line_of (bodies_of text)

@@ -10,15 +10,13 @@ use Rattle.texting_robots.specs.declared.normalized.TheConstants.{SEGMENT, UPPER
 unfoldable pub is_kept : List ℕ → ℕ → Bool
 is_kept part b = not (bit_and (slice_index part (bit_and b 15)) (slice_index UPPER.now (b / 16)) == 0)
 
--- the leading bytes that are in the set, and what follows them
 abbrev pub kept_prefix : List ℕ → List ℕ → List ℕ
 kept_prefix part text = take (prefix_len (is_kept part) text) text
 
 abbrev pub after : List ℕ → List ℕ → List ℕ
 after part text = drop (prefix_len (is_kept part) text) text
 
--- what follows the delimiter and the bytes after it that are in the set, or all of the text if the
--- delimiter isn't its first byte
+-- what follows the delimiter and the bytes after it in the set, or all of the text if it has no delimiter
 abbrev pub after_delimited : ℕ → List ℕ → List ℕ → List ℕ
 after_delimited delimiter part [] = []
 after_delimited delimiter part (b ∷ text) = if b == delimiter then after part text else b ∷ text
@@ -36,17 +34,15 @@ IsOther own digits = (port : ℕ) × (digits ≡ decimal port) × (port < 2 ^ 16
 abbrev pub Leaves : (List ℕ → Type 0) → List ℕ → List ℕ → Type 0
 Leaves IsPart text rest = (part : List ℕ) × (text ≡ part ++ rest) × IsPart part
 
--- what may follow a path: nothing, or the delimiter of a query or a fragment
+-- nothing, or the delimiter of a query or a fragment
 abbrev pub EndsPath : List ℕ → Type 0
 EndsPath [] = Unit {0}
 EndsPath (b ∷ rest) = (b ≡ byte "?") ⊎ (b ≡ byte "#")
 
--- the text begins with a dot or an escape
 abbrev pub begins_dotted : List ℕ → Bool
 begins_dotted text = slice_index text 0 == byte "." || slice_index text 0 == byte "%"
 
--- what follows a path, for a text that begins within one of its segments; `None` if a later segment of the
--- path is a dot segment
+-- what follows a path, from within a segment; `None` if a later segment is a dot segment
 unfoldable pub past_segment : List ℕ → Option (List ℕ)
 past_segment [] = Some []
 past_segment (b ∷ text) =
@@ -54,6 +50,6 @@ past_segment (b ∷ text) =
     then (if dot_count (kept_prefix SEGMENT.now text) == 0 then past_segment text else None)
     else (if is_kept SEGMENT.now b then past_segment text else Some (b ∷ text))
 
--- the same for a text that begins with the slash of a segment, or after the path
+-- the same from the slash of a segment, or after the path
 abbrev pub past_path : List ℕ → Option (List ℕ)
 past_path text = if slice_index text 0 == byte "/" then past_segment text else Some text

@@ -7,7 +7,6 @@ use Rattle.texting_robots.specs.Executable.{delay_for, placed_rules, rules_for, 
 use Rattle.texting_robots.specs.declared.reading.Rejection.TheVariants.{Memory, Overlong}
 use Rattle.texting_robots.specs.declared.error.Error.TheVariants as error
 
--- some rule of the lines is overlong
 abbrev pub SomeOverlong : List ℕ → List LineValue → Type 0
 SomeOverlong agent lines = Any (λ (rule : Rule). IsOverlong rule.0) (rules_for agent lines)
 
@@ -17,13 +16,12 @@ pub record IsComputedRobot (agent : List ℕ) (lines : List LineValue) (robot : 
   pub rules : IsPermutation (placed_rules agent lines) robot.rules
   pub accepted : ¬ SomeOverlong agent lines
 
--- the rejection for an error at the line with this number
 abbrev pub rejection_at : ℕ → Error → Rejection
 rejection_at number error.InvalidRobots = Memory
 rejection_at number error.InvalidRule = Overlong number
 rejection_at number error.Memory = Memory
 
--- this may be the reason to reject these rules; there is no condition for allocation failures
+-- a reason to reject these rules; there is no condition for allocation failures
 abbrev pub IsRejectionOf : List PlacedRule → Rejection → Type 0
 IsRejectionOf rules (Overlong number) = IsFirstOverlong rules number
 IsRejectionOf rules Memory = ⊤

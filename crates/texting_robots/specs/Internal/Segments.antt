@@ -15,23 +15,18 @@ use Rattle.std.specs.declared.cmp.{Ordering.Ordering}
 use Rattle.texting_robots.specs.declared.rules.{Entry.Entry, Unsorted.Unsorted}
 pub use Rattle.texting_robots.specs.Pattern.{is_wildcard}
 
--- ---- How many looks are taken until less of a text is left.
-
--- the text is the same, and at most two looks were taken for each byte that was left before and no longer
--- is
+-- at most two looks were taken for each byte that was left before and no longer is
 pub record PassesTo (old new : ViewValue) (before after : List ℕ) : Type 0 where
   pub text : new.text ≡ old.text
   pub looks : old.looks ≤ new.looks
   pub cost : new.looks + 2 * length after ≤ old.looks + 2 * length before
 
--- ---- A pattern cut at its first star, and the first occurrence of a segment in a text.
-
--- the pattern from a star on, given by what follows the star, if there is one
+-- the pattern from a star on, given by what follows the star
 abbrev pub from_star : Option (Bor (List ℕ)) → List ℕ
 from_star None = []
 from_star (Some following) = star ∷ following.now
 
--- the segment precedes the pattern's first star, and the rest follows that star, if there is one
+-- the segment precedes the pattern's first star, and the rest follows that star
 pub record IsCutAtStar (pattern segment : List ℕ) (rest : Option (Bor (List ℕ))) : Type 0 where
   pub plain : All (λ b. b ≢ star) segment
   pub parts : pattern ≡ segment ++ from_star rest
@@ -42,15 +37,13 @@ pub record IsRestAfterFirst (segment text rest : List ℕ) : Type 0 where
   pub splits : text ≡ front ++ (segment ++ rest)
   pub first : (other after : List ℕ) → text ≡ other ++ (segment ++ after) → IsSuffix after rest
 
--- the segment doesn't occur in the text
 abbrev pub OccursNowhere : List ℕ → List ℕ → Type 0
 OccursNowhere segment text = (front rest : List ℕ) → text ≢ front ++ (segment ++ rest)
 
--- ---- The borders of the prefixes of a segment, for the Knuth-Morris-Pratt algorithm. A border of some bytes
--- is a prefix of them, other than all of them, that is also a suffix.
+-- ---- The borders of a segment's prefixes, for the Knuth-Morris-Pratt algorithm. A border of some bytes is a
+-- prefix of them, other than all of them, that is also a suffix.
 
--- if the segment is placed at this position of the text, it has the same bytes as the text there, as far as
--- these are before `end`
+-- the segment at this position has the same bytes as the text, as far as these are before `end`
 abbrev pub Agrees : List ℕ → List ℕ → ℕ → ℕ → Type 0
 Agrees text segment at end =
     (k : ℕ) → k < length segment → at + k < end → slice_index text (at + k) ≡ slice_index segment k
@@ -68,14 +61,13 @@ AreBorders segment table =
     (len : ℕ) → 0 < len → len ≤ length table
     → IsLongestBorder segment len (slice_index table (len - 1))
 
--- it has them for all prefixes of the segment except the empty one and the segment itself
+-- for all prefixes of the segment except the empty one and the segment itself
 pub record IsTable (segment table : List ℕ) : Type 0 where
   pub long : length table ≡ length segment - 1
   pub borders : AreBorders segment table
 
--- ---- What the segments of a pattern match, given by the rest of the pattern after each of them.
+-- ---- What the segments of a pattern match.
 
--- the pattern is empty, or begins with a wildcard
 abbrev pub IsAtWildcard : List ℕ → Type 0
 IsAtWildcard [] = Unit {0}
 IsAtWildcard (b ∷ q) = is_wildcard b ≡ true
@@ -87,7 +79,6 @@ pub record IsCutAtWildcard (pattern segment rest : List ℕ) : Type 0 where
   pub len : length segment ≡ position_or_len is_wildcard pattern
   pub at_wildcard : IsAtWildcard rest
 
--- what follows the leading stars
 abbrev pub after_stars : List ℕ → List ℕ
 after_stars pattern = drop (prefix_len (λ b. b == star) pattern) pattern
 
@@ -97,12 +88,10 @@ pub record Closes (pattern : List ℕ) : Type 0 where
   pub dollar : pattern ≡ dollar ∷ following
   pub empty : Matches following []
 
--- the range is within the list
 pub record IsSpan {X : Type 0} (xs : List X) (span : Span) : Type 0 where
   pub ordered : span.start ≤ span.end
   pub within : span.end ≤ length xs
 
--- the elements of a range
 abbrev pub part_of : {X : Type 0} → List X → Span → List X
 part_of xs span = slice_range xs span.start span.end
 
@@ -110,15 +99,12 @@ part_of xs span = slice_range xs span.start span.end
 abbrev pub no_segment : Segment
 no_segment = record { span = record { start = 0; end = 0 }; table = 0 }
 
--- the text is the segment, and then what the rest of the pattern matches
 abbrev pub InFront : List ℕ → List ℕ → List ℕ → Type 0
 InFront segment rest text = (after : List ℕ) × (text ≡ segment ++ after) × Matches rest after
 
--- the segment occurs somewhere in the text, followed by what the rest of the pattern matches
 abbrev pub Somewhere : List ℕ → List ℕ → List ℕ → Type 0
 Somewhere segment rest text = (after : List ℕ) × IsSuffix (segment ++ after) text × Matches rest after
 
--- if it matches a suffix of a text, it matches the text
 abbrev pub Grows : List ℕ → Type 0
 Grows pattern = (end text : List ℕ) → IsSuffix end text → Matches pattern end → Matches pattern text
 
@@ -129,7 +115,6 @@ EndsAs pattern Closed text = text ≡ []
 EndsAs pattern (Last span) text = IsSuffix (part_of pattern span) text
 EndsAs pattern Never text = ⊥
 
--- the range in an ending is within the pattern
 abbrev pub IsEnding : List ℕ → Ending → Type 0
 IsEnding pattern Open = Unit {0}
 IsEnding pattern Closed = Unit {0}
@@ -188,8 +173,6 @@ pub record AddsSegments (pattern : List ℕ) (ends : Ends) (old_segments new_seg
 
 -- ---- The prefilter: conditions on a text without which a pattern can't match it.
 
--- ---- the beginning
-
 -- the first eight bytes as a little-endian number; a shorter text is padded with zeros
 abbrev pub first_eight : List ℕ → ℕ
 first_eight text = from_le_bytes w64 text
@@ -207,9 +190,7 @@ pub record IsHeadOf (segment : List ℕ) (head : Head) : Type 0 where
 abbrev pub Fits : Head → ℕ → Type 0
 Fits head front = bit_and front head.mask ≡ head.bytes
 
--- ---- bigrams (pairs of adjacent bytes), as sets of 64 bits
-
--- the bit of a bigram
+-- the bit of a bigram (two adjacent bytes) in a set of 64 bits
 abbrev pub pair_bit : ℕ → ℕ → ℕ
 pair_bit first second = 2 ^ ((first + 2 * second) % 64)
 
@@ -218,12 +199,10 @@ abbrev pub front_bit : ℕ → List ℕ → ℕ
 front_bit first [] = 0
 front_bit first (second ∷ rest) = pair_bit first second
 
--- the bits of all bigrams of a text
 unfoldable pub pair_set : List ℕ → ℕ
 pair_set [] = 0
 pair_set (first ∷ rest) = bit_or (front_bit first rest) (pair_set rest)
 
--- each bit of the first set is in the second
 abbrev pub AreWithin : ℕ → ℕ → Type 0
 AreWithin few many = bit_or few many ≡ many
 
@@ -245,29 +224,22 @@ abbrev pub AreApart : List ℕ → ℕ → ℕ → ℕ → Type 0
 AreApart masks text from to =
     (k : ℕ) → from ≤ k → k < to → (k < length masks) × ¬ AreWithin (slice_index masks k) text
 
--- ---- both
-
--- the text begins with the bytes of the head, and has the bigrams
 pub record Meets (prefilter : Prefilter) (text : List ℕ) : Type 0 where
   pub head : Fits prefilter.head (first_eight text)
   pub pairs : AreWithin prefilter.pairs.bits (pair_set text)
 
--- every text that the pattern matches meets the prefilter
 abbrev pub ArePrefilter : List ℕ → Prefilter → Type 0
 ArePrefilter pattern prefilter = (text : List ℕ) → Matches pattern text → Meets prefilter text
 
 -- ---- Rules by their ranges of shared vectors.
 
--- how many bytes the pattern has
 abbrev pub len_of : Entry → ℕ
 len_of entry = entry.pattern.end - entry.pattern.start
 
--- twice the length, plus one for an Allow
 abbrev pub rank : ℕ → Bool → ℕ
 rank len allows = 2 * len + (if allows then 1 else 0)
 
--- the ranges contain a pattern and its segments, whose failure tables are in `borders`; every text that the
--- pattern matches meets the prefilter
+-- the ranges contain a pattern, its segments, with failure tables in `borders`, and its prefilter
 pub record IsEntry (text : List ℕ) (segments : List Segment) (borders : List ℕ) (entry : Entry) : Type 0 where
   pub pattern : IsSpan text entry.pattern
   pub searched : IsSpan segments entry.segments
@@ -285,14 +257,11 @@ pub record AreEntries (all : Unsorted) : Type 0 where
 abbrev pub pattern_of : Unsorted → Entry → List ℕ
 pattern_of all entry = part_of (string_bytes all.text) entry.pattern
 
--- the pattern, whether it allows, and its line
 abbrev pub placed_at : List ℕ → Entry → PlacedRule
 placed_at text entry = record { rule = (part_of text entry.pattern, entry.is_allow); line = entry.line }
 
 abbrev pub rules_in : Unsorted → List PlacedRule
 rules_in all = map (placed_at (string_bytes all.text)) all.entries.items
-
--- ---- the order
 
 abbrev pub rank_in : Entry → ℕ
 rank_in entry = rank (len_of entry) entry.is_allow
@@ -300,7 +269,6 @@ rank_in entry = rank (len_of entry) entry.is_allow
 abbrev pub line_in : Entry → ℕ
 line_in entry = entry.line
 
--- which of two entries is tried first
 abbrev pub entry_cmp : Entry → Entry → Ordering
 entry_cmp = then_cmp (flip_args (on rank_in nat_cmp)) (on line_in nat_cmp)
 
@@ -308,8 +276,6 @@ entry_cmp = then_cmp (flip_args (on rank_in nat_cmp)) (on line_in nat_cmp)
 pub record GoesBefore (first second : Entry) : Type 0 where
   pub higher : rank_in second ≤ rank_in first
   pub earlier : rank_in second ≡ rank_in first → first.line ≤ second.line
-
--- ---- the first matching rule
 
 -- a default, for positions without an entry
 abbrev pub no_entry : Entry
@@ -334,7 +300,6 @@ abbrev pub HaveMasks : List ℕ → List Entry → List ℕ → Type 0
 HaveMasks text entries masks =
     EachIndex masks (λ k. slice_index masks k ≡ mask_in text (slice_index_or entries k no_entry))
 
--- the rule at this position matches the text
 abbrev pub MatchesAt : Unsorted → ℕ → List ℕ → Type 0
 MatchesAt all at text =
     Matches (pattern_of all (slice_index_or all.entries.items at no_entry)) text
@@ -342,7 +307,6 @@ MatchesAt all at text =
 abbrev pub NoneMatches : Unsorted → List ℕ → Type 0
 NoneMatches all text = (k : ℕ) → k < length all.entries.items → ¬ MatchesAt all k text
 
--- the rule at this position matches the text, and none before it does
 abbrev pub IsFirstMatch : Unsorted → List ℕ → ℕ → Type 0
 IsFirstMatch all text at =
     (at < length all.entries.items) × MatchesAt all at text

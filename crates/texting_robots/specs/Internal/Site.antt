@@ -11,8 +11,7 @@ use Rattle.texting_robots.specs.declared.site.lines.{AgentLine.AgentLine, KeptLi
 use Rattle.texting_robots.specs.declared.site.own.{Position.Position}
 pub use Rattle.texting_robots.specs.OwnLines.{Tagged, delay_of, rule_of, tag_of}
 
--- ---- The group lines of a file, each with the run of user-agent lines that is above it, and the names of
--- these runs. A run is a sequence of user-agent lines with no group line between them.
+-- ---- Group lines with the run of user-agent lines above them. No group line is between the lines of a run.
 
 -- the name of a user-agent line, its run, and how many group lines are above it
 pub record Named : Type 0 where
@@ -27,7 +26,6 @@ run_after run joins number line = if is_agent line && not joins then number else
 abbrev pub joins_after : Bool → LineValue → Bool
 joins_after joins line = is_agent line || (not (is_group line) && joins)
 
--- the line, if it is a group line
 abbrev pub tag_in : ℕ → ℕ → LineValue → Option Tagged
 tag_in run number line =
     if is_group line then Some (record { number = number; line = line; run = run }) else None
@@ -39,17 +37,14 @@ tagged_from run joins position (line ∷ lines) =
     cons_option (tag_in run (position + 1) line)
     (tagged_from (run_after run joins (position + 1) line) (joins_after joins line) (position + 1) lines)
 
--- how many group lines are above the next line
 abbrev pub count_after : ℕ → LineValue → ℕ
 count_after count line = if is_group line then count + 1 else count
 
--- the name of a line, with its run
 abbrev pub named_in : ℕ → ℕ → LineValue → Option Named
 named_in run count (UserAgent value) =
     Some (record { name = value; run = run; start = count })
 named_in run count _ = None
 
--- the names of the lines that are left
 abbrev pub named_from : ℕ → Bool → ℕ → ℕ → List LineValue → List Named
 named_from run joins position count [] = []
 named_from run joins position count (line ∷ lines) =
@@ -57,18 +52,16 @@ named_from run joins position count (line ∷ lines) =
     (named_from (run_after run joins (position + 1) line) (joins_after joins line) (position + 1)
     (count_after count line) lines)
 
--- the same for all lines of a file
 abbrev pub tagged : List LineValue → List Tagged
 tagged lines = tagged_from 0 false 0 lines
 
 abbrev pub named : List LineValue → List Named
 named lines = named_from 0 false 0 0 lines
 
--- the line has this name, which is given in lower case
+-- the name is given in lower case
 abbrev pub has_name : List ℕ → Named → Bool
 has_name name named = bytes_eq (str_to_ascii_lowercase named.name) name
 
--- and it is in this run
 abbrev pub is_of : List ℕ → ℕ → Named → Bool
 is_of name run named = has_name name named && (named.run == run)
 
@@ -79,14 +72,10 @@ is_run_of name names run = list_any (is_of name run) names
 abbrev pub own_tagged : List ℕ → List LineValue → List Tagged
 own_tagged name lines = filter (λ t. is_run_of name (named lines) t.run) (tagged lines)
 
--- the leading group lines that are of this run
 abbrev pub in_front : ℕ → List Tagged → List Tagged
 in_front run [] = []
 in_front run (t ∷ tags) = if t.run == run then t ∷ in_front run tags else []
 
--- ---- what a site keeps of a file
-
--- the bytes of a text at a span, and the line with this content
 abbrev pub bytes_at : List ℕ → Span → List ℕ
 bytes_at text span = take span.len (drop span.start text)
 
@@ -102,21 +91,17 @@ named_of agent = record { name = agent.name.items; run = agent.run; start = agen
 abbrev pub listed : List ℕ → Span → Option (List ℕ)
 listed text span = sitemap_in (line_at text span)
 
--- the last delay above the first user-agent line, after one more line; `begun`: there was a user-agent line
--- before it
+-- the last delay above the first user-agent line, after one more line; `begun`: that line was before it
 abbrev pub early_after : Bool → Option ℕ → LineValue → Option ℕ
 early_after begun early line = if begun then early else option_or (delay_in line) early
 
--- the group lines, names and sitemaps are those of the lines of a file, and the delay is the last one above
--- all user-agent lines
+-- what a site keeps of a file; the delay is the last one above all user-agent lines
 pub record IsIndexOf (text : List ℕ) (groups : List KeptLine) (names : List Named) (sitemaps : List Span)
     (early : Option ℕ) : Type 0 where
   pub groups_are : map (tag_at text) groups ≡ tagged (file_lines text)
   pub names_are : names ≡ named (file_lines text)
   pub sitemaps_are : filter_map (listed text) sitemaps ≡ sitemaps_in (file_lines text)
   pub early_is : early ≡ delay_before_agents (file_lines text)
-
--- ---- A hash table over the names of user-agent lines.
 
 -- how many lines are before the first one with the name: all, if none has it
 abbrev pub first_named : List ℕ → List Named → ℕ
@@ -130,7 +115,6 @@ hash_from hash (b ∷ bs) = hash_from ((hash * 33 + b) % 16777216) bs
 abbrev pub bucket_of : ℕ → List ℕ → ℕ
 bucket_of count name = hash_from 0 name % count
 
--- the name of the line is in this bucket
 abbrev pub is_in : ℕ → ℕ → Named → Bool
 is_in count bucket named = bucket_of count (str_to_ascii_lowercase named.name) == bucket
 
@@ -146,14 +130,12 @@ pub record AreLinked (from : ℕ) (names : List Named) (heads nexts : List ℕ) 
       (str_to_ascii_lowercase n.name)))
       (drop (i + 1) names)
 
--- ---- An iteration over the group lines that apply to the crawlers with a group name.
-
 -- the run `other` is after `run`, and one of these user-agent lines is in it and has the name
 abbrev pub is_later : List ℕ → ℕ → List Named → ℕ → Bool
 is_later name run names other = ltb run other && is_run_of name names other
 
--- the leading group lines of `rest` that are in this run, and the group lines of later runs in which one of
--- these user-agent lines has the name
+-- the leading group lines of `rest` in this run, and those of later runs in which one of these user-agent
+-- lines has the name
 abbrev pub own_from : List ℕ → ℕ → List Tagged → List Named → List Tagged → List Tagged
 own_from name run rest names tags = in_front run rest ++ filter (λ t. is_later name run names t.run) tags
 
@@ -162,7 +144,6 @@ abbrev pub own_at : List ℕ → Position → List Named → List Tagged → Lis
 own_at name position names tags =
     own_from name position.run (drop position.at tags) (drop position.name_index names) tags
 
--- the names and group lines are those of a file
 abbrev pub AreOfFile : List Named → List Tagged → Type 0
 AreOfFile names tags = (lines : List LineValue) × (names ≡ named lines) × (tags ≡ tagged lines)
 
@@ -171,8 +152,7 @@ abbrev pub IsWalk : List ℕ → Position → List Named → List Tagged → Typ
 IsWalk name position names tags =
     (first_named name (drop position.name_index names) ≡ 0) × AreOfFile names tags
 
--- the iteration has all lines that apply: those of the runs that contain the name, or all if the file has
--- no user-agent line
+-- all lines that apply: those of the runs that contain the name, or all if there is no user-agent line
 abbrev pub IsWholeWalk : List ℕ → List Named → List Tagged → List Tagged → Type 0
 IsWholeWalk name names tags walk =
     (lines : List LineValue) → names ≡ named lines → tags ≡ tagged lines

@@ -19,17 +19,14 @@ colon = 58
 abbrev pub hash : ℕ
 hash = 35
 
--- nothing, or `#` and any bytes
 abbrev pub IsOptionalComment : List ℕ → Type 0
 IsOptionalComment bytes = (bytes ≡ []) ⊎ ((text : List ℕ) × (bytes ≡ hash ∷ text))
 
--- the text without leading spaces and tabs
 abbrev pub skip_blanks : List ℕ → List ℕ
 skip_blanks [] = []
 skip_blanks (byte ∷ text) = if byte == space || byte == tab then skip_blanks text else byte ∷ text
 
--- the kind whose field names begin with this lowercase letter: 'u' is 117, 'a' 97, 'd' 100, 's' 115 and 'c'
--- 99
+-- 'u' is 117, 'a' 97, 'd' 100, 's' 115 and 'c' 99
 abbrev pub kind_with : ℕ → Option Kind
 kind_with letter =
     if letter == 117 then Some UserAgent
@@ -43,7 +40,7 @@ abbrev pub kind_by : List ℕ → Option Kind
 kind_by [] = None
 kind_by (byte ∷ text) = kind_with (to_ascii_lowercase byte)
 
--- the text begins with the field name, which is given in lowercase, ASCII letters in any case
+-- the field name is given in lowercase; in the text, ASCII letters are in any case
 abbrev pub begins : List ℕ → List ℕ → Bool
 begins name text = bytes_eq (map to_ascii_lowercase (take (length name) text)) name
 
@@ -65,18 +62,16 @@ after_separator rest (byte ∷ after) =
 abbrev pub tail_of : List ℕ → Option (List ℕ)
 tail_of rest = after_separator rest (skip_blanks rest)
 
--- the raw value: what precedes the first `#`
+-- the raw value
 abbrev pub region_of : List ℕ → List ℕ
 region_of tail = before_first (λ byte. byte == hash) tail
 
 abbrev pub trimmed : List ℕ → List ℕ
 trimmed region = trim_end_by is_whitespace (trim_start_by is_whitespace region)
 
--- the value in a tail
 abbrev pub value_of : List ℕ → List ℕ
 value_of tail = trimmed (region_of tail)
 
--- the tail of a text that begins with a field name of this kind and a separator
 abbrev pub tail_as : Kind → List ℕ → Option (List ℕ)
 tail_as kind text = option_and_then tail_of (after_any (field_names kind) text)
 

@@ -9,22 +9,20 @@ use super::cut::{after_end, body_len};
 /// How many pairs of adjacent bytes are tested at once.
 const LANES: usize = 32;
 
-/// Whether the byte may end a line. This is one comparison, so it also accepts other bytes below CR.
+/// One comparison, so it also accepts other bytes below CR.
 fn may_end(byte: u8) -> bool
     ensures { result ≡ may_end byte }
 {
     byte <= b'\r'
 }
 
-/// Whether a user-agent line may begin with the byte.
 fn may_begin(byte: u8) -> bool
     ensures { result ≡ may_begin byte }
 {
     (byte == b' ') | (byte == b'\t') | (byte == b'U') | (byte == b'u')
 }
 
-/// Whether no user-agent line begins right after one of the first `LANES` bytes. It tests all of them without an early
-/// exit, since in the usual case none does.
+/// All pairs are tested without an early exit, since usually none is found.
 fn none_begins(text: &[u8]) -> bool
     requires { LANES < length text.now }
     ensures { result ≡ true → NoneBegins text.now LANES }
@@ -47,7 +45,7 @@ pub(crate) fn after_others<'a>(text: &'a [u8], nul_ends: bool) -> &'a [u8]
     while rest.len() > LANES && none_begins(rest) {
         rest = rest.split_at(LANES).1;
     }
-    // the rest begins in the first line or in another line that isn't a user-agent line; skip to the next line
+    // the rest may begin within a line that isn't a user-agent line; skip to the next line
     let (_, after) = rest.split_at(body_len(rest, nul_ends));
     after_end(after, nul_ends)
 }

@@ -11,7 +11,6 @@ use std::simd::prelude::*;
 /// How many bytes are compared at once if fewer than `LANES` are left.
 const HALF: usize = 16;
 
-/// The index of the first byte that ends a line.
 fn first_end(text: &[u8], nul_ends: bool) -> Option<usize>
     ensures { let len = body_len (read_as nul_ends text.now) in MatchOption result (len ≡ length text.now)
         (λ end. (len ≡ end) × (end < length text.now)) }
@@ -23,7 +22,6 @@ fn first_end(text: &[u8], nul_ends: bool) -> Option<usize>
     }
 }
 
-/// A third byte that ends a line, besides CR and LF: NUL, or LF again.
 fn third_end(nul_ends: bool) -> u8
     ensures { result ≡ (if nul_ends then 0 else lf) }
 {
@@ -58,7 +56,6 @@ fn body_len_in_half(text: &[u8], nul_ends: bool) -> usize
     first_lane(ends.to_bitmask(), HALF)
 }
 
-/// How many bytes of a short text precede the first one that ends a line.
 fn short_body_len(text: &[u8], nul_ends: bool) -> usize
     ensures value { result ≡ body_len (read_as nul_ends text.now) }
     ensures within { result ≤ length text.now }
@@ -74,7 +71,6 @@ fn short_body_len(text: &[u8], nul_ends: bool) -> usize
     HALF + first_end(rest, nul_ends).unwrap_or(rest.len())
 }
 
-/// How many bytes precede the first one that ends a line.
 pub(crate) fn body_len(text: &[u8], nul_ends: bool) -> usize
     ensures value { result ≡ body_len (read_as nul_ends text.now) }
     ensures within { result ≤ length text.now }
@@ -90,14 +86,13 @@ pub(crate) fn body_len(text: &[u8], nul_ends: bool) -> usize
     text.len() - rest.len() + short_body_len(rest, nul_ends)
 }
 
-/// Whether the byte completes a line terminator, alone or after CRs.
 fn feeds(byte: u8, nul_ends: bool) -> bool
     ensures { result ≡ is_feed nul_ends byte }
 {
     byte == b'\n' || nul_ends && byte == 0
 }
 
-/// The text without most of its leading CRs, which are skipped `LANES` at a time.
+/// Skips most leading CRs, `LANES` at a time.
 #[inline(never)]
 fn skip_returns<'a>(text: &'a [u8], nul_ends: bool) -> &'a [u8]
     ensures { drop (end_len (read_as nul_ends result.now)) result.now ≡ drop (end_len (read_as nul_ends text.now)) text.now }
@@ -109,8 +104,7 @@ fn skip_returns<'a>(text: &'a [u8], nul_ends: bool) -> &'a [u8]
     rest
 }
 
-/// The text, without most of its leading CRs if there are at least two. Most terminators have at most one CR, and are
-/// left to the caller.
+/// The same if there are at least two. Most terminators have at most one CR, which is left to the caller.
 #[inline(always)]
 fn without_many_returns<'a>(text: &'a [u8], nul_ends: bool) -> &'a [u8]
     ensures { drop (end_len (read_as nul_ends result.now)) result.now ≡ drop (end_len (read_as nul_ends text.now)) text.now }
@@ -121,7 +115,7 @@ fn without_many_returns<'a>(text: &'a [u8], nul_ends: bool) -> &'a [u8]
     }
 }
 
-/// What follows the leading line terminator, for any terminator.
+/// For any terminator.
 #[tactic(auto, using(crate::proofs::CutFromFront::past_return, crate::proofs::CutFromFront::past_feed, crate::proofs::CutFromFront::no_end))]
 #[inline(never)]
 fn after_any_end<'a>(text: &'a [u8], nul_ends: bool) -> &'a [u8]
@@ -137,7 +131,7 @@ fn after_any_end<'a>(text: &'a [u8], nul_ends: bool) -> &'a [u8]
     }
 }
 
-/// What follows the leading line terminator. A single LF is tested first, without a call.
+/// A single LF is tested first, without a call.
 #[tactic(auto, using(crate::proofs::CutFromFront::past_line_feed))]
 #[inline(always)]
 pub(crate) fn after_end<'a>(text: &'a [u8], nul_ends: bool) -> &'a [u8]
@@ -149,8 +143,7 @@ pub(crate) fn after_end<'a>(text: &'a [u8], nul_ends: bool) -> &'a [u8]
     }
 }
 
-/// Whether each byte completes a line terminator. It tests all bytes without an early exit, so that the compiler can
-/// vectorize the loop.
+/// All bytes are tested without an early exit, so that the compiler can vectorize the loop.
 fn all_feed(bytes: &[u8], nul_ends: bool) -> bool
     ensures { result ≡ list_all (is_feed nul_ends) bytes.now }
 {

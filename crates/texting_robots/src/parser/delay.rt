@@ -32,7 +32,6 @@ const MICROS_DIGITS: usize = 6;
 /// A number other than 0 that is followed by so many zeros is above `u64::MAX`.
 const ZEROS: [u8; 20] = [b'0'; 20];
 
-/// Whether the text begins with a minus, and the text without its sign.
 fn split_sign(text: &[u8]) -> (bool, &[u8])
     ensures minus { result.0 ≡ starts_with_minus text.now }
     ensures rest { result.1.now ≡ without_leading_sign text.now }
@@ -44,7 +43,6 @@ fn split_sign(text: &[u8]) -> (bool, &[u8])
     }
 }
 
-/// How many leading digits there are.
 fn digits_len(text: &[u8]) -> usize
     ensures value { result ≡ prefix_len is_ascii_digit text.now }
     ensures within { result ≤ length text.now }
@@ -52,7 +50,6 @@ fn digits_len(text: &[u8]) -> usize
     text.iter().take_while(|byte| byte.is_ascii_digit()).count()
 }
 
-/// The leading digits, and what follows them.
 fn split_digits(text: &[u8]) -> (&[u8], &[u8])
     ensures digits { result.0.now ≡ steps.digits_in_front text.now }
     ensures rest { result.1.now ≡ steps.after_digits text.now }
@@ -60,7 +57,6 @@ fn split_digits(text: &[u8]) -> (&[u8], &[u8])
     text.split_at(digits_len(text))
 }
 
-/// The digits after a leading point, and what follows them.
 fn split_fraction(text: &[u8]) -> (&[u8], &[u8])
     ensures digits { result.0.now ≡ steps.fraction_in_front text.now }
     ensures rest { result.1.now ≡ steps.after_fraction text.now }
@@ -71,29 +67,24 @@ fn split_fraction(text: &[u8]) -> (&[u8], &[u8])
     }
 }
 
-/// Whether there are only digits.
 fn are_digits(text: &[u8]) -> bool
     ensures { result ≡ list_all is_ascii_digit text.now }
 {
     text.iter().all(|byte| byte.is_ascii_digit())
 }
 
-/// Whether there are only zeros.
 fn are_zeros(text: &[u8]) -> bool
     ensures { result ≡ list_all (λ digit. digit == byte "0") text.now }
 {
     text.iter().all(|digit| *digit == b'0')
 }
 
-/// Whether the text is one digit or more, and nothing else.
 fn is_numeral(text: &[u8]) -> bool
     ensures { result ≡ steps.is_numeral text.now }
 {
     !text.is_empty() && are_digits(text)
 }
 
-/// Parses what follows the digits of a number: an exponent, or nothing. The result is the sign and digits of the
-/// exponent.
 fn read_exponent(text: &[u8]) -> Option<&[u8]>
     ensures { option_copied result ≡ steps.exponent_of text.now }
 {
@@ -104,7 +95,6 @@ fn read_exponent(text: &[u8]) -> Option<&[u8]>
     }
 }
 
-/// Parses a number of seconds without a sign.
 fn read_number(text: &[u8]) -> Option<Number<'_>>
     ensures { result ≡ steps.number_of text.now }
 {
@@ -121,14 +111,13 @@ fn read_number(text: &[u8]) -> Option<Number<'_>>
     })
 }
 
-/// The first `count` digits, or all if there are fewer.
 fn first(digits: &[u8], count: usize) -> &[u8]
     ensures { result.now ≡ take count digits.now }
 {
     digits.get(..count).unwrap_or(digits)
 }
 
-/// The number whose digits are those of `start` and then these, at most `u64::MAX`.
+/// At most `u64::MAX`.
 #[tactic(auto, using(crate::proofs::DelayNumbers::digit_there, crate::proofs::DelayNumbers::one_more_digit, crate::proofs::DelayNumbers::all_digits_read))]
 fn append_digits(start: u64, digits: &[u8]) -> u64
     requires { All IsAsciiDigit digits.now }
@@ -144,14 +133,12 @@ fn append_digits(start: u64, digits: &[u8]) -> u64
 }
 
 impl Number<'_> {
-    /// Whether all digits before the exponent are zeros.
     fn is_zero(&self) -> bool
         ensures { result ≡ steps.is_zero self.now }
     {
         are_zeros(self.whole) && are_zeros(self.fraction)
     }
 
-    /// How many digits, counted from the first, are whole microseconds.
     fn micros_digits(&self) -> usize
         ensures { result ≡ steps.bounded (steps.places self.now) }
     {
@@ -165,7 +152,6 @@ impl Number<'_> {
         }
     }
 
-    /// The number of microseconds, rounded down, at most `u64::MAX`.
     fn micros(&self) -> u64
         ensures { result ≡ steps.rounded self.now }
     {
@@ -178,7 +164,6 @@ impl Number<'_> {
     }
 }
 
-/// Whether the text is `inf` or `infinity`, ASCII letters in any case.
 fn is_infinite(text: &[u8]) -> bool
     ensures { result ≡ steps.is_infinite text.now }
 {
@@ -187,8 +172,8 @@ fn is_infinite(text: &[u8]) -> bool
 
 /// Parses a delay in seconds. The result is in microseconds, rounded down, and at most `u64::MAX`.
 ///
-/// The text isn't trimmed. It has to be a decimal number, possibly with an exponent, or `inf` or `infinity`. For
-/// anything else, and for a delay below zero, the result is `None`. It doesn't allocate.
+/// The text isn't trimmed. It has to be a decimal number, possibly with an exponent, or `inf` or `infinity`.
+/// For anything else, and for a delay below zero, the result is `None`. It doesn't allocate.
 #[tactic(auto, using(crate::proofs::DelayLemmas::is_delay))]
 pub fn read_delay(text: &[u8]) -> Option<u64>
     ensures { IsDelay text.now result }

@@ -1,5 +1,5 @@
-//! Directives: which one the content of a line is. A directive consists of a field name, a separator, and a tail, which
-//! is a raw value and possibly a comment.
+//! Directives. A directive consists of a field name, a separator, and a tail, which is a raw value and
+//! possibly a comment.
 ghost use Rattle.std.specs.Prelude.{◌≡◌, ◌==◌, IfSome, MatchOption, Some, None, map, true, false, drop, length};
 ghost use Rattle.std.specs.List.{list_any};
 ghost use Rattle.std.specs.Str.{str_to_ascii_lowercase};
@@ -13,20 +13,15 @@ use memchr::memchr;
 /// The kind of a directive, which its field name determines.
 #[derive(Clone, Copy, PartialEq, Eq)]
 pub enum Kind {
-    /// A crawler that the group is for.
     UserAgent,
-    /// What may be fetched.
     Allow,
-    /// What may not be fetched.
     Disallow,
-    /// The address of a sitemap.
     Sitemap,
-    /// How long a crawler has to wait.
     CrawlDelay,
 }
 
-/// The accepted field names of a directive, ASCII letters in any case. The first is the usual one, in its usual case.
-/// It doesn't allocate.
+/// The accepted field names of a directive, ASCII letters in any case. The first is the usual one. It doesn't
+/// allocate.
 pub fn field_names(kind: Kind) -> &'static [&'static str]
     ensures { map (λ name. str_to_ascii_lowercase name.now) result.now ≡ field_names kind }
 {
@@ -46,7 +41,6 @@ pub fn field_names(kind: Kind) -> &'static [&'static str]
     }
 }
 
-/// The text without leading spaces and tabs.
 pub(crate) fn skip_blanks<'a>(text: &'a [u8]) -> &'a [u8]
     ensures { result.now ≡ skip_blanks text.now }
 {
@@ -57,8 +51,7 @@ pub(crate) fn skip_blanks<'a>(text: &'a [u8]) -> &'a [u8]
     rest
 }
 
-/// The kind whose field names begin with the first letter of the text, in any case. The rest of the field name isn't
-/// checked.
+/// Only the first letter of the text is tested.
 #[inline(always)]
 pub(crate) fn kind_by(text: &[u8]) -> Option<Kind>
     ensures { result ≡ kind_by text.now }
@@ -73,7 +66,6 @@ pub(crate) fn kind_by(text: &[u8]) -> Option<Kind>
     }
 }
 
-/// What follows the field name, if the text begins with it, ASCII letters in any case.
 fn after_name<'a>(name: &str, text: &'a [u8]) -> Option<&'a [u8]>
     ensures { let small = str_to_ascii_lowercase name.now in MatchOption result
         (begins small text.now ≡ false)
@@ -87,7 +79,6 @@ fn after_name<'a>(name: &str, text: &'a [u8]) -> Option<&'a [u8]>
     }
 }
 
-/// What follows the first of the field names that the text begins with.
 fn after_any<'a>(field_names: &[&str], text: &'a [u8]) -> Option<&'a [u8]>
     ensures { let small = map (λ name. str_to_ascii_lowercase name.now) field_names.now
         in MatchOption result (after_any small text.now ≡ None)
@@ -101,7 +92,6 @@ fn after_any<'a>(field_names: &[&str], text: &'a [u8]) -> Option<&'a [u8]>
     None
 }
 
-/// What follows the separator, and spaces and tabs after it.
 #[inline(always)]
 fn tail_of<'a>(rest: &'a [u8]) -> Option<&'a [u8]>
     ensures { MatchOption result (tail_of rest.now ≡ None) (λ tail. tail_of rest.now ≡ Some tail.now) }
@@ -114,7 +104,7 @@ fn tail_of<'a>(rest: &'a [u8]) -> Option<&'a [u8]>
     }
 }
 
-/// What follows the field name, if it is the usual one in its usual case. Other field names are left to [`after_any`].
+/// If the field name is the usual one in its usual case. Others are left to [`after_any`].
 #[inline(always)]
 fn after_usual<'a>(kind: Kind, text: &'a [u8]) -> Option<&'a [u8]>
     ensures { IfSome result (λ rest. after_any (field_names kind) text.now ≡ Some rest.now) }
@@ -152,7 +142,6 @@ fn after_usual<'a>(kind: Kind, text: &'a [u8]) -> Option<&'a [u8]>
     }
 }
 
-/// What follows the separator, if the text begins with any field name of this kind.
 #[inline(never)]
 fn tail_by_field_names<'a>(kind: Kind, text: &'a [u8]) -> Option<&'a [u8]>
     ensures { MatchOption result (tail_as kind text.now ≡ None) (λ tail. tail_as kind text.now ≡ Some tail.now) }
@@ -160,7 +149,6 @@ fn tail_by_field_names<'a>(kind: Kind, text: &'a [u8]) -> Option<&'a [u8]>
     tail_of(after_any(field_names(kind), text)?)
 }
 
-/// What follows the separator, if the text begins with a field name of this kind.
 #[inline(always)]
 pub(crate) fn tail_as<'a>(kind: Kind, text: &'a [u8]) -> Option<&'a [u8]>
     ensures { MatchOption result (tail_as kind text.now ≡ None) (λ tail. tail_as kind text.now ≡ Some tail.now) }
@@ -171,7 +159,7 @@ pub(crate) fn tail_as<'a>(kind: Kind, text: &'a [u8]) -> Option<&'a [u8]>
     }
 }
 
-/// Whether some byte is `#`. It tests all bytes without an early exit, so that the compiler can vectorize the loop.
+/// All bytes are tested without an early exit, so that the compiler can vectorize the loop.
 fn holds_hash_among(bytes: &[u8]) -> bool
     ensures { result ≡ list_any (λ byte. byte == hash) bytes.now }
 {
@@ -182,7 +170,7 @@ fn holds_hash_among(bytes: &[u8]) -> bool
     holds
 }
 
-/// Whether the text contains `#`. Eight to 32 bytes are tested as two parts of equal length, which may overlap.
+/// Eight to 32 bytes are tested as two parts of equal length, which may overlap.
 fn holds_hash(text: &[u8]) -> bool
     ensures { result ≡ list_any (λ byte. byte == hash) text.now }
 {
@@ -194,7 +182,6 @@ fn holds_hash(text: &[u8]) -> bool
     }
 }
 
-/// What precedes the first `#`.
 #[tactic(auto, using(crate::proofs::LabelLemmas::first_is, crate::proofs::LabelLemmas::none_is))]
 #[inline(never)]
 fn before_hash<'a>(tail: &'a [u8]) -> &'a [u8]
@@ -206,7 +193,7 @@ fn before_hash<'a>(tail: &'a [u8]) -> &'a [u8]
     }
 }
 
-/// The raw value: what precedes the comment. It first tests whether there is a comment, since most tails have none.
+/// It first tests whether there is a comment, since most tails have none.
 #[tactic(auto, using(crate::proofs::LabelLemmas::plain_is))]
 fn region_of<'a>(tail: &'a [u8]) -> &'a [u8]
     ensures { result.now ≡ region_of tail.now }
@@ -218,7 +205,7 @@ fn region_of<'a>(tail: &'a [u8]) -> &'a [u8]
     }
 }
 
-/// The text without white space at both ends. It decodes the UTF-8 characters there.
+/// The UTF-8 characters at both ends are decoded.
 #[inline(never)]
 fn trimmed_by_chars<'a>(text: &'a [u8]) -> &'a [u8]
     ensures { result.now ≡ trimmed text.now }
@@ -226,8 +213,7 @@ fn trimmed_by_chars<'a>(text: &'a [u8]) -> &'a [u8]
     text.trim()
 }
 
-/// The text without white space at both ends. Nothing is decoded if its first and last bytes are visible ASCII
-/// characters.
+/// Nothing is decoded if the first and last bytes are visible ASCII characters.
 fn trimmed<'a>(text: &'a [u8]) -> &'a [u8]
     ensures { result.now ≡ trimmed text.now }
 {
@@ -240,7 +226,6 @@ fn trimmed<'a>(text: &'a [u8]) -> &'a [u8]
     }
 }
 
-/// The value in a tail: the raw value, trimmed.
 pub(crate) fn value_of<'a>(tail: &'a [u8]) -> &'a [u8]
     ensures { result.now ≡ value_of tail.now }
 {

@@ -9,14 +9,13 @@ pub(crate) struct BigramSet {
 }
 
 impl BigramSet {
-    /// No bigrams.
     pub(crate) fn none() -> Self
         ensures { result.bits ≡ 0 }
     {
         BigramSet { bits: 0 }
     }
 
-    /// The bigrams of the text. Each iteration adds two.
+    /// Each iteration adds two.
     pub(crate) fn of(text: &[u8]) -> Self
         ensures { result.bits ≡ pair_set text.now }
     {
@@ -35,14 +34,12 @@ impl BigramSet {
         }
     }
 
-    /// Whether the set is empty.
     pub(crate) fn is_empty(self) -> bool
         ensures { IsTrue result ↔ (self.bits ≡ 0) }
     {
         self.bits == 0
     }
 
-    /// The union of the sets.
     pub(crate) fn and(self, other: BigramSet) -> Self
         ensures { result.bits ≡ bit_or self.bits other.bits }
     {
@@ -51,7 +48,6 @@ impl BigramSet {
         }
     }
 
-    /// Whether it is a subset of the other set.
     pub(crate) fn are_within(self, other: BigramSet) -> bool
         ensures { IsTrue result ↔ AreWithin self.bits other.bits }
     {
@@ -59,7 +55,6 @@ impl BigramSet {
     }
 }
 
-/// The bit of a bigram.
 fn bit_of(first: u8, second: u8) -> u64
     ensures { result ≡ pair_bit first second }
 {

@@ -10,7 +10,7 @@ pub(crate) struct Head {
 }
 
 impl Head {
-    /// The first `len` bytes of the pattern, at most eight. The others are masked out.
+    /// The bytes after the first `len`, or after eight, are masked out.
     pub(crate) fn of(pattern: &[u8], len: usize) -> Self
         requires { len ≤ length pattern.now }
         ensures { IsHeadOf (take len pattern.now) result }
@@ -22,7 +22,6 @@ impl Head {
         }
     }
 
-    /// Whether a text with these first eight bytes may begin with the segment. If the result is false, it doesn't.
     pub(crate) fn fits(self, front: u64) -> bool
         ensures { IsTrue result ↔ Fits self front }
     {
@@ -30,7 +29,6 @@ impl Head {
     }
 }
 
-/// The first eight bytes of a text as a little-endian number. A shorter text is padded with zeros.
 pub(crate) fn front(text: &[u8]) -> u64
     ensures { result ≡ first_eight text.now }
 {
@@ -50,14 +48,12 @@ pub(crate) fn front(text: &[u8]) -> u64
     ])
 }
 
-/// The byte at an index of the text, or zero past its end.
 fn byte_or_zero(text: &[u8], at: usize) -> u8
     ensures { result ≡ slice_index_or text.now at 0 }
 {
     text.get(at).copied().unwrap_or(0)
 }
 
-/// Ones for the first `len` bytes of eight.
 fn mask_of(len: usize) -> u64
     ensures { result ≡ ones_below len }
 {

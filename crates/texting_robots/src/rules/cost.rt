@@ -12,8 +12,8 @@ use crate::error::TooCostly;
 use crate::view::View;
 
 impl Unsorted {
-    /// The index of the first rule that matches the text. Each rule that is tried counts as a look. It gives up at a
-    /// rule if more looks than the limit might be counted then.
+    /// Each rule that is tried counts as a look. It gives up at a rule if more looks than the limit might be
+    /// counted then.
     fn first_within(&self, view: &mut View<'_>, limit: u64) -> Result<Option<usize>, TooCostly>
         requires { AreEntries self.now }
         ensures none { IfOk result (λ found. IfNone found (NoneMatches self.now view.old.text)) }
@@ -42,7 +42,6 @@ impl Unsorted {
 }
 
 impl Rules {
-    /// How many looks a query takes at most for a text of this length, and one for each rule. It is at most `u64::MAX`.
     pub(crate) fn cost(&self, len: usize) -> u64
         ensures { result ≡ seen_of (cost_of self.now len) }
     {
@@ -54,8 +53,6 @@ impl Rules {
         cost
     }
 
-    /// The verdict on the view's text and the deciding line, unless this may take more looks than the budget. Each rule
-    /// that is tried counts as a look.
     #[inline(never)]
     pub(crate) fn decide_within(
         &self,

@@ -11,7 +11,7 @@ ghost use Rattle.texting_robots.specs.Internal.Site.{named_in, named_of, run_aft
 use crate::parser::{LazyLine, Line, empty_lines, split_line, without_front};
 use std::alloc::{AllocError, Global};
 
-/// The position of a line's content in the bytes of a file.
+/// Of a line's content in the bytes of a file.
 #[derive(Clone, Copy)]
 pub(crate) struct Span {
     pub(crate) start: usize,
@@ -19,7 +19,6 @@ pub(crate) struct Span {
 }
 
 impl Span {
-    /// The bytes of the span.
     fn bytes_in<'t>(self, text: &'t [u8]) -> &'t [u8]
         ensures { result.now ≡ bytes_at text.now self }
     {
@@ -27,7 +26,6 @@ impl Span {
         &rest[..self.len.min(rest.len())]
     }
 
-    /// The line of the span.
     pub(crate) fn line_in<'t>(self, text: &'t [u8]) -> Line<'t>
         ensures { by_value result ≡ line_at text.now self }
     {
@@ -54,7 +52,6 @@ pub(crate) struct KeptLine {
 }
 
 impl KeptLine {
-    /// Parses the group line.
     pub(crate) fn read<'t>(&self, text: &'t [u8]) -> GroupLine<'t>
         ensures { tag_of result ≡ tag_at text.now self.now }
     {
@@ -66,17 +63,15 @@ impl KeptLine {
     }
 }
 
-/// A user-agent line.
 #[derive(Drop)]
 pub(crate) struct AgentLine {
     pub(crate) name: Vec<u8>,
     /// The number of the first line of its run.
     pub(crate) run: usize,
-    /// How many group lines are above it, which is the index of the first group line of its run.
+    /// How many group lines are above it, which is the index of the first of its run.
     pub(crate) start: usize,
 }
 
-/// The lines of a file, separated by kind, each kind in file order.
 #[derive(Drop)]
 pub(crate) struct SiteLines {
     pub(crate) group_lines: Vec<KeptLine>,
@@ -88,12 +83,10 @@ pub(crate) struct SiteLines {
     begun: bool,
     /// The last run of user-agent lines, or 0.
     run: usize,
-    /// Whether the next user-agent line belongs to that run.
+    /// Whether the next user-agent line belongs to it.
     joins: bool,
 }
 
-/// The last delay above the first user-agent line, after one more line. `begun` states whether there was a user-agent
-/// line before.
 fn early_after(begun: bool, early: Option<u64>, line: Line<'_>) -> Option<u64>
     ensures { result ≡ early_after begun early (by_value line.entry) }
 {
@@ -124,7 +117,6 @@ impl SiteLines {
         }
     }
 
-    /// Adds a user-agent line.
     fn add_agent(&mut self, alloc: Global, number: usize, name: &[u8]) -> Result<(), AllocError>
         ensures lines { self.new.group_lines ≡ self.old.group_lines }
         ensures names { OnOk result (map named_of self.new.agent_lines.items ≡ map named_of self.old.agent_lines.items
@@ -149,7 +141,6 @@ impl SiteLines {
         Ok(())
     }
 
-    /// Adds the line with this number at this span.
     fn add(
         &mut self,
         alloc: Global,
@@ -190,7 +181,7 @@ impl SiteLines {
         }
     }
 
-    /// All lines. The last delay above the first user-agent line is dropped if there was no user-agent line.
+    /// The last delay above the first user-agent line is dropped if there was no user-agent line.
     fn finished(self) -> Self
         ensures lines { result.group_lines ≡ self.group_lines }
         ensures names { result.agent_lines ≡ self.agent_lines }
@@ -201,7 +192,6 @@ impl SiteLines {
         SiteLines { early, ..self }
     }
 
-    /// Reads a whole file, in one pass.
     pub(crate) fn read(alloc: Global, text: &[u8]) -> Result<Self, AllocError>
         ensures lines { IfOk result (λ s. map (tag_at text.now) s.group_lines.items ≡ tagged (file_lines text.now)) }
         ensures names { IfOk result (λ s. map named_of s.agent_lines.items ≡ named (file_lines text.now)) }

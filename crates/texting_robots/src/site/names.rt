@@ -10,9 +10,8 @@ use std::marker::Model;
 
 /// The user-agent lines of a file, in file order, and a hash table that finds the next one with a name.
 ///
-/// There are as many buckets as lines. A look-up compares the name with those of one bucket, usually one or two. The
-/// hash function is fixed, so someone can write a file whose names are all in one bucket. Then a look-up compares the
-/// name with all of them.
+/// There are as many buckets as lines. A look-up compares the name with those of one bucket, usually one or
+/// two. The hash function is fixed, so someone can write a file whose names are all in one bucket.
 #[derive(Drop)]
 pub(crate) struct Names {
     lines: Vec<AgentLine>,
@@ -44,7 +43,6 @@ fn hash_of(name: &[u8]) -> usize
     hash
 }
 
-/// The bucket of a name, of `count` buckets.
 fn bucket_of(name: &[u8], count: usize) -> usize
     requires { 0 < count }
     ensures value { result ≡ bucket_of count (str_to_ascii_lowercase name.now) }
@@ -53,7 +51,7 @@ fn bucket_of(name: &[u8], count: usize) -> usize
     hash_of(name) % count
 }
 
-/// Links the lines of each bucket, from the last line to the first.
+/// From the last line to the first.
 fn link(lines: &[AgentLine], heads: &mut [usize], nexts: &mut [usize])
     requires heads { heads.old ≡ replicate (length lines.now) (length lines.now) }
     requires nexts { length nexts.old ≡ length lines.now }
@@ -69,7 +67,6 @@ fn link(lines: &[AgentLine], heads: &mut [usize], nexts: &mut [usize])
 }
 
 impl Names {
-    /// The lines, in file order.
     pub(crate) fn new(alloc: Global, lines: Vec<AgentLine>) -> Result<Self, AllocError>
         ensures { IfOk result (λ names. names ≡ map named_of lines.items) }
     {
@@ -84,15 +81,14 @@ impl Names {
         })
     }
 
-    /// The lines.
     pub(crate) fn lines(&self) -> &[AgentLine]
         ensures { map named_of result.now ≡ self.now }
     {
         &self.lines
     }
 
-    /// The index of the first line with the name from `start` on, or the number of lines. `start` has to be the index
-    /// of a line in the name's bucket, or the number of lines.
+    /// `start` is the index of a line in the name's bucket, or the number of lines, which is also the result
+    /// if no line is found.
     fn find_from(&self, start: usize, name: &[u8]) -> usize
         requires { position_or_len (is_in (length self.now) (bucket_of (length self.now) (str_to_ascii_lowercase name.now)))
             (drop start self.now) ≡ 0 }
@@ -108,7 +104,6 @@ impl Names {
         position
     }
 
-    /// How many bytes it has allocated.
     pub(crate) fn bytes(&self) -> usize {
         let mut bytes = self.lines.capacity().saturating_mul(size_of::<AgentLine>());
         for line in &self.lines {
@@ -118,7 +113,7 @@ impl Names {
         bytes.saturating_add(links.saturating_mul(size_of::<usize>()))
     }
 
-    /// The index of the first line with the name, ASCII letters in any case, or the number of lines.
+    /// ASCII letters are in any case. The number of lines if there is none.
     pub(crate) fn first(&self, name: &[u8]) -> usize
         ensures { result ≡ first_named (str_to_ascii_lowercase name.now) self.now }
     {
@@ -129,7 +124,7 @@ impl Names {
         self.find_from(heads[bucket_of(name, heads.len())], name)
     }
 
-    /// The index of the next line with the same name as the line at `position`, or the number of lines.
+    /// The next line with the same name as the line at `position`, or the number of lines.
     pub(crate) fn after(&self, position: usize, name: &[u8]) -> usize
         requires within { position < length self.now }
         requires here { first_named (str_to_ascii_lowercase name.now) (drop position self.now) ≡ 0 }

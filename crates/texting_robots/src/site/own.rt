@@ -8,7 +8,6 @@ use crate::site::lines::{GroupLine, KeptLine};
 use crate::site::names::Names;
 use std::marker::Model;
 
-/// The state of an iteration over a crawler's lines.
 #[derive(Clone, Copy)]
 pub(crate) struct Position {
     /// The index of the next user-agent line with the group name, or the number of user-agent lines.
@@ -27,7 +26,7 @@ pub struct OwnLines<'s, 'n> {
     text: &'s [u8],
     lines: &'s [KeptLine],
     names: &'s Names,
-    /// The group name for the crawler.
+    /// The group name.
     name: &'n [u8],
     position: Position,
 }
@@ -47,7 +46,6 @@ impl<'s, 'n> Model for OwnLines<'s, 'n> {
         (map (tag_at s.text.now) s.lines.now) };
 }
 
-/// The line at an index, if it is in the run.
 fn line_of_run<'t>(
     text: &'t [u8],
     lines: &[KeptLine],
@@ -63,7 +61,6 @@ fn line_of_run<'t>(
     }
 }
 
-/// The next line of an iteration, and the position after it.
 fn next_line<'t>(
     text: &'t [u8],
     lines: &[KeptLine],
@@ -102,8 +99,8 @@ fn next_line<'t>(
     }
 }
 
-/// The index of the first group line of an iteration: 0 in a file without user-agent lines. Otherwise it is past the
-/// end, since group lines above the first user-agent line apply to no crawler.
+/// In a file without user-agent lines all group lines apply to every crawler. Group lines above the first
+/// user-agent line apply to none.
 fn first_line(lines: &[KeptLine], names: &Names) -> usize
     ensures unnamed { length names.now ≡ 0 → result ≡ 0 }
     ensures named { 0 < length names.now → length lines.now ≤ result }
@@ -116,7 +113,6 @@ fn first_line(lines: &[KeptLine], names: &Names) -> usize
 }
 
 impl<'s, 'n> OwnLines<'s, 'n> {
-    /// The lines for the group name, of a file's group lines and user-agent lines.
     pub(super) fn new(
         text: &'s [u8],
         lines: &'s [KeptLine],

@@ -14,11 +14,10 @@ use std::marker::Model;
 /// A rule of a crawler: an Allow or a Disallow whose value is UTF-8.
 #[derive(Drop)]
 pub struct SiteRule<'s> {
-    /// The value, as it is in the file. That of an empty Disallow, which is an Allow, is `/`.
+    /// Verbatim, except that the value of an empty Disallow, which is an Allow, is `/`.
     pub value: &'s str,
-    /// Whether it is an Allow.
     pub is_allow: bool,
-    /// The number of its line, counted from 1 among all lines of the file.
+    /// Counted from 1 among all lines of the file.
     pub line: usize,
 }
 
@@ -32,10 +31,6 @@ impl<'s> Model for SiteRule<'s> {
 
 impl<'s> SiteRule<'s> {
     /// The pattern, which is the escaped value.
-    ///
-    /// # Errors
-    ///
-    /// `AllocError` if an allocation fails.
     pub fn pattern(&self, alloc: Global) -> Result<String, AllocError>
         ensures { IfOk result (λ pattern. string_bytes pattern ≡ self.now.rule.0) }
     {
@@ -52,7 +47,6 @@ impl<'s> SiteRule<'s> {
 /// An iterator over the rules that apply to a crawler, in file order. It doesn't allocate.
 #[derive(Drop)]
 pub struct SiteRules<'s, 'n> {
-    /// The group lines that apply to the crawler.
     pub(super) lines: OwnLines<'s, 'n>,
 }
 
@@ -66,7 +60,6 @@ impl<'s, 'n> Model for SiteRules<'s, 'n> {
     ghost view = { λ s. filter_map rule_of s.lines };
 }
 
-/// The rule with this value, if it is UTF-8.
 fn rule_with<'s>(value: &'s [u8], is_allow: bool, line: usize) -> Option<SiteRule<'s>>
     ensures { result ≡ placed line (rule_with value.now is_allow) }
 {
@@ -78,7 +71,6 @@ fn rule_with<'s>(value: &'s [u8], is_allow: bool, line: usize) -> Option<SiteRul
     })
 }
 
-/// The rule in a group line, if it has one.
 fn rule_in<'s>(line: &GroupLine<'s>) -> Option<SiteRule<'s>>
     ensures { result ≡ rule_of (tag_of line.now) }
 {

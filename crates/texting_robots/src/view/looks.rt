@@ -21,14 +21,12 @@ impl Model for Looks {
 }
 
 impl Looks {
-    /// No looks.
     pub(super) fn none() -> Looks
         ensures { result ≡ 0 }
     {
         Looks { before_last: None }
     }
 
-    /// One more look.
     pub(super) fn one_more(&self) -> Looks
         ensures { result ≡ self.now + 1 }
     {

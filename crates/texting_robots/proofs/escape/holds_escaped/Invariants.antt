@@ -3,7 +3,6 @@ use Rattle.std.specs.List.{list_any}
 use Rattle.texting_robots.specs.Escape.{is_escaped}
 use Rattle.texting_robots.proofs.escape.holds_escaped.Given as goal
 
--- none of the bytes that were skipped is escaped
 abbrev pub invariant-loop-rest : goal.invariant-loop-rest
 invariant-loop-rest l = list_any is_escaped l.rest ≡ list_any is_escaped l.bytes
 

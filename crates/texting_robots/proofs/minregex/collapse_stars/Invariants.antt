@@ -4,7 +4,6 @@ use denote.Text.{Utf8}
 use Rattle.texting_robots.specs.Pattern.{collapsed}
 use Rattle.texting_robots.proofs.minregex.collapse_stars.Given as goal
 
--- the text so far and the collapsed rest are the collapsed pattern
 abbrev pub invariant-loop-before : goal.invariant-loop-before
 invariant-loop-before l = record {
   text : string_bytes l.text ++ collapsed l.rest ≡ collapsed l.pattern;

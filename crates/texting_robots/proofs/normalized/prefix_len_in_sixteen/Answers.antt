@@ -10,8 +10,7 @@ use lib.Lanes.{mask_l, top, zip2}
 use Rattle.texting_robots.specs.{Internal.Normalized.is_kept, declared.normalized.TheConstants.UPPER}
 use Rattle.texting_robots.proofs.normalized.prefix_len_in_sixteen.Goals as goal
 
--- the number of leading bytes, among sixteen, that are kept, computed from a mask with a bit for each other
--- byte
+-- the number of leading bytes, among sixteen, that are kept, from a mask with a bit for each other byte
 module _ (part bytes lower upper : List ℕ) (long : length bytes ≡ 16)
     (lower_is : lower ≡ map (slice_index part) (zip2 bit_and bytes (replicate 16 15)))
     (upper_is : upper ≡ map (slice_index UPPER.now) (zip2 (λ a b. a / 2 ^ b) bytes (replicate 16 4))) where

@@ -2,7 +2,6 @@ use Rattle.std.proofs.Common.{◌≡◌, ◌+◌, ◌≤◌, length}
 use Rattle.texting_robots.specs.Pattern.{collapsed}
 use Rattle.texting_robots.proofs.segments.collapsed_len.Given as goal
 
--- the count so far and the length of the collapsed rest are the length of the collapsed pattern
 abbrev pub invariant-loop-byte : goal.invariant-loop-byte
 invariant-loop-byte l = record {
   fits : l.len + length l.rest ≤ length l.pattern;

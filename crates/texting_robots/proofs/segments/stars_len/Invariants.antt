@@ -3,7 +3,6 @@ use Rattle.std.specs.List.{prefix_len}
 use Rattle.texting_robots.specs.Pattern.{star}
 use Rattle.texting_robots.proofs.segments.stars_len.Given as goal
 
--- the bytes that were skipped are stars
 abbrev pub invariant-loop-rest : goal.invariant-loop-rest
 invariant-loop-rest l = record {
   within : length l.rest ≤ length l.pattern;

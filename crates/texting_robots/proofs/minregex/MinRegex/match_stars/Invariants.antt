@@ -2,7 +2,6 @@ use Rattle.std.proofs.Common.{◌↔◌, length}
 use Rattle.texting_robots.specs.{Internal.Segments.from_star, Pattern.MatchesStars}
 use Rattle.texting_robots.proofs.minregex.MinRegex.match_stars.Given as goal
 
--- the rest of the pattern decides about the rest of the text
 abbrev pub invariant-loop-left : goal.invariant-loop-left
 invariant-loop-left l = MatchesStars l.fn.pattern l.text ↔ MatchesStars (from_star l.left) l.rest
 

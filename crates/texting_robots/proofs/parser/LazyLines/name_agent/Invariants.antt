@@ -3,7 +3,6 @@ use Rattle.std.specs.{List.list_any, Str.str_to_ascii_lowercase}
 use Rattle.texting_robots.specs.{Group.is_agent_named, Internal.Cut.read_as, Internal.Line.lines_of}
 use Rattle.texting_robots.proofs.parser.LazyLines.name_agent.Given as goal
 
--- no line that was skipped names the crawler
 abbrev pub invariant-loop-rest : goal.invariant-loop-rest
 invariant-loop-rest l =
     let names = is_agent_named (str_to_ascii_lowercase l.agent) in

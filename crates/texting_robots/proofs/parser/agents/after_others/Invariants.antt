@@ -2,7 +2,6 @@ use Rattle.std.proofs.Common.{◌≡◌, ℕ, ◌<◌, ◌≤◌, List, length}
 use Rattle.texting_robots.specs.Internal.Agents.{is_named_later}
 use Rattle.texting_robots.proofs.parser.agents.after_others.Given as goal
 
--- the lines that were skipped name no crawler
 abbrev pub invariant-loop-rest : goal.invariant-loop-rest
 invariant-loop-rest l = record {
   some : 0 < length l.rest;

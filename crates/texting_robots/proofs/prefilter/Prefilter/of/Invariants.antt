@@ -2,7 +2,6 @@ use Rattle.std.{proofs.Common.◌≡◌, proofs.Common.drop, specs.Int.RustNames
 use Rattle.texting_robots.proofs.FirstLemmas.{segment_pairs}
 use Rattle.texting_robots.proofs.prefilter.Prefilter.of.Given as goal
 
--- the bigrams so far and those of the remaining segments are all the bigrams
 abbrev pub invariant-loop-segment : goal.invariant-loop-segment
 invariant-loop-segment l =
     let inside = l.pattern-inside in

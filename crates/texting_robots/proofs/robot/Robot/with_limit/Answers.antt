@@ -3,7 +3,6 @@ use Rattle.std.proofs.lemmas.List.{take_min}
 use Rattle.texting_robots.proofs.MainTheoremLemmas.{nothing_of, rejected_of, robot_of}
 use Rattle.texting_robots.proofs.robot.Robot.with_limit.Goals as goal
 
--- the bytes that are read are those within the limit
 read : (limit n : ℕ) (txt : List ℕ) → n ≡ min limit (length txt) → take n txt ≡ take limit txt
 read limit n txt is = ap (λ n. take n txt) is ∙ take_min _ _
 

@@ -3,7 +3,6 @@ use Rattle.texting_robots.specs.Internal.Segments.{PassesTo, AreLeft, IsUnsearch
 use Rattle.texting_robots.specs.Pattern.{Matches}
 use Rattle.texting_robots.proofs.segments.Pattern.matches.Given as goal
 
--- the rest of the pattern decides about the rest of the text
 abbrev pub invariant-loop-segment : goal.invariant-loop-segment
 invariant-loop-segment g l =
     let inside = l.self-inside in

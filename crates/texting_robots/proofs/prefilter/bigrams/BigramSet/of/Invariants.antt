@@ -2,7 +2,6 @@ use Rattle.std.{proofs.Common.◌≡◌, proofs.Common.length, specs.Int.RustNam
 use Rattle.texting_robots.specs.Internal.Segments.{pair_set}
 use Rattle.texting_robots.proofs.prefilter.bigrams.BigramSet.of.Given as goal
 
--- the bits so far and those of the rest are all the bits
 abbrev pub invariant-loop-rest : goal.invariant-loop-rest
 invariant-loop-rest l = bit_or l.bits (pair_set l.rest) ≡ pair_set l.fn.text
 

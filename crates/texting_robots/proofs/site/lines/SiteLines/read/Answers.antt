@@ -34,7 +34,6 @@ loop-rest-init c =
       early = ap last (sym (before_agents lines));
     })
 
--- the bytes at the span of a line
 body_at : (text front rest body more : List ℕ) → text ≡ front ++ rest → rest ≡ body ++ more
     → take (length body) (drop (length text - length rest) text) ≡ body
 body_at text front rest body more is parts =
@@ -103,7 +102,6 @@ loop-rest-preserved c =
           (early_more begun early (line_of body) (lines_of (read_as true after)) ∙ rw next at so_far.early);
     })
 
--- an empty rest has no lines
 none_left : (rest : List ℕ) → length rest ≡ 0 → lines_of (read_as true rest) ≡ []
 none_left rest none =
     ap (λ t. lines_of (read_as true t)) (nil_from_length rest none) ∙ ap (map line_of) bodies_nil
