@@ -28,13 +28,9 @@ use native.Mathlib.Nat.{zero-add}
 
 -- ---- Rules that leave nothing, or nearly nothing, of a site to a crawler.
 
--- ---- escaped patterns
-
--- an escaped byte isn't one that is never escaped
 pub differs : (b c : ℕ) → is_escaped c ≡ false → is_escaped b ≡ true → (b == c) ≡ false
 differs b c plain bad = ne_eqb b c (λ same. false≢true (sym plain ∙ ap is_escaped (sym same) ∙ bad))
 
--- stars and `$` aren't escaped, and no escape has one
 stars_escaped : (value : List ℕ)
     → list_all is_star_or_dollar (escaped value) ≡ list_all is_star_or_dollar value
 stars_escaped [] = refl
@@ -81,7 +77,6 @@ pub whole_site_escaped : (value : List ℕ) → is_whole_site (escaped value) �
 whole_site_escaped value =
     rw (anything_escaped value, stars_left_out value, root_escaped (without_stars value)) refl
 
--- a pattern of the whole site has no escaped byte
 stars_stay : (pattern : List ℕ) → list_all is_star_or_dollar pattern ≡ true → escaped pattern ≡ pattern
 stars_stay [] stars = refl
 stars_stay (b ∷ pattern) stars =
@@ -128,12 +123,9 @@ whole_site_stays pattern whole = elim (or_cases (is_anything pattern) _ whole) [
   | inr root ↦ stars_stay_before pattern (root_stays (without_stars pattern) root)
 ]
 
--- ---- sitemaps
-
 abbrev opens : List ℕ → List LineValue → Bool
 opens pattern lines = list_any (is_literally pattern) (filter_map opened_path (sitemaps_in lines))
 
--- loop step: the path of the sitemap in one line more was added
 pub opened_next : (pattern : List ℕ) (line : LineValue) (old : Bool) {left rest : List LineValue}
     {new all : Bool} → left ≡ line ∷ rest → new ≡ (old || opens pattern (line ∷ []))
     → (old || opens pattern left) ≡ all → (new || opens pattern rest) ≡ all
@@ -153,9 +145,6 @@ opened_next pattern line old {left} {rest} here is was =
     grouped true b c = refl
     grouped false b c = refl
 
--- ---- crawlers
-
--- loop step: one crawler more was added, if the line with this number is the one that closes the site to it
 pub closed_next : (number : ℕ) (f : List ℕ → Option ℕ) (agents : List (Bor (List ℕ))) (at : ℕ)
     (item : Bor (List ℕ)) (old : List (List ℕ)) {line : Option ℕ} {new all : List (List ℕ)}
     → at < length agents → line ≡ f (slice_index_or agents at item).now
@@ -179,8 +168,6 @@ closed_next number f agents at item old {line} {new} {all} below of is was =
     taken true agent rest = refl
     taken false agent rest = refl
 
--- ---- rules that close the site
-
 pub closes_if : (is_exempt : List ℕ → Bool) (rules : List PlacedRule) (needed : ℕ) (placed : PlacedRule)
     (value : List ℕ) → is_closing placed ≡ true → placed.rule.0 ≡ escaped value
     → IsNeeded is_exempt rules needed → nat_le needed (length value) ≡ closes is_exempt rules placed
@@ -195,7 +182,7 @@ closes_if is_exempt rules needed placed value closing same is =
     at_least : (m n : ℕ) (rival : Bool) → rival ≡ nat_lt n m → nat_le m n ≡ not rival
     at_least m n rival is = rw is (grind (arith, nat_tests))
 
--- ---- Sets of product tokens.
+-- ---- Sets of names in lower case.
 
 pub either : (has is : Bool) → cond is true has ≡ (has || is)
 either true true = refl
@@ -219,7 +206,6 @@ name_added old new lowered name is_new in_lower_case is updates = record {
       ∙ ap (λ (items : List ℕ). has || bytes_eq items key.items) in_lower_case;
 }
 
--- whether a test holds for one of the first names, in terms of the last of these
 pub any_next : (test : List ℕ → Bool) (names : List (Bor (List ℕ))) (at : ℕ) (item : Bor (List ℕ))
     {before after : Bool} → at < length names
     → before ≡ list_any test (map (λ name. name.now) (take at names))
@@ -229,7 +215,6 @@ any_next test names at item below was now =
     now ∙ ap (λ (b : Bool). b || test (slice_index_or names at item).now) was
     ∙ sym (rw (take_more names at item below) (simp (map-append, list_any-append, or-false)))
 
--- whether a test holds for some item of a list with one more item
 pub any_last : {X : Type 0} (test : X → Bool) (xs : List X) (x : X)
     → list_any test (xs ++ x ∷ []) ≡ (list_any test xs || test x)
 any_last test xs x =
@@ -237,7 +222,6 @@ any_last test xs x =
 
 -- ---- Examples of warnings contain no control or bidirectional-formatting characters other than LF.
 
--- all bytes are printable ASCII (or LF)
 abbrev is_ascii : List ℕ → Bool
 is_ascii text = list_all (is_printable_byte true) text
 
@@ -249,7 +233,7 @@ example_printable cause =
 
 -- ---- The rows of the tables of warnings and of their examples.
 
--- a field of the row at an index is at the same index in the list of that field of all rows
+-- a field of the row at an index is at this index in the list of that field of all rows
 at_place : {R X : Type 0} (part : R → X) (rows : List R) (at : ℕ) (row : R) (other : X)
     → slice_get rows at ≡ Some row → slice_index_or (map part rows) at other ≡ part row
 at_place part [] at row other found = cc
@@ -260,13 +244,11 @@ pub part_at : {R X : Type 0} (part : R → X) {rows : List R} {at : ℕ} {row : 
     → IsAt rows at row → slice_index_or (map part rows) at other ≡ part row
 part_at part {rows} {at} {row} other is = at_place part rows at row other is.found
 
--- the same in a list of that field of all rows
 pub part_in : {X : Type 0} (part : Row → X) {rows : List Row} {at : ℕ} {row : Row} {all : List X} (other : X)
     → IsRowAt rows at row → map part rows ≡ all → part row ≡ slice_index_or all at other
 part_in part {rows} {at} {row} other is same =
     sym (at_place part rows at row other is.found) ∙ ap (λ all. slice_index_or all at other) same
 
--- a test of some part is a test of the list of these parts
 pub any_part : {R X : Type 0} (test : X → Bool) (part : R → X) (rows : List R)
     → list_any test (map part rows) ≡ list_any (λ row. test (part row)) rows
 any_part test part [] = refl
@@ -276,7 +258,6 @@ in_order : map number_of all_causes ≡ range_with_len 0 (length WARNINGS)
 unfolding all_causes
 in_order = refl
 
--- if the items are about all warnings in order, the item at the index of a warning is about it
 pub own_row : {R : Type 0} (cause_of : R → Cause) {rows : List R} {row : R} (cause : Cause)
     → IsAt rows (number_of cause) row → map cause_of rows ≡ all_causes → cause_of row ≡ cause
 own_row cause_of {rows} {row} cause is same =

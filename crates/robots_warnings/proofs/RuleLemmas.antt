@@ -18,8 +18,6 @@ use Rattle.robots_warnings.specs.Internal.Rules.{HasFirst, Lines, Patterns}
 use Rattle.robots_warnings.specs.{File.lines_of, Closed.denies}
 use Rattle.std.specs.HashSet as set
 
--- ---- rules that contradict each other
-
 or_assoc : {X : Type 0} (a b c : Option X) → option_or (option_or a b) c ≡ option_or a (option_or b c)
 or_assoc None b c = refl
 or_assoc (Some x) b c = refl
@@ -28,7 +26,6 @@ is_none : {X : Type 0} (a : Option X) → is_some a ≡ false → a ≡ None
 is_none None isnt = refl
 is_none (Some x) isnt = cc
 
--- inserting the line for a pattern that has none
 pub first_added : {S : Type 0} (old new : Lines S) (key : String Global) (number : ℕ)
     → is_some (get_by_text old (string_bytes key)) ≡ false → Updates string_eq old new key (Some number)
     → (other : List ℕ) → get_by_text new other
@@ -47,9 +44,6 @@ first_added old new key number isnt updates other =
         rw (is, none) refl
     by (inr isnt) = rw isnt (sym (option_or_none (get_by_text old other)))
 
--- ---- several crawlers
-
--- loop step: one crawler more was looked at
 pub agents_next : (f : List ℕ → Option ℕ) (agents : List (Bor (List ℕ))) (at : ℕ) (item : Bor (List ℕ))
     (old : Option ℕ) {new all : Option ℕ} → at < length agents
     → new ≡ option_or old (f (slice_index_or agents at item).now)
@@ -63,9 +57,6 @@ agents_next f agents at item old {new} {all} below is was =
     ap (λ found. option_or found rest) is
     ∙ or_assoc old (f (slice_index_or agents at item).now) rest ∙ before
 
--- ---- patterns of everything
-
--- of the values, only `/` and `*` have a pattern that is compared as `/`
 pub slash_or_star : (value : List ℕ)
     → bytes_eq (compared (escaped value)) (codes "/")
     ≡ (bytes_eq value (codes "/") || bytes_eq value (codes "*"))
@@ -87,7 +78,6 @@ slash_or_star value =
       | inr good ↦ rw good refl
     ]
 
-    -- a byte that isn't escaped and doesn't begin an escape
     one_escaped : (c : ℕ) → is_escaped c ≡ false → (byte "%" == c) ≡ false → (value : List ℕ)
         → bytes_eq (escaped value) (c ∷ []) ≡ bytes_eq value (c ∷ [])
     one_escaped c plain other [] = refl
@@ -95,8 +85,6 @@ slash_or_star value =
       | inl bad ↦ rw (bad, other, differs b c plain bad) refl
       | inr good ↦ rw good (ap (λ rest. b == c && rest) (empty_escaped value))
     ]
-
--- ---- no Allow
 
 no_entry : {K X : Type 0} (test : K → Bool) (entries : List (K × X)) → length entries ≡ 0
     → lookup test entries ≡ None
@@ -115,9 +103,6 @@ none_beside is_empty lines rules placed has none =
     by true other is = refl
     by false other is = sym is
 
--- ---- groups that have none of the Disallow rules of `*`
-
--- inserting the pattern of a Disallow
 pub denied_added : {S : Type 0} (old new : Patterns S) (key : String Global) (placed : PlacedRule)
     → string_bytes key ≡ placed.rule.0 → placed.rule.1 ≡ false → set.Updates string_eq old new key true
     → (pattern : List ℕ) → contains_text new pattern ≡ (contains_text old pattern || denies pattern placed)

@@ -21,8 +21,6 @@ use Rattle.robots_warnings.specs.Repeated.{above_next, is_checked, repeated_from
 use Rattle.std.specs.HashSet as hash
 use Rattle.robots_warnings.specs.Internal.Values as sets
 
--- ---- spellings
-
 pub next_escape : (spelling : Spelling) (text : List ℕ) → 2 < length text
     → is_escape (slice_index text 0) (slice_index text 1) (slice_index text 2) ≡ true
     → spelled spelling text
@@ -47,17 +45,12 @@ unfolding spelled
 no_bytes spelling [] none = refl
 no_bytes spelling (b ∷ text) none = absurd (omega arith)
 
--- ---- sets of values
-
--- loop step: one more line was added
 pub seen_more : (group : List LabeledLine) (at : ℕ) (labeled : LabeledLine) {old new : Seen} {is : Bool}
     → at < length group → sets.HasSeen old (lines_of (map label_by_value (take at group)))
     → sets.AddsRule old new (by_value (slice_index_or group at labeled).line) is
     → sets.HasSeen new (lines_of (map label_by_value (take (at + 1) group)))
 seen_more group at labeled below has adds =
     rw (take_more group at labeled below) (simp (map-append, map-append) (adds.has _ has))
-
--- ---- a group
 
 pub and_false : (a b : Bool) → b ≡ false → (a && b) ≡ false
 and_false true b is = is
@@ -80,7 +73,6 @@ none_unpaired spelling everywhere group (labeled ∷ labels) none =
     rw (and_false _ _ (plain_is_paired spelling group (by_value labeled.line) here))
     (none_unpaired spelling everywhere group labels later)
 
--- the numbers of such rules from index `at` on, in terms of the line there
 pub unpaired_from : (spelling : Spelling) (everywhere : Bool) (lines : List LineValue)
     (group : List LabeledLine) (at : ℕ) (labeled : LabeledLine) → at < length group
     → map (λ (label : Label). label.number) (filter (is_unpaired_at spelling everywhere lines)
@@ -95,14 +87,11 @@ unpaired_from spelling everywhere lines group at labeled below =
     (picked (λ (label : Label). label.number) (is_unpaired_at spelling everywhere lines item) item
     (filter (is_unpaired_at spelling everywhere lines) (map label_by_value (drop (at + 1) group))))
 
--- ---- groups
-
 onto_first_mapped : {A B : Type 0} (f : A → B) (x : A) (parts : List (List A))
     → map (map f) (onto_first x parts) ≡ onto_first (f x) (map (map f) parts)
 onto_first_mapped f x [] = refl
 onto_first_mapped f x (part ∷ parts) = refl
 
--- dividing a list and mapping its items
 pub split_mapped : {A B : Type 0} (f : A → B) (p : B → Bool) (xs : List A)
     → map (map f) (slice_split (λ x. p (f x)) xs) ≡ slice_split p (map f xs)
 split_mapped f p [] = refl
@@ -125,13 +114,10 @@ split_by_value (Ok parts) labels are =
     ∙ ap (map (map label_by_value)) are ∙ split_mapped label_by_value is_agent_line labels
 split_by_value (Err error) labels are = are
 
--- ---- rules that repeat another one
-
 not_not : (a b : Bool) → b ≡ not a → not b ≡ a
 not_not true b is = rw is refl
 not_not false b is = rw is refl
 
--- inserting a value
 pub value_inserted : {S : Type 0} (old new : sets.Values S) (key : Value) (is_new : Bool)
     → is_new ≡ not (hash.contains sets.value_eq old key)
     → hash.Updates sets.value_eq old new key true → sets.AddsValue old new key.bytes.now (not is_new)
@@ -165,8 +151,6 @@ found_next everywhere {seen} {new_seen} {found} {new} labels at labeled {all} {i
       numbers = ap (λ (t : List ℕ). t ++ rest) added ∙ append_assoc found (one is) rest
           ∙ ap (λ (t : Bool). found ++ (one t ++ rest)) (adds.was above upto.has) ∙ upto.numbers;
     }
-
--- ---- names past the size limit
 
 -- loop step: the set has the names of one more line within the size limit
 pub read_more : (labels : List LabeledLine) (at : ℕ) (labeled : LabeledLine) {old new : BTreeSet Key}

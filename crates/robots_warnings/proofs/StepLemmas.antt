@@ -13,9 +13,6 @@ use Rattle.texting_robots.specs.{declared.labels.LabeledLine.LabeledLine}
 use Rattle.texting_robots.specs.Callers.{by_value, label_by_value, Label}
 use Rattle.std.specs.{Option.option_or, List.starts_with}
 
--- ---- the bytes of a line
-
--- whether a line is empty or a comment from index `at` on, in terms of the byte there
 pub blank_at : (body : List ℕ) (at byte : ℕ) → at < length body
     → is_blank (drop at body)
     ≡ (slice_index_or body at byte == hash
@@ -23,16 +20,12 @@ pub blank_at : (body : List ℕ) (at byte : ℕ) → at < length body
     && is_blank (drop (at + 1) body)))
 blank_at body at byte below = rw (drop_more body at byte below) refl
 
--- ---- the file as a whole
-
--- whether every other byte is NUL from index `at` on, in terms of the byte there
 pub nul_from : (here : Bool) (bytes : List ℕ) (at byte : ℕ) → at < length bytes
     → nul_at_every_other here (drop at bytes)
     ≡ ((not here || slice_index_or bytes at byte == 0)
     && nul_at_every_other (not here) (drop (at + 1) bytes))
 nul_from here bytes at byte below = rw (drop_more bytes at byte below) refl
 
--- the kinds of the first lines, with one more line
 pub kinds_next : (labels : List LabeledLine) (at : ℕ) (labeled : LabeledLine) → at < length labels
     → kinds_of (lines_of (map label_by_value (take (at + 1) labels)))
     ≡ kinds_with (kinds_of (lines_of (map label_by_value (take at labels))))
@@ -40,19 +33,13 @@ pub kinds_next : (labels : List LabeledLine) (at : ℕ) (labeled : LabeledLine) 
 kinds_next labels at labeled below = rw (take_more labels at labeled below)
     (simp (map-append, list_any-append, or-false))
 
--- ---- the positions of lines
-
--- the number of the last rule or delay from index `at` on, in terms of the line there
 pub last_from : (labels : List LabeledLine) (at : ℕ) (labeled : LabeledLine) → at < length labels
     → last_group (map label_by_value (drop at labels))
     ≡ option_or (last_group (map label_by_value (drop (at + 1) labels)))
     (group_number (label_by_value (slice_index_or labels at labeled)))
 last_from labels at labeled below = rw (drop_more labels at labeled below) refl
 
--- ---- the value of a rule
-
--- the rest of a text from the first byte on at which a test holds: all of it, or that of all but its first
--- byte
+-- all of the text, if the test holds for it, or the same for all but its first byte
 pub from_first_next : (test : List ℕ → Bool) (text : List ℕ) → 0 < length text
     → from_first test text ≡ (if test text then text else from_first test (drop 1 text))
 from_first_next test [] some = absurd (omega arith)
@@ -66,16 +53,12 @@ somewhere_first test (b ∷ text) = elim (cases_Bool (test (b ∷ text))) [
   | inr isnt ↦ rw isnt (somewhere_first test text)
 ]
 
--- a text that doesn't start with `/.` doesn't start with a dot segment
 pub no_segment : (text : List ℕ) → starts_with nat_eq text (codes "/.") ≡ false
     → begins_dot_segment text ≡ false
 no_segment [] none = refl
 no_segment (c ∷ []) none = grind (arith, nat_tests)
 no_segment (c ∷ (d ∷ text)) none = grind (arith, nat_tests)
 
--- ---- warnings that are appended line by line
-
--- loop step: the warnings about one line more were appended
 pub warned_next : (f : Label → List WarningValue) (labels : List LabeledLine) (at : ℕ) (labeled : LabeledLine)
     (old : List WarningValue) {found new : List WarningValue} → at < length labels
     → found ≡ old ++ flat_map f (map label_by_value (take at labels))
@@ -88,9 +71,6 @@ warned_next f labels at labeled old below was is =
     ∙ ap (λ more. old ++ more)
     (sym (rw (take_more labels at labeled below) (simp (map-append, flat_map-append, append-nil))))
 
--- ---- the numbers of lines
-
--- the numbers of one item more, for which `holds` is the condition
 pub picked : {X : Type 0} (number : X → ℕ) (holds : Bool) (x : X) (xs : List X)
     → map number (cond holds (x ∷ xs) xs)
     ≡ (if holds then number x ∷ [] else []) ++ map number xs

@@ -1,5 +1,4 @@
--- The conditions of warnings about a file, a request, a line and its position, grouped by what they inspect,
--- in the order of output. Warnings.antt names those of the others.
+-- The conditions of warnings about a file, a request, a line and its position, in the order of output.
 use Rattle.std.specs.Prelude.{ℕ, Bool, true, false, List, [], ◌∷◌, ◌++◌, ◌||◌, Option, None, Some, nat_lt}
 use Rattle.std.specs.Prelude.{if◌then◌else◌, not, ◌&&◌, codes, nat_eq}
 use Rattle.std.specs.{Str.byte, Str.is_utf8, List.starts_with}
@@ -48,8 +47,7 @@ field_checks body =
     ∷ (cause.MissingColon, is_without_colon body)
     ∷ []
 
--- the white space and the comment after the value of an Allow or a Disallow; comments are only checked if
--- `is_in_scope` is true
+-- white space and comment after the value of a rule; comments are only checked if `is_in_scope`
 abbrev pub raw_rule_checks : Bool → (value tail comment : List ℕ) → List Check
 raw_rule_checks is_in_scope value tail comment =
     (cause.SpaceAroundValue, has_odd_space value tail)
@@ -64,7 +62,7 @@ user_agent_checks value =
     ∷ (cause.UnusualProductToken, not (is_product_token value) && is_usual_name value)
     ∷ []
 
--- the value of an Allow or a Disallow: its start, its characters and its quotes
+-- the value of a rule: its start, its characters and its quotes
 abbrev pub form_checks : List ℕ → List Check
 form_checks value =
     (cause.RuleNotUtf8, not (is_utf8 value))
@@ -101,7 +99,6 @@ rule_checks value = form_checks value ++ content_checks value
 abbrev pub day : ℕ
 day = 86400000000
 
--- the value of a sitemap line
 abbrev pub sitemap_checks : List ℕ → List Check
 sitemap_checks value =
     (several_values value, has_several_values value)
@@ -116,10 +113,9 @@ text_checks tail comment =
     ∷ (cause.ControlInComment, has_odd_comment comment)
     ∷ []
 
--- the position of a line, determined by the number of the last rule or delay, by what precedes the line, by
--- the only name and the first delay of the group above it, and by the lines from this one on. In many
--- healthy files,
--- the group that is split from another one is that of `*`
+-- the position of a line, from the number of the last rule or delay, what precedes the line, the only name
+-- and the first delay of the group above it, and the lines from this one on. In many healthy files, the group
+-- that is split from another one is that of `*`
 abbrev pub position_checks : Option ℕ → Preceding → Option (List ℕ) → Option ℕ → Label → List LineValue
     → List Check
 position_checks last preceding above delay label lines =
@@ -131,8 +127,6 @@ position_checks last preceding above delay label lines =
     ∷ (cause.TwoDelays, is_other_delay delay label)
     ∷ []
 
--- ---- a line
-
 -- any line that isn't ignored
 abbrev pub is_directive : LineValue → Bool
 is_directive (Raw body) = false
@@ -142,8 +136,7 @@ is_directive _ = true
 abbrev pub is_in_scope_of : Bool → Membership → Bool
 is_in_scope_of everywhere membership = if everywhere then true else is_own membership
 
--- the value of a line, and what an ignored line probably means; rules are only checked if `is_in_scope` is
--- true
+-- the value of a line, and what an ignored line probably means; rules are only checked if `is_in_scope`
 abbrev pub value_checks : Bool → LineValue → List Check
 value_checks is_in_scope (UserAgent value) = user_agent_checks value
 value_checks is_in_scope (Allow value) = if is_in_scope then rule_checks value else []
@@ -153,8 +146,7 @@ value_checks is_in_scope (CrawlDelay (Some micros)) = (cause.DelayOverADay, nat_
 value_checks is_in_scope (Sitemap value) = sitemap_checks value
 value_checks is_in_scope (Raw body) = if is_blank body then [] else (meant_by body, true) ∷ []
 
--- what a directive with a colon has besides its value: the white space around it, a comment, and how a delay
--- is written
+-- what a directive with a colon has besides its value
 abbrev pub raw_checks : Bool → LineValue → (tail comment : List ℕ) → List Check
 raw_checks is_in_scope (UserAgent value) tail comment =
     (cause.SpaceAroundValue, has_odd_space value tail) ∷ []

@@ -16,8 +16,6 @@ use Rattle.robots_warnings.specs.Positions.{begin_with_one, name_star, preceding
 
 -- ---- Rules that leave nothing, or nearly nothing, of a site to a crawler.
 
--- ---- patterns
-
 abbrev pub is_star_or_dollar : ℕ → Bool
 is_star_or_dollar b = b == byte "*" || b == byte "$"
 
@@ -39,24 +37,21 @@ without_stars (b ∷ pattern) = if b == byte "*" then without_stars pattern else
 abbrev pub is_whole_site : List ℕ → Bool
 is_whole_site pattern = is_anything pattern || is_root (without_stars pattern)
 
--- ---- a crawler
-
--- the rule is a Disallow of the whole site
+-- a Disallow of the whole site
 abbrev pub is_closing : PlacedRule → Bool
 is_closing placed = not placed.rule.1 && is_whole_site placed.rule.0
 
--- the pattern matches no path: it has no slash or star at its start, or a `$` that isn't at its end
+-- it has no slash or star at its start, or a `$` that isn't at its end
 abbrev pub matches_no_path : List ℕ → Bool
 matches_no_path pattern = begins_oddly pattern || has_dollar_inside pattern
 
--- the rule is an Allow that is at least as long as this pattern, and whose own pattern isn't exempt and may
--- match a path
+-- an Allow that is at least as long as this pattern, and whose own pattern isn't exempt and may match a path
 abbrev pub is_rival : (is_exempt : List ℕ → Bool) → List ℕ → PlacedRule → Bool
 is_rival is_exempt pattern placed =
     (placed.rule.1 && not (is_exempt placed.rule.0 || matches_no_path placed.rule.0))
     && nat_le (length pattern) (length placed.rule.0)
 
--- the rule closes the site: it is a Disallow of the whole site, and has no rival among these rules
+-- a Disallow of the whole site without a rival among these rules
 abbrev pub closes : (is_exempt : List ℕ → Bool) → List PlacedRule → PlacedRule → Bool
 closes is_exempt rules placed =
     is_closing placed && not (list_any (is_rival is_exempt placed.rule.0) rules)
@@ -68,8 +63,8 @@ closing_line is_exempt rules = first_line (closes is_exempt rules) rules
 abbrev pub is_allow : PlacedRule → Bool
 is_allow placed = placed.rule.1
 
--- what a crawler may fetch by these rules. `Everything` is only said if each of them is an Allow, and
--- `Nothing` if one closes the site and no Allow is exempt; `Part` says nothing
+-- what a crawler may fetch. `Everything` is only said if each rule is an Allow, and `Nothing` if one closes
+-- the site and no Allow is exempt; `Part` says nothing
 abbrev pub reach_by : List PlacedRule → Reach
 reach_by rules =
     if list_all is_allow rules then Everything
@@ -80,29 +75,25 @@ abbrev pub reach_of : List LineValue → List ℕ → Reach
 reach_of lines agent =
     if is_some (other_group lines agent) then Part else reach_by (placed_rules agent lines)
 
--- ---- what may stay open
-
--- the pattern is literally this path, with or without `$`: the path has no star or `$`
+-- literally this path, with or without `$`: the path has no star or `$`
 abbrev pub is_literally : List ℕ → List ℕ → Bool
 is_literally pattern path =
     not (list_any is_star_or_dollar path)
     && (bytes_eq path pattern || bytes_eq (path ++ codes "$") pattern)
 
--- the path of a sitemap with this URL, as a match target, if it has more than `/`
+-- the path of a sitemap, if it has more than `/`
 abbrev pub opened_path : List ℕ → Option (List ℕ)
 opened_path url = let path = prepared url in if nat_lt 1 (length path) then Some path else None
 
--- paths that Allows may open and leave the site closed: `/robots.txt`, and those of the sitemaps of the file
+-- paths that Allows may open and leave the site closed
 abbrev pub opened_paths : List LineValue → List (List ℕ)
 opened_paths lines = robots_file ∷ filter_map opened_path (sitemaps_in lines)
 
 abbrev pub is_exempt : List LineValue → List ℕ → Bool
 is_exempt lines pattern = list_any (is_literally pattern) (opened_paths lines)
 
--- ---- `closes-everything`
-
--- the line of the first rule that closes the site to the crawler; none if its vendor applies another group, or
--- if a line has its name and another one is probably meant: the group is of no crawler
+-- the line of the first rule that closes the site to the crawler; none if its vendor applies another group,
+-- or if another name is probably meant: the group is of no crawler
 abbrev pub line_closing : List LineValue → List ℕ → Option ℕ
 line_closing lines agent =
     if is_some (other_group lines agent) || (is_named agent lines && is_some (meant agent)) then None
@@ -112,7 +103,6 @@ abbrev pub is_number : ℕ → Option ℕ → Bool
 is_number number None = false
 is_number number (Some line) = line == number
 
--- those of these crawlers to which the line with this number closes the site
 abbrev pub closed_at : List LineValue → List (List ℕ) → ℕ → List (List ℕ)
 closed_at lines agents number = filter (λ agent. is_number number (line_closing lines agent)) agents
 
@@ -125,8 +115,6 @@ is_major lines agent =
 
 -- ---- Groups of crawlers that have none of the Disallow rules of `*`.
 
--- ---- the rules of `*`
-
 abbrev pub star_rules : List LineValue → List PlacedRule
 star_rules lines = placed_rules (codes "*") lines
 
@@ -134,15 +122,12 @@ star_rules lines = placed_rules (codes "*") lines
 abbrev pub star_count : List LineValue → ℕ
 star_count lines = length (filter (λ placed. not placed.rule.1) (star_rules lines))
 
--- the rule is a Disallow, but not of the whole site
+-- a Disallow, but not of the whole site
 abbrev pub is_partial : PlacedRule → Bool
 is_partial placed = not placed.rule.1 && not (is_whole_site placed.rule.0)
 
--- the rule is a Disallow with this pattern
 abbrev pub denies : List ℕ → PlacedRule → Bool
 denies pattern placed = not placed.rule.1 && bytes_eq placed.rule.0 pattern
-
--- ---- a crawler
 
 -- the rule is for the whole site, or a Disallow that is one of these rules
 abbrev pub is_kept : List PlacedRule → PlacedRule → Bool
@@ -158,25 +143,21 @@ abbrev pub is_lacking : List (List ℕ) → List LineValue → List ℕ → Bool
 is_lacking agents lines name =
     list_any (λ agent. lacks_all lines agent && bytes_eq (str_to_ascii_lowercase agent) name) agents
 
--- ---- a group
-
 -- a user-agent line that isn't below another one of the same group
 abbrev pub is_first_name : Preceding → LineValue → Bool
 is_first_name Agent line = false
 is_first_name Delay line = is_agent line
 is_first_name Other line = is_agent line
 
--- the first user-agent line of a group that has rules or delays and the name of such a crawler. It isn't the
--- group of `*`, too, not even for crawlers that ignore delays; `from_here` are the lines from this one on
+-- the first user-agent line of a group with rules or delays and the name of such a crawler, which isn't the
+-- group of `*`, too, even for crawlers that ignore delays; `from_here` are the lines from this one on
 abbrev pub is_replacing : List (List ℕ) → List LineValue → Preceding → LineValue → List LineValue → Bool
 is_replacing agents lines preceding line from_here =
     (is_first_name preceding line && list_any is_group from_here)
     && (begin_with_one (λ name. is_lacking agents lines (str_to_ascii_lowercase name)) from_here
     && not (name_star from_here))
 
--- ---- a file
-
--- the numbers of such lines among these, if what precedes the first of them is `preceding`
+-- the numbers of such lines, if what precedes the first of them is `preceding`
 abbrev pub replacing_from : List (List ℕ) → List LineValue → Preceding → List Label → List ℕ
 replacing_from agents lines preceding [] = []
 replacing_from agents lines preceding (label ∷ labels) =
@@ -184,8 +165,8 @@ replacing_from agents lines preceding (label ∷ labels) =
     then label.number ∷ [] else [])
     ++ replacing_from agents lines (preceding_with preceding label.line) labels
 
--- the numbers of such lines, if `*` has a Disallow that isn't of the whole site: otherwise, letting some
--- crawlers in seems intended
+-- the same for a file, if `*` has a Disallow that isn't of the whole site: otherwise, letting some crawlers
+-- in seems intended
 abbrev pub replacing : List (List ℕ) → List LineValue → List Label → List ℕ
 replacing agents lines labels =
     if list_any is_partial (star_rules lines) then replacing_from agents lines Other labels else []

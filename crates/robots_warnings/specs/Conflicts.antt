@@ -14,17 +14,16 @@ IsEmptyDisallow bodies number =
     (position : ℕ) × (body : List ℕ) × (number ≡ position + 1) × (slice_get bodies position ≡ Some body)
     × IsStatement Disallow [] body
 
--- the rules where an empty Disallow is no rule; `is_empty` holds for the numbers of empty Disallows
+-- the rules where an empty Disallow is none; `is_empty` holds for the numbers of these
 abbrev pub stated_rules : (is_empty : ℕ → Bool) → List PlacedRule → List PlacedRule
 stated_rules is_empty rules = filter (λ placed. not (is_empty placed.line)) rules
-
--- ---- as a function; by the theorem `empty_disallows` of `warnings_laws` it agrees
 
 abbrev pub begins_with_d : List ℕ → Bool
 begins_with_d [] = false
 begins_with_d (b ∷ text) = b == byte "d" || b == byte "D"
 
--- the line with this content is read as an Allow, but its field name begins with a `d`
+-- the line is read as an Allow, but its field name begins with a `d`; by the theorem `empty_disallows` of
+-- `warnings_laws` this agrees
 abbrev pub is_empty_disallow : LineValue → List ℕ → Bool
 is_empty_disallow (Allow value) body = begins_with_d (without_front body)
 is_empty_disallow _ body = false
@@ -36,15 +35,12 @@ is_empty_at (body ∷ bodies) [] number = false
 is_empty_at (body ∷ bodies) (label ∷ labels) number =
     (is_empty_disallow label.line body && label.number == number) || is_empty_at bodies labels number
 
--- ---- Rules that contradict each other: a Disallow and an Allow of the same, and a Disallow of everything
--- beside an empty Disallow, which is an Allow of `/` here, and no rule for RFC 9309 and Google.
-
--- the pattern as it is compared with others: `/` in place of `*`, which matches the same paths and is as
--- long, so that an Allow of one wins over a Disallow of the other
+-- `/` in place of `*`, which matches the same paths and is as long, so that an Allow of one wins over a
+-- Disallow of the other
 abbrev pub compared : List ℕ → List ℕ
 compared pattern = if bytes_eq pattern (codes "*") then codes "/" else pattern
 
--- the line with this number is a Disallow that applies to the crawler, as does an Allow in the other line,
+-- the line with this number is a Disallow that applies to the crawler, and the other one an Allow that does,
 -- which isn't an empty Disallow, with the same pattern, where `/` and `*` are the same
 pub record IsConflict (is_empty : ℕ → Bool) (agent : List ℕ) (lines : List LineValue) (number other : ℕ)
     : Type 0 where
@@ -57,8 +53,8 @@ pub record IsConflict (is_empty : ℕ → Bool) (agent : List ℕ) (lines : List
   pub allow : Contains rules (record { rule = (allowed, true); line = other })
   pub stated : is_empty other ≡ false
 
--- the line with this number is an empty Disallow that applies to the crawler, as does a Disallow of `/` or
--- `*` in the other line; each Allow of these that applies to it is an empty Disallow
+-- the line with this number is an empty Disallow that applies to the crawler, and the other one a Disallow of
+-- `/` or `*` that does; each Allow of these that applies to it is an empty Disallow
 pub record IsOverruled (is_empty : ℕ → Bool) (agent : List ℕ) (lines : List LineValue) (number other : ℕ)
     : Type 0 where
   pub rules : List PlacedRule
@@ -73,23 +69,17 @@ pub record IsOverruled (is_empty : ℕ → Bool) (agent : List ℕ) (lines : Lis
   pub alone : (allowed : List ℕ) (at : ℕ) → compared allowed ≡ codes "/"
       → Contains rules (record { rule = (allowed, true); line = at }) → is_empty at ≡ true
 
--- ---- as functions; by theorems of `warnings_laws` they agree
-
--- the first number that the function gives
 abbrev pub first_of : {X : Type 0} → (X → Option ℕ) → List X → Option ℕ
 first_of f [] = None
 first_of f (x ∷ xs) = option_or (f x) (first_of f xs)
 
--- the line of the rule, if it passes the test
 abbrev pub line_if : (PlacedRule → Bool) → PlacedRule → Option ℕ
 line_if test placed = if test placed then Some placed.line else None
 
--- the line of the first rule that passes the test
 abbrev pub first_line : (PlacedRule → Bool) → List PlacedRule → Option ℕ
 first_line test rules = first_of (line_if test) rules
 
--- an Allow or a Disallow whose pattern is compared as this one, and which isn't an empty Disallow; `is_empty`
--- holds for the numbers of these
+-- a rule of this kind whose pattern is compared as this one, and which isn't an empty Disallow
 abbrev pub is_like : (is_empty : ℕ → Bool) → (is_allow : Bool) → List ℕ → PlacedRule → Bool
 is_like is_empty is_allow pattern placed =
     not (is_empty placed.line)
@@ -111,24 +101,22 @@ abbrev pub overruled_by : (ℕ → Bool) → List PlacedRule → PlacedRule → 
 overruled_by is_empty rules placed =
     if placed.rule.1 && is_empty placed.line then overruling is_empty rules else None
 
--- for a rule in the line with this number
 abbrev pub at_line : ℕ → (PlacedRule → Option ℕ) → PlacedRule → Option ℕ
 at_line number other placed = if placed.line == number then other placed else None
 
--- the other line of a conflict of the line with this number, for the rules of this crawler
+-- for a rule in the line with this number, by the rules of this crawler; `warnings_laws` proves that it
+-- agrees with `IsConflict`, and `overruled_for` with `IsOverruled`
 abbrev pub conflict_for : (ℕ → Bool) → List LineValue → ℕ → List ℕ → Option ℕ
 conflict_for is_empty lines number agent =
     let rules = placed_rules agent lines in first_of (at_line number (allow_beside is_empty rules)) rules
 
--- for the first of these crawlers that has one
 abbrev pub conflict : (ℕ → Bool) → List (List ℕ) → List LineValue → ℕ → Option ℕ
 conflict is_empty agents lines number = first_of (conflict_for is_empty lines number) agents
 
--- the Disallow that the empty Disallow in the line with this number overrules, for the rules of this crawler
+-- the Disallow that the empty Disallow in the line with this number overrules
 abbrev pub overruled_for : (ℕ → Bool) → List LineValue → ℕ → List ℕ → Option ℕ
 overruled_for is_empty lines number agent =
     let rules = placed_rules agent lines in first_of (at_line number (overruled_by is_empty rules)) rules
 
--- for the first of these crawlers for which it does
 abbrev pub overruled : (ℕ → Bool) → List (List ℕ) → List LineValue → ℕ → Option ℕ
 overruled is_empty agents lines number = first_of (overruled_for is_empty lines number) agents

@@ -1,5 +1,5 @@
--- Conditions on what the content of a directive has besides its value: white space, a comment, and the text
--- of a delay. Those on a raw value are for directives with a colon after the field name.
+-- What the content of a directive has besides its value: white space, a comment, and the text of a delay. Raw
+-- values are those of directives with a colon.
 use Rattle.std.specs.Prelude.{ℕ, ◌==◌, nat_eq, Bool, not, ◌||◌, ◌&&◌, List, bytes_eq, codes, drop, length}
 use Rattle.std.specs.Prelude.{nat_lt}
 use Rattle.std.specs.List.{ends_with, list_all, list_any, position_or_len, starts_with}
@@ -7,8 +7,6 @@ use Rattle.std.specs.{Char.is_ascii_digit, Str.byte, Str.is_utf8}
 use Rattle.robots_warnings.specs.FieldNames.{without_end, without_front}
 use Rattle.robots_warnings.specs.Rules.{after_byte, before_byte, begins_oddly, has}
 use Rattle.robots_warnings.specs.{Closed.is_whole_site, File.hash, File.tab}
-
--- ---- the parts of a line's content
 
 -- what is between the first colon and the comment
 abbrev pub tail_of : List ℕ → List ℕ
@@ -18,26 +16,22 @@ tail_of body = after_byte (byte ":") (before_byte hash body)
 abbrev pub comment_of : List ℕ → List ℕ
 comment_of body = drop (position_or_len (λ b. b == hash) body) body
 
--- the raw value: the tail without spaces and tabs at both ends
+-- the tail without spaces and tabs at both ends
 abbrev pub raw_value : List ℕ → List ℕ
 raw_value tail = without_end (without_front tail)
 
--- ---- white space around a value
-
--- `value` is the value of the line: the raw value without white space of any kind at both ends, or `/` for an
--- empty Disallow; so other white space than spaces and tabs was dropped
+-- `value` is the raw value without white space of any kind at both ends, or `/` for an empty Disallow; so
+-- other white space than spaces and tabs was dropped
 abbrev pub has_odd_space : (value tail : List ℕ) → Bool
 has_odd_space value tail = not (length (raw_value tail) == 0) && not (bytes_eq (raw_value tail) value)
-
--- ---- a comment that cuts a rule
 
 -- a comment directly follows the value, which isn't empty
 abbrev pub is_cut : (value tail comment : List ℕ) → Bool
 is_cut value tail comment =
     not (length comment == 0) && (not (length value == 0) && ends_with nat_eq tail value)
 
--- what is left of the rule is the whole site, which is the value of an empty Disallow, too, for example if
--- nothing precedes a comment that is written as a path: `#/a` or `#!/a`; an empty Allow has no effect
+-- the whole site is left, which is also the value of an empty Disallow, for example if nothing precedes a
+-- comment that is written as a path: `#/a` or `#!/a`; an empty Allow has no effect
 abbrev pub is_cut_to_root : (value tail comment : List ℕ) → Bool
 is_cut_to_root value tail comment =
     let is_path = starts_with nat_eq comment (codes "#/") || starts_with nat_eq comment (codes "#!/") in
@@ -49,23 +43,17 @@ is_cut_short value tail comment =
     is_cut value tail comment
     && ((is_utf8 value && not (begins_oddly value)) && not (is_whole_site value))
 
--- ---- a delay
-
--- one or more digits
 abbrev pub are_digits : List ℕ → Bool
 are_digits text = not (length text == 0) && list_all is_ascii_digit text
 
--- digits, possibly with a point and more digits
 abbrev pub is_plain_number : List ℕ → Bool
 is_plain_number text =
     are_digits (before_byte (byte ".") text)
     && (not (has (byte ".") text) || are_digits (after_byte (byte ".") text))
 
--- the delay is written otherwise
+-- the delay isn't written as digits, possibly with a point and more digits
 abbrev pub has_odd_delay : List ℕ → Bool
 has_odd_delay tail = not (is_plain_number (raw_value tail))
-
--- ---- a comment
 
 -- a control character of ASCII other than a tab and DEL
 abbrev pub is_control : ℕ → Bool

@@ -12,11 +12,10 @@ use Rattle.robots_warnings.specs.declared.crawlers.TheConstants.{CRAWLERS, WRONG
 
 -- ---- The name of a crawler, in a request or in a user-agent line.
 
--- the text starts or ends with Unicode white space
 abbrev pub has_space_around : List ℕ → Bool
 has_space_around text = not (bytes_eq (trim text) text)
 
--- the byte can occur in a product token: ASCII letters, `_` and `-`
+-- ASCII letters, `_` and `-`
 abbrev pub is_token_byte : ℕ → Bool
 is_token_byte b = is_ascii_alphabetic b || b == byte "_" || b == byte "-"
 
@@ -28,7 +27,7 @@ abbrev pub is_product_token : List ℕ → Bool
 is_product_token value =
     bytes_eq value (codes "*") || (not (length value == 0) && list_all is_token_byte value)
 
--- the byte can occur in a name that isn't a product token: also digits, dots and spaces
+-- also digits, dots and spaces
 abbrev pub is_name_byte : ℕ → Bool
 is_name_byte b = is_token_byte b || (is_ascii_digit b || (b == byte "." || b == byte " "))
 
@@ -38,17 +37,16 @@ begins_crawler_word text =
     begins_in_any_case (codes "bot") text
     || (begins_in_any_case (codes "crawler") text || begins_in_any_case (codes "spider") text)
 
--- the text starts with `bot` and a space, and another name follows: such a word, but not just `bot`
+-- `bot` and a space, and another name: such a word, but not just `bot`
 abbrev pub begins_names : List ℕ → Bool
 begins_names text =
     begins_in_any_case (codes "bot ") text
     && (somewhere begins_crawler_word (drop 4 text)
     && not (str_eq_ignore_ascii_case (drop 4 text) (codes "bot")))
 
--- the value is written as names of real crawlers that aren't product tokens are, such as `MJ12bot`,
--- `Offline Explorer` and, with a star at its end, `Mediapartners-Google*`, and doesn't seem to be several
--- names, as
--- `Googlebot Bingbot` does, but not `Brightbot 1.0` or `Echobot Bot`
+-- written as names of real crawlers that aren't product tokens are, such as `MJ12bot`, `Offline Explorer`
+-- and, with a star at its end, `Mediapartners-Google*`, and not as several names: `Googlebot Bingbot` is
+-- several, but not `Brightbot 1.0` or `Echobot Bot`
 abbrev pub is_usual_name : List ℕ → Bool
 is_usual_name value =
     let name = if ends_with nat_eq value (codes "*") then take (length value - 1) value else value in
@@ -63,21 +61,15 @@ Row = List ℕ × List ℕ
 unfoldable pub crawlers : List Row
 crawlers = map (λ row. (row.0.now, row.1.now)) CRAWLERS
 
--- the row at this index
 abbrev pub row_at : ℕ → Row
 row_at number = slice_index_or crawlers number ([], [])
 
--- ---- the groups that vendors apply
-
--- one of these crawlers has this name, ASCII letters in any case
 abbrev pub is_given : List (List ℕ) → List ℕ → Bool
 is_given agents name = list_any (λ agent. str_eq_ignore_ascii_case name agent) agents
 
--- this is the name of a known crawler, ASCII letters in any case
 unfoldable pub is_known : List ℕ → Bool
 is_known name = list_any (λ (row : Row). str_eq_ignore_ascii_case name row.0) crawlers
 
--- this is the first name in the row, ASCII letters in any case
 unfoldable pub is_row_of : List ℕ → Row → Bool
 is_row_of value row = str_eq_ignore_ascii_case row.0 value
 
@@ -85,8 +77,8 @@ is_row_of value row = str_eq_ignore_ascii_case row.0 value
 abbrev pub name_for : List ℕ → List Row → Option (List ℕ)
 name_for value rows = option_map (λ (row : Row). row.1) (find (is_row_of value) rows)
 
--- the value, if it is a text in which a vendor reads the name of this crawler: the letters, `_` and `-` that
--- it starts with, such as `Googlebot` of `Googlebot/2.1` and of `Googlebot*`
+-- the value, if a vendor reads the name of this crawler in it: the letters, `_` and `-` that it starts with,
+-- such as `Googlebot` of `Googlebot/2.1` and of `Googlebot*`
 abbrev pub value_at_vendor : List ℕ → List ℕ → Option (List ℕ)
 value_at_vendor agent value =
     if str_eq_ignore_ascii_case (before_first ends_token value) agent && is_utf8 value then Some value
@@ -101,16 +93,15 @@ abbrev pub first_at_vendor : List ℕ → List LineValue → Option (List ℕ)
 first_at_vendor agent [] = None
 first_at_vendor agent (line ∷ lines) = option_or (name_at_vendor agent line) (first_at_vendor agent lines)
 
--- the name of the group that a vendor applies to a crawler for which these lines have none, where `group` is
--- in the row of the crawler: none if it is that of `*`, and an empty one if it is no group, although there is
--- one of `*`
+-- the group that a vendor applies to a crawler without one of its own, where `group` is in the row of the
+-- crawler: none if it is that of `*`, and an empty name if it is no group, although there is one of `*`
 abbrev pub group_at_vendor : List LineValue → (group : List ℕ) → Option (List ℕ)
 group_at_vendor lines group =
     if bytes_eq group (codes "*") then None
     else if length group == 0 then (if is_named (codes "*") lines then Some [] else None)
     else first_at_vendor group lines
 
--- the vendor of the crawler in this row reads its name in none of these lines, and applies another group
+-- the vendor reads the crawler's name in none of these lines, and applies another group
 abbrev pub gets_other : List LineValue → (agent group : List ℕ) → Bool
 gets_other lines agent group = is_none (first_at_vendor agent lines) && is_some (group_at_vendor lines group)
 
@@ -119,13 +110,11 @@ abbrev pub other_for : List LineValue → (agent : List ℕ) → (group : Option
 other_for lines agent None = None
 other_for lines agent (Some group) = option_or (first_at_vendor agent lines) (group_at_vendor lines group)
 
--- the name of the group that the vendor of a known crawler applies to it, or an empty one for no group, if it
--- is another group than the one that applies here: for `Googlebot`, that of `Googlebot/2.1`
+-- the group that the vendor of a known crawler applies to it, or an empty name for no group, if it isn't the
+-- one that applies here: for `Googlebot`, that of `Googlebot/2.1`
 abbrev pub other_group : List LineValue → List ℕ → Option (List ℕ)
 other_group lines agent =
     if is_named agent lines then None else other_for lines agent (name_for agent crawlers)
-
--- ---- similar names
 
 -- names that no crawler has, each with that of the known crawler that is probably meant
 unfoldable pub wrong_names : List Row
@@ -135,8 +124,8 @@ wrong_names = map (λ row. (row.0.now, row.1.now)) WRONG_NAMES
 abbrev pub most_edits : List ℕ → ℕ
 most_edits name = if nat_lt (length name) 5 then 0 else if nat_lt (length name) 9 then 1 else 2
 
--- the value begins with the letter that the name begins with, and is made of it by so many edits, ASCII
--- letters in any case. To swap two letters is one edit
+-- made of the name by so many edits, ASCII letters in any case, with the same first letter. To swap two
+-- letters is one edit
 abbrev pub is_near : List ℕ → List ℕ → Bool
 is_near value name =
     let most = most_edits name in
@@ -145,14 +134,14 @@ is_near value name =
     && ((nat_le (length value) (length name + most) && nat_le (length name) (length value + most))
     && nat_le (damerau nat_eq (lowered value) (lowered name)) most)
 
--- the value of a user-agent line probably means the crawler in this row, which has the other name, or one
--- that is near the value or the letters, `_` and `-` that it starts with
+-- the value probably means the crawler in this row, which has the other name, or one that is near the value
+-- or the letters, `_` and `-` that it starts with
 unfoldable pub is_meant : (value other : List ℕ) → Row → Bool
 is_meant value other row =
     bytes_eq row.0 other || (is_near value row.0 || is_near (before_first ends_token value) row.0)
 
--- the index of the crawler that it probably means, if neither the value nor the letters, `_` and `-` that it
--- starts with are the name of a known one
+-- the index of the crawler that is probably meant, if neither the value nor its start is the name of a known
+-- one
 abbrev pub meant : List ℕ → Option ℕ
 meant value =
     if is_known value || is_known (before_first ends_token value) then None
@@ -170,8 +159,7 @@ abbrev pub has_new_name : List LineValue → LineValue → Bool
 has_new_name lines (UserAgent value) = not (is_named value lines)
 has_new_name lines _ = false
 
--- a line of the file, given with its index, whose name is neither in the lines within the size limit nor in
--- an earlier line of the file
+-- a line of the file, given with its index, whose name is in no line within the size limit and no earlier one
 abbrev pub is_past_limit : List LineValue → List ℕ → ℕ × LineValue → Bool
 is_past_limit read file p = has_new_name (read ++ take p.0 (file_lines file)) p.1
 

@@ -7,20 +7,16 @@ use Rattle.texting_robots.specs.{Cut.cr, Cut.lf, Group.is_agent}
 use Rattle.robots_warnings.specs.declared.facts.{FileFacts.FileFacts, LineKinds.LineKinds}
 use Rattle.robots_warnings.specs.File.{is_blank, lines_of, space, tab}
 
--- ---- the lines
-
--- the line is neither empty nor a comment
 abbrev pub has_text : LineValue → Bool
 has_text (Raw body) = not (is_blank body)
 has_text _ = true
 
--- an Allow or a Disallow
 abbrev pub is_rule : LineValue → Bool
 is_rule (Allow value) = true
 is_rule (Disallow value) = true
 is_rule _ = false
 
--- any directive but these and a user-agent line
+-- any directive but a rule and a user-agent line
 abbrev pub is_extra : LineValue → Bool
 is_extra (UserAgent value) = false
 is_extra (Allow value) = false
@@ -28,7 +24,6 @@ is_extra (Disallow value) = false
 is_extra (Raw body) = false
 is_extra _ = true
 
--- the kinds of these lines
 abbrev pub kinds_of : List LineValue → LineKinds
 kinds_of lines = record {
   text = list_any has_text lines;
@@ -37,62 +32,50 @@ kinds_of lines = record {
   extra = list_any is_extra lines;
 }
 
--- ---- the bytes
-
--- every other byte is NUL: the first, the third and so on if `here`, else the second, the fourth and so on
+-- the first, the third and so on if `here`, else the second, the fourth and so on
 abbrev pub nul_at_every_other : Bool → List ℕ → Bool
 nul_at_every_other here [] = true
 nul_at_every_other here (b ∷ bytes) = (not here || b == 0) && nul_at_every_other (not here) bytes
 
--- the file starts with a byte order mark of UTF-16, or has at least 4 bytes and every other one of the
--- first 64 is NUL
+-- a byte order mark of UTF-16, or at least 4 bytes, of whose first 64 every other one is NUL
 abbrev pub seems_utf_16 : List ℕ → Bool
 seems_utf_16 file =
     starts_with nat_eq file (255 ∷ 254 ∷ []) || (starts_with nat_eq file (254 ∷ 255 ∷ [])
     || (nat_le 4 (length file)
     && (nul_at_every_other true (take 64 file) || nul_at_every_other false (take 64 file))))
 
--- a complete byte order mark
 abbrev pub mark : List ℕ
 mark = 0xEF ∷ 0xBB ∷ 0xBF ∷ []
 
--- the text without this start, if it has it
 abbrev pub without_start : List ℕ → List ℕ → List ℕ
 without_start start text = if starts_with nat_eq text start then drop (length start) text else text
 
--- a space, a tab, CR or LF
 abbrev pub is_white : ℕ → Bool
 is_white b = b == space || (b == tab || (b == cr || b == lf))
 
--- the text without such bytes at its start
 abbrev pub without_white : List ℕ → List ℕ
 without_white [] = []
 without_white (b ∷ text) = if is_white b then without_white text else b ∷ text
 
--- the file starts with `<`, as HTML does, possibly after a byte order mark, spaces, tabs and empty lines
+-- `<`, as in HTML, possibly after a byte order mark, spaces, tabs and empty lines
 abbrev pub seems_html : List ℕ → Bool
 seems_html file = starts_with nat_eq (without_white (without_start mark file)) (codes "<")
 
--- the file starts with a byte of a byte order mark, but not with all of it; the bytes there are skipped
+-- a byte of a byte order mark, but not all of it, is at the start, where it is skipped
 abbrev pub has_damaged_mark : List ℕ → Bool
 has_damaged_mark file =
     list_any (λ b. starts_with nat_eq file (b ∷ [])) mark && not (starts_with nat_eq file mark)
 
--- a NUL is within the size limit, where it ends a line
 abbrev pub has_nul : List ℕ → Bool
 has_nul file = list_any (λ b. b == 0) (take file_limit file)
 
--- ---- the file
-
--- the file has no directive, but some line that isn't empty or a comment
 abbrev pub is_unknown : LineKinds → Bool
 is_unknown kinds = kinds.text && not (kinds.user_agent || kinds.rule || kinds.extra)
 
--- the file is larger than the size limit
 abbrev pub is_too_large : List ℕ → Bool
 is_too_large file = nat_lt file_limit (length file)
 
--- a robot reads this byte as the end of a line, or as a part of it
+-- here robots read the end of a line, or a part of it
 abbrev pub ends_line : ℕ → Bool
 ends_line b = b == cr || (b == lf || b == 0)
 
@@ -117,7 +100,6 @@ facts_of file labels =
       has_nul = has_nul file;
     }
 
--- the file seems to be something else than a robots.txt file, so that each of its lines would cause a
--- warning
+-- the file seems to be something else than a robots.txt file, so that each of its lines would cause a warning
 abbrev pub suppresses_line_warnings : FileFacts → Bool
 suppresses_line_warnings facts = facts.is_html || (facts.is_utf_16 || facts.is_other_text)

@@ -1,5 +1,4 @@
--- Field names: which one was probably intended in an ignored line, and what is unusual about that of a
--- directive.
+-- Field names: which one was probably intended in an ignored line, and what is unusual in a directive.
 use Rattle.std.specs.Prelude.{ℕ, ◌+◌, ◌-◌, ◌==◌, nat_eq, nat_le, nat_lt, Bool, not, ◌||◌, ◌&&◌, List, [], ◌∷◌}
 use Rattle.std.specs.Prelude.{Option, bytes_eq, codes, drop, find, if◌then◌else◌, length, map, option_map}
 use Rattle.std.specs.Prelude.{reverse, slice_index, take, unwrap_or}
@@ -16,17 +15,13 @@ use Rattle.robots_warnings.specs.declared.table.Cause.TheVariants.{HostName, Inv
 use Rattle.robots_warnings.specs.declared.table.Cause.TheVariants.{EqualsSign, UnseenInName}
 use Rattle.texting_robots.specs.declared.parser.statement.Kind.TheVariants as kind
 
--- ---- the tokens of a line
-
 abbrev pub is_space_or_tab : ℕ → Bool
 is_space_or_tab b = b == space || b == tab
 
--- the text without leading spaces and tabs
 abbrev pub without_front : List ℕ → List ℕ
 without_front [] = []
 without_front (b ∷ text) = if is_space_or_tab b then without_front text else b ∷ text
 
--- the text without trailing spaces and tabs
 abbrev pub without_end : List ℕ → List ℕ
 without_end text = reverse (without_front (reverse text))
 
@@ -34,30 +29,24 @@ without_end text = reverse (without_front (reverse text))
 abbrev pub name_before : ℕ → List ℕ → List ℕ
 name_before b body = without_end (without_front (before_byte b body))
 
--- the text before the first colon, or all of it, without spaces and tabs at both ends
 abbrev pub name_in : List ℕ → List ℕ
 name_in body = name_before (byte ":") body
 
--- the first token: the text up to the next space or tab, without leading ones
+-- the text up to the first space or tab, without leading ones
 abbrev pub first_word : List ℕ → List ℕ
 first_word body = before_first is_space_or_tab (without_front body)
 
--- ---- names
-
--- the token is the name, ignoring ASCII case
+-- ignoring ASCII case
 abbrev pub is_name : List ℕ → List ℕ → Bool
 is_name name word = bytes_eq (str_to_ascii_lowercase word) (str_to_ascii_lowercase name)
 
--- the token starts with the name, ignoring ASCII case
 unfoldable pub begins_with : List ℕ → List ℕ → Bool
 begins_with name word = is_name name (take (length name) word)
 
--- the token is one of the accepted names of this kind of directive
 abbrev pub is_accepted : Kind → List ℕ → Bool
 is_accepted kind word = list_any (bytes_eq (str_to_ascii_lowercase word)) (field_names kind)
 
--- two or more bytes follow the name in the token, and the first of them is a letter, or after `allow` and
--- `disallow` also `-` or `_`
+-- two or more bytes follow the name, and the first is a letter, or after `allow` and `disallow` `-` or `_`
 abbrev pub goes_on : (name word : List ℕ) → Bool
 goes_on name word =
     let b = slice_index word (length name) in
@@ -71,8 +60,6 @@ may_mean name word =
     if begins_with name word then not (goes_on name word)
     else (nat_le (length word) (length name + 2) && nat_le (length name) (length word + 2))
     && nat_le (levenshtein_row nat_eq (str_to_ascii_lowercase word) name (length name)) 2
-
--- ---- what an ignored line probably intends, by its field name and its first token
 
 -- a name with its warning
 abbrev pub Row : Type 0
@@ -89,22 +76,21 @@ unsupported = map (λ row. (row.0.now, row.1)) UNSUPPORTED
 abbrev pub first_that : (List ℕ → Bool) → List Row → Option Cause
 first_that test rows = option_map (λ (row : Row). row.1) (find (λ (row : Row). test row.0) rows)
 
--- one of the two tokens is the name; one of them starts with it or is similar to it
 unfoldable pub is_either : List ℕ → List ℕ → List ℕ → Bool
 is_either name word known = is_name known name || is_name known word
 
 unfoldable pub may_either_mean : List ℕ → List ℕ → List ℕ → Bool
 may_either_mean name word known = may_mean known name || may_mean known word
 
--- the warning for a name that other crawlers support or supported, if one of the tokens is such a name
+-- for a name that other crawlers support or supported, if one of the tokens is such a name
 abbrev pub unsupported_in : List ℕ → List ℕ → Option Cause
 unsupported_in name word = first_that (is_either name word) unsupported
 
--- the warning for a directive, if one of the tokens seems to mean its usual field name
+-- for a directive, if one of the tokens seems to mean its usual field name
 abbrev pub directive_in : List ℕ → List ℕ → Option Cause
 directive_in name word = first_that (may_either_mean name word) directives
 
--- the byte can occur in a host name with a port: ASCII letters, digits, `-`, `.` and `:`
+-- ASCII letters, digits, `-`, `.` and `:`
 abbrev pub is_host_byte : ℕ → Bool
 is_host_byte b = is_ascii_alphanumeric b || (b == byte "-" || (b == byte "." || b == byte ":"))
 
@@ -114,13 +100,13 @@ has_host body =
     let value = without_end (without_front (after_byte (byte ":") (before_byte hash body))) in
     begins_as_url value || (not (length value == 0) && list_all is_host_byte value)
 
--- the token is an accepted name of a directive
+-- an accepted name of a directive
 abbrev pub is_any_accepted : List ℕ → Bool
 is_any_accepted word = list_any (λ kind. is_accepted kind word) KINDS
 
--- the warning for an ignored line with this content: for an invisible character in the first word before the
--- colon, for `=` after the name of a directive, for an invalid delay, for the name of a host, for a name that
--- other crawlers support or supported, for a directive, or else for an unrecognized line
+-- for an invisible character in the first word before the colon, for `=` after the name of a directive, for
+-- an invalid delay, for the name of a host, for a name that other crawlers support or supported, for a
+-- directive, or else for an unrecognized line
 abbrev pub meant_by : List ℕ → Cause
 meant_by body =
     let name = name_in body in
@@ -131,17 +117,13 @@ meant_by body =
     else (if (is_name (codes "host") name || is_name (codes "host") word) && has_host body then HostName
     else unwrap_or (option_or (unsupported_in name word) (directive_in name word)) UnrecognizedLine)))
 
--- ---- what is unusual in a directive
-
 -- the line starts with none of the usual names
 abbrev pub is_misspelled : List ℕ → Bool
 is_misspelled body = not (list_any (λ row. begins_with row.0.now (without_front body)) DIRECTIVES)
 
--- the text starts with the name and a colon
 abbrev pub begins_field : List ℕ → List ℕ → Bool
 begins_field name text = begins_with name text && slice_index text (length name) == byte ":"
 
--- the text starts with one of the usual names and a colon
 abbrev pub begins_any_field : List ℕ → Bool
 begins_any_field text = list_any (λ row. begins_field row.0.now text) DIRECTIVES
 
@@ -157,8 +139,8 @@ after_seam text =
     then drop 1 text
     else (if first == byte "\\" && (second == byte "n" || second == byte "r") then drop 2 text else [])
 
--- another line seems to begin: with `User-agent` and a colon, or, after one of these, with any of the usual
--- names and a colon
+-- another line seems to begin, with `User-agent` and a colon, or, after such an end, with any usual name and
+-- a colon
 abbrev pub begins_inner_field : List ℕ → Bool
 begins_inner_field text = begins_field (codes "user-agent") text || begins_any_field (after_seam text)
 

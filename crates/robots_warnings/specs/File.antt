@@ -20,6 +20,5 @@ is_blank (byte ∷ body) = byte == hash || ((byte == space || byte == tab) && is
 abbrev pub labels_for : List ℕ → List LineValue → List Label
 labels_for agent lines = labels_of (group_name agent lines) lines
 
--- the lines of the labels
 abbrev pub lines_of : List Label → List LineValue
 lines_of labels = map (λ (label : Label). label.line) labels

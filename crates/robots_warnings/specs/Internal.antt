@@ -11,7 +11,6 @@ use Rattle.printable_text.specs.declared.level.{Level.Level}
 use Rattle.robots_warnings.specs.declared.table.{Cause.Cause, Topic.Topic}
 use Rattle.robots_warnings.specs.{Facts.has_text, Facts.is_extra, Facts.is_rule, Message.WarningValue}
 
--- these warnings are appended
 abbrev pub Adds : (old found more : List WarningValue) → Type 0
 Adds old found more = found ≡ old ++ more
 
@@ -24,7 +23,6 @@ kinds_with kinds line = record {
   extra = kinds.extra || is_extra line;
 }
 
--- a name with its warning, by value
 abbrev pub name_value : Bor (List ℕ) × Cause → List ℕ × Cause
 name_value row = (row.0.now, row.1)
 
@@ -36,14 +34,11 @@ Row = Cause × Level × Topic × Bor (List ℕ)
 abbrev pub Text : Type 0
 Text = Cause × Bor (List ℕ)
 
--- the item is at this index
 pub record IsAt {X : Type 0} (items : List X) (number : ℕ) (item : X) : Type 0 where
   pub found : slice_get items number ≡ Some item
 
--- the row is at this index
 abbrev pub IsRowAt : List Row → ℕ → Row → Type 0
 IsRowAt rows number row = IsAt rows number row
 
--- a row of the table of crawlers by value
 abbrev pub row_value : Bor (List ℕ) × Bor (List ℕ) → List ℕ × List ℕ
 row_value row = (row.0.now, row.1.now)

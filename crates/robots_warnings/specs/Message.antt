@@ -13,10 +13,8 @@ use Rattle.robots_warnings.specs.declared.warning.Detail.TheVariants.{Group, Lin
 use Rattle.robots_warnings.specs.Table.{all_names, all_texts, name_of, number_of, text_of}
 use borrow.Enum.Match.{tag_small}
 
--- ---- A warning as a value.
-
 -- a warning: the number of its line, if it is about one; the reason; the URL or the crawler's name, if its
--- message begins with one; and what its message ends with, if it isn't its text
+-- message begins with one; and what its message ends with, besides its text
 pub record WarningValue : Type 0 where
   pub line : Option ℕ
   pub cause : Cause
@@ -25,9 +23,6 @@ pub record WarningValue : Type 0 where
 
 -- ---- The message of a warning as the parts of a line.
 
--- ---- fixed texts
-
--- if all texts pass a test, so does the one at an index
 pub passes_at : (test : List ℕ → Bool) (texts : List (List ℕ)) (at : ℕ) → at < length texts
     → list_all test texts ≡ true → test (slice_index_or texts at []) ≡ true
 passes_at test [] at below all = absurd (omega (arith, below))
@@ -43,7 +38,6 @@ pub text_safe : (cause : Cause) → is_fixed (text_of cause) ≡ true
 unfolding text_of
 text_safe cause = passes_at is_fixed all_texts (number_of cause) (tag_small the_type cause) refl
 
--- the name and the message of a warning
 abbrev pub fixed_name : Cause → Fixed
 fixed_name cause = record { text = name_of cause; safe = name_safe cause }
 
@@ -52,7 +46,6 @@ fixed_text cause = record { text = text_of cause; safe = text_safe cause }
 
 -- ---- parts
 
--- the reason is about a crawler's name
 abbrev pub is_about_crawler : Cause → Bool
 is_about_crawler ClosesSite = true
 is_about_crawler ClosesEverything = true
@@ -75,8 +68,8 @@ abbrev pub reason_part : Cause → Option (List ℕ) → PartValue
 reason_part cause None = Only (fixed_text cause)
 reason_part cause (Some name) = Part (label (codes "': ") refl) (Word (fixed_text cause))
 
--- how many rules the message is about, the line of another rule, the name of the group that a crawler's
--- vendor applies, that of the crawler that may be meant, or how many other crawlers the message is about
+-- how many rules the message is about, the line of another rule, the group that a crawler's vendor applies,
+-- the crawler that may be meant, or how many other crawlers the message is about
 abbrev pub detail_part : Option Detail → PartValue
 detail_part None = Absent
 detail_part (Some (Rules count)) = Part (label (codes " (") refl) (Number count)

@@ -9,27 +9,22 @@ use Rattle.robots_warnings.specs.declared.positions.Preceding.{Preceding}
 use Rattle.robots_warnings.specs.declared.positions.Preceding.TheVariants.{Agent, Delay, Other}
 use Rattle.robots_warnings.specs.{Facts.has_text, Facts.is_rule, File.hash, File.is_blank, Rules.has}
 
--- ---- what precedes a line
-
--- what precedes the next line: a user-agent line with no rule or delay after it, one with only delays after
--- it, or neither
+-- what precedes the next line: a user-agent line with no rule or delay after it, with only delays, or neither
 abbrev pub preceding_with : Preceding → LineValue → Preceding
 preceding_with preceding (UserAgent value) = Agent
 preceding_with Agent (CrawlDelay delay) = Delay
 preceding_with preceding line = if is_rule line then Other else preceding
 
--- a user-agent line with only delays after it
 abbrev pub is_delay : Preceding → Bool
 is_delay Delay = true
 is_delay _ = false
 
--- the first delay of the group of this line and of those above it; `first` is that of the lines above it
+-- the first delay of the group of this line; `first` is that of the lines above it
 abbrev pub first_delay : Option ℕ → LineValue → Option ℕ
 first_delay first (UserAgent value) = None
 first_delay first (CrawlDelay delay) = option_or first delay
 first_delay first _ = first
 
--- neither of these
 abbrev pub is_other : Preceding → Bool
 is_other Other = true
 is_other _ = false
@@ -40,24 +35,20 @@ abbrev pub sole_name : Preceding → Option (List ℕ) → LineValue → Option 
 sole_name preceding name (UserAgent value) = if is_other preceding then Some value else None
 sole_name preceding name _ = name
 
--- ---- what follows a line
-
 -- the number of the line, if it is a rule or a delay
 abbrev pub group_number : Label → Option ℕ
 group_number label = if is_group label.line then Some label.number else None
 
--- the number of the last rule or delay
 abbrev pub last_group : List Label → Option ℕ
 last_group [] = None
 last_group (label ∷ labels) = option_or (last_group labels) (group_number label)
 
--- the line with this number comes after the last rule or delay, or there is none
 abbrev pub is_after : Option ℕ → ℕ → Bool
 is_after None number = true
 is_after (Some last) number = nat_lt last number
 
--- these lines begin with user-agent lines, and a rule follows in their group, that is, before the next
--- user-agent line; `begun`: a delay of the group is above these lines
+-- these lines begin with user-agent lines, and a rule follows in their group; `begun`: a delay of the group
+-- is above
 abbrev pub begin_with_rules : Bool → List LineValue → Bool
 begin_with_rules begun [] = false
 begin_with_rules begun (UserAgent value ∷ lines) = not begun && begin_with_rules begun lines
@@ -70,16 +61,13 @@ begin_with_one test [] = false
 begin_with_one test (UserAgent value ∷ lines) = test value || begin_with_one test lines
 begin_with_one test (line ∷ lines) = not (is_group line) && begin_with_one test lines
 
--- one of them has this name
 abbrev pub begin_with_name : List ℕ → List LineValue → Bool
 begin_with_name name lines = begin_with_one (λ value. str_eq_ignore_ascii_case value name) lines
 
--- there is such a name, and these lines begin with it
 abbrev pub name_again : Option (List ℕ) → List LineValue → Bool
 name_again None lines = false
 name_again (Some name) lines = begin_with_name name lines
 
--- one of these lines names `*`, and no rule is above it
 abbrev pub name_star : List LineValue → Bool
 name_star [] = false
 name_star (UserAgent value ∷ lines) = bytes_eq value (codes "*") || name_star lines
@@ -103,39 +91,34 @@ reach_name other bare (UserAgent value ∷ lines) = other || (bare && not (begin
 reach_name other bare (line ∷ lines) =
     not (is_group line) && reach_name (other || has_text line) (bare || is_bare line) lines
 
--- these lines begin with a user-agent line, and such a line follows, which belongs to the same group
+-- a user-agent line, which such a line follows that belongs to the same group
 abbrev pub are_joined : List LineValue → Bool
 are_joined (UserAgent value ∷ lines) = reach_name false false lines
 are_joined _ = false
 
--- ---- conditions on a line
-
--- the line belongs to no group
 abbrev pub is_outside : Membership → Bool
 is_outside Ungrouped = true
 is_outside _ = false
 
--- the line is a rule that belongs to no group
 abbrev pub is_above_agents : Label → Bool
 is_above_agents label = is_rule label.line && is_outside label.membership
 
--- the two are different delays
 abbrev pub are_different : Option ℕ → Option ℕ → Bool
 are_different (Some one) (Some other) = not (one == other)
 are_different _ _ = false
 
--- the line is a delay in a group, and differs from the first delay of this group
+-- a delay that differs from the first one of its group
 abbrev pub is_other_delay : Option ℕ → Label → Bool
 is_other_delay first label =
     not (is_outside label.membership) && are_different first (delay_in label.line)
 
--- the line is a user-agent line with no rule or delay after it
+-- a user-agent line with no rule or delay after it
 abbrev pub is_empty_group : Option ℕ → Label → Bool
 is_empty_group last label = is_agent label.line && is_after last label.number
 
--- the line is a user-agent line that only delays separate from one above it, and its group has rules; `lines`
--- are those from this line on. For a crawler that ignores delays, the names above are in this group too, and
--- get its rules. If `above`, the only name there, is in this group anyway, nothing differs
+-- a user-agent line that only delays separate from one above it, and its group has rules; `lines` are those
+-- from this line on. For a crawler that ignores delays, the names above are in this group too, and get its
+-- rules. If `above`, the only name there, is in this group anyway, nothing differs
 abbrev pub is_split : Preceding → Option (List ℕ) → Label → List LineValue → Bool
 is_split preceding above label lines =
     (is_agent label.line && is_delay preceding)

@@ -5,14 +5,12 @@ use Rattle.texting_robots.specs.Callers.{Allow, Disallow, LineValue, Label}
 use Rattle.texting_robots.specs.{Group.is_agent, declared.labels.Membership.Membership}
 use Rattle.robots_warnings.specs.{Checks.is_in_scope_of, Positions.is_outside, Spellings.is_rule_with}
 
--- the line is a rule, and one of the lines above it in its group is a rule of the same kind with the same
--- value
+-- one of the lines above it in its group is a rule of the same kind with the same value
 abbrev pub is_repeated : List LineValue → LineValue → Bool
 is_repeated above (Allow value) = list_any (is_rule_with true value) above
 is_repeated above (Disallow value) = list_any (is_rule_with false value) above
 is_repeated above _ = false
 
--- the lines of the group above the next line
 abbrev pub above_next : List LineValue → LineValue → List LineValue
 above_next above line = if is_agent line then [] else above ++ line ∷ []
 
@@ -20,8 +18,7 @@ above_next above line = if is_agent line then [] else above ++ line ∷ []
 abbrev pub is_checked : Bool → Membership → Bool
 is_checked everywhere membership = is_in_scope_of everywhere membership && not (is_outside membership)
 
--- the numbers of such rules that are checked and belong to a group, among these lines; `above` are the lines
--- of their group above them
+-- the numbers of such rules that are checked; `above` are the lines of their group above these
 abbrev pub repeated_from : Bool → List LineValue → List Label → List ℕ
 repeated_from everywhere above [] = []
 repeated_from everywhere above (label ∷ labels) =

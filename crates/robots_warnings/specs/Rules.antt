@@ -6,42 +6,33 @@ use Rattle.std.specs.List.{after_first, before_first, ends_with, list_any, start
 use Rattle.std.specs.Str.{byte}
 use Rattle.robots_warnings.specs.Urls.{begins_as_url}
 
--- ---- texts
-
--- the text contains the byte
 abbrev pub has : ℕ → List ℕ → Bool
 has b text = list_any (λ c. c == b) text
 
--- the text before the first occurrence of the byte, or all of it if there is none
+-- all of the text if the byte isn't in it
 abbrev pub before_byte : ℕ → List ℕ → List ℕ
 before_byte b text = before_first (λ c. c == b) text
 
--- the text after the first occurrence of the byte; empty if there is none
+-- empty if the byte isn't in the text
 abbrev pub after_byte : ℕ → List ℕ → List ℕ
 after_byte b text = after_first (λ c. c == b) text
 
--- the test holds for the rest of the text from some byte on
 abbrev pub somewhere : (List ℕ → Bool) → List ℕ → Bool
 somewhere test [] = false
 somewhere test (b ∷ text) = test (b ∷ text) || somewhere test text
 
--- the rest of the text from the first byte on for which the test holds; empty if there is none
+-- from the first byte on for which the test holds; empty if there is none
 abbrev pub from_first : (List ℕ → Bool) → List ℕ → List ℕ
 from_first test [] = []
 from_first test (b ∷ text) = if test (b ∷ text) then b ∷ text else from_first test text
 
--- the text contains one of these bytes
 abbrev pub has_any : List ℕ → List ℕ → Bool
 has_any bytes text = list_any (λ b. has b bytes) text
 
--- ---- the start of a rule
-
--- the value isn't empty and doesn't start with a slash or a star
+-- not empty, and without a slash or a star at its start
 abbrev pub begins_oddly : List ℕ → Bool
 begins_oddly [] = false
 begins_oddly (b ∷ value) = not (b == byte "/" || b == byte "*")
-
--- ---- bytes that parsed URLs contain in another form
 
 -- the value contains, in its path or its query, a byte that a parsed URL contains in a form other than an
 -- escaped rule does: it is escaped in only one of them, or the URL has `/` for it, or nothing. The query
@@ -51,23 +42,21 @@ holds_otherwise value =
     has_any (codes "\t\\^{}") (before_byte (byte "?") value)
     || has_any (codes "\t'`") (after_byte (byte "?") value)
 
--- the text starts with a `%` that begins no escape
+-- a `%` that begins no escape
 abbrev pub begins_lone_percent : List ℕ → Bool
 begins_lone_percent text =
     slice_index text 0 == byte "%"
     && not (is_ascii_hexdigit (slice_index text 1) && is_ascii_hexdigit (slice_index text 2))
 
--- the value contains a byte that crawlers encode differently. Some bytes are only that where a query may be:
--- after the first `?`, or after the first star, which may match a `?`
+-- a byte that crawlers encode differently. Some bytes are only that where a query may be: after the first
+-- `?`, or after the first star, which may match a `?`
 abbrev pub has_odd_character : List ℕ → Bool
 has_odd_character value =
     (has_any (codes "|\"<>`\u{7f}") value || somewhere begins_lone_percent value)
     || (has_any (codes "\\^{}'") (after_byte (byte "?") value)
     || has_any (codes "\\^{}'") (after_byte (byte "*") value))
 
--- ---- quotes
-
--- the text starts with a typographic quote, in UTF-8: U+2018 to U+201F, such as ‘ ’ “ ”, or « or »
+-- a typographic quote, in UTF-8: U+2018 to U+201F, such as ‘ ’ “ ”, or « or »
 abbrev pub begins_quote : List ℕ → Bool
 begins_quote text =
     let first = slice_index text 0 in
@@ -76,45 +65,41 @@ begins_quote text =
     (first == 0xE2 && (second == 0x80 && (nat_le 0x98 third && nat_le third 0x9F)))
     || (first == 0xC2 && (second == 0xAB || second == 0xBB))
 
--- such a quote is the last character of the value, and there is no other one
+-- the last character of the value, and no other one, is such a quote
 abbrev pub has_quote_at_end : List ℕ → Bool
 has_quote_at_end value =
     let rest = from_first begins_quote value in
     not (begins_quote value)
     && (begins_quote rest && length rest == (if slice_index rest 0 == 0xE2 then 3 else 2))
 
--- the byte is both the first and the last of at least two bytes
+-- of at least two bytes
 abbrev pub begins_and_ends_with : ℕ → List ℕ → Bool
 begins_and_ends_with b value =
     nat_lt 1 (length value)
     && (slice_index value 0 == b && slice_index value (length value - 1) == b)
 
--- the value is in ASCII quotes, or starts with a typographic one
+-- in ASCII quotes, or with a typographic one at the start
 abbrev pub is_quoted : List ℕ → Bool
 is_quoted value =
     (begins_and_ends_with (byte "\"") value || begins_and_ends_with (byte "'") value) || begins_quote value
 
--- the first byte is neither `/` nor `*`, and the value isn't an absolute URL or in quotes
+-- neither `/` nor `*` is first, and the value isn't an absolute URL or in quotes
 abbrev pub has_odd_start : List ℕ → Bool
 has_odd_start value = begins_oddly value && not (begins_as_url value || is_quoted value)
 
--- ---- URLs in place of paths
-
--- the text starts with a slash and the name of a host: a dot comes before the next slash
+-- a slash and the name of a host: a dot comes before the next slash
 abbrev pub begins_host : List ℕ → Bool
 begins_host text =
     let name = drop 1 text in
     slice_index text 0 == byte "/" && (has (byte "/") name && has (byte ".") (before_byte (byte "/") name))
 
--- the value starts with a slash, and then with a URL or with such a host, as `//example.com/a` does
+-- a slash, and then a URL or such a host, as `//example.com/a`
 abbrev pub is_url_in_path : List ℕ → Bool
 is_url_in_path value =
     slice_index value 0 == byte "/" && (begins_as_url (drop 1 value) || begins_host (drop 1 value))
 
--- ---- regular expressions
-
--- the text starts with a range, such as `[0-9]`; with `(?`; with `.*` after a slash or `(`, or before `$`,
--- which elsewhere is part of paths such as `/index.*`; or with a character class, such as `\d`
+-- a range, such as `[0-9]`; `(?`; `.*` after a slash or `(`, or before `$`, which elsewhere is part of paths
+-- such as `/index.*`; or a character class, such as `\d`
 abbrev pub begins_sign : List ℕ → Bool
 begins_sign text =
     (nat_lt 3 (length text) && (slice_index text 0 == byte "[" && slice_index text 2 == byte "-"))
@@ -124,8 +109,8 @@ begins_sign text =
     || (slice_index text 0 == byte "\\" && is_ascii_alphanumeric (slice_index text 1))))
 
 -- the value starts with `^` or `.*`; it has an alternative, such as `(a|b)`: a `)` after a `|` after a `(`;
--- it contains a range, `(?`, such a `.*` or a character class; or it ends with a `+` after a dot, `]` or `)`;
--- others are part of names such as `/canal+`
+-- it contains one of these; or it ends with a `+` after a dot, `]` or `)`; others are part of names such as
+-- `/canal+`
 abbrev pub is_expression : List ℕ → Bool
 is_expression value =
     (starts_with nat_eq value (codes "^") || starts_with nat_eq value (codes ".*"))
@@ -133,8 +118,6 @@ is_expression value =
     || (somewhere begins_sign value
     || (ends_with nat_eq value (codes ".+")
     || (ends_with nat_eq value (codes "]+") || ends_with nat_eq value (codes ")+")))))
-
--- ---- dollars
 
 -- a byte other than a star or `$` occurs after the first `$`
 abbrev pub has_dollar_inside : List ℕ → Bool
@@ -146,8 +129,6 @@ abbrev pub has_more_after_dollar : List ℕ → Bool
 has_more_after_dollar value =
     nat_lt 0 (length (after_byte (byte "$") value)) && not (has_dollar_inside value)
 
--- ---- escapes
-
 -- a byte that needs no escape anywhere in a URL
 abbrev pub needs_no_escape : ℕ → Bool
 needs_no_escape b = is_ascii_alphanumeric b || has b (codes "-._~")
@@ -157,8 +138,7 @@ needs_no_escape b = is_ascii_alphanumeric b || has b (codes "-._~")
 abbrev pub is_delimiter : ℕ → Bool
 is_delimiter b = has b (codes ":/?[]@!&()+,;=")
 
--- the text starts with a percent escape one of whose digits is lowercase, or which means a byte that needs no
--- escape
+-- a percent escape with a lowercase digit, or of a byte that needs no escape
 abbrev pub begins_odd_escape : List ℕ → Bool
 begins_odd_escape text =
     let high = slice_index text 1 in
@@ -167,13 +147,13 @@ begins_odd_escape text =
     && ((is_ascii_lowercase high || is_ascii_lowercase low)
     || needs_no_escape (digit_value high * 16 + digit_value low))
 
--- the text starts with the percent escape of a star or a dollar
+-- the percent escape of a star or a dollar
 abbrev pub begins_wildcard : List ℕ → Bool
 begins_wildcard text =
     starts_with nat_eq text (codes "%2A")
     || (starts_with nat_eq text (codes "%2a") || starts_with nat_eq text (codes "%24"))
 
--- the text starts with the percent escape of a delimiter
+-- the percent escape of a delimiter
 abbrev pub begins_delimiter : List ℕ → Bool
 begins_delimiter text =
     let high = slice_index text 1 in
@@ -181,9 +161,7 @@ begins_delimiter text =
     (slice_index text 0 == byte "%" && (is_ascii_hexdigit high && is_ascii_hexdigit low))
     && is_delimiter (digit_value high * 16 + digit_value low)
 
--- ---- dot segments
-
--- the text starts with a path segment `.` or `..`, which a slash or the end of the URL follows
+-- a path segment `.` or `..`, which a slash or the end of the URL follows
 abbrev pub begins_dot_segment : List ℕ → Bool
 begins_dot_segment text =
     starts_with nat_eq text (codes "/./") || starts_with nat_eq text (codes "/../")

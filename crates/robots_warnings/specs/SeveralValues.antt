@@ -5,13 +5,13 @@ use Rattle.std.specs.{Char.is_ascii_alphabetic, List.starts_with, Str.byte}
 use Rattle.robots_warnings.specs.{Rules.from_first, Rules.somewhere, declared.table.Cause.Cause}
 use Rattle.robots_warnings.specs.declared.table.Cause.TheVariants as cause
 
--- the text starts with a space or a control character of ASCII other than DEL
+-- a space or a control character of ASCII other than DEL
 abbrev pub begins_space : List ℕ → Bool
 begins_space [] = false
 begins_space (b ∷ text) = nat_le b 32
 
--- the text starts with other white space of Unicode, in UTF-8: U+0085, U+00A0 (a no-break space), U+1680,
--- U+2000 to U+200A, U+2028, U+2029, U+202F, U+205F or U+3000 (a full-width space)
+-- other white space of Unicode, in UTF-8: U+0085, U+00A0 (a no-break space), U+1680, U+2000 to U+200A,
+-- U+2028, U+2029, U+202F, U+205F or U+3000 (a full-width space)
 abbrev pub begins_wide_space : List ℕ → Bool
 begins_wide_space text =
     let first = slice_index text 0 in
@@ -24,8 +24,8 @@ begins_wide_space text =
     || ((first == 0xE2 && (second == 0x81 && third == 0x9F))
     || (first == 0xE3 && (second == 0x80 && third == 0x80)))))
 
--- the text starts with a character that can't be seen: U+00AD (a soft hyphen), U+200B (a zero-width space),
--- U+2060 (a word joiner) or U+FEFF (a zero-width no-break space), in UTF-8
+-- a character that can't be seen: U+00AD (a soft hyphen), U+200B (a zero-width space), U+2060 (a word joiner)
+-- or U+FEFF (a zero-width no-break space), in UTF-8
 abbrev pub begins_unseen : List ℕ → Bool
 begins_unseen text =
     let first = slice_index text 0 in
@@ -35,13 +35,13 @@ begins_unseen text =
     || ((first == 0xE2 && ((second == 0x80 && third == 0x8B) || (second == 0x81 && third == 0xA0)))
     || (first == 0xEF && (second == 0xBB && third == 0xBF)))
 
--- the text starts with a comma, and then with a path or with `http`
+-- a comma, and then a path or `http`
 abbrev pub begins_list : List ℕ → Bool
 begins_list text =
     slice_index text 0 == byte ","
     && (starts_with nat_eq (drop 1 text) (codes "/") || starts_with nat_eq (drop 1 text) (codes "http"))
 
--- the text starts with a tag of HTML: `<` and a letter, `/` or `!`
+-- a tag of HTML: `<` and a letter, `/` or `!`
 abbrev pub begins_tag : List ℕ → Bool
 begins_tag text =
     let second = slice_index text 1 in
@@ -54,7 +54,6 @@ begins_next_value text =
     begins_space text
     || (begins_list text || (begins_tag text || (begins_wide_space text || begins_unseen text)))
 
--- the value contains one of these
 abbrev pub has_several_values : List ℕ → Bool
 has_several_values value = somewhere begins_next_value value
 

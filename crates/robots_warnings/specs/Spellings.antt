@@ -10,9 +10,6 @@ use Rattle.robots_warnings.specs.declared.spellings.Spelling.TheVariants.{Plain,
 use Rattle.robots_warnings.specs.Rules.{begins_delimiter, begins_odd_escape, is_delimiter, needs_no_escape}
 use Rattle.robots_warnings.specs.Rules.{somewhere}
 
--- ---- spellings
-
--- these bytes begin a percent escape
 abbrev pub is_escape : ℕ → ℕ → ℕ → Bool
 is_escape first high low = first == byte "%" && (is_ascii_hexdigit high && is_ascii_hexdigit low)
 
@@ -28,7 +25,6 @@ spelled_escape spelling high low =
     if is_unescaped spelling b then b ∷ []
     else byte "%" ∷ to_ascii_uppercase high ∷ to_ascii_uppercase low ∷ []
 
--- the value with each escape in this spelling
 unfoldable pub spelled : Spelling → List ℕ → List ℕ
 spelled spelling [] = []
 spelled spelling (b ∷ []) = b ∷ []
@@ -42,9 +38,6 @@ abbrev pub has_other_escape : Spelling → List ℕ → Bool
 has_other_escape Standard value = somewhere begins_odd_escape value
 has_other_escape Plain value = somewhere begins_delimiter value
 
--- ---- a group
-
--- the line is a rule of this kind with this value
 abbrev pub is_rule_with : Bool → List ℕ → LineValue → Bool
 is_rule_with is_allow value (Allow other) = is_allow && bytes_eq other value
 is_rule_with is_allow value (Disallow other) = not is_allow && bytes_eq other value
@@ -56,13 +49,11 @@ is_unpaired spelling group is_allow value =
     has_other_escape spelling value
     && not (list_any (is_rule_with is_allow (spelled spelling value)) group)
 
--- the line is such a rule
 abbrev pub is_unpaired_line : Spelling → List LineValue → LineValue → Bool
 is_unpaired_line spelling group (Allow value) = is_unpaired spelling group true value
 is_unpaired_line spelling group (Disallow value) = is_unpaired spelling group false value
 is_unpaired_line spelling group _ = false
 
--- and it is checked
 abbrev pub is_unpaired_at : Spelling → Bool → List LineValue → Label → Bool
 is_unpaired_at spelling everywhere group label =
     is_in_scope_of everywhere label.membership && is_unpaired_line spelling group label.line
@@ -73,12 +64,10 @@ unpaired_in spelling everywhere group =
     map (λ (label : Label). label.number)
     (filter (is_unpaired_at spelling everywhere (lines_of group)) group)
 
--- ---- a file
-
 abbrev pub is_agent_line : Label → Bool
 is_agent_line label = is_agent label.line
 
--- the numbers of such lines in a file, whose groups are what is between user-agent lines
+-- the numbers of such lines, where groups are what is between user-agent lines
 abbrev pub unpaired : Spelling → Bool → List Label → List ℕ
 unpaired spelling everywhere labels =
     flat_map (unpaired_in spelling everywhere) (slice_split is_agent_line labels)

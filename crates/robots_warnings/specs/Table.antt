@@ -13,7 +13,6 @@ use Rattle.printable_text.specs.declared.level.Level.TheVariants as level
 abbrev pub number_of : Cause → ℕ
 number_of cause = tag_of the_type cause
 
--- the reasons for all warnings
 unfoldable pub all_causes : List Cause
 all_causes = map (λ row. row.0) WARNINGS
 
@@ -33,23 +32,18 @@ all_texts = map (λ row. row.1.now) MESSAGES
 abbrev pub all_examples : List (List ℕ)
 all_examples = map (λ row. row.1.now) EXAMPLES
 
--- the level of a warning
 unfoldable pub level_of : Cause → Level
 level_of cause = slice_index_or all_levels (number_of cause) level.Warning
 
--- the name of a warning
 unfoldable pub name_of : Cause → List ℕ
 name_of cause = slice_index_or all_names (number_of cause) []
 
--- the message of a warning
 unfoldable pub text_of : Cause → List ℕ
 text_of cause = slice_index_or all_texts (number_of cause) []
 
--- an example of a warning
 unfoldable pub example_of : Cause → List ℕ
 example_of cause = slice_index_or all_examples (number_of cause) []
 
--- the topic of a warning
 unfoldable pub topic_of : Cause → Topic
 topic_of cause = slice_index_or all_topics (number_of cause) Syntax
 
@@ -61,8 +55,7 @@ abbrev pub is_meaning : Topic → Bool
 is_meaning Meaning = true
 is_meaning _ = false
 
--- the warning isn't about the syntax of a file, but about the request, or what a file of the standard's
--- grammar means
+-- the warning is about the request, or about what a file of the standard's grammar means
 abbrev pub is_not_about_syntax : Cause → Bool
 is_not_about_syntax cause = not (is_syntax (topic_of cause))
 
@@ -70,6 +63,5 @@ is_not_about_syntax cause = not (is_syntax (topic_of cause))
 abbrev pub keeps_verdicts : Cause → Bool
 keeps_verdicts cause = is_meaning (topic_of cause)
 
--- some warning has this name
 unfoldable pub is_name : List ℕ → Bool
 is_name name = list_any (λ other. bytes_eq other name) all_names

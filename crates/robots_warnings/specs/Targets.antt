@@ -8,23 +8,22 @@ use Rattle.robots_warnings.specs.Rules.{begins_lone_percent, begins_odd_escape, 
 use Rattle.robots_warnings.specs.Rules.{needs_no_escape}
 use Rattle.robots_warnings.specs.Urls.{begins_as_url, is_unparsable}
 
--- a byte that the normal form of a path and a query may have: one that needs no escape, a delimiter, or `%`
+-- a byte that needs no escape, a delimiter, or `%`
 abbrev pub is_normal_byte : ℕ → Bool
 is_normal_byte b = needs_no_escape b || (is_delimiter b || has b (codes "%'"))
 
--- a path and a query are in normal form: they have only such bytes, and each escape has uppercase digits and
--- means a byte that needs one
+-- only such bytes, and escapes with uppercase digits, of bytes that need one
 abbrev pub is_normal : List ℕ → Bool
 is_normal target =
     list_all is_normal_byte target
     && not (somewhere begins_odd_escape target || somewhere begins_lone_percent target)
 
--- what a crawler sends to a site for a URL: the path, `?` and the query, but not the fragment
+-- what a crawler sends to a site for a URL: not the fragment
 abbrev pub requested_target : Parts → List ℕ
 requested_target url = url.path ++ with_delimiter (codes "?") url.query
 
--- an http(s) URL is asked without its fragment; any other text, such as a path, has the match target that the
--- library gives it, in which `#` is an ordinary byte
+-- an http(s) URL is asked without its fragment; any other text has its match target, in which `#` is an
+-- ordinary byte
 abbrev pub asked_target : List ℕ → List ℕ
 asked_target text =
     elim (parse_url None text) [

@@ -4,29 +4,27 @@ use Rattle.std.specs.Prelude.{codes, is_err, length, option_and_then, take}
 use Rattle.std.specs.Str.{is_utf8, str_eq_ignore_ascii_case}
 use Rattle.url.specs.{Host.domain_of, Parser.parse_url, Parts.Parts, Parts.nonempty_host}
 
--- the text starts with `front`, ignoring ASCII case
 abbrev pub begins_in_any_case : List ℕ → List ℕ → Bool
 begins_in_any_case front text = str_eq_ignore_ascii_case (take (length front) text) front
 
--- the text starts with `http://` or `https://`
 abbrev pub begins_as_url : List ℕ → Bool
 begins_as_url text =
     begins_in_any_case (codes "http://") text || begins_in_any_case (codes "https://") text
 
--- the specification of `url` states that parsing the text fails
+-- by the specification of `url`
 abbrev pub is_unparsable : List ℕ → Bool
 is_unparsable text = is_err (parse_url None text)
 
--- the value is an absolute http(s) URL, which can be parsed
+-- an absolute http(s) URL, which can be parsed
 abbrev pub is_absolute_url : List ℕ → Bool
 is_absolute_url value = is_utf8 value && (begins_as_url value && not (is_unparsable value))
 
--- the text has a third slash in place of a host, which `url` skips
+-- a third slash in place of a host, which `url` skips
 abbrev pub begins_without_host : List ℕ → Bool
 begins_without_host text =
     begins_in_any_case (codes "http:///") text || begins_in_any_case (codes "https:///") text
 
--- the host of the URL is an IP address, or a name that only this machine has, or one that templates leave
+-- an IP address, a name that only this machine has, or one that templates leave
 abbrev pub is_local : Parts → Bool
 is_local url =
     elim (option_and_then domain_of (nonempty_host url)) [
@@ -36,7 +34,7 @@ is_local url =
           || (bytes_eq name (codes "undefined") || bytes_eq name (codes "null"))
     ]
 
--- the value is an absolute http(s) URL that other machines can't use because of its host
+-- an absolute http(s) URL that other machines can't use because of its host
 abbrev pub has_odd_host : List ℕ → Bool
 has_odd_host value =
     (is_utf8 value && begins_as_url value)

@@ -22,44 +22,38 @@ use Rattle.robots_warnings.specs.Closed.{replacing, star_count, closed_at, is_ma
 use Rattle.robots_warnings.specs.Conflicts.{conflict, overruled, is_empty_at}
 use Rattle.robots_warnings.specs.declared.spellings.Spelling.TheVariants.{Plain, Standard}
 
--- ---- warnings from checks
-
--- the warning, if its condition holds
 abbrev pub warning_of : Option ℕ → Option (List ℕ) → Check → List WarningValue
 warning_of line about check =
     if check.1 then record { line = line; cause = check.0; about = about; detail = None } ∷ [] else []
 
--- the warnings whose conditions hold
 abbrev pub warned : Option ℕ → Option (List ℕ) → List Check → List WarningValue
 warned line about checks = flat_map (warning_of line about) checks
 
--- this warning, whose message ends with this number, for each line with one of these numbers
+-- this warning, whose message ends so, for each line with one of these numbers
 abbrev pub warned_at : Cause → Option Detail → List ℕ → List WarningValue
 warned_at cause detail numbers =
     map (λ number. record { line = Some number; cause = cause; about = None; detail = detail }) numbers
 
--- this warning about the line with this number, if there is another line that it is about
+-- if there is another line that the warning is about
 abbrev pub warned_beside : Cause → ℕ → Option ℕ → List WarningValue
 warned_beside cause number None = []
 warned_beside cause number (Some other) =
     record { line = Some number; cause = cause; about = None; detail = Some (Line other) } ∷ []
 
--- ---- warnings about a part of a file or of a request
-
--- the name of a crawler in a warning about it: none if the report is about a single crawler
+-- no name if the report is about a single crawler
 abbrev pub crawler_shown : (everywhere : Bool) → List ℕ → Option (List ℕ)
 crawler_shown everywhere agent = if everywhere then Some agent else None
 
 abbrev pub url_warnings : List ℕ → List WarningValue
 url_warnings url = warned None (Some url) (url_checks url)
 
--- warnings about a line with this content: if the size limit cuts it, only that
+-- if the size limit cuts a line, only that is reported
 abbrev pub line_warnings : (is_cut everywhere : Bool) → Label → List ℕ → List WarningValue
 line_warnings is_cut everywhere label body =
     warned (Some label.number) None (if is_cut then (CutLine, true) ∷ []
     else line_checks (is_in_scope_of everywhere label.membership) label.line body)
 
--- warnings about lines, each with its content; if `cuts_last`, the size limit cuts the last one
+-- if `cuts_last`, the size limit cuts the last line
 abbrev pub lines_warnings : (cuts_last everywhere : Bool) → List (List ℕ) → List Label → List WarningValue
 lines_warnings cuts_last everywhere [] labels = []
 lines_warnings cuts_last everywhere (body ∷ bodies) [] = []
@@ -67,15 +61,13 @@ lines_warnings cuts_last everywhere (body ∷ bodies) (label ∷ labels) =
     line_warnings (cuts_last && length labels == 0) everywhere label body
     ++ lines_warnings cuts_last everywhere bodies labels
 
--- warnings about each line of a file, unless it seems to be something else than a robots.txt file
 abbrev pub file_lines_warnings : FileFacts → Bool → List Label → List (List ℕ) → List WarningValue
 file_lines_warnings facts everywhere labels bodies =
     if suppresses_line_warnings facts then []
     else lines_warnings facts.has_cut_line everywhere bodies labels
 
--- warnings about the positions of these lines; `last` is the number of the last rule or delay, `preceding` is
--- what precedes the first of them, and `above` and `delay` are the only name and the first delay of the group
--- above it
+-- `last` is the number of the last rule or delay, `preceding` is what precedes the first of these lines, and
+-- `above` and `delay` are the only name and the first delay of the group above it
 abbrev pub positions_from : Option ℕ → Preceding → Option (List ℕ) → Option ℕ → List Label
     → List WarningValue
 positions_from last preceding above delay [] = []
@@ -85,68 +77,61 @@ positions_from last preceding above delay (label ∷ labels) =
     ++ positions_from last (preceding_with preceding label.line) (sole_name preceding above label.line)
     (first_delay delay label.line) labels
 
--- warnings about the positions of all lines
 abbrev pub position_warnings : List Label → List WarningValue
 position_warnings labels = positions_from (last_group labels) Other None None labels
 
--- warnings about names past the size limit, if lines are checked
+-- only if lines are checked
 abbrev pub past_limit_warnings : FileFacts → List ℕ → List Label → List WarningValue
 past_limit_warnings facts file labels =
     if not facts.is_too_large || suppresses_line_warnings facts then []
     else warned_at GroupPastSizeLimit None (names_past_limit (lines_of labels) file)
 
--- how many other crawlers a message is about, if there are some
 abbrev pub others : ℕ → Option Detail
 others count = if count == 0 then None else Some (Others count)
 
--- the warning about a line that closes the site to this crawler and to so many others: about the first major
--- one among them, if there is one
+-- a line closes the site to this crawler and to so many others: the warning names the first major one
 abbrev pub closing_warning : ℕ → List ℕ → ℕ → (major : Option (List ℕ)) → WarningValue
 closing_warning number agent count None =
     record { line = Some number; cause = ClosesEverything; about = Some agent; detail = others count }
 closing_warning number agent count (Some major) =
     record { line = Some number; cause = ClosesSite; about = Some major; detail = others count }
 
--- the same, if the line closes it to these crawlers
 abbrev pub closing_warnings : List LineValue → ℕ → List (List ℕ) → List WarningValue
 closing_warnings lines number [] = []
 closing_warnings lines number (agent ∷ agents) =
     let major = slice_get (filter (is_major lines) (agent ∷ agents)) 0 in
     closing_warning number agent (length agents) major ∷ []
 
--- warnings about lines that close the site to some of these crawlers
 abbrev pub site_warnings : List (List ℕ) → List LineValue → List Label → List WarningValue
 site_warnings agents lines labels =
     flat_map (λ label. closing_warnings lines label.number (closed_at lines agents label.number)) labels
 
--- warnings about a line with this number: the Allow that wins over it, and the Disallow that it overrules
 abbrev pub rule_warnings : (allow disallow : ℕ → Option ℕ) → ℕ → List WarningValue
 rule_warnings allow disallow number =
     warned_beside AllowedAndDisallowed number (allow number)
     ++ warned_beside EmptyDisallow number (disallow number)
 
--- warnings about the rules of these crawlers; `is_empty` holds for the numbers of empty Disallows
+-- `is_empty` holds for the numbers of empty Disallows
 abbrev pub crawler_warnings : (is_empty : ℕ → Bool) → List (List ℕ) → List LineValue → List Label
     → List WarningValue
 crawler_warnings is_empty agents lines labels = flat_map
     (λ label. rule_warnings (conflict is_empty agents lines) (overruled is_empty agents lines) label.number)
     labels
 
--- this warning about a line or a name, if there is a known crawler that may be meant
+-- about a line or a name, if there is a known crawler that may be meant
 abbrev pub warned_of_name : (line : Option ℕ) → (about : Option (List ℕ)) → (meant : Option ℕ)
     → List WarningValue
 warned_of_name line about None = []
 warned_of_name line about (Some crawler) =
     record { line = line; cause = MisspelledName; about = about; detail = Some (Meant crawler) } ∷ []
 
--- warnings about the names in user-agent lines
 abbrev pub name_warning : Label → List WarningValue
 name_warning label = warned_of_name (Some label.number) None (meant_in label.line)
 
 abbrev pub name_warnings : List Label → List WarningValue
 name_warnings labels = flat_map name_warning labels
 
--- warnings about the names of those of these crawlers that the file doesn't name
+-- of the crawlers that the file doesn't name
 abbrev pub agent_warning : List LineValue → List ℕ → List WarningValue
 agent_warning lines agent =
     if is_named agent lines then [] else warned_of_name None (Some agent) (meant agent)
@@ -154,16 +139,14 @@ agent_warning lines agent =
 abbrev pub agent_warnings : List LineValue → List (List ℕ) → List WarningValue
 agent_warnings lines agents = flat_map (agent_warning lines) agents
 
--- the reason and the end of the message about a crawler, at this index, to which its vendor applies the group
--- with this name, or none if it is empty
+-- its vendor applies the group with this name, or none if it is empty
 abbrev pub other_cause : (group : List ℕ) → Cause
 other_cause group = if length group == 0 then GoogleIgnoresStar else GooglebotGroup
 
 abbrev pub other_detail : ℕ → (group : List ℕ) → Option Detail
 other_detail number group = if length group == 0 then None else Some (Group number)
 
--- the warning about the known crawler at this index, if it is among these and its vendor applies another
--- group
+-- if the crawler in this row is among these and its vendor applies another group
 abbrev pub vendor_warning : (everywhere : Bool) → List (List ℕ) → List LineValue → ℕ → Row → List WarningValue
 vendor_warning everywhere agents lines number row =
     if is_given agents row.0 && gets_other lines row.0 row.1
@@ -175,14 +158,14 @@ vendor_warning everywhere agents lines number row =
     } ∷ []
     else []
 
--- warnings about those of the known crawlers, from this index on, that are among these, each once
+-- of the rows from this index on
 abbrev pub vendor_warnings : Bool → List (List ℕ) → List LineValue → ℕ → List Row → List WarningValue
 vendor_warnings everywhere agents lines number [] = []
 vendor_warnings everywhere agents lines number (row ∷ rows) =
     vendor_warning everywhere agents lines number row
     ++ vendor_warnings everywhere agents lines (number + 1) rows
 
--- warnings about the rules of a group or of a crawler as a whole
+-- about the rules of a group or of a crawler as a whole
 abbrev pub group_warnings : Bool → List (List ℕ) → (bodies : List (List ℕ)) → List LineValue → List Label
     → List WarningValue
 group_warnings everywhere agents bodies lines labels =
@@ -194,9 +177,6 @@ group_warnings everywhere agents bodies lines labels =
     ++ ((name_warnings labels ++ agent_warnings lines agents)
     ++ vendor_warnings everywhere agents lines 0 crawlers)))))
 
--- ---- all
-
--- warnings about the file as a whole and the URLs
 abbrev pub general_warnings : FileFacts → (agents urls : List (List ℕ)) → List LineValue → List Label
     → List WarningValue
 general_warnings facts agents urls lines labels =

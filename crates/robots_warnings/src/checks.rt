@@ -28,7 +28,6 @@ use texting_robots::parser::Line;
 /// A warning, and whether its condition holds.
 pub(crate) type Check = (Cause, bool);
 
-/// Checks of a file.
 pub(crate) fn file_checks(facts: FileFacts) -> [Check; 8]
     ensures { result ≡ file_checks facts }
 {
@@ -47,14 +46,13 @@ pub(crate) fn file_checks(facts: FileFacts) -> [Check; 8]
     ]
 }
 
-/// Checks of a URL that the user passed.
 pub(crate) fn url_checks(alloc: Global, url: &str) -> Result<[Check; 1], AllocError>
     ensures { IfOk result (λ checks. checks ≡ url_checks url.now) }
 {
     Ok([(Cause::UrlNotNormal, has_odd_target(alloc, url)?)])
 }
 
-/// Checks of the field name in the content of a directive, which has no colon after it if `lacks_colon` is true.
+/// `lacks_colon`: there is no colon after the field name.
 pub(crate) fn field_checks(body: &[u8], lacks_colon: bool) -> [Check; 2]
     requires { lacks_colon ≡ is_without_colon body.now }
     ensures { result ≡ field_checks body.now }
@@ -65,8 +63,7 @@ pub(crate) fn field_checks(body: &[u8], lacks_colon: bool) -> [Check; 2]
     ]
 }
 
-/// Checks of the white space and the comment after the value of an Allow or a Disallow. Comments are only checked if
-/// `is_in_scope` is true.
+/// Comments are only checked if `is_in_scope` is true.
 pub(crate) fn raw_rule_checks(
     is_in_scope: bool,
     value: &[u8],
@@ -88,7 +85,6 @@ pub(crate) fn raw_rule_checks(
     ]
 }
 
-/// Checks of the value of a user-agent line.
 pub(crate) fn user_agent_checks(value: &[u8]) -> [Check; 2]
     ensures { result ≡ user_agent_checks value.now }
 {
@@ -100,14 +96,12 @@ pub(crate) fn user_agent_checks(value: &[u8]) -> [Check; 2]
     ]
 }
 
-/// Whether a rule with this membership is checked.
 pub(crate) fn is_in_scope_of(everywhere: bool, membership: Membership) -> bool
     ensures { result ≡ is_in_scope_of everywhere membership }
 {
     everywhere || membership == Membership::Own
 }
 
-/// Checks of the value of an Allow or a Disallow: of its start, its characters and its quotes.
 pub(crate) fn form_checks(value: &[u8]) -> [Check; 9]
     ensures { result ≡ form_checks value.now }
 {
@@ -129,7 +123,6 @@ pub(crate) fn form_checks(value: &[u8]) -> [Check; 9]
     ]
 }
 
-/// Checks of what the value of an Allow or a Disallow contains.
 pub(crate) fn content_checks(value: &[u8]) -> [Check; 7]
     ensures { result ≡ content_checks value.now }
 {
@@ -148,7 +141,6 @@ pub(crate) fn content_checks(value: &[u8]) -> [Check; 7]
     ]
 }
 
-/// Checks of the value of a sitemap line.
 pub(crate) fn sitemap_checks(alloc: Global, value: &[u8]) -> Result<[Check; 3], AllocError>
     ensures { IfOk result (λ checks. checks ≡ sitemap_checks value.now) }
 {
@@ -159,7 +151,6 @@ pub(crate) fn sitemap_checks(alloc: Global, value: &[u8]) -> Result<[Check; 3], 
     ])
 }
 
-/// Checks of the tail and the comment of any line.
 pub(crate) fn text_checks(tail: &[u8], comment: &[u8]) -> [Check; 2]
     ensures { result ≡ text_checks tail.now comment.now }
 {
@@ -170,8 +161,8 @@ pub(crate) fn text_checks(tail: &[u8], comment: &[u8]) -> [Check; 2]
     ]
 }
 
-/// Checks of the position of a line; `last` is the number of the last rule or delay, `above` and `delay` are the only
-/// name and the first delay of the group above it, and `from_here` are the lines from this one on.
+/// `last` is the number of the last rule or delay, `above` and `delay` are the only name and the first delay
+/// of the group above the line, and `from_here` are the lines from this one on.
 pub(crate) fn position_checks(
     last: Option<usize>,
     preceding: Preceding,

@@ -23,7 +23,6 @@ use texting_robots::labels::LabeledLine;
 use texting_robots::parser::{Line, file_lines};
 use texting_robots::site::{Site, SiteRule};
 
-/// A set of patterns.
 type Patterns = HashSet<String>;
 
 /// For the number of a line, the crawlers to which it closes the site.
@@ -46,22 +45,19 @@ pub(crate) const SEARCH_ENGINES: [&str; 8] = [
 /// What a crawler may fetch.
 #[derive(Clone, Copy, PartialEq, Eq)]
 pub enum Reach {
-    /// Everything.
     Everything,
     /// Nothing but `/robots.txt`.
     Nothing,
-    /// Possibly a part; it may also be everything or nothing.
+    /// It may also be everything or nothing.
     Part,
 }
 
-/// Whether all bytes are stars or `$`.
 fn are_stars_or_dollars(text: &[u8]) -> bool
     ensures { result ≡ list_all is_star_or_dollar text.now }
 {
     text.iter().all(|byte| *byte == b'*' || *byte == b'$')
 }
 
-/// Whether the value is a star, and then only stars and `$`.
 fn is_anything(value: &[u8]) -> bool
     ensures { result ≡ is_anything value.now }
 {
@@ -71,7 +67,6 @@ fn is_anything(value: &[u8]) -> bool
     }
 }
 
-/// Whether the value is `/`, possibly before a star and then only stars and `$`.
 fn is_root(value: &[u8]) -> bool
     ensures { result ≡ is_root value.now }
 {
@@ -81,7 +76,6 @@ fn is_root(value: &[u8]) -> bool
     }
 }
 
-/// The value without leading stars.
 fn without_stars<'a>(value: &'a [u8]) -> &'a [u8]
     ensures { result.now ≡ without_stars value.now }
 {
@@ -92,15 +86,12 @@ fn without_stars<'a>(value: &'a [u8]) -> &'a [u8]
     rest
 }
 
-/// Whether the value matches every path: it is `/`, or a star and then only stars and `$`, or both, possibly after
-/// stars.
 pub(crate) fn is_whole_site(value: &[u8]) -> bool
     ensures { result ≡ is_whole_site value.now }
 {
     is_anything(value) || is_root(without_stars(value))
 }
 
-/// Whether the rule is a Disallow of the whole site.
 #[tactic(auto, using(crate::proofs::ClosedLemmas::whole_site_escaped))]
 fn is_closing(rule: &SiteRule<'_>) -> bool
     ensures { result ≡ is_closing rule.now }
@@ -108,14 +99,12 @@ fn is_closing(rule: &SiteRule<'_>) -> bool
     !rule.is_allow && is_whole_site(rule.value.as_bytes())
 }
 
-/// Whether the pattern matches no path because of its start or of a `$`.
 fn matches_no_path(pattern: &[u8]) -> bool
     ensures { result ≡ matches_no_path pattern.now }
 {
     begins_oddly(pattern) || has_dollar_inside(pattern)
 }
 
-/// Raises the length that a Disallow must have at least, so that this rule is no rival of it.
 fn raise(
     alloc: Global,
     needed: &mut usize,
@@ -147,7 +136,6 @@ fn needed(alloc: Global, exempt: &Patterns, site: &Site, agent: &str) -> Result<
     Ok(needed)
 }
 
-/// Whether the rule closes the site, if a Disallow must be so long.
 fn closes(needed: usize, rule: &SiteRule<'_>) -> bool
     ensures { (is_exempt : List ℕ → Bool) (rules : List PlacedRule) → IsNeeded is_exempt rules needed
         → result ≡ closes is_exempt rules rule.now }
@@ -155,7 +143,6 @@ fn closes(needed: usize, rule: &SiteRule<'_>) -> bool
     is_closing(rule) && rule.value.len() >= needed
 }
 
-/// The line of the first rule that closes the site to the crawler.
 fn closing_line(
     alloc: Global,
     exempt: &Patterns,
@@ -174,7 +161,6 @@ fn closing_line(
     Ok(None)
 }
 
-/// Whether every rule of the crawler is an Allow.
 fn is_open(site: &Site, agent: &str) -> bool
     ensures { result ≡ list_all is_allow (placed_rules agent.now (file_lines site.now)) }
 {
@@ -186,7 +172,6 @@ fn is_open(site: &Site, agent: &str) -> bool
     true
 }
 
-/// Whether a rule closes the site to the crawler, and no Allow is as long.
 fn is_shut(alloc: Global, site: &Site, agent: &str) -> Result<bool, AllocError>
     ensures { IfOk result (λ is. is
         ≡ is_some (closing_line (λ pattern. false) (placed_rules agent.now (file_lines site.now)))) }
@@ -211,14 +196,12 @@ pub fn reach_of(alloc: Global, site: &Site, agent: &str) -> Result<Reach, AllocE
     Ok(Reach::Part)
 }
 
-/// Whether some byte is a star or `$`.
 fn has_star_or_dollar(text: &[u8]) -> bool
     ensures { result ≡ list_any is_star_or_dollar text.now }
 {
     text.iter().any(|byte| *byte == b'*' || *byte == b'$')
 }
 
-/// Inserts the pattern.
 fn add(patterns: &mut Patterns, text: String) -> Result<(), AllocError>
     ensures { OnOk result ((pattern : List ℕ) → contains_text patterns.new pattern
         ≡ (contains_text patterns.old pattern || bytes_eq (string_bytes text) pattern)) }
@@ -227,7 +210,6 @@ fn add(patterns: &mut Patterns, text: String) -> Result<(), AllocError>
     Ok(())
 }
 
-/// Inserts the path, with and without `$`.
 fn add_both(alloc: Global, patterns: &mut Patterns, path: &str) -> Result<(), AllocError>
     ensures { OnOk result ((pattern : List ℕ) → contains_text patterns.new pattern
         ≡ (contains_text patterns.old pattern
@@ -239,7 +221,6 @@ fn add_both(alloc: Global, patterns: &mut Patterns, path: &str) -> Result<(), Al
     add(patterns, ended)
 }
 
-/// Inserts the path, with and without `$`, if it has no star or `$` itself.
 fn add_path(alloc: Global, patterns: &mut Patterns, path: &str) -> Result<(), AllocError>
     ensures { OnOk result ((pattern : List ℕ) → contains_text patterns.new pattern
         ≡ (contains_text patterns.old pattern || is_literally pattern path.now)) }
@@ -250,7 +231,6 @@ fn add_path(alloc: Global, patterns: &mut Patterns, path: &str) -> Result<(), Al
     add_both(alloc, patterns, path)
 }
 
-/// Inserts the path of the sitemap with this URL, if it has more than `/`.
 fn add_url(alloc: Global, patterns: &mut Patterns, url: &str) -> Result<(), AllocError>
     ensures { OnOk result ((pattern : List ℕ) → contains_text patterns.new pattern
         ≡ (contains_text patterns.old pattern
@@ -263,7 +243,6 @@ fn add_url(alloc: Global, patterns: &mut Patterns, url: &str) -> Result<(), Allo
     Ok(())
 }
 
-/// Inserts the path of the sitemap in the line, if there is one.
 fn add_line(alloc: Global, patterns: &mut Patterns, line: Line<'_>) -> Result<(), AllocError>
     ensures { OnOk result ((pattern : List ℕ) → contains_text patterns.new pattern
         ≡ (contains_text patterns.old pattern
@@ -278,7 +257,6 @@ fn add_line(alloc: Global, patterns: &mut Patterns, line: Line<'_>) -> Result<()
     }
 }
 
-/// The patterns of Allows that leave a site closed.
 fn exempt_patterns(alloc: Global, site: &Site) -> Result<Patterns, AllocError>
     ensures { IfOk result (HasExempt (file_lines site.now)) }
 {
@@ -290,7 +268,7 @@ fn exempt_patterns(alloc: Global, site: &Site) -> Result<Patterns, AllocError>
     Ok(patterns)
 }
 
-/// The same, where these are the exempt patterns of the file.
+/// `exempt` are the exempt patterns of the file.
 fn closing_here(
     alloc: Global,
     exempt: &Patterns,
@@ -304,7 +282,7 @@ fn closing_here(
     closing_line(alloc, exempt, site, agent)
 }
 
-/// The same; none if the crawler's vendor applies another group, or a line has its name and another one is meant.
+/// None if the crawler's vendor applies another group, or a line has its name and another one is meant.
 fn line_closing(
     alloc: Global,
     exempt: &Patterns,
@@ -330,7 +308,6 @@ pub fn is_closed(alloc: Global, site: &Site, agent: &str) -> Result<bool, AllocE
     Ok(line_closing(alloc, &exempt, site, agent)?.is_some())
 }
 
-/// Appends the crawler to those of the line, if there is one.
 fn add_closed<'a>(
     alloc: Global,
     closed: &mut ClosedLines<'a>,
@@ -370,7 +347,6 @@ fn closed_lines<'a>(
     Ok(closed)
 }
 
-/// Whether one of these names is this one, ASCII letters in any case.
 fn is_one_of(names: &[&str], agent: &[u8]) -> bool
     ensures { result ≡ list_any (λ name. str_eq_ignore_ascii_case name.now agent.now) names.now }
 {
@@ -379,7 +355,6 @@ fn is_one_of(names: &[&str], agent: &[u8]) -> bool
         .any(|name| name.as_bytes().eq_ignore_ascii_case(agent))
 }
 
-/// Whether the crawler is `*`, no line names it, or it is that of a large search engine, possibly with a version.
 fn is_major(site: &Site, agent: &str) -> bool
     ensures { result ≡ is_major (file_lines site.now) agent.now }
 {
@@ -388,7 +363,6 @@ fn is_major(site: &Site, agent: &str) -> bool
         || is_one_of(&SEARCH_ENGINES, token_front(agent.as_bytes()))
 }
 
-/// The first of these crawlers that is.
 fn first_major<'a>(site: &Site, agents: &[&'a str]) -> Option<&'a str>
     ensures { option_map (λ agent. agent.now) result
         ≡ slice_get (filter (is_major (file_lines site.now)) (map (λ agent. agent.now) agents.now)) 0 }
@@ -403,7 +377,6 @@ fn first_major<'a>(site: &Site, agents: &[&'a str]) -> Option<&'a str>
     None
 }
 
-/// How many other crawlers a message is about, if there are some.
 fn others(count: usize) -> Option<Detail>
     ensures { result ≡ others count }
 {
@@ -413,7 +386,6 @@ fn others(count: usize) -> Option<Detail>
     Some(Detail::Others(count))
 }
 
-/// Appends the warning about the line with this number, which closes the site to these crawlers, if there are some.
 fn warn_of_agents<'a>(
     found: &mut Found<'a>,
     site: &Site,
@@ -439,7 +411,6 @@ fn warn_of_agents<'a>(
     Ok(())
 }
 
-/// Appends the warning about the line with this number, if it closes the site to a crawler.
 fn warn_of_number<'a>(
     found: &mut Found<'a>,
     site: &Site,
@@ -455,7 +426,6 @@ fn warn_of_number<'a>(
     warn_of_agents(found, site, number, agents)
 }
 
-/// Appends the warnings about those of these lines that close the site to a crawler.
 fn warn_of_lines<'a>(
     found: &mut Found<'a>,
     site: &Site,
@@ -472,7 +442,6 @@ fn warn_of_lines<'a>(
     Ok(())
 }
 
-/// Appends the warnings about lines that close the site to one of these crawlers.
 pub(crate) fn warn_of_closed<'a>(
     alloc: Global,
     found: &mut Found<'a>,

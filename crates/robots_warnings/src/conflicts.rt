@@ -16,10 +16,9 @@ use texting_robots::site::{Site, SiteRule};
 /// For a pattern, as it is compared, the line of the first Allow with it.
 type Lines = HashMap<String, usize>;
 
-/// For the number of a line, another line that it contradicts.
+/// For the number of a line, another line that contradicts it.
 pub(crate) type Others = BTreeMap<usize, usize>;
 
-/// The rule's pattern as it is compared with others, `/` in place of `*`.
 fn compared_pattern(alloc: Global, rule: &SiteRule<'_>) -> Result<String, AllocError>
     ensures { IfOk result (λ pattern. string_bytes pattern ≡ compared rule.now.rule.0) }
 {
@@ -30,7 +29,6 @@ fn compared_pattern(alloc: Global, rule: &SiteRule<'_>) -> Result<String, AllocE
     Ok(pattern)
 }
 
-/// Inserts the line for the pattern, unless the pattern has one.
 fn add_first(lines: &mut Lines, pattern: String, number: usize) -> Result<(), AllocError>
     ensures { OnOk result ((other : List ℕ) → get_by_text lines.new other
         ≡ option_or (get_by_text lines.old other)
@@ -42,7 +40,6 @@ fn add_first(lines: &mut Lines, pattern: String, number: usize) -> Result<(), Al
     Ok(())
 }
 
-/// Inserts the line of the rule for its pattern, if it is an Allow and no empty Disallow.
 fn add_allow(
     alloc: Global,
     lines: &mut Lines,
@@ -76,7 +73,6 @@ fn first_allows(
     Ok(lines)
 }
 
-/// Inserts the other line for the number, if there is one and the number has none.
 fn note(others: &mut Others, number: usize, other: Option<usize>) -> Result<(), AllocError>
     ensures { OnOk result ((n : ℕ) → get nat_cmp others.new n
         ≡ option_or (get nat_cmp others.old n) (if number == n then other else None)) }
@@ -90,7 +86,6 @@ fn note(others: &mut Others, number: usize, other: Option<usize>) -> Result<(), 
     Ok(())
 }
 
-/// The line of the first Allow of the same, if the rule is a Disallow.
 fn allow_beside(
     alloc: Global,
     allowed: &Lines,
@@ -109,7 +104,6 @@ fn allow_beside(
     Ok(allowed.get(pattern.as_str()).copied())
 }
 
-/// Whether the rule is of this kind, its value is `/` or `*`, and it is no empty Disallow.
 #[tactic(auto, using(crate::proofs::RuleLemmas::slash_or_star))]
 fn is_of_all(rule: &SiteRule<'_>, is_allow: bool, empty: &Numbers) -> bool
     ensures { result ≡ is_like (contains nat_cmp empty.now) is_allow (codes "/") rule.now }
@@ -119,7 +113,6 @@ fn is_of_all(rule: &SiteRule<'_>, is_allow: bool, empty: &Numbers) -> bool
         && !empty.contains(&rule.line)
 }
 
-/// The line of the crawler's first such rule.
 fn first_of_all(site: &Site, agent: &str, is_allow: bool, empty: &Numbers) -> Option<usize>
     ensures { result ≡ first_line (is_like (contains nat_cmp empty.now) is_allow (codes "/"))
         (placed_rules agent.now (file_lines site.now)) }
@@ -132,7 +125,6 @@ fn first_of_all(site: &Site, agent: &str, is_allow: bool, empty: &Numbers) -> Op
     None
 }
 
-/// The line of the crawler's first Disallow of `/` or `*`, unless it has an Allow of these.
 fn overruling(site: &Site, agent: &str, empty: &Numbers) -> Option<usize>
     ensures { result ≡ overruling (contains nat_cmp empty.now) (placed_rules agent.now (file_lines site.now)) }
 {
@@ -142,8 +134,8 @@ fn overruling(site: &Site, agent: &str, empty: &Numbers) -> Option<usize>
     }
 }
 
-/// Inserts the lines of the Disallows that apply to the crawler, as does an Allow of the same, and of the empty Disallows
-/// that apply to it, as does such a Disallow.
+/// Inserts the lines of Disallows that contradict an Allow, and of empty Disallows that contradict a
+/// Disallow.
 fn add_others(
     alloc: Global,
     conflicts: &mut Others,
@@ -171,17 +163,15 @@ fn add_others(
     Ok(())
 }
 
-/// What is to be said about lines with rules of some crawlers.
+/// What contradicts rules of some crawlers, by the numbers of their lines.
 #[derive(Drop)]
 pub(crate) struct RuleLines {
-    /// For the Disallows that apply to one of the crawlers, as does an Allow of the same, the line of this Allow.
+    /// For a Disallow, the Allow of the same.
     pub(crate) conflicts: Others,
-    /// For the empty Disallows that apply to one of them, as does a Disallow of `/` or `*` and no Allow of these, the
-    /// line of this Disallow.
+    /// For an empty Disallow, the Disallow of `/` or `*`, if there is no Allow of these.
     pub(crate) overruled: Others,
 }
 
-/// What is to be said about the rules of these crawlers.
 pub(crate) fn rule_lines(
     alloc: Global,
     site: &Site,

@@ -1,5 +1,5 @@
-//! Conditions on what the content of a directive has besides its value: white space, a comment, and the text of a delay.
-//! Those on a raw value are for directives with a colon after the field name.
+//! Conditions on what the content of a directive has besides its value: white space, a comment, and the text
+//! of a delay. Those on a raw value are for directives with a colon.
 ghost use Rattle.std.specs.Prelude.{◌≡◌};
 ghost use Rattle.std.specs.Char.{is_ascii_digit};
 ghost use Rattle.std.specs.List.{list_all, list_any};
@@ -10,8 +10,8 @@ use crate::closed::is_whole_site;
 use crate::field_names::{without_end, without_front};
 use crate::rules::{after_byte, before_byte, begins_oddly, has, is_utf8, place};
 
-/// The tail, which is between the first colon and the comment, and the comment, which starts with `#` and is empty if
-/// there is none.
+/// The tail, which is between the first colon and the comment, and the comment, which starts with `#` or is
+/// empty.
 pub fn split_content<'a>(body: &'a [u8]) -> (&'a [u8], &'a [u8])
     ensures tail { result.0.now ≡ tail_of body.now }
     ensures comment { result.1.now ≡ comment_of body.now }
@@ -20,14 +20,12 @@ pub fn split_content<'a>(body: &'a [u8]) -> (&'a [u8], &'a [u8])
     (after_byte(b':', text), comment)
 }
 
-/// The raw value: the tail without spaces and tabs at both ends.
 fn raw_value<'a>(tail: &'a [u8]) -> &'a [u8]
     ensures { result.now ≡ raw_value tail.now }
 {
     without_end(without_front(tail))
 }
 
-/// Whether other white space than spaces and tabs was dropped around the value of the line.
 pub(crate) fn has_odd_space(value: &[u8], tail: &[u8]) -> bool
     ensures { result ≡ has_odd_space value.now tail.now }
 {
@@ -35,15 +33,12 @@ pub(crate) fn has_odd_space(value: &[u8], tail: &[u8]) -> bool
     !raw.is_empty() && raw != value
 }
 
-/// Whether a comment directly follows the value, which isn't empty.
 fn is_cut(value: &[u8], tail: &[u8], comment: &[u8]) -> bool
     ensures { result ≡ is_cut value.now tail.now comment.now }
 {
     !comment.is_empty() && !value.is_empty() && tail.ends_with(value)
 }
 
-/// Whether a comment leaves a rule for the whole site, or an empty Disallow: it directly follows the value, or nothing
-/// precedes it, and it is written as a path.
 pub(crate) fn is_cut_to_root(value: &[u8], tail: &[u8], comment: &[u8]) -> bool
     ensures { result ≡ is_cut_to_root value.now tail.now comment.now }
 {
@@ -52,28 +47,24 @@ pub(crate) fn is_cut_to_root(value: &[u8], tail: &[u8], comment: &[u8]) -> bool
         && is_whole_site(value)
 }
 
-/// Whether a comment directly follows the value of a rule that is read and matches some paths, but not the whole site.
 pub(crate) fn is_cut_short(value: &[u8], tail: &[u8], comment: &[u8]) -> bool
     ensures { result ≡ is_cut_short value.now tail.now comment.now }
 {
     is_cut(value, tail, comment) && is_utf8(value) && !begins_oddly(value) && !is_whole_site(value)
 }
 
-/// Whether each byte is a digit.
 fn are_all_digits(text: &[u8]) -> bool
     ensures { result ≡ list_all is_ascii_digit text.now }
 {
     text.iter().all(|byte| byte.is_ascii_digit())
 }
 
-/// Whether the text is one or more digits.
 fn are_digits(text: &[u8]) -> bool
     ensures { result ≡ are_digits text.now }
 {
     !text.is_empty() && are_all_digits(text)
 }
 
-/// Whether a delay isn't written as digits, possibly with a point and more digits.
 pub(crate) fn has_odd_delay(tail: &[u8]) -> bool
     ensures { result ≡ has_odd_delay tail.now }
 {
@@ -81,14 +72,12 @@ pub(crate) fn has_odd_delay(tail: &[u8]) -> bool
     !(are_digits(before_byte(b'.', raw)) && (!has(b'.', raw) || are_digits(after_byte(b'.', raw))))
 }
 
-/// Whether the text contains a control character of ASCII other than a tab and DEL.
 fn has_control(text: &[u8]) -> bool
     ensures { result ≡ list_any is_control text.now }
 {
     text.iter().any(|byte| *byte < b' ' && *byte != b'\t')
 }
 
-/// Whether the comment contains such a character or isn't UTF-8.
 pub(crate) fn has_odd_comment(comment: &[u8]) -> bool
     ensures { result ≡ has_odd_comment comment.now }
 {

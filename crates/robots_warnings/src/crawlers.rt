@@ -122,7 +122,7 @@ static WRONG_NAMES: [(&str, &str); 25] = [
     ("CommonCrawl", "CCBot"),
 ];
 
-/// The known crawlers. No other function names the long table, since each that does takes long to prove.
+/// No other function names the long table, since each that does takes long to prove.
 #[tactic(auto, unfolding(crate::specs::Crawlers::crawlers))]
 pub(crate) fn crawlers() -> &'static [Crawler]
     ensures { map row_value result.now ≡ crawlers }
@@ -130,7 +130,6 @@ pub(crate) fn crawlers() -> &'static [Crawler]
     &CRAWLERS
 }
 
-/// The row at this index, or an empty one if there is none.
 fn row_in(rows: &'static [Crawler], number: usize) -> Crawler
     ensures { row_value result ≡ slice_index_or (map row_value rows.now) number ([], []) }
 {
@@ -140,21 +139,18 @@ fn row_in(rows: &'static [Crawler], number: usize) -> Crawler
     }
 }
 
-/// The known crawler at this index.
 pub(crate) fn row_at(number: usize) -> Crawler
     ensures { row_value result ≡ row_at number }
 {
     row_in(crawlers(), number)
 }
 
-/// Whether one of these crawlers has this name, ASCII letters in any case.
 pub(crate) fn is_given(agents: &[&str], name: &str) -> bool
     ensures { result ≡ is_given (map (λ agent. agent.now) agents.now) name.now }
 {
     agents.iter().any(|agent| name.eq_ignore_ascii_case(agent))
 }
 
-/// The value, if it is a text in which a vendor reads the name of this crawler.
 fn value_at_vendor<'a>(agent: &str, value: &'a [u8]) -> Option<&'a str>
     ensures { option_map (λ name. name.now) result ≡ value_at_vendor agent.now value.now }
 {
@@ -165,7 +161,6 @@ fn value_at_vendor<'a>(agent: &str, value: &'a [u8]) -> Option<&'a str>
     }
 }
 
-/// The value of a user-agent line in which a vendor reads the name of this crawler.
 fn name_at_vendor<'a>(agent: &str, line: Line<'a>) -> Option<&'a str>
     ensures { option_map (λ name. name.now) result ≡ name_at_vendor agent.now (by_value line.entry) }
 {
@@ -175,7 +170,6 @@ fn name_at_vendor<'a>(agent: &str, line: Line<'a>) -> Option<&'a str>
     }
 }
 
-/// The value of the first user-agent line in which a vendor reads the name of the crawler.
 fn first_at_vendor<'a>(site: &'a Site, agent: &str) -> Option<&'a str>
     ensures { option_map (λ name. name.now) result ≡ first_at_vendor agent.now (file_lines site.now) }
 {
@@ -187,8 +181,6 @@ fn first_at_vendor<'a>(site: &'a Site, agent: &str) -> Option<&'a str>
     None
 }
 
-/// The name of the group that a vendor applies to a crawler without one of its own, where `group` is in the
-/// crawler's row, if it isn't that of `*`; an empty one for no group, although there is one of `*`.
 fn group_at_vendor<'a>(site: &'a Site, group: &str) -> Option<&'a str>
     ensures { option_map (λ name. name.now) result ≡ group_at_vendor (file_lines site.now) group.now }
 {
@@ -201,15 +193,14 @@ fn group_at_vendor<'a>(site: &'a Site, group: &str) -> Option<&'a str>
     if site.is_named("*") { Some("") } else { None }
 }
 
-/// Whether the vendor of the crawler reads its name nowhere in the file, and applies another group.
 fn gets_other(site: &Site, agent: &str, group: &str) -> bool
     ensures { result ≡ gets_other (file_lines site.now) agent.now group.now }
 {
     first_at_vendor(site, agent).is_none() && group_at_vendor(site, group).is_some()
 }
 
-/// The name of the group that the vendor of a known crawler applies to it, or an empty one for no group, if
-/// it isn't the group that applies here.
+/// The group that the vendor of a known crawler applies to it, or an empty name for no group, if it isn't the
+/// one that applies here.
 pub fn other_group<'a>(site: &'a Site, agent: &str) -> Option<&'a str>
     ensures { option_map (λ group. group.now) result ≡ other_group (file_lines site.now) agent.now }
 {
@@ -225,7 +216,6 @@ pub fn other_group<'a>(site: &'a Site, agent: &str) -> Option<&'a str>
     }
 }
 
-/// The wrong names, each with that of the known crawler that is probably meant.
 #[tactic(auto, unfolding(crate::specs::Crawlers::wrong_names))]
 fn wrong_names() -> &'static [Crawler]
     ensures { map row_value result.now ≡ wrong_names }
@@ -233,7 +223,6 @@ fn wrong_names() -> &'static [Crawler]
     &WRONG_NAMES
 }
 
-/// Whether this is the first name in the row, ASCII letters in any case.
 #[tactic(auto, unfolding(crate::specs::Crawlers::is_row_of))]
 fn is_row_of(value: &[u8], row: &Crawler) -> bool
     ensures { result ≡ is_row_of value.now (row_value row.now) }
@@ -241,7 +230,6 @@ fn is_row_of(value: &[u8], row: &Crawler) -> bool
     row.0.as_bytes().eq_ignore_ascii_case(value)
 }
 
-/// The second name in the first of these rows that has this one.
 fn name_for(rows: &'static [Crawler], value: &[u8]) -> Option<&'static str>
     ensures { option_map (λ name. name.now) result ≡ name_for value.now (map row_value rows.now) }
 {
@@ -253,7 +241,6 @@ fn name_for(rows: &'static [Crawler], value: &[u8]) -> Option<&'static str>
     None
 }
 
-/// After how many edits a name is still recognized.
 fn most_edits(name: &str) -> usize
     ensures { result ≡ most_edits name.now }
 {
@@ -264,7 +251,7 @@ fn most_edits(name: &str) -> usize
     }
 }
 
-/// Whether the value begins with the letter that the name begins with, and is made of it by so many edits.
+/// Whether the value has the name's first letter, and is made of the name by few edits.
 pub fn is_near(alloc: Global, value: &[u8], name: &str) -> Result<bool, AllocError>
     ensures { IfOk result (λ answer. answer ≡ is_near value.now name.now) }
 {
@@ -280,7 +267,6 @@ pub fn is_near(alloc: Global, value: &[u8], name: &str) -> Result<bool, AllocErr
     Ok(generic_damerau_levenshtein(alloc, &value, &name)? <= most)
 }
 
-/// Whether the crawler in this row is probably meant: its name is the other one, or near the value or its start.
 #[tactic(auto, unfolding(crate::specs::Crawlers::is_meant))]
 fn is_meant(alloc: Global, value: &[u8], other: &str, row: &Crawler) -> Result<bool, AllocError>
     ensures { IfOk result (λ answer. answer ≡ is_meant value.now other.now (row_value row.now)) }
@@ -292,7 +278,6 @@ fn is_meant(alloc: Global, value: &[u8], other: &str, row: &Crawler) -> Result<b
     )
 }
 
-/// Whether one of these rows has this name.
 fn has_name(rows: &[Crawler], name: &[u8]) -> bool
     ensures { result ≡ list_any (λ row. str_eq_ignore_ascii_case name.now row.0.now) rows.now }
 {
@@ -300,14 +285,12 @@ fn has_name(rows: &[Crawler], name: &[u8]) -> bool
         .any(|row| name.eq_ignore_ascii_case(row.0.as_bytes()))
 }
 
-/// Whether this is the name of a known crawler, ASCII letters in any case.
 fn is_known(name: &[u8]) -> bool
     ensures { result ≡ is_known name.now }
 {
     has_name(crawlers(), name)
 }
 
-/// The index of the first of these rows whose crawler is probably meant.
 fn first_meant(
     alloc: Global,
     rows: &[Crawler],
@@ -325,8 +308,8 @@ fn first_meant(
     Ok(None)
 }
 
-/// The index of the crawler that the value of a user-agent line probably means, if neither the value nor the
-/// product token that it begins with is the name of a known one.
+/// The index of the crawler that is probably meant, if neither the value nor its start is the name of a known
+/// one.
 pub(crate) fn meant(alloc: Global, value: &[u8]) -> Result<Option<usize>, AllocError>
     ensures { IfOk result (λ found. found ≡ meant value.now) }
 {
@@ -337,7 +320,6 @@ pub(crate) fn meant(alloc: Global, value: &[u8]) -> Result<Option<usize>, AllocE
     first_meant(alloc, crawlers(), value, other)
 }
 
-/// The same for any line.
 pub(crate) fn meant_in(alloc: Global, line: Line<'_>) -> Result<Option<usize>, AllocError>
     ensures { IfOk result (λ found. found ≡ meant_in (by_value line.entry)) }
 {
@@ -347,7 +329,6 @@ pub(crate) fn meant_in(alloc: Global, line: Line<'_>) -> Result<Option<usize>, A
     }
 }
 
-/// Appends the warning about a line or a name, if there is a known crawler that may be meant.
 fn warn_of_name<'a>(
     found: &mut Found<'a>,
     line: Option<usize>,
@@ -369,7 +350,6 @@ fn warn_of_name<'a>(
     Ok(())
 }
 
-/// Appends the warnings about the names in user-agent lines.
 fn warn_of_names(
     alloc: Global,
     found: &mut Found<'_>,
@@ -388,7 +368,6 @@ fn warn_of_names(
     Ok(())
 }
 
-/// Appends the warning about the name of a crawler, if the file doesn't name it.
 fn warn_of_agent<'a>(
     alloc: Global,
     found: &mut Found<'a>,
@@ -403,7 +382,6 @@ fn warn_of_agent<'a>(
     warn_of_name(found, None, Some(agent), meant(alloc, agent.as_bytes())?)
 }
 
-/// Appends the warnings about the names of those of these crawlers that the file doesn't name.
 fn warn_of_agents<'a>(
     alloc: Global,
     found: &mut Found<'a>,
@@ -419,7 +397,6 @@ fn warn_of_agents<'a>(
     Ok(())
 }
 
-/// Appends both.
 pub(crate) fn warn_of_all_names<'a>(
     alloc: Global,
     found: &mut Found<'a>,
@@ -434,7 +411,6 @@ pub(crate) fn warn_of_all_names<'a>(
     warn_of_agents(alloc, found, site, agents)
 }
 
-/// Appends the warning about the known crawler at this index, if it is among these and its vendor applies another group.
 fn warn_of_vendor(
     found: &mut Found<'_>,
     everywhere: bool,
@@ -464,7 +440,6 @@ fn warn_of_vendor(
     Ok(())
 }
 
-/// Appends the warnings about those of the known crawlers in these rows that are among these, each once.
 pub(crate) fn warn_of_vendors(
     found: &mut Found<'_>,
     everywhere: bool,

@@ -12,7 +12,7 @@ use std::collections::BTreeSet;
 use texting_robots::labels::LabeledLine;
 use texting_robots::parser::{Line, file_bodies};
 
-/// Whether the line with this content is an empty Disallow.
+/// Whether this is an empty Disallow.
 pub fn is_empty_disallow(line: Line<'_>, body: &[u8]) -> bool
     ensures { result ≡ is_empty_disallow (by_value line.entry) body.now }
 {
@@ -22,7 +22,6 @@ pub fn is_empty_disallow(line: Line<'_>, body: &[u8]) -> bool
     }
 }
 
-/// The numbers of the empty Disallows of a file, whose lines are given with their labels.
 pub(crate) fn empty_disallows(
     alloc: Global,
     labels: &[LabeledLine<'_>],

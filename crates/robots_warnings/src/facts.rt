@@ -16,9 +16,8 @@ use texting_robots::robot::FILE_LIMIT;
 /// Which kinds of lines a file has.
 #[derive(Clone, Copy, PartialEq, Eq)]
 pub struct LineKinds {
-    /// A line that is neither empty nor a comment.
+    /// Neither empty nor a comment.
     pub text: bool,
-    /// A user-agent line.
     pub user_agent: bool,
     /// An Allow or a Disallow.
     pub rule: bool,
@@ -26,27 +25,21 @@ pub struct LineKinds {
     pub extra: bool,
 }
 
-/// What the warnings have to know about a file as a whole.
 #[derive(Clone, Copy, PartialEq, Eq)]
 pub struct FileFacts {
     pub kinds: LineKinds,
-    /// The file has no directive, but some line that isn't empty or a comment, and looks like HTML.
+    /// There is no directive, but some line that isn't empty or a comment, and the file looks like HTML.
     pub is_html: bool,
     /// The same, but it looks like UTF-16 and not like HTML.
     pub is_utf_16: bool,
     /// The same, but it looks like neither.
     pub is_other_text: bool,
-    /// The file is larger than the size limit.
     pub is_too_large: bool,
-    /// The size limit is within a line.
     pub has_cut_line: bool,
-    /// The file starts with a part of a byte order mark.
     pub has_damaged_mark: bool,
-    /// A NUL is within the size limit.
     pub has_nul: bool,
 }
 
-/// Whether a line is neither empty nor a comment.
 pub(crate) fn has_text(line: Line<'_>) -> bool
     ensures { result ≡ has_text (by_value line.entry) }
 {
@@ -56,7 +49,6 @@ pub(crate) fn has_text(line: Line<'_>) -> bool
     }
 }
 
-/// Whether it is a directive of another kind.
 fn is_extra(line: Line<'_>) -> bool
     ensures { result ≡ is_extra (by_value line.entry) }
 {
@@ -66,7 +58,6 @@ fn is_extra(line: Line<'_>) -> bool
     )
 }
 
-/// The kinds so far, and that of one more line.
 fn kinds_with(kinds: LineKinds, line: Line<'_>) -> LineKinds
     ensures { result ≡ kinds_with kinds (by_value line.entry) }
 {
@@ -78,7 +69,6 @@ fn kinds_with(kinds: LineKinds, line: Line<'_>) -> LineKinds
     }
 }
 
-/// The kinds of the lines.
 #[tactic(auto, using(crate::proofs::StepLemmas::kinds_next))]
 fn kinds_of(labels: &[LabeledLine<'_>]) -> LineKinds
     ensures { result ≡ kinds_of (lines_of (map label_by_value labels.now)) }
@@ -95,14 +85,12 @@ fn kinds_of(labels: &[LabeledLine<'_>]) -> LineKinds
     kinds
 }
 
-/// Whether the byte is NUL, if it has to be.
 fn is_as_due(is_due: bool, byte: u8) -> bool
     ensures { result ≡ (not is_due || byte == 0) }
 {
     !is_due || byte == 0
 }
 
-/// Whether every other byte is NUL, from the first one on if `here`, else from the second one on.
 #[tactic(auto, using(crate::proofs::StepLemmas::nul_from))]
 fn has_nuls(here: bool, bytes: &[u8]) -> bool
     ensures { result ≡ nul_at_every_other here bytes.now }
@@ -117,7 +105,6 @@ fn has_nuls(here: bool, bytes: &[u8]) -> bool
     true
 }
 
-/// Whether the file looks like UTF-16.
 fn seems_utf_16(file: &[u8]) -> bool
     ensures { result ≡ seems_utf_16 file.now }
 {
@@ -134,7 +121,6 @@ pub fn without_mark<'a>(text: &'a [u8]) -> &'a [u8]
     text.strip_prefix(b"\xEF\xBB\xBF").unwrap_or(text)
 }
 
-/// The text without spaces, tabs, CRs and LFs at its start.
 fn without_white<'a>(text: &'a [u8]) -> &'a [u8]
     ensures { result.now ≡ without_white text.now }
 {
@@ -145,22 +131,19 @@ fn without_white<'a>(text: &'a [u8]) -> &'a [u8]
     rest
 }
 
-/// Whether the file looks like HTML.
 fn seems_html(file: &[u8]) -> bool
     ensures { result ≡ seems_html file.now }
 {
     without_white(without_mark(file)).starts_with(b"<")
 }
 
-/// Whether the file starts with a part of a byte order mark.
 fn has_damaged_mark(file: &[u8]) -> bool
     ensures { result ≡ has_damaged_mark file.now }
 {
     matches!(file, [0xEF | 0xBB | 0xBF, ..]) && !file.starts_with(b"\xEF\xBB\xBF")
 }
 
-/// Whether one of the bytes is NUL. It tests all bytes without an early exit, so that the compiler can vectorize the
-/// loop.
+/// All bytes are tested without an early exit, so that the compiler can vectorize the loop.
 fn is_nul_among(bytes: &[u8]) -> bool
     ensures { result ≡ list_any (λ b. b == 0) bytes.now }
 {
@@ -171,35 +154,30 @@ fn is_nul_among(bytes: &[u8]) -> bool
     is
 }
 
-/// Whether a NUL is within the size limit.
 fn has_nul(file: &[u8]) -> bool
     ensures { result ≡ has_nul file.now }
 {
     is_nul_among(counted(file))
 }
 
-/// Whether a file with these kinds of lines has no directive, but some line that isn't empty or a comment.
 fn is_unknown(kinds: LineKinds) -> bool
     ensures { result ≡ is_unknown kinds }
 {
     kinds.text && !(kinds.user_agent || kinds.rule || kinds.extra)
 }
 
-/// Whether the file is larger than the size limit.
 pub(crate) fn is_too_large(file: &[u8]) -> bool
     ensures { result ≡ is_too_large file.now }
 {
     file.len() > FILE_LIMIT
 }
 
-/// Whether the byte is read as the end of a line, or as a part of it.
 fn ends_line(byte: u8) -> bool
     ensures { result ≡ ends_line byte }
 {
     matches!(byte, b'\r' | b'\n' | 0)
 }
 
-/// Whether the size limit is within a line.
 fn has_cut_line(file: &[u8]) -> bool
     ensures { result ≡ has_cut_line file.now }
 {
@@ -226,7 +204,6 @@ pub fn facts_of(file: &[u8], labels: &[LabeledLine<'_>]) -> FileFacts
     }
 }
 
-/// Whether the file seems to be something else than a robots.txt file, so that its lines aren't checked.
 pub(crate) fn suppresses_line_warnings(facts: FileFacts) -> bool
     ensures { result ≡ suppresses_line_warnings facts }
 {

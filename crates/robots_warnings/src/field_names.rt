@@ -1,4 +1,4 @@
-//! Field names: which one was probably intended in an ignored line, and what is unusual about that of a directive.
+//! Field names: which one was probably intended in an ignored line, and what is unusual in a directive.
 ghost use Rattle.std.specs.Prelude.{◌≡◌, ◌≤◌, IfOk, length, map};
 ghost use Rattle.std.specs.List.{list_all, list_any, position_or_len};
 ghost use Rattle.robots_warnings.specs.FieldNames.{after_seam, begins_field, begins_inner_field, begins_with};
@@ -42,7 +42,6 @@ const UNSUPPORTED: [(&str, Cause); 10] = [
     ("comment", Cause::CommentLine),
 ];
 
-/// The kinds of directives.
 const KINDS: [Kind; 5] = [
     Kind::UserAgent,
     Kind::Allow,
@@ -51,7 +50,6 @@ const KINDS: [Kind; 5] = [
     Kind::CrawlDelay,
 ];
 
-/// The text without leading spaces and tabs.
 pub(crate) fn without_front<'a>(text: &'a [u8]) -> &'a [u8]
     ensures { result.now ≡ without_front text.now }
 {
@@ -62,7 +60,6 @@ pub(crate) fn without_front<'a>(text: &'a [u8]) -> &'a [u8]
     rest
 }
 
-/// The text without trailing spaces and tabs.
 pub(crate) fn without_end<'a>(text: &'a [u8]) -> &'a [u8]
     ensures { result.now ≡ without_end text.now }
 {
@@ -73,21 +70,18 @@ pub(crate) fn without_end<'a>(text: &'a [u8]) -> &'a [u8]
     rest
 }
 
-/// The text before the first such byte, or all of it, without spaces and tabs at both ends.
 fn name_before<'a>(byte: u8, body: &'a [u8]) -> &'a [u8]
     ensures { result.now ≡ name_before byte body.now }
 {
     without_end(without_front(before_byte(byte, body)))
 }
 
-/// The text before the first colon, or all of it, without spaces and tabs at both ends.
 fn name_in<'a>(body: &'a [u8]) -> &'a [u8]
     ensures { result.now ≡ name_in body.now }
 {
     name_before(b':', body)
 }
 
-/// The index of the first space or tab, or the length of the text if there is none.
 fn word_len(text: &[u8]) -> usize
     ensures value { result ≡ position_or_len is_space_or_tab text.now }
     ensures within { result ≤ length text.now }
@@ -97,7 +91,6 @@ fn word_len(text: &[u8]) -> usize
         .count()
 }
 
-/// The first token: the text up to the next space or tab, without leading ones.
 fn first_word<'a>(body: &'a [u8]) -> &'a [u8]
     ensures { result.now ≡ first_word body.now }
 {
@@ -105,14 +98,12 @@ fn first_word<'a>(body: &'a [u8]) -> &'a [u8]
     &text[..word_len(text)]
 }
 
-/// Whether the token is the name, ignoring ASCII case.
 fn is_name(name: &str, word: &[u8]) -> bool
     ensures { result ≡ is_name name.now word.now }
 {
     word.eq_ignore_ascii_case(name.as_bytes())
 }
 
-/// Whether the token starts with the name, ignoring ASCII case.
 #[tactic(auto, unfolding(crate::specs::FieldNames::begins_with))]
 fn begins_with(name: &str, word: &[u8]) -> bool
     ensures { result ≡ begins_with name.now word.now }
@@ -120,7 +111,6 @@ fn begins_with(name: &str, word: &[u8]) -> bool
     is_name(name, first(name.len(), word))
 }
 
-/// Whether the token is one of the accepted names of this kind of directive.
 fn is_accepted(kind: Kind, word: &[u8]) -> bool
     ensures { result ≡ is_accepted kind word.now }
 {
@@ -132,8 +122,6 @@ fn is_accepted(kind: Kind, word: &[u8]) -> bool
     false
 }
 
-/// Whether two or more bytes follow the name in the token, and the first of them is a letter, or after `allow` and
-/// `disallow` also `-` or `_`.
 fn goes_on(name: &str, word: &[u8]) -> bool
     ensures { result ≡ goes_on name.now word.now }
 {
@@ -145,8 +133,6 @@ fn goes_on(name: &str, word: &[u8]) -> bool
     }
 }
 
-/// Whether the token starts with the name and doesn't go on, or is similar to it: in lower case, it has an
-/// edit distance of at most 2 from it.
 fn may_mean(alloc: Global, name: &str, word: &[u8]) -> Result<bool, AllocError>
     ensures { IfOk result (λ answer. answer ≡ may_mean name.now word.now) }
 {
@@ -160,7 +146,6 @@ fn may_mean(alloc: Global, name: &str, word: &[u8]) -> Result<bool, AllocError>
     Ok(generic_levenshtein(alloc, &lowered, name.as_bytes())? <= 2)
 }
 
-/// The warning for the first of these names that is the field name `name` or the first token `word`.
 #[tactic(auto, unfolding(crate::specs::FieldNames::is_either))]
 fn first_in(names: &[(&str, Cause)], name: &[u8], word: &[u8]) -> Option<Cause>
     ensures { result ≡ first_that (is_either name.now word.now) (map name_value names.now) }
@@ -173,7 +158,6 @@ fn first_in(names: &[(&str, Cause)], name: &[u8], word: &[u8]) -> Option<Cause>
     None
 }
 
-/// Whether a line's field name `name`, or its first token `word`, may mean the known name.
 #[tactic(auto, unfolding(crate::specs::FieldNames::may_either_mean))]
 fn may_either_mean(alloc: Global, name: &[u8], word: &[u8], known: &str) -> Result<bool, AllocError>
     ensures { IfOk result (λ answer. answer ≡ may_either_mean name.now word.now known.now) }
@@ -181,7 +165,6 @@ fn may_either_mean(alloc: Global, name: &[u8], word: &[u8], known: &str) -> Resu
     Ok(may_mean(alloc, known, name)? || may_mean(alloc, known, word)?)
 }
 
-/// The warning for the first directive that one of the two may mean.
 fn directive_in(alloc: Global, name: &[u8], word: &[u8]) -> Result<Option<Cause>, AllocError>
     ensures { IfOk result (λ cause. cause ≡ directive_in name.now word.now) }
 {
@@ -193,21 +176,18 @@ fn directive_in(alloc: Global, name: &[u8], word: &[u8]) -> Result<Option<Cause>
     Ok(None)
 }
 
-/// Whether the byte can occur in a host name with a port.
 fn is_host_byte(byte: u8) -> bool
     ensures { result ≡ is_host_byte byte }
 {
     byte.is_ascii_alphanumeric() || matches!(byte, b'-' | b'.' | b':')
 }
 
-/// Whether each byte can.
 fn are_host_bytes(text: &[u8]) -> bool
     ensures { result ≡ list_all is_host_byte text.now }
 {
     text.iter().all(|byte| is_host_byte(*byte))
 }
 
-/// Whether what is between the colon and a comment seems to be a host name or an http(s) URL.
 fn has_host(body: &[u8]) -> bool
     ensures { result ≡ has_host body.now }
 {
@@ -215,7 +195,6 @@ fn has_host(body: &[u8]) -> bool
     begins_as_url(value) || (!value.is_empty() && are_host_bytes(value))
 }
 
-/// The warning for an ignored line with this content.
 pub(crate) fn meant_by(alloc: Global, body: &[u8]) -> Result<Cause, AllocError>
     ensures { IfOk result (λ cause. cause ≡ meant_by body.now) }
 {
@@ -241,36 +220,30 @@ pub(crate) fn meant_by(alloc: Global, body: &[u8]) -> Result<Cause, AllocError>
     }
 }
 
-/// Whether the text starts with one of these names.
 fn begins_with_any(names: &[(&str, Cause)], text: &[u8]) -> bool
     ensures { result ≡ list_any (λ row. begins_with row.0.now text.now) names.now }
 {
     names.iter().any(|row| begins_with(row.0, text))
 }
 
-/// Whether a directive with this content starts with none of the usual names.
 pub(crate) fn is_misspelled(body: &[u8]) -> bool
     ensures { result ≡ is_misspelled body.now }
 {
     !begins_with_any(&DIRECTIVES, without_front(body))
 }
 
-/// Whether the text starts with the name and a colon.
 fn begins_field(name: &str, text: &[u8]) -> bool
     ensures { result ≡ begins_field name.now text.now }
 {
     begins_with(name, text) && text.get(name.len()) == Some(&b':')
 }
 
-/// Whether the text starts with one of these names and a colon.
 fn begins_one_field(names: &[(&str, Cause)], text: &[u8]) -> bool
     ensures { result ≡ list_any (λ row. begins_field row.0.now text.now) names.now }
 {
     names.iter().any(|row| begins_field(row.0, text))
 }
 
-/// The text without what may be the end of a line before another one was joined to it; empty if it starts
-/// with nothing that may.
 fn after_seam<'a>(text: &'a [u8]) -> &'a [u8]
     ensures { result.now ≡ after_seam text.now }
 {
@@ -284,22 +257,18 @@ fn after_seam<'a>(text: &'a [u8]) -> &'a [u8]
     }
 }
 
-/// Whether another line seems to begin: with `User-agent` and a colon, or after such an end, with any of the
-/// usual names and a colon.
 pub(crate) fn begins_inner_field(text: &[u8]) -> bool
     ensures { result ≡ begins_inner_field text.now }
 {
     begins_field("user-agent", text) || begins_one_field(&DIRECTIVES, after_seam(text))
 }
 
-/// Whether the token is an accepted name of a directive.
 fn is_any_accepted(word: &[u8]) -> bool
     ensures { result ≡ is_any_accepted word.now }
 {
     KINDS.iter().any(|kind| is_accepted(*kind, word))
 }
 
-/// Whether a directive with this content has no colon after the field name.
 pub(crate) fn is_without_colon(body: &[u8]) -> bool
     ensures { result ≡ is_without_colon body.now }
 {

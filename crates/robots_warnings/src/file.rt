@@ -7,7 +7,6 @@ use std::alloc::{AllocError, Global};
 use texting_robots::labels::{LabeledLine, labeled_lines};
 use texting_robots::robot::FILE_LIMIT;
 
-/// The first bytes of a text, as many as `count`, or all if it is shorter.
 pub(crate) fn first(count: usize, text: &[u8]) -> &[u8]
     ensures { result.now ≡ take count text.now }
 {
@@ -21,7 +20,7 @@ pub fn counted<'a>(file: &'a [u8]) -> &'a [u8]
     first(FILE_LIMIT, file)
 }
 
-/// The lines of a file, each with its number and its membership in the crawler's group.
+/// The lines of a file with their membership in the crawler's group.
 pub fn labels_for<'a>(
     alloc: Global,
     agent: &str,
@@ -32,7 +31,7 @@ pub fn labels_for<'a>(
     labeled_lines(agent, counted(file)).collect(alloc)
 }
 
-/// Whether the line content is empty: only spaces and tabs, possibly followed by a comment.
+/// Whether there are only spaces and tabs, possibly followed by a comment.
 #[tactic(auto, using(crate::proofs::StepLemmas::blank_at))]
 pub fn is_blank(body: &[u8]) -> bool
     ensures { result ≡ is_blank body.now }

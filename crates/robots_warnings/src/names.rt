@@ -5,10 +5,9 @@ ghost use Rattle.robots_warnings.specs.Internal.Names.{AddsName};
 use std::alloc::{AllocError, Global};
 use std::collections::BTreeSet;
 
-/// A set of names in lower case.
 pub type Names = BTreeSet<Vec<u8>>;
 
-/// Inserts a name, and returns whether it is a new one.
+/// The result is whether the name is new.
 pub fn add_name(alloc: Global, names: &mut Names, name: &[u8]) -> Result<bool, AllocError>
     ensures { IfOk result (λ is_new. AddsName names.old names.new name.now is_new) }
 {

@@ -11,7 +11,7 @@ use std::collections::BTreeSet;
 use texting_robots::labels::LabeledLine;
 use texting_robots::parser::{Line, file_lines};
 
-/// Inserts the name of a user-agent line, and returns whether it is new; `false` for other lines.
+/// The result is whether the name of a user-agent line is new; `false` for other lines.
 fn insert_name(alloc: Global, names: &mut Names, line: Line<'_>) -> Result<bool, AllocError>
     ensures { IfOk result (λ is_new. AddsLine names.old names.new (by_value line.entry) is_new) }
 {
@@ -21,7 +21,6 @@ fn insert_name(alloc: Global, names: &mut Names, line: Line<'_>) -> Result<bool,
     }
 }
 
-/// The names in these lines.
 #[tactic(auto, using(crate::proofs::SeenLemmas::read_more))]
 fn names_read(alloc: Global, labels: &[LabeledLine<'_>]) -> Result<Names, AllocError>
     ensures { IfOk result (λ names. HasNames names (lines_of (map label_by_value labels.now))) }
@@ -33,8 +32,7 @@ fn names_read(alloc: Global, labels: &[LabeledLine<'_>]) -> Result<Names, AllocE
     Ok(names)
 }
 
-/// The numbers of the user-agent lines that are the first in the file to have their name, and whose name isn't in
-/// `labels`, the lines within the size limit.
+/// `labels` are the lines within the size limit.
 pub(crate) fn names_past_limit(
     alloc: Global,
     file: &[u8],

@@ -5,10 +5,8 @@ ghost use Rattle.std.specs.{BTreeSet.contains, Ordering.nat_cmp};
 use std::alloc::AllocError;
 use std::collections::BTreeSet;
 
-/// A set of line numbers.
 pub(crate) type Numbers = BTreeSet<usize>;
 
-/// Inserts the number if `holds` is true.
 pub(crate) fn insert_if(numbers: &mut Numbers, holds: bool, number: usize) -> Result<(), AllocError>
     ensures { OnOk result ((other : ℕ) → contains nat_cmp numbers.new other
         ≡ (contains nat_cmp numbers.old other || (holds && number == other))) }
@@ -19,7 +17,6 @@ pub(crate) fn insert_if(numbers: &mut Numbers, holds: bool, number: usize) -> Re
     Ok(())
 }
 
-/// Appends the number if `holds` is true.
 pub(crate) fn push_if(found: &mut Vec<usize>, holds: bool, number: usize) -> Result<(), AllocError>
     ensures { OnOk result (found.new.items ≡ found.old.items ++ (if holds then number ∷ [] else [])) }
 {

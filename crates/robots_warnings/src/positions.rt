@@ -16,15 +16,13 @@ use texting_robots::parser::Line;
 /// What precedes a line, as far as it matters to a user-agent line.
 #[derive(Clone, Copy, PartialEq, Eq)]
 pub enum Preceding {
-    /// Neither of the following.
     Other,
-    /// A user-agent line, with no rule or delay after it.
+    /// With no rule or delay after it.
     Agent,
-    /// A user-agent line, with delays but no rule after it.
+    /// With delays but no rule after it.
     Delay,
 }
 
-/// What precedes the next line, determined by this line and what precedes it.
 pub(crate) fn preceding_with(preceding: Preceding, line: Line<'_>) -> Preceding
     ensures { result ≡ preceding_with preceding (by_value line.entry) }
 {
@@ -39,7 +37,7 @@ pub(crate) fn preceding_with(preceding: Preceding, line: Line<'_>) -> Preceding
     }
 }
 
-/// The first delay of the line's group in this line and those above it; `first` is that of the lines above it.
+/// `first` is the first delay of the group in the lines above this one.
 pub(crate) fn first_delay(first: Option<u64>, line: Line<'_>) -> Option<u64>
     ensures { result ≡ first_delay first (by_value line.entry) }
 {
@@ -50,8 +48,7 @@ pub(crate) fn first_delay(first: Option<u64>, line: Line<'_>) -> Option<u64>
     }
 }
 
-/// The name in the user-agent lines since the last rule above the next line, if there is only one such line; `name` is
-/// that for this line.
+/// `name` is the result for this line.
 pub(crate) fn sole_name<'a>(
     preceding: Preceding,
     name: Option<&'a [u8]>,
@@ -67,7 +64,6 @@ pub(crate) fn sole_name<'a>(
     }
 }
 
-/// The number of the last rule or delay.
 #[tactic(auto, using(crate::proofs::StepLemmas::last_from))]
 pub(crate) fn last_group(labels: &[LabeledLine<'_>]) -> Option<usize>
     ensures { result ≡ last_group (map label_by_value labels.now) }
@@ -82,7 +78,6 @@ pub(crate) fn last_group(labels: &[LabeledLine<'_>]) -> Option<usize>
     last
 }
 
-/// Whether the line is a user-agent line with no rule or delay after it.
 pub(crate) fn is_empty_group(last: Option<usize>, labeled: &LabeledLine<'_>) -> bool
     ensures { result ≡ is_empty_group last (label_by_value labeled.now) }
 {
@@ -95,7 +90,6 @@ pub(crate) fn is_empty_group(last: Option<usize>, labeled: &LabeledLine<'_>) -> 
     }
 }
 
-/// Whether these lines begin with user-agent lines, and a rule follows in their group.
 fn begin_with_rules(labels: &[LabeledLine<'_>]) -> bool
     ensures { result ≡ begin_with_rules false (lines_of (map label_by_value labels.now)) }
 {
@@ -112,14 +106,12 @@ fn begin_with_rules(labels: &[LabeledLine<'_>]) -> bool
     false
 }
 
-/// Whether the two names are the same, ASCII letters in any case.
 fn is_same_name(one: &[u8], other: &[u8]) -> bool
     ensures { result ≡ str_eq_ignore_ascii_case one.now other.now }
 {
     one.eq_ignore_ascii_case(other)
 }
 
-/// Whether these lines begin with user-agent lines, one of which has this name.
 fn begin_with_name(name: &[u8], labels: &[LabeledLine<'_>]) -> bool
     ensures { result ≡ begin_with_name name.now (lines_of (map label_by_value labels.now)) }
 {
@@ -134,7 +126,6 @@ fn begin_with_name(name: &[u8], labels: &[LabeledLine<'_>]) -> bool
     false
 }
 
-/// Whether one of these lines names `*`, and no rule is above it.
 pub(crate) fn name_star(labels: &[LabeledLine<'_>]) -> bool
     ensures { result ≡ name_star (lines_of (map label_by_value labels.now)) }
 {
@@ -149,7 +140,6 @@ pub(crate) fn name_star(labels: &[LabeledLine<'_>]) -> bool
     false
 }
 
-/// Whether the line has nothing but white space.
 fn is_bare(line: Line<'_>) -> bool
     ensures { result ≡ is_bare (by_value line.entry) }
 {
@@ -159,7 +149,6 @@ fn is_bare(line: Line<'_>) -> bool
     }
 }
 
-/// Whether the first of these lines has.
 fn begin_bare(labels: &[LabeledLine<'_>]) -> bool
     ensures { result ≡ begin_bare (lines_of (map label_by_value labels.now)) }
 {
@@ -169,8 +158,6 @@ fn begin_bare(labels: &[LabeledLine<'_>]) -> bool
     }
 }
 
-/// Whether a user-agent line follows, with neither a rule nor a delay above it, but with a sitemap, an
-/// ignored line, or a bare line, unless another one follows.
 fn reach_name(labels: &[LabeledLine<'_>]) -> bool
     ensures { result ≡ reach_name false false (lines_of (map label_by_value labels.now)) }
 {
@@ -188,8 +175,6 @@ fn reach_name(labels: &[LabeledLine<'_>]) -> bool
     false
 }
 
-/// Whether these lines begin with a user-agent line, and such a line follows, which belongs to the same
-/// group.
 pub(crate) fn are_joined(labels: &[LabeledLine<'_>]) -> bool
     ensures { result ≡ are_joined (lines_of (map label_by_value labels.now)) }
 {
@@ -199,8 +184,7 @@ pub(crate) fn are_joined(labels: &[LabeledLine<'_>]) -> bool
     }
 }
 
-/// Whether the line is a user-agent line that only delays separate from one above it, and its group has rules, but
-/// doesn't have `above`, the only name above it. `from_here` are the lines from this one on.
+/// `above` is the only name above the line. `from_here` are the lines from this one on.
 pub(crate) fn is_split(
     preceding: Preceding,
     above: Option<&[u8]>,
@@ -219,7 +203,6 @@ pub(crate) fn is_split(
         }
 }
 
-/// Whether the line is a delay in a group, and differs from the first delay of this group.
 pub(crate) fn is_other_delay(first: Option<u64>, labeled: &LabeledLine<'_>) -> bool
     ensures { result ≡ is_other_delay first (label_by_value labeled.now) }
 {

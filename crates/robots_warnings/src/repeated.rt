@@ -19,7 +19,6 @@ pub(crate) struct Seen<'a> {
     pub(crate) disallows: Values<'a>,
 }
 
-/// No rules.
 pub(crate) fn nothing<'a>(alloc: Global) -> Seen<'a>
     ensures { HasSeen result [] }
 {
@@ -29,14 +28,14 @@ pub(crate) fn nothing<'a>(alloc: Global) -> Seen<'a>
     }
 }
 
-/// Inserts the value, and returns whether the set had it already.
+/// The result is whether the set had the value already.
 fn add_value<'a>(values: &mut Values<'a>, bytes: &'a [u8]) -> Result<bool, AllocError>
     ensures { IfOk result (λ is. AddsValue values.old values.new bytes.now is) }
 {
     Ok(!values.insert(Value { bytes })?)
 }
 
-/// Adds the line if it is a rule, and returns whether it repeats one.
+/// The result is whether the line repeats a rule.
 pub(crate) fn add_rule<'a>(seen: &mut Seen<'a>, line: Line<'a>) -> Result<bool, AllocError>
     ensures { IfOk result (λ is. AddsRule seen.old seen.new (by_value line.entry) is) }
 {
@@ -47,7 +46,7 @@ pub(crate) fn add_rule<'a>(seen: &mut Seen<'a>, line: Line<'a>) -> Result<bool, 
     }
 }
 
-/// The same, but drops all rules if it is a user-agent line.
+/// The same, but a user-agent line drops all rules.
 fn add_line<'a>(alloc: Global, seen: &mut Seen<'a>, line: Line<'a>) -> Result<bool, AllocError>
     ensures { IfOk result (λ is. AddsLine seen.old seen.new (by_value line.entry) is) }
 {
@@ -60,14 +59,13 @@ fn add_line<'a>(alloc: Global, seen: &mut Seen<'a>, line: Line<'a>) -> Result<bo
     }
 }
 
-/// Whether a rule with this membership is checked and belongs to a group.
 fn is_checked(everywhere: bool, membership: Membership) -> bool
     ensures { result ≡ is_checked everywhere membership }
 {
     is_in_scope_of(everywhere, membership) && membership != Membership::Ungrouped
 }
 
-/// The numbers of the rules that are checked, belong to a group, and repeat a rule above them in it.
+/// The numbers of the rules that are checked and repeat a rule above them in their group.
 #[tactic(auto, using(crate::proofs::SeenLemmas::found_next))]
 pub(crate) fn repeated(
     alloc: Global,

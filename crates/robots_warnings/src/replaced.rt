@@ -20,10 +20,8 @@ use texting_robots::labels::LabeledLine;
 use texting_robots::parser::Line;
 use texting_robots::site::{Site, SiteRule};
 
-/// The patterns of rules.
 type Patterns = HashSet<String>;
 
-/// How many Disallows `*` has.
 pub(crate) fn star_count(alloc: Global, site: &Site) -> Result<usize, AllocError>
     ensures { IfOk result (λ count. count ≡ star_count (file_lines site.now)) }
 {
@@ -36,7 +34,6 @@ pub(crate) fn star_count(alloc: Global, site: &Site) -> Result<usize, AllocError
     Ok(numbers.len())
 }
 
-/// Whether `*` has a Disallow that isn't of the whole site.
 #[tactic(auto, using(crate::proofs::ClosedLemmas::whole_site_escaped))]
 fn has_partial(site: &Site) -> bool
     ensures { result ≡ list_any is_partial (star_rules (file_lines site.now)) }
@@ -49,7 +46,6 @@ fn has_partial(site: &Site) -> bool
     false
 }
 
-/// Inserts the pattern of the rule if it is a Disallow.
 fn add_denied(alloc: Global, denied: &mut Patterns, rule: &SiteRule<'_>) -> Result<(), AllocError>
     ensures { OnOk result ((pattern : List ℕ) → contains_text denied.new pattern
         ≡ (contains_text denied.old pattern || denies pattern rule.now)) }
@@ -61,7 +57,6 @@ fn add_denied(alloc: Global, denied: &mut Patterns, rule: &SiteRule<'_>) -> Resu
     Ok(())
 }
 
-/// The patterns of all Disallows of `*`.
 fn denied_patterns(alloc: Global, site: &Site) -> Result<Patterns, AllocError>
     ensures { IfOk result (λ denied. HasDenied denied (star_rules (file_lines site.now))) }
 {
@@ -72,7 +67,7 @@ fn denied_patterns(alloc: Global, site: &Site) -> Result<Patterns, AllocError>
     Ok(denied)
 }
 
-/// Whether the rule is for the whole site, or a Disallow whose pattern is in the set.
+/// Or a rule for the whole site.
 #[tactic(auto, using(crate::proofs::ClosedLemmas::whole_site_escaped))]
 fn is_kept(alloc: Global, denied: &Patterns, rule: &SiteRule<'_>) -> Result<bool, AllocError>
     ensures { IfOk result (λ is. is ≡ is_kept_in denied.now rule.now) }
@@ -83,7 +78,6 @@ fn is_kept(alloc: Global, denied: &Patterns, rule: &SiteRule<'_>) -> Result<bool
     Ok(!rule.is_allow && denied.contains(rule.pattern(alloc)?.as_str()))
 }
 
-/// Whether the crawler has none of these Disallows of `*`, and no rule for the whole site.
 fn lacks_all(alloc: Global, site: &Site, denied: &Patterns, agent: &str) -> Result<bool, AllocError>
     requires { HasDenied denied.now (star_rules (file_lines site.now)) }
     ensures { IfOk result (λ lacks. lacks ≡ lacks_all (file_lines site.now) agent.now) }
@@ -96,7 +90,6 @@ fn lacks_all(alloc: Global, site: &Site, denied: &Patterns, agent: &str) -> Resu
     Ok(true)
 }
 
-/// Inserts the name of the crawler, in lower case, if it has none of these Disallows of `*`.
 fn add_lacking(
     alloc: Global,
     names: &mut Names,
@@ -114,7 +107,6 @@ fn add_lacking(
     Ok(())
 }
 
-/// The names, in lower case, of those of these crawlers that have none of the Disallows of `*`.
 fn lacking(alloc: Global, site: &Site, agents: &[&str]) -> Result<Names, AllocError>
     ensures { IfOk result (λ names. HasThose names (is_lacking (map (λ agent. agent.now) agents.now) (file_lines site.now))) }
 {
@@ -126,7 +118,6 @@ fn lacking(alloc: Global, site: &Site, agents: &[&str]) -> Result<Names, AllocEr
     Ok(names)
 }
 
-/// Whether these lines begin with user-agent lines, one of whose names is in the set, in lower case.
 fn begin_with_one(
     alloc: Global,
     names: &Names,
@@ -152,7 +143,6 @@ fn begin_with_one(
     Ok(false)
 }
 
-/// Whether the line is a rule or a delay.
 fn is_in_group(labeled: &LabeledLine<'_>) -> bool
     ensures { result ≡ is_group (by_value labeled.now.line) }
 {
@@ -162,15 +152,12 @@ fn is_in_group(labeled: &LabeledLine<'_>) -> bool
     )
 }
 
-/// Whether one of these lines is.
 fn have_group(labels: &[LabeledLine<'_>]) -> bool
     ensures { result ≡ list_any (λ labeled. is_group (by_value labeled.line)) labels.now }
 {
     labels.iter().any(is_in_group)
 }
 
-/// Whether the line is the first user-agent line of a group that has rules or delays and one of these names, but isn't
-/// the group of `*`, too. `from_here` are the lines from this one on.
 #[tactic(auto, using(crate::proofs::RuleLemmas::groups_among))]
 fn is_replacing(
     alloc: Global,
@@ -190,8 +177,6 @@ fn is_replacing(
     Ok(begin_with_one(alloc, names, from_here)? && !name_star(from_here))
 }
 
-/// The numbers of the first user-agent lines of groups that have none of the Disallow rules of `*` and are those of these
-/// crawlers, if `*` has a Disallow, but not of the whole site.
 pub(crate) fn replacing(
     alloc: Global,
     site: &Site,

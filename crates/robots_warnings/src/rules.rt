@@ -18,7 +18,6 @@ pub fn has(byte: u8, text: &[u8]) -> bool
     text.iter().any(|other| *other == byte)
 }
 
-/// The index of the first occurrence of the byte, or the length of the text if there is none.
 #[tactic(auto, using(texting_robots::proofs::LaneLemmas::found_or_end))]
 pub(crate) fn place(byte: u8, text: &[u8]) -> usize
     ensures value { result ≡ position_or_len (λ b. b == byte) text.now }
@@ -27,14 +26,14 @@ pub(crate) fn place(byte: u8, text: &[u8]) -> usize
     memchr(byte, text).unwrap_or(text.len())
 }
 
-/// The text before the first occurrence of the byte, or all of it if there is none.
+/// The text before the byte, or all of it if there is none.
 pub fn before_byte(byte: u8, text: &[u8]) -> &[u8]
     ensures { result.now ≡ before_byte byte text.now }
 {
     &text[..place(byte, text)]
 }
 
-/// The text after the first occurrence of the byte; empty if there is none.
+/// The text after the byte; empty if there is none.
 pub fn after_byte(byte: u8, text: &[u8]) -> &[u8]
     ensures { result.now ≡ after_byte byte text.now }
 {
@@ -44,7 +43,6 @@ pub fn after_byte(byte: u8, text: &[u8]) -> &[u8]
     }
 }
 
-/// The rest of the text from the first byte on for which the test holds; empty if there is none.
 pub(crate) fn from_first<'a, F: Fn(&[u8]) -> bool>(text: &'a [u8], test: F) -> &'a [u8]
     requires { F.IsAlwaysCallable test }
     ensures { (p : List ℕ → Bool) → ((x : List ℕ) (r : Bool) → FnReturnsAt F.Fn test x r → r ≡ p x)
@@ -69,35 +67,30 @@ pub fn somewhere<F: Fn(&[u8]) -> bool>(text: &[u8], test: F) -> bool
     !from_first(text, test).is_empty()
 }
 
-/// Whether the value is UTF-8.
 pub(crate) fn is_utf8(value: &[u8]) -> bool
     ensures { result ≡ is_utf8 value.now }
 {
     as_text(value).is_some()
 }
 
-/// Whether the value isn't empty and doesn't start with a slash or a star.
 pub(crate) fn begins_oddly(value: &[u8]) -> bool
     ensures { result ≡ begins_oddly value.now }
 {
     !matches!(value, [] | [b'/' | b'*', ..])
 }
 
-/// Whether the text contains one of these bytes.
 fn has_any(bytes: &[u8], text: &[u8]) -> bool
     ensures { result ≡ has_any bytes.now text.now }
 {
     text.iter().any(|byte| has(*byte, bytes))
 }
 
-/// Whether the value contains a byte that a parsed URL contains in another form, in its path or its query.
 pub(crate) fn holds_otherwise(value: &[u8]) -> bool
     ensures { result ≡ holds_otherwise value.now }
 {
     has_any(b"\t\\^{}", before_byte(b'?', value)) || has_any(b"\t'`", after_byte(b'?', value))
 }
 
-/// Whether the text starts with a `%` that begins no escape.
 pub(crate) fn begins_lone_percent(text: &[u8]) -> bool
     ensures { result ≡ begins_lone_percent text.now }
 {
@@ -108,8 +101,6 @@ pub(crate) fn begins_lone_percent(text: &[u8]) -> bool
     }
 }
 
-/// Whether the value contains a byte that crawlers encode differently. Some are only that after the first `?`
-/// or star.
 pub(crate) fn has_odd_character(value: &[u8]) -> bool
     ensures { result ≡ has_odd_character value.now }
 {
@@ -119,7 +110,6 @@ pub(crate) fn has_odd_character(value: &[u8]) -> bool
         || has_any(b"\\^{}'", after_byte(b'*', value))
 }
 
-/// Whether the text starts with a typographic quote.
 fn begins_quote(text: &[u8]) -> bool
     ensures { result ≡ begins_quote text.now }
 {
@@ -129,7 +119,6 @@ fn begins_quote(text: &[u8]) -> bool
     )
 }
 
-/// Whether a typographic quote is the last character of the value, and there is no other one.
 pub(crate) fn has_quote_at_end(value: &[u8]) -> bool
     ensures { result ≡ has_quote_at_end value.now }
 {
@@ -137,21 +126,18 @@ pub(crate) fn has_quote_at_end(value: &[u8]) -> bool
     !begins_quote(value) && begins_quote(rest) && matches!(rest, [0xE2, _, _] | [0xC2, _])
 }
 
-/// Whether the value is in single or double quotes, or starts with a typographic one.
 pub(crate) fn is_quoted(value: &[u8]) -> bool
     ensures { result ≡ is_quoted value.now }
 {
     matches!(value, [b'"', .., b'"'] | [b'\'', .., b'\'']) || begins_quote(value)
 }
 
-/// Whether the value starts otherwise than a rule does, and isn't an absolute URL or in quotes.
 pub(crate) fn has_odd_start(value: &[u8]) -> bool
     ensures { result ≡ has_odd_start value.now }
 {
     begins_oddly(value) && !(begins_as_url(value) || is_quoted(value))
 }
 
-/// Whether the text starts with a slash and the name of a host: a dot comes before the next slash.
 fn begins_host(text: &[u8]) -> bool
     ensures { result ≡ begins_host text.now }
 {
@@ -161,7 +147,6 @@ fn begins_host(text: &[u8]) -> bool
     }
 }
 
-/// Whether the value starts with a slash, and then with a URL or with such a host.
 pub(crate) fn is_url_in_path(value: &[u8]) -> bool
     ensures { result ≡ is_url_in_path value.now }
 {
@@ -171,8 +156,6 @@ pub(crate) fn is_url_in_path(value: &[u8]) -> bool
     }
 }
 
-/// Whether the text starts with a range, such as `[0-9]`, with `(?`, with `.*` after a slash or `(` or before `$`, or
-/// with a character class, such as `\d`.
 fn begins_sign(text: &[u8]) -> bool
     ensures { result ≡ begins_sign text.now }
 {
@@ -184,8 +167,6 @@ fn begins_sign(text: &[u8]) -> bool
     }
 }
 
-/// Whether the value starts with `^` or `.*`, has an alternative, such as `(a|b)`, contains a range, `(?`, such a `.*` or a
-/// character class, or ends with a `+` after a dot, `]` or `)`.
 pub(crate) fn is_expression(value: &[u8]) -> bool
     ensures { result ≡ is_expression value.now }
 {
@@ -198,7 +179,7 @@ pub(crate) fn is_expression(value: &[u8]) -> bool
         || value.ends_with(b")+")
 }
 
-/// Whether the value contains such a byte, but isn't in quotes and has no other warning about its bytes.
+/// It isn't in quotes and has no other warning about its bytes.
 pub(crate) fn is_only_odd(value: &[u8]) -> bool
     ensures { result
         ≡ (has_odd_character value.now && not (holds_otherwise value.now || is_quoted value.now)) }
@@ -206,7 +187,6 @@ pub(crate) fn is_only_odd(value: &[u8]) -> bool
     has_odd_character(value) && !(holds_otherwise(value) || is_quoted(value))
 }
 
-/// Whether a byte other than a star or `$` occurs after the first `$` of the value.
 pub(crate) fn has_dollar_inside(value: &[u8]) -> bool
     ensures { result ≡ has_dollar_inside value.now }
 {
@@ -215,28 +195,24 @@ pub(crate) fn has_dollar_inside(value: &[u8]) -> bool
         .any(|byte| !(*byte == b'*' || *byte == b'$'))
 }
 
-/// Whether only stars or `$`, and at least one of them, come after the first `$` of the value.
 pub(crate) fn has_more_after_dollar(value: &[u8]) -> bool
     ensures { result ≡ has_more_after_dollar value.now }
 {
     !after_byte(b'$', value).is_empty() && !has_dollar_inside(value)
 }
 
-/// Whether a byte needs no escape anywhere in a URL.
 pub(crate) fn needs_no_escape(byte: u8) -> bool
     ensures { result ≡ needs_no_escape byte }
 {
     byte.is_ascii_alphanumeric() || has(byte, b"-._~")
 }
 
-/// Whether a byte is a reserved character of RFC 3986, but not special in a rule, and has one form in paths and queries.
 pub(crate) fn is_delimiter(byte: u8) -> bool
     ensures { result ≡ is_delimiter byte }
 {
     has(byte, b":/?[]@!&()+,;=")
 }
 
-/// The value of a hexadecimal digit.
 pub(crate) fn hex_value(digit: u8) -> u8
     requires { is_ascii_hexdigit digit ≡ true }
     ensures value { result ≡ digit_value digit }
@@ -249,8 +225,6 @@ pub(crate) fn hex_value(digit: u8) -> u8
     }
 }
 
-/// Whether the text starts with a percent escape one of whose digits is lowercase, or which means a byte that needs no
-/// escape.
 pub(crate) fn begins_odd_escape(text: &[u8]) -> bool
     ensures { result ≡ begins_odd_escape text.now }
 {
@@ -264,14 +238,12 @@ pub(crate) fn begins_odd_escape(text: &[u8]) -> bool
     }
 }
 
-/// Whether the text starts with the percent escape of a star or a dollar.
 pub(crate) fn begins_wildcard(text: &[u8]) -> bool
     ensures { result ≡ begins_wildcard text.now }
 {
     text.starts_with(b"%2A") || text.starts_with(b"%2a") || text.starts_with(b"%24")
 }
 
-/// Whether the text starts with the percent escape of a delimiter.
 pub(crate) fn begins_delimiter(text: &[u8]) -> bool
     ensures { result ≡ begins_delimiter text.now }
 {
@@ -283,7 +255,6 @@ pub(crate) fn begins_delimiter(text: &[u8]) -> bool
     }
 }
 
-/// Whether the text starts with a path segment `.` or `..`, which a slash or the end of the URL follows.
 #[tactic(auto, using(crate::proofs::StepLemmas::no_segment))]
 pub(crate) fn begins_dot_segment(text: &[u8]) -> bool
     ensures { result ≡ begins_dot_segment text.now }

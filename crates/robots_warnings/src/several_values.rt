@@ -6,7 +6,6 @@ ghost use Rattle.robots_warnings.specs.SeveralValues.{begins_unseen, begins_wide
 use crate::rules::{from_first, somewhere};
 use crate::table::Cause;
 
-/// Whether the text starts with white space of Unicode that isn't ASCII.
 fn begins_wide_space(text: &[u8]) -> bool
     ensures { result ≡ begins_wide_space text.now }
 {
@@ -20,7 +19,6 @@ fn begins_wide_space(text: &[u8]) -> bool
     )
 }
 
-/// Whether the text starts with a character that can't be seen.
 pub(crate) fn begins_unseen(text: &[u8]) -> bool
     ensures { result ≡ begins_unseen text.now }
 {
@@ -30,7 +28,6 @@ pub(crate) fn begins_unseen(text: &[u8]) -> bool
     )
 }
 
-/// Whether the text starts with a comma, and then with a path or `http`.
 fn begins_list(text: &[u8]) -> bool
     ensures { result ≡ begins_list text.now }
 {
@@ -40,7 +37,6 @@ fn begins_list(text: &[u8]) -> bool
     }
 }
 
-/// Whether the text starts with a tag of HTML.
 fn begins_tag(text: &[u8]) -> bool
     ensures { result ≡ begins_tag text.now }
 {
@@ -50,8 +46,6 @@ fn begins_tag(text: &[u8]) -> bool
     }
 }
 
-/// Whether the text starts with what seems to separate or to end a value: a space or a control character, or one of the
-/// above.
 fn begins_next_value(text: &[u8]) -> bool
     ensures { result ≡ begins_next_value text.now }
 {
@@ -63,14 +57,12 @@ fn begins_next_value(text: &[u8]) -> bool
     }
 }
 
-/// Whether the value of a rule or a sitemap contains one of these.
 pub(crate) fn has_several_values(value: &[u8]) -> bool
     ensures { result ≡ has_several_values value.now }
 {
     somewhere(value, begins_next_value)
 }
 
-/// The warning about the first of these in the value.
 pub(crate) fn several_values(value: &[u8]) -> Cause
     ensures { result ≡ several_values value.now }
 {

@@ -22,13 +22,12 @@ use texting_robots::parser::Line;
 /// How bytes are written in a rule.
 #[derive(Clone, Copy)]
 pub enum Spelling {
-    /// As RFC 9309 compares them: only bytes that need no escape have none.
+    /// As RFC 9309 compares rules: only bytes that need no escape have none.
     Standard,
     /// Delimiters have no escape.
     Plain,
 }
 
-/// Whether the byte has no escape in this spelling.
 fn is_unescaped(spelling: Spelling, byte: u8) -> bool
     ensures { result ≡ is_unescaped spelling byte }
 {
@@ -38,7 +37,6 @@ fn is_unescaped(spelling: Spelling, byte: u8) -> bool
     }
 }
 
-/// Whether the value has an escape that calls for this spelling: a nonstandard one, or that of a delimiter.
 fn has_other_escape(spelling: Spelling, value: &[u8]) -> bool
     ensures { result ≡ has_other_escape spelling value.now }
 {
@@ -48,7 +46,6 @@ fn has_other_escape(spelling: Spelling, value: &[u8]) -> bool
     }
 }
 
-/// Whether the text starts with a percent escape.
 fn begins_escape(text: &[u8]) -> bool
     ensures value { result ≡ is_escape (slice_index text.now 0) (slice_index text.now 1) (slice_index text.now 2) }
     ensures within { result ≡ true → 2 < length text.now }
@@ -61,7 +58,6 @@ fn begins_escape(text: &[u8]) -> bool
     }
 }
 
-/// Appends the escape with these digits in this spelling.
 fn push_escape(text: &mut Vec<u8>, spelling: Spelling, high: u8, low: u8) -> Result<(), AllocError>
     requires high { is_ascii_hexdigit high ≡ true }
     requires low { is_ascii_hexdigit low ≡ true }
@@ -96,7 +92,6 @@ pub fn spelled(alloc: Global, spelling: Spelling, value: &[u8]) -> Result<Vec<u8
     Ok(text)
 }
 
-/// The rules of a group.
 #[tactic(auto, using(crate::proofs::SeenLemmas::seen_more))]
 fn seen_in<'a>(alloc: Global, group: &[LabeledLine<'a>]) -> Result<Seen<'a>, AllocError>
     ensures { IfOk result (λ seen. HasSeen seen (lines_of (map label_by_value group.now))) }
@@ -108,7 +103,6 @@ fn seen_in<'a>(alloc: Global, group: &[LabeledLine<'a>]) -> Result<Seen<'a>, All
     Ok(seen)
 }
 
-/// Whether the text is one of these values.
 fn has_value(values: &Values<'_>, bytes: &[u8]) -> bool
     ensures { (is_allow : Bool) → (lines : List LineValue) → HasValues values.now is_allow lines
         → result ≡ list_any (is_rule_with is_allow bytes.now) lines }
@@ -116,7 +110,6 @@ fn has_value(values: &Values<'_>, bytes: &[u8]) -> bool
     values.contains(&Value { bytes })
 }
 
-/// Whether the value has such an escape, and in this spelling it isn't one of these values.
 fn is_unpaired(
     alloc: Global,
     spelling: Spelling,
@@ -133,7 +126,6 @@ fn is_unpaired(
     Ok(!has_value(values, &other))
 }
 
-/// Whether the line is a rule that is checked and has such an escape, and in this spelling is none of these rules.
 fn is_unpaired_at(
     alloc: Global,
     spelling: Spelling,
@@ -154,7 +146,6 @@ fn is_unpaired_at(
     }
 }
 
-/// Whether the line is a rule with such an escape.
 fn has_other_line(spelling: Spelling, labeled: &LabeledLine<'_>) -> bool
     ensures { result ≡ has_other_line spelling (label_by_value labeled.now) }
 {
@@ -164,7 +155,6 @@ fn has_other_line(spelling: Spelling, labeled: &LabeledLine<'_>) -> bool
     }
 }
 
-/// Whether one of the lines is such a rule.
 fn has_other_lines(spelling: Spelling, group: &[LabeledLine<'_>]) -> bool
     ensures { result ≡ list_any (λ labeled. has_other_line spelling (label_by_value labeled)) group.now }
 {
@@ -173,8 +163,6 @@ fn has_other_lines(spelling: Spelling, group: &[LabeledLine<'_>]) -> bool
         .any(|labeled| has_other_line(spelling, labeled))
 }
 
-/// Appends the numbers of the rules of a group that are checked, have such an escape, and in this spelling are no
-/// rule of their kind in the group.
 fn add_unpaired(
     alloc: Global,
     found: &mut Vec<usize>,
@@ -195,14 +183,12 @@ fn add_unpaired(
     Ok(())
 }
 
-/// Whether the line is a user-agent line.
 fn is_agent_line(labeled: &LabeledLine<'_>) -> bool
     ensures { result ≡ is_agent_line (label_by_value labeled.now) }
 {
     matches!(labeled.line, Line::UserAgent(_))
 }
 
-/// The lines between user-agent lines.
 fn groups<'a, 'b>(
     alloc: Global,
     labels: &'a [LabeledLine<'b>],
@@ -213,8 +199,6 @@ fn groups<'a, 'b>(
     labels.split(is_agent_line).collect(alloc)
 }
 
-/// The numbers of the rules that are checked, have such an escape, and in this spelling are no rule of their kind in
-/// their group.
 pub(crate) fn unpaired(
     alloc: Global,
     spelling: Spelling,

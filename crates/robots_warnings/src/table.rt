@@ -1,7 +1,7 @@
-//! Every warning: its level, its topic, its name, which is shown in `[..]` and is the `name` in JSON, and
-//! its message, which states what is wrong, what happens, and what to do. The conditions are in `checks` and, of warnings
-//! that compare lines or look at all of a crawler's rules, in the functions that `warnings` calls. Only `robots_audit` gives
-//! those about sitemaps that are denied, and about rules that can be deleted, which `robots_needless` finds.
+//! Every warning: its level, its topic, its name, which is shown in `[..]` and is the `name` in JSON, and its
+//! message. The conditions are in `checks` and, of warnings that compare lines or look at all of a crawler's
+//! rules, in the functions that `warnings` calls. Only `robots_audit` gives those about sitemaps that are
+//! denied, and about rules that can be deleted, which `robots_needless` finds.
 ghost use Rattle.std.specs.Prelude.{◌≡◌, ◌<◌, IfOk, bytes_eq, length, map};
 ghost use Rattle.std.specs.List.{list_any};
 ghost use Rattle.robots_warnings.specs.Internal.{IsAt, IsRowAt};
@@ -131,7 +131,6 @@ pub enum Topic {
 /// The warnings with their levels, topics and names.
 #[rattlefmt::skip]
 pub static WARNINGS: [(Cause, Level, Topic, &str); 85] = [
-    // the file
     (Cause::LooksLikeHtml, Level::Error, Topic::Syntax, "looks-like-html"),
     (Cause::LooksLikeUtf16, Level::Error, Topic::Syntax, "looks-like-utf-16"),
     (Cause::NoDirectives, Level::Error, Topic::Syntax, "no-directives"),
@@ -140,9 +139,7 @@ pub static WARNINGS: [(Cause, Level, Topic, &str); 85] = [
     (Cause::NoUserAgent, Level::Warning, Topic::Syntax, "no-user-agent"),
     (Cause::DamagedByteOrderMark, Level::Warning, Topic::Syntax, "damaged-byte-order-mark"),
     (Cause::NulEndsLine, Level::Warning, Topic::Syntax, "nul-ends-line"),
-    // a URL
     (Cause::UrlNotNormal, Level::Note, Topic::Meaning, "url-not-normal"),
-    // an ignored line
     (Cause::InvalidDelay, Level::Warning, Topic::Syntax, "invalid-delay"),
     (Cause::NoindexLine, Level::Warning, Topic::Syntax, "noindex-line"),
     (Cause::NofollowLine, Level::Warning, Topic::Syntax, "nofollow-line"),
@@ -163,14 +160,11 @@ pub static WARNINGS: [(Cause, Level, Topic, &str); 85] = [
     (Cause::UnseenInName, Level::Warning, Topic::Syntax, "unrecognized-line"),
     (Cause::EqualsSign, Level::Warning, Topic::Syntax, "unrecognized-line"),
     (Cause::UnrecognizedLine, Level::Warning, Topic::Syntax, "unrecognized-line"),
-    // the field name of a line
     (Cause::NonstandardField, Level::Warning, Topic::Syntax, "nonstandard-field"),
     (Cause::MissingColon, Level::Warning, Topic::Syntax, "missing-colon"),
     (Cause::SpaceAroundValue, Level::Warning, Topic::Syntax, "space-around-value"),
-    // the value of a user-agent line
     (Cause::InvalidProductToken, Level::Warning, Topic::Syntax, "invalid-product-token"),
     (Cause::UnusualProductToken, Level::Note, Topic::Syntax, "unusual-product-token"),
-    // a rule
     (Cause::HashLeavesRoot, Level::Error, Topic::Meaning, "hash-cuts-rule"),
     (Cause::HashCutsRule, Level::Warning, Topic::Meaning, "hash-cuts-rule"),
     (Cause::RuleNotUtf8, Level::Warning, Topic::Syntax, "rule-not-utf-8"),
@@ -190,23 +184,18 @@ pub static WARNINGS: [(Cause, Level, Topic, &str); 85] = [
     (Cause::EscapedWildcard, Level::Warning, Topic::Verdict, "escaped-wildcard"),
     (Cause::EscapedDelimiter, Level::Note, Topic::Meaning, "escaped-delimiter"),
     (Cause::DotSegment, Level::Error, Topic::Meaning, "dot-segment"),
-    // a rule or a sitemap
     (Cause::SpaceInValue, Level::Warning, Topic::Syntax, "several-values"),
     (Cause::CommaInValue, Level::Warning, Topic::Syntax, "several-values"),
     (Cause::TagInValue, Level::Warning, Topic::Syntax, "several-values"),
     (Cause::UnseenInValue, Level::Warning, Topic::Syntax, "several-values"),
-    // a delay
     (Cause::DelayNotation, Level::Warning, Topic::Syntax, "delay-notation"),
     (Cause::DelayOverADay, Level::Warning, Topic::Meaning, "delay-over-a-day"),
-    // a sitemap
     (Cause::SitemapNotAbsolute, Level::Warning, Topic::Syntax, "sitemap-not-absolute"),
     (Cause::SitemapHost, Level::Warning, Topic::Meaning, "sitemap-host"),
     (Cause::SitemapDenied, Level::Note, Topic::Meaning, "sitemap-denied"),
-    // any line
     (Cause::OneLine, Level::Error, Topic::Meaning, "one-line"),
     (Cause::ControlInComment, Level::Note, Topic::Syntax, "control-in-comment"),
     (Cause::CutLine, Level::Warning, Topic::Syntax, "cut-line"),
-    // the position of a line
     (Cause::RuleBeforeUserAgent, Level::Error, Topic::Syntax, "rule-before-user-agent"),
     (Cause::EmptyGroup, Level::Warning, Topic::Meaning, "empty-group"),
     (Cause::DelayAboveStar, Level::Note, Topic::Verdict, "delay-splits-group"),
@@ -215,7 +204,6 @@ pub static WARNINGS: [(Cause, Level, Topic, &str); 85] = [
     (Cause::GroupPastSizeLimit, Level::Warning, Topic::Meaning, "group-past-size-limit"),
     (Cause::AllowedAndDisallowed, Level::Warning, Topic::Verdict, "allowed-and-disallowed"),
     (Cause::EmptyDisallow, Level::Warning, Topic::Verdict, "empty-disallow"),
-    // the groups
     (Cause::TwoDelays, Level::Warning, Topic::Meaning, "two-delays"),
     (Cause::ClosesSite, Level::Warning, Topic::Meaning, "closes-everything"),
     (Cause::ClosesEverything, Level::Note, Topic::Meaning, "closes-everything"),
@@ -224,17 +212,15 @@ pub static WARNINGS: [(Cause, Level, Topic, &str); 85] = [
     (Cause::MisspelledName, Level::Note, Topic::Meaning, "misspelled-name"),
     (Cause::GooglebotGroup, Level::Note, Topic::Meaning, "googlebot-group"),
     (Cause::GoogleIgnoresStar, Level::Note, Topic::Meaning, "google-ignores-star"),
-    // a rule that can be deleted
     (Cause::NeverDecides, Level::Note, Topic::Meaning, "needless-rule"),
     (Cause::MatchesNothing, Level::Note, Topic::Meaning, "needless-rule"),
     (Cause::AllowedAnyway, Level::Note, Topic::Meaning, "needless-rule"),
     (Cause::NotNeeded, Level::Note, Topic::Meaning, "needless-rule"),
 ];
 
-/// A row of [`WARNINGS`].
 type Row = (Cause, Level, Topic, &'static str);
 
-/// The rows of [`WARNINGS`]. Each function that names this long table takes a minute to prove, so no other does.
+/// Each function that names this long table takes a minute to prove, so no other does.
 #[tactic(auto, unfolding(crate::specs::Table::all_causes))]
 fn rows() -> &'static [Row]
     ensures length { length result.now ≡ length WARNINGS }
@@ -246,7 +232,6 @@ fn rows() -> &'static [Row]
     &WARNINGS
 }
 
-/// The row at this index.
 fn row_at(rows: &'static [Row], number: usize) -> &'static Row
     requires { number < length rows.now }
     ensures { IsRowAt rows.now number result.now }
@@ -254,7 +239,6 @@ fn row_at(rows: &'static [Row], number: usize) -> &'static Row
     &rows[number]
 }
 
-/// The message or the example at this index.
 fn text_at(rows: &'static [(Cause, &'static str)], number: usize) -> &'static (Cause, &'static str)
     requires { number < length rows.now }
     ensures { IsAt rows.now number result.now }
@@ -262,21 +246,18 @@ fn text_at(rows: &'static [(Cause, &'static str)], number: usize) -> &'static (C
     &rows[number]
 }
 
-/// Whether one of the rows has this name.
 fn has_name(rows: &'static [Row], name: &str) -> bool
     ensures { result ≡ list_any (λ row. bytes_eq row.3.now name.now) rows.now }
 {
     rows.iter().any(|row| row.3 == name)
 }
 
-/// Whether a warning has this name.
 pub fn is_name(name: &str) -> bool
     ensures { result ≡ is_name name.now }
 {
     has_name(rows(), name)
 }
 
-/// The reasons in these rows.
 fn causes_in(alloc: Global, rows: &'static [Row]) -> Result<Vec<Cause>, AllocError>
     ensures { IfOk result (λ causes. causes.items ≡ map (λ row. row.0) rows.now) }
 {
@@ -296,7 +277,6 @@ pub fn causes(alloc: Global) -> Result<Vec<Cause>, AllocError>
 }
 
 impl Cause {
-    /// The row of the warning.
     fn row(self) -> &'static Row
         ensures own { result.now.0 ≡ self }
         ensures level { result.now.1 ≡ level_of self }
@@ -306,14 +286,12 @@ impl Cause {
         row_at(rows(), self as usize)
     }
 
-    /// The level of the warning.
     pub fn level(self) -> Level
         ensures { result ≡ level_of self }
     {
         self.row().1
     }
 
-    /// The name of the warning.
     pub fn name(self) -> &'static str
         ensures { result.now ≡ name_of self }
     {
@@ -340,7 +318,6 @@ impl Cause {
         }
     }
 
-    /// The message of the warning, with it.
     fn message_row(self) -> &'static (Cause, &'static str)
         ensures own { result.now.0 ≡ self }
         ensures message { result.now.1.now ≡ text_of self }
@@ -348,14 +325,12 @@ impl Cause {
         text_at(&MESSAGES, self as usize)
     }
 
-    /// The message of the warning.
     pub fn text(self) -> &'static str
         ensures { result.now ≡ text_of self }
     {
         self.message_row().1
     }
 
-    /// The example of the warning, with it.
     fn example_row(self) -> &'static (Cause, &'static str)
         ensures own { result.now.0 ≡ self }
         ensures example { result.now.1.now ≡ example_of self }
@@ -363,7 +338,6 @@ impl Cause {
         text_at(&EXAMPLES, self as usize)
     }
 
-    /// The example of the warning.
     pub fn example(self) -> &'static str
         ensures { result.now ≡ example_of self }
     {

@@ -13,14 +13,12 @@ use std::alloc::{AllocError, Global};
 use texting_robots::{Error, Robot};
 use url::{ParseError, Position, Url};
 
-/// Whether the normal form of a path and a query may have the byte.
 fn is_normal_byte(byte: u8) -> bool
     ensures { result ≡ is_normal_byte byte }
 {
     needs_no_escape(byte) || is_delimiter(byte) || has(byte, b"%'")
 }
 
-/// Whether it may have all of these bytes.
 fn are_normal_bytes(target: &[u8]) -> bool
     ensures { result ≡ list_all is_normal_byte target.now }
 {
@@ -35,21 +33,18 @@ pub fn is_normal(target: &[u8]) -> bool
         && !(somewhere(target, begins_odd_escape) || somewhere(target, begins_lone_percent))
 }
 
-/// Whether the scheme is `http` or `https`.
 fn is_web(scheme: &str) -> bool
     ensures { result ≡ is_web scheme.now }
 {
     scheme == "http" || scheme == "https"
 }
 
-/// What a crawler sends to a site for a URL: the path and the query.
 fn requested_target(url: &Url) -> &str
     ensures { result.now ≡ requested_target url.now }
 {
     url.slice(Position::BeforePath, Position::AfterQuery)
 }
 
-/// The match target that the library gives a text.
 pub(crate) fn prepared(alloc: Global, text: &str) -> Result<String, AllocError>
     ensures { IfOk result (λ target. string_bytes target ≡ prepared text.now) }
 {
@@ -60,11 +55,8 @@ pub(crate) fn prepared(alloc: Global, text: &str) -> Result<String, AllocError>
     }
 }
 
-/// The match target of a URL or a path, as crawlers ask for it: that of an http(s) URL has no fragment.
-///
-/// # Errors
-///
-/// An error if an allocation fails or the URL is too long for `url`.
+/// The match target of a URL or a path, as crawlers ask for it: that of an http(s) URL has no fragment. An
+/// error if an allocation fails or the URL is too long for `url`.
 pub fn asked_target(alloc: Global, text: &str) -> Result<String, AllocError>
     ensures { IfOk result (λ target. string_bytes target ≡ asked_target text.now) }
 {
@@ -76,7 +68,6 @@ pub fn asked_target(alloc: Global, text: &str) -> Result<String, AllocError>
     }
 }
 
-/// Whether the text is a path or an http(s) URL, can be parsed, and has a match target that isn't in normal form.
 pub(crate) fn has_odd_target(alloc: Global, text: &str) -> Result<bool, AllocError>
     ensures { IfOk result (λ answer. answer ≡ has_odd_target text.now) }
 {

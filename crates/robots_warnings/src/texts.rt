@@ -1,10 +1,9 @@
-//! What each warning tells: its message, which states what is wrong, what happens, and what to do; and an example.
+//! The message of each warning, which states what is wrong, what happens, and what to do, and an example.
 use crate::table::Cause;
 
-/// For each warning, in the order of [`WARNINGS`](crate::table::WARNINGS), its message.
+/// In the order of [`WARNINGS`](crate::table::WARNINGS).
 #[rattlefmt::skip]
 pub(crate) static MESSAGES: [(Cause, &str); 85] = [
-    // the file
     (Cause::LooksLikeHtml,
         "no usable line found; the text starts with <, so it may be an HTML page; serve a plain-text robots.txt instead"),
     (Cause::LooksLikeUtf16,
@@ -21,10 +20,8 @@ pub(crate) static MESSAGES: [(Cause, &str); 85] = [
         "the file starts with the byte EF, BB or BF, as a damaged byte order mark does; it is skipped here, but other crawlers may not recognize the first line; delete it, and save the file as UTF-8"),
     (Cause::NulEndsLine,
         "the file contains a NUL byte, which ends a line here, but may not in other crawlers; put a line end in its place, or delete it at the end of a line"),
-    // a URL
     (Cause::UrlNotNormal,
         "its path and query aren't in normal form (only needed escapes, in uppercase; * $ ^ { } and others escaped), which RFC 9309 compares, so crawlers may decide otherwise; check that form too"),
-    // an ignored line
     (Cause::InvalidDelay,
         "the delay is ignored: its value is missing, negative or not a number of seconds; write, for example: Crawl-delay: 1.5"),
     (Cause::NoindexLine,
@@ -65,19 +62,16 @@ pub(crate) static MESSAGES: [(Cause, &str); 85] = [
         "the line is ignored, since = isn't a colon; write, for example, \"Disallow: /path\""),
     (Cause::UnrecognizedLine,
         "the line isn't a known directive and is ignored; write, for example, \"Disallow: /path\", or start a comment with #"),
-    // the field name of a line
     (Cause::NonstandardField,
         "nonstandard spelling of the field name; accepted here, but other crawlers may ignore the line; write User-agent, Allow, Disallow, Sitemap or Crawl-delay"),
     (Cause::MissingColon,
         "no colon after the field name; accepted here, but other crawlers may ignore the line; add the colon"),
     (Cause::SpaceAroundValue,
         "white space other than spaces and tabs, such as a no-break space, is dropped around the value here, but other crawlers may keep it; delete it"),
-    // the value of a user-agent line
     (Cause::InvalidProductToken,
         "not a valid product token (ASCII letters, _ and - only, or a single *); crawlers disagree on how to match it; write one name per User-agent line, without version, quotes or *"),
     (Cause::UnusualProductToken,
         "not a valid product token (ASCII letters, _ and - only), although some crawlers have such names; here the whole name is compared, but others, such as Google, read only the letters, _ and - at its start; check the crawler's documentation"),
-    // a rule
     (Cause::HashLeavesRoot,
         "everything from # on is a comment, so what is left of the rule is the whole site, or an empty Disallow, which allows it; rules can't be about the part of a URL after #; write %23 if a path has one, or a space before a comment"),
     (Cause::HashCutsRule,
@@ -116,7 +110,6 @@ pub(crate) static MESSAGES: [(Cause, &str); 85] = [
         "the rule has an escaped delimiter, such as %2F or %3A; here it doesn't match URLs with the plain character, but in some crawlers it may; if these are meant too, add a rule for them"),
     (Cause::DotSegment,
         "the rule contains a . or .. segment, which crawlers resolve in a URL's path before matching; write the resolved path"),
-    // a rule or a sitemap
     (Cause::SpaceInValue,
         "all of this is read as one value, with the white space or control character in it; write one value per line, %20 for a space, and comments after #"),
     (Cause::CommaInValue,
@@ -125,26 +118,22 @@ pub(crate) static MESSAGES: [(Cause, &str); 85] = [
         "all of this is read as one value, with the HTML tag in it; delete the tag, and write one value per line"),
     (Cause::UnseenInValue,
         "all of this is read as one value, with an invisible character in it, such as a zero-width space or a byte order mark; delete it"),
-    // a delay
     (Cause::DelayNotation,
         "the delay is read here, but other crawlers may ignore it; write only digits, possibly with a point and more digits, and no invisible characters, for example: Crawl-delay: 1.5"),
     (Cause::DelayOverADay,
         "the delay is longer than a day; the value is in seconds between requests, for example: Crawl-delay: 10"),
-    // a sitemap
     (Cause::SitemapNotAbsolute,
         "the sitemap isn't a valid URL that starts with http:// or https://; write, for example, https://example.com/sitemap.xml"),
     (Cause::SitemapHost,
         "the sitemap is at no public host (there is none, an IP address, localhost, undefined or null), so search engines may not fetch it; write the site's own, for example: https://example.com/sitemap.xml"),
     (Cause::SitemapDenied,
         "a rule for * denies this sitemap, if it is on the host of this file, so crawlers may not read it; allow it by a longer Allow, or correct the rule"),
-    // any line
     (Cause::OneLine,
         "another field name follows in the same line, where it isn't recognized; write each User-agent, Allow, Disallow, Crawl-delay and Sitemap on a line of its own"),
     (Cause::ControlInComment,
         "the comment contains a control character or isn't valid UTF-8, which RFC 9309 doesn't allow; it has no effect here; delete the character, or save the file as UTF-8"),
     (Cause::CutLine,
         "the line goes beyond the first 512,000 bytes, so only its first part is read; shorten the file, or move the line up"),
-    // the position of a line
     (Cause::RuleBeforeUserAgent,
         "the rule comes before the first User-agent line, so it belongs to no group and is ignored; move it below the User-agent line it is meant for"),
     (Cause::EmptyGroup,
@@ -161,7 +150,6 @@ pub(crate) static MESSAGES: [(Cause, &str); 85] = [
         "a crawler that gets this Disallow also gets an Allow with the same path, and the Allow wins here; delete the one you don't want"),
     (Cause::EmptyDisallow,
         "here an empty Disallow is an Allow of /, which wins over a Disallow of / or * for the same crawler; for RFC 9309 and Google it is no rule, and that Disallow applies; delete the one you don't want"),
-    // the groups
     (Cause::TwoDelays,
         "the delay differs from one above it in the same group, so it isn't used here, but other crawlers may use it; delete all but one"),
     (Cause::ClosesSite,
@@ -178,7 +166,6 @@ pub(crate) static MESSAGES: [(Cause, &str); 85] = [
         "the crawler has no group of its own, so its vendor applies that of another one, which may not be the one that is reported here; check the report on that one, or add a group"),
     (Cause::GoogleIgnoresStar,
         "the crawler has no group of its own, and its vendor doesn't apply the group of * to it, so it may fetch everything; add a group for it"),
-    // a rule that can be deleted
     (Cause::NeverDecides,
         "this rule never decides, since another one matches everything that it matches and takes precedence; correct it if it should decide, or delete it together with all other needless rules"),
     (Cause::MatchesNothing,
@@ -189,12 +176,11 @@ pub(crate) static MESSAGES: [(Cause, &str); 85] = [
         "this rule isn't needed: if all needless rules are deleted, the verdicts stay the same, since another one of its kind matches everything that it matches; delete it together with the others, or correct it"),
 ];
 
-/// For each warning, in the order of [`WARNINGS`](crate::table::WARNINGS), a file that triggers it in a report on all crawlers,
-/// or as robots.txt in the command in its first line, or a command. In a file, `\xFF` is a byte, and `\{512000 a}` is 512,000
-/// times an `a`.
+/// In this order, too: a file that triggers the warning in a report on all crawlers, or as robots.txt in the
+/// command in its first line, or a command. In a file, `\xFF` is a byte, and `\{512000 a}` is 512,000 times
+/// an `a`.
 #[rattlefmt::skip]
 pub(crate) static EXAMPLES: [(Cause, &str); 85] = [
-    // the file
     (Cause::LooksLikeHtml, "<html>\n</html>"),
     (Cause::LooksLikeUtf16, "\\xFF\\xFED\\x00"),
     (Cause::NoDirectives, "hello\nworld"),
@@ -203,9 +189,7 @@ pub(crate) static EXAMPLES: [(Cause, &str); 85] = [
     (Cause::NoUserAgent, "Disallow: /a\nDisallow: /b"),
     (Cause::DamagedByteOrderMark, "\\xEF\\xBBAllow: /"),
     (Cause::NulEndsLine, "Allow: /\\x00"),
-    // a URL
     (Cause::UrlNotNormal, "robots_audit robots.txt /%c3"),
-    // an ignored line
     (Cause::InvalidDelay, "User-agent: *\nCrawl-delay: ten"),
     (Cause::NoindexLine, "User-agent: *\nNoindex: /a"),
     (Cause::NofollowLine, "User-agent: *\nNofollow: /a"),
@@ -226,14 +210,11 @@ pub(crate) static EXAMPLES: [(Cause, &str); 85] = [
     (Cause::UnseenInName, "User-agent: *\n\\xE2\\x80\\x8BDisallow: /a"),
     (Cause::EqualsSign, "User-agent: *\nDisallow=/a"),
     (Cause::UnrecognizedLine, "User-agent: *\nhello"),
-    // the field name of a line
     (Cause::NonstandardField, "User-agent: *\nUseragent: *\nDisallow: /a"),
     (Cause::MissingColon, "User-agent: *\nDisallow /a"),
     (Cause::SpaceAroundValue, "User-agent: *\nDisallow: /a\\xC2\\xA0"),
-    // the value of a user-agent line
     (Cause::InvalidProductToken, "User-agent: *\nUser-agent: Bot/1.0\nDisallow: /a"),
     (Cause::UnusualProductToken, "User-agent: MJ12bot\nDisallow: /a"),
-    // a rule
     (Cause::HashLeavesRoot, "User-agent: *\nDisallow: /#/admin"),
     (Cause::HashCutsRule, "User-agent: *\nDisallow: /a#b"),
     (Cause::RuleNotUtf8, "User-agent: *\nDisallow: /\\xE9"),
@@ -253,23 +234,18 @@ pub(crate) static EXAMPLES: [(Cause, &str); 85] = [
     (Cause::EscapedWildcard, "User-agent: *\nDisallow: /a%2Ab"),
     (Cause::EscapedDelimiter, "User-agent: *\nDisallow: /a%2Fb"),
     (Cause::DotSegment, "User-agent: *\nDisallow: /../a"),
-    // a rule or a sitemap
     (Cause::SpaceInValue, "User-agent: *\nDisallow: /a/ /b/"),
     (Cause::CommaInValue, "User-agent: *\nDisallow: /a/,/b/"),
     (Cause::TagInValue, "User-agent: *\nDisallow: /a<br>"),
     (Cause::UnseenInValue, "User-agent: *\nDisallow: /a\\xE2\\x80\\x8B"),
-    // a delay
     (Cause::DelayNotation, "User-agent: *\nCrawl-delay: 1e3"),
     (Cause::DelayOverADay, "User-agent: *\nCrawl-delay: 100000"),
-    // a sitemap
     (Cause::SitemapNotAbsolute, "User-agent: *\nSitemap: /s.xml"),
     (Cause::SitemapHost, "User-agent: *\nSitemap: http://localhost/s.xml"),
     (Cause::SitemapDenied, "User-agent: *\nDisallow: /s\nSitemap: https://example.com/s.xml"),
-    // any line
     (Cause::OneLine, "User-agent: * Disallow: /"),
     (Cause::ControlInComment, "# \\x01"),
     (Cause::CutLine, "User-agent: *\nDisallow: /\\{512000 a}"),
-    // the position of a line
     (Cause::RuleBeforeUserAgent, "Disallow: /a\nUser-agent: *"),
     (Cause::EmptyGroup, "Disallow: /a\nUser-agent: *"),
     (Cause::DelayAboveStar, "User-agent: a\nCrawl-delay: 1\nUser-agent: *\nDisallow: /b"),
@@ -278,7 +254,6 @@ pub(crate) static EXAMPLES: [(Cause, &str); 85] = [
     (Cause::GroupPastSizeLimit, "\\{512000 #}\nUser-agent: a"),
     (Cause::AllowedAndDisallowed, "Allow: /a\nDisallow: /a"),
     (Cause::EmptyDisallow, "User-agent: *\nDisallow: /\nDisallow:"),
-    // the groups
     (Cause::TwoDelays, "User-agent: *\nCrawl-delay: 1\nCrawl-delay: 2"),
     (Cause::ClosesSite, "User-agent: *\nDisallow: /"),
     (Cause::ClosesEverything, "User-agent: GPTBot\nDisallow: /"),
@@ -287,7 +262,6 @@ pub(crate) static EXAMPLES: [(Cause, &str); 85] = [
     (Cause::MisspelledName, "User-agent: Googlbot\nDisallow: /a"),
     (Cause::GooglebotGroup, "# robots_audit robots.txt --agent Googlebot-News\nUser-agent: Googlebot\nDisallow: /a"),
     (Cause::GoogleIgnoresStar, "# robots_audit robots.txt --agent AdsBot-Google\nUser-agent: *\nDisallow: /a"),
-    // a rule that can be deleted
     (Cause::NeverDecides, "# robots_audit robots.txt --needless\nUser-agent: *\nDisallow: /*b\nDisallow: /b"),
     (Cause::MatchesNothing, "# robots_audit robots.txt --needless\nUser-agent: *\nDisallow: /a\nDisallow: /$b"),
     (Cause::AllowedAnyway, "# robots_audit robots.txt --needless\nUser-agent: *\nDisallow: /a\nAllow: /b"),

@@ -8,28 +8,25 @@ ghost use Rattle.robots_warnings.specs.Crawlers.{is_usual_name};
 use crate::rules::somewhere;
 use crate::urls::begins_in_any_case;
 
-/// Whether the text starts or ends with white space.
+/// White space at the start or the end.
 pub fn has_space_around(text: &str) -> bool
     ensures { result ≡ has_space_around text.now }
 {
     text.trim() != text
 }
 
-/// Whether the byte can occur in a product token.
 pub(crate) fn is_token_byte(byte: u8) -> bool
     ensures { result ≡ is_token_byte byte }
 {
     byte.is_ascii_alphabetic() || byte == b'_' || byte == b'-'
 }
 
-/// Whether each byte can occur in a product token.
 fn are_token_bytes(bytes: &[u8]) -> bool
     ensures { result ≡ list_all is_token_byte bytes.now }
 {
     bytes.iter().all(|byte| is_token_byte(*byte))
 }
 
-/// The number of bytes before the first one that can't occur in a product token.
 fn token_len(value: &[u8]) -> usize
     ensures value { result ≡ position_or_len ends_token value.now }
     ensures within { result ≤ length value.now }
@@ -40,35 +37,30 @@ fn token_len(value: &[u8]) -> usize
         .count()
 }
 
-/// The bytes before the first one that can't occur in a product token.
 pub(crate) fn token_front(value: &[u8]) -> &[u8]
     ensures { result.now ≡ before_first ends_token value.now }
 {
     &value[..token_len(value)]
 }
 
-/// Whether the value of a user-agent line is a product token, or `*`.
 pub(crate) fn is_product_token(value: &[u8]) -> bool
     ensures { result ≡ is_product_token value.now }
 {
     value == b"*".as_slice() || (!value.is_empty() && are_token_bytes(value))
 }
 
-/// Whether the byte can occur in a name that isn't a product token.
 fn is_name_byte(byte: u8) -> bool
     ensures { result ≡ is_name_byte byte }
 {
     is_token_byte(byte) || byte.is_ascii_digit() || byte == b'.' || byte == b' '
 }
 
-/// Whether each byte can occur in such a name.
 pub fn are_name_bytes(bytes: &[u8]) -> bool
     ensures { result ≡ list_all is_name_byte bytes.now }
 {
     bytes.iter().all(|byte| is_name_byte(*byte))
 }
 
-/// Whether the text starts with a word for a crawler.
 fn begins_crawler_word(text: &[u8]) -> bool
     ensures { result ≡ begins_crawler_word text.now }
 {
@@ -77,7 +69,6 @@ fn begins_crawler_word(text: &[u8]) -> bool
         || begins_in_any_case(b"spider", text)
 }
 
-/// Whether the text starts with `bot` and a space, and another name follows: such a word, but not just `bot`.
 fn begins_names(text: &[u8]) -> bool
     ensures { result ≡ begins_names text.now }
 {
@@ -91,7 +82,6 @@ fn begins_names(text: &[u8]) -> bool
     }
 }
 
-/// Whether the value is written as names of real crawlers that aren't product tokens are, possibly with a star at its end.
 pub(crate) fn is_usual_name(value: &[u8]) -> bool
     ensures { result ≡ is_usual_name value.now }
 {

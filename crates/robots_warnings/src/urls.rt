@@ -8,7 +8,6 @@ use crate::file::first;
 use std::alloc::{AllocError, Global};
 use url::{ParseError, Url};
 
-/// Whether the text starts with `front`, ignoring ASCII case.
 pub(crate) fn begins_in_any_case(front: &[u8], text: &[u8]) -> bool
     ensures { result ≡ begins_in_any_case front.now text.now }
 {
@@ -22,7 +21,7 @@ pub fn begins_as_url(text: &[u8]) -> bool
     begins_in_any_case(b"http://", text) || begins_in_any_case(b"https://", text)
 }
 
-/// The value as a text, if it is UTF-8.
+/// If it is UTF-8.
 pub fn as_text<'a>(value: &'a [u8]) -> Option<&'a str>
     ensures { MatchOption result (is_utf8 value.now ≡ false)
         (λ text. (is_utf8 value.now ≡ true) × (text.now ≡ value.now)) }
@@ -33,7 +32,6 @@ pub fn as_text<'a>(value: &'a [u8]) -> Option<&'a str>
     }
 }
 
-/// Whether `url` can't parse the text.
 fn is_unparsable(alloc: Global, text: &str) -> Result<bool, AllocError>
     ensures { IfOk result (λ answer. answer ≡ is_unparsable text.now) }
 {
@@ -44,7 +42,6 @@ fn is_unparsable(alloc: Global, text: &str) -> Result<bool, AllocError>
     }
 }
 
-/// Whether the text starts like an http(s) URL, and can be parsed.
 pub(crate) fn is_parsable_url(alloc: Global, text: &str) -> Result<bool, AllocError>
     ensures { IfOk result (λ answer. answer ≡ (begins_as_url text.now && not (is_unparsable text.now))) }
 {
@@ -61,14 +58,12 @@ pub fn is_absolute_url(alloc: Global, value: &[u8]) -> Result<bool, AllocError>
     }
 }
 
-/// Whether the text has a third slash in place of a host.
 fn begins_without_host(text: &[u8]) -> bool
     ensures { result ≡ begins_without_host text.now }
 {
     begins_in_any_case(b"http:///", text) || begins_in_any_case(b"https:///", text)
 }
 
-/// Whether the host of the URL is an IP address, or a name that only this machine has, or one that templates leave.
 fn is_local(url: &Url) -> bool
     ensures { result ≡ is_local url.now }
 {
@@ -78,7 +73,6 @@ fn is_local(url: &Url) -> bool
     }
 }
 
-/// Whether the value is an absolute http(s) URL that other machines can't use because of its host.
 pub(crate) fn has_odd_host(alloc: Global, value: &[u8]) -> Result<bool, AllocError>
     ensures { IfOk result (λ answer. answer ≡ has_odd_host value.now) }
 {

@@ -13,22 +13,21 @@ use std::marker::Model;
 /// What a message ends with.
 #[derive(Clone, Copy)]
 pub enum Detail {
-    /// How many rules the message is about.
+    /// How many rules there are.
     Rules(usize),
-    /// The line of another rule that the message is about.
+    /// Of another rule.
     Line(usize),
-    /// The index of a known crawler whose vendor applies the group that the message is about.
+    /// The index of a known crawler whose vendor applies the group.
     Group(usize),
     /// The index of a known crawler that may be meant.
     Meant(usize),
-    /// How many other crawlers the message is about.
+    /// How many other crawlers there are.
     Others(usize),
 }
 
-/// A warning.
 #[derive(Drop)]
 pub struct Warning<'a> {
-    /// The number of the line that the warning is about, if it is about one.
+    /// If the warning is about a line.
     pub line: Option<usize>,
     pub cause: Cause,
     /// The URL or the crawler's name that the message begins with, if it does.
@@ -37,7 +36,6 @@ pub struct Warning<'a> {
     pub detail: Option<Detail>,
 }
 
-/// The warnings found so far.
 pub(crate) type Found<'a> = Vec<Warning<'a>>;
 
 impl<'a> Model for Warning<'a> {
@@ -51,7 +49,7 @@ impl<'a> Model for Warning<'a> {
 }
 
 impl<'a> Warning<'a> {
-    /// The same warning again; a struct that has a model and a lifetime can't be `Copy`.
+    /// A struct that has a model and a lifetime can't be `Copy`.
     pub fn copy(&self) -> Warning<'a>
         ensures { result ≡ self.now }
     {
@@ -64,7 +62,6 @@ impl<'a> Warning<'a> {
     }
 }
 
-/// The URL or the crawler's name that a message begins with, if there is one.
 fn about_part<'a>(cause: Cause, about: Option<&'a str>) -> Part<'a>
     ensures { raw_text result ≡ part_text (about_part cause (option_map (λ name. name.now) about.entry)) }
 {
@@ -82,7 +79,6 @@ fn about_part<'a>(cause: Cause, about: Option<&'a str>) -> Part<'a>
     }
 }
 
-/// The text of the reason, which follows it.
 fn reason_part(cause: Cause, about: Option<&str>) -> Part<'static>
     ensures { raw_text result ≡ part_text (reason_part cause (option_map (λ name. name.now) about.entry)) }
 {
@@ -92,7 +88,6 @@ fn reason_part(cause: Cause, about: Option<&str>) -> Part<'static>
     }
 }
 
-/// What a message ends with, with its first words.
 fn detail_part(detail: Option<Detail>) -> Part<'static>
     ensures { raw_text result ≡ part_text (detail_part detail) }
 {
@@ -112,7 +107,6 @@ fn detail_part(detail: Option<Detail>) -> Part<'static>
     }
 }
 
-/// What follows it.
 fn detail_end(detail: Option<Detail>) -> Part<'static>
     ensures { raw_text result ≡ part_text (detail_end detail) }
 {
@@ -126,7 +120,6 @@ fn detail_end(detail: Option<Detail>) -> Part<'static>
     }
 }
 
-/// The message of a warning, with the URL or the crawler's name that it begins with, and what it ends with.
 fn message_parts<'a>(warning: &Warning<'a>) -> [Part<'a>; 4]
     ensures { raw_line result ≡ parts_text (message_parts warning.now) }
 {
@@ -146,7 +139,6 @@ pub fn push_warning_text(text: &mut String, warning: &Warning<'_>) -> Result<(),
     push_parts(text, &message_parts(warning))
 }
 
-/// The message of a warning, followed by its name in brackets.
 fn reported_parts<'a>(warning: &Warning<'a>) -> [Part<'a>; 6]
     ensures { raw_line result ≡ parts_text (reported_parts warning.now) }
 {

@@ -46,7 +46,6 @@ pub struct FileRead<'f, 'b> {
     pub site: &'f Site,
 }
 
-/// Appends the warnings whose conditions hold.
 fn warn<'a>(
     found: &mut Found<'a>,
     line: Option<usize>,
@@ -69,7 +68,6 @@ fn warn<'a>(
     Ok(())
 }
 
-/// Appends this warning, whose message ends with this number, for each line with one of these numbers.
 fn warn_at(
     found: &mut Found<'_>,
     cause: Cause,
@@ -89,7 +87,6 @@ fn warn_at(
     Ok(())
 }
 
-/// Appends the warnings about the URLs.
 fn warn_of_urls<'a>(
     alloc: Global,
     found: &mut Found<'a>,
@@ -104,7 +101,6 @@ fn warn_of_urls<'a>(
     Ok(())
 }
 
-/// Appends the warnings about the file as a whole and the URLs.
 fn warn_in_general<'a>(
     alloc: Global,
     found: &mut Found<'a>,
@@ -121,7 +117,6 @@ fn warn_in_general<'a>(
     warn_of_urls(alloc, found, urls)
 }
 
-/// Appends the warnings about the value of an Allow or a Disallow.
 fn warn_of_rule(found: &mut Found<'_>, line: Option<usize>, value: &[u8]) -> Result<(), AllocError>
     ensures { OnOk result (Adds found.old.items found.new.items (warned line None (rule_checks value.now))) }
 {
@@ -129,7 +124,7 @@ fn warn_of_rule(found: &mut Found<'_>, line: Option<usize>, value: &[u8]) -> Res
     warn(found, line, None, &content_checks(value))
 }
 
-/// Appends the warnings about the value of a line. Rules are only checked if `is_in_scope` is true.
+/// Rules are only checked if `is_in_scope` is true.
 fn warn_of_value(
     alloc: Global,
     found: &mut Found<'_>,
@@ -156,7 +151,7 @@ fn warn_of_value(
     }
 }
 
-/// Appends the warnings about what a directive with a colon, whose tail and comment are `parts`, has besides its value.
+/// What a directive with a colon has besides its value; `parts` are its tail and its comment.
 fn warn_of_raw_value(
     found: &mut Found<'_>,
     is_in_scope: bool,
@@ -185,8 +180,7 @@ fn warn_of_raw_value(
     }
 }
 
-/// Appends the warnings about what a line with this content, whose tail and comment are `parts`, has besides its value,
-/// if it is a directive.
+/// The same for any line with this content.
 fn warn_of_content(
     found: &mut Found<'_>,
     is_in_scope: bool,
@@ -212,7 +206,7 @@ fn warn_of_content(
     warn_of_raw_value(found, is_in_scope, number, labeled.line, parts)
 }
 
-/// Appends the warnings about a line with this content, which the size limit cuts if `is_cut` is true.
+/// The size limit cuts the line if `is_cut` is true.
 fn warn_of_line(
     alloc: Global,
     found: &mut Found<'_>,
@@ -235,7 +229,6 @@ fn warn_of_line(
     warn(found, Some(labeled.number), None, &checks)
 }
 
-/// Appends the warnings about each line of a file, if lines are checked.
 fn warn_of_lines(
     alloc: Global,
     found: &mut Found<'_>,
@@ -261,7 +254,6 @@ fn warn_of_lines(
     Ok(())
 }
 
-/// Appends the warnings about the positions of lines.
 fn warn_of_positions(found: &mut Found<'_>, labels: &[LabeledLine<'_>]) -> Result<(), AllocError>
     ensures { OnOk result (Adds found.old.items found.new.items (position_warnings (map label_by_value labels.now))) }
 {
@@ -281,7 +273,6 @@ fn warn_of_positions(found: &mut Found<'_>, labels: &[LabeledLine<'_>]) -> Resul
     Ok(())
 }
 
-/// Appends the warnings about names past the size limit, if lines are checked.
 fn warn_past_limit(
     alloc: Global,
     found: &mut Found<'_>,
@@ -297,7 +288,6 @@ fn warn_past_limit(
     warn_at(found, Cause::GroupPastSizeLimit, None, &numbers)
 }
 
-/// Appends this warning about the line with this number, if there is another line that it is about.
 fn warn_beside(
     found: &mut Found<'_>,
     cause: Cause,
@@ -318,7 +308,6 @@ fn warn_beside(
     Ok(())
 }
 
-/// Appends the warnings about the line with this number.
 fn warn_of_number(found: &mut Found<'_>, number: usize, lines: &RuleLines) -> Result<(), AllocError>
     ensures { OnOk result (Adds found.old.items found.new.items (warnings_at lines.now number)) }
 {
@@ -328,7 +317,6 @@ fn warn_of_number(found: &mut Found<'_>, number: usize, lines: &RuleLines) -> Re
     warn_beside(found, Cause::EmptyDisallow, number, disallow)
 }
 
-/// Appends the warnings about these lines.
 fn warn_of_numbers(
     found: &mut Found<'_>,
     labels: &[LabeledLine<'_>],
@@ -343,7 +331,6 @@ fn warn_of_numbers(
     Ok(())
 }
 
-/// Appends the warnings about the rules of these crawlers.
 fn warn_of_crawlers(
     alloc: Global,
     found: &mut Found<'_>,
@@ -359,7 +346,6 @@ fn warn_of_crawlers(
     warn_of_numbers(found, read.labels, &lines)
 }
 
-/// Appends this warning about the rules that their group lacks in this spelling.
 fn warn_of_spelling(
     alloc: Global,
     found: &mut Found<'_>,
@@ -375,7 +361,6 @@ fn warn_of_spelling(
     warn_at(found, cause, None, &numbers)
 }
 
-/// Appends the warnings about the rules of a group or of a crawler as a whole.
 fn warn_of_groups<'a>(
     alloc: Global,
     found: &mut Found<'a>,

@@ -11,24 +11,22 @@ use Rattle.std.specs.HashSet as hash
 abbrev pub value_eq : Value → Value → Bool
 value_eq one two = bytes_eq one.bytes.now two.bytes.now
 
--- a set of values, for any hash function
 abbrev pub Values : Type 0 → Type 0
 Values S = HashSet Value S
 
--- the set has exactly the values of the rules of this kind in these lines
+-- exactly the values of the rules of this kind in these lines
 pub record HasValues {S : Type 0} (values : Values S) (is_allow : Bool) (lines : List LineValue)
     : Type 0 where
   pub each : (key : Value) → hash.contains value_eq values key
       ≡ list_any (is_rule_with is_allow key.bytes.now) lines
 
--- the value was inserted, and `is` is true if the set had it already
+-- `is`: the set had the value already
 pub record AddsValue {S : Type 0} (old new : Values S) (value : List ℕ) (is : Bool) : Type 0 where
   pub was : (is_allow : Bool) (lines : List LineValue) → HasValues old is_allow lines
       → is ≡ list_any (is_rule_with is_allow value) lines
   pub each : (key : Value) → hash.contains value_eq new key
       ≡ (hash.contains value_eq old key || bytes_eq value key.bytes.now)
 
--- the line is a rule with an escape that calls for the spelling
 abbrev pub has_other_value : Spelling → LineValue → Bool
 has_other_value spelling (Allow value) = has_other_escape spelling value
 has_other_value spelling (Disallow value) = has_other_escape spelling value
@@ -37,22 +35,22 @@ has_other_value spelling _ = false
 abbrev pub has_other_line : Spelling → Label → Bool
 has_other_line spelling label = has_other_value spelling label.line
 
--- the sets have exactly the values of the rules in these lines
+-- exactly the values of the rules in these lines
 pub record HasSeen (seen : Seen) (above : List LineValue) : Type 0 where
   pub allows : HasValues seen.allows true above
   pub disallows : HasValues seen.disallows false above
 
--- the line was added; `is` is true if it repeats a rule
+-- `is`: the line repeats a rule
 pub record AddsRule (old new : Seen) (line : LineValue) (is : Bool) : Type 0 where
   pub was : (above : List LineValue) → HasSeen old above → is ≡ is_repeated above line
   pub has : (above : List LineValue) → HasSeen old above → HasSeen new (above ++ line ∷ [])
 
--- the same, or all rules were dropped if it is a user-agent line
+-- the same, but a user-agent line drops all rules
 pub record AddsLine (old new : Seen) (line : LineValue) (is : Bool) : Type 0 where
   pub was : (above : List LineValue) → HasSeen old above → is ≡ is_repeated above line
   pub has : (above : List LineValue) → HasSeen old above → HasSeen new (above_next above line)
 
--- the search: `found` with the numbers among the labels that are left is the result
+-- `found` with the numbers among the labels that are left is the result
 pub record IsFoundUpto (everywhere : Bool) (seen : Seen) (found : List ℕ) (left all : List Label)
     : Type 0 where
   pub above : List LineValue

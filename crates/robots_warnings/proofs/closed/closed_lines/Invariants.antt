@@ -3,7 +3,6 @@ use Rattle.texting_robots.specs.Callers.{file_lines}
 use Rattle.robots_warnings.specs.{Closed.closed_at, Internal.Rules.HasExempt, Internal.Rules.agents_at}
 use Rattle.robots_warnings.proofs.closed.closed_lines.Given as goal
 
--- those of the first crawlers, and those of the others, are all
 abbrev pub invariant-loop-agent : goal.invariant-loop-agent
 invariant-loop-agent l =
     let lines = file_lines l.site in

@@ -4,7 +4,6 @@ use Rattle.texting_robots.specs.Callers.{file_lines, sitemaps_in}
 use Rattle.robots_warnings.specs.Closed.{is_exempt, is_literally, opened_path}
 use Rattle.robots_warnings.proofs.closed.exempt_patterns.Given as goal
 
--- a pattern is exempt if it is in the set, or a sitemap in a line that is left opens it
 abbrev pub invariant-loop-line : goal.invariant-loop-line
 invariant-loop-line l = record {
   can_next : (goal.iterator-loop-line).can_next l.line-iterator;

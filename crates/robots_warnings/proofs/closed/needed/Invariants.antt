@@ -4,7 +4,6 @@ use Rattle.texting_robots.specs.Callers.{file_lines, placed_rules}
 use Rattle.robots_warnings.specs.Closed.{is_rival}
 use Rattle.robots_warnings.proofs.closed.needed.Given as goal
 
--- a pattern has a rival exactly if it is too short, or one of the rules that are left is
 abbrev pub invariant-loop-rule : goal.invariant-loop-rule
 invariant-loop-rule l = record {
   can_next : (goal.iterator-loop-rule).can_next l.rule-iterator;

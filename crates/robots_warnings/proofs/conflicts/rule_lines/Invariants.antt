@@ -4,7 +4,6 @@ use Rattle.texting_robots.specs.Callers.{file_lines}
 use Rattle.robots_warnings.specs.Conflicts.{conflict, overruled}
 use Rattle.robots_warnings.proofs.conflicts.rule_lines.Given as goal
 
--- those of the first crawlers, and those of the others, are all
 abbrev pub invariant-loop-agent : goal.invariant-loop-agent
 invariant-loop-agent l =
     let lines = file_lines l.site in

@@ -3,7 +3,6 @@ use Rattle.texting_robots.specs.Callers.{file_lines}
 use Rattle.robots_warnings.specs.{Internal.row_value, Warnings.vendor_warnings}
 use Rattle.robots_warnings.proofs.crawlers.warn_of_vendors.Given as goal
 
--- those found and those of the remaining rows are all warnings
 abbrev pub invariant-loop-number : goal.invariant-loop-number
 invariant-loop-number l =
     let all = vendor_warnings l.everywhere (map (λ agent. agent.now) l.agents) (file_lines l.site) in

@@ -4,7 +4,6 @@ use Rattle.texting_robots.specs.Callers.{bodies_read, label_by_value}
 use Rattle.robots_warnings.specs.Conflicts.{is_empty_at}
 use Rattle.robots_warnings.proofs.empty_disallows.empty_disallows.Given as goal
 
--- the numbers found and those of the remaining lines are all
 abbrev pub invariant-loop-body : goal.invariant-loop-body
 invariant-loop-body l =
     (number : ℕ) → (contains nat_cmp l.numbers number

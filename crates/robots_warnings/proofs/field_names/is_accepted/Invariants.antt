@@ -3,7 +3,6 @@ use Rattle.std.specs.{List.list_any, Str.str_to_ascii_lowercase}
 use Rattle.robots_warnings.specs.FieldNames.{is_accepted}
 use Rattle.robots_warnings.proofs.field_names.is_accepted.Given as goal
 
--- the token is an accepted name exactly if it is among the remaining ones
 abbrev pub invariant-loop-spelling : goal.invariant-loop-spelling
 invariant-loop-spelling l =
     list_any (bytes_eq (str_to_ascii_lowercase l.word))

@@ -4,7 +4,6 @@ use Rattle.robots_warnings.specs.{declared.positions.Preceding.TheVariants.Other
 use Rattle.robots_warnings.specs.Closed.{is_lacking, replacing_from}
 use Rattle.robots_warnings.proofs.replaced.replacing.Given as goal
 
--- the numbers found and those among the remaining lines are all numbers
 abbrev pub invariant-loop-rest : goal.invariant-loop-rest
 invariant-loop-rest l =
     let agents = map (λ agent. agent.now) l.agents in

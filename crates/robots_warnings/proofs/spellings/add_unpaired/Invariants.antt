@@ -3,7 +3,6 @@ use Rattle.texting_robots.specs.Callers.{Label, label_by_value}
 use Rattle.robots_warnings.specs.{File.lines_of, Spellings.is_unpaired_at, Spellings.unpaired_in}
 use Rattle.robots_warnings.proofs.spellings.add_unpaired.Given as goal
 
--- the numbers found and those among the remaining lines are all numbers
 abbrev pub invariant-loop-labeled : goal.invariant-loop-labeled
 invariant-loop-labeled l =
     let group = map label_by_value l.group in

@@ -2,7 +2,6 @@ use Rattle.std.proofs.Common.{◌≡◌, ◌++◌, length}
 use Rattle.robots_warnings.specs.Spellings.{spelled}
 use Rattle.robots_warnings.proofs.spellings.spelled.Given as goal
 
--- what is written and the spelling of the rest are the whole spelling
 abbrev pub invariant-loop-rest : goal.invariant-loop-rest
 invariant-loop-rest l = l.text.items ++ spelled l.spelling l.rest ≡ spelled l.spelling l.value
 

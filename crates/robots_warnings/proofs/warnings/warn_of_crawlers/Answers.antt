@@ -14,7 +14,6 @@ returns c =
     let is_empty = is_empty_at (bodies_read c.args.read.now.bytes.now) labels in
     let empty : contains nat_cmp c.in_ok-empty.empty ≡ is_empty = λ i n. c.in_ok-empty.ensures n i in
     let are = c.in_ok-lines.ensures in
-    -- functions that agree give the same warnings
     let same : flat_map (λ label. warnings_at c.in_ok-lines.lines label.number) labels
     ≡ crawler_warnings is_empty agents lines labels = λ i. flat_map (λ label. rule_warnings
     (λ n. (are.conflicts n ∙ ap (λ is_empty. conflict is_empty agents lines n) empty) i)

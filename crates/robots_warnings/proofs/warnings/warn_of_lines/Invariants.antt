@@ -3,7 +3,6 @@ use Rattle.texting_robots.specs.Callers.{bodies_read, label_by_value}
 use Rattle.robots_warnings.specs.Warnings.{lines_warnings}
 use Rattle.robots_warnings.proofs.warnings.warn_of_lines.Given as goal
 
--- those found and those of the remaining lines are all warnings
 abbrev pub invariant-loop-body : goal.invariant-loop-body
 invariant-loop-body l =
     let warnings = lines_warnings l.read.facts.has_cut_line l.everywhere in

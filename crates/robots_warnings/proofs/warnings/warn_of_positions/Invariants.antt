@@ -3,7 +3,6 @@ use Rattle.texting_robots.specs.Callers.{label_by_value}
 use Rattle.robots_warnings.specs.Warnings.{position_warnings, positions_from}
 use Rattle.robots_warnings.proofs.warnings.warn_of_positions.Given as goal
 
--- those found and those of the remaining lines are all warnings
 abbrev pub invariant-loop-rest : goal.invariant-loop-rest
 invariant-loop-rest l =
     l.found.items

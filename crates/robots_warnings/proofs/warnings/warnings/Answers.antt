@@ -1,7 +1,6 @@
 use Rattle.std.proofs.Common.{◌≡◌, List, [], ◌++◌, append_assoc}
 use Rattle.robots_warnings.proofs.warnings.warnings.Goals as goal
 
--- five lists appended one after the other
 added : {X : Type 0} (none a b c d e one two three four five : List X) → none ≡ [] → a ≡ none ++ one
     → b ≡ a ++ two → c ≡ b ++ three → d ≡ c ++ four → e ≡ d ++ five
     → e ≡ one ++ (two ++ (three ++ (four ++ five)))
