@@ -65,13 +65,11 @@ pub use denote.Struct.Lending.{lent_at}
 pub use denote.Triple.Clauses.{Lasts, lasts}
 pub use denote.Triple.Entry.{Args}
 
--- ---- Borrow, call, return: a C function that borrows a handle hands on its arguments, as the machine has
--- them, to a call that takes a reference in place of the pointer, and returns the call's status.
+-- ---- Borrow, call, return: a C function that borrows a handle makes a call that takes a reference in place
+-- of the pointer, with its other arguments unchanged, and returns the call's status.
 
 abbrev pub Good : Ty → Val → Type 0
 Good τ v = IsT (has_ty τ v) × WT v
-
--- ---- the machine's words for parameters
 
 pub record Word : Type 0 where
   pub type : Ty
@@ -103,11 +101,9 @@ are_values (w ∷ ws) = λ j. w.is j ++ are_values ws j
 pub pointer_typed : {M : Type 1} {𝓤 : Ura M} (𝓛 : Logic 𝓤) (p : Ptr) → Good ty_ptr (ptr_val p)
 pointer_typed 𝓛 p = ((rawptr_Lawful 𝓛).typed p (ptr_val p ∷ []) refl).0
 
--- a reference, and a pointer that isn't null
 abbrev pub place : {b o : ℕ} {vs : List Val} → vs ≡ vptr b o ∷ [] → Word
 place {b} {o} {vs} is = record { type = ty_ptr; listed = vs; value = vptr b o; is = is; good = (tt, tt) }
 
--- a pointer to what is lent
 abbrev pub lent_place : {at : Ptr} {b o : ℕ} {vs : List Val} → vs ≡ ptr_val at
     ∷ [] → at ≡ block_ptr b o → Word
 lent_place is e = place (is ∙ ap (λ (p : Ptr). ptr_val p ∷ []) e)
@@ -115,7 +111,6 @@ lent_place is e = place (is ∙ ap (λ (p : Ptr). ptr_val p ∷ []) e)
 abbrev pub reference : {X : Type 0} → X → ℕ → ℕ → Bor X
 reference x b o = record { ref_ptr = (b, o); now = x }
 
--- a number of 64 bits
 abbrev pub number : {n : ℕ} {vs : List Val} → (vs ≡ vint w64 n ∷ []) × (n < 2 ^ 64) → Word
 number {n} {vs} (is, fits) = record {
   type = ty_int w64;
@@ -125,7 +120,6 @@ number {n} {vs} (is, fits) = record {
   good = (tt, record { fits = fits });
 }
 
--- a pointer
 abbrev pub pointer : {M : Type 1} {𝓤 : Ura M} (𝓛 : Logic 𝓤) → Ptr → Word
 pointer 𝓛 p = record {
   type = ty_ptr;
@@ -177,7 +171,6 @@ abbrev pub under : List Fml → Fml → Fml
 under [] F = F
 under (A ∷ As) F = fsep A (under As F)
 
--- what a call ensures
 abbrev pub ensured_by : {M : Type 1} {𝓤 : Ura M} (T : Ended) (c : Clauses 𝓤 T)
     (κs : Lfts T.signature.lifetimes) (a : Args T.signature κs) → (c κs a).ghost → Res T.signature κs
     → Lasts T κs a → SProp 𝓤
@@ -216,7 +209,7 @@ module _ {M : Type 1} {𝓤 : Ura M} (𝓛 : Logic 𝓤) (𝓜 : Model 𝓤 𝓛
     abbrev t : Contract 𝓤
     t = triple_of 𝓛 S c
 
-    -- a proof may use what the parameters' values show of the machine's
+    -- a proof may use what the parameters' values mean for the machine's
     pub meets : (key : Callee) (fn : Fn) → Closed 𝓤 H 𝓣.C 𝓣.Λ key fn
         → ((z : t.Ghost) → Are (types_at S.params z.0.0) (Ises (types_at S.params z.0.0)) z.0.3 z.0.4
         → ent 𝓤 (t.pre z) (WpFn 𝓤 H 𝓣.C 𝓣.Λ fn (t.args z) (t.post z)))
@@ -245,7 +238,6 @@ module _ {M : Type 1} {𝓤 : Ura M} (𝓛 : Logic 𝓤) (𝓜 : Model 𝓤 𝓛
       (λ v. use1 𝓛 (later (some (λ (r : A). given (Φ r v) (raw (Q r v))))) (c.after v) $ await t tt $
       pick t (λ r. learn t (k v r)))
 
-  -- a call gives Q of its result, which is of this type
   abbrev pub Returns : Callee → Ty → List Val → SProp 𝓤 → (Val → SProp 𝓤) → Type 2
   Returns f τ vs X Q = CallGives f vs {A = Unit {0}} (λ r v. Good τ v) X (λ r v. Q v)
 
@@ -274,7 +266,6 @@ module _ {M : Type 1} {𝓤 : Ura M} (𝓛 : Logic 𝓤) (𝓜 : Model 𝓤 𝓛
       show ! (λ (r : ℤ). sep 𝓤 (sep 𝓤 (sem 𝓛 T) (sem 𝓛 (i32.own_val r (v ∷ [])))) (ex 𝓤 (λ (w : W).
       sep 𝓤 (sem 𝓛 (lasts w)) (E r w)))) r $ move ! (1 ∷ 0 ∷ []) $ join ! $ frame ! $ done !))
 
-  -- the call is the last of the function, which returns its status
   pub calls_at_once : {X : List (Item 𝓤)} {f : Callee} (fn : Fn)
       (ws : List Word) {vs : List Val} {W : Type 0} (T : Fml)
       (lasts : W → Fml) (E : ℤ → W → SProp 𝓤) → vs ≡ values ws → ent 𝓤 (⋆ 𝓛 X) (𝓣.C f vs (Exit T lasts E))
@@ -288,8 +279,7 @@ module _ {M : Type 1} {𝓤 : Ura M} (𝓛 : Logic 𝓤) (𝓜 : Model 𝓤 𝓛
         after = status_good T lasts E;
       })).prf)
 
-  -- ---- a handle is borrowed, a call with a reference in place of the pointer is made, and its status is
-  -- returned
+  -- ---- the same for a handle
   module _ (R : RattleType) (at : Ptr) (x : R.Denot) (κ : Lft) (q : Share) where
     -- with the token of the reference, which is left of it
     abbrev pub with_token : {W : Type 0} → (ℤ → W → SProp 𝓤) → ℤ → W → SProp 𝓤
@@ -330,7 +320,6 @@ module _ {M : Type 1} {𝓤 : Ura M} (𝓛 : Logic 𝓤) (𝓜 : Model 𝓤 𝓛
         suffices ! _ (WpFn-mono 𝓤 H 𝓛.laws (tables_of 𝓤 H 𝓜 𝓣) fn vs (Exit (fsep (flft κ q) T) lasts E)
         (Exit T lasts (with_token E)) (token_back T lasts E)) $ calls b o e)
 
-    -- borrow, call, return
     pub borrows : (before : List Fml) {T : Fml} (w : List Val) (rest : Fml) {P : SProp 𝓤}
         {f : Callee} (fn : Fn) {W : Type 0} (lasts : W → Fml) (E : ℤ → W → SProp 𝓤) (vs : List Val)
         → ((b o : ℕ) → at ≡ block_ptr b o → (ws : List Word) × (vs ≡ in_a_row ws)
@@ -346,18 +335,16 @@ module _ {M : Type 1} {𝓤 : Ura M} (𝓛 : Logic 𝓤) (𝓜 : Model 𝓤 𝓛
         calls_at_once fn h.0 (fsep (flft κ q) T) lasts E (h.1 ∙ are_values h.0) (met b o) h.2)
 
 -- ---- What C opens can be lent to calls, and closed when they have ended: what `robots_open` ensures gives
--- what `robots_query` requires, and for what that ensures again there is what `robots_close` requires. The
--- same holds of a site, and of each handle that `robots_share` or `robots_site_share` opens.
+-- what `robots_query` requires, and for what that ensures again there is what `robots_close` requires.
 
--- this value is lent for a lifetime of which the caller has the whole token, and for this token the caller
--- gets back what can be closed
+-- the value is lent for a lifetime of which the caller has the whole token; for this token the caller gets
+-- back what can be closed
 abbrev pub Lent : {M : Type 1} {𝓤 : Ura M} (𝓛 : Logic 𝓤) (R : RattleType) → Ptr → R.Denot → ℕ → SProp 𝓤
 Lent {𝓤 = 𝓤} 𝓛 R at x α =
     let token : SProp 𝓤 = sem 𝓛 (flft (α ∷ []) full_share) in
     sep 𝓤 (sem 𝓛 (lent_at R at x (α ∷ []))) (sep 𝓤 token
     (wand 𝓤 token (𝓛.H.⇛ (sem 𝓛 (owned_or_null R at x)))))
 
--- a value of which P holds can be lent so
 abbrev pub CanBeLent : {M : Type 1} {𝓤 : Ura M} (𝓛 : Logic 𝓤) (R : RattleType) → (R.Denot → Type 0) → Ptr
     → SProp 𝓤
 CanBeLent {𝓤 = 𝓤} 𝓛 R P at =

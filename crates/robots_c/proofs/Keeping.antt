@@ -1,5 +1,5 @@
--- What C keeps between calls: the machine values of a `Kept` and a `Handle`, and what they own; and C
--- functions that open and close it.
+-- What C keeps between calls: the machine values of a `Kept` and a `Handle`, what they own, and C functions
+-- that open and close it.
 pub use Rattle.std.proofs.Common.{◌≢◌, ℤ, pos, Some, lit<}
 pub use base.Fml.{ftrue, fall, fsep}
 pub use base.Logic.{SProp, emp, id⊢, sep}
@@ -67,11 +67,9 @@ word z v = vstruct (vcons (vint w32 (of_z w32 z)) (vcons v vnil))
 abbrev pub Fits : ℤ → Type 0
 Fits z = mag z < 2 ^ hbits w32
 
--- the machine value of a `Handle`: its pointer and its allocator
 abbrev pub handle_word : ℕ → ℕ → Val → Val
 handle_word b o h = vstruct (vcons (vptr b o) (vcons h vnil))
 
--- a box over the heap, as the crate has it
 abbrev heap_row : RattleType
 heap_row = arg (bare (layout Global.the_row)) no Global.the_row
 
@@ -131,8 +129,7 @@ module _ (R : RattleType) where
           (((tt, tt), tt), tt),
         ) (w ∷ [])) (vptr b o ∷ [], (h ∷ [], tt)) $ fjoin t $ s)
 
-    -- either the pointer is null and nothing is owned, or it points to an owned value and may be compared
-    -- with null
+    -- either the pointer is null and nothing is owned, or it points to an owned value
     pub null_or_owned : K → (p : Ptr) (x : R.Denot) → (p ≡ null_ptr → Seq K 𝓛 Γ G)
         → ((b o : ℕ) → p ≡ block_ptr b o → Testable (block_ptr b o)
         → Seq K 𝓛 (‵ (owned_at R (block_ptr b o) x) ∷ Γ) G)
@@ -159,12 +156,10 @@ module _ (R : RattleType) where
 -- ---- A C function that opens something makes a call, writes the pointer of what that gives, and returns its
 -- status.
 
--- a variable's last value, with its borrow
 abbrev pub last_value : (R : RattleType) → Lft → MutBor R.Denot → R.Denot → Fml
 last_value R γ x last = fsep (fres x.ghost_name (R.coded.code last))
     (fbor γ (Behind (mem R) x.ref_ptr.0 x.ref_ptr.1 x.ghost_name))
 
--- the machine value of a status
 abbrev pub status_val : ℤ → Val
 status_val n = vint w32 (of_z w32 n)
 
@@ -177,7 +172,7 @@ module _ {M : Type 1} {𝓤 : Ura M} (𝓛 : Logic 𝓤) where
   abbrev pub CellOf : MutBor Ptr → Ptr → Fml
   CellOf out p = cell_at full_share RawPtr.mir (ptr_val p ∷ []) out.ref_ptr.0 out.ref_ptr.1
 
-  -- ---- one of several formulas, taken out and put back
+  -- one of several formulas, taken out and put back
   taken : (before : List Fml) (F rest : Fml) → ent 𝓤 (sem 𝓛 (under before (fsep F rest))) (sep 𝓤 (sem 𝓛 F)
       (sem 𝓛 (under before rest)))
   taken [] F rest = id⊢ 𝓤 _
@@ -201,7 +196,6 @@ module _ {M : Type 1} {𝓤 : Ura M} (𝓛 : Logic 𝓤) (𝓜 : Model 𝓤 𝓛
       Fits r.status) X
       (λ r u. Q r)
 
-  -- the pointer of what is kept has been written, and this is its status
   abbrev pub Wrote : MutBor Ptr → ((Row R).Denot → SProp 𝓤) → Val → SProp 𝓤
   Wrote out Q v = ex 𝓤 (λ (r : (Row R).Denot). guard 𝓤 ((v ≡ status_val r.status) × Fits r.status)
       (sep 𝓤 (sem 𝓛 (CellOf 𝓛 out r.at)) (Q r)))
@@ -217,7 +211,6 @@ module _ {M : Type 1} {𝓤 : Ura M} (𝓛 : Logic 𝓤) (𝓜 : Model 𝓤 𝓛
       → Seq (Go {0}) 𝓛 (later (‵ (CellOf 𝓛 out out.now) ⊛ raw X)
       ∷ []) (prop (WpFn 𝓤 H (𝓣 𝓛 𝓜 𝓡).C (𝓣 𝓛 𝓜 𝓡).Λ fn vs (Wrote out Q)))
 
-  -- if the status is 0, C owns what is kept
   pub owned_now : (P : R.Denot → Type 0) (A : Type 0) (E : SProp 𝓤) (r : (Row R).Denot)
       → (A → r.status ≡ pos 0 → (x : R.Denot) × P x × (r.value ≡ Some x))
       → ent 𝓤 (sep 𝓤 (sep 𝓤 (fact 𝓤 A) E) (sem 𝓛 (kept_at R r.at r.value)))
@@ -349,8 +342,7 @@ module _ {M : Type 1} {𝓤 : Ura M} (𝓛 : Logic 𝓤) (𝓜 : Model 𝓤 𝓛
             after = kept_after (under ts t) lasts' E';
           })).prf))
 
--- ---- A C function that closes something makes a handle of a pointer and hands it on, unless the pointer is
--- null.
+-- ---- A C function that closes something makes a handle of a pointer, unless the pointer is null.
 
 abbrev pub null_place : {at : Ptr} {vs : List Val} → vs ≡ ptr_val at ∷ [] → at ≡ null_ptr → Word
 null_place {vs = vs} is e = record {
@@ -364,7 +356,6 @@ null_place {vs = vs} is e = record {
 module _ {M : Type 1} {𝓤 : Ura M} (𝓛 : Logic 𝓤) where
   open 𝓛 use {H}
 
-  -- at the exit of a function that returns `()` and ensures nothing
   abbrev pub UnitExit : {W : Type 0} → (W → Fml) → Val → SProp 𝓤
   UnitExit {W} lasts v = H.⇛ (ex 𝓤 (λ (r : Unit {0}). sep 𝓤 (sep 𝓤 (emp 𝓤) (sem 𝓛 (unit.own_val r (v ∷ []))))
       (ex 𝓤 (λ (w : W). sep 𝓤 (sem 𝓛 (lasts w)) (emp 𝓤)))))

@@ -22,8 +22,6 @@ use Rattle.robots_c.specs.declared.fault.Fault.{Fault, TheVariants.Memory, TheVa
 
 -- ---- A number encodes a verdict and its deciding line, and it fits in an `i64`.
 
--- ---- adding an item
-
 pub zip_append : {A B : Type 0} (R : A → B → Type 0) (xs more : List A) (ys others : List B)
     → AllZip R xs ys → AllZip R more others → AllZip R (xs ++ more) (ys ++ others)
 zip_append R [] more [] others are too = too
@@ -38,13 +36,9 @@ pub one_more : {A B : Type 0} (R : A → B → Type 0) (xs : List A) (at : ℕ) 
 one_more R xs at x ys y (below, here) are is =
     rw (take_more xs at x below) (zip_append R _ _ ys (y ∷ []) are (subst (λ x. R x y) here is, tt))
 
--- ---- the lines of a site
-
 pub by_lines : (site : List ℕ) (P : List LineValue → Type 0) → HasLines site P → P (file_lines site)
 by_lines site P is =
     of_lines site P is (file_lines site) ((each_text_has_its_lines (map nul_as_lf site) _).1 refl)
-
--- ---- line numbers fit
 
 lines_counted : (text : List ℕ) → length (file_lines text) ≤ length text
 lines_counted text = omega (arith, lines_within (map nul_as_lf text), length-map text nul_as_lf)
@@ -61,7 +55,6 @@ lines_fit robot (agent, file, (none, sitemaps, of)) text line decides =
     let below : place < length lines = slice_get_within lines place _ held.line.0 in
     (omega (arith, number), omega (arith, number, below, few_lines file))
 
--- the same for a robot made from a site
 pub site_lines_fit : (site agent : List ℕ) (robot : RobotValue) → IsSiteOfSomeFile site
     → IsRobotWithoutSitemaps agent site robot → LinesFit robot.rules
 site_lines_fit site agent robot (file, is) of =
@@ -85,7 +78,6 @@ number_says rules target allowed None fit verdict decides =
 number_says rules target allowed (Some line) fit verdict decides =
     line_says rules target allowed line (fit target line decides).0 verdict decides
 
--- as the machine has the number
 pub written_says : (rules : List PlacedRule) (target : List ℕ) (allowed : Bool) (line : Option ℕ)
     → LinesFit rules → IsVerdict (unplaced rules) target allowed → IsDecidingLine rules target line
     → (number : ℤ) → number ≡ number_of allowed line → SFits w64 number
@@ -100,8 +92,6 @@ line_below rules text (Some line) fit decides = (fit text line decides).1
 
 -- ---- URLs in one text, each with the place where it ends: what a loop over these places keeps.
 
--- ---- the places that are left
-
 pub left_at : (ends : List ℕ) (at end : ℕ) → (at < length ends) × (end ≡ slice_index_or ends at end)
     → drop at ends ≡ end ∷ drop (at + 1) ends
 left_at ends at end (below, here) =
@@ -112,9 +102,6 @@ pub record SameAscent (ends : List ℕ) (limit least : ℕ) (left : List ℕ) : 
   pub all : Ascend least left limit → Ascend 0 ends limit
   pub these : Ascend 0 ends limit → Ascend least left limit
 
--- ---- the URLs that are left
-
--- these URLs are UTF-8 if and only if all are
 pub record SameUtf8 (text ends : List ℕ) (start : ℕ) (left : List ℕ) : Type 0 where
   pub ascend : Ascend start left (length text)
   pub all : All IsUtf8 (pieces text start left) → All IsUtf8 (pieces text 0 ends)
@@ -134,8 +121,6 @@ next_utf8 text ends start end left same is = record {
 pub not_utf8 : (text ends : List ℕ) (start end : ℕ) (left : List ℕ) → SameUtf8 text ends start (end ∷ left)
     → ¬ IsUtf8 (take (end - start) (drop start text)) → ¬ All IsUtf8 (pieces text 0 ends)
 not_utf8 text ends start end left same refused whole = refused (All-head IsUtf8 _ _ (same.these whole))
-
--- ---- the results so far
 
 -- with the results for the URLs that are left, they are the results for all URLs
 pub record SoFar (rules : List PlacedRule) (text ends : List ℕ) (start : ℕ) (left : List ℕ)
@@ -165,16 +150,12 @@ pub count_pieces : (text : List ℕ) (start : ℕ) (ends : List ℕ) → length 
 count_pieces text start [] = refl
 count_pieces text start (end ∷ ends) = omega (arith, count_pieces text end ends)
 
--- ---- why there is no result for a URL
-
 pub only_memory : (url : List ℕ) (fault : Fault) → IsUtf8 url → IsWhyNoResult url fault → fault ≡ Memory
 only_memory url NotUtf8 is why = absurd (why is)
 only_memory url Memory is why = refl
 only_memory url _ is why = absurd why
 
 -- ---- The rows of the results of many crawlers.
-
--- ---- adding a target
 
 pub one_more_mapped : {A B C : Type 0} (f : A → C) (g : B → C) (xs : List A) (at : ℕ) (x : A) (ys : List B)
     (y : B) → (at < length xs) × (x ≡ slice_index_or xs at x) → map g ys ≡ map f (take at xs) → g y ≡ f x
@@ -191,8 +172,6 @@ pub one_more_target : {A B C : Type 0} (R : C → B → Type 0) (f : A → C) (x
 one_more_target R f xs at x ys y (below, here) are is =
     rw (take_more xs at x below, map_push f (take at xs) (slice_index_or xs at x))
     (zip_append R _ _ ys (y ∷ []) are (subst (λ z. R (f z) y) here is, tt))
-
--- ---- adding a row
 
 rows_append : (site : List ℕ) (targets : List (List ℕ)) (agents more : List (List ℕ)) (rows others : List ℤ)
     → AreRows site targets agents rows → AreRows site targets more others
@@ -220,8 +199,6 @@ one_more_row site targets agents at agent rows row (below, here) are is =
       sym (append-nil row),
     ))
 
--- ---- the number of results
-
 row_length : (site : List ℕ) (targets : List (List ℕ)) (agent : List ℕ) (row : List ℤ)
     → IsRow site targets agent row → length row ≡ length targets
 row_length site targets agent row (inl (robot, of, are)) =
@@ -247,8 +224,6 @@ as_many_rows site targets agents urls numbers are prepared_are =
     rows_length site targets (items_in agents) numbers are
     ∙ ap (λ n. length (items_in agents) * n) (ap length prepared_are ∙ length-map (items_in urls) prepared)
 
--- ---- crawlers that the site doesn't name
-
 abbrev star : List ℕ
 star = codes "*"
 
@@ -256,7 +231,6 @@ same_if : (b : Bool) (name : List ℕ) → cond b name name ≡ name
 same_if true name = refl
 same_if false name = refl
 
--- such a crawler has the group name of `*`
 starred : (agent : List ℕ) (lines : List LineValue) → is_named agent lines ≡ false
     → group_name star lines ≡ group_name agent lines
 starred agent lines unnamed =
@@ -277,7 +251,6 @@ same_rejected agent other lines same (place, rule, holds, overlong) = (
   overlong,
 )
 
--- the row of `*` is also the row of each crawler that the site doesn't name
 pub shared_row : (site : List ℕ) (targets : List (List ℕ)) (agent : List ℕ) (row : List ℤ)
     → is_named agent (file_lines site) ≡ false → IsRow site targets star row → IsRow site targets agent row
 shared_row site targets agent row unnamed (inl (robot, of, are)) =

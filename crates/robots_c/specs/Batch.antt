@@ -5,25 +5,22 @@ use Rattle.texting_robots.specs.{Callers.PlacedRule}
 use Rattle.robots_c.specs.{Results.HasResult, Text.IsPutIn, declared.fault.Fault.Fault}
 use Rattle.robots_c.specs.declared.fault.Fault.TheVariants.{BufferTooSmall, InvalidEnds, Memory, NotUtf8}
 
--- the parts of the text that end at these places, the first from `start` on and each other from the end
--- before it
+-- the parts of the text that end at these places, the first from `start` on
 abbrev pub pieces : List ℕ → ℕ → List ℕ → List (List ℕ)
 pieces text start [] = []
 pieces text start (end ∷ ends) = take (end - start) (drop start text) ∷ pieces text end ends
 
--- each place is at least the one before it, the first at least `least`, and none is above the limit
+-- no place is below the one before it, the first not below `least`, and none is above the limit
 abbrev pub Ascend : ℕ → List ℕ → ℕ → Type 0
 Ascend least [] limit = Unit {0}
 Ascend least (end ∷ ends) limit = (least ≤ end) × (end ≤ limit) × Ascend end ends limit
 
--- the places ascend to the text's length at most, and the results for the URLs that end at them are written
--- to the start of the buffer, in order
+-- the results for the URLs that end at these places are written to the start of the buffer, in order
 abbrev pub IsBatchPutIn : List PlacedRule → List ℕ → List ℕ → List ℤ → List ℤ → Type 0
 IsBatchPutIn rules text ends old new = Ascend 0 ends (length text)
     × ((numbers : List ℤ) × AllZip (HasResult rules) (pieces text 0 ends) numbers × IsPutIn old new numbers)
 
--- why there are no results for the URLs that end at these places, with this capacity for numbers: the places
--- are checked first, then the URLs, then the room, and then an allocation can fail
+-- the places are checked first, then the URLs, then the room, and then an allocation can fail
 abbrev pub IsWhyNoBatch : List ℕ → List ℕ → ℕ → Fault → Type 0
 IsWhyNoBatch text ends capacity InvalidEnds = ¬ Ascend 0 ends (length text)
 IsWhyNoBatch text ends capacity NotUtf8 = Ascend 0 ends (length text) × ¬ All IsUtf8 (pieces text 0 ends)

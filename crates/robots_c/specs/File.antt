@@ -8,19 +8,16 @@ use Rattle.texting_robots.specs.Callers.{RobotValue, agents_in, file_limit, file
 abbrev pub bytes_read : List ℕ → List ℕ
 bytes_read file = take file_limit file
 
--- the site is that of some file
 abbrev pub IsSiteOfSomeFile : List ℕ → Type 0
 IsSiteOfSomeFile site = (file : List ℕ) × (site ≡ bytes_read file)
 
--- the crawler's name is UTF-8, and this is the crawler's robot for the site, without its sitemaps
+-- the crawler's robot for the site, without its sitemaps
 abbrev pub IsRobotFor : List ℕ → List ℕ → RobotValue → Type 0
 IsRobotFor agent site robot = IsUtf8 agent × IsRobotWithoutSitemaps agent site robot
 
--- the crawler has a robot for the site, with the property P
 abbrev pub GivesRobot : List ℕ → List ℕ → (RobotValue → Type 0) → Type 0
 GivesRobot agent site P = (robot : RobotValue) × IsRobotFor agent site robot × P robot
 
--- the robot is that of some crawler for some file
 abbrev pub IsRobotOfSomeFile : RobotValue → Type 0
 IsRobotOfSomeFile robot =
     (agent : List ℕ) × (file : List ℕ) × IsRobotWithoutSitemaps agent (bytes_read file) robot
@@ -29,12 +26,12 @@ IsRobotOfSomeFile robot =
 abbrev pub HasDelay : List ℕ → List ℕ → Option ℕ → Type 0
 HasDelay agent site delay = IsUtf8 agent × HasLines site (λ lines. IsDelayFor agent lines delay)
 
--- the text has the sitemaps that the site lists, each followed by LF
+-- the sitemaps that the site lists, each followed by LF
 pub record AreSitemaps (site text : List ℕ) : Type 0 where
   pub sitemaps : List (List ℕ)
   pub listed : HasLines site (λ lines. AreSitemapsOf lines sitemaps)
   pub written : text ≡ ended sitemaps
 
--- the text has the names in the site's user-agent lines, each once and followed by LF
+-- the names in the site's user-agent lines, each once and followed by LF
 abbrev pub AreAgents : List ℕ → List ℕ → Type 0
 AreAgents site text = text ≡ ended (agents_in (file_lines site))

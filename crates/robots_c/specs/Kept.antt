@@ -12,14 +12,13 @@ use Rattle.texting_robots.specs.contracts.robot.Robot as Robot-type
 use Rattle.texting_robots.specs.contracts.site.Site as Site-type
 use Rattle.robots_c.specs.contracts.shared.Shared as Shared-type
 
--- the types of which C keeps values
 abbrev pub Robots : RattleType
 Robots = Shared-type.the_row Robot-type.the_row
 
 abbrev pub Sites : RattleType
 Sites = Shared-type.the_row Site-type.the_row
 
--- a handle of the heap; handles have no content, so all are equal to this one
+-- handles of the heap have no content, so all are equal to this one
 abbrev pub heap : Global
 heap = record { memory = record { seal = tt } }
 
@@ -31,7 +30,6 @@ frees = ghosts.dealloc_token heap
 abbrev pub owned_at : (R : RattleType) → Ptr → R.Denot → Fml
 owned_at R at value = box_owns frees R at value
 
--- the same for a value, and nothing for `None`
 abbrev pub kept_at : (R : RattleType) → Ptr → Option R.Denot → Fml
 kept_at R at None = ftrue
 kept_at R at (Some value) = owned_at R at value
@@ -40,7 +38,6 @@ kept_at R at (Some value) = owned_at R at value
 abbrev pub owned_or_null : (R : RattleType) → Ptr → R.Denot → Fml
 owned_or_null R at value = if_non_null at (owned_at R at value)
 
--- ownership of a value with the property P
 abbrev pub opened_at : (R : RattleType) → (R.Denot → Type 0) → Ptr → Fml
 opened_at R P at = fex R.Denot (λ value. fex (P value) (λ _. owned_at R at value))
 
@@ -48,6 +45,6 @@ opened_at R P at = fex R.Denot (λ value. fex (P value) (λ _. owned_at R at val
 abbrev pub opens : (R : RattleType) → (R.Denot → Type 0) → ℤ → Ptr → Fml
 opens R P status at = fall (status ≡ pos 0) (λ _. opened_at R P at)
 
--- this value is lent for this lifetime, of whose token the caller hands over this share
+-- the caller hands over this share of the lifetime's token
 abbrev pub lends : (R : RattleType) → Ptr → Lft × Share × R.Denot → Fml
 lends R at g = fsep (lent_at R at g.2 g.0) (flft g.0 g.1)

@@ -8,8 +8,6 @@ use Rattle.robots_c.specs.{File.HasDelay, Results.items_in, declared.fault.Fault
 use Rattle.robots_c.specs.declared.fault.Fault.TheVariants.{Memory, NoAddress, NoDelay, BufferTooSmall}
 use Rattle.robots_c.specs.declared.fault.Fault.TheVariants.{InvalidEnds, NotUtf8, Overlong, TooCostly}
 
--- ---- statuses
-
 -- -1 to -8
 abbrev pub status_of : Fault → ℤ
 status_of NotUtf8 = negsuc 0
@@ -25,22 +23,20 @@ status_of TooCostly = negsuc 7
 abbrev pub HasFault : (Fault → Type 0) → ℤ → Type 0
 HasFault Why status = (status ≡ pos 0) ⊎ ((fault : Fault) × Why fault × (status ≡ status_of fault))
 
--- the caller's variable for a line after this error: the line of the rule that is too long, or the old
--- value
+-- the line of the rule that is too long, or the old value of the caller's variable
 abbrev pub line_after : Fault → ℕ → ℕ
 line_after (Overlong line) old = line
 line_after fault old = old
 
--- the same, with the caller's variable for a line before and after the call
+-- the same, with the caller's variable for a line
 abbrev pub HasFaultAt : (Fault → Type 0) → ℤ → ℕ → ℕ → Type 0
 HasFaultAt Why status old new = ((status ≡ pos 0) × (new ≡ old))
     ⊎ ((fault : Fault) × Why fault × (status ≡ status_of fault) × (new ≡ line_after fault old))
 
 -- ---- the cause of each error, by task: texts are checked first, then the room for results, then an
--- allocation can fail wherever one is made
+-- allocation can fail
 
--- this is the number, counted from 1, of the first line with a rule that applies to the crawler and is too
--- long
+-- the number, counted from 1, of the first line with a rule for the crawler that is too long
 abbrev pub IsOverlongLine : List ℕ → List ℕ → ℕ → Type 0
 IsOverlongLine agent site line = IsFirstOverlong (placed_rules agent (file_lines site)) line
 
@@ -108,7 +104,7 @@ IsWhyNoDelayOf agent site _ = ⊥
 abbrev pub IsWhyNoDelay : List ℕ → List ℕ → Fault → Type 0
 IsWhyNoDelay agent site fault = IsWhyNoDelayOf agent site fault ⊎ (IsUtf8 agent × (fault ≡ Memory))
 
--- the URL is UTF-8, and the text is the robots.txt address for its site
+-- the robots.txt address for the site of a URL that is UTF-8
 abbrev pub IsAddress : List ℕ → List ℕ → Type 0
 IsAddress url text = IsUtf8 url × (robots_address url ≡ Ok text)
 
@@ -118,8 +114,6 @@ IsWhyNoAddress url NotUtf8 = ¬ IsUtf8 url
 IsWhyNoAddress url Memory = IsUtf8 url
 IsWhyNoAddress url NoAddress = IsUtf8 url × ((error : ParseError) × (robots_address url ≡ Err error))
 IsWhyNoAddress url _ = ⊥
-
--- ---- whether a user-agent line names a crawler
 
 -- 1 if one does, 0 if none does, and the status of an error if the crawler's name isn't UTF-8
 abbrev pub SaysNamed : List ℕ → List ℕ → ℤ → Type 0

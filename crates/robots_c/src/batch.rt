@@ -11,7 +11,6 @@ use crate::urls::result_for;
 use std::alloc::Global;
 use texting_robots::Robot;
 
-/// Whether the places don't decrease, and none is above the limit.
 fn ascend(ends: &[usize], limit: usize) -> bool
     ensures { MatchBool result (Ascend 0 ends.now limit) (¬ Ascend 0 ends.now limit) }
 {
@@ -25,7 +24,6 @@ fn ascend(ends: &[usize], limit: usize) -> bool
     true
 }
 
-/// Whether the URLs that end at these places are UTF-8.
 fn are_utf8(text: &[u8], ends: &[usize]) -> bool
     requires { Ascend 0 ends.now (length text.now) }
     ensures { MatchBool result (All IsUtf8 (pieces text.now 0 ends.now)) (¬ All IsUtf8 (pieces text.now 0 ends.now)) }
@@ -40,7 +38,6 @@ fn are_utf8(text: &[u8], ends: &[usize]) -> bool
     true
 }
 
-/// The results for the URLs that end at these places.
 fn numbers_at(alloc: Global, robot: &Robot, text: &[u8], ends: &[usize]) -> Result<Vec<i64>, Fault>
     requires robot { IsRobotOfSomeFile robot.now }
     requires ends { Ascend 0 ends.now (length text.now) }
@@ -59,7 +56,6 @@ fn numbers_at(alloc: Global, robot: &Robot, text: &[u8], ends: &[usize]) -> Resu
     Ok(numbers)
 }
 
-/// The results for the URLs that end at these places, if there is capacity for them.
 fn results_at(
     alloc: Global,
     robot: &Robot,
@@ -86,7 +82,7 @@ fn results_at(
     Ok(numbers)
 }
 
-/// Writes the results for the URLs that end at these places.
+/// Each URL ends at a place.
 pub(crate) fn query_batch(
     alloc: Global,
     robot: &Shared<Robot>,

@@ -1,16 +1,13 @@
 //! The errors of the C functions.
 use std::alloc::{AllocError, AllocFailed};
 
-/// Why a call has no result.
 #[derive(Debug, PartialEq, Eq, Drop)]
 pub(crate) enum Fault {
     /// The crawler's name or a URL isn't UTF-8.
     NotUtf8,
-    /// An allocation failed, or a URL is too long for the crate `url`.
+    /// Or a URL is too long for the crate `url`.
     Memory,
-    /// The caller's buffer is too small.
     BufferTooSmall,
-    /// The file has no delay for the crawler.
     NoDelay,
     /// The URL has no robots.txt address.
     NoAddress,
@@ -26,7 +23,6 @@ impl Fault {
     ghost use Rattle.std.specs.Prelude.{◌≡◌};
     ghost use Rattle.robots_c.specs.Status.{line_after, status_of};
 
-    /// The status that the call returns.
     pub(crate) fn status(&self) -> i32
         ensures { result ≡ status_of self.now }
     {
@@ -42,7 +38,7 @@ impl Fault {
         }
     }
 
-    /// The status that the call returns. For a rule that is too long, its line is written first.
+    /// For a rule that is too long, its line is written first.
     pub(crate) fn status_at(&self, line: &mut usize) -> i32
         ensures status { result ≡ status_of self.now }
         ensures line { line.new ≡ line_after self.now line.old }

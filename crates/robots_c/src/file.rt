@@ -9,7 +9,6 @@ use std::alloc::Global;
 use texting_robots::robot::FILE_LIMIT;
 use texting_robots::{Error, Robot, Site};
 
-/// The bytes as a string.
 pub(crate) fn text_of<'a>(bytes: &'a [u8]) -> Result<&'a str, Fault>
     ensures ok { IfOk result (λ text. (text.now ≡ bytes.now) × IsUtf8 bytes.now) }
     ensures fault { IfErr result (λ fault. (fault ≡ Fault.NotUtf8) × ¬ IsUtf8 bytes.now) }
@@ -20,14 +19,13 @@ pub(crate) fn text_of<'a>(bytes: &'a [u8]) -> Result<&'a str, Fault>
     }
 }
 
-/// The first 512,000 bytes of a file, which are the ones that are used.
 fn bytes_read(file: &[u8]) -> &[u8]
     ensures { result.now ≡ bytes_read file.now }
 {
     &file[..FILE_LIMIT.min(file.len())]
 }
 
-/// The crawler's robot, without sitemaps. If the file is rejected, the error has the line of the rule that is too long.
+/// The crawler's robot, without sitemaps.
 pub(crate) fn robot_of(alloc: Global, agent: &[u8], file: &[u8]) -> Result<Robot, Fault>
     ensures ok { IfOk result (IsRobotFor agent.now (bytes_read file.now)) }
     ensures fault { IfErr result (IsWhyNoRobot agent.now (bytes_read file.now)) }
@@ -47,8 +45,7 @@ pub(crate) fn robot_of(alloc: Global, agent: &[u8], file: &[u8]) -> Result<Robot
     }
 }
 
-/// The crawler's delay in microseconds, from a site. Rules that are too long don't
-/// matter, and it doesn't allocate.
+/// In microseconds. Rules that are too long don't matter, and it doesn't allocate.
 pub(crate) fn delay_in(site: &Site, agent: &[u8]) -> Result<u64, Fault>
     ensures ok { IfOk result (λ delay. HasDelay agent.now site.now (Some delay)) }
     ensures fault { IfErr result (IsWhyNoDelayOf agent.now site.now) }
@@ -59,7 +56,7 @@ pub(crate) fn delay_in(site: &Site, agent: &[u8]) -> Result<u64, Fault>
     }
 }
 
-/// The crawler's delay in microseconds, from a file.
+/// The same from a file.
 pub(crate) fn delay_of(alloc: Global, agent: &[u8], file: &[u8]) -> Result<u64, Fault>
     ensures ok { IfOk result (λ delay. HasDelay agent.now (bytes_read file.now) (Some delay)) }
     ensures fault { IfErr result (IsWhyNoDelay agent.now (bytes_read file.now)) }

@@ -11,7 +11,6 @@ use crate::shared::{HANDLE_BYTES, Shared};
 use std::alloc::{AllocError, Global};
 use texting_robots::Robot;
 
-/// Frees a robot that C returns.
 pub(crate) fn close(robot: Handle<Shared<Robot>>) {
     drop(robot.into_box());
 }
@@ -19,8 +18,8 @@ pub(crate) fn close(robot: Handle<Shared<Robot>>) {
 /// Compiles only for a type whose values can be sent to other threads and shared between them.
 pub(crate) fn for_any_thread<T: Send + Sync>(_: &T) {}
 
-/// The robot of a file, in a box. Its type can be sent to other threads and shared between them; for what C may
-/// do, see `robots.h`.
+/// The type in the box can be sent to other threads and shared between them; for what C may do, see
+/// `robots.h`.
 fn open(alloc: Global, agent: &[u8], file: &[u8]) -> Result<Box<Shared<Robot>>, Fault>
     ensures ok { IfOk result (λ robot. IsRobotFor agent.now (bytes_read file.now) robot.value) }
     ensures fault { IfErr result (IsWhyNoRobot agent.now (bytes_read file.now)) }
@@ -30,8 +29,7 @@ fn open(alloc: Global, agent: &[u8], file: &[u8]) -> Result<Box<Shared<Robot>>, 
     Ok(robot)
 }
 
-/// Opens the robot of a file for C. If that fails, the pointer is `at`, and the line of a
-/// rule that is too long is written.
+/// If that fails, the pointer is `at`, and the line of a rule that is too long is written.
 pub(crate) fn opened(
     alloc: Global,
     agent: &[u8],
@@ -50,7 +48,7 @@ pub(crate) fn opened(
     }
 }
 
-/// Opens another handle on the robot for C. If that fails, the pointer is `at`.
+/// If that fails, the pointer is `at`.
 pub(crate) fn shared(
     alloc: Global,
     robot: &Shared<Robot>,
@@ -66,7 +64,6 @@ pub(crate) fn shared(
     }
 }
 
-/// Writes the delay of a robot. It doesn't allocate.
 pub(crate) fn query_delay(robot: &Shared<Robot>, out: &mut u64) -> i32
     ensures written { result ≡ pos 0 → robot.now.delay ≡ Some out.new }
     ensures kept { result ≢ pos 0 → out.new ≡ out.old }
@@ -81,7 +78,6 @@ pub(crate) fn query_delay(robot: &Shared<Robot>, out: &mut u64) -> i32
     }
 }
 
-/// Writes what a query costs at most.
 pub(crate) fn cost(robot: &Shared<Robot>, length: usize, out: &mut u64) -> i32
     ensures status { result ≡ pos 0 }
     ensures written { out.new ≡ seen_of (cost_of robot.now.rules length) }
@@ -90,7 +86,6 @@ pub(crate) fn cost(robot: &Shared<Robot>, length: usize, out: &mut u64) -> i32
     0
 }
 
-/// Writes how many bytes of memory a robot takes, with one handle.
 pub(crate) fn bytes(robot: &Shared<Robot>, out: &mut usize) -> i32
     ensures status { result ≡ pos 0 }
     ensures written { seen_of (64 * length robot.now.rules) ≤ out.new }

@@ -5,8 +5,8 @@ ghost use Rattle.robots_c.specs.Kept.{kept_at, owned_at};
 use std::alloc::Global;
 use std::marker::Model;
 
-/// The status of a call, and a pointer. If `value` is a value, C owns it from then on,
-/// and the pointer is its address.
+/// The status of a call, and a pointer. If `value` is a value, C owns it from then on, and the pointer is its
+/// address.
 pub(crate) struct Kept<T> {
     pub(crate) status: i32,
     pub(crate) at: *mut T,
@@ -50,7 +50,6 @@ impl<T> Model for Handle<T> {
 }
 
 impl<T: Drop> Handle<T> {
-    /// The value in its box.
     pub(crate) fn into_box(self) -> Box<T>
         ensures { result.value ≡ self.value }
     {

@@ -1,9 +1,8 @@
-//! The functions of `robots.h`, next to `src/`: what a robots.txt file means for a crawler, for C
-//! and every language that calls C.
+//! The functions of `robots.h`, next to `src/`.
 //!
 //! A function that can fail returns a status: 0, or the negative number of an error. It writes its result
 //! only if the status is 0. Some also write the length that they need, or the line of a rule that is too
-//! long, if they fail for this reason. `robots_site_is_named` writes nothing and returns its result.
+//! long, if they fail for this reason.
 #![tactic(auto)]
 
 ghost use Rattle.std.specs.Prelude.{◌≡◌, ◌≢◌, ◌≤◌, ◌*◌, ◌⊎◌, Some, if◌then◌else◌, length, pos, unwrap_or};
@@ -139,8 +138,7 @@ pub extern "C" fn robots_sitemaps(
     }
 }
 
-/// Writes the names in the file's user-agent lines, each once and followed by LF, and their total length. If
-/// the buffer is too small, it writes only the length.
+/// The same for the names in the file's user-agent lines, each once.
 #[unsafe(no_mangle)]
 pub extern "C" fn robots_agents(alloc: Global, file: &[u8], out: &mut [u8], len: &mut usize) -> i32
     ensures written { result ≡ pos 0 → IsWritten (AreAgents (bytes_read file.now)) out.old out.new len.new }
@@ -156,8 +154,7 @@ pub extern "C" fn robots_agents(alloc: Global, file: &[u8], out: &mut [u8], len:
     }
 }
 
-/// Writes the address of robots.txt for the site of a URL, and its length. If the buffer is too
-/// small, it writes only the length.
+/// The same for the address of robots.txt for the site of a URL.
 #[unsafe(no_mangle)]
 pub extern "C" fn robots_address(alloc: Global, url: &[u8], out: &mut [u8], len: &mut usize) -> i32
     ensures written { result ≡ pos 0 → IsWritten (IsAddress url.now) out.old out.new len.new }
@@ -190,8 +187,7 @@ pub extern "C" fn robots_open(
     status
 }
 
-/// Writes the result for one URL, as `robots_decide` does. The robot is
-/// borrowed: the call only reads it; for threads see `robots.h`.
+/// Writes the result for one URL, as `robots_decide` does. The robot is borrowed: the call only reads it.
 #[unsafe(no_mangle)]
 pub unsafe extern "C" fn robots_query(
     alloc: Global,
@@ -210,8 +206,7 @@ pub unsafe extern "C" fn robots_query(
     query(alloc, &*(robot as *const Shared<Robot>), url, out)
 }
 
-/// Writes what `robots_query_within` costs at most for a match target of this length: at most `u64::MAX`. The robot
-/// is borrowed, as in `robots_query`. It doesn't allocate.
+/// Writes what `robots_query_within` costs at most for a match target of this length. It doesn't allocate.
 #[unsafe(no_mangle)]
 pub unsafe extern "C" fn robots_cost(robot: *const u8, length: usize, out: &mut u64) -> i32
     ghost g: { Lft × Share × RobotValue }
@@ -223,8 +218,8 @@ pub unsafe extern "C" fn robots_cost(robot: *const u8, length: usize, out: &mut 
     cost(&*(robot as *const Shared<Robot>), length, out)
 }
 
-/// Writes how many bytes of memory the robot takes with this handle: what `robots_open` has allocated and not freed.
-/// Only a bound is proved. The robot is borrowed, as in `robots_query`. It doesn't allocate.
+/// Writes how many bytes of memory the robot takes with this handle. Only a bound is proved. It doesn't
+/// allocate.
 #[unsafe(no_mangle)]
 pub unsafe extern "C" fn robots_bytes(robot: *const u8, out: &mut usize) -> i32
     ghost g: { Lft × Share × RobotValue }
@@ -256,7 +251,7 @@ pub unsafe extern "C" fn robots_query_within(
     query_within(alloc, &*(robot as *const Shared<Robot>), url, budget, out)
 }
 
-/// Writes the results for many URLs, as `robots_decide` does. The robot is borrowed, as in `robots_query`.
+/// Writes the results for many URLs, as `robots_decide` does.
 #[unsafe(no_mangle)]
 pub unsafe extern "C" fn robots_query_many(
     alloc: Global,
@@ -275,8 +270,7 @@ pub unsafe extern "C" fn robots_query_many(
     query_many(alloc, &*(robot as *const Shared<Robot>), urls, out)
 }
 
-/// Writes the results for many URLs, as `robots_query_many` does. The URLs are the parts of one text that
-/// end at these places, each from the end before it.
+/// The same for URLs that are the parts of one text that end at these places, each from the end before it.
 #[unsafe(no_mangle)]
 pub unsafe extern "C" fn robots_query_batch(
     alloc: Global,
@@ -296,8 +290,7 @@ pub unsafe extern "C" fn robots_query_batch(
     query_batch(alloc, &*(robot as *const Shared<Robot>), urls, ends, out)
 }
 
-/// Writes a robot's delay, as `robots_delay` does. The robot is borrowed, as in
-/// `robots_query`. It doesn't allocate.
+/// Writes a robot's delay, as `robots_delay` does. It doesn't allocate.
 #[unsafe(no_mangle)]
 pub unsafe extern "C" fn robots_query_delay(robot: *const u8, out: &mut u64) -> i32
     ghost g: { Lft × Share × RobotValue }
@@ -310,8 +303,7 @@ pub unsafe extern "C" fn robots_query_delay(robot: *const u8, out: &mut u64) -> 
     query_delay(&*(robot as *const Shared<Robot>), out)
 }
 
-/// Writes a pointer to another handle on the same robot, which C owns from then on. The robot is borrowed, as
-/// in `robots_query`.
+/// Writes a pointer to another handle on the same robot, which C owns from then on.
 #[unsafe(no_mangle)]
 pub unsafe extern "C" fn robots_share(alloc: Global, robot: *const u8, out: &mut *mut u8) -> i32
     ghost g: { Lft × Share × RobotValue }
@@ -330,8 +322,7 @@ pub unsafe extern "C" fn robots_share(alloc: Global, robot: *const u8, out: &mut
     status
 }
 
-/// Frees a robot that `robots_open`, `robots_site_robot` or `robots_share` opened. If the pointer is null, it
-/// does nothing.
+/// Frees what `robots_open`, `robots_site_robot` or `robots_share` opened. A null pointer is ignored.
 #[unsafe(no_mangle)]
 pub unsafe extern "C" fn robots_close(alloc: Global, robot: *mut u8)
     ghost value: { RobotValue }
@@ -346,7 +337,7 @@ pub unsafe extern "C" fn robots_close(alloc: Global, robot: *mut u8)
     })
 }
 
-/// Whether the crawler may fetch the URL with this result: 1 if it may, and 0 if it may not.
+/// 1 if the crawler may fetch the URL with this result, and 0 if it may not.
 #[unsafe(no_mangle)]
 pub extern "C" fn robots_may_fetch(number: i64) -> i32
     ensures { result ≡ (if is_allowed number then pos 1 else pos 0) }
@@ -354,7 +345,7 @@ pub extern "C" fn robots_may_fetch(number: i64) -> i32
     i32::from(number >= 0)
 }
 
-/// The number of the line that decides, and 0 if none decides or there is no result.
+/// The number of the deciding line, and 0 if none decides or there is no result.
 #[unsafe(no_mangle)]
 pub extern "C" fn robots_line(number: i64) -> i64
     ensures line { number ≢ no_result → result ≡ pos (unwrap_or (line_named number) 0) }

@@ -17,7 +17,6 @@ use texting_robots::{Error, Robot, Site};
 /// The number in the row of a crawler for which the file is rejected.
 pub(crate) const NO_RESULT: i64 = i64::MIN;
 
-/// The match targets of the URLs in a string.
 fn targets_of(alloc: Global, urls: &str) -> Result<Vec<String>, AllocError>
     ensures { IfOk result (λ targets. map string_bytes targets.items ≡ map prepared (items_in urls.now)) }
 {
@@ -28,7 +27,6 @@ fn targets_of(alloc: Global, urls: &str) -> Result<Vec<String>, AllocError>
     Ok(targets)
 }
 
-/// The robot's results for the match targets.
 fn results_on(alloc: Global, robot: &Robot, targets: &[String]) -> Result<Vec<i64>, AllocError>
     requires { LinesFit robot.now.rules }
     ensures { IfOk result (λ row. AllZip (IsResultOn robot.now.rules) (map string_bytes targets.now) row.items) }
@@ -40,7 +38,6 @@ fn results_on(alloc: Global, robot: &Robot, targets: &[String]) -> Result<Vec<i6
     Ok(row)
 }
 
-/// The row of a crawler.
 fn row_of(
     alloc: Global,
     site: &Site,
@@ -60,7 +57,7 @@ fn row_of(
     }
 }
 
-/// The row of `*`, which all crawlers share that the file doesn't name: `shared`, or else a new one.
+/// All crawlers that the file doesn't name share the row of `*`: `shared`, or else a new one.
 fn shared_row(
     alloc: Global,
     site: &Site,
@@ -77,8 +74,7 @@ fn shared_row(
     }
 }
 
-/// The rows of the crawlers in a string, one after another. All crawlers that the file
-/// doesn't name share the row of `*`.
+/// The rows of the crawlers in a string, one after another.
 fn rows_of(
     alloc: Global,
     site: &Site,
@@ -103,7 +99,6 @@ fn rows_of(
     Ok(numbers)
 }
 
-/// The matrix of the crawlers and URLs in two strings, with a number for each of both.
 fn matrix(alloc: Global, site: &Site, agents: &str, urls: &str) -> Result<Vec<i64>, AllocError>
     requires { IsSiteOfSomeFile site.now }
     ensures rows { IfOk result (λ numbers. AreRows site.now (map prepared (items_in urls.now)) (items_in agents.now) numbers.items) }
@@ -114,7 +109,6 @@ fn matrix(alloc: Global, site: &Site, agents: &str, urls: &str) -> Result<Vec<i6
     Ok(numbers)
 }
 
-/// Whether there is capacity for a number for each crawler and URL in two strings.
 fn fits(agents: &str, urls: &str, capacity: usize) -> bool
     ensures { MatchBool result (length (items_in agents.now) * length (items_in urls.now) ≤ capacity)
         (capacity < length (items_in agents.now) * length (items_in urls.now)) }
@@ -125,7 +119,6 @@ fn fits(agents: &str, urls: &str, capacity: usize) -> bool
     }
 }
 
-/// The crawlers and the URLs as strings, if there is capacity for their results.
 fn texts_of<'a>(
     agents: &'a [u8],
     urls: &'a [u8],
@@ -144,7 +137,6 @@ fn texts_of<'a>(
     Ok((agents, urls))
 }
 
-/// The matrix of the crawlers and URLs in two strings, from a file.
 pub(crate) fn matrix_of(
     alloc: Global,
     agents: &[u8],
@@ -162,7 +154,6 @@ pub(crate) fn matrix_of(
     Ok(numbers)
 }
 
-/// The matrix of the crawlers and URLs in two strings, from a site.
 fn matrix_in(
     alloc: Global,
     site: &Site,
@@ -180,7 +171,6 @@ fn matrix_in(
     Ok(numbers)
 }
 
-/// Writes the matrix of the crawlers and URLs in two strings, from a site.
 pub(crate) fn matrix_by(
     alloc: Global,
     site: &Shared<Site>,

@@ -6,7 +6,6 @@ ghost use Rattle.robots_c.specs.Status.{IsOverlongLine};
 use std::alloc::{AllocError, Global};
 use texting_robots::labels;
 
-/// The number of the first line with a rule that applies to the crawler and is too long.
 pub(crate) fn first_overlong_line(
     alloc: Global,
     agent: &str,

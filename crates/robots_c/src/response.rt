@@ -4,7 +4,6 @@ ghost use Rattle.robots_c.specs.Response.{SaysMeaning, number_of};
 
 use robots_responses::{Meaning, Response};
 
-/// The number of a meaning.
 fn number_of(meaning: Meaning) -> i32
     ensures { result ≡ number_of meaning }
 {
@@ -16,8 +15,8 @@ fn number_of(meaning: Meaning) -> i32
     }
 }
 
-/// What the response to a request for a robots.txt file means: a number of `robots_meaning` in the header. A status
-/// that none has, such as 0, stands for no answer.
+/// What the response to a request for a robots.txt file means: a number of `robots_meaning` in the header. A
+/// status that none has, such as 0, means no answer.
 #[unsafe(no_mangle)]
 pub extern "C" fn robots_response_meaning(
     status: u32,

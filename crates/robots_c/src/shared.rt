@@ -5,7 +5,7 @@ use std::alloc::{AllocError, Global};
 use std::marker::Model;
 use std::sync::Arc;
 
-/// The bytes of memory that a value takes beside its own, with one handle: the count of handles, and the handle.
+/// The count of handles, and the handle.
 pub(crate) const HANDLE_BYTES: usize = 16;
 
 /// A value that several handles share. Nobody writes to it, and the last of them frees it.
@@ -23,7 +23,6 @@ impl<T> Model for Shared<T> {
 }
 
 impl<T> Shared<T> {
-    /// The value.
     pub(crate) fn get(&self) -> &T
         ensures { result.now ≡ self.now }
     {
@@ -32,7 +31,6 @@ impl<T> Shared<T> {
 }
 
 impl<T: Drop> Shared<T> {
-    /// The value in a box, as its first handle keeps it.
     pub(crate) fn boxed(alloc: Global, value: T) -> Result<Box<Shared<T>>, AllocError>
         ensures { IfOk result (λ handle. handle.value ≡ value) }
     {
@@ -40,7 +38,7 @@ impl<T: Drop> Shared<T> {
         Ok(Box::new(alloc, Shared { value })?)
     }
 
-    /// The same value in another box, as another handle keeps it.
+    /// As another handle keeps the value.
     pub(crate) fn boxed_again(&self, alloc: Global) -> Result<Box<Shared<T>>, AllocError>
         ensures { IfOk result (λ handle. handle.value ≡ self.now) }
     {

@@ -15,13 +15,12 @@ use crate::texts::{agents_in, put, sitemaps_in};
 use std::alloc::{AllocError, Global};
 use texting_robots::{Error, Robot, Site};
 
-/// Frees a site that C returns.
 pub(crate) fn close(site: Handle<Shared<Site>>) {
     drop(site.into_box());
 }
 
-/// The site of a file, in a box. Its type can be sent to other threads and shared between them; for what C may
-/// do, see `robots.h`.
+/// The type in the box can be sent to other threads and shared between them; for what C may do, see
+/// `robots.h`.
 fn open(alloc: Global, file: &[u8]) -> Result<Box<Shared<Site>>, Fault>
     ensures ok { IfOk result (λ site. site.value ≡ bytes_read file.now) }
     ensures fault { IfErr result IsWhyNoHandle }
@@ -31,7 +30,7 @@ fn open(alloc: Global, file: &[u8]) -> Result<Box<Shared<Site>>, Fault>
     Ok(site)
 }
 
-/// Opens the site of a file for C. If that fails, the pointer is `at`.
+/// If that fails, the pointer is `at`.
 pub(crate) fn opened(alloc: Global, file: &[u8], at: *mut Shared<Site>) -> Kept<Shared<Site>>
     ensures opened { result.status ≡ pos 0 → result.value ≡ Some (bytes_read file.now) }
     ensures kept { result.status ≢ pos 0 → result.at ≡ at }
@@ -43,7 +42,6 @@ pub(crate) fn opened(alloc: Global, file: &[u8], at: *mut Shared<Site>) -> Kept<
     }
 }
 
-/// Opens another handle on the site for C. If that fails, the pointer is `at`.
 pub(crate) fn shared(
     alloc: Global,
     site: &Shared<Site>,
@@ -59,7 +57,6 @@ pub(crate) fn shared(
     }
 }
 
-/// A crawler's robot, without sitemaps, in a box. If the file is rejected, the error has the line of the rule that is too long.
 fn robot(alloc: Global, site: &Site, agent: &[u8]) -> Result<Box<Shared<Robot>>, Fault>
     ensures ok { IfOk result (λ robot. IsRobotFor agent.now site.now robot.value) }
     ensures fault { IfErr result (IsWhyNoRobot agent.now site.now) }
@@ -76,8 +73,7 @@ fn robot(alloc: Global, site: &Site, agent: &[u8]) -> Result<Box<Shared<Robot>>,
     }
 }
 
-/// Opens a crawler's robot for C. If that fails, the pointer is `at`, and the line of a
-/// rule that is too long is written.
+/// If that fails, the pointer is `at`, and the line of a rule that is too long is written.
 pub(crate) fn robot_opened(
     alloc: Global,
     site: &Shared<Site>,
@@ -95,7 +91,6 @@ pub(crate) fn robot_opened(
     }
 }
 
-/// Writes a crawler's delay. It doesn't allocate.
 pub(crate) fn delay(site: &Shared<Site>, agent: &[u8], out: &mut u64) -> i32
     ensures written { result ≡ pos 0 → HasDelay agent.now site.now (Some out.new) }
     ensures kept { result ≢ pos 0 → out.new ≡ out.old }
@@ -110,7 +105,6 @@ pub(crate) fn delay(site: &Shared<Site>, agent: &[u8], out: &mut u64) -> i32
     }
 }
 
-/// Writes how many bytes of memory a site takes, with one handle.
 pub(crate) fn bytes(site: &Shared<Site>, out: &mut usize) -> i32
     ensures status { result ≡ pos 0 }
     ensures written { length site.now ≤ out.new }
@@ -119,7 +113,6 @@ pub(crate) fn bytes(site: &Shared<Site>, out: &mut usize) -> i32
     0
 }
 
-/// Writes the sitemaps, as `robots_sitemaps` does.
 pub(crate) fn sitemaps(alloc: Global, site: &Shared<Site>, out: &mut [u8], len: &mut usize) -> i32
     ensures written { result ≡ pos 0 → IsWritten (AreSitemaps site.now) out.old out.new len.new }
     ensures buffer_too_small { result ≡ status_of Fault.BufferTooSmall → IsTooLong (AreSitemaps site.now) (length out.old) len.new }
@@ -133,7 +126,6 @@ pub(crate) fn sitemaps(alloc: Global, site: &Shared<Site>, out: &mut [u8], len: 
     }
 }
 
-/// Writes the names in user-agent lines, as `robots_agents` does.
 pub(crate) fn agents(alloc: Global, site: &Shared<Site>, out: &mut [u8], len: &mut usize) -> i32
     ensures written { result ≡ pos 0 → IsWritten (AreAgents site.now) out.old out.new len.new }
     ensures buffer_too_small { result ≡ status_of Fault.BufferTooSmall → IsTooLong (AreAgents site.now) (length out.old) len.new }
@@ -147,7 +139,6 @@ pub(crate) fn agents(alloc: Global, site: &Shared<Site>, out: &mut [u8], len: &m
     }
 }
 
-/// 1 if a user-agent line names the crawler, 0 if none does, and -1 if the crawler's name isn't UTF-8.
 pub(crate) fn is_named(site: &Shared<Site>, agent: &[u8]) -> i32
     ensures { SaysNamed agent.now site.now result }
 {

@@ -16,8 +16,7 @@ use crate::site;
 use std::alloc::Global;
 use texting_robots::{Robot, Site};
 
-/// Reads a file for all crawlers, and writes a pointer to its site, which C owns from then on. It
-/// fails only if an allocation fails.
+/// Reads a file for all crawlers, and writes a pointer to its site, which C owns from then on.
 #[unsafe(no_mangle)]
 pub extern "C" fn robots_site_open(alloc: Global, file: &[u8], out: &mut *mut u8) -> i32
     ensures* opened { sem 𝓛 (opens Sites (λ site. site ≡ bytes_read file.now) result out.new) }
@@ -29,8 +28,8 @@ pub extern "C" fn robots_site_open(alloc: Global, file: &[u8], out: &mut *mut u8
     status
 }
 
-/// Writes a pointer to a crawler's robot, as `robots_open` does. The site is
-/// borrowed: the call only reads it; for threads see `robots.h`.
+/// Writes a pointer to a crawler's robot, as `robots_open` does. The site is borrowed: the call only reads
+/// it.
 #[unsafe(no_mangle)]
 pub unsafe extern "C" fn robots_site_robot(
     alloc: Global,
@@ -57,7 +56,7 @@ pub unsafe extern "C" fn robots_site_robot(
     status
 }
 
-/// Writes a matrix of numbers, as `robots_matrix` does. The site is borrowed, as in `robots_site_robot`.
+/// Writes a matrix of numbers, as `robots_matrix` does.
 #[unsafe(no_mangle)]
 pub unsafe extern "C" fn robots_site_matrix(
     alloc: Global,
@@ -77,8 +76,7 @@ pub unsafe extern "C" fn robots_site_matrix(
     matrix_by(alloc, &*(site as *const Shared<Site>), agents, urls, out)
 }
 
-/// Writes a crawler's delay, as `robots_delay` does. The site is borrowed, as in
-/// `robots_site_robot`. It doesn't allocate.
+/// Writes a crawler's delay, as `robots_delay` does. It doesn't allocate.
 #[unsafe(no_mangle)]
 pub unsafe extern "C" fn robots_site_delay(site: *const u8, agent: &[u8], out: &mut u64) -> i32
     ghost g: { Lft × Share × List ℕ }
@@ -91,8 +89,7 @@ pub unsafe extern "C" fn robots_site_delay(site: *const u8, agent: &[u8], out: &
     site::delay(&*(site as *const Shared<Site>), agent, out)
 }
 
-/// Writes how many bytes of memory the site takes with this handle, as `robots_bytes` does. The site is borrowed, as in
-/// `robots_site_robot`. It doesn't allocate.
+/// Writes how many bytes of memory the site takes with this handle. It doesn't allocate.
 #[unsafe(no_mangle)]
 pub unsafe extern "C" fn robots_site_bytes(site: *const u8, out: &mut usize) -> i32
     ghost g: { Lft × Share × List ℕ }
@@ -104,7 +101,7 @@ pub unsafe extern "C" fn robots_site_bytes(site: *const u8, out: &mut usize) -> 
     site::bytes(&*(site as *const Shared<Site>), out)
 }
 
-/// Writes the sitemaps, as `robots_sitemaps` does. The site is borrowed, as in `robots_site_robot`.
+/// Writes the sitemaps, as `robots_sitemaps` does.
 #[unsafe(no_mangle)]
 pub unsafe extern "C" fn robots_site_sitemaps(
     alloc: Global,
@@ -124,8 +121,7 @@ pub unsafe extern "C" fn robots_site_sitemaps(
     site::sitemaps(alloc, &*(site as *const Shared<Site>), out, len)
 }
 
-/// Writes the names in user-agent lines, as `robots_agents` does. The site is
-/// borrowed, as in `robots_site_robot`.
+/// Writes the names in user-agent lines, as `robots_agents` does.
 #[unsafe(no_mangle)]
 pub unsafe extern "C" fn robots_site_agents(
     alloc: Global,
@@ -145,9 +141,8 @@ pub unsafe extern "C" fn robots_site_agents(
     site::agents(alloc, &*(site as *const Shared<Site>), out, len)
 }
 
-/// Whether a user-agent line names the crawler: 1 if one does, 0 if none does, so that the crawler has the
-/// robot of `*`, and -1 if the crawler's name isn't UTF-8. The site is borrowed, as in
-/// `robots_site_robot`. It doesn't allocate.
+/// 1 if a user-agent line names the crawler, 0 if none does, so that it has the robot of `*`, and -1 if its
+/// name isn't UTF-8. It doesn't allocate.
 #[unsafe(no_mangle)]
 pub unsafe extern "C" fn robots_site_is_named(site: *const u8, agent: &[u8]) -> i32
     ghost g: { Lft × Share × List ℕ }
@@ -158,8 +153,7 @@ pub unsafe extern "C" fn robots_site_is_named(site: *const u8, agent: &[u8]) -> 
     site::is_named(&*(site as *const Shared<Site>), agent)
 }
 
-/// Writes a pointer to another handle on the same site, which C owns from then on. The site is borrowed, as
-/// in `robots_site_robot`.
+/// Writes a pointer to another handle on the same site, which C owns from then on.
 #[unsafe(no_mangle)]
 pub unsafe extern "C" fn robots_site_share(alloc: Global, site: *const u8, out: &mut *mut u8) -> i32
     ghost g: { Lft × Share × List ℕ }
@@ -178,8 +172,7 @@ pub unsafe extern "C" fn robots_site_share(alloc: Global, site: *const u8, out: 
     status
 }
 
-/// Frees a site that `robots_site_open` or `robots_site_share` opened. If the pointer is null, it does
-/// nothing.
+/// Frees what `robots_site_open` or `robots_site_share` opened. A null pointer is ignored.
 #[unsafe(no_mangle)]
 pub unsafe extern "C" fn robots_site_close(alloc: Global, site: *mut u8)
     ghost value: { List ℕ }

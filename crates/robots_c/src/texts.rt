@@ -11,7 +11,6 @@ use std::alloc::{AllocError, Global};
 use texting_robots::{Site, get_robots_url};
 use url::ParseError;
 
-/// The strings, each followed by LF.
 fn lines_of(alloc: Global, texts: &[String]) -> Result<String, AllocError>
     ensures { IfOk result (λ lines. string_bytes lines ≡ ended (map string_bytes texts.now)) }
 {
@@ -22,7 +21,6 @@ fn lines_of(alloc: Global, texts: &[String]) -> Result<String, AllocError>
     Ok(lines)
 }
 
-/// The names, each followed by LF.
 fn lines_of_names(alloc: Global, names: &[&str]) -> Result<String, AllocError>
     ensures { IfOk result (λ lines. string_bytes lines ≡ ended (map (λ name. name.now) names.now)) }
 {
@@ -33,7 +31,6 @@ fn lines_of_names(alloc: Global, names: &[&str]) -> Result<String, AllocError>
     Ok(lines)
 }
 
-/// The sitemaps that a site lists, each followed by LF.
 pub(crate) fn sitemaps_in(alloc: Global, site: &Site) -> Result<String, AllocError>
     ensures { IfOk result (λ text. AreSitemaps site.now (string_bytes text)) }
 {
@@ -41,7 +38,6 @@ pub(crate) fn sitemaps_in(alloc: Global, site: &Site) -> Result<String, AllocErr
     lines_of(alloc, &sitemaps)
 }
 
-/// The sitemaps that a file lists, each followed by LF. Rules that are too long don't matter.
 pub(crate) fn sitemaps_of(alloc: Global, file: &[u8]) -> Result<String, AllocError>
     ensures { IfOk result (λ text. AreSitemaps (bytes_read file.now) (string_bytes text)) }
 {
@@ -49,7 +45,6 @@ pub(crate) fn sitemaps_of(alloc: Global, file: &[u8]) -> Result<String, AllocErr
     sitemaps_in(alloc, &site)
 }
 
-/// The names in a site's user-agent lines, each once and followed by LF.
 pub(crate) fn agents_in(alloc: Global, site: &Site) -> Result<String, AllocError>
     ensures { IfOk result (λ text. AreAgents site.now (string_bytes text)) }
 {
@@ -57,7 +52,6 @@ pub(crate) fn agents_in(alloc: Global, site: &Site) -> Result<String, AllocError
     lines_of_names(alloc, &agents)
 }
 
-/// The names in a file's user-agent lines, each once and followed by LF.
 pub(crate) fn agents_of(alloc: Global, file: &[u8]) -> Result<String, AllocError>
     ensures { IfOk result (λ text. AreAgents (bytes_read file.now) (string_bytes text)) }
 {
@@ -65,7 +59,6 @@ pub(crate) fn agents_of(alloc: Global, file: &[u8]) -> Result<String, AllocError
     agents_in(alloc, &site)
 }
 
-/// The address of robots.txt for the site of a URL.
 pub(crate) fn address(alloc: Global, url: &[u8]) -> Result<String, Fault>
     ensures ok { IfOk result (λ text. IsAddress url.now (string_bytes text)) }
     ensures fault { IfErr result (IsWhyNoAddress url.now) }
@@ -77,8 +70,7 @@ pub(crate) fn address(alloc: Global, url: &[u8]) -> Result<String, Fault>
     }
 }
 
-/// Copies the string to the start of `out` if that is long enough, and writes
-/// the string's length in any case.
+/// Copies the string to the start of `out` if it fits, and writes its length in any case.
 pub(crate) fn put(text: &str, out: &mut [u8], len: &mut usize) -> i32
     ensures put { result ≡ pos 0 → IsPutIn out.old out.new text.now }
     ensures buffer_too_small { result ≡ status_of Fault.BufferTooSmall → length out.old < length text.now }

@@ -13,8 +13,7 @@ use std::alloc::{AllocError, Global};
 use texting_robots::view::View;
 use texting_robots::{Decision, Error, Robot, TooCostly};
 
-/// A decision as a number: that of the deciding line, negative if the crawler may not fetch
-/// the URL, and 0 if no line decides.
+/// The number of the deciding line, negative if the crawler may not fetch the URL, and 0 if no line decides.
 fn number_of(decision: Decision) -> i64
     requires { IfSome decision.line (λ line. line < 2 ^ 63) }
     ensures { result ≡ number_of decision.allowed decision.line }
@@ -26,7 +25,6 @@ fn number_of(decision: Decision) -> i64
     }
 }
 
-/// The match target of a URL.
 pub(crate) fn target_of(alloc: Global, url: &str) -> Result<String, AllocError>
     ensures { IfOk result (λ target. string_bytes target ≡ prepared url.now) }
 {
@@ -37,7 +35,6 @@ pub(crate) fn target_of(alloc: Global, url: &str) -> Result<String, AllocError>
     }
 }
 
-/// The result for a match target.
 pub(crate) fn number_on(robot: &Robot, target: &str) -> i64
     requires { LinesFit robot.now.rules }
     ensures { IsResultOn robot.now.rules target.now result }
@@ -45,7 +42,7 @@ pub(crate) fn number_on(robot: &Robot, target: &str) -> i64
     number_of(robot.decision_prepared(target))
 }
 
-/// The result for a URL. It fails only if the URL isn't allocation-free.
+/// It fails only if the URL isn't allocation-free.
 fn number_for(alloc: Global, robot: &Robot, url: &str) -> Result<i64, AllocError>
     requires { LinesFit robot.now.rules }
     ensures number { IfOk result (IsResult robot.now.rules url.now) }
@@ -58,7 +55,6 @@ fn number_for(alloc: Global, robot: &Robot, url: &str) -> Result<i64, AllocError
     }
 }
 
-/// The result for the bytes of a URL.
 pub(crate) fn result_for(alloc: Global, robot: &Robot, url: &[u8]) -> Result<i64, Fault>
     requires { IsRobotOfSomeFile robot.now }
     ensures ok { IfOk result (HasResult robot.now.rules url.now) }
@@ -71,7 +67,6 @@ pub(crate) fn result_for(alloc: Global, robot: &Robot, url: &[u8]) -> Result<i64
     }
 }
 
-/// The result for the bytes of a URL, unless that may take more looks than the budget.
 fn result_within(alloc: Global, robot: &Robot, url: &[u8], budget: u64) -> Result<i64, Fault>
     requires { IsRobotOfSomeFile robot.now }
     ensures ok { IfOk result (HasResult robot.now.rules url.now) }
@@ -84,7 +79,6 @@ fn result_within(alloc: Global, robot: &Robot, url: &[u8], budget: u64) -> Resul
     }
 }
 
-/// The results for the URLs in a string, one for each, in order.
 fn results_for(alloc: Global, robot: &Robot, urls: &str) -> Result<Vec<i64>, AllocError>
     requires { IsRobotOfSomeFile robot.now }
     ensures results { IfOk result (λ numbers. AllZip (IsResult robot.now.rules) (items_in urls.now) numbers.items) }
@@ -97,7 +91,6 @@ fn results_for(alloc: Global, robot: &Robot, urls: &str) -> Result<Vec<i64>, All
     Ok(numbers)
 }
 
-/// How many LFs a text has.
 fn count_feeds(text: &[u8]) -> usize
     ensures value { result ≡ count_by (λ byte. byte == lf) text.now }
     ensures within { result ≤ length text.now }
@@ -105,14 +98,12 @@ fn count_feeds(text: &[u8]) -> usize
     text.iter().filter(|byte| **byte == b'\n').count()
 }
 
-/// How many items a string has, which are separated by LF.
 pub(crate) fn count_items(text: &str) -> usize
     ensures { result ≡ length (items_in text.now) }
 {
     count_feeds(text.as_bytes()) + 1
 }
 
-/// The URLs as a string, if there is capacity for their results.
 fn urls_of<'a>(urls: &'a [u8], capacity: usize) -> Result<&'a str, Fault>
     ensures ok { IfOk result (λ text. (text.now ≡ urls.now) × IsUtf8 urls.now × (length (items_in urls.now) ≤ capacity)) }
     ensures fault { IfErr result (IsWhyNoResults urls.now capacity) }
@@ -124,7 +115,6 @@ fn urls_of<'a>(urls: &'a [u8], capacity: usize) -> Result<&'a str, Fault>
     Ok(text)
 }
 
-/// The results of a file for the URLs in a string, if there is capacity for them.
 pub(crate) fn decide(
     alloc: Global,
     agent: &[u8],
@@ -144,7 +134,6 @@ pub(crate) fn decide(
     Ok(numbers)
 }
 
-/// The results of a robot for the bytes of a string of URLs, if there is capacity for them.
 fn results_of(alloc: Global, robot: &Robot, urls: &[u8], capacity: usize) -> Result<Vec<i64>, Fault>
     requires { IsRobotOfSomeFile robot.now }
     ensures ok { IfOk result (λ numbers. HasResults robot.now.rules urls.now numbers.items) }
@@ -156,7 +145,6 @@ fn results_of(alloc: Global, robot: &Robot, urls: &[u8], capacity: usize) -> Res
     Ok(numbers)
 }
 
-/// Writes the result for one URL.
 pub(crate) fn query(alloc: Global, robot: &Shared<Robot>, url: &[u8], out: &mut i64) -> i32
     requires { IsRobotOfSomeFile robot.now }
     ensures written { result ≡ pos 0 → HasResult robot.now.rules url.now out.new }
@@ -172,7 +160,6 @@ pub(crate) fn query(alloc: Global, robot: &Shared<Robot>, url: &[u8], out: &mut 
     }
 }
 
-/// Writes the result for one URL, unless that may take more looks than the budget.
 pub(crate) fn query_within(
     alloc: Global,
     robot: &Shared<Robot>,
@@ -194,7 +181,6 @@ pub(crate) fn query_within(
     }
 }
 
-/// Writes the results for the URLs in a string.
 pub(crate) fn query_many(alloc: Global, robot: &Shared<Robot>, urls: &[u8], out: &mut [i64]) -> i32
     requires { IsRobotOfSomeFile robot.now }
     ensures written { result ≡ pos 0 → ArePutIn robot.now.rules urls.now out.old out.new }

@@ -1,5 +1,5 @@
--- Rules that can be removed from a file: each block that has rules keeps one, so the other lines apply to the
--- same crawlers.
+-- Rules that can be removed from a file: each block that has rules keeps one, so others apply to the same
+-- crawlers.
 use Rattle.std.proofs.Common.{◌≡◌, ◌⊎◌, ◌<◌, ◌≤◌, inl, inr, ℕ, ◌+◌, ◌==◌, Bool, true, false, not, ◌&&◌, ◌||◌}
 use Rattle.std.proofs.Common.{List, [], ◌∷◌, Option, Some, None, ap, ap₂, sym, refl, ◌∙◌, arith, cond, drop}
 use Rattle.std.proofs.Common.{filter, filter_map, length, length-drop, map, slice_get, if◌then◌else◌}
@@ -34,8 +34,6 @@ left_are numbers position (line ∷ lines) = elim (cases_Bool (among numbers (po
   | inr stays ↦ rw stays (ap (λ ls. line ∷ ls) (left_are numbers (position + 1) lines))
 ]
 
--- ---- a rule is neither a user-agent line, nor a delay, nor a sitemap
-
 pub no_agent : (line : LineValue) → is_rule line ≡ true → is_agent line ≡ false
 no_agent (UserAgent value) is = sym is
 no_agent line is = refl
@@ -52,8 +50,6 @@ in_group : (line : LineValue) → is_rule line ≡ true → is_group line ≡ tr
 in_group (Allow value) is = refl
 in_group (Disallow value) is = refl
 in_group line is = cc
-
--- ---- one more line
 
 -- P holds of the block after a line at this position, and the lines below it keep their blocks
 record IsNext (gone : ℕ → Bool) (position : ℕ) (lines : List LineValue) (P : Block → Type 0) : Type 0 where
@@ -103,17 +99,14 @@ module _ (numbers : List ℕ) (lines : List LineValue) where
   abbrev gone : ℕ → Bool
   gone = among numbers
 
-  -- no user-agent line from one position to another
   abbrev IsOpen : ℕ → ℕ → Type 0
   IsOpen from to = (k : ℕ) → from ≤ k → k < to → passes_at is_agent lines k ≡ false
 
-  -- a rule above the position, in its block
   record IsHere (position place : ℕ) : Type 0 where
     above : place < position
     rule : passes_at is_rule lines place ≡ true
     clear : IsOpen place position
 
-  -- one of them stays
   abbrev HasKept : ℕ → Type 0
   HasKept position = (place : ℕ) × (gone (place + 1) ≡ false) × IsHere position place
 
@@ -230,8 +223,6 @@ module _ (numbers : List ℕ) (lines : List LineValue) where
     rules = λ place below. absurd (omega arith);
     kept = λ wrong. absurd (false≢true wrong);
   })
-
--- ---- lines that are ignored in place of those that go
 
 abbrev blank : (ℕ → Bool) → ℕ → List LineValue → List LineValue
 blank gone position [] = []
@@ -396,8 +387,6 @@ same_blank gone read step first none position (line ∷ lines) (is, are) =
       | inl goes ↦ rw goes (sym (none line (read lines) (is goes)))
       | inr stays ↦ rw stays refl
     ] ∙ sym (first line lines)
-
--- ---- all lines of a file
 
 module _ (numbers : List ℕ) (lines : List LineValue)
     (keeps : keep_blocks_from (among numbers) no_rule 0 lines ≡ true) where

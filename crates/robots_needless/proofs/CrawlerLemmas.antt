@@ -30,24 +30,18 @@ star_is_star lines = elim (cases_Bool (list_any (is_agent_named (codes "*")) lin
   | inr isnt ↦ rw isnt refl
 ]
 
--- a crawler that no user-agent line names has the rules of `*`
 pub rules_of_star : (agent : List ℕ) (lines : List LineValue) → is_named agent lines ≡ false
     → placed_rules agent lines ≡ placed_rules (codes "*") lines
 rules_of_star agent lines isnt =
     let same : group_name agent lines ≡ group_name (codes "*") lines = rw isnt (sym (star_is_star lines)) in
     rules_of_group agent (codes "*") lines same
 
--- ASCII letters may be in any case
 pub rules_in_any_case : (agent other : List ℕ) (lines : List LineValue)
     → str_to_ascii_lowercase agent ≡ str_to_ascii_lowercase other
     → placed_rules agent lines ≡ placed_rules other lines
 rules_in_any_case agent other lines same =
     rules_of_group agent other lines
     (ap (λ (lowered : List ℕ). if list_any (is_agent_named lowered) lines then lowered else codes "*") same)
-
--- ---- each crawler has the rules of `*`, or of one that the file names
-
--- ---- a name in letters of another case is UTF-8, too
 
 low_byte : (a b : ℕ) → to_ascii_lowercase a ≡ to_ascii_lowercase b → b < 128 → a < 128
 low_byte a b same low = elim (cases_lt a 128) [
@@ -130,8 +124,6 @@ utf8_in_any_case : (name agent : List ℕ) → IsUtf8 agent
 utf8_in_any_case name agent (chars, (valid, is)) same =
     lowered_utf8 chars name valid (same ∙ ap (map to_ascii_lowercase) (sym is))
 
--- ---- names that the file has
-
 same_name : (one other : List ℕ) → bytes_eq one other ≡ false → one ≢ other
 same_name one other differ same = false≢true (sym differ ∙ (bytes_eq-Decides one other).1 same)
 
@@ -173,7 +165,6 @@ each_once_has lowered earlier (first ∷ names) name none has same =
     is_later first names name (zero, below, at) differs = absurd (differs at)
     is_later first names name (suc k, below, at) differs = (k, omega arith, at)
 
--- a user-agent line with this name, in letters of some case
 name_in : (lowered : List ℕ) (lines : List LineValue) → list_any (is_agent_named lowered) lines ≡ true
     → (name : List ℕ) × Contains (filter_map agent_in lines) name × (str_to_ascii_lowercase name ≡ lowered)
 name_in lowered [] is = absurd (false≢true is)

@@ -1,5 +1,5 @@
--- The lines of what is left of a file are those that stay, but for some empty ones, which are ignored: a line
--- end without LF and an empty line with LF after it become one line end.
+-- The lines of what is left of a file are those that stay, but for some empty ones: a line end without LF and
+-- an empty line with LF after it become one line end.
 use Rattle.std.proofs.Common.{◌≡◌, ◌≢◌, inl, inr, ℕ, zero, suc, ◌+◌, Bool, not, List, [], ◌∷◌, ◌++◌, All, ap}
 use Rattle.std.proofs.Common.{sym, refl, ◌∙◌, append_assoc, append-nil, filter, map, replicate, ◌⊎◌, ◌==◌}
 use Rattle.std.proofs.Common.{arith}
@@ -17,7 +17,6 @@ use Rattle.robots_needless.specs.{Blocks.left_from}
 abbrev pub pair_body : Pair → List ℕ
 pair_body pair = pair.body
 
--- the lines with these contents that aren't ignored
 abbrev pub meant : List (List ℕ) → List LineValue
 meant bodies = filter (λ (line : LineValue). not (is_raw line)) (map line_of bodies)
 
@@ -35,10 +34,7 @@ empty_line = refl
 meant_empty : (bodies : List (List ℕ)) → meant ([] ∷ bodies) ≡ meant bodies
 meant_empty bodies = rw empty_line refl
 
--- ---- a line end, and what follows it
-
--- the contents of a text that begins with a line end: an empty one, and those of the rest, perhaps without an
--- empty one
+-- an empty content, and those of the rest, perhaps without an empty one
 record IsEnded (text rest : List ℕ) : Type 0 where
   later : List (List ℕ)
   bodies : bodies_of text ≡ [] ∷ later
@@ -70,7 +66,6 @@ feed_end : (k : ℕ) (rest : List ℕ) → IsEnded ((replicate k cr ++ lf ∷ []
 feed_end zero rest = record { later = bodies_of rest; bodies = step lf rest; same = refl }
 feed_end (suc k) rest = more_return ((replicate k cr ++ lf ∷ []) ++ rest) rest (feed_end k rest)
 
--- a content before it
 at_body : (b : ℕ) (bodies : List (List ℕ)) → IsBodyByte b → body_step b bodies ≡ body_byte b bodies
 at_body b bodies other = rw (ne_eqb b lf other.1, ne_eqb b cr other.0) refl
 
@@ -84,8 +79,6 @@ body_last : (b : ℕ) (bytes : List ℕ) → Each IsBodyByte (b ∷ bytes) → b
 body_last b [] all = step b [] ∙ at_body b _ all.0 ∙ ap (λ pairs. body_byte b (map pair_body pairs)) cut_nil
 body_last b (c ∷ bytes) all =
     step b (c ∷ bytes) ∙ at_body b _ all.0 ∙ ap (body_byte b) (body_last c bytes all.1)
-
--- ---- pairs of a cut, and those that are left of them
 
 pub record IsPair (pair : Pair) (later : List Pair) : Type 0 where
   pub body : Each IsBodyByte pair.body
@@ -134,7 +127,6 @@ pairs_left gone position (pair ∷ later) (is, are) =
       )
     ]
 
--- the contents of what the pairs are, joined
 first_pair : (bytes ending rest : List ℕ) (later : List (List ℕ)) → Each IsBodyByte bytes → IsLineEnd ending
     → (ending ≡ [] → (rest ≡ []) × (bytes ≢ [])) → meant (bodies_of rest) ≡ meant later
     → (ending ≡ [] → later ≡ [])
@@ -169,9 +161,6 @@ meant_joined (pair ∷ later) (is, are) =
     (meant_joined later are)
     (λ none. ap (map pair_body) (is.last none).0)
 
--- ---- the byte order mark
-
--- the byte, or nothing
 abbrev pub IsTaken : ℕ → List ℕ → Type 0
 IsTaken byte taken = (taken ≡ []) ⊎ (taken ≡ byte ∷ [])
 
@@ -183,7 +172,6 @@ taken byte (b ∷ text) = elim (cases_Bool (b == byte)) [
   | inr other ↦ rw other ([], inl refl, refl)
 ]
 
--- the byte isn't the first
 abbrev pub IsNotFirst : ℕ → List ℕ → Type 0
 IsNotFirst byte text = without byte text ≡ text
 
@@ -207,7 +195,6 @@ pub record IsUnmarked (text : List ℕ) : Type 0 where
 abbrev pub IsFrontOf : List ℕ → List ℕ → Type 0
 IsFrontOf file mark = (mark ≡ []) ⊎ (mark ++ without_front file ≡ file)
 
--- its bytes
 pub record IsMark (mark : List ℕ) : Type 0 where
   pub one : List ℕ
   pub two : List ℕ

@@ -25,8 +25,6 @@ use Rattle.robots_needless.proofs.CrawlerLemmas.{split_read, star_or_named}
 use Rattle.robots_needless.proofs.TogetherLemmas.{both_ways, unplaced_of, in_filter}
 use Rattle.robots_needless.proofs.BlockLemmas.{among, left_are}
 
--- ---- what is left behind it
-
 unmarked : (pairs : List Pair) → ArePairs pairs → begin_with_mark (map pair_body pairs) ≡ false
     → IsUnmarked (joined pairs)
 unmarked [] are none = record { first = refl; second = refl; third = refl }
@@ -112,8 +110,6 @@ module _ (numbers file left : List ℕ) (is : IsLeftOf numbers file left)
       → Same agent (file_lines left) agent (lines_without numbers (file_lines file))
   same_result agent = raw_changes_nothing agent _ _ same_lines
 
--- ---- each file has such lines
-
 whole_of : (pairs : List Pair) (text : List ℕ) → map nul_as_lf text ≡ joined pairs
     → (whole : List (List ℕ)) × (map (λ line. map nul_as_lf line) whole ≡ map bytes_of pairs)
     × (concat whole ≡ text)
@@ -133,8 +129,6 @@ some_lines file =
     let (whole, read, all) = whole_of (cut text) (without_front file)
     (front_read file ∙ sym (is_cut text).whole) in
     (whole, record { pairs = cut text; is_cut = is_cut text; read = read; joined = all })
-
--- ---- it isn't longer
 
 concat_within : (gone : ℕ → Bool) (position : ℕ) (lines : List (List ℕ))
     → length (concat (left_from gone position lines)) ≤ length (concat lines)
@@ -167,8 +161,6 @@ left_within numbers file left is =
           omega (arith, less, both, front)
     ]
 
--- ---- robots
-
 of_file : (file : List ℕ) (P : List LineValue → Type 0)
     → HasLines file P → P (file_lines file)
 of_file file P is =
@@ -180,7 +172,6 @@ rejected_alike agent other lines others same rejected =
     (rejection_is_computed other others).1 (subst (Any (λ (rule : Rule). IsOverlong rule.0)) same
     ((rejection_is_computed agent lines).0 rejected))
 
--- a rule that stays is one of all
 stays_rejected : (agent : List ℕ) (lines less : List LineValue) (numbers : List ℕ)
     → rules_for agent less ≡ unplaced (without numbers (placed_rules agent lines))
     → IsRejected agent less → IsRejected agent lines

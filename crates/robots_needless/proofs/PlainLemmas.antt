@@ -22,8 +22,6 @@ use Rattle.robots_needless.specs.Internal.{IsPlainByte, rule_cmp, IsReducing, Re
 use Rattle.robots_needless.specs.Needless.{AreApart, rank_of}
 use Rattle.robots_needless.proofs.TogetherLemmas.{rest_to_front, reordered}
 
--- ---- a plain pattern matches the texts that begin with it
-
 nothing_left : (t : List ℕ) → Matches [] t
 unfolding MatchesWith
 nothing_left t = tt
@@ -41,7 +39,6 @@ begun p t plain is = subst (λ q. Matches q t) (append-nil p) ((in_front true p 
   nothing_left (drop (length p) t),
 ))
 
--- so the comparison of a plain pattern with the beginning of a text shows whether it matches
 pub plain_by : (p t one other : List ℕ) (same : Bool) → one ≡ p → other ≡ t → All IsPlainByte p
     → same ≡ pointwise eqb one (take (length one) other) → IsTrue same ↔ Matches p t
 plain_by p t one other same first second plain is =
@@ -51,9 +48,6 @@ plain_by p t one other same first second plain is =
       λ fits. compared ∙ decides.1 (sym (begins p t plain fits)),
     )
 
--- ---- the order of patterns
-
--- the pattern isn't before the other one
 abbrev Follows : List ℕ → List ℕ → Type 0
 Follows p q = is_lt (slice_cmp nat_cmp p q) ≡ false
 
@@ -91,7 +85,6 @@ parted (x ∷ p) (y ∷ q) (z ∷ r) (w ∷ t) other later last one = λ two.
       ]
     ]
 
--- a text begins with a pattern and with one that is later, but not longer, only if they are the same
 same_pattern : (p r t : List ℕ) → Follows r p → length r ≤ length p → take (length p) t ≡ p
     → take (length r) t ≡ r → r ≡ p
 same_pattern [] [] t later short one two = refl
@@ -109,8 +102,6 @@ same_pattern (x ∷ p) (z ∷ r) (w ∷ t) later short one two =
           let tail : r ≡ p = same_pattern p r t rest (omega (arith, short)) begins_first begins_last in
           cc
     ]
-
--- ---- the order of rules
 
 patterns_first : (s r l : Ordering) → is_lt (ordering_then (ordering_then s r) l) ≡ false → is_lt s ≡ false
 patterns_first Less r l h = h
@@ -174,8 +165,6 @@ pub sorted_descending : (rules : List PlacedRule) → IsSortedBy is_before rules
 sorted_descending rules sorted plain i j d most below =
     (plain j d below, sorted_far is_before weak rules sorted i j d most below)
 
--- ---- rules that are left, the near ones among those that are kept, and the far ones
-
 pub record AreParted (near_ones far_ones rest : List PlacedRule) : Type 0 where
   pub order : AreDescending rest
   pub far : (one other : PlacedRule) → Contains far_ones one → Contains rest other
@@ -194,7 +183,6 @@ module _ (rest old : List PlacedRule) (rule : PlacedRule) (last : old ≡ rest +
       let second = get_or_append_left rest (rule ∷ []) d j below in
       rw (first, second) at (descending i j d most (omega (arith, below, length_push rest rule)))
 
-  -- the rule is plain, and those that are left are plain and not before it
   in_front_of : (other : PlacedRule) → Contains old other → IsPlain other × IsPlain rule × IsAfter other rule
   in_front_of other has =
       let (k, below, is) : Contains (rest ++ rule ∷ []) other = rw last at has in
@@ -224,7 +212,6 @@ module _ (near far rest old new_near new_far : List PlacedRule) (rule : PlacedRu
         parted_rules one rule other plain other_plain begins_not after later
   ]
 
-  -- the kept rules, in another order
   pub near_moved : (later : List PlacedRule) {all : List PlacedRule} {start found : Reasons}
       → IsReducing all ((far ++ near) ++ later) start found
       → IsReducing all ((new_far ++ new_near) ++ later) start found
@@ -286,8 +273,6 @@ nothing_parted rules order = record {
   far = λ one other (k, below, at). absurd (omega arith);
   near = λ one other (k, below, at). absurd (omega arith);
 }
-
--- ---- one of the near rules is left
 
 pub nothing_left_behind : (near far : List PlacedRule) (rule : PlacedRule) → AreLeft near far near far rule
 nothing_left_behind near far rule = record {

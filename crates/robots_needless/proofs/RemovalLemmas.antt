@@ -8,16 +8,13 @@ use Rattle.texting_robots.proofs.{BestLemmas.matches, ExampleLemmas.matching, Ex
 use Rattle.robots_needless.specs.Internal.{CanGo, HasNoRival, IsReplacedBy}
 use Rattle.robots_needless.specs.Needless.{rank_of}
 
--- all these rules are the others and this one
 pub record AreWith (others : List Rule) (rule : Rule) (all : List Rule) : Type 0 where
   pub more : (x : Rule) → Contains others x → Contains all x
   pub only : (x : Rule) → Contains all x → Contains others x ⊎ (◌≡◌ {A = Rule} rule x)
 
--- every matching Allow is shorter than the pattern
 abbrev IsLongest : List Rule → List ℕ → List ℕ → Type 0
 IsLongest rules text p = (q : List ℕ) → Contains rules (q, true) → Matches q text → length q < length p
 
--- the same pattern, or different kinds
 same_pattern : (p q : List ℕ) (a b : Bool) → ◌≡◌ {A = Rule} (p, a) (q, b) → p ≡ q
 same_pattern p q a b same = ap (λ (r : Rule). r.0) same
 
@@ -40,7 +37,6 @@ module _ (others all : List Rule) (text : List ℕ) where
       ],
     )
 
-    -- the rule matches, and is longer than each matching Allow; another one replaces it
     replaced : text ≢ robots_file → Matches p text → IsLongest all text p → (other : Rule)
         → IsReplacedBy others (p, false) other → IsDenied others text
     replaced differs fits longest (q, true) is =
@@ -81,8 +77,6 @@ module _ (others all : List Rule) (text : List ℕ) where
           ]
     ]
 
-  -- ---- an Allow
-
   module _ (p : List ℕ) (are : AreWith others (p, true) all) where
     denied_less : IsDenied all text → IsDenied others text
     denied_less (differs, q, has, fits, longest) = elim (are.only (q, false) has) [
@@ -90,7 +84,6 @@ module _ (others all : List Rule) (text : List ℕ) where
       | inr same ↦ absurd (kinds_differ q p (sym same))
     ]
 
-    -- a Disallow decides if it is longer than each matching Allow, also than this one
     decides : text ≢ robots_file → (q : List ℕ) → Contains others (q, false) → Matches q text
         → IsLongest others text q → (Matches p text → length p < length q) → IsDenied all text
     decides differs q listed fits longest longer = (
@@ -108,7 +101,6 @@ module _ (others all : List Rule) (text : List ℕ) where
 
     module _ (differs : text ≢ robots_file) (q : List ℕ) (listed : Contains others (q, false))
         (fits : Matches q text) (longest : IsLongest others text q) where
-      -- no Disallow that ranks between is a rival
       above_floor : (floor : ℕ) → HasNoRival others floor (p, true) → floor ≤ rank_of (q, false)
           → Matches p text → length p < length q
       above_floor floor none low here = elim (cases_lt (length p) (length q)) [

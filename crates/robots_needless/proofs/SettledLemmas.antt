@@ -36,7 +36,6 @@ unfoldable pub Fills : List ℕ → List ℕ → Type 0
 Fills [] t = t ≡ []
 Fills (b ∷ g) t = (s : List ℕ) × MatchBool (b == fresh) (IsSuffix s t) (t ≡ b ∷ s) × Fills g s
 
--- a pattern that matches any text matches its own generic text
 pub matches_generic : (r t : List ℕ) → Matches r t → Matches r (generic r)
 unfolding MatchesWith
 matches_generic [] t m = tt
@@ -54,7 +53,6 @@ matches_generic (b ∷ q) t m = elim (cases_Bool (b == star)) [
   ]
 ]
 
--- a text that the pattern matches fills its generic text
 pub matches_fill : (r t : List ℕ) → Matches r t → Fills (generic r) t
 unfolding MatchesWith Fills
 matches_fill [] t m = ([], (t, sym (append-nil t)), refl)
@@ -75,7 +73,6 @@ matches_fill (b ∷ q) t m = elim (cases_Bool (b == star)) [
   ]
 ]
 
--- a suffix of a generic text is filled by a suffix of the text
 fill_suffix : (f g t : List ℕ) → Fills (f ++ g) t → (s : List ℕ) × IsSuffix s t × Fills g s
 unfolding Fills
 fill_suffix [] g t m = (t, ([], refl), m)
@@ -90,7 +87,6 @@ fill_suffix (b ∷ f) g t m = elim (cases_Bool (b == fresh)) [
       (u, suffix_trans j (b ∷ [], whole), o)
 ]
 
--- a pattern without the fresh byte that matches a generic text matches each text that fills it
 pub fills_match : (s g t : List ℕ) → All (λ b. b ≢ fresh) s → Matches s g → Fills g t → Matches s t
 unfolding MatchesWith Fills
 fills_match [] g t all m fills = tt
@@ -114,17 +110,13 @@ fills_match (b ∷ q) g t all m fills =
       ]
     ]
 
--- so it covers the other pattern
 pub covers_by_generic : (wide narrow : List ℕ) → All (λ b. b ≢ fresh) wide → Matches wide (generic narrow)
     → Covers wide narrow
 covers_by_generic wide narrow all m t n = fills_match wide (generic narrow) t all m (matches_fill narrow t n)
 
--- and only then, if the other pattern matches any text
 pub generic_by_covers : (wide narrow : List ℕ) → Matches narrow (generic narrow) → Covers wide narrow
     → Matches wide (generic narrow)
 generic_by_covers wide narrow own covers = covers (generic narrow) own
-
--- ---- patterns that match no text in common
 
 differ_at : (at : ℕ) (g h t : List ℕ) → at < length g → at < length h
     → ((k : ℕ) → k < at → (get_or g k 0 ≡ get_or h k 0) × (get_or g k 0 ≢ fresh))
@@ -151,7 +143,6 @@ heads_apart p q is = λ text fits others.
     differ_at is.at (generic p) (generic q) text is.in_one is.in_other is.same is.differ is.fixed
     is.other_fixed (matches_fill p text fits) (matches_fill q text others)
 
--- the same, given the generic texts
 pub apart_by : (p q one other : List ℕ) → one ≡ generic p → other ≡ generic q → HeadsDiffer one other
     → AreApart p q
 apart_by p q one other first second is = heads_apart p q (rw (first, second) at is)
@@ -162,15 +153,12 @@ covers_by wide narrow text below is fits =
     covers_by_generic wide narrow (λ k d within same. let less = below k d within in omega arith)
     (rw is at fits)
 
--- a pattern that doesn't match its generic text matches nothing
 pub nothing_by : (p text : List ℕ) → text ≡ generic p → ¬ Matches p text → MatchesNothing p
 nothing_by p text is none = λ t fits. absurd (none (rw is (matches_generic p t fits)))
 
 pub not_true : (b : Bool) → IsTrue (not b) → ¬ IsTrue b
 not_true true is too = cc
 not_true false is too = cc
-
--- ---- escaped patterns don't contain the fresh byte
 
 glyph_below : (n : ℕ) → n < 16 → digit_glyph true n < fresh
 glyph_below n less = grind (arith, nat_tests)
@@ -206,8 +194,6 @@ escaped_below (b ∷ bytes) =
 
 -- ---- What is found for several crawlers: rules that are needless for each of them.
 
--- ---- reasons
-
 pub no_reasons : (lines : List LineValue) (found : Reasons) → found.entries ≡ [] → AreReasons lines found
 no_reasons lines found empty line reason at = let wrong = rw empty at at in cc
 
@@ -217,8 +203,6 @@ reasons_more lines old new before grow line reason at = elim (grow.reasons line 
   | inl old ↦ before line reason old
   | inr is ↦ is
 ]
-
--- ---- one crawler
 
 not_rejected : (agent : List ℕ) (lines : List LineValue) → AreAccepted (placed_rules agent lines)
     → ¬ IsRejected agent lines
@@ -240,8 +224,6 @@ grow_for lines agent rules old new are grow = record {
         inr (agent, subst (λ rs. IsFound rs one) are is)
   ];
 }
-
--- ---- one more crawler
 
 pub settled_more : (P : NeedlessRule → Type 0) (lines : List LineValue) (agents : List (List ℕ))
     (last : List ℕ) (old new : Reasons) (stayed stays : BTreeSet ℕ) → AreSettled lines agents old stayed
@@ -274,7 +256,6 @@ pub among_names : (star : List ℕ) (agents : List (List ℕ)) → Contains agen
 among_names star agents has agent (zero, below, same) = subst (Contains agents) same has
 among_names star agents has agent (suc k, below, at) = (k, omega arith, at)
 
--- they are, if it is added to them
 pub among_pushed : (star : List ℕ) (agents : List (List ℕ)) (agent : List ℕ) → Contains (star ∷ agents) agent
     → Contains (agents ++ star ∷ []) agent
 among_pushed star agents agent (zero, below, same) =
@@ -285,8 +266,6 @@ among_pushed star agents agent (suc k, below, at) =
 pub no_one_settled : (lines : List LineValue) (found : Reasons) (stays : BTreeSet ℕ)
     → AreSettled lines [] found stays
 no_one_settled lines found stays agent (k, below, at) = absurd (omega arith)
-
--- ---- all of them
 
 numbers_are : (entries : List (ℕ × Reason))
     → numbers_of (map rule_at entries) ≡ map (λ (e : ℕ × Reason). e.0) entries
@@ -324,8 +303,6 @@ reasons_listed found ordered list are lines reasons =
     rw are (All-map (IsFoundFor lines) rule_at found.entries
     (λ k d less. reasons _ _ (All-found nat_cmp_total found ordered k d less)))
 
--- ---- all lines of a file
-
 is_key : (found : Reasons) (list : List NeedlessRule) → list ≡ map rule_at found.entries → (n : ℕ)
     → list_any (λ number. number == n) (numbers_of list) ≡ is_found found n
 is_key found list are n =
@@ -338,7 +315,6 @@ are_keys : (found : Reasons) (list : List NeedlessRule) → list ≡ map rule_at
     → ◌≡◌ {A = ℕ → Bool} (among (numbers_of list)) (is_found found)
 are_keys found list are = λ i n. is_key found list are n i
 
--- a found line is one of the lines
 found_within : (lines : List LineValue) (one : NeedlessRule) → IsFoundFor lines one
     → (place : ℕ) × (one.line ≡ place + 1) × (place < length lines)
 found_within lines one (agent, (placed, has, at, reason)) =

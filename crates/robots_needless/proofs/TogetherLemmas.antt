@@ -29,8 +29,6 @@ use Rattle.robots_needless.specs.declared.needless.Reason.TheVariants as reasons
 
 -- ---- Which rules are left without those in some lines.
 
--- ---- members
-
 pub to_map : {A B : Type 0} (f : A → B) (xs : List A) (x : A) → Contains xs x → Contains (map f xs) (f x)
 to_map f xs x (k, below, at) = (k, rw (length-map xs f) below, get_or-map f xs k x (f x) below ∙ ap f at)
 
@@ -51,8 +49,6 @@ pub in_named : (n : ℕ) (numbers : List ℕ) → list_any (λ number. number ==
 in_named n numbers is =
     let (k, one, below, at, same) = Any-from_list_any (λ number. number == n) numbers is in
     subst (Contains numbers) (eqb-true one n same) (k, below, at)
-
--- ---- filters
 
 pub in_cons : {A : Type 0} (first : A) (rules : List A) (placed : A) → Contains rules placed
     → Contains (first ∷ rules) placed
@@ -78,8 +74,6 @@ to_filter test (first ∷ rules) placed (suc k, below, at) is =
       | inl passes ↦ rw passes (in_cons first (filter test rules) placed rest)
       | inr fails ↦ rw fails rest
     ]
-
--- ---- the rules without the removed ones
 
 module _ (numbers : List ℕ) (rules left removed : List PlacedRule)
     (same : IsPermutation rules (left ++ removed))
@@ -142,12 +136,9 @@ module _ (rules kept removed : List PlacedRule) (same : IsPermutation rules (kep
 
 -- ---- Rules that can go one after the other are needless together.
 
--- the rule of a member
 pub unplaced_of : (rules : List PlacedRule) (placed : PlacedRule) → Contains rules placed
     → Contains (unplaced rules) placed.rule
 unplaced_of = to_map (λ (p : PlacedRule). p.rule)
-
--- ---- rules with the same members have the same verdicts
 
 abbrev SameMembers : List PlacedRule → List PlacedRule → Type 0
 SameMembers rules others = (placed : PlacedRule) → Contains rules placed ↔ Contains others placed
@@ -170,14 +161,11 @@ denied_same rules others text same (differs, p, has, fits, longest) =
       λ q listed. longest q (unplaced_same others rules back (q, true) listed),
     )
 
--- denied and not denied are the two verdicts
 pub verdicts : (rules others : List Rule) (text : List ℕ) → IsDenied rules text ↔ IsDenied others text
     → (answer : Bool) → IsVerdict rules text answer ↔ IsVerdict others text answer
 verdicts rules others text same false = same
 verdicts rules others text same true =
     (λ allowed denied. allowed (same.1 denied), λ allowed denied. allowed (same.0 denied))
-
--- ---- one rule less
 
 with_last : (others : List PlacedRule) (rule : PlacedRule)
     → AreWith (unplaced others) rule.rule (unplaced (others ++ rule ∷ []))
@@ -194,7 +182,6 @@ denied_permuted rules others same text =
 pub both_ways : {A B C : Type 0} → A ↔ B → B ↔ C → A ↔ C
 both_ways (to, from) (on, back) = (λ a. on (to a), λ c. from (back c))
 
--- the rules without some have the same verdicts as those that are left, if these deny the same texts
 pub verdicts_without : (rules left : List PlacedRule) (numbers : List ℕ) (text : List ℕ)
     → IsDenied (unplaced rules) text ↔ IsDenied (unplaced left) text
     → SameMembers (without numbers rules) left → (answer : Bool)
@@ -206,8 +193,6 @@ verdicts_without rules left numbers text denied members answer =
     (denied_same left rest text back, denied_same rest left text members) in
     verdicts (unplaced rules) (unplaced rest) text (both_ways denied same) answer
 
--- ---- rules that are removed one after the other
-
 reason_among : (some all : List PlacedRule) → AreAmong some all → (rule : PlacedRule) (reason : Reason)
     → IsReason some rule reason → IsReason all rule reason
 reason_among some all among rule reasons.MatchesNothing holds = holds
@@ -217,8 +202,6 @@ reason_among some all among rule (reasons.NeverDecides line) (other, has, at, is
 reason_among some all among rule (reasons.NotNeeded line) (other, has, at, another, kind, covers) =
     (other, among other has, at, another, kind, covers)
 
--- ---- the last rule of the rest is tried, with those in front of the rest
-
 pub rest_to_front : (front rest : List PlacedRule) (rule : PlacedRule)
     → IsPermutation (front ++ (rest ++ rule ∷ [])) ((front ++ rule ∷ []) ++ rest)
 rest_to_front front rest rule =
@@ -226,7 +209,6 @@ rest_to_front front rest rule =
     subst (λ to. IsPermutation (front ++ (rest ++ last)) to) (sym (append_assoc front last rest))
     (IsPermutation-append_right front (rest ++ last) (last ++ rest) (IsPermutation-append_comm rest last))
 
--- it goes to the end of the first list, or of the second one
 module _ (one two rest old : List PlacedRule) (rule : PlacedRule) (last : old ≡ rest ++ rule ∷ []) where
   pub to_second : (more : List PlacedRule) → more ≡ two ++ rule ∷ []
       → IsPermutation ((one ++ two) ++ old) ((one ++ more) ++ rest)
@@ -242,7 +224,6 @@ module _ (one two rest old : List PlacedRule) (rule : PlacedRule) (last : old �
       (IsPermutation-append_left rest (one ++ second) ((one ++ rule ∷ []) ++ two)
       (rest_to_front one two rule)))
 
--- nothing is removed yet
 pub nothing_removed : (rules others : List PlacedRule) (found : Reasons) → IsPermutation rules others
     → IsReducing rules others found found
 nothing_removed rules others found same = record {
@@ -343,10 +324,6 @@ needless_in_turn rules kept removed once same can text answer =
     (both_ways (denied_permuted rules (kept ++ removed) same text) (in_turn kept removed can text))
     (left_are_kept rules kept removed same once) answer
 
--- ---- why a rule can go
-
--- ---- rivals
-
 pub no_rival_near : (one two others : List PlacedRule) (m n : ℕ) (rule : PlacedRule)
     → AreNear one two others rule → HasNoRival (unplaced one) m rule.rule → m ≤ n
     → HasNoRival (unplaced two) n rule.rule → HasNoRival (unplaced others) n rule.rule
@@ -373,7 +350,6 @@ both_near kept rest rule = record {
   ];
 }
 
--- one more of the others
 pub no_rival_more : (others : List PlacedRule) (other : PlacedRule) (m n : ℕ) (rule : Rule)
     → HasNoRival (unplaced others) m rule → m ≤ n → IsNoRival n rule other.rule
     → HasNoRival (unplaced (others ++ other ∷ [])) n rule
@@ -384,8 +360,6 @@ no_rival_more others other m n rule before most apart =
         | inr last ↦ subst (λ (r : Rule). IsNoRival n rule r) last apart
       ];
     })
-
--- ---- a rule that covers the rule is among some of the others
 
 pub overruled_goes : (some others : List PlacedRule) (rule : PlacedRule) (line : ℕ) → AreAmong some others
     → (other : PlacedRule) × Contains some other × (other.line ≡ line) × Overrules other rule
@@ -426,7 +400,6 @@ covered_goes some others floor rule line among none (other, has, at, another, is
       holds = (other, listed, at, another, is.kind, is.covers);
     }
 
--- an Allow without rivals
 pub allow_goes : (others : List PlacedRule) (floor : ℕ) (rule : PlacedRule)
     → HasNoRival (unplaced others) floor rule.rule → floor ≡ 0 → rule.rule.1 ≡ true
     → Goes others rule AllowedAnyway

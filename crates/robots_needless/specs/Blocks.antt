@@ -13,16 +13,15 @@ pub use Rattle.robots_needless.specs.Needless.{is_rule}
 -- ---- Blocks of a file from which rules are removed: the group lines below a run of user-agent lines. At
 -- crawlers that ignore delays, user-agent lines above a delay alone would join the next run.
 
--- no rule since the last user-agent line
 abbrev pub no_rule : Block
 no_rule = record { is_lost = false; has_rule = false }
 
--- one more rule, which is removed or stays
+-- the rule is removed or stays
 abbrev pub with_rule : Block → Bool → Block
 with_rule block gone =
     record { is_lost = gone && not block.has_rule; has_rule = not gone || block.has_rule }
 
--- one more line; none if a line is removed that isn't a rule, or all rules above a user-agent line are
+-- none if a line is removed that isn't a rule, or all rules above a user-agent line are
 abbrev pub block_after : Block → Bool → LineValue → Option Block
 block_after block gone line =
     if is_rule line then Some (with_rule block gone)
@@ -44,26 +43,24 @@ left_from gone position (line ∷ lines) =
     if gone (position + 1) then left_from gone (position + 1) lines
     else line ∷ left_from gone (position + 1) lines
 
--- whether a line is found
 abbrev pub is_found : Reasons → ℕ → Bool
 is_found found number = is_some (get nat_cmp found number)
 
--- the lines that are found can be removed
 abbrev pub KeepBlocks : Reasons → List LineValue → Type 0
 KeepBlocks found lines = keep_blocks_from (is_found found) no_rule 0 lines ≡ true
 
 -- ---- A file from which lines are deleted, each with its line end.
 
--- these are the lines of the file, each with its line end: they are cut where the file is that has LF in
--- place of NUL, and one after the other, they are the file without its byte order mark
+-- the lines of the file, each with its line end: they are cut where the file is that has LF in place of NUL,
+-- and joined, they are the file without its byte order mark
 pub record AreWholeLines (whole : List (List ℕ)) (file : List ℕ) : Type 0 where
   pub pairs : List Pair
   pub is_cut : IsCut pairs (without_front (map nul_as_lf file))
   pub read : map (λ line. map nul_as_lf line) whole ≡ map (λ pair. pair.body ++ pair.ending) pairs
   pub joined : concat whole ≡ without_front file
 
--- what is left of the file if the lines with these numbers are deleted, with their line ends; its byte
--- order mark stays, or is deleted too
+-- what is left of the file if the lines with these numbers are deleted; its byte order mark stays, or is
+-- deleted too
 pub record IsLeftOf (numbers : List ℕ) (file left : List ℕ) : Type 0 where
   pub whole : List (List ℕ)
   pub lines : AreWholeLines whole file
@@ -71,7 +68,7 @@ pub record IsLeftOf (numbers : List ℕ) (file left : List ℕ) : Type 0 where
   pub front : (mark ≡ []) ⊎ (mark ++ without_front file ≡ file)
   pub rest : left ≡ mark ++ concat (lines_without numbers whole)
 
--- both robots have the same delay, sitemaps and verdicts
+-- the same delay, sitemaps and verdicts
 pub record AreAlike (robot other : RobotValue) : Type 0 where
   pub delay : robot.delay ≡ other.delay
   pub sitemaps : robot.sitemaps ≡ other.sitemaps
@@ -84,14 +81,14 @@ pub record HaveSameRobot (agent file other : List ℕ) : Type 0 where
   pub robots : (one two : RobotValue) → IsRobotOfFile agent file one → IsRobotOfFile agent other two
       → AreAlike one two
 
--- the first of these contents of lines begins with a byte of the byte order mark
+-- the first of these contents begins with a byte of the byte order mark
 abbrev pub begin_with_mark : List (List ℕ) → Bool
 begin_with_mark [] = false
 begin_with_mark ([] ∷ bodies) = false
 begin_with_mark ((b ∷ body) ∷ bodies) = (b == 0xEF) || ((b == 0xBB) || (b == 0xBF))
 
--- the found rules of a file: the first line that stays doesn't begin with a byte of the byte order mark,
--- which isn't read at the start of a file
+-- the first line that stays doesn't begin with a byte of the byte order mark, which isn't read at the start
+-- of a file
 pub record AreFoundIn (file : List ℕ) (found : List NeedlessRule) : Type 0 where
   pub lines : AreFound (file_lines file) found
   pub front : found ≢ [] → begin_with_mark (lines_without (numbers_of found) (file_bodies file)) ≡ false

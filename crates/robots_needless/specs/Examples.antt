@@ -3,14 +3,12 @@ use Rattle.std.specs.Prelude.{ℕ, true, false, List, [], ◌∷◌, codes}
 use Rattle.texting_robots.specs.Callers.{PlacedRule}
 use Rattle.robots_needless.specs.Needless.{AreApart, AreNeedless, Covers, IsNeedless}
 
--- a Disallow and an Allow in a line
 abbrev pub deny_at : ℕ → List ℕ → PlacedRule
 deny_at line pattern = record { rule = (pattern, false); line = line }
 
 abbrev pub allow_at : ℕ → List ℕ → PlacedRule
 allow_at line pattern = record { rule = (pattern, true); line = line }
 
--- two equal rules
 abbrev pub twice : List PlacedRule
 twice = deny_at 1 (codes "/a") ∷ deny_at 2 (codes "/a") ∷ []
 

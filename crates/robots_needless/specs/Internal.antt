@@ -17,21 +17,20 @@ use Rattle.robots_needless.specs.Needless.{Covers, IsFound, IsFoundFor, IsReason
 abbrev pub fresh : ℕ
 fresh = 127
 
--- the bytes of the pattern before its first dollar, with the fresh byte in place of each star, and after them
--- a fresh byte if there is no dollar
+-- the pattern before its first dollar, with the fresh byte in place of each star; without a dollar, with one
+-- at its end
 abbrev pub generic : List ℕ → List ℕ
 generic [] = fresh ∷ []
 generic (b ∷ q) =
     if b == star then fresh ∷ generic q else if b == dollar then [] else b ∷ generic q
 
--- neither a star nor a dollar
 abbrev pub IsPlainByte : ℕ → Type 0
 IsPlainByte b = ((b == star) ≡ false) × ((b == dollar) ≡ false)
 
 abbrev pub IsPlain : PlacedRule → Type 0
 IsPlain placed = All IsPlainByte placed.rule.0
 
--- the matcher of the pattern, which has none if it is plain
+-- a plain pattern has no matcher
 abbrev pub IsMatcherOf : List ℕ → Option (List ℕ) → Type 0
 IsMatcherOf pattern None = All IsPlainByte pattern
 IsMatcherOf pattern (Some regex) = regex ≡ pattern
@@ -40,26 +39,25 @@ IsMatcherOf pattern (Some regex) = regex ≡ pattern
 abbrev pub allows_all : Rule → Bool
 allows_all rule = rule.1 && bytes_eq rule.0 (codes "/")
 
--- from this floor on, the other rule is no rival of the rule: it isn't of the other kind, or doesn't rank
--- below the rule and at least as high as the floor, or matches no text that the rule matches
+-- from this floor on, the other rule is no rival: it isn't of the other kind, or doesn't rank below the rule
+-- and at least as high as the floor, or matches no text that the rule matches
 abbrev pub IsNoRival : ℕ → Rule → Rule → Type 0
 IsNoRival floor rule other = other.1 ≢ rule.1 → floor ≤ rank_of other → rank_of other < rank_of rule
     → AreApart other.0 rule.0
 
--- none of the others is a rival
 pub record HasNoRival (others : List Rule) (floor : ℕ) (rule : Rule) : Type 0 where
   pub none : (other : Rule) → Contains others other → IsNoRival floor rule other
 
--- the other rule covers the rule. It ranks at least as high, or it is of the
--- same kind and no rival is above it.
+-- the other rule covers the rule. It ranks at least as high, or it is of the same kind and no rival is above
+-- it.
 pub record IsReplacedBy (others : List Rule) (rule other : Rule) : Type 0 where
   pub listed : Contains others other
   pub covers : Covers other.0 rule.0
   pub decides : (rank_of rule ≤ rank_of other)
       ⊎ ((other.1 ≡ rule.1) × HasNoRival others (rank_of other) rule)
 
--- why the other rules have the same verdicts without this rule: it matches nothing, or it is an Allow without
--- a rival, or one of the others replaces it
+-- the others have the same verdicts without this rule: it matches nothing, or is an Allow without a rival, or
+-- one of the others replaces it
 abbrev pub CanGo : List Rule → Rule → Type 0
 CanGo others rule =
     MatchesNothing rule.0 ⊎ (((rule.1 ≡ true) × HasNoRival others 0 rule)
@@ -93,18 +91,15 @@ pub record CanReplace (floor : ℕ) (other rule : Rule) : Type 0 where
   pub kind : other.1 ≡ rule.1
   pub above : floor ≤ rank_of other
 
--- all of these rules are among the others
 abbrev pub AreAmong : List PlacedRule → List PlacedRule → Type 0
 AreAmong some others = (placed : PlacedRule) → Contains some placed → Contains others placed
 
--- the others have the rules of these two lists, and besides them only rules that are no rivals of the rule
+-- the others have the rules of these two lists, and besides them only rules that are no rivals
 pub record AreNear (one two others : List PlacedRule) (rule : PlacedRule) : Type 0 where
   pub first : AreAmong one others
   pub second : AreAmong two others
   pub only : (other : PlacedRule) → Contains others other
       → Contains one other ⊎ (Contains two other ⊎ IsNoRival 0 rule.rule other.rule)
-
--- ---- plain rules in the order of their patterns
 
 -- the order of patterns; of equal ones, that of ranks, and then of lines
 abbrev pub rule_cmp : PlacedRule → PlacedRule → Ordering
@@ -112,7 +107,6 @@ rule_cmp one other =
     ordering_then (ordering_then (slice_cmp nat_cmp one.rule.0 other.rule.0)
     (nat_cmp (rank_of one.rule) (rank_of other.rule))) (nat_cmp one.line other.line)
 
--- the rule isn't before the other one
 abbrev pub IsAfter : PlacedRule → PlacedRule → Type 0
 IsAfter placed other = is_lt (rule_cmp placed other) ≡ false
 
@@ -129,17 +123,13 @@ pub record AreLeft (old_near old_far new_near new_far : List PlacedRule) (rule :
       → Contains old_far placed
       ⊎ (Contains old_near placed × (starts_with nat_eq rule.rule.0 placed.rule.0 ≡ false))
 
--- ---- several crawlers
-
--- the set has the number
 abbrev pub Has : BTreeSet ℕ → ℕ → Type 0
 Has numbers number = contains nat_cmp numbers number ≡ true
 
--- the new set has the numbers of the old one
 abbrev pub HasAll : BTreeSet ℕ → BTreeSet ℕ → Type 0
 HasAll new old = (n : ℕ) → Has old n → Has new n
 
--- and those of the lines of these rules
+-- those of the old set, and those of the lines of these rules
 pub record AddsLines (old new : BTreeSet ℕ) (rules : List PlacedRule) : Type 0 where
   pub more : HasAll new old
   pub added : (placed : PlacedRule) → Contains rules placed → Has new placed.line
@@ -151,8 +141,8 @@ Reasons = BTreeMap ℕ Reason
 abbrev pub HasLine : Reasons → ℕ → Type 0
 HasLine found line = IsSome (get nat_cmp found line)
 
--- the rules, without some in lines that are found, are those that are left, in some order; these deny the
--- same texts
+-- the rules without some in lines that are found are those that are left, in some order; these deny the same
+-- texts
 pub record IsReducedTo (rules left : List PlacedRule) (found : Reasons) : Type 0 where
   pub removed : List PlacedRule
   pub same : IsPermutation rules (left ++ removed)
@@ -176,7 +166,6 @@ pub record IsSettled (rules : List PlacedRule) (found : Reasons) (stays : BTreeS
   pub reduced : IsReducedTo rules left found
   pub stay : (placed : PlacedRule) → Contains left placed → Has stays placed.line
 
--- none of the rules is overlong
 abbrev pub AreAccepted : List PlacedRule → Type 0
 AreAccepted rules = All (λ (placed : PlacedRule). ¬ IsOverlong placed.rule.0) rules
 
@@ -190,7 +179,6 @@ abbrev pub AreReasons : List LineValue → Reasons → Type 0
 AreReasons lines found = (line : ℕ) (reason : Reason) → get nat_cmp found line ≡ Some reason
     → IsFoundFor lines (record { line = line; reason = reason })
 
--- an entry of the map as a needless rule
 abbrev pub rule_at : ℕ × Reason → NeedlessRule
 rule_at entry = record { line = entry.0; reason = entry.1 }
 

@@ -8,20 +8,17 @@ use Rattle.texting_robots.specs.Callers.{IsVerdict, LineValue, agents_in, delay_
 use Rattle.texting_robots.specs.{Callers.Matches, Group.is_agent, Group.passes_at, Line.Allow, Line.Disallow}
 use Rattle.robots_needless.specs.declared.needless.Reason.TheVariants as reasons
 
--- the lines of the rules
 abbrev pub lines_of : List PlacedRule → List ℕ
 lines_of rules = map (λ (placed : PlacedRule). placed.line) rules
 
--- no two rules are in one line
 abbrev pub AreDistinct : List PlacedRule → Type 0
 AreDistinct rules = AllPairs (λ (one other : PlacedRule). one.line ≢ other.line) rules
 
--- the rules without those in the lines with these numbers
 abbrev pub without : List ℕ → List PlacedRule → List PlacedRule
 without numbers rules =
     filter (λ (placed : PlacedRule). not (list_any (λ number. number == placed.line) numbers)) rules
 
--- on every text, the rules without all those in the lines with these numbers have the same verdict
+-- without all those in the lines with these numbers, the rules have the same verdict on every text
 abbrev pub AreNeedless : List PlacedRule → List ℕ → Type 0
 AreNeedless rules numbers = (text : List ℕ) (answer : Bool)
     → IsVerdict (unplaced rules) text answer ↔ IsVerdict (unplaced (without numbers rules)) text answer
@@ -42,9 +39,6 @@ AreApart one other = (text : List ℕ) → Matches one text → ¬ Matches other
 abbrev pub MatchesNothing : List ℕ → Type 0
 MatchesNothing pattern = (text : List ℕ) → Matches pattern text → text ≡ robots_file
 
--- ---- what the check finds
-
--- the lines of the found rules
 abbrev pub numbers_of : List NeedlessRule → List ℕ
 numbers_of found = map (λ (one : NeedlessRule). one.line) found
 
@@ -82,20 +76,19 @@ IsFound rules found =
 abbrev pub IsFoundFor : List LineValue → NeedlessRule → Type 0
 IsFoundFor lines found = (agent : List ℕ) × IsFound (placed_rules agent lines) found
 
--- the lines without those with these numbers, counted from 1
+-- counted from 1
 abbrev pub lines_without : {A : Type 0} → List ℕ → List A → List A
 lines_without {A = A} numbers lines =
     map (λ (p : ℕ × A). p.1)
     (filter (λ (p : ℕ × A). not (list_any (λ number. number == p.0 + 1) numbers)) (enumerate_from 0 lines))
 
--- the line is an Allow or a Disallow
 abbrev pub is_rule : LineValue → Bool
 is_rule (Allow value) = true
 is_rule (Disallow value) = true
 is_rule line = false
 
--- the line with this number is a rule, and another rule in its block, that is, with no user-agent line
--- between them, is in none of the lines with these numbers
+-- another rule in the block of the rule with this number, with no user-agent line between them, is in none of
+-- the lines with these numbers
 pub record KeepsRule (numbers : List ℕ) (lines : List LineValue) (number : ℕ) : Type 0 where
   pub position : ℕ
   pub number_is : number ≡ position + 1

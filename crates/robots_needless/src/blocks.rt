@@ -1,6 +1,6 @@
-//! Whether each block of a file that has rules keeps one. A block is the group lines below a run of user-agent
-//! lines: without all of them, these user-agent lines would join the next run, at crawlers that ignore delays
-//! even if a delay is left.
+//! Whether each block of a file that has rules keeps one. A block is the group lines below a run of
+//! user-agent lines: without its rules, these user-agent lines would join the next run, at crawlers that
+//! ignore delays even if a delay is left.
 ghost use Rattle.std.specs.Prelude.{◌≡◌, IsTrue};
 ghost use Rattle.texting_robots.specs.Callers.{by_value, file_lines};
 ghost use Rattle.robots_needless.specs.Blocks.{KeepBlocks, block_after};
@@ -10,7 +10,6 @@ use std::alloc::AllocError;
 use std::collections::BTreeMap;
 use texting_robots::parser::{Line, file_lines};
 
-/// The rules since the last user-agent line.
 #[derive(Clone, Copy)]
 struct Block {
     /// Whether some of them are removed, and none stays.
@@ -19,14 +18,13 @@ struct Block {
     has_rule: bool,
 }
 
-/// No rules.
 const NO_RULE: Block = Block {
     is_lost: false,
     has_rule: false,
 };
 
-/// The block after one more line. `None` if a line is removed that isn't an Allow or a Disallow, or if all
-/// rules above a user-agent line are.
+/// `None` if a line is removed that isn't an Allow or a Disallow, or if all rules above a user-agent line
+/// are.
 fn block_after(block: Block, is_gone: bool, line: Line<'_>) -> Option<Block>
     ensures { result ≡ block_after block is_gone (by_value line.entry) }
 {
@@ -42,7 +40,7 @@ fn block_after(block: Block, is_gone: bool, line: Line<'_>) -> Option<Block>
     }
 }
 
-/// Whether each block that has rules keeps one if these lines are removed, which are all Allows and Disallows.
+/// All lines that are removed have to be Allows and Disallows, too.
 pub(crate) fn keep_blocks(text: &[u8], found: &BTreeMap<usize, Reason>) -> bool
     ensures { IsTrue result → KeepBlocks found.now (file_lines text.now) }
 {

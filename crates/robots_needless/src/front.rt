@@ -1,5 +1,5 @@
-//! Whether the first line that stays begins with a byte of the byte order mark, which isn't read at the start of
-//! a file.
+//! Whether the first line that stays begins with a byte of the byte order mark, which isn't read at the start
+//! of a file.
 ghost use Rattle.std.specs.Prelude.{◌≡◌, ◌∷◌, []};
 ghost use Rattle.texting_robots.specs.Callers.{file_bodies};
 ghost use Rattle.robots_needless.specs.Blocks.{is_found, left_from, begin_with_mark};
@@ -8,7 +8,6 @@ use crate::needless::Reason;
 use std::collections::BTreeMap;
 use texting_robots::parser::file_bodies;
 
-/// Whether the content of a line begins with a byte of the byte order mark.
 fn begins_with_mark(body: &[u8]) -> bool
     ensures { result ≡ begin_with_mark (body.now ∷ []) }
 {
@@ -18,7 +17,6 @@ fn begins_with_mark(body: &[u8]) -> bool
     }
 }
 
-/// Whether the first line that isn't found begins with a byte of the byte order mark.
 pub(crate) fn left_begin_with_mark(text: &[u8], found: &BTreeMap<usize, Reason>) -> bool
     ensures { result ≡ begin_with_mark (left_from (is_found found.now) 0 (file_bodies text.now)) }
 {

@@ -8,14 +8,13 @@ use std::alloc::{AllocError, Global};
 /// A byte that no escaped pattern contains.
 const FRESH: u8 = 0x7F;
 
-/// The byte of a generic text for a byte of a pattern that isn't a dollar.
 fn generic_byte(byte: u8) -> u8
     ensures { result ≡ (if byte == star then fresh else byte) }
 {
     if byte == b'*' { FRESH } else { byte }
 }
 
-/// The generic text of a pattern, which each pattern matches that matches all its texts.
+/// Each pattern matches it that matches all texts of this one.
 pub(crate) fn generic_text(alloc: Global, pattern: &[u8]) -> Result<String, AllocError>
     requires { All (λ b. b < fresh) pattern.now }
     ensures { IfOk result (λ text. string_bytes text ≡ generic pattern.now) }
@@ -32,7 +31,7 @@ pub(crate) fn generic_text(alloc: Global, pattern: &[u8]) -> Result<String, Allo
     Ok(text)
 }
 
-/// Whether two generic texts differ at some byte, and neither has the fresh byte up to it.
+/// At some byte, with no fresh byte up to it.
 pub(crate) fn heads_differ(one: &[u8], other: &[u8]) -> bool
     ensures { IsTrue result → HeadsDiffer one.now other.now }
 {

@@ -9,9 +9,8 @@ ghost use Rattle.robots_needless.specs.Examples as example;
 ghost use Rattle.robots_needless.specs.Internal.{CanGoInTurn, fresh, generic};
 ghost use Rattle.robots_needless.specs.Needless.{AreDistinct, AreFound, AreNeedless, Covers, lines_of, lines_without, numbers_of};
 
-/// A pattern covers another one if it matches the other one's generic text, provided that it doesn't
-/// contain the fresh byte; and only then, if the other one matches any text. So one match decides
-/// whether one rule covers another.
+/// A pattern covers another one if it matches the other one's generic text, provided that it doesn't contain
+/// the fresh byte; and only then, if the other one matches any text.
 pub fn one_match_decides_covering()
     ensures covers { (wide narrow : List ℕ) → All (λ b. b ≢ fresh) wide → Matches wide (generic narrow)
         → Covers wide narrow }
@@ -25,8 +24,7 @@ pub fn rules_go_in_turn()
         → CanGoInTurn kept removed → AreNeedless rules (lines_of removed) }
 {}
 
-/// Deleting the lines of the found rules from a file changes no verdict of `*` or
-/// of a crawler that the file names.
+/// Deleting the lines of the found rules changes no verdict of `*` or of a crawler that the file names.
 pub fn deleting_changes_no_verdict()
     ensures { (lines : List LineValue) (found : List NeedlessRule) → AreFound lines found → (agent : List ℕ)
         → Contains (codes "*" ∷ agents_in lines) agent → (text : List ℕ) (answer : Bool)
@@ -34,15 +32,15 @@ pub fn deleting_changes_no_verdict()
         ↔ IsVerdict (rules_for agent (lines_without (numbers_of found) lines)) text answer }
 {}
 
-/// If the found lines are deleted from the bytes of a file, with their line ends, each crawler's robot of all its
-/// bytes has the same verdicts, delay and sitemaps, and whether the file is rejected for it stays the same. The
-/// byte order mark of the file may stay, or be deleted too.
+/// If the found lines are deleted from the bytes of a file, with their line ends, each crawler's robot has
+/// the same verdicts, delay and sitemaps, and whether the file is rejected for it stays the same. The byte
+/// order mark of the file may stay, or be deleted too.
 pub fn deleting_changes_no_robot()
     ensures { (file left : List ℕ) (found : List NeedlessRule) (agent : List ℕ) → AreFoundIn file found
         → found ≢ [] → IsLeftOf (numbers_of found) file left → IsUtf8 agent → HaveSameRobot agent file left }
 {}
 
-/// Each file is cut into whole lines, so that there is a file that is left if lines are deleted.
+/// So there is a file that is left if lines are deleted.
 pub fn each_file_has_whole_lines()
     ensures { (file : List ℕ) → (whole : List (List ℕ)) × AreWholeLines whole file }
 {}

@@ -16,10 +16,9 @@ use std::alloc::{AllocError, Global};
 use std::collections::{BTreeMap, BTreeSet};
 use texting_robots::{Error, Site};
 
-/// How many times the check begins anew, without the rules that turned out to be needed by another crawler.
+/// How many times the check begins anew, without the rules that another crawler turned out to need.
 const ROUNDS: usize = 8;
 
-/// Adds what is found for one more crawler.
 fn add_crawler(
     alloc: Global,
     site: &Site,
@@ -38,14 +37,13 @@ fn add_crawler(
     Ok(())
 }
 
-/// Whether `*` is among the names.
 fn has_star(agents: &[&str]) -> bool
     ensures { result ≡ list_any (λ agent. bytes_eq agent.now (codes "*")) agents.now }
 {
     agents.iter().any(|agent| *agent == "*")
 }
 
-/// `*` and the crawlers that the file names, each once.
+/// Each once.
 fn crawlers_of(alloc: Global, site: &Site) -> Result<Vec<&str>, AllocError>
     ensures { IfOk result (λ crawlers. (agent : List ℕ) → Contains (codes "*" ∷ agents_in (file_lines site.now)) agent
         → Contains (map (λ crawler. crawler.now) crawlers.items) agent) }
@@ -58,7 +56,7 @@ fn crawlers_of(alloc: Global, site: &Site) -> Result<Vec<&str>, AllocError>
     Ok(agents)
 }
 
-/// What is found for these crawlers. The rules in the lines that stay are needed.
+/// The rules in the lines that stay are needed.
 fn findings_for(
     alloc: Global,
     site: &Site,
@@ -78,7 +76,6 @@ fn findings_for(
     Ok(findings)
 }
 
-/// The needless rules in order.
 fn listed(alloc: Global, found: &BTreeMap<usize, Reason>) -> Result<Vec<NeedlessRule>, AllocError>
     ensures items { IfOk result (λ list. list.items ≡ map rule_at found.now.entries) }
     ensures reasons { IfOk result (λ list. (lines : List LineValue) → AreReasons lines found.now
@@ -94,15 +91,14 @@ fn listed(alloc: Global, found: &BTreeMap<usize, Reason>) -> Result<Vec<Needless
     Ok(list)
 }
 
-/// Whether none of the rules is in one of these lines.
 fn are_free(rules: &[NeedlessRule], stays: &Numbers) -> bool
     ensures { result ≡ are_free rules.now stays.now }
 {
     rules.iter().all(|rule| !stays.contains(&rule.line))
 }
 
-/// Whether the rules can be removed: none is in a line that stays, each block that has rules keeps one, and the
-/// first line that stays doesn't begin with a byte of the byte order mark.
+/// None is in a line that stays, each block that has rules keeps one, and the first line that stays doesn't
+/// begin with a byte of the byte order mark.
 fn can_be_removed(rules: &[NeedlessRule], findings: &Findings, text: &[u8]) -> bool
     ensures free { IsTrue result → IsTrue (are_free rules.now findings.now.stays) }
     ensures keep { IsTrue result → KeepBlocks findings.now.found (file_lines text.now) }
@@ -115,7 +111,7 @@ fn can_be_removed(rules: &[NeedlessRule], findings: &Findings, text: &[u8]) -> b
     keep_blocks(text, &findings.found) && !left_begin_with_mark(text, &findings.found)
 }
 
-/// The needless rules of all crawlers, in order, or none if lines are still found to be needed in the last round.
+/// None if lines are still found to be needed in the last round.
 fn settled_lines(alloc: Global, site: &Site) -> Result<Vec<NeedlessRule>, Error>
     ensures { IfOk result (λ found. AreFoundIn site.now found.items) }
 {
@@ -136,14 +132,9 @@ fn settled_lines(alloc: Global, site: &Site) -> Result<Vec<NeedlessRule>, Error>
 
 /// The lines of rules that can be removed together without changing a verdict of any crawler, in order. There
 /// may be more: a rule that several others replace only together isn't found, nor is the last one of a block,
-/// and a bounded number of bytes is compared. None is found if a rule is too long, so that the file is
-/// rejected for a crawler, if crawlers need each other's rules in too many ways, or if the first line that stays
-/// begins with a byte of the byte order mark. The bytes are those that the site has read: if the file is larger
-/// than its limit, deleting lines from it lets others be read.
-///
-/// # Errors
-///
-/// `AllocError` if an allocation fails.
+/// and a bounded number of bytes is compared. None is found if a rule is too long, if crawlers need each
+/// other's rules in too many ways, or if the first line that stays begins with a byte of the byte order mark.
+/// If the file is larger than the site's limit, deleting lines from it lets others be read.
 pub fn needless_lines(alloc: Global, site: &Site) -> Result<Vec<NeedlessRule>, AllocError>
     ensures { IfOk result (λ found. AreFoundIn site.now found.items) }
 {

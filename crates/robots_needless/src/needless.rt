@@ -27,7 +27,6 @@ pub enum Reason {
     NotNeeded(usize),
 }
 
-/// A needless rule.
 #[derive(Clone, Copy, Debug, Eq, PartialEq)]
 pub struct NeedlessRule {
     /// The number of its line, counted from 1.
@@ -35,7 +34,6 @@ pub struct NeedlessRule {
     pub reason: Reason,
 }
 
-/// The numbers of lines.
 pub(crate) type Numbers = BTreeSet<usize>;
 
 /// What was found for some crawlers.
@@ -54,7 +52,7 @@ pub(crate) struct Budget {
 }
 
 impl Budget {
-    /// Whether so many bytes may still be compared. They are subtracted, and so is one more for the call.
+    /// The bytes are subtracted, and so is one more for the call.
     pub(crate) fn spend(&mut self, bytes: usize) -> bool
         ensures enough { result ≡ nat_lt bytes self.old.left }
         ensures less { IsTrue result → self.new.left + (bytes + 1) ≡ self.old.left }
@@ -68,8 +66,8 @@ impl Budget {
     }
 }
 
-/// The floor, or a higher one if the other rule is of the other kind, ranks below the rule and not below the
-/// floor, and may match a text that the rule matches.
+/// A higher floor if the other rule is of the other kind, ranks below the rule and not below the floor, and
+/// may match a text that the rule matches.
 fn floor_above(budget: &mut Budget, other: &Rule, rule: &Rule, floor: usize) -> usize
     ensures most { floor ≤ result }
     ensures apart { IsNoRival result rule.now.rule other.now.rule }
@@ -98,7 +96,6 @@ fn rival_floor(budget: &mut Budget, others: &[Rule], rule: &Rule, floor: usize) 
     highest
 }
 
-/// Whether the other rule covers the rule, and decides where both match.
 fn overrules(budget: &mut Budget, other: &Rule, rule: &Rule) -> bool
     ensures { IsTrue result → Overrules other.now rule.now }
 {
@@ -114,7 +111,6 @@ fn overrules(budget: &mut Budget, other: &Rule, rule: &Rule) -> bool
     other.covers(rule)
 }
 
-/// Whether the other rule is in another line, covers the rule, is of the same kind, and doesn't rank below the floor.
 fn can_replace(budget: &mut Budget, other: &Rule, rule: &Rule, floor: usize) -> bool
     ensures can_replace { IsTrue result → CanReplace floor other.now.rule rule.now.rule }
     ensures another { IsTrue result → other.now.line ≢ rule.now.line }
@@ -134,7 +130,6 @@ fn can_replace(budget: &mut Budget, other: &Rule, rule: &Rule, floor: usize) -> 
     other.covers(rule)
 }
 
-/// The line of the first of the others that overrules the rule.
 fn overruling_line(budget: &mut Budget, others: &[Rule], rule: &Rule) -> Option<usize>
     ensures { IfSome result (λ line. (other : PlacedRule) × Contains others.now other × (other.line ≡ line)
         × Overrules other rule.now) }
@@ -147,7 +142,6 @@ fn overruling_line(budget: &mut Budget, others: &[Rule], rule: &Rule) -> Option<
     None
 }
 
-/// The line of the first of the others that can replace the rule.
 fn covering_line(budget: &mut Budget, others: &[Rule], rule: &Rule, floor: usize) -> Option<usize>
     ensures { IfSome result (λ line. (other : PlacedRule) × Contains others.now other × (other.line ≡ line)
         × (other.line ≢ rule.now.line) × CanReplace floor other.rule rule.now.rule) }
@@ -160,8 +154,8 @@ fn covering_line(budget: &mut Budget, others: &[Rule], rule: &Rule, floor: usize
     None
 }
 
-/// Why the rule can go, if one of these rules overrules it or can replace it, or if it is an Allow without
-/// rivals. From the floor on it must have no rivals.
+/// If one of these rules overrules it or can replace it, or if it is an Allow without rivals. From the floor
+/// on it must have no rivals.
 fn reason_among(
     budget: &mut Budget,
     one: &[Rule],
@@ -190,9 +184,9 @@ fn reason_among(
     None
 }
 
-/// Why the rule can go, if it can: the others have the same verdicts without it. Those that aren't in `kept` or `rest`
-/// must be no rivals; `equal` are some with the same pattern. A rule in a line that stays can't, nor can `Allow: /` and
-/// an empty Disallow, which are meant as they are.
+/// The others have the same verdicts without the rule. Those that aren't in `kept` or `rest` must be no
+/// rivals; `equal` are some with the same pattern. A rule in a line that stays can't go, nor can `Allow: /`
+/// and an empty Disallow, which are meant as they are.
 pub(crate) fn reason_to_go(
     budget: &mut Budget,
     stays: &Numbers,
@@ -221,8 +215,8 @@ pub(crate) fn reason_to_go(
     reason_among(budget, kept, rest, rule, floor)
 }
 
-/// The rules by rank, the highest first, and in file order if ranks are equal. The order decides only
-/// how many needless rules are found.
+/// The highest rank first, and in file order if ranks are equal. The order decides only how many needless
+/// rules are found.
 fn by_rank(rules: Vec<Rule>) -> Vec<Rule>
     ensures { IsPermutation rules.items result.items }
 {
@@ -236,8 +230,8 @@ fn by_rank(rules: Vec<Rule>) -> Vec<Rule>
     sorted
 }
 
-/// Settles a crawler's rules, by ascending rank, without those that are settled, of which some were kept. Returns all
-/// that are kept.
+/// Settles a crawler's rules, by ascending rank, without those that are settled, of which some were kept. The
+/// result are all that are kept.
 pub(crate) fn settle_by_rank(
     budget: &mut Budget,
     stays: &Numbers,

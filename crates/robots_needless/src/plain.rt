@@ -1,4 +1,4 @@
-//! Which of a crawler's plain rules are needless. They are tried in the order of their patterns, so that few rules
+//! Which of a crawler's plain rules are needless. They are tried in the order of their patterns, so that few
 //! are compared: of those above a rule, only the ones that begin it match a text that it matches.
 ghost use Rattle.std.specs.Prelude.{◌++◌, All, IfOk, IsPermutation, List, OnOk};
 ghost use Rattle.texting_robots.specs.Callers.{PlacedRule};
@@ -10,14 +10,12 @@ use crate::rule::Rule;
 use std::alloc::{AllocError, Global};
 use std::collections::BTreeMap;
 
-/// Plain rules, and others.
 #[derive(Drop)]
 struct Kinds {
     plain: Vec<Rule>,
     starred: Vec<Rule>,
 }
 
-/// The plain rules and the others.
 fn kinds_of(alloc: Global, rules: Vec<Rule>) -> Result<Kinds, AllocError>
     ensures all { IfOk result (λ kinds. IsPermutation rules.items (kinds.starred.items ++ kinds.plain.items)) }
     ensures plain { IfOk result (λ kinds. All IsPlain kinds.plain.items) }
@@ -35,7 +33,6 @@ fn kinds_of(alloc: Global, rules: Vec<Rule>) -> Result<Kinds, AllocError>
     Ok(Kinds { plain, starred })
 }
 
-/// The rules in descending order.
 fn descending(rules: Vec<Rule>) -> Vec<Rule>
     requires { All IsPlain rules.items }
     ensures same { IsPermutation rules.items result.items }
@@ -60,8 +57,8 @@ fn leave(near: &mut Vec<Rule>, far: &mut Vec<Rule>, rule: &Rule) -> Result<(), A
     Ok(())
 }
 
-/// The rule that takes precedence over the others with this pattern, among rules in descending order that aren't
-/// before the rule, if it is of the other kind.
+/// Of rules in descending order that aren't before the rule, the one that takes precedence over others with
+/// this pattern, if it is of the other kind.
 fn strongest<'a>(rules: &'a [Rule], rule: &Rule) -> &'a [Rule]
     ensures { AreAmong result.now rules.now }
 {
@@ -71,8 +68,8 @@ fn strongest<'a>(rules: &'a [Rule], rule: &Rule) -> &'a [Rule]
     &rules[end.saturating_sub(1)..end]
 }
 
-/// Of starred rules and of plain rules in descending order: settles the plain ones, the last one first, and returns those
-/// that are kept. They are far as soon as no rule that is left begins with them.
+/// Of starred rules and of plain rules in descending order: settles the plain ones, the last one first, and
+/// returns those that are kept. They are far as soon as no rule that is left begins with them.
 fn settle_plain(
     alloc: Global,
     budget: &mut Budget,
@@ -103,7 +100,6 @@ fn settle_plain(
     Ok(far)
 }
 
-/// Inserts the lines of these rules.
 fn add_lines(numbers: &mut Numbers, rules: &[Rule]) -> Result<(), AllocError>
     ensures { OnOk result (AddsLines numbers.old numbers.new rules.now) }
 {
@@ -113,9 +109,8 @@ fn add_lines(numbers: &mut Numbers, rules: &[Rule]) -> Result<(), AllocError>
     Ok(())
 }
 
-/// Finds rules that can go one after the other, without those in the lines that stay: first plain rules,
-/// then the others. The lines of the others stay. There may be more that can go: a rule that several others replace only
-/// together isn't found, and the budget bounds how many bytes are compared.
+/// First plain rules, then the others. The lines of the others stay. There may be more that can go: a rule
+/// that several others replace only together isn't found, and the budget bounds how many bytes are compared.
 pub(crate) fn settle(
     alloc: Global,
     budget: &mut Budget,

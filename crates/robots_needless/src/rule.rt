@@ -18,7 +18,7 @@ use texting_robots::site::{Site, SiteRule};
 #[derive(Drop)]
 pub(crate) struct Rule {
     pattern: String,
-    /// The pattern as a matcher, unless it has no star and no dollar.
+    /// None if the pattern has no star and no dollar.
     regex: Option<Box<MinRegex>>,
     generic_text: String,
     is_allow: bool,
@@ -43,42 +43,36 @@ impl Model for Rule {
 }
 
 impl Rule {
-    /// Whether it is an Allow.
     pub(crate) fn is_allow(&self) -> bool
         ensures { result ≡ self.now.rule.1 }
     {
         self.is_allow
     }
 
-    /// Twice the length of the pattern, plus one for an Allow.
     pub(crate) fn rank(&self) -> usize
         ensures { result ≡ rank_of self.now.rule }
     {
         self.rank
     }
 
-    /// The number of its line, counted from 1.
     pub(crate) fn line(&self) -> usize
         ensures { result ≡ self.now.line }
     {
         self.line
     }
 
-    /// The pattern, which is escaped.
     pub(crate) fn pattern(&self) -> &[u8]
         ensures { result.now ≡ self.now.rule.0 }
     {
         self.pattern.as_bytes()
     }
 
-    /// Whether the pattern has no star and no dollar.
     pub(crate) fn is_plain(&self) -> bool
         ensures { IsTrue result → IsPlain self.now }
     {
         is_plain(self.pattern())
     }
 
-    /// The order of patterns; of equal ones, that of ranks, and then of lines.
     pub(crate) fn order(&self, other: &Rule) -> Ordering
         ensures { result ≡ rule_cmp self.now other.now }
     {
@@ -88,7 +82,6 @@ impl Rule {
             .then(self.line.cmp(&other.line))
     }
 
-    /// Whether the pattern begins with that of the other one.
     pub(crate) fn starts_with(&self, other: &Rule) -> bool
         ensures { result ≡ starts_with nat_eq self.now.rule.0 other.now.rule.0 }
     {
@@ -102,7 +95,6 @@ impl Rule {
         self.generic_text.len()
     }
 
-    /// Whether the pattern matches the text.
     fn is_match(&self, text: &str) -> bool
         ensures matches { IsTrue result ↔ Matches self.now.rule.0 text.now }
         ensures below { All (λ b. b < fresh) self.now.rule.0 }
@@ -113,29 +105,28 @@ impl Rule {
         }
     }
 
-    /// Whether the pattern matches all texts that the other one matches. False if the other one matches none.
+    /// False if the other pattern matches no text.
     pub(crate) fn covers(&self, other: &Rule) -> bool
         ensures { IsTrue result → Covers self.now.rule.0 other.now.rule.0 }
     {
         self.is_match(other.generic_text.as_str())
     }
 
-    /// Whether the pattern matches no text, except perhaps `/robots.txt`.
+    /// Except perhaps `/robots.txt`.
     pub(crate) fn matches_nothing(&self) -> bool
         ensures { IsTrue result → MatchesNothing self.now.rule.0 }
     {
         !self.is_match(self.generic_text.as_str())
     }
 
-    /// Whether it is `Allow: /` or an empty Disallow, which say that all is allowed.
+    /// `Allow: /` or an empty Disallow.
     pub(crate) fn allows_all(&self) -> bool
         ensures { result ≡ allows_all self.now.rule }
     {
         self.is_allow && self.pattern.as_str() == "/"
     }
 
-    /// Whether the two patterns differ before their first star or dollar, so that
-    /// they match no text in common.
+    /// The two patterns differ before their first star or dollar.
     pub(crate) fn is_apart_from(&self, other: &Rule) -> bool
         ensures { IsTrue result → AreApart self.now.rule.0 other.now.rule.0 }
     {
@@ -143,7 +134,6 @@ impl Rule {
     }
 }
 
-/// Whether the pattern has no star and no dollar.
 fn is_plain(pattern: &[u8]) -> bool
     ensures { IsTrue result → All IsPlainByte pattern.now }
 {
@@ -158,7 +148,6 @@ fn is_plain(pattern: &[u8]) -> bool
     true
 }
 
-/// The rank of a rule.
 fn rank_of_pattern(len: usize, is_allow: bool) -> usize
     requires { len < 2 ^ 63 }
     ensures { result ≡ 2 * len + (if is_allow then 1 else 0) }
@@ -166,7 +155,6 @@ fn rank_of_pattern(len: usize, is_allow: bool) -> usize
     2 * len + usize::from(is_allow)
 }
 
-/// The matcher of a pattern, unless the pattern has no star and no dollar.
 fn matcher_of(alloc: Global, pattern: &str) -> Result<Option<Box<MinRegex>>, Error>
     ensures matcher { IfOk result (λ made. IsMatcherOf pattern.now (option_map (λ matcher. matcher.value) made)) }
     ensures accepted { OnOk result (¬ IsOverlong pattern.now) }
@@ -179,7 +167,6 @@ fn matcher_of(alloc: Global, pattern: &str) -> Result<Option<Box<MinRegex>>, Err
     Ok(Some(Box::new(alloc, regex)?))
 }
 
-/// The rule, prepared for comparison.
 fn prepared(alloc: Global, rule: &SiteRule<'_>) -> Result<Rule, Error>
     ensures rule { IfOk result (λ made. made ≡ rule.now) }
     ensures accepted { IfOk result (λ made. ¬ IsOverlong made.rule.0) }
@@ -201,7 +188,6 @@ fn prepared(alloc: Global, rule: &SiteRule<'_>) -> Result<Rule, Error>
     }
 }
 
-/// The rules that apply to the crawler, in file order.
 pub(crate) fn rules_for(alloc: Global, site: &Site, agent: &str) -> Result<Vec<Rule>, Error>
     ensures rules { IfOk result (λ rules. rules.items ≡ placed_rules agent.now (file_lines site.now)) }
     ensures accepted { IfOk result (λ rules. All (λ placed. ¬ IsOverlong placed.rule.0) rules.items) }
