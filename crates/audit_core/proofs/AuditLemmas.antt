@@ -23,9 +23,6 @@ use Rattle.texting_robots.proofs.{GivenLemmas.delay_is_computed}
 use Rattle.texting_robots.proofs.MainTheoremLemmas.{answers_computed, lines_are_read, of_lines, read_robot}
 use Rattle.audit_core.specs.{Asked.asked_target}
 
--- ---- Which crawlers a file names.
-
--- adding a name that is already among the names changes nothing
 absorbed : (names : List (List ℕ)) (name key : List ℕ) → is_among name names ≡ true
     → (has_lowered key names || bytes_eq (str_to_ascii_lowercase name) key) ≡ has_lowered key names
 absorbed names name key is =
@@ -38,7 +35,6 @@ absorbed names name key is =
     (λ other. rw other (or-false (has_lowered key names)))
     (cases_Bool (bytes_eq lowered key))
 
--- membership after a name is appended, unless it is already among the names
 one_more : (names : List (List ℕ)) (name key : List ℕ) (among : Bool) → among ≡ is_among name names
     → (has_lowered key names || bytes_eq (str_to_ascii_lowercase name) key)
     ≡ has_lowered key (if among then names else names ++ name ∷ [])
@@ -51,7 +47,6 @@ kept : (names : List (List ℕ)) (name : List ℕ) (among : Bool)
 kept names name true = append-nil names
 kept names name false = refl
 
--- the name of a user-agent line was added, if it is new
 pub agent_added : {old_met new_met : BTreeSet Key} {old new : List (List ℕ)} {name : List ℕ}
     {is_new : Bool} → is_utf8 name ≡ true → AddsName old_met new_met name is_new
     → new ≡ old ++ (if is_new then name ∷ [] else [])
@@ -74,15 +69,11 @@ agent_added {old_met} {new_met} {old} {new} {name} {is_new} utf8 adds added =
       };
     }
 
--- ---- Lists of lines and of labels.
-
--- no lines make an empty text, and others don't
 pub lines_empty : (lines : List (List ℕ)) → (length (ended lines) == 0) ≡ (length lines == 0)
 lines_empty [] = refl
 lines_empty ([] ∷ lines) = grind (arith, nat_tests)
 lines_empty ((b ∷ line) ∷ lines) = grind (arith, nat_tests)
 
--- the sitemaps from index `at` on, in terms of the line there
 pub sitemaps_next : (labels : List LabeledLine) (at : ℕ) (labeled : LabeledLine) → at < length labels
     → sitemaps_in (lines_of (map label_by_value (drop at labels)))
     ≡ sitemaps_in (by_value (slice_index_or labels at labeled).line ∷ [])
@@ -97,7 +88,6 @@ sitemaps_next labels at labeled below =
 abbrev pub asked : List LabeledLine → List (ℕ × List ℕ)
 asked labels = flat_map (λ label. sitemap_at label.number label.line) (map label_by_value labels)
 
--- the same from index `at` on, in terms of the line there
 pub asked_next : (labels : List LabeledLine) (at : ℕ) (labeled : LabeledLine) → at < length labels
     → asked (drop at labels)
     ≡ sitemap_at (slice_index_or labels at labeled).number (by_value (slice_index_or labels at labeled).line)
@@ -121,9 +111,6 @@ pub none_of : {X : Type 0} (xs : List X) → (length xs == 0) ≡ true → xs �
 none_of [] is = refl
 none_of (x ∷ xs) is = absurd (some_length x xs is)
 
--- ---- How a row is built.
-
--- loop step: one more space
 pub blanks_more : (n : ℕ) (old mid new : List ℕ) → new ≡ mid ++ space ∷ []
     → mid ≡ old ++ replicate n space
     → new ≡ old ++ replicate (n + 1) space
@@ -131,9 +118,6 @@ blanks_more n old mid new added before =
     added ∙ ap (λ t. t ++ space ∷ []) before ∙ append_assoc old (replicate n space) (space ∷ [])
     ∙ ap (λ t. old ++ t) (replicate-append-replicate n 1 space)
 
--- ---- How an audit is built.
-
--- one more item, and the result for it
 pub zip_push : {B V : Type 0} (R : B → V → Type 0) (items : List B) (found : List V) (item : B) (next : V)
     → AllZip R items found → R item next → AllZip R (items ++ item ∷ []) (found ++ next ∷ [])
 zip_push R [] [] item next are is = (is, tt)
@@ -142,7 +126,6 @@ zip_push R (_ ∷ _) [] item next are is = absurd are
 zip_push R (_ ∷ items) (_ ∷ found) item next (first, later) is =
     (first, zip_push R items found item next later is)
 
--- loop step: one more item, and the result for it
 pub zip_next : {A B V : Type 0} (R : B → V → Type 0) (f : A → B) (items : List A) (place : ℕ) (item : A)
     (found : List V) (next : V) → place < length items → AllZip R (map f (take place items)) found
     → R (f (slice_index_or items place item)) next
@@ -156,7 +139,6 @@ lines_from : (name : List ℕ) (all lines : List LineValue) (n : ℕ)
 lines_from name all [] n = refl
 lines_from name all (line ∷ lines) n = ap (λ t. line ∷ t) (lines_from name all lines (n + 1))
 
--- the lines of the labels are the original lines
 pub lines_labeled : (agent : List ℕ) (lines : List LineValue) → lines_of (labels_for agent lines) ≡ lines
 lines_labeled agent lines = lines_from (group_name agent lines) lines lines 0
 
@@ -169,8 +151,6 @@ names_requested agents labeling lines labels others names requested same are =
     requested ∙ ap (λ labels. agents_requested agents (lines_of (map label_by_value labels))) same
     ∙ ap (λ labels. agents_requested agents (lines_of labels)) are
     ∙ ap (agents_requested agents) (lines_labeled labeling lines)
-
--- ---- the audit for a crawler
 
 verdicts_like : (rules others : List PlacedRule) → AnswerAlike rules others
     → (urls : List (List ℕ)) (verdicts : List VerdictValue) → AllZip (IsVerdictOn rules) urls verdicts
@@ -190,7 +170,6 @@ verdicts_like rules others alike (url ∷ urls) (verdict ∷ verdicts) (first, l
       verdicts_like rules others alike urls verdicts later,
     )
 
--- the verdicts of a robot made from the file are those of the crawler's audit
 pub ruling_made : (urls : List (List ℕ)) (file agent : List ℕ) (robot : RobotValue)
     (verdicts : List VerdictValue) → IsRobotOfFile agent (take file_limit file) robot
     → AllZip (IsVerdictOn robot.rules) urls verdicts → IsRuling urls (lines_read file) agent None verdicts
@@ -200,7 +179,6 @@ ruling_made urls file agent robot verdicts of are =
     let alike = answers_computed agent lines robot.rules is.rules in
     (is.accepted, verdicts_like robot.rules (placed_rules agent lines) alike urls verdicts are)
 
--- a delay as the specification states it is the computed one
 pub delay_read : (agent file : List ℕ) (delay : Option ℕ)
     → HasLines (take file_limit file) (λ lines. IsDelayFor agent lines delay)
     → delay ≡ delay_for agent (lines_read file)

@@ -21,14 +21,11 @@ use Rattle.audit_core.specs.Fault.{example_lines, fault_line, fault_text, malfor
 use Rattle.printable_text.specs.Text.{Fixed, Only, parts_text}
 use Rattle.audit_core.specs.Findings.{After, Message, Parts, message_of}
 
--- ---- A printable text stays printable if its bytes are escaped.
-
--- if the byte is printable, then so is its escaped form
 abbrev stays_printable : (ℕ → List ℕ) → ℕ → Bool
 stays_printable escape byte = not (is_printable true byte) || list_all (is_printable_byte true) (escape byte)
 
--- `escape` is how a byte is written within quotes: a printable ASCII byte as printable bytes, and a non-ASCII
--- byte unchanged
+-- `escape` is how a byte is written within quotes: a printable ASCII byte as printable bytes, and others
+-- unchanged
 module _ (escape : ℕ → List ℕ) (stay : agree_below (stays_printable escape) (λ _. true) 128 ≡ true)
     (high_stay : (byte : ℕ) → 128 ≤ byte → escape byte ≡ byte ∷ []) where
   beyond_kept : (bytes : List ℕ) → ((k : ℕ) → k < length bytes → 128 ≤ get_or bytes k 0)
@@ -78,8 +75,6 @@ module _ (escape : ℕ → List ℕ) (stay : agree_below (stays_printable escape
       append_printable true (34 ∷ []) (flat_map escape text ++ 34 ∷ []) quote
       (append_printable true (flat_map escape text) (34 ∷ []) inside quote)
 
--- ---- Whatever the error is, its message is printable.
-
 pub fault_printable : (fault : Fault) → IsPrintable (fault_text fault)
 fault_printable (Words text) = sanitized_lines_printable (string_bytes text)
 fault_printable Closed = nil_printable true
@@ -97,8 +92,6 @@ fault_printable StdinTwice = written_printable (fault_line StdinTwice ∷ [])
 fault_printable Read = written_printable (fault_line Read ∷ [])
 fault_printable Write = written_printable (fault_line Write ∷ [])
 fault_printable Memory = written_printable (fault_line Memory ∷ [])
-
--- ---- The texts of a finding are printable, and contain no start of a command.
 
 pub name_printable : (name : Fixed) → IsPrintable name.text
 name_printable name = line_printable name.text (fixed_printable name)

@@ -7,7 +7,7 @@ use Rattle.robots_io.specs.{Streams.AppendsBeginning, declared.streams.WriteFaul
 use Rattle.audit_core.specs.declared.answer.{Answer.Answer, Outcome.Outcome}
 use Rattle.audit_core.specs.{declared.fault.Fault.Fault, Fault.fault_of_write}
 
--- the answer is a text, such as the help; there are no warnings, and the exit status is 0
+-- there are no warnings, and the exit status is 0
 pub record IsText (text : List ℕ) (answer : Answer) : Type 0 where
   pub report : answer.report.items ≡ text
   pub accepted : answer.outcome.is_rejected ≡ false

@@ -17,10 +17,7 @@ use Rattle.robots_warnings.specs.{declared.warning.Detail.TheVariants.Line, Clos
 use Rattle.robots_warnings.specs.{Closed.reach_of, Facts.facts_of, Facts.is_too_large, File.labels_for}
 use Rattle.robots_warnings.specs.{Urls.is_absolute_url, Warnings.warnings, Message.WarningValue}
 
--- ---- the crawlers of a report
-
--- the list, with the name of a user-agent line appended if it is new; a name that isn't UTF-8 is left out,
--- as a crawler's name is a string
+-- a name is appended if it is new and UTF-8, as a crawler's name is a string
 abbrev pub with_name : List (List ℕ) → LineValue → List (List ℕ)
 with_name names (UserAgent name) =
     if is_utf8 name then (if is_among name names then names else names ++ name ∷ []) else names
@@ -34,12 +31,10 @@ with_names names (line ∷ lines) = with_names (with_name names line) lines
 abbrev pub crawlers_in : List LineValue → List (List ℕ)
 crawlers_in lines = with_names (codes "*" ∷ []) lines
 
--- the crawlers that are given, each once, or if none is, those that the lines name
+-- the given crawlers, each once, or if there is none, those that the lines name
 abbrev pub agents_requested : List (List ℕ) → List LineValue → List (List ℕ)
 agents_requested [] lines = crawlers_in lines
 agents_requested (agent ∷ agents) lines = with_names [] (map UserAgent (agent ∷ agents))
-
--- ---- what a file means for a crawler
 
 -- which user-agent lines determine the group of the crawler
 abbrev pub group_of : List ℕ → List LineValue → Group
@@ -48,7 +43,7 @@ group_of agent lines =
     else if is_named (codes "*") lines then Star
     else if list_any is_agent lines then Nobody else Everyone
 
--- the number of the first line that names this group, if one does
+-- the number of the first line that names the crawler's group
 abbrev pub naming_line : List ℕ → List LineValue → Option ℕ
 naming_line agent lines = position_from (is_agent_named (group_name agent lines)) 1 lines
 
@@ -71,8 +66,8 @@ pub record IsVerdictOn (rules : List PlacedRule) (url : List ℕ) (verdict : Ver
   pub url_is : verdict.url ≡ url
   pub decided : IsDecisionOn rules (asked_target url) verdict.decision
 
--- either the file isn't rejected for the crawler, and these are the verdicts on the URLs; or its first
--- overlong rule is in line `rejected`, and there are no verdicts
+-- the verdicts on the URLs; or the crawler's first overlong rule is in line `rejected`, and there are no
+-- verdicts
 abbrev pub IsRuling : List (List ℕ) → List LineValue → List ℕ → Option ℕ → List VerdictValue → Type 0
 IsRuling urls lines agent None verdicts =
     (¬ IsRejected agent lines) × AllZip (IsVerdictOn (placed_rules agent lines)) urls verdicts
@@ -90,9 +85,7 @@ pub record IsAgentAudit (urls : List (List ℕ)) (lines : List LineValue) (agent
   pub delay_is : value.delay ≡ delay_for agent lines
   pub ruling : IsRuling urls lines agent value.rejected value.verdicts
 
--- ---- sitemaps
-
--- the number of this line and its sitemap, if it has one that is an absolute http(s) URL
+-- the number and the sitemap of this line, if that is an absolute http(s) URL
 abbrev pub sitemap_at : ℕ → LineValue → List (ℕ × List ℕ)
 sitemap_at number (Sitemap url) = if is_absolute_url url then (number, url) ∷ [] else []
 sitemap_at number _ = []
@@ -103,7 +96,7 @@ sitemaps_asked lines labels =
     if is_some (line_closing lines (codes "*")) then []
     else flat_map (λ label. sitemap_at label.number label.line) labels
 
--- the warning about the sitemap in this line, if this verdict denies it, with the line of the rule that does
+-- if this verdict denies the sitemap in this line, a warning, with the line of the rule that does
 abbrev pub sitemap_warning : ℕ × VerdictValue → List WarningValue
 sitemap_warning (number, verdict) =
     if verdict.decision.allowed then []
@@ -114,7 +107,7 @@ sitemap_warning (number, verdict) =
       detail = option_map Line verdict.decision.line;
     } ∷ []
 
--- these are the warnings about the sitemaps that the rules for `*` deny
+-- the warnings about the sitemaps that the rules for `*` deny
 pub record AreOfSitemaps (lines : List LineValue) (labels : List Label) (found : List WarningValue) : Type 0
   where
     pub overlong : Option ℕ
@@ -124,8 +117,6 @@ pub record AreOfSitemaps (lines : List LineValue) (labels : List Label) (found :
     pub found_are : found
         ≡ flat_map sitemap_warning (zip (map (λ sitemap. sitemap.0) (sitemaps_asked lines labels)) verdicts)
 
--- ---- a file
-
 pub record AuditValue : Type 0 where
   pub bytes : List ℕ
   pub labels : List Label
@@ -133,17 +124,15 @@ pub record AuditValue : Type 0 where
   pub warnings : List WarningValue
   pub syntax : Syntax
 
--- the crawler for which lines are labeled; `*` if there is no single one
+-- `*` if there is no single crawler
 abbrev pub labeling_agent : Option (List ℕ) → List ℕ
 labeling_agent (Some agent) = agent
 labeling_agent None = codes "*"
 
--- the labeled lines of the file
 abbrev pub labels_requested : RequestValue → List ℕ → List Label
 labels_requested requested file = labels_for (labeling_agent requested.agent) (lines_read file)
 
--- all warnings about the file and the request, and then those about the needless rules that were found, and
--- those about sitemaps
+-- all warnings about the file and the request, then those about needless rules, and those about sitemaps
 abbrev pub warnings_found : RequestValue → List ℕ → List Label → List NeedlessRule → List WarningValue
     → List WarningValue
 warnings_found requested file labels needless sitemaps =
@@ -157,13 +146,12 @@ abbrev pub warnings_requested : RequestValue → List ℕ → List Label → Lis
 warnings_requested requested file labels needless sitemaps =
     chosen requested.only requested.ignored (warnings_found requested file labels needless sitemaps)
 
--- the file is rejected for at least one of these crawlers
 abbrev pub rejects_some : List AgentValue → Bool
 rejects_some agents = list_any (λ (agent : AgentValue). is_some agent.rejected) agents
 
 -- Of needless rules, it is only stated that those found are needless together: there may be more. So with
--- `--needless` a file may have several audits, but without it only one. They are those of all groups,
--- whichever crawler the report is about, since deleting only some of them could change a verdict.
+-- `--needless` a file may have several audits. They are those of all groups, whichever crawler the report is
+-- about, since deleting only some of them could change a verdict.
 pub record IsAuditOf (requested : RequestValue) (file : List ℕ) (audit : AuditValue) : Type 0 where
   pub needless : List NeedlessRule
   pub needless_are : AreFoundIn (take file_limit file) needless
@@ -180,8 +168,6 @@ pub record IsAuditOf (requested : RequestValue) (file : List ℕ) (audit : Audit
   pub syntax_is : audit.syntax ≡ syntax_of requested.agent (is_too_large file) (rejects_some audit.agents)
       (warnings_found requested file (labels_requested requested file) needless sitemaps)
 
--- ---- denied URLs
-
 abbrev pub is_allowed : VerdictValue → Bool
 is_allowed verdict = verdict.decision.allowed
 
@@ -192,7 +178,7 @@ is_denied verdict = not verdict.decision.allowed
 abbrev pub with_denied : AgentValue → AgentValue
 with_denied agent = record agent { verdicts = filter is_denied agent.verdicts }
 
--- the audit that is reported: with `--denied`, that with the denied URLs alone
+-- with `--denied`, the audit with the denied URLs alone
 abbrev pub shown : Bool → AuditValue → AuditValue
 shown denied_only audit =
     if denied_only then record audit { agents = map with_denied audit.agents } else audit
@@ -203,10 +189,8 @@ total test agents = sum_by (λ (agent : AgentValue). count_by test agent.verdict
 
 -- ---- the outcome
 
--- all of these verdicts are "allowed"
 abbrev pub allows_all : List VerdictValue → Bool
 allows_all verdicts = list_all (λ (verdict : VerdictValue). verdict.decision.allowed) verdicts
 
--- each of these crawlers may fetch all of its URLs
 abbrev pub all_allowed : List AgentValue → Bool
 all_allowed agents = list_all (λ (agent : AgentValue). allows_all agent.verdicts) agents

@@ -6,7 +6,6 @@ use Rattle.audit_core.specs.{Fault.IsArgument, declared.fault.Fault.Fault}
 use Rattle.robots_warnings.specs.{Table.name_of, Message.WarningValue}
 use Rattle.audit_core.specs.declared.fault.Flaw.TheVariants as flaw
 
--- the name is in the list
 abbrev pub is_among_names : List (List ℕ) → List ℕ → Bool
 is_among_names names name = list_any (λ other. bytes_eq other name) names
 
@@ -14,14 +13,13 @@ is_among_names names name = list_any (λ other. bytes_eq other name) names
 abbrev pub share_a_name : (only ignored : List (List ℕ)) → Bool
 share_a_name only ignored = list_any (λ name. is_among_names ignored name) only
 
--- the error shows such a name, or an allocation failed
+-- the error shows a name that both lists have, or an allocation failed
 abbrev pub IsInBoth : (only ignored : List (List ℕ)) → Fault → Type 0
 IsInBoth only ignored fault =
     (name : List ℕ) × Contains only name × (is_among_names ignored name ≡ true)
     × IsArgument name flaw.Both fault
 
--- warnings with this name are reported: `only` is empty or contains the name, and `ignored` doesn't contain
--- it
+-- `only` is empty or contains the name, and `ignored` doesn't contain it
 abbrev pub is_chosen : List (List ℕ) → List (List ℕ) → List ℕ → Bool
 is_chosen only ignored name =
     (length only == 0 || is_among_names only name) && not (is_among_names ignored name)

@@ -6,14 +6,12 @@ use Rattle.audit_core.specs.declared.fault.Fault.{Fault, TheVariants.Memory}
 use Rattle.audit_core.specs.{declared.fault.Flaw.Flaw, Fault.IsArgument}
 use Rattle.audit_core.specs.declared.fault.Flaw.TheVariants.{Html, NoDirectives, Utf16}
 
--- what is wrong with a file with these facts; an audit gives it the error `looks-like-html`,
--- `looks-like-utf-16` or `no-directives`
+-- an audit gives a file with these facts the error `looks-like-html`, `looks-like-utf-16` or `no-directives`
 abbrev pub flaw_of : FileFacts → Option Flaw
 flaw_of facts =
     if facts.is_html then Some Html
     else if facts.is_utf_16 then Some Utf16 else if facts.is_other_text then Some NoDirectives else None
 
--- what is wrong with a file with these bytes
 abbrev pub content_flaw : List ℕ → Option Flaw
 content_flaw file = flaw_of (facts_of file (labels_for (codes "*") (lines_read file)))
 

@@ -8,11 +8,9 @@ use Rattle.printable_text.specs.{contracts.level.Level.the_type, declared.level.
 use Rattle.printable_text.specs.declared.level.Level.TheVariants.{Error, Note, Warning}
 use Rattle.robots_warnings.specs.{Table.level_of, Message.WarningValue}
 
--- the number of a level
 abbrev pub rank : Level → ℕ
 rank level = tag_of the_type level
 
--- how many of these warnings have this level
 abbrev pub count_at : Level → List WarningValue → ℕ
 count_at level warnings =
     count_by (λ (warning : WarningValue). rank (level_of warning.cause) == rank level) warnings

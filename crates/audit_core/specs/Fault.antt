@@ -20,8 +20,6 @@ use Rattle.robots_io.specs.declared.streams.ReadFault.TheVariants as read
 use Rattle.robots_io.specs.declared.streams.WriteFault.TheVariants as write
 use Rattle.audit_core.specs.declared.fault.Flaw.TheVariants as flaw
 
--- ---- messages
-
 abbrev no_url : List ℕ
 no_url =
     codes "this is neither a path that starts with / nor a URL; for a crawler, write --agent NAME"
@@ -60,7 +58,6 @@ flaw_value flaw.Both = word (codes "--only and --ignore both name this warning")
 abbrev pub flaw_text : Flaw → List ℕ
 flaw_text which = value_text (flaw_value which)
 
--- that a file has none of these entries
 abbrev pub entry_value : Entry → Value
 entry_value Expectation = word (codes "there are no expectations") refl
 entry_value Url = word (codes "there are no URLs") refl
@@ -68,16 +65,15 @@ entry_value Url = word (codes "there are no URLs") refl
 abbrev pub entry_text : Entry → List ℕ
 entry_text entry = value_text (entry_value entry)
 
--- the usage, which follows an error in the arguments that `clap` doesn't report
+-- the usage follows an error in the arguments that `clap` doesn't report
 abbrev pub usage : PartValue
 usage = only (codes "; usage: robots_audit [OPTIONS] FILE [URL]..") refl
 
--- the name is that of a level
 abbrev pub is_level : List ℕ → Bool
 is_level name =
     bytes_eq name (codes "error") || (bytes_eq name (codes "warning") || bytes_eq name (codes "note"))
 
--- the name begins as that of a host does: before a slash it has a dot, but it isn't that of a text file
+-- before a slash the name has a dot, but it isn't that of a text file
 abbrev pub begins_as_host : List ℕ → Bool
 begins_as_host name =
     let host = before_byte (byte "/") name in
@@ -103,18 +99,15 @@ abbrev pub near_part : Option Cause → PartValue
 near_part None = Absent
 near_part (Some cause) = Part (label (codes "; a similar one is ") refl) (Untrusted (name_of cause))
 
--- the number of a malformed line, and what is wrong with it
 abbrev pub MalformedLine : Type 0
 MalformedLine = ℕ × Flaw
 
--- the message for a malformed line of the file with this name
 abbrev pub malformed_line : List ℕ → MalformedLine → ReportLine
 malformed_line file line =
     line_from (Part (label (codes "robots_audit: ") refl) (Untrusted file)) refl
     (Part (label (codes ":") refl) (Number line.0) ∷ Part (label (codes ": ") refl) (flaw_value line.1) ∷ [])
 
--- the message for an error, after the name of the program; `clap` has messages of its own, and each malformed
--- line has one
+-- the message for an error, after the name of the program; `clap` has messages of its own
 abbrev pub fault_parts : Fault → List PartValue
 fault_parts (Words text) = []
 fault_parts Closed = []
@@ -149,14 +142,14 @@ abbrev example_of_a_pipe : PartValue
 example_of_a_pipe =
     only (codes "example: curl -s https://example.com/robots.txt | robots_audit --agent Googlebot -") refl
 
--- the examples that follow the usage if FILE is missing
+-- the examples follow the usage if FILE is missing
 abbrev pub example_lines : List ReportLine
 example_lines =
     line_from (only (codes "example: robots_audit robots.txt /search") refl) refl []
     ∷ line_from example_of_a_pipe refl [] ∷ []
 
--- the line for an error; the message of `clap` may have several lines, each malformed line has one, and there
--- is none if the reader of the output has closed it
+-- the message of `clap` may have several lines, each malformed line has one, and there is none if the reader
+-- of the output has closed it
 abbrev pub fault_text : Fault → List ℕ
 fault_text (Words text) = sanitized_lines (string_bytes text)
 fault_text (Malformed file lines) = written (map (malformed_line (string_bytes file)) lines.items)
@@ -169,10 +162,10 @@ abbrev pub message_after : Result Outcome Fault → List ℕ
 message_after (Ok outcome) = string_bytes outcome.warnings
 message_after (Err fault) = fault_text fault
 
--- the exit status: 2 after an error, or if the file is rejected; 3 if there is a warning at the level of
--- `--strict` or a more serious one, since verdicts on a file with mistakes are in doubt; 1 if some URL is
--- denied, an expectation fails or something differs; else 0; but 141 if the reader of the output has closed
--- it, as of other programs, which the signal SIGPIPE ends
+-- 2 after an error, or if the file is rejected; 3 if there is a warning at the level of `--strict` or a more
+-- serious one, since verdicts on a file with mistakes are in doubt; 1 if some URL is denied, an expectation
+-- fails or something differs; else 0; but 141 if the reader of the output has closed it, as of other
+-- programs, which the signal SIGPIPE ends
 abbrev pub status_after : Result Outcome Fault → ℕ
 status_after (Ok outcome) =
     if outcome.is_rejected then 2
@@ -181,14 +174,10 @@ status_after (Ok outcome) =
 status_after (Err Closed) = 141
 status_after (Err fault) = 2
 
--- ---- possible errors
-
--- the error of the program for a failed read
 abbrev pub fault_of_read : ReadFault → Fault
 fault_of_read read.Read = Read
 fault_of_read read.Memory = Memory
 
--- the error of the program for a failed write
 abbrev pub fault_of_write : WriteFault → Fault
 fault_of_write write.Closed = Closed
 fault_of_write write.Write = Write

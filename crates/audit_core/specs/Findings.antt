@@ -88,7 +88,7 @@ warning_finding warning = record {
   message = Parts (message_parts warning);
 }
 
--- a warning is in the part with the errors, or in the one with the others
+-- the part with the errors, or the one with the other warnings
 abbrev pub is_in_part : (errors : Bool) → WarningValue → Bool
 is_in_part true warning = reaches (level_of warning.cause) Error
 is_in_part false warning = not (reaches (level_of warning.cause) Error)

@@ -6,11 +6,10 @@ use Rattle.robots_warnings.specs.declared.warning.Detail.{Detail, TheVariants.Li
 use Rattle.robots_needless.specs.declared.needless.Reason.TheVariants as reasons
 use Rattle.robots_warnings.specs.declared.table.Cause.TheVariants as causes
 
--- the warning about a rule in this line; `other` is the line of the rule that matches everything that it does
+-- `other` is the line of the rule that matches everything that the rule in this line does
 abbrev about_line : ℕ → Cause → Option Detail → WarningValue
 about_line line cause other = record { line = Some line; cause = cause; about = None; detail = other }
 
--- the warning about a rule that can be deleted for this reason
 abbrev for_reason : ℕ → Reason → WarningValue
 for_reason line reasons.MatchesNothing = about_line line causes.MatchesNothing None
 for_reason line reasons.AllowedAnyway = about_line line causes.AllowedAnyway None

@@ -14,20 +14,19 @@ use Rattle.audit_core.specs.declared.fault.Flaw.TheVariants as flaw
 
 -- ---- Whether warnings have colors.
 
--- whether the value of `--color` requests colors; `by_default` is what no value and `auto` mean
+-- `by_default` is what no value and `auto` mean
 abbrev pub requested_colors : Option (List ℕ) → (by_default : Bool) → Bool
 requested_colors None by_default = by_default
 requested_colors (Some word) by_default =
     if bytes_eq word (codes "always") then true
     else if bytes_eq word (codes "never") then false else by_default
 
--- an environment variable is set and not empty, or can't be read
+-- set and not empty, or it can't be read
 abbrev pub is_set : Result (String Global) VarError → Bool
 is_set (Ok value) = not (length (string_bytes value) == 0)
 is_set (Err NotPresent) = false
 is_set (Err error) = true
 
--- this is the name of a terminal that can't show colors
 abbrev pub is_dumb : Result (String Global) VarError → Bool
 is_dumb (Ok name) = bytes_eq (string_bytes name) (codes "dumb")
 is_dumb (Err error) = false
@@ -38,34 +37,31 @@ default_colors is_terminal no_color term = is_terminal && not (is_set no_color) 
 
 -- ---- What crawlers call themselves: names in arguments and in the file of `--expect`.
 
--- the name has a dot and a digit, as with a version: `Googlebot.2`
+-- a dot and a digit, as with a version: `Googlebot.2`
 abbrev pub has_version : List ℕ → Bool
 has_version name = has (byte ".") name && list_any is_ascii_digit name
 
--- the name has letters, digits, `_`, `-`, dots and spaces, such as `MJ12bot` and `archive.org_bot`, but no
--- version
+-- letters, digits, `_`, `-`, dots and spaces, such as `MJ12bot` and `archive.org_bot`, but no version
 abbrev pub is_own_name : List ℕ → Bool
 is_own_name name =
     (not (length name == 0) && list_all is_name_byte name)
     && (not (has_space_around name) && not (has_version name))
 
--- the usual form of a name by which a crawler calls itself, or `*`, for all that have no group of their own;
--- names in user-agent lines can have more, such as a `*` at their end
+-- the usual form of a crawler's name, or `*`; names in user-agent lines can have more, such as a `*` at their
+-- end
 abbrev pub is_crawler_name : List ℕ → Bool
 is_crawler_name name = bytes_eq name (codes "*") || is_own_name name
 
--- what is wrong with a name that no crawler has
 abbrev pub name_flaw : List ℕ → Flaw
 name_flaw name = if has (byte ",") name then flaw.Names else flaw.Agent
 
--- the error shows one of these names, which no crawler has, or an allocation failed
+-- the error shows a name that no crawler has, or an allocation failed
 abbrev pub IsNoCrawlerIn : List (List ℕ) → Fault → Type 0
 IsNoCrawlerIn names fault =
     (fault ≡ Memory)
     ⊎ ((name : List ℕ) × Contains names name × (is_crawler_name name ≡ false)
     × IsArgument name (name_flaw name) fault)
 
--- the crawler, if there is a single one
 abbrev pub single : List (List ℕ) → Option (List ℕ)
 single (agent ∷ []) = Some agent
 single agents = None
@@ -73,15 +69,11 @@ single agents = None
 abbrev pub is_word : List ℕ → Bool
 is_word word = not (length word == 0)
 
--- ---- What a run is requested to do.
-
--- a request: the name of the file, or `None` for standard input; the crawler, if the report is about a single
--- one; the crawlers, where an empty list means `*` and each that the file names; the URLs; whether the rows
--- are left out; how the report is written; the date that a page has, if one is given; whether the levels of
--- warnings on standard error have colors; the level of `--strict`, if it is given; the names of the warnings
--- that are reported, where an empty list means all; the names of those that are left out; whether only denied
--- URLs are listed; whether the report ends with the numbers of allowed and denied URLs; and whether needless
--- rules are looked for
+-- a request: the file, or `None` for standard input; the crawler, if the report is about a single one; the
+-- crawlers, where an empty list means `*` and each that the file names; whether the rows are left out; the
+-- date of a page; the level of `--strict`; the names of the warnings that are reported, where an empty list
+-- means all, and of those that are left out; whether only denied URLs are listed; whether the report ends
+-- with the numbers of allowed and denied URLs; and whether needless rules are looked for
 pub record RequestValue : Type 0 where
   pub file : Option (List ℕ)
   pub agent : Option (List ℕ)
@@ -98,7 +90,6 @@ pub record RequestValue : Type 0 where
   pub has_totals : Bool
   pub has_needless : Bool
 
--- the request, by value
 abbrev pub requested_by : Request → RequestValue
 requested_by request = record {
   file = option_map (λ name. name.now) request.file;
@@ -117,12 +108,12 @@ requested_by request = record {
   has_needless = request.has_needless;
 }
 
--- the name of the file in a report, so that editors can open it
+-- so that editors can open the file
 abbrev pub shown_name : Option (List ℕ) → List ℕ
 shown_name None = codes "robots.txt"
 shown_name (Some name) = name
 
--- the report has rows if it is about one crawler and `--quiet` isn't given
+-- the report is about one crawler, and `--quiet` isn't given
 abbrev pub has_rows : RequestValue → Bool
 has_rows requested = not requested.is_quiet && is_some requested.agent
 

@@ -9,11 +9,9 @@ use Rattle.robots_warnings.specs.{Contents.comment_of as comment_in, File.is_bla
 use Rattle.printable_text.specs.Text.{Label as Front, PartValue, ReportLine, Untrusted, line_from, value_text}
 use Rattle.printable_text.specs.Text.{Absent, Aligned, Column, Delay, Nothing, Part, Value, label, only, word}
 
--- the width of the column with the directives; the longest one is followed by a space
+-- the longest directive is followed by a space
 abbrev pub word_width : ℕ
 word_width = 12
-
--- ---- a line of a file
 
 -- `+` in the crawler's group, `-` in another, a space in none
 abbrev pub mark_of : Membership → Value
@@ -26,7 +24,7 @@ abbrev pub raw_kind : (is_blank : Bool) → Front
 raw_kind true = label (codes "empty") refl
 raw_kind false = label (codes "ignored") refl
 
--- the name of the line's directive, or `empty` or `ignored`
+-- the line's directive, or `empty` or `ignored`
 abbrev pub kind_of : LineValue → Front
 kind_of (UserAgent value) = label (codes "user-agent") refl
 kind_of (Allow value) = label (codes "allow") refl
@@ -60,7 +58,6 @@ has_value (CrawlDelay delay) = is_some delay
 has_value (Sitemap value) = not (length value == 0)
 has_value (Raw body) = not (length body == 0)
 
--- the directive, and if the line has a value, spaces up to the next column and the value
 abbrev pub kind_part : (has_value : Bool) → LineValue → PartValue
 kind_part true line = Column word_width (kind_of line) (line_value line)
 kind_part false line = Part (kind_of line) Nothing
@@ -81,7 +78,7 @@ row width (body, labeled) =
     (Part (label (codes " ") refl) (mark_of labeled.membership) ∷ only (codes " ") refl
     ∷ kind_part (has_value labeled.line) labeled.line ∷ comment_part (comment_of labeled.line body) ∷ [])
 
--- a row for each line, given its content, the numbers right-aligned
+-- a row for each line, the numbers right-aligned
 abbrev pub rows : List (List ℕ) → List Label → List ReportLine
 rows bodies labels = map (row (length (decimal (length labels)))) (zip bodies labels)
 

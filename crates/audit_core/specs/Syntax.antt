@@ -10,7 +10,6 @@ use Rattle.audit_core.specs.declared.syntax.{Syntax.Syntax, TheConstants.VERDICT
 use Rattle.audit_core.specs.declared.syntax.Syntax.TheVariants.{Standard, StandardVerdicts, Unstated}
 use Rattle.audit_core.specs.declared.syntax.Syntax.TheVariants.{StandardWithoutWarnings}
 
--- a warning with this reason is about syntax
 unfoldable pub is_about_syntax : Cause → Bool
 is_about_syntax cause = not (is_not_about_syntax cause)
 
@@ -21,7 +20,7 @@ has_syntax_warning warnings = list_any (λ (warning : WarningValue). is_about_sy
 abbrev pub keep_verdicts : List WarningValue → Bool
 keep_verdicts warnings = list_all (λ (warning : WarningValue). keeps_verdicts warning.cause) warnings
 
--- what all warnings about a file, reported or not, tell about its syntax and its verdicts; nothing is stated
+-- what all warnings about a file, reported or not, mean for its syntax and its verdicts; nothing is stated
 -- for a single crawler, since the rules of other groups aren't checked; nor if the file is larger than the
 -- size limit, since the rest isn't read; nor if it is rejected for a crawler, as that would look like a file
 -- without faults; nor if a warning is about syntax
@@ -31,7 +30,6 @@ syntax_of agent is_too_large is_rejected warnings =
     else if length warnings == 0 then StandardWithoutWarnings
     else if keep_verdicts warnings then StandardVerdicts else Standard
 
--- the file is stated to have the syntax of RFC 9309
 abbrev pub is_standard : Syntax → Bool
 is_standard Unstated = false
 is_standard _ = true
@@ -42,26 +40,23 @@ has_standard_verdicts StandardVerdicts = true
 has_standard_verdicts StandardWithoutWarnings = true
 has_standard_verdicts _ = false
 
--- the sentence about its syntax in a report
 abbrev pub sentence_part : (without_warnings : Bool) → PartValue
 sentence_part false = only (codes "no warnings about syntax: the file has RFC 9309 syntax") refl
 sentence_part true = only (codes "no warnings: the file has RFC 9309 syntax") refl
 
--- the sentence, empty if nothing is stated
+-- empty if nothing is stated
 abbrev pub sentence : Syntax → List ℕ
 sentence Unstated = []
 sentence Standard = part_text (sentence_part false)
 sentence StandardVerdicts = part_text (sentence_part false)
 sentence StandardWithoutWarnings = part_text (sentence_part true)
 
--- the sentence about its verdicts
 abbrev pub verdicts_part : PartValue
 verdicts_part = only VERDICTS_SENTENCE.now refl
 
 abbrev pub verdicts_line : ReportLine
 verdicts_line = line_from verdicts_part refl []
 
--- the lines with what is stated
 abbrev pub syntax_lines : Syntax → List ReportLine
 syntax_lines Unstated = []
 syntax_lines Standard = line_from (sentence_part false) refl [] ∷ []

@@ -12,7 +12,6 @@ use std::collections::BTreeSet;
 use texting_robots::labels::LabeledLine;
 use texting_robots::parser::Line;
 
-/// Appends the name to the list if `holds` is true.
 fn add_if<'a>(names: &mut Vec<&'a str>, holds: bool, name: &'a str) -> Result<(), AllocError>
     ensures { OnOk result (map (λ name. name.now) names.new.items
         ≡ map (λ name. name.now) names.old.items ++ (if holds then name.now ∷ [] else [])) }
@@ -23,8 +22,7 @@ fn add_if<'a>(names: &mut Vec<&'a str>, holds: bool, name: &'a str) -> Result<()
     Ok(())
 }
 
-/// Appends the name of a user-agent line, if it is UTF-8 and not in `met` yet, and inserts it into `met`. Other lines
-/// change nothing.
+/// Appends the name of a user-agent line, if it is UTF-8 and not in `met` yet, and inserts it into `met`.
 fn add_agent<'a>(
     alloc: Global,
     met: &mut Names,
@@ -43,7 +41,6 @@ fn add_agent<'a>(
     }
 }
 
-/// `*`, and then each crawler that the lines name, once, in the order of the lines.
 fn crawlers_in<'a>(alloc: Global, labels: &[LabeledLine<'a>]) -> Result<Vec<&'a str>, AllocError>
     ensures { IfOk result (λ names. map (λ name. name.now) names.items
         ≡ crawlers_in (lines_of (map label_by_value labels.now))) }
@@ -58,7 +55,6 @@ fn crawlers_in<'a>(alloc: Global, labels: &[LabeledLine<'a>]) -> Result<Vec<&'a 
     Ok(names)
 }
 
-/// The given crawlers, each once.
 fn each_once<'a>(alloc: Global, given: &[&'a str]) -> Result<Vec<&'a str>, AllocError>
     ensures { IfOk result (λ names. map (λ name. name.now) names.items
         ≡ with_names [] (map UserAgent (map (λ name. name.now) given.now))) }
@@ -76,8 +72,7 @@ fn each_once<'a>(alloc: Global, given: &[&'a str]) -> Result<Vec<&'a str>, Alloc
     Ok(names)
 }
 
-/// The crawlers that a report covers: the given ones, each once, or if there is none `*` and each that the
-/// lines name.
+/// The given crawlers, each once, or if there is none `*` and each that the lines name.
 pub fn agents_requested<'a>(
     alloc: Global,
     given: &[&'a str],

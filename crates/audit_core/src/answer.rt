@@ -6,18 +6,17 @@ use robots_io::streams::write_out;
 use std::alloc::Global;
 use std::io::Write;
 
-/// The outcome of a run that wrote its report.
 #[derive(Drop)]
 pub struct Outcome {
-    /// Whether this parser rejects the file for a crawler of the report. Expectations fail then, so it is `false` after
-    /// `--expect`.
+    /// For a crawler of the report. Expectations fail then, so it is `false` after `--expect`.
     pub is_rejected: bool,
-    /// After an audit, whether each crawler for which the file isn't rejected may fetch every URL of the request; after
-    /// `--expect`, whether all expectations hold; after `--compare`, whether nothing differs; else `true`.
+    /// After an audit, whether each crawler for which the file isn't rejected may fetch every URL of the
+    /// request; after `--expect`, whether all expectations hold; after `--compare`, whether nothing differs;
+    /// else `true`.
     pub has_passed: bool,
     /// Whether a warning is at the level of `--strict`, or at a more serious one.
     pub is_warned: bool,
-    /// The warnings, one per line; empty if they are in the report.
+    /// One per line; empty if they are in the report.
     pub warnings: String,
 }
 
@@ -28,7 +27,6 @@ pub struct Answer {
     pub outcome: Outcome,
 }
 
-/// The answer that is a text, such as the help, with exit status 0.
 pub fn text_answer(alloc: Global, text: Vec<u8>) -> Answer
     ensures { IsText text.items result }
 {
@@ -47,8 +45,8 @@ pub fn text_answer(alloc: Global, text: Vec<u8>) -> Answer
 ///
 /// # Errors
 ///
-/// `Fault::Closed` if the reader of the output has closed it, and `Fault::Write` if a write or a flush fails in another
-/// way, or a write accepts no bytes.
+/// `Fault::Closed` if the reader of the output has closed it, and `Fault::Write` if a write or a flush fails
+/// in another way, or a write accepts no bytes.
 pub fn write_answer<W: Write>(
     answer: Result<Answer, Fault>,
     writer: &mut W,

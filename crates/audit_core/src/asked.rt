@@ -9,11 +9,8 @@ use std::alloc::Global;
 use texting_robots::Robot;
 use texting_robots::robot::Decision;
 
-/// The match target of a URL or a path, as crawlers ask for it: that of an http(s) URL has no fragment.
-///
-/// # Errors
-///
-/// `Fault::Memory` if an allocation fails or the URL is too long for `url`.
+/// The match target of a URL or a path, as crawlers ask for it: that of an http(s) URL has no fragment. The
+/// error is `Fault::Memory`, also if the URL is too long for `url`.
 pub fn asked_target(alloc: Global, text: &str) -> Result<String, Fault>
     ensures ok { IfOk result (λ target. string_bytes target ≡ asked_target text.now) }
     ensures fault { IfErr result (λ fault. fault ≡ Fault.Memory) }
@@ -21,11 +18,6 @@ pub fn asked_target(alloc: Global, text: &str) -> Result<String, Fault>
     Ok(targets::asked_target(alloc, text)?)
 }
 
-/// The robot's decision on a URL or a path, as crawlers ask for it.
-///
-/// # Errors
-///
-/// As for [`asked_target`].
 pub fn decision_on(alloc: Global, robot: &Robot, url: &str) -> Result<Decision, Fault>
     ensures ok { IfOk result (IsDecisionOn robot.now.rules (asked_target url.now)) }
     ensures fault { IfErr result (λ fault. fault ≡ Fault.Memory) }

@@ -32,7 +32,6 @@ use texting_robots::robot::Decision;
 use texting_robots::site::SiteRule;
 use texting_robots::{Error, Robot, Site};
 
-/// The verdict on a URL.
 #[derive(Drop)]
 pub struct Verdict<'a> {
     pub url: &'a str,
@@ -49,20 +48,18 @@ impl<'a> Model for Verdict<'a> {
     ghost view = { verdict_of };
 }
 
-/// What a file means for one crawler.
 #[derive(Drop)]
 pub struct AgentAudit<'a> {
     pub agent: &'a str,
     pub group: Group,
-    /// The line of the first user-agent line that names the group; `None` if no line does.
+    /// Of the first user-agent line that names the group; `None` if no line does.
     pub group_line: Option<usize>,
-    /// How many rules apply to the crawler.
     pub rules: usize,
     /// What the crawler may fetch, unless the file is rejected for it.
     pub reach: Reach,
     /// In microseconds.
     pub delay: Option<u64>,
-    /// The line of the crawler's first overlong rule, if it has one; then this parser rejects the file for the crawler.
+    /// The line of the crawler's first overlong rule, because of which the file is rejected for the crawler.
     pub rejected: Option<usize>,
     /// Empty if the file is rejected for the crawler.
     pub verdicts: Vec<Verdict<'a>>,
@@ -81,7 +78,6 @@ impl<'a> Model for AgentAudit<'a> {
 /// The audit of a file.
 #[derive(Drop)]
 pub struct Audit<'a> {
-    /// The bytes that were read.
     pub bytes: &'a [u8],
     pub labels: Vec<LabeledLine<'a>>,
     pub agents: Vec<AgentAudit<'a>>,
@@ -99,7 +95,6 @@ impl<'a> Model for Audit<'a> {
     ghost view = { audit_of };
 }
 
-/// A crawler's robot, or the line of the crawler's first overlong rule.
 #[derive(Drop)]
 pub enum Reading {
     Accepted(Robot),
@@ -122,7 +117,6 @@ pub fn read_for(alloc: Global, agent: &str, file: &[u8], site: &Site) -> Result<
     }
 }
 
-/// The robot's verdict on each URL, in order.
 fn verdicts_on<'a>(
     alloc: Global,
     robot: &Robot,
@@ -140,7 +134,6 @@ fn verdicts_on<'a>(
     Ok(verdicts)
 }
 
-/// The line of the crawler's first overlong rule, if it has one, or else the verdicts on the URLs.
 pub(crate) fn ruling<'a>(
     alloc: Global,
     agent: &str,
@@ -159,7 +152,6 @@ pub(crate) fn ruling<'a>(
     }
 }
 
-/// How many rules apply to the crawler.
 fn rule_count(alloc: Global, site: &Site, agent: &str) -> Result<usize, AllocError>
     ensures { IfOk result (λ count. count ≡ length (placed_rules agent.now (file_lines site.now))) }
 {
@@ -197,7 +189,6 @@ pub fn agent_audit<'a>(
     })
 }
 
-/// What the file means for each of these crawlers. The labels are those of the file's lines.
 fn agent_audits<'a>(
     alloc: Global,
     agents: &[&'a str],
@@ -219,7 +210,7 @@ fn agent_audits<'a>(
     Ok(audits)
 }
 
-/// The crawler for which lines are labeled: with `None`, `*`.
+/// With `None`, `*`.
 pub fn labeling_agent<'a>(agent: Option<&'a str>) -> &'a str
     ensures { result.now ≡ labeling_agent (option_map (λ agent. agent.now) agent.entry) }
 {
@@ -229,8 +220,7 @@ pub fn labeling_agent<'a>(agent: Option<&'a str>) -> &'a str
     }
 }
 
-/// All warnings about the file and the request, and then those about these needless rules. `facts` and `labels` are
-/// those of this file.
+/// All warnings about the file and the request, and then those about these needless rules.
 fn warnings_of<'a>(
     alloc: Global,
     request: &Request<'a>,
@@ -258,7 +248,6 @@ fn warnings_of<'a>(
     Ok(found)
 }
 
-/// These warnings, and then those about the sitemaps that the rules for `*` deny.
 fn all_warnings<'a>(
     alloc: Global,
     request: &Request<'a>,
@@ -312,21 +301,18 @@ pub fn audit_of<'a>(
     })
 }
 
-/// Whether all of these verdicts are "allowed".
 fn allows_all(verdicts: &[Verdict<'_>]) -> bool
     ensures { result ≡ allows_all verdicts.now }
 {
     verdicts.iter().all(|verdict| verdict.decision.allowed)
 }
 
-/// Whether each of these crawlers may fetch all of its URLs.
 pub fn all_allowed(agents: &[AgentAudit<'_>]) -> bool
     ensures { result ≡ all_allowed agents.now }
 {
     agents.iter().all(|agent| allows_all(&agent.verdicts))
 }
 
-/// Whether the file is rejected for at least one of these crawlers.
 pub fn rejects_some(agents: &[AgentAudit<'_>]) -> bool
     ensures { result ≡ rejects_some agents.now }
 {

@@ -6,7 +6,6 @@ use crate::fault::{Fault, Flaw, argument};
 use robots_warnings::warning::Warning;
 use std::alloc::Global;
 
-/// Whether the name is in the list.
 fn is_among_names(names: &[&str], name: &str) -> bool
     ensures { result ≡ is_among_names (map (λ name. name.now) names.now) name.now }
 {
@@ -18,8 +17,6 @@ fn is_among_names(names: &[&str], name: &str) -> bool
     false
 }
 
-/// Whether warnings with this name are reported: `only` is empty or contains the name, and `ignored` doesn't contain
-/// it.
 fn is_chosen(only: &[&str], ignored: &[&str], name: &str) -> bool
     ensures { result ≡ is_chosen (map (λ name. name.now) only.now) (map (λ name. name.now) ignored.now) name.now }
 {
@@ -40,7 +37,6 @@ pub fn are_apart(alloc: Global, only: &[&str], ignored: &[&str]) -> Result<(), F
     Ok(())
 }
 
-/// Keeps the warnings that are reported.
 pub(crate) fn choose(only: &[&str], ignored: &[&str], warnings: &mut Vec<Warning<'_>>)
     ensures { warnings.new.items
         ≡ chosen (map (λ name. name.now) only.now) (map (λ name. name.now) ignored.now) warnings.old.items }

@@ -5,7 +5,7 @@ ghost use Rattle.audit_core.specs.Request.{default_colors, is_dumb, is_set, requ
 use std::env::{self, VarError};
 use std::io::IsTerminal;
 
-/// Whether the value of `--color` requests colors; `by_default` is what no value and `auto` mean.
+/// `by_default` is what no value and `auto` mean.
 pub fn requested_colors(word: Option<&str>, by_default: bool) -> bool
     ensures { result ≡ requested_colors (option_map (λ word. word.now) word.entry) by_default }
 {
@@ -16,10 +16,8 @@ pub fn requested_colors(word: Option<&str>, by_default: bool) -> bool
     }
 }
 
-/// What an environment variable contains, or why that isn't known.
 type Variable = Result<String, VarError>;
 
-/// Whether an environment variable is set and not empty, or can't be read.
 fn is_set(variable: &Variable) -> bool
     ensures { result ≡ is_set variable.now }
 {
@@ -29,7 +27,6 @@ fn is_set(variable: &Variable) -> bool
     }
 }
 
-/// Whether this is the name of a terminal that can't show colors.
 fn is_dumb(name: &Variable) -> bool
     ensures { result ≡ is_dumb name.now }
 {
@@ -39,15 +36,13 @@ fn is_dumb(name: &Variable) -> bool
     }
 }
 
-/// Whether warnings have colors by default, with these values of NO_COLOR and TERM.
 fn default_colors(is_terminal: bool, no_color: &Variable, term: &Variable) -> bool
     ensures { result ≡ default_colors is_terminal no_color.now term.now }
 {
     is_terminal && !is_set(no_color) && !is_dumb(term)
 }
 
-/// Whether warnings have colors by default: if standard error is a terminal that can show them, unless NO_COLOR is set
-/// and not empty.
+/// If standard error is a terminal that can show colors, unless NO_COLOR is set and not empty.
 pub fn colors_by_default(rt: &HostRuntime) -> bool {
     let is_terminal = rt.stderr().is_terminal();
     default_colors(

@@ -7,7 +7,6 @@ use robots_warnings::facts::{FileFacts, facts_of};
 use robots_warnings::file::labels_for;
 use std::alloc::Global;
 
-/// What is wrong with a file with these facts.
 fn flaw_of(facts: FileFacts) -> Option<Flaw>
     ensures { result ≡ flaw_of facts }
 {
@@ -23,10 +22,6 @@ fn flaw_of(facts: FileFacts) -> Option<Flaw>
 }
 
 /// Fails if the file with this name has text, but no directive.
-///
-/// # Errors
-///
-/// `Fault::Argument` for such a file, and `Fault::Memory` if an allocation fails.
 pub fn check_content(alloc: Global, name: &str, file: &[u8]) -> Result<(), Fault>
     ensures ok { OnOk result (content_flaw file.now ≡ None) }
     ensures fault { IfErr result (IsContentFault name.now file.now) }

@@ -7,7 +7,6 @@ use printable_text::level::Level;
 use printable_text::parts::{Part, Value};
 use robots_warnings::warning::Warning;
 
-/// How many warnings have this level.
 fn count_at(level: Level, warnings: &[Warning<'_>]) -> usize
     ensures { result ≡ count_at level warnings.now }
 {
@@ -17,7 +16,6 @@ fn count_at(level: Level, warnings: &[Warning<'_>]) -> usize
         .count()
 }
 
-/// A number of warnings, if there are any.
 fn number_part(is_first: bool, count: usize) -> Part<'static>
     ensures { raw_text result ≡ part_text (number_part is_first count) }
 {
@@ -30,7 +28,6 @@ fn number_part(is_first: bool, count: usize) -> Part<'static>
     }
 }
 
-/// Their level.
 fn level_part(level: Level, count: usize) -> Part<'static>
     ensures { raw_text result ≡ part_text (level_part level count) }
 {
@@ -41,7 +38,6 @@ fn level_part(level: Level, count: usize) -> Part<'static>
     }
 }
 
-/// The end of its word.
 fn plural_part(count: usize) -> Part<'static>
     ensures { raw_text result ≡ part_text (plural_part count) }
 {
@@ -52,7 +48,7 @@ fn plural_part(count: usize) -> Part<'static>
     }
 }
 
-/// The number of these warnings of each level that occurs, after two other parts.
+/// After two other parts.
 pub fn count_parts<'a>(
     first: Part<'a>,
     second: Part<'a>,

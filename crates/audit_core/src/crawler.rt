@@ -9,21 +9,18 @@ use robots_warnings::rules::has;
 use robots_warnings::tokens::{are_name_bytes, has_space_around};
 use std::alloc::Global;
 
-/// Whether the name has a digit.
 fn has_digit(name: &[u8]) -> bool
     ensures { result ≡ list_any is_ascii_digit name.now }
 {
     name.iter().any(|byte| byte.is_ascii_digit())
 }
 
-/// Whether the name has a dot and a digit, which are those of a version.
 fn has_version(name: &[u8]) -> bool
     ensures { result ≡ has_version name.now }
 {
     has(b'.', name) && has_digit(name)
 }
 
-/// Whether the name has only letters, digits, `_`, `-`, dots and spaces, and no version.
 fn is_own_name(name: &str) -> bool
     ensures { result ≡ is_own_name name.now }
 {
@@ -38,7 +35,6 @@ pub fn is_crawler_name(name: &str) -> bool
     name == "*" || is_own_name(name)
 }
 
-/// What is wrong with a name that no crawler has.
 fn name_flaw(name: &str) -> Flaw
     ensures { result ≡ name_flaw name.now }
 {

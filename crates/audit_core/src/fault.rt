@@ -16,56 +16,50 @@ use robots_warnings::table::{Cause, causes};
 use robots_warnings::urls::begins_as_url;
 use std::alloc::{AllocError, AllocFailed, Global};
 
-/// What is wrong with a line of the file of `--expect` or `--urls`, with a crawler's name or a URL in arguments, or with a
-/// file that can't be a robots.txt file.
+/// What is wrong with a line of the file of `--expect` or `--urls`, with a crawler's name or a URL in
+/// arguments, or with a file that can't be a robots.txt file.
 #[derive(Clone, Copy)]
 pub enum Flaw {
     /// It isn't of the form `allow AGENT URL` or `deny AGENT URL`.
     Form,
-    /// It isn't UTF-8.
     NotUtf8,
-    /// The name isn't one that crawlers have.
+    /// No crawler has this name.
     Agent,
     /// The text is neither a path nor an http(s) URL that can be parsed.
     Url,
     /// The same, but it may be the name of a crawler.
     Name,
-    /// The URL is a path that crawlers ask for in another form.
+    /// Crawlers ask for the path in another form.
     Path,
-    /// The file has no directive, and looks like HTML.
+    /// There is no directive, and the file looks like HTML.
     Html,
-    /// The file has no directive, and looks like UTF-16.
     Utf16,
     /// The file has text, but no directive.
     NoDirectives,
     /// The URL has white space.
     Space,
-    /// The URL has a comma, and then another URL.
+    /// A comma, and then another URL.
     Comma,
-    /// The URL has `<` or `>`.
+    /// `<` or `>`.
     Tag,
-    /// The name has a comma.
+    /// A comma.
     Names,
-    /// The options `--only` and `--ignore` have this name.
     Both,
 }
 
-/// The number of a malformed line, and what is wrong with it.
 pub type MalformedLine = (usize, Flaw);
 
 /// What a file has a list of.
 #[derive(Clone, Copy)]
 pub enum Entry {
-    /// Expectations, in the file of `--expect`.
     Expectation,
-    /// URLs, in the file of `--urls`.
     Url,
 }
 
-/// The error that ended a run. Texts are as they were given.
+/// Texts are as they were given.
 #[derive(Drop)]
 pub enum Fault {
-    /// `clap` rejects the arguments; this is its message, with the usage.
+    /// The message of `clap`, with the usage.
     Words(String),
     /// FILE is missing.
     Usage,
@@ -73,13 +67,14 @@ pub enum Fault {
     NoUrl,
     /// An argument isn't UTF-8.
     NotUtf8,
-    /// No warning has this name; the warning with a similar name, if there is one.
+    /// The warning with a similar name may be meant.
     UnknownWarning(String, Option<Cause>),
     /// The file with this name can't be opened or read.
     File(String),
     /// These lines, of the file with this name, are malformed.
     Malformed(String, Vec<MalformedLine>),
-    /// This argument isn't the name of a crawler, no URL, or the name of a file that can't be a robots.txt file.
+    /// This argument isn't the name of a crawler, no URL, or the name of a file that can't be a robots.txt
+    /// file.
     Argument(String, Flaw),
     /// The file with this name has none of these entries.
     Empty(String, Entry),
@@ -147,7 +142,6 @@ impl From<WriteFault> for Fault {
     }
 }
 
-/// What is wrong.
 fn flaw_text(flaw: Flaw) -> &'static str
     ensures { result.now ≡ flaw_text flaw }
 {
@@ -177,7 +171,6 @@ fn flaw_text(flaw: Flaw) -> &'static str
     }
 }
 
-/// That a file has none of these entries.
 fn entry_text(entry: Entry) -> &'static str
     ensures { result.now ≡ entry_text entry }
 {
@@ -187,27 +180,24 @@ fn entry_text(entry: Entry) -> &'static str
     }
 }
 
-/// The end of a message that has no more parts.
 const NONE: Part<'static> = Part("", Value::Nothing);
 
-/// The usage, which follows an error in the arguments that `clap` doesn't report.
+/// It follows an error in the arguments that `clap` doesn't report.
 const USAGE: Part<'static> = Part(
     "; usage: robots_audit [OPTIONS] FILE [URL]..",
     Value::Nothing,
 );
 
-/// The examples that follow the usage if FILE is missing.
+/// They follow the usage if FILE is missing.
 const EXAMPLES: &str = "example: robots_audit robots.txt /search\n\
     example: curl -s https://example.com/robots.txt | robots_audit --agent Googlebot -\n";
 
-/// Whether the name is that of a level.
 fn is_level(name: &[u8]) -> bool
     ensures { result ≡ is_level name.now }
 {
     name == b"error".as_slice() || (name == b"warning".as_slice() || name == b"note".as_slice())
 }
 
-/// Whether the name begins as that of a host does: it has a dot within, but isn't that of a text file.
 fn begins_as_host(name: &[u8]) -> bool
     ensures { result ≡ begins_as_host name.now }
 {
@@ -215,7 +205,6 @@ fn begins_as_host(name: &[u8]) -> bool
     has(b'.', host) && !(host.starts_with(b".") || host.ends_with(b".txt"))
 }
 
-/// What else the name of a file that can't be read may be, and how to give that.
 fn file_hint(name: &[u8]) -> Part<'static>
     ensures { raw_text result ≡ part_text (file_hint name.now) }
 {
@@ -233,7 +222,6 @@ fn file_hint(name: &[u8]) -> Part<'static>
     Part(hint, Value::Nothing)
 }
 
-/// The name of a warning that may be meant.
 fn near_part(near: Option<Cause>) -> Part<'static>
     ensures { raw_text result ≡ part_text (near_part near) }
 {
@@ -246,7 +234,6 @@ fn near_part(near: Option<Cause>) -> Part<'static>
     }
 }
 
-/// The message for a malformed line of the file with this name.
 fn malformed_parts<'a>(file: &'a str, line: MalformedLine) -> [Part<'a>; 3]
     ensures { raw_line result ≡ line_text (malformed_line file.entry.now line) }
 {
@@ -257,7 +244,6 @@ fn malformed_parts<'a>(file: &'a str, line: MalformedLine) -> [Part<'a>; 3]
     ]
 }
 
-/// Appends a line for each of these malformed lines.
 fn push_malformed(text: &mut String, file: &str, lines: &[MalformedLine]) -> Result<(), AllocError>
     ensures { OnOk result (string_bytes text.new ≡ string_bytes text.old
         ++ written (map (malformed_line file.now) lines.now)) }
@@ -268,8 +254,7 @@ fn push_malformed(text: &mut String, file: &str, lines: &[MalformedLine]) -> Res
     Ok(())
 }
 
-/// The message for an error, which follows the program's name. `clap` has messages of its own, and each malformed line
-/// has one.
+/// `clap` has messages of its own, and each malformed line has one.
 fn fault_parts(fault: &Fault) -> [Part<'_>; 3]
     ensures { raw_line result ≡ parts_text (fault_parts fault.now) }
 {
@@ -339,7 +324,7 @@ fn fault_parts(fault: &Fault) -> [Part<'_>; 3]
     }
 }
 
-/// The message for an error: a line, one for each malformed line, or the message of `clap`.
+/// A line, one for each malformed line, or the message of `clap`.
 pub fn fault_text(alloc: Global, fault: &Fault) -> Result<String, AllocError>
     ensures { IfOk result (λ text. string_bytes text ≡ fault_text fault.now) }
 {
@@ -377,7 +362,6 @@ pub fn status_after(outcome: &Result<Outcome, Fault>) -> u8
     }
 }
 
-/// The first warning with a name that is near this one.
 fn near_warning(alloc: Global, name: &[u8]) -> Result<Option<Cause>, AllocError>
     ensures { IfOk result (λ found. found ≡ near_warning name.now) }
 {

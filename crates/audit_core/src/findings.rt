@@ -23,14 +23,12 @@ pub struct Finding {
 
 pub type Findings = Vec<Finding>;
 
-/// That a crawler, whose name comes before this, may not fetch the URL.
 fn denied_parts<'a>(url: &'a str) -> [Part<'a>; 1]
     ensures { raw_line result ≡ parts_text (denied_parts url.entry.now) }
 {
     [Part(" may not fetch ", Value::Untrusted(url.as_bytes()))]
 }
 
-/// Appends that the crawler may not fetch the URL.
 fn push_denied(text: &mut String, agent: &str, url: &str) -> Result<(), AllocError>
     ensures { OnOk result (string_bytes text.new
         ≡ string_bytes text.old ++ (sanitized agent.now ++ parts_text (denied_parts url.now))) }
@@ -39,7 +37,6 @@ fn push_denied(text: &mut String, agent: &str, url: &str) -> Result<(), AllocErr
     push_parts(text, &denied_parts(url))
 }
 
-/// That the crawler may not fetch the URL of the verdict.
 fn denied(alloc: Global, agent: &str, verdict: &Verdict<'_>) -> Result<Finding, AllocError>
     ensures { IfOk result (λ finding. finding_value finding ≡ found_value (denied agent.now verdict.now)) }
 {
@@ -53,14 +50,12 @@ fn denied(alloc: Global, agent: &str, verdict: &Verdict<'_>) -> Result<Finding, 
     })
 }
 
-/// Whether the crawler may fetch the URL of the verdict.
 fn is_allowed(verdict: &Verdict<'_>) -> bool
     ensures { result ≡ verdict.now.decision.allowed }
 {
     verdict.decision.allowed
 }
 
-/// Adds that the crawler may not fetch the URL, if the verdict says so.
 fn add_denial(
     alloc: Global,
     found: &mut Findings,
@@ -76,7 +71,6 @@ fn add_denial(
     Ok(found.push(denied(alloc, agent, verdict)?)?)
 }
 
-/// Adds each URL that the crawler may not fetch.
 fn add_denials(
     alloc: Global,
     found: &mut Findings,
@@ -92,7 +86,6 @@ fn add_denials(
     Ok(())
 }
 
-/// Adds that the file is rejected for the crawler, if it is.
 fn add_rejection(
     alloc: Global,
     found: &mut Findings,
@@ -115,7 +108,6 @@ fn add_rejection(
     })?)
 }
 
-/// Adds what is wrong for a crawler.
 fn add_agent(alloc: Global, found: &mut Findings, agent: &AgentAudit<'_>) -> Result<(), AllocError>
     ensures { OnOk result (map finding_value found.new.items
         ≡ map finding_value found.old.items ++ map found_value (agent_findings agent.now)) }
@@ -124,7 +116,6 @@ fn add_agent(alloc: Global, found: &mut Findings, agent: &AgentAudit<'_>) -> Res
     add_denials(alloc, found, agent.agent, &agent.verdicts)
 }
 
-/// Adds what is wrong for each crawler.
 fn add_agents(
     alloc: Global,
     found: &mut Findings,
@@ -139,7 +130,6 @@ fn add_agents(
     Ok(())
 }
 
-/// Adds a warning if it is in the part with the errors, or else if it is in the one with the others.
 fn add_in_part(
     alloc: Global,
     found: &mut Findings,
@@ -163,7 +153,6 @@ fn add_in_part(
     })?)
 }
 
-/// Adds the warnings that are errors, or the others.
 fn add_warnings(
     alloc: Global,
     found: &mut Findings,
@@ -179,8 +168,8 @@ fn add_warnings(
     Ok(())
 }
 
-/// What an audit found: the errors among the warnings; for each crawler why the file is rejected or which URLs are denied;
-/// and then the other warnings.
+/// The errors among the warnings; for each crawler why the file is rejected or which URLs are denied; and
+/// then the other warnings.
 pub fn findings_of(alloc: Global, audit: &Audit<'_>) -> Result<Findings, AllocError>
     ensures { IfOk result (λ found. map finding_value found.items ≡ findings audit.now) }
 {

@@ -12,11 +12,11 @@ use texting_robots::parser::Line;
 /// Which user-agent lines determine the group of a crawler.
 #[derive(Clone, Copy, PartialEq, Eq)]
 pub enum Group {
-    /// Those that name the crawler.
+    /// That of lines that name the crawler.
     Named,
-    /// Those of `*`, as no line names the crawler.
+    /// That of `*`, as no line names the crawler.
     Star,
-    /// None: no line names the crawler or `*`, so no group applies.
+    /// No line names the crawler or `*`, so no group applies.
     Nobody,
     /// The file has no user-agent line, so all rules and delays apply to every crawler.
     Everyone,
@@ -37,7 +37,6 @@ pub(crate) fn group_of(agent: &str, site: &Site) -> Group
     }
 }
 
-/// Whether the line is a user-agent line with this name, ASCII letters in any case.
 fn has_name(name: &[u8], line: Line<'_>) -> bool
     ensures { result ≡ is_agent_named (str_to_ascii_lowercase name.now) (by_value line.entry) }
 {
@@ -47,8 +46,7 @@ fn has_name(name: &[u8], line: Line<'_>) -> bool
     }
 }
 
-/// The number of the first line that names the group that applies to a crawler. The labels are those of the site's
-/// lines.
+/// The labels are those of the site's lines.
 pub(crate) fn naming_line(agent: &str, site: &Site, labels: &[LabeledLine<'_>]) -> Option<usize>
     requires { lines_of (map label_by_value labels.now) ≡ file_lines site.now }
     ensures { result ≡ naming_line agent.now (file_lines site.now) }

@@ -1,6 +1,6 @@
-//! What the parts of an audit share: the request, the audit of a file for the crawlers that the request names, and what
-//! it found; the answer, the errors and the exit status of a run; texts about groups, rejected files and syntax, which
-//! several reports contain.
+//! What the parts of an audit share: the request, the audit of a file for the crawlers that the request
+//! names, and what it found; the answer, the errors and the exit status of a run; texts that several reports
+//! contain.
 #![tactic(auto)]
 
 pub mod agents;

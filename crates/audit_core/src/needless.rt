@@ -11,7 +11,6 @@ use robots_warnings::warning::{Detail, Warning};
 use std::alloc::{AllocError, Global};
 use texting_robots::Site;
 
-/// Appends the warning about a rule that can be deleted.
 fn add_rule(found: &mut Vec<Warning<'_>>, rule: NeedlessRule) -> Result<(), AllocError>
     ensures { OnOk result (Adds found.old.items found.new.items (needless_warning rule ∷ [])) }
 {
@@ -29,7 +28,6 @@ fn add_rule(found: &mut Vec<Warning<'_>>, rule: NeedlessRule) -> Result<(), Allo
     })?)
 }
 
-/// Appends the warnings about rules that can be deleted.
 pub(crate) fn add_needless(
     found: &mut Vec<Warning<'_>>,
     rules: &[NeedlessRule],
@@ -42,8 +40,8 @@ pub(crate) fn add_needless(
     Ok(())
 }
 
-/// The rules of the file that can be deleted together, if they are looked for and the whole file is read; otherwise
-/// none, since deleting lines would let more of the file be read.
+/// None if they aren't looked for, or if not the whole file is read, since deleting lines would let more of
+/// it be read.
 pub(crate) fn needless_rules(
     alloc: Global,
     is_requested: bool,

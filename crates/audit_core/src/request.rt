@@ -5,11 +5,11 @@ use printable_text::level::Level;
 /// How a report is written.
 #[derive(Clone, Copy)]
 pub enum Format {
-    /// Lines of text, and warnings on standard error.
+    /// With warnings on standard error.
     Text,
-    /// One line of JSON, with the warnings in it.
+    /// One line, with the warnings in it.
     Json,
-    /// An HTML page, with the lines and the warnings in it.
+    /// A page, with the lines and the warnings in it.
     Html,
     /// Annotations for a workflow on GitHub.
     Github,
@@ -21,7 +21,6 @@ impl Format {
     ghost use Rattle.std.specs.Prelude.{◌≡◌};
     ghost use Rattle.audit_core.specs.Request.{format_named};
 
-    /// The names of the formats.
     pub const NAMES: &'static [&'static str] = &["text", "json", "html", "github", "sarif"];
 
     /// The format with this name, or `Text` if none has it.
@@ -42,36 +41,31 @@ impl Format {
     }
 }
 
-/// The parsed command line.
 #[derive(Drop)]
 pub struct Request<'a> {
-    /// The name of the file; `None` for standard input.
+    /// `None` for standard input.
     pub file: Option<&'a str>,
     /// Whether the rows are left out of the report.
     pub is_quiet: bool,
-    /// How the report is written.
     pub format: Format,
-    /// The date that a page has; `None` for none.
+    /// The date that a page has.
     pub date: Option<&'a str>,
-    /// Whether the levels of warnings on standard error have colors.
+    /// Of the levels of warnings on standard error.
     pub has_colors: bool,
-    /// A warning at this level, or at a more serious one, leads to exit status 3; `None` if no warning does.
+    /// A warning at this level, or at a more serious one, leads to exit status 3.
     pub strict: Option<Level>,
-    /// The product token of the crawler, if the report is about a single one.
+    /// If the report is about a single crawler.
     pub agent: Option<&'a str>,
-    /// The product tokens of the crawlers; empty for `*` and each crawler that the file names.
+    /// Empty for `*` and each crawler that the file names.
     pub agents: Vec<&'a str>,
     /// The URLs or paths to check.
     pub urls: Vec<&'a str>,
-    /// The names of the warnings that are reported; empty for all.
+    /// Empty for all.
     pub only: Vec<&'a str>,
-    /// The names of the warnings that are left out.
     pub ignored: Vec<&'a str>,
-    /// Whether only denied URLs are listed.
     pub is_denied_only: bool,
     /// Whether the report ends with the numbers of allowed and denied URLs.
     pub has_totals: bool,
-    /// Whether needless rules are looked for.
     pub has_needless: bool,
 }
 
@@ -79,7 +73,6 @@ impl<'a> Request<'a> {
     ghost use Rattle.std.specs.Prelude.{◌≡◌};
     ghost use Rattle.audit_core.specs.Request.{has_rows, requested_by, shown_name};
 
-    /// The name of the file in a report.
     pub fn shown_name(&self) -> &'a str
         ensures { result.now ≡ shown_name (requested_by self.now).file }
     {

@@ -16,10 +16,9 @@ use std::alloc::AllocError;
 use texting_robots::labels::{LabeledLine, Membership};
 use texting_robots::parser::{Line, file_bodies};
 
-/// The width of the column with the directives; the longest one is followed by a space.
+/// The longest directive is followed by a space.
 const WORD_WIDTH: usize = 12;
 
-/// Appends this many spaces.
 #[tactic(auto, using(crate::proofs::AuditLemmas::blanks_more))]
 fn push_blanks(text: &mut String, count: usize) -> Result<(), AllocError>
     ensures { OnOk result (string_bytes text.new ≡ string_bytes text.old ++ blanks count) }
@@ -30,7 +29,6 @@ fn push_blanks(text: &mut String, count: usize) -> Result<(), AllocError>
     Ok(())
 }
 
-/// Appends a number, right-aligned within the width.
 fn push_aligned(text: &mut String, width: usize, number: usize) -> Result<(), AllocError>
     ensures { OnOk result (string_bytes text.new ≡ string_bytes text.old ++ part_text (Aligned width number)) }
 {
@@ -40,7 +38,7 @@ fn push_aligned(text: &mut String, width: usize, number: usize) -> Result<(), Al
     text.push_str(digits)
 }
 
-/// The mark of a line: `+` in the crawler's group, `-` in another, a space in none.
+/// `+` in the crawler's group, `-` in another, a space in none.
 fn mark_of(membership: Membership) -> &'static str
     ensures { result.now ≡ value_text (mark_of membership) }
 {
@@ -80,7 +78,7 @@ pub fn has_value(line: Line<'_>) -> bool
     }
 }
 
-/// The value of a line: a delay in seconds, any other value sanitized.
+/// A delay in seconds, any other value sanitized.
 pub fn line_value<'a>(line: Line<'a>) -> Value<'a>
     ensures { raw_value result ≡ value_text (line_value (by_value line.entry)) }
 {
@@ -95,7 +93,6 @@ pub fn line_value<'a>(line: Line<'a>) -> Value<'a>
     }
 }
 
-/// Appends the value of a line: a delay in seconds, any other value sanitized.
 pub fn push_value(text: &mut String, line: Line<'_>) -> Result<(), AllocError>
     ensures { OnOk result (string_bytes text.new ≡ string_bytes text.old ++ line_value_text (by_value line.entry)) }
 {
@@ -110,7 +107,6 @@ pub fn push_value(text: &mut String, line: Line<'_>) -> Result<(), AllocError>
     }
 }
 
-/// Appends the line's directive, and if the line has a value, spaces up to the next column and the value.
 fn push_kind(text: &mut String, line: Line<'_>) -> Result<(), AllocError>
     ensures { OnOk result (string_bytes text.new ≡ string_bytes text.old
         ++ part_text (kind_part (has_value (by_value line.entry)) (by_value line.entry))) }
@@ -124,7 +120,7 @@ fn push_kind(text: &mut String, line: Line<'_>) -> Result<(), AllocError>
     Ok(())
 }
 
-/// The comment in a line with this content, if it is a directive; other lines are shown with their comments.
+/// If the line is a directive; other lines are shown with their comments.
 pub fn comment_of<'a>(line: Line<'_>, body: &'a [u8]) -> &'a [u8]
     ensures { result.now ≡ comment_of (by_value line.entry) body.now }
 {
@@ -134,7 +130,6 @@ pub fn comment_of<'a>(line: Line<'_>, body: &'a [u8]) -> &'a [u8]
     }
 }
 
-/// Appends a comment after two spaces, if there is one.
 fn push_comment(text: &mut String, comment: &[u8]) -> Result<(), AllocError>
     ensures { OnOk result (string_bytes text.new ≡ string_bytes text.old ++ part_text (comment_part comment.now)) }
 {
@@ -144,7 +139,6 @@ fn push_comment(text: &mut String, comment: &[u8]) -> Result<(), AllocError>
     push_parts(text, &[Part("  ", Value::Untrusted(comment))])
 }
 
-/// Appends the row of a line with this content.
 fn push_row(
     text: &mut String,
     width: usize,
@@ -167,14 +161,13 @@ fn push_row(
     text.push('\n')
 }
 
-/// The number of decimal digits of a number.
 fn digits(number: usize) -> usize
     ensures { result ≡ length (decimal number) }
 {
     Buffer::new().format(number).len()
 }
 
-/// Appends a row for each line of the file with these bytes. The labels are those of the lines.
+/// Appends a row for each line of the file with these bytes.
 pub fn push_rows(
     text: &mut String,
     bytes: &[u8],

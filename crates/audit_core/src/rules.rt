@@ -6,7 +6,6 @@ use std::alloc::{AllocError, Global};
 use std::marker::Model;
 use texting_robots::Site;
 
-/// A rule, and the number of its line.
 #[derive(Drop)]
 pub struct Rule {
     /// The escaped value.

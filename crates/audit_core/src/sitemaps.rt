@@ -16,7 +16,6 @@ use texting_robots::Site;
 use texting_robots::labels::LabeledLine;
 use texting_robots::parser::Line;
 
-/// Appends the value of a sitemap line, if it is UTF-8. Other lines change nothing.
 fn add_sitemap<'a>(sitemaps: &mut Vec<&'a [u8]>, line: Line<'a>) -> Result<(), AllocError>
     ensures { OnOk result (map (λ sitemap. sitemap.now) sitemaps.new.items
         ≡ map (λ sitemap. sitemap.now) sitemaps.old.items ++ sitemaps_in (by_value line.entry ∷ [])) }
@@ -46,7 +45,6 @@ pub fn sitemaps_of<'a>(
     Ok(sitemaps)
 }
 
-/// Appends the number of the line and its sitemap, if it has one that is an absolute http(s) URL.
 fn ask_about<'a>(
     alloc: Global,
     numbers: &mut Vec<usize>,
@@ -71,7 +69,7 @@ fn ask_about<'a>(
     Ok(())
 }
 
-/// Appends those of all lines, or none if the whole site is closed to `*`.
+/// None if the whole site is closed to `*`.
 #[tactic(auto, using(crate::proofs::AuditLemmas::asked_next))]
 fn ask_about_all<'a>(
     alloc: Global,
@@ -96,7 +94,6 @@ fn ask_about_all<'a>(
     Ok(())
 }
 
-/// Appends the warning about the sitemap in the line with this number, if this verdict denies it.
 fn warn_of_verdict(
     found: &mut Vec<Warning<'_>>,
     number: usize,
@@ -119,7 +116,6 @@ fn warn_of_verdict(
     })?)
 }
 
-/// Appends the warnings about the sitemaps in the lines with these numbers, with these verdicts.
 fn warn_of_verdicts(
     found: &mut Vec<Warning<'_>>,
     numbers: &[usize],
@@ -139,7 +135,7 @@ fn warn_of_verdicts(
     Ok(())
 }
 
-/// Appends the warnings about the sitemaps that the rules for `*` deny. The labels are those of the file's lines.
+/// Appends the warnings about the sitemaps that the rules for `*` deny.
 pub(crate) fn warn_of_sitemaps(
     alloc: Global,
     found: &mut Vec<Warning<'_>>,

@@ -4,26 +4,25 @@ ghost use Rattle.audit_core.specs.Syntax.{has_standard_verdicts, has_syntax_warn
 
 use robots_warnings::warning::Warning;
 
-/// The sentence about the verdicts of a file, where they are stated to be those of RFC 9309.
+/// Where verdicts are stated to be those of RFC 9309.
 pub const VERDICTS_SENTENCE: &str =
     "verdicts are those of RFC 9309 for URLs in normal form (reserved characters as in RFC 3986, octets counted in normal form)";
 
-/// What all warnings about a file, reported or not, tell about its syntax and its verdicts. That it is the standard's
-/// syntax is the theorem `syntax_is_that_of_the_standard` of `warnings_laws`.
+/// What all warnings about a file, reported or not, mean for its syntax and its verdicts. That it is the
+/// standard's syntax is the theorem `syntax_is_that_of_the_standard` of `warnings_laws`.
 #[derive(Clone, Copy, PartialEq, Eq)]
 pub enum Syntax {
-    /// Nothing: a warning is about syntax, not all of the file is checked, or it is rejected for a crawler.
+    /// A warning is about syntax, not all of the file is checked, or it is rejected for a crawler.
     Unstated,
-    /// That it is the syntax of RFC 9309, as no warning is about syntax.
+    /// The syntax is that of RFC 9309, as no warning is about syntax.
     Standard,
-    /// The same, and that verdicts are those of RFC 9309, as no warning says that they may differ.
+    /// And verdicts are those of RFC 9309, as no warning states that they may differ.
     StandardVerdicts,
-    /// Both, as there is no warning at all.
+    /// And there is no warning at all.
     StandardWithoutWarnings,
 }
 
 impl Syntax {
-    /// Whether the file is stated to have the syntax of RFC 9309.
     pub fn is_standard(self) -> bool
         ensures { result ≡ is_standard self }
     {
@@ -33,7 +32,6 @@ impl Syntax {
         }
     }
 
-    /// Whether its verdicts are stated to be those of RFC 9309.
     pub fn has_standard_verdicts(self) -> bool
         ensures { result ≡ has_standard_verdicts self }
     {
@@ -43,7 +41,6 @@ impl Syntax {
         }
     }
 
-    /// The sentence about its syntax in a report; empty if nothing is stated.
     pub fn sentence(self) -> &'static str
         ensures { result.now ≡ sentence self }
     {
@@ -57,7 +54,6 @@ impl Syntax {
     }
 }
 
-/// Whether one of the warnings is about syntax.
 #[tactic(auto, unfolding(crate::specs::Syntax::is_about_syntax))]
 fn has_syntax_warning(warnings: &[Warning<'_>]) -> bool
     ensures { result ≡ has_syntax_warning warnings.now }
@@ -67,7 +63,6 @@ fn has_syntax_warning(warnings: &[Warning<'_>]) -> bool
         .any(|warning| !warning.cause.is_not_about_syntax())
 }
 
-/// Whether all of the warnings leave open that verdicts are those of the standard.
 fn keep_verdicts(warnings: &[Warning<'_>]) -> bool
     ensures { result ≡ keep_verdicts warnings.now }
 {
@@ -76,8 +71,8 @@ fn keep_verdicts(warnings: &[Warning<'_>]) -> bool
         .all(|warning| warning.cause.keeps_verdicts())
 }
 
-/// What these warnings tell, which are all about a file and a request, reported or not; `is_rejected` is whether the file
-/// is rejected for a crawler of the report.
+/// The warnings are all about a file and a request, reported or not; `is_rejected`: for a crawler of the
+/// report.
 pub(crate) fn syntax_of(
     agent: Option<&str>,
     is_too_large: bool,

@@ -1,4 +1,5 @@
-//! Texts that several reports share: a delay, which group applies to a crawler, and that the file is rejected for it.
+//! Texts that several reports share: a delay, which group applies to a crawler, and that the file is
+//! rejected.
 ghost use Rattle.std.specs.Prelude.{◌≡◌, ◌++◌, ◌∷◌, [], OnOk, option_map, string_bytes};
 ghost use Rattle.printable_text.specs.Raw.{raw_line, raw_text, raw_value};
 ghost use Rattle.printable_text.specs.Text.{part_text, parts_text, value_text, written};
@@ -10,7 +11,6 @@ use printable_text::parts::{Part, Value, push_line_of, push_parts};
 use robots_warnings::closed::Reach;
 use std::alloc::AllocError;
 
-/// A delay as the value of a part.
 pub fn delay_value(delay: Option<u64>) -> Value<'static>
     ensures { raw_value result ≡ value_text (delay_value delay) }
 {
@@ -20,7 +20,6 @@ pub fn delay_value(delay: Option<u64>) -> Value<'static>
     }
 }
 
-/// The name of the group that applies to a crawler.
 pub fn group_value<'a>(agent: &'a str, group: Group) -> Value<'a>
     ensures { raw_value result ≡ value_text (group_value agent.entry.now group) }
 {
@@ -32,7 +31,6 @@ pub fn group_value<'a>(agent: &'a str, group: Group) -> Value<'a>
     }
 }
 
-/// The reason why this group applies, if it isn't the crawler's own.
 fn group_reason<'a>(agent: &'a str, group: Group) -> Part<'a>
     ensures { raw_text result ≡ part_text (group_reason agent.entry.now group) }
 {
@@ -45,7 +43,6 @@ fn group_reason<'a>(agent: &'a str, group: Group) -> Part<'a>
     }
 }
 
-/// The end of the reason.
 fn group_end(agent: &str, group: Group) -> &'static str
     ensures { result.now ≡ part_text (group_end agent.now group) }
 {
@@ -58,7 +55,6 @@ fn group_end(agent: &str, group: Group) -> &'static str
     }
 }
 
-/// The group that applies to a crawler, after a label, and the reason if it isn't the crawler's own group.
 fn group_parts<'a>(label: &'static str, agent: &'a str, group: Group) -> [Part<'a>; 3]
     ensures { raw_line result ≡ label.now ++ group_text agent.entry.now group }
 {
@@ -69,14 +65,13 @@ fn group_parts<'a>(label: &'static str, agent: &'a str, group: Group) -> [Part<'
     ]
 }
 
-/// Appends the group that applies to a crawler, and the reason if it isn't the crawler's own group.
+/// Appends the group that applies to a crawler, and the reason if it isn't the crawler's own.
 pub fn push_group_text(text: &mut String, agent: &str, group: Group) -> Result<(), AllocError>
     ensures { OnOk result (string_bytes text.new ≡ string_bytes text.old ++ group_text agent.now group) }
 {
     push_parts(text, &group_parts("", agent, group))
 }
 
-/// Appends the line with the group.
 pub fn push_group(text: &mut String, agent: &str, group: Group) -> Result<(), AllocError>
     ensures { OnOk result (string_bytes text.new ≡ string_bytes text.old
         ++ written (group_line agent.now group ∷ [])) }
@@ -84,7 +79,7 @@ pub fn push_group(text: &mut String, agent: &str, group: Group) -> Result<(), Al
     push_line_of(text, &group_parts("group: ", agent, group))
 }
 
-/// The word for what a crawler may fetch, if the file isn't rejected for it and that is everything or nothing.
+/// If the file isn't rejected for the crawler, and it may fetch everything or nothing.
 pub fn may_fetch(rejected: Option<usize>, reach: Reach) -> Option<&'static str>
     ensures { option_map (λ word. word.now) result ≡ option_map (λ word. word.text) (may_fetch rejected reach) }
 {
@@ -109,7 +104,6 @@ pub fn rejected_parts<'a>(agent: &'a str, line: usize) -> [Part<'a>; 3]
     ]
 }
 
-/// Appends the line that the file is rejected for the crawler, if it is.
 pub fn push_rejected(
     text: &mut String,
     agent: &str,

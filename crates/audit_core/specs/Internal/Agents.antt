@@ -5,15 +5,13 @@ use Rattle.texting_robots.specs.Callers.{LineValue}
 use Rattle.robots_warnings.specs.Internal.Names.{Key, key_cmp}
 use Rattle.audit_core.specs.Audit.{with_name}
 
--- one of these names is this one in lower case
 abbrev pub has_lowered : List ℕ → List (List ℕ) → Bool
 has_lowered lowered names = list_any (λ name. bytes_eq (str_to_ascii_lowercase name) lowered) names
 
--- the set contains exactly these names, in lower case
 pub record HasAgents (met : BTreeSet Key) (names : List (List ℕ)) : Type 0 where
   pub each : (key : Key) → contains key_cmp met key ≡ has_lowered key.items names
 
--- a line is processed: its name, if it is a new one, is appended to the list and inserted into the set
+-- the name of a line, if it is a new one, is appended to the list and inserted into the set
 pub record AddsAgent (old_met new_met : BTreeSet Key) (old new : List (List ℕ)) (line : LineValue)
     : Type 0 where
   pub names : HasAgents old_met old → new ≡ with_name old line

@@ -4,7 +4,6 @@ use Rattle.printable_text.specs.Text.{written}
 use Rattle.audit_core.specs.Rows.{row, rows}
 use Rattle.audit_core.proofs.rows.push_rows.Given as goal
 
--- the text and the rows of the remaining lines are the text with all rows
 abbrev pub invariant-loop-body : goal.invariant-loop-body
 invariant-loop-body l =
     string_bytes l.text ++ written (map (row l.width) (zip l.body-iterator (map label_by_value l.rest)))
