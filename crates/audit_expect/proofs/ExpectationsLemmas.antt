@@ -21,13 +21,9 @@ use Rattle.audit_expect.specs.{declared.expect.Expectation.Expectation, Internal
 use Rattle.audit_expect.specs.Expectations.{CheckedValue, IsChecked, IsReport, demand_parts, failure, fails}
 use Rattle.audit_expect.specs.Expectations.{failures, holding, placed, reason_parts, result_lines}
 
--- ---- How a text is cut into parts, and the expectations in it are found.
-
 no_length : (text : List ℕ) → length text ≡ 0 → text ≡ []
 no_length [] e = refl
 no_length (b ∷ text) e = absurd (omega (arith, e))
-
--- ---- parts
 
 parts_cut : (separators text : List ℕ) (end : ℕ) → IsFirstSeparator separators text end
     → parts separators text ≡ take end text ∷ parts separators (drop (suc end) text)
@@ -42,7 +38,6 @@ parts_cut separators (b ∷ text) (suc end) first =
     } in
     cond-false _ _ _ (first.before 0 (omega arith)) ∙ ap (with_byte b) (parts_cut separators text end later)
 
--- a text with a separator is a part and what follows it
 pub cut_at : (separators text rest : List ℕ) (end : ℕ) → IsFirstSeparator separators text end
     → rest ≡ drop (end + 1) text → parts separators text ≡ take end text ∷ parts separators rest
 cut_at separators text rest end first after =
@@ -59,7 +54,6 @@ parts_whole separators (b ∷ d ∷ text) some none =
     ∙ ap (with_byte b) (parts_whole separators (d ∷ text) (λ same. cc)
     (λ k below. none (suc k) (omega (arith, below))))
 
--- a text without a separator is one part
 pub cut_nowhere : (separators text rest : List ℕ) → text ≢ [] → HasNone separators text (length text)
     → length rest ≡ 0 → parts separators text ≡ text ∷ parts separators rest
 cut_nowhere separators text rest some none empty =
@@ -68,9 +62,6 @@ cut_nowhere separators text rest some none empty =
 
 -- ---- How expectations are checked, and the report on them.
 
--- ---- judgments
-
--- what the robot of a file decides is what the file's rules decide
 pub robot_found : (agent file target : List ℕ) (robot : RobotValue) (decision : Decision)
     → IsRobotOfFile agent (take file_limit file) robot → IsDecisionOn robot.rules target decision
     → (¬ IsRejected agent (lines_read file))
@@ -85,9 +76,6 @@ robot_found agent file target robot decision of by =
       },
     )
 
--- ---- the report
-
--- loop step: one more expectation
 pub failures_next : (file : List ℕ) (old new : List FindingValue) (items : List Expectation) (place : ℕ)
     (d : Expectation) (next : CheckedValue) → place < length items
     → AreFailuresOn file (map expectation_value (take place items)) old
@@ -127,15 +115,11 @@ report_made name text file items found report number is some are counted made = 
   whole = made ∙ ap (λ n. ended (result_lines name n found)) (counted ∙ as_many);
 }
   where
-    -- as many expectations were checked as there are
     as_many : length items ≡ length are.checked
     as_many =
         sym (length-map items expectation_value) ∙ sym (ap length are.all)
         ∙ length-map are.checked (λ (one : CheckedValue). one.expectation)
 
--- ---- what the report contains
-
--- the parts of a line
 abbrev failure_line : List ℕ → CheckedValue → NamedLine
 failure_line name checked = record {
   name = name;

@@ -28,13 +28,10 @@ use Rattle.audit_expect.specs.OtherReading.{AreOthers, IsOtherDecision}
 use Rattle.audit_expect.specs.Internal.Expectations.{IsDecidedBy, IsPreferred, decision_with, is_empty}
 use Rattle.audit_expect.specs.Internal.Expectations.{is_marked, marks_of, others_of}
 
--- ---- empty Disallows
-
 abbrev is_disallow : Option Kind → Bool
 is_disallow (Some Disallow) = true
 is_disallow _ = false
 
--- the letter that selects a Disallow is 'd'
 letter_d : (letter : ℕ) → is_disallow (kind_with letter) ≡ (letter == 100)
 letter_d letter = grind (arith, nat_tests)
 
@@ -50,7 +47,6 @@ skipped [] = refl
 skipped (b ∷ body) = ap (λ rest. if is_space_or_tab b then rest else b ∷ body) (skipped body)
 
 module _ (body : List ℕ) where
-  -- the kind of a directive is the one that its first letter selects
   selected : (kind : Kind) (value : List ℕ) → statement_of body ≡ Some (kind, value)
       → begins_with_d (without_front body) ≡ is_disallow (Some kind)
   unfolding statement_of
@@ -121,15 +117,12 @@ others_are bodies rules = record {
   );
 }
 
--- ---- which rule decides
-
 better_trans : (one two three : PlacedRule) → IsBetter one two → IsBetter two three → IsBetter one three
 better_trans one two three over under = grind (arith, nat_tests)
 
 not_itself : (one : PlacedRule) → ¬ IsBetter one one
 not_itself one is = grind arith
 
--- one more rule
 module _ (rules : List PlacedRule) (text : List ℕ) (rule : PlacedRule) where
   each : (P : PlacedRule → Type 0) → ((placed : PlacedRule) → Contains rules placed → P placed) → P rule
       → (placed : PlacedRule) → Contains (rules ++ rule ∷ []) placed → P placed
@@ -156,13 +149,11 @@ module _ (rules : List PlacedRule) (text : List ℕ) (rule : PlacedRule) where
     best = each (λ placed. Matches placed.rule.0 text → ¬ IsBetter placed rule) best (λ _. not_itself rule);
   }
 
-  -- it doesn't match
   pub past : (before : Option PlacedRule) → ¬ Matches rule.rule.0 text → IsDecidedBy rules text before
       → IsDecidedBy (rules ++ rule ∷ []) text before
   past None isnt none = each (λ placed. ¬ Matches placed.rule.0 text) none isnt
   past (Some best) isnt is = still best is (λ fits. absurd (isnt fits))
 
-  -- it matches
   pub here : (before : Option PlacedRule) (found : PlacedRule) → Matches rule.rule.0 text
       → IsDecidedBy rules text before → IsPreferred rule before found
       → IsDecidedBy (rules ++ rule ∷ []) text (Some found)
@@ -172,8 +163,6 @@ module _ (rules : List PlacedRule) (text : List ℕ) (rule : PlacedRule) where
       rw same (first matches (λ placed listed fits over.
       is.best placed listed fits (better_trans placed rule best over better)))
   here (Some best) found matches is (inr (isnt, same)) = rw same (still best is (λ _. isnt))
-
--- ---- decisions
 
 pub decision_found : (rules : List PlacedRule) (text : List ℕ) (found : Option PlacedRule)
     → text ≢ robots_file → IsDecidedBy rules text found → IsDecisionOn rules text (decision_with found)
@@ -228,7 +217,6 @@ module _ (bodies : List (List ℕ)) (rules : List PlacedRule) (text : List ℕ) 
           let verdict = verdict_by others text placed decision.allowed alike (sym kind) differs in
           (verdict, (differs, placed, alike, at))
 
--- if the file isn't rejected, none of the other rules is overlong
 pub others_accepted : (bodies : List (List ℕ)) (agent : List ℕ) (lines : List LineValue)
     → ¬ IsRejected agent lines
     → All (λ (placed : PlacedRule). ¬ IsOverlong placed.rule.0) (others_of bodies (placed_rules agent lines))

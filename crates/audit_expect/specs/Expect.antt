@@ -1,4 +1,4 @@
--- The lines of a text and the entries in them, and the expectations in the file of `--expect`, one per line.
+-- The lines of a text, the entries in them, and the expectations in the file of `--expect`, one per line.
 use Rattle.std.specs.Prelude.{◌≡◌, ℕ, nat_eq, suc, ◌==◌, Bool, false, not, ◌&&◌, ◌||◌, List, [], ◌∷◌, ◌++◌}
 use Rattle.std.specs.Prelude.{Option, Some, None, Result, Ok, Err, bytes_eq, codes, filter, if◌then◌else◌}
 use Rattle.std.specs.Prelude.{length, string_bytes}
@@ -10,24 +10,20 @@ use Rattle.audit_core.specs.declared.fault.Fault.TheVariants.{Empty, Malformed, 
 use Rattle.audit_core.specs.declared.fault.Flaw.TheVariants.{Agent, Form, NotUtf8, Path, Url}
 use Rattle.audit_core.specs.{Request.is_crawler_name, Request.is_word, Fault.MalformedLine}
 
--- ---- lines and words
-
 abbrev pub is_in : List ℕ → ℕ → Bool
 is_in separators byte = list_any (λ separator. separator == byte) separators
 
--- the parts, with the byte at the start of the first
+-- the byte is at the start of the first part
 abbrev pub with_byte : ℕ → List (List ℕ) → List (List ℕ)
 with_byte byte [] = (byte ∷ []) ∷ []
 with_byte byte (part ∷ parts) = (byte ∷ part) ∷ parts
 
--- the parts of a text, each of which ends before a separator or at the end of the text; after the last
--- separator there is no part if the text ends there
+-- each part ends before a separator or at the end of the text; no part is after the last separator there
 abbrev pub parts : List ℕ → List ℕ → List (List ℕ)
 parts separators [] = []
 parts separators (byte ∷ text) =
     if is_in separators byte then [] ∷ parts separators text else with_byte byte (parts separators text)
 
--- a line ends with LF
 abbrev pub line_separators : List ℕ
 line_separators = codes "\n"
 
@@ -45,16 +41,14 @@ abbrev pub quote : ℕ
 quote = byte "\""
 
 -- the same words, but if one precedes the first quotation mark, what is between this and the next one is a
--- word, too, with its spaces
+-- word, too
 abbrev pub words_with_name : List ℕ → List (List ℕ)
 words_with_name line =
     let first = words (before_byte quote line) in
     let rest = after_byte quote line in
     if length first == 1 then first ++ before_byte quote rest ∷ words (after_byte quote rest) else words line
 
--- ---- entries, of which a line has at most one
-
--- what a line has: an entry, nothing, or something that is wrong
+-- a line has an entry, nothing, or something that is wrong
 abbrev pub LineOf : Type 0 → Type 0
 LineOf X = Result (Option X) MalformedLine
 
@@ -78,7 +72,6 @@ malformed_from entry number [] = []
 malformed_from entry number (line ∷ others) =
     malformed_at (entry number line) ++ malformed_from entry (suc number) others
 
--- the entries, unless there are malformed lines
 abbrev pub unless_malformed : {X : Type 0} → List X → List MalformedLine → Result (List X) (List MalformedLine)
 unless_malformed entries [] = Ok entries
 unless_malformed entries (malformed ∷ others) = Err (malformed ∷ others)
@@ -88,7 +81,7 @@ abbrev pub entries_of : {X : Type 0} → (ℕ → List ℕ → LineOf X) → Lis
     → Result (List X) (List MalformedLine)
 entries_of entry lines = unless_malformed (entries_from entry 1 lines) (malformed_from entry 1 lines)
 
--- the error names all malformed lines of a file with this name, or an allocation failed
+-- the error names all malformed lines of the file with this name, or an allocation failed
 abbrev pub IsLineFault : {X : Type 0} → List ℕ → Result (List X) (List MalformedLine) → Fault → Type 0
 IsLineFault name found (Malformed file malformed) =
     (string_bytes file ≡ name) × (found ≡ Err malformed.items)
@@ -100,16 +93,13 @@ IsEntryFault name entry found (Empty file other) =
     (string_bytes file ≡ name) × (found ≡ Ok []) × (other ≡ entry)
 IsEntryFault name entry found fault = IsLineFault name found fault
 
--- ---- expectations
-
--- whether the crawler must be allowed the URL, or must be denied it, and the number of the line that says so
+-- the URL must be allowed to the crawler, or denied, by the line with this number
 pub record ExpectationValue : Type 0 where
   pub number : ℕ
   pub allowed : Bool
   pub agent : List ℕ
   pub url : List ℕ
 
--- the text starts a comment
 abbrev pub is_comment : List ℕ → Bool
 is_comment [] = false
 is_comment (b ∷ _) = b == byte "#"
@@ -117,25 +107,24 @@ is_comment (b ∷ _) = b == byte "#"
 abbrev pub is_path : List ℕ → Bool
 is_path word = starts_with nat_eq word (codes "/")
 
--- the word is a path, or an http(s) URL that can be parsed
+-- a path, or an http(s) URL that can be parsed
 abbrev pub is_path_or_url : List ℕ → Bool
 is_path_or_url word = is_path word || is_absolute_url word
 
--- the text starts with a path segment `.` or `..`, which a slash or the end of the path follows
+-- a path segment `.` or `..`, which a slash or the end of the path follows
 abbrev pub begins_dot_segment : List ℕ → Bool
 begins_dot_segment text =
     (starts_with nat_eq text (codes "/./") || starts_with nat_eq text (codes "/../"))
     || (bytes_eq text (codes "/.") || bytes_eq text (codes "/.."))
 
--- the word is a path that crawlers ask for in another form: they resolve such segments, and drop a fragment,
--- which begins with `#`; in an http(s) URL this parser does so too
+-- crawlers resolve such segments in a path, and drop a fragment; in an http(s) URL this parser does so too
 abbrev pub is_asked_otherwise : List ℕ → Bool
 is_asked_otherwise word =
     is_path word && (has (byte "#") word || somewhere begins_dot_segment (before_byte (byte "?") word))
 
--- the expectation of a line with these words, whose first is `allow` or `deny`, or what is wrong with the
--- line; what no crawler calls itself or asks for, such as a name with a version or a path without a slash at
--- its start, could be allowed whatever the file says about the crawler or the page that is meant
+-- the first word is `allow` or `deny`; what no crawler calls itself or asks for, such as a name with a
+-- version or a path without a slash at its start, could be allowed whatever the file says about the crawler
+-- or the page that is meant
 abbrev pub expects : ℕ → List ℕ → List ℕ → List ℕ → LineOf ExpectationValue
 expects number word agent url =
     let allowed = bytes_eq word (codes "allow") in
@@ -146,7 +135,7 @@ expects number word agent url =
     else if is_asked_otherwise url then Err (number, Path)
     else Ok (Some (record { number = number; allowed = allowed; agent = agent; url = url }))
 
--- a line with three words is an expectation, any other is malformed
+-- any other line than one with three words is malformed
 abbrev pub three_words : ℕ → List (List ℕ) → LineOf ExpectationValue
 three_words number (word ∷ agent ∷ url ∷ []) = expects number word agent url
 three_words number _ = Err (number, Form)
@@ -161,6 +150,6 @@ words_expect number (word ∷ others) =
 abbrev pub expectation_in : ℕ → List ℕ → LineOf ExpectationValue
 expectation_in number line = words_expect number (words_with_name line)
 
--- the expectations in a text, possibly after a byte order mark, or all its malformed lines
+-- the text may begin with a byte order mark
 abbrev pub expectations_in : List ℕ → Result (List ExpectationValue) (List MalformedLine)
 expectations_in text = entries_of expectation_in (lines (without_start mark text))

@@ -18,8 +18,6 @@ use Rattle.audit_core.specs.{Asked.asked_target, Texts.rejected_front, Texts.rej
 use Rattle.audit_expect.specs.Expect.{ExpectationValue, expectations_in}
 use Rattle.audit_expect.specs.OtherReading.{IsNormalDecision, IsOtherDecision}
 
--- ---- what the robots.txt file says
-
 -- the file is rejected for the crawler, and this is the line of its first overlong rule; or these are the
 -- decisions on the URL: where an empty Disallow is an Allow of `/`, as here; where it is no rule; and where
 -- it is no rule and normal forms are compared
@@ -31,8 +29,8 @@ IsJudgmentOn file agent url (Decided decision other normal) =
     × IsOtherDecision (bodies_read file) rules (asked_target url) other
     × IsNormalDecision (bodies_read file) rules (asked_target url) normal
 
--- which group the vendor of the crawler applies: the one that applies here; or the one with this name, for
--- which this is the judgment, as names are compared here; or none, so everything is allowed
+-- the vendor of the crawler applies the group that applies here; or the one with this name, for which this is
+-- the judgment, as names are compared here; or none, so everything is allowed
 abbrev pub IsAtVendor : List ℕ → List ℕ → List ℕ → AtVendor → Type 0
 IsAtVendor file agent url Same = other_group (lines_read file) agent ≡ None
 IsAtVendor file agent url (Group name judgment) =
@@ -49,7 +47,6 @@ pub record IsChecked (file : List ℕ) (checked : CheckedValue) : Type 0 where
   pub here : IsJudgmentOn file checked.expectation.agent checked.expectation.url checked.judgment
   pub at_vendor : IsAtVendor file checked.expectation.agent checked.expectation.url checked.vendor
 
--- the decision isn't the expected one
 abbrev pub is_unexpected : Bool → Decision → Bool
 is_unexpected allowed decision = if allowed then not decision.allowed else decision.allowed
 
@@ -59,28 +56,22 @@ fails_at allowed (Rejected line) = true
 fails_at allowed (Decided decision other normal) =
     is_unexpected allowed decision || (is_unexpected allowed other || is_unexpected allowed normal)
 
--- this is so of the group that applies here
 abbrev pub fails_here : CheckedValue → Bool
 fails_here checked = fails_at checked.expectation.allowed checked.judgment
 
--- the same of the group that the vendor applies in its place, if it is another one; with none everything is
--- allowed
+-- the same of the group that the vendor applies in its place; with none everything is allowed
 abbrev pub fails_at_vendor : Bool → AtVendor → Bool
 fails_at_vendor allowed Same = false
 fails_at_vendor allowed (Group name judgment) = fails_at allowed judgment
 fails_at_vendor allowed Nobody = not allowed
 
--- an expectation fails for one of these reasons
 abbrev pub fails : CheckedValue → Bool
 fails checked = fails_here checked || fails_at_vendor checked.expectation.allowed checked.vendor
-
--- ---- the report
 
 abbrev pub demand : (allowed : Bool) → Label
 demand true = label (codes " must be allowed ") refl
 demand false = label (codes " must be denied ") refl
 
--- what the expectation is, after the crawler's name
 abbrev pub demand_parts : ExpectationValue → List PartValue
 demand_parts expectation =
     Part (demand expectation.allowed) (Untrusted expectation.url) ∷ only (codes ", but ") refl ∷ []
@@ -152,7 +143,6 @@ failure checked = record {
   message = After checked.expectation.agent (demand_parts checked.expectation ++ reason_parts checked);
 }
 
--- those that fail, in order
 abbrev pub failures : List CheckedValue → List FindingValue
 failures checked = map (λ one. found_value (failure one)) (filter fails checked)
 

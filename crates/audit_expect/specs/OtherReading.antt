@@ -9,15 +9,15 @@ use Rattle.percent_encoding.specs.{Percent.percent_encode, declared.ascii_set.As
 use Rattle.robots_warnings.specs.declared.spellings.Spelling.{TheVariants.Standard}
 use Rattle.audit_expect.specs.declared.normal_form.TheConstants.{IN_RULES, IN_TARGETS}
 
--- ---- The other reading of an empty Disallow. Here it is an Allow of `/`. For RFC 9309 and Google it is no
--- rule, and only ends the list of user-agent lines above it, as here.
+-- ---- An empty Disallow is an Allow of `/` here. For RFC 9309 and Google it is no rule, and only ends the
+-- list of user-agent lines above it, as here.
 
--- `others` are those of the rules whose line isn't an empty Disallow
+-- `others` are the rules whose line isn't an empty Disallow
 pub record AreOthers (bodies : List (List ℕ)) (rules others : List PlacedRule) : Type 0 where
   pub each : (placed : PlacedRule)
       → Contains others placed ↔ (Contains rules placed × ¬ IsEmptyDisallow bodies placed.line)
 
--- the decision on the match target where an empty Disallow is no rule: that of the other rules
+-- the decision of the other rules, where an empty Disallow is no rule
 pub record IsOtherDecision (bodies : List (List ℕ)) (rules : List PlacedRule) (target : List ℕ)
     (decision : Decision) : Type 0 where
   pub others : List PlacedRule
@@ -27,24 +27,23 @@ pub record IsOtherDecision (bodies : List (List ℕ)) (rules : List PlacedRule) 
 -- ---- The reading of RFC 9309, which compares rules and URLs in their normal forms, and for which an empty
 -- Disallow is no rule. As by RFC 3986, a reserved character and its escape differ.
 
--- the text without escapes of bytes that need none, with the others in uppercase, and with each byte of the set
+-- without escapes of bytes that need none, with the others in uppercase, and with each byte of the set
 -- escaped
 abbrev pub normal_text : AsciiSet → List ℕ → List ℕ
 normal_text set text = percent_encode set (spelled Standard text)
 
--- the match target of a URL: nothing in it is special, so that stars and dollars are escaped
+-- nothing in a match target is special, so stars and dollars are escaped
 abbrev pub normal_target : List ℕ → List ℕ
 normal_target target = normal_text IN_TARGETS target
 
--- the pattern of a rule: a star and a dollar at the end are special
+-- a star and a dollar at the end are special
 abbrev pub normal_pattern : List ℕ → List ℕ
 normal_pattern pattern =
     if ends_with nat_eq pattern (codes "$")
     then normal_text IN_RULES (take (length pattern - 1) pattern) ++ codes "$"
     else normal_text IN_RULES pattern
 
--- the rule with this pattern; a rule whose normal pattern is longer than all patterns with a dollar that this
--- library accepts stays as it is
+-- unchanged, if the normal pattern is longer than all patterns with a dollar that this library accepts
 abbrev pub normal_rule : PlacedRule → PlacedRule
 normal_rule placed =
     let normal = normal_pattern placed.rule.0 in

@@ -11,29 +11,27 @@ use Rattle.audit_core.specs.declared.fault.Flaw.TheVariants.{Comma, Name, NotUtf
 use Rattle.robots_warnings.specs.Facts.{mark, without_start}
 use Rattle.robots_warnings.specs.{Rules.has, Rules.somewhere, Urls.begins_as_url}
 
--- the line without ASCII white space at its start
 abbrev pub without_front : List ℕ → List ℕ
 without_front line = drop (prefix_len is_ascii_whitespace line) line
 
--- the line without ASCII white space at its end
 abbrev pub without_back : List ℕ → List ℕ
 without_back line = take (length line - suffix_len is_ascii_whitespace line) line
 
--- the line without ASCII white space (space, tab, CR, form feed) at its start and end
+-- without ASCII white space (space, tab, CR, form feed) at the start and end
 abbrev pub trimmed : List ℕ → List ℕ
 trimmed line = without_back (without_front line)
 
--- the text starts with white space of ASCII, or with a no-break space in UTF-8
+-- white space of ASCII, or a no-break space in UTF-8
 abbrev pub begins_space : List ℕ → Bool
 begins_space text =
     is_ascii_whitespace (slice_index text 0) || (slice_index text 0 == 0xC2 && slice_index text 1 == 0xA0)
 
--- the text starts with a comma, and then with `http://` or `https://`
+-- a comma, and then `http://` or `https://`
 abbrev pub begins_next_url : List ℕ → Bool
 begins_next_url text = slice_index text 0 == byte "," && begins_as_url (drop 1 text)
 
--- what is wrong with it: it has what URLs only have escaped and what several of them, a comment or a tag has;
--- or it is neither a path nor an http(s) URL that can be parsed
+-- the URL has what URLs only have escaped and what several of them, a comment or a tag has; or it is neither
+-- a path nor an http(s) URL that can be parsed
 abbrev pub url_flaw : List ℕ → Option Flaw
 url_flaw url =
     if has (byte "<") url || has (byte ">") url then Some Tag
@@ -45,8 +43,8 @@ abbrev pub unless_flawed : ℕ → List ℕ → Option Flaw → LineOf (List ℕ
 unless_flawed number url None = Ok (Some url)
 unless_flawed number url (Some flaw) = Err (number, flaw)
 
--- the URL or path of the line with this number, if the line is neither blank nor a comment, which starts with
--- `#` as no URL does; or that the line isn't UTF-8, or what is wrong with the URL
+-- if the line is neither blank nor a comment, which starts with `#` as no URL does, its URL or path, or what
+-- is wrong
 unfoldable pub url_in : ℕ → List ℕ → LineOf (List ℕ)
 url_in number line =
     if is_comment (trimmed line) then Ok None
@@ -54,24 +52,22 @@ url_in number line =
     else if not (is_word (trimmed line)) then Ok None
     else unless_flawed number (trimmed line) (url_flaw (trimmed line))
 
--- the URLs in a text, possibly after a byte order mark, or all its malformed lines
+-- the text may begin with a byte order mark
 abbrev pub urls_in : List ℕ → Result (List (List ℕ)) (List MalformedLine)
 urls_in text = entries_of url_in (lines (without_start mark text))
 
--- the request has these URLs as well, after its own
+-- the request has these URLs after its own
 abbrev pub with_urls : List (List ℕ) → RequestValue → RequestValue
 with_urls urls requested = record requested { urls = requested.urls ++ urls }
 
--- the request has the URLs in a text as well, of which there are some
+-- and the text has some
 pub record HasUrlsIn (text : List ℕ) (requested extended : RequestValue) : Type 0 where
   pub urls : List (List ℕ)
   pub listed : urls_in text ≡ Ok urls
   pub some : (length urls == 0) ≡ false
   pub extended_is : extended ≡ with_urls urls requested
 
--- ---- URLs in arguments
-
--- what is wrong with it: it may be the name of a crawler, which is no URL
+-- the argument may be the name of a crawler
 abbrev pub argument_flaw : List ℕ → Option Flaw
 argument_flaw text = if is_crawler_name text then Some Name else url_flaw text
 

@@ -19,18 +19,18 @@ use texting_robots::{Robot, Site};
 /// What a file says about a URL for a crawler.
 #[derive(Drop)]
 pub(crate) enum Judgment {
-    /// The file is rejected for the crawler because of the rule in this line.
+    /// The rule in this line.
     Rejected(usize),
-    /// The decision on the URL, the one where an empty Disallow is no rule, and the same of normal forms.
+    /// The decision, the one where an empty Disallow is no rule, and the same of normal forms.
     Decided(Decision, Decision, Decision),
 }
 
 /// Which group the vendor of a crawler applies.
 #[derive(Drop)]
 pub(crate) enum AtVendor<'a> {
-    /// The one that applies here.
+    /// That which applies here.
     Same,
-    /// The group with this name, and the file says this about it.
+    /// The group with this name, and what the file says about it.
     Group(&'a str, Judgment),
     /// No group, so everything is allowed.
     Nobody,
@@ -44,7 +44,6 @@ pub(crate) struct Checked<'a> {
     pub(crate) vendor: AtVendor<'a>,
 }
 
-/// The decisions of a file on a URL for a crawler with this robot, where `marks` has the empty Disallows.
 fn decided_on(
     alloc: Global,
     agent: &str,
@@ -66,7 +65,7 @@ fn decided_on(
     Ok(Judgment::Decided(decision, other, normal))
 }
 
-/// What a file says about a URL for a crawler, where `reading` is how it is read for the crawler.
+/// `reading` is how the file is read for the crawler.
 fn judgment_on(
     alloc: Global,
     agent: &str,
@@ -88,7 +87,6 @@ fn judgment_on(
     }
 }
 
-/// What the documentation of a crawler's vendor changes for a URL.
 fn at_vendor<'a>(
     alloc: Global,
     agent: &str,
@@ -113,7 +111,7 @@ fn at_vendor<'a>(
     Ok(AtVendor::Group(group, judgment))
 }
 
-/// What the file says about an expectation, where `reading` is how it is read for the crawler.
+/// The same about an expectation.
 pub(crate) fn checked_on<'a>(
     alloc: Global,
     expectation: &Expectation<'a>,
@@ -139,7 +137,6 @@ pub(crate) fn checked_on<'a>(
     })
 }
 
-/// Whether the decision isn't the expected one.
 pub(crate) fn is_unexpected(allowed: bool, decision: &Decision) -> bool
     ensures { result ≡ is_unexpected allowed decision.now }
 {
@@ -150,7 +147,6 @@ pub(crate) fn is_unexpected(allowed: bool, decision: &Decision) -> bool
     }
 }
 
-/// Whether the file is rejected for the crawler, or the decision isn't the expected one in one of the readings.
 fn fails_at(allowed: bool, judgment: &Judgment) -> bool
     ensures { result ≡ fails_at allowed judgment.now }
 {
@@ -164,7 +160,6 @@ fn fails_at(allowed: bool, judgment: &Judgment) -> bool
     }
 }
 
-/// Whether the same is so of the group that the vendor applies, if it is another one.
 fn fails_at_vendor(allowed: bool, vendor: &AtVendor<'_>) -> bool
     ensures { result ≡ fails_at_vendor allowed vendor.now }
 {
@@ -175,14 +170,12 @@ fn fails_at_vendor(allowed: bool, vendor: &AtVendor<'_>) -> bool
     }
 }
 
-/// Whether an expectation fails because of the group that applies here.
 pub(crate) fn fails_here(checked: &Checked<'_>) -> bool
     ensures { result ≡ fails_here (checked_value checked.now) }
 {
     fails_at(checked.expectation.allowed, &checked.judgment)
 }
 
-/// Whether an expectation fails.
 pub(crate) fn fails(checked: &Checked<'_>) -> bool
     ensures { result ≡ fails (checked_value checked.now) }
 {

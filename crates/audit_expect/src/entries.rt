@@ -5,10 +5,9 @@ ghost use Rattle.audit_expect.specs.Internal.Expectations.{AreMalformed, IsWitho
 use audit_core::fault::{Entry, Fault, MalformedLine};
 use std::alloc::{AllocError, Global};
 
-/// What a line has: an entry, nothing, or something that is wrong.
+/// An entry, nothing, or something that is wrong.
 pub(crate) type Line<T> = Result<Option<T>, MalformedLine>;
 
-/// Fails if the file with this name has malformed lines.
 pub(crate) fn check_lines(
     alloc: Global,
     name: &str,
@@ -26,7 +25,7 @@ pub(crate) fn check_lines(
     }
 }
 
-/// The error for a file without such entries; `Fault::Memory` if an allocation fails.
+/// `Fault::Memory` if an allocation fails.
 pub(crate) fn without_entries(alloc: Global, name: &str, entry: Entry) -> Fault
     ensures { IsWithoutEntries name.now entry result }
 {

@@ -20,22 +20,20 @@ use std::alloc::{AllocError, Global};
 /// What has to be allowed or denied.
 #[derive(Clone, Copy)]
 pub(crate) struct Expectation<'a> {
-    /// The number of the line that says so.
+    /// Of the line that says so.
     pub(crate) number: usize,
-    /// Whether the crawler must be allowed the URL; otherwise it must be denied it.
+    /// Otherwise the URL must be denied to the crawler.
     pub(crate) allowed: bool,
     pub(crate) agent: &'a str,
     pub(crate) url: &'a str,
 }
 
-/// Whether the byte is one of the separators.
 fn is_in(separators: &[u8], byte: u8) -> bool
     ensures { result ≡ is_in separators.now byte }
 {
     separators.contains(&byte)
 }
 
-/// The index of the first separator.
 fn find_separator(separators: &[u8], text: &[u8]) -> Option<usize>
     ensures { MatchOption result (HasNone separators.now text.now (length text.now))
         (IsFirstSeparator separators.now text.now) }
@@ -48,7 +46,6 @@ fn find_separator(separators: &[u8], text: &[u8]) -> Option<usize>
     None
 }
 
-/// The first part of a text, and what follows its separator.
 pub(crate) fn cut<'a>(separators: &[u8], text: &'a [u8]) -> (&'a [u8], &'a [u8])
     requires { text.now ≢ [] }
     ensures parts { parts separators.now text.now ≡ result.0.now ∷ parts separators.now result.1.now }
@@ -60,7 +57,6 @@ pub(crate) fn cut<'a>(separators: &[u8], text: &'a [u8]) -> (&'a [u8], &'a [u8])
     }
 }
 
-/// Appends a word, if it isn't empty.
 fn push_word<'a>(found: &mut Vec<&'a [u8]>, word: &'a [u8]) -> Result<(), AllocError>
     ensures { OnOk result (map (λ word. word.now) found.new.items ≡ map (λ word. word.now) found.old.items
         ++ (if is_word word.entry.now then word.entry.now ∷ [] else [])) }
@@ -71,7 +67,6 @@ fn push_word<'a>(found: &mut Vec<&'a [u8]>, word: &'a [u8]) -> Result<(), AllocE
     Ok(())
 }
 
-/// Appends the words of a line.
 fn push_words<'a>(found: &mut Vec<&'a [u8]>, line: &'a [u8]) -> Result<(), AllocError>
     ensures { OnOk result (map (λ word. word.now) found.new.items ≡ map (λ word. word.now) found.old.items
         ++ words line.entry.now) }
@@ -85,8 +80,7 @@ fn push_words<'a>(found: &mut Vec<&'a [u8]>, line: &'a [u8]) -> Result<(), Alloc
     Ok(())
 }
 
-/// The words of a line. If one precedes the first quotation mark, what is between this and the next one is a word,
-/// too.
+/// If a word precedes the first quotation mark, what is between this and the next one is a word, too.
 fn words<'a>(alloc: Global, line: &'a [u8]) -> Result<Vec<&'a [u8]>, AllocError>
     ensures { IfOk result (λ found. map (λ word. word.now) found.items ≡ words_with_name line.now) }
 {
@@ -103,7 +97,6 @@ fn words<'a>(alloc: Global, line: &'a [u8]) -> Result<Vec<&'a [u8]>, AllocError>
     Ok(found)
 }
 
-/// Whether the text starts a comment.
 pub(crate) fn is_comment(text: &[u8]) -> bool
     ensures { result ≡ is_comment text.now }
 {
@@ -119,7 +112,6 @@ fn is_path(word: &[u8]) -> bool
     word.starts_with(b"/")
 }
 
-/// Whether the word is a path, or an http(s) URL that can be parsed.
 pub(crate) fn is_path_or_url(alloc: Global, word: &[u8]) -> Result<bool, AllocError>
     ensures { IfOk result (λ answer. answer ≡ is_path_or_url word.now) }
 {
@@ -129,7 +121,6 @@ pub(crate) fn is_path_or_url(alloc: Global, word: &[u8]) -> Result<bool, AllocEr
     is_absolute_url(alloc, word)
 }
 
-/// Whether the text starts with a path segment `.` or `..`, which a slash or the end of the path follows.
 fn begins_dot_segment(text: &[u8]) -> bool
     ensures { result ≡ begins_dot_segment text.now }
 {
@@ -137,15 +128,12 @@ fn begins_dot_segment(text: &[u8]) -> bool
         || (text == b"/.".as_slice() || text == b"/..".as_slice())
 }
 
-/// Whether the word is a path that crawlers ask for in another form: without such segments, and without what begins
-/// with `#`.
 fn is_asked_otherwise(word: &[u8]) -> bool
     ensures { result ≡ is_asked_otherwise word.now }
 {
     is_path(word) && (has(b'#', word) || somewhere(before_byte(b'?', word), begins_dot_segment))
 }
 
-/// The expectation of a line with these three words.
 fn expects<'a>(
     alloc: Global,
     number: usize,
@@ -179,7 +167,6 @@ fn expects<'a>(
     })))
 }
 
-/// What the line with this number has.
 fn expectation_in<'a>(
     alloc: Global,
     number: usize,
@@ -200,7 +187,6 @@ fn expectation_in<'a>(
     expects(alloc, number, words[0], words[1], words[2])
 }
 
-/// Appends what a line has.
 fn push_expectation<'a>(
     found: &mut Vec<Expectation<'a>>,
     malformed: &mut Vec<MalformedLine>,
@@ -218,7 +204,6 @@ fn push_expectation<'a>(
     }
 }
 
-/// The expectations in the lines of a text.
 fn line_expectations<'a>(
     alloc: Global,
     name: &str,
@@ -243,11 +228,7 @@ fn line_expectations<'a>(
     Ok(found)
 }
 
-/// The expectations in the text of a file with this name, possibly after a byte order mark.
-///
-/// # Errors
-///
-/// `Fault::Malformed` for all malformed lines, and `Fault::Memory` if an allocation fails.
+/// The text may begin with a byte order mark.
 pub(crate) fn expectations_in<'a>(
     alloc: Global,
     name: &str,

@@ -30,14 +30,13 @@ use std::alloc::{AllocError, Global};
 use texting_robots::Site;
 use texting_robots::robot::Decision;
 
-/// A crawler, and how the file is read for it.
 #[derive(Drop)]
 struct AgentReading<'a> {
     agent: &'a str,
     reading: Reading,
 }
 
-/// How the file is read for this crawler. It isn't parsed again if the crawler is the one before.
+/// The file isn't parsed again if the crawler is the one before.
 fn reading_for<'a>(
     alloc: Global,
     before: AgentReading<'a>,
@@ -57,7 +56,6 @@ fn reading_for<'a>(
     Ok(AgentReading { agent, reading })
 }
 
-/// Whether a URL must be allowed or denied, with a space on both sides.
 fn demand(allowed: bool) -> &'static str
     ensures { result.now ≡ (demand allowed).text }
 {
@@ -68,7 +66,6 @@ fn demand(allowed: bool) -> &'static str
     }
 }
 
-/// The crawler, and what is expected.
 fn demand_parts<'a>(expectation: &Expectation<'a>) -> [Part<'a>; 3]
     ensures { raw_line result ≡ sanitized (expectation_value expectation.now).agent
         ++ parts_text (demand_parts (expectation_value expectation.now)) }
@@ -81,7 +78,6 @@ fn demand_parts<'a>(expectation: &Expectation<'a>) -> [Part<'a>; 3]
     ]
 }
 
-/// Why a URL is allowed that no line decides.
 fn unmatched(alloc: Global, url: &str) -> Result<&'static str, Fault>
     ensures ok { IfOk result (λ text. text.now ≡ part_text (unmatched (bytes_eq (asked_target url.now) robots_file))) }
     ensures fault { IfErr result (λ fault. fault ≡ Fault.Memory) }
@@ -94,7 +90,6 @@ fn unmatched(alloc: Global, url: &str) -> Result<&'static str, Fault>
     }
 }
 
-/// Appends why a URL is allowed or denied, after these words.
 fn push_decision(
     alloc: Global,
     text: &mut String,
@@ -122,7 +117,6 @@ fn push_decision(
     Ok(())
 }
 
-/// Appends which decision isn't the expected one.
 fn push_decisions(
     alloc: Global,
     text: &mut String,
@@ -147,7 +141,6 @@ fn push_decisions(
     }
 }
 
-/// That the file is rejected.
 fn rejected_parts<'a>(agent: &'a str, line: usize) -> [Part<'a>; 2]
     ensures { raw_line result ≡ parts_text (rejected_parts agent.entry.now line) }
 {
@@ -160,7 +153,6 @@ fn rejected_parts<'a>(agent: &'a str, line: usize) -> [Part<'a>; 2]
     ]
 }
 
-/// Appends what the file says that isn't as expected.
 fn push_judgment(
     alloc: Global,
     text: &mut String,
@@ -181,7 +173,6 @@ fn push_judgment(
     }
 }
 
-/// That the vendor applies the group with this name.
 fn group_parts<'a>(name: &'a str) -> [Part<'a>; 2]
     ensures { raw_line result ≡ parts_text (group_parts name.entry.now) }
 {
@@ -194,7 +185,6 @@ fn group_parts<'a>(name: &'a str) -> [Part<'a>; 2]
     ]
 }
 
-/// Appends that the vendor applies the group with this name, and what it says.
 fn push_group(
     alloc: Global,
     text: &mut String,
@@ -211,14 +201,12 @@ fn push_group(
     push_judgment(alloc, text, name, url, allowed, judgment)
 }
 
-/// That the vendor applies no group.
 fn nobody_parts() -> [Part<'static>; 1]
     ensures { raw_line result ≡ parts_text nobody_parts }
 {
     [Part("its vendor doesn't apply the group * to it", Value::Nothing)]
 }
 
-/// Appends which group the vendor applies, and what it says.
 fn push_vendor(
     alloc: Global,
     text: &mut String,
@@ -237,7 +225,6 @@ fn push_vendor(
     }
 }
 
-/// Appends why an expectation fails.
 fn push_reason(alloc: Global, text: &mut String, checked: &Checked<'_>) -> Result<(), Fault>
     ensures ok { OnOk result (string_bytes text.new ≡ string_bytes text.old
         ++ parts_text (reason_parts (checked_value checked.now))) }
@@ -252,7 +239,6 @@ fn push_reason(alloc: Global, text: &mut String, checked: &Checked<'_>) -> Resul
     }
 }
 
-/// An expectation that fails.
 fn failure(alloc: Global, checked: &Checked<'_>) -> Result<Finding, Fault>
     ensures ok { IfOk result (λ found.
         finding_value found ≡ found_value (failure (checked_value checked.now))) }
@@ -269,7 +255,6 @@ fn failure(alloc: Global, checked: &Checked<'_>) -> Result<Finding, Fault>
     })
 }
 
-/// Adds an expectation if it fails.
 fn add_if_failing(alloc: Global, found: &mut Findings, checked: &Checked<'_>) -> Result<(), Fault>
     ensures ok { OnOk result (map finding_value found.new.items ≡ map finding_value found.old.items
         ++ failures (checked_value checked.now ∷ [])) }
@@ -281,7 +266,6 @@ fn add_if_failing(alloc: Global, found: &mut Findings, checked: &Checked<'_>) ->
     Ok(found.push(failure(alloc, checked)?)?)
 }
 
-/// The expectations that fail.
 fn failures(alloc: Global, expectations: &[Expectation<'_>], file: &[u8]) -> Result<Findings, Fault>
     ensures ok { IfOk result (λ found. AreFailuresOn file.now (map expectation_value expectations.now)
         (map finding_value found.items)) }
@@ -303,7 +287,6 @@ fn failures(alloc: Global, expectations: &[Expectation<'_>], file: &[u8]) -> Res
     Ok(found)
 }
 
-/// How many expectations hold.
 fn holding(number: usize) -> [Part<'static>; 2]
     ensures { raw_line result ≡ line_text (holding number) }
 {
@@ -319,7 +302,6 @@ fn holding(number: usize) -> [Part<'static>; 2]
     ]
 }
 
-/// The place of a finding after the name of its file.
 fn place(line: Option<usize>) -> Part<'static>
     ensures { raw_text result ≡ place line }
 {
@@ -329,7 +311,6 @@ fn place(line: Option<usize>) -> Part<'static>
     }
 }
 
-/// Appends a finding in the file with this name as a line.
 fn push_placed(text: &mut String, name: &str, finding: &Finding) -> Result<(), AllocError>
     ensures { OnOk result (string_bytes text.new
         ≡ string_bytes text.old ++ ended (placed name.now (finding_value finding.now) ∷ [])) }
@@ -343,7 +324,6 @@ fn push_placed(text: &mut String, name: &str, finding: &Finding) -> Result<(), A
     text.push('\n')
 }
 
-/// The report as text on these expectations that fail. `number` is that of all expectations.
 fn result_text(
     alloc: Global,
     name: &str,
@@ -363,7 +343,7 @@ fn result_text(
     Ok(text)
 }
 
-/// The expectations in this text, of a file with this name. Fails if there are none.
+/// Fails if there are no expectations.
 fn parsed<'a>(alloc: Global, name: &str, text: &'a [u8]) -> Result<Vec<Expectation<'a>>, Fault>
     ensures ok { IfOk result (λ found. specified_in text.now ≡ Ok (map expectation_value found.items)) }
     ensures some { IfOk result (λ found. (length found.items == 0) ≡ false) }
@@ -376,14 +356,14 @@ fn parsed<'a>(alloc: Global, name: &str, text: &'a [u8]) -> Result<Vec<Expectati
     Ok(found)
 }
 
-/// Checks the expectations in a text, of a file with this name, against a robots.txt file. The report has a line for
-/// each that fails, or how many hold if none fails; the findings are those that fail.
+/// Checks the expectations in a text, of a file with this name, against a robots.txt file. The report has a
+/// line for each that fails, or how many hold if none fails; the findings are those that fail.
 ///
 /// # Errors
 ///
-/// `Fault::Malformed` for all malformed lines of the text, `Fault::Empty` if there are no expectations in it, and
-/// `Fault::Memory` if an allocation failed or a URL is too long for `url`. An expectation fails if the file is
-/// rejected for its crawler, which isn't an error.
+/// `Fault::Malformed` for all malformed lines of the text, `Fault::Empty` if there are no expectations in it,
+/// and `Fault::Memory` if an allocation failed or a URL is too long for `url`. An expectation fails if the
+/// file is rejected for its crawler, which isn't an error.
 pub fn check(
     alloc: Global,
     name: &str,

@@ -7,8 +7,9 @@ use percent_encoding::{AsciiSet, NON_ALPHANUMERIC, ascii_set, percent_encode};
 use robots_warnings::spellings::{Spelling, spelled};
 use std::alloc::{AllocError, Global};
 
-/// The ASCII bytes that are escaped in a match target: all but unreserved and reserved ones and `%`. Of the reserved ones,
-/// `*` and `$` are escaped, as they would be special in a rule, and `#`, which isn't part of a path or a query.
+/// All ASCII bytes but unreserved and reserved ones and `%` are escaped in a match target. Of the reserved
+/// ones, `*` and `$` are escaped, as they would be special in a rule, and `#`, which isn't part of a path or
+/// a query.
 const IN_TARGETS: AsciiSet = ascii_set!(
     NON_ALPHANUMERIC
         .remove(b'-')
@@ -33,10 +34,9 @@ const IN_TARGETS: AsciiSet = ascii_set!(
         .remove(b'=')
 );
 
-/// The same of a rule before a `$` at its end: a star is special.
+/// Before a `$` at the end of a rule: a star is special.
 const IN_RULES: AsciiSet = ascii_set!(IN_TARGETS.remove(b'*'));
 
-/// The text in its standard spelling, with each byte of the set escaped.
 fn normal_text(alloc: Global, set: AsciiSet, text: &[u8]) -> Result<String, AllocError>
     ensures { IfOk result (λ normal. string_bytes normal ≡ normal_text set text.now) }
 {
@@ -45,14 +45,12 @@ fn normal_text(alloc: Global, set: AsciiSet, text: &[u8]) -> Result<String, Allo
     Ok(normal)
 }
 
-/// The normal form of a match target.
 pub(crate) fn normal_target(alloc: Global, target: &str) -> Result<String, AllocError>
     ensures { IfOk result (λ normal. string_bytes normal ≡ normal_target target.now) }
 {
     normal_text(alloc, IN_TARGETS, target.as_bytes())
 }
 
-/// The normal form of a rule's pattern.
 fn normal_pattern(alloc: Global, pattern: &[u8]) -> Result<String, AllocError>
     ensures { IfOk result (λ normal. string_bytes normal ≡ normal_pattern pattern.now) }
 {
@@ -64,7 +62,7 @@ fn normal_pattern(alloc: Global, pattern: &[u8]) -> Result<String, AllocError>
     Ok(normal)
 }
 
-/// A rule in its normal form; one that is too long then stays as it is.
+/// A rule that is too long then stays as it is.
 fn normal_rule(alloc: Global, rule: &Rule) -> Result<Rule, AllocError>
     ensures { IfOk result (λ normal. normal ≡ normal_rule rule.now) }
 {
@@ -81,7 +79,6 @@ fn normal_rule(alloc: Global, rule: &Rule) -> Result<Rule, AllocError>
     })
 }
 
-/// The rules in their normal forms.
 pub(crate) fn normal_rules(alloc: Global, rules: &[Rule]) -> Result<Vec<Rule>, AllocError>
     ensures { IfOk result (λ normal. normal.items ≡ map normal_rule rules.now) }
 {

@@ -1,5 +1,5 @@
-//! Other readings: of an empty Disallow, which here is an Allow of `/`, and for RFC 9309 and Google no rule; and of
-//! characters that RFC 9309 compares in their normal forms.
+//! Other readings: of an empty Disallow, which here is an Allow of `/`, and for RFC 9309 and Google no rule;
+//! and of characters that RFC 9309 compares in their normal forms.
 ghost use Rattle.std.specs.Prelude.{◌≡◌, ◌↔◌, All, Decides, IfErr, IfOk, IsTrue, false, option_map};
 ghost use Rattle.std.specs.Option.{option_map_or};
 ghost use Rattle.texting_robots.specs.Callers.{IsBetter, IsOverlong, IsRejected, Matches, PlacedRule, file_bodies, file_lines, placed_rules};
@@ -20,9 +20,6 @@ use texting_robots::parser::{file_bodies, file_lines};
 use texting_robots::robot::Decision;
 use texting_robots::{Error, Site};
 
-// ---- empty Disallows
-
-/// For each number of a line, whether this line of the file is an empty Disallow.
 pub(crate) fn empty_disallows(alloc: Global, site: &Site) -> Result<Vec<bool>, AllocError>
     ensures { IfOk result (λ marks. marks.items ≡ marks_of (file_bodies site.now)) }
 {
@@ -38,7 +35,6 @@ pub(crate) fn empty_disallows(alloc: Global, site: &Site) -> Result<Vec<bool>, A
     Ok(marks)
 }
 
-/// Whether the line with this number is marked.
 fn is_marked(marks: &[bool], number: usize) -> bool
     ensures { result ≡ is_marked marks.now number }
 {
@@ -48,7 +44,6 @@ fn is_marked(marks: &[bool], number: usize) -> bool
     }
 }
 
-/// The rules for a crawler that aren't those of empty Disallows.
 fn other_rules(
     alloc: Global,
     site: &Site,
@@ -64,9 +59,6 @@ fn other_rules(
     Ok(rules)
 }
 
-// ---- the rule that decides
-
-/// Whether the pattern of a rule matches.
 fn is_match(alloc: Global, rule: &Rule, target: &str) -> Result<bool, Fault>
     requires { ¬ IsOverlong rule.now.rule.0 }
     ensures ok { IfOk result (λ answer. IsTrue answer ↔ Matches rule.now.rule.0 target.now) }
@@ -79,7 +71,7 @@ fn is_match(alloc: Global, rule: &Rule, target: &str) -> Result<bool, Fault>
     }
 }
 
-/// Whether the first rule takes precedence: it is longer, or as long, and an Allow for a Disallow, or in a line above.
+/// Longer, or as long, and an Allow for a Disallow, or in a line above.
 fn is_better(one: &Rule, other: &Rule) -> bool
     ensures { Decides result (IsBetter one.now other.now) }
 {
@@ -92,7 +84,6 @@ fn is_better(one: &Rule, other: &Rule) -> bool
     one.line < other.line
 }
 
-/// Of a rule that matches and the one found before, the one that takes precedence.
 fn preferred<'r>(rule: &'r Rule, before: Option<&'r Rule>) -> &'r Rule
     ensures { IsPreferred rule.entry.now (option_map (λ rule. rule.now) before.entry) result.now }
 {
@@ -102,7 +93,6 @@ fn preferred<'r>(rule: &'r Rule, before: Option<&'r Rule>) -> &'r Rule
     }
 }
 
-/// Of the rules that match, the one that takes precedence over all others.
 fn deciding_rule<'r>(
     alloc: Global,
     rules: &'r [Rule],
@@ -121,7 +111,6 @@ fn deciding_rule<'r>(
     Ok(best)
 }
 
-/// The decision by this rule, or by none.
 fn decision_with(rule: Option<&Rule>) -> Decision
     ensures { result ≡ decision_with (option_map (λ rule. rule.now) rule.entry) }
 {
@@ -137,7 +126,6 @@ fn decision_with(rule: Option<&Rule>) -> Decision
     }
 }
 
-/// The decision of these rules on a match target.
 fn decision_of(alloc: Global, rules: &[Rule], target: &str) -> Result<Decision, Fault>
     requires { All (λ (placed : PlacedRule). ¬ IsOverlong placed.rule.0) rules.now }
     ensures ok { IfOk result (IsDecisionOn rules.now target.now) }
@@ -150,7 +138,6 @@ fn decision_of(alloc: Global, rules: &[Rule], target: &str) -> Result<Decision, 
     Ok(decision_with(rule))
 }
 
-/// Whether the line that decides is marked.
 fn is_by_marked(decision: &Decision, marks: &[bool]) -> bool
     ensures { result ≡ option_map_or (is_marked marks.now) decision.now.line false }
 {
@@ -160,8 +147,8 @@ fn is_by_marked(decision: &Decision, marks: &[bool]) -> bool
     }
 }
 
-/// The decision on a URL where an empty Disallow is no rule. `decision` is that where it is an Allow of `/`; only if
-/// such a line decides there, the other one may differ.
+/// An empty Disallow is no rule. `decision` is that where it is an Allow of `/`; only if such a line decides
+/// there, the other one may differ.
 pub(crate) fn other_decision(
     alloc: Global,
     agent: &str,
@@ -186,7 +173,7 @@ pub(crate) fn other_decision(
     Ok(other)
 }
 
-/// The decision on a URL where an empty Disallow is no rule, and normal forms are compared.
+/// An empty Disallow is no rule, and normal forms are compared.
 pub(crate) fn normal_decision(
     alloc: Global,
     agent: &str,

@@ -18,14 +18,12 @@ use robots_warnings::rules::{has, somewhere};
 use robots_warnings::urls::{as_text, begins_as_url};
 use std::alloc::{AllocError, Global};
 
-/// The line without white space at its start and end.
 fn trimmed<'a>(line: &'a [u8]) -> &'a [u8]
     ensures { result.now ≡ trimmed line.now }
 {
     line.trim_ascii()
 }
 
-/// Whether the text starts with white space of ASCII, or with a no-break space.
 fn begins_space(text: &[u8]) -> bool
     ensures { result ≡ begins_space text.now }
 {
@@ -36,7 +34,6 @@ fn begins_space(text: &[u8]) -> bool
     }
 }
 
-/// Whether the text starts with a comma, and then as a URL does.
 fn begins_next_url(text: &[u8]) -> bool
     ensures { result ≡ begins_next_url text.now }
 {
@@ -46,21 +43,18 @@ fn begins_next_url(text: &[u8]) -> bool
     }
 }
 
-/// Whether the text has such white space.
 fn has_space(text: &[u8]) -> bool
     ensures { result ≡ somewhere begins_space text.now }
 {
     somewhere(text, begins_space)
 }
 
-/// Whether the text has such a comma.
 fn has_next_url(text: &[u8]) -> bool
     ensures { result ≡ somewhere begins_next_url text.now }
 {
     somewhere(text, begins_next_url)
 }
 
-/// What is wrong with a URL or path, if anything is.
 fn url_flaw(alloc: Global, url: &[u8]) -> Result<Option<Flaw>, AllocError>
     ensures { IfOk result (λ flaw. flaw ≡ url_flaw url.now) }
 {
@@ -77,7 +71,6 @@ fn url_flaw(alloc: Global, url: &[u8]) -> Result<Option<Flaw>, AllocError>
     }
 }
 
-/// The URL or path of the line with this number, if the line is neither blank nor a comment.
 #[tactic(auto, unfolding(crate::specs::UrlList::url_in))]
 fn url_in<'a>(alloc: Global, number: usize, line: &'a [u8]) -> Result<Line<&'a str>, AllocError>
     ensures { IfOk result (λ found. line_by (λ url. url.now) found ≡ url_in number line.now) }
@@ -98,7 +91,6 @@ fn url_in<'a>(alloc: Global, number: usize, line: &'a [u8]) -> Result<Line<&'a s
     }
 }
 
-/// Appends what a line has.
 fn push_url<'a>(
     found: &mut Vec<&'a str>,
     malformed: &mut Vec<MalformedLine>,
@@ -116,7 +108,6 @@ fn push_url<'a>(
     }
 }
 
-/// The URLs in the lines of a text.
 fn line_urls<'a>(alloc: Global, name: &str, text: &'a [u8]) -> Result<Vec<&'a str>, Fault>
     ensures ok { IfOk result (λ found. entries_of url_in (lines text.now) ≡ Ok (map (λ url. url.now) found.items)) }
     ensures fault { IfErr result (IsLineFault name.now (entries_of url_in (lines text.now))) }
@@ -136,7 +127,7 @@ fn line_urls<'a>(alloc: Global, name: &str, text: &'a [u8]) -> Result<Vec<&'a st
     Ok(found)
 }
 
-/// The URLs in this text, possibly after a byte order mark, of a file with this name. Fails if there are none.
+/// Fails if there are no URLs.
 fn urls_in<'a>(alloc: Global, name: &str, text: &'a [u8]) -> Result<Vec<&'a str>, Fault>
     ensures ok { IfOk result (λ found. urls_in text.now ≡ Ok (map (λ url. url.now) found.items)) }
     ensures some { IfOk result (λ found. (length found.items == 0) ≡ false) }
@@ -153,9 +144,8 @@ fn urls_in<'a>(alloc: Global, name: &str, text: &'a [u8]) -> Result<Vec<&'a str>
 ///
 /// # Errors
 ///
-/// `Fault::Malformed` for all lines that aren't UTF-8, are neither a path nor an http(s) URL that can be parsed, or have
-/// what URLs only have escaped, `Fault::Empty` if there are no URLs in the text, and `Fault::Memory` if an allocation
-/// fails.
+/// `Fault::Malformed` for all lines that aren't UTF-8, are neither a path nor an http(s) URL that can be
+/// parsed, or have what URLs only have escaped, and `Fault::Empty` if there are no URLs in the text.
 pub fn with_urls<'a>(
     alloc: Global,
     request: Request<'a>,
@@ -171,7 +161,6 @@ pub fn with_urls<'a>(
     Ok(extended)
 }
 
-/// What is wrong with an argument, which may be the name of a crawler, if anything is.
 fn argument_flaw(alloc: Global, text: &str) -> Result<Option<Flaw>, AllocError>
     ensures { IfOk result (λ flaw. flaw ≡ argument_flaw text.now) }
 {
@@ -181,11 +170,7 @@ fn argument_flaw(alloc: Global, text: &str) -> Result<Option<Flaw>, AllocError>
     url_flaw(alloc, text.as_bytes())
 }
 
-/// Fails with the first of these arguments that is no URL or path, or has what URLs only have escaped.
-///
-/// # Errors
-///
-/// `Fault::Argument` for this URL, and `Fault::Memory` if an allocation fails.
+/// Fails with the first of these arguments that isn't a URL or path, or has what URLs only have escaped.
 pub fn are_paths_or_urls(alloc: Global, urls: &[&str]) -> Result<(), Fault>
     ensures ok { OnOk result (first_malformed (map (λ url. url.now) urls.now) ≡ None) }
     ensures fault { IfErr result (IsUrlFault (map (λ url. url.now) urls.now)) }

@@ -19,8 +19,6 @@ use Rattle.audit_core.specs.Findings.{FindingValue, Found, found_value, message_
 use Rattle.audit_text.specs.Github.{command, command_label, escaped, escaped_byte, github_text, is_in_line}
 use Rattle.audit_text.specs.Github.{is_in_property, line_property, property_text}
 
--- ---- no line ends
-
 flat_all : (test : ℕ → Bool) (f : ℕ → List ℕ) → ((b : ℕ) → list_all test (f b) ≡ true) → (text : List ℕ)
     → list_all test (flat_map f text) ≡ true
 flat_all test f are [] = refl
@@ -58,9 +56,6 @@ command_in_line file finding = simp (
   escaped_in_line false finding.message,
 )
 
--- ---- escaped texts
-
--- the text is printable, and contains no start of a command
 record IsSafe (text : List ℕ) : Type 0 where
   printable : IsPrintable text
   quiet : has_command text ≡ false
@@ -93,8 +88,6 @@ escaped_safe is_property text is quiet = record {
   printable = printable is_property text is;
   quiet = escaped_quiet (escaped_byte is_property) (byte_kept is_property) (byte_calm is_property) text quiet;
 }
-
--- ---- commands
 
 labelled : (front : Label) (text : List ℕ) → IsSafe text → IsSafe (front.text ++ text)
 labelled front text is = record {

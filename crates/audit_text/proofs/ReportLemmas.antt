@@ -33,7 +33,6 @@ use Rattle.audit_text.specs.Explain.{explanation, heading, indented, indented_by
 
 -- ---- The lines about warnings: how one is built; they contain no command, and colors add only their codes.
 
--- a warning with the lines of other notes
 pub shown_built : (warning : WarningValue) (lines text : List ℕ)
     → ((text ++ warning_text warning) ++ parts_text (also_parts lines))
     ++ parts_text (name_parts warning.cause)
@@ -75,7 +74,6 @@ listed_for_terminal has_colors file warnings =
 
 -- ---- How warnings are counted, and which of them are listed.
 
--- there are at most as many warnings with a name and a level as there are warnings
 pub counted_fits : (counts : Counts) (warnings : List WarningValue) (at : ℕ) (cause : Cause)
     → at < length warnings → at < 18446744073709551615
     → AreCounts counts (take at warnings)
@@ -89,7 +87,6 @@ counted_fits counts warnings at cause below short are =
     let is = are (name_of cause) (level_of cause) in
     omega (arith, short, within, is)
 
--- loop step: one more warning is counted
 pub counted_next : (counts new : Counts) (warnings : List WarningValue) (at : ℕ) (warning : WarningValue)
     (cause : Cause) → at < length warnings → cause ≡ (slice_index_or warnings at warning).cause
     → AreCounts counts (take at warnings)
@@ -103,7 +100,6 @@ counted_next counts new warnings at warning cause below same are more_at name le
     ∙ sym (sum_by_push (λ (warning : WarningValue). cond (is_like name level warning.cause) 1 0)
     (take at warnings) (slice_index_or warnings at warning)))
 
--- loop step: one more warning is appended if it passes the test
 pub placed_next : (test : List WarningValue → WarningValue → Bool) (warnings : List WarningValue) (at : ℕ)
     (warning : WarningValue) (holds : Bool) (found new all : List WarningValue) → at < length warnings
     → holds ≡ test (take at warnings) (slice_index_or warnings at warning)
@@ -119,7 +115,6 @@ placed_next test warnings at warning holds found new all below is added so_far =
     ∙ ap (λ holds. found ++ ((if holds then item ∷ [] else []) ++ later)) is
     ∙ rw (drop_more warnings at warning below) at so_far)
 
--- loop step: one more name and level, and how many warnings with both aren't listed
 pub more_next : (warnings unlisted : List WarningValue) (at : ℕ) (warning : WarningValue) (cause : Cause)
     (found : List More) (number : ℕ) (counts : Counts) → AreCounts counts warnings
     → at < length unlisted → cause ≡ (slice_index_or unlisted at warning).cause
@@ -134,9 +129,6 @@ more_next warnings unlisted at warning cause found number counts are below same 
     (is ∙ ap (λ n. n - most) (are (name_of cause) (level_of cause)))
     ∙ ap (λ cause. record { cause = cause; number = count_like cause warnings - most }) same))
 
--- ---- joined notes
-
--- loop step: the reason of one more note is known
 pub met_next : (warnings : List WarningValue) (at : ℕ) (warning : WarningValue) (number : ℕ) (old new : Bool)
     → at < length warnings → old ≡ list_any (is_joined_as number) (take at warnings)
     → new ≡ (old || is_joined_as number (slice_index_or warnings at warning))
@@ -152,7 +144,6 @@ pub first_is : (before : List WarningValue) (warning : WarningValue) (has holds 
     → holds ≡ not (is_joined warning && has) → holds ≡ is_first before warning
 first_is before warning has holds same is = is ∙ ap (λ has. not (is_joined warning && has)) same
 
--- loop step: one more line is appended, if it is one of a note with this reason
 pub lines_next : (number : ℕ) (warnings : List WarningValue) (at : ℕ) (warning : WarningValue)
     (found new all : List ℕ) → at < length warnings
     → new ≡ found ++ filter_map (line_as number) (slice_index_or warnings at warning ∷ [])
@@ -168,7 +159,6 @@ lines_next number warnings at warning found new all below added so_far =
 
 -- ---- Which URLs a report lists, and how many are allowed and denied.
 
--- the crawlers from index `at` on, and those after the one there, where two lists are the same from it on
 same_there : (agents old : List AgentValue) (at : ℕ) (item : AgentValue) → at < length old
     → drop at agents ≡ drop at old
     → (at < length agents) × (slice_index_or agents at item ≡ slice_index_or old at item)
@@ -182,7 +172,6 @@ same_there agents old at item within same =
     let other = drop_more old at item within in
     (below, cc, cc)
 
--- loop step: the allowed URLs of one more crawler are left out
 pub denied_next : (agents old : List AgentValue) (at : ℕ) (item agent : AgentValue) → at < length old
     → drop at agents ≡ drop at old
     → take at agents ≡ map with_denied (take at old)
@@ -211,11 +200,9 @@ indented_printable text is =
     append_printable true (codes "    ") _ (ascii_printable true (codes "    ") refl)
     (escaped_printable indented_byte refl (λ b high. grind (arith, nat_tests)) text is)
 
--- all bytes are printable ASCII (or LF)
 abbrev is_plain : List ℕ → Bool
 is_plain text = list_all (is_printable_byte true) text
 
--- what is written of rows with plain texts
 rows_printable : {R : Type 0} (write : R → List ℕ) (text_of : R → List ℕ)
     → ((row : R) → IsPrintable (text_of row) → IsPrintable (write row)) → (rows : List R)
     → list_all (λ row. is_plain (text_of row)) rows ≡ true → IsPrintable (flat_map write rows)

@@ -14,21 +14,17 @@ use Rattle.audit_text.specs.declared.conditions.TheConstants.{CONDITIONS, CORREC
 use Rattle.audit_core.specs.{Answer.IsText, Fault.IsUnknown, declared.answer.Answer.Answer}
 use Rattle.audit_core.specs.declared.fault.Fault.{Fault, TheVariants.Memory}
 
--- ---- texts
-
 pub level_begins : (level : Level) → starts (level_word level) ≡ true
 level_begins Error = refl
 level_begins Warning = refl
 level_begins Note = refl
 
--- the level, the name and the message of a warning
 abbrev pub list_line : Cause → ReportLine
 list_line cause =
     line_from (Only (fixed_level (level_of cause))) (level_begins (level_of cause))
     (Part (label (codes " ") refl) (Word (fixed_name cause))
     ∷ Part (label (codes ": ") refl) (Word (fixed_text cause)) ∷ [])
 
--- a line for each warning
 abbrev pub list_text : List ℕ
 list_text = written (map list_line all_causes)
 
@@ -36,11 +32,9 @@ list_text = written (map list_line all_causes)
 abbrev pub indented_byte : ℕ → List ℕ
 indented_byte byte = if byte == lf then lf ∷ codes "    " else byte ∷ []
 
--- the text with four spaces before each of its lines
 unfoldable pub indented : List ℕ → List ℕ
 indented text = codes "    " ++ flat_map indented_byte text
 
--- lines with a label before them
 abbrev pub example_lines : (label lines : List ℕ) → List ℕ
 example_lines label lines = label ++ (indented lines ++ lf ∷ [])
 
@@ -51,9 +45,6 @@ about_line cause =
     else if keeps_verdicts cause then codes "about: what the file or the request means\n"
     else codes "about: what the file means; a verdict may not be that of RFC 9309\n"
 
--- ---- the tables of src/conditions.rt
-
--- a row by value: a name and a text about the warnings with it, or a warning and its corrected example
 abbrev pub named_value : Bor (List ℕ) × Bor (List ℕ) → List ℕ × List ℕ
 named_value row = (row.0.now, row.1.now)
 
@@ -69,7 +60,7 @@ all_theorems = map (λ row. (row.0.now, row.1.now)) THEOREMS
 unfoldable pub all_corrections : List (Cause × List ℕ)
 all_corrections = map (λ row. (row.0, row.1.now)) CORRECTIONS
 
--- a line with a label and the text of the row, if it is about the name
+-- if the row is about the name
 abbrev pub text_if_named : (label name : List ℕ) → List ℕ × List ℕ → List ℕ
 text_if_named label name row = if bytes_eq row.0 name then label ++ (row.1 ++ lf ∷ []) else []
 
@@ -77,13 +68,9 @@ abbrev pub correction_if_own : Cause → Cause × List ℕ → List ℕ
 correction_if_own cause row =
     if number_of row.0 == number_of cause then example_lines (codes "instead:\n") row.1 else []
 
--- the corrected example of the warning, if it has one
 unfoldable pub corrections_of : Cause → List ℕ
 corrections_of cause = flat_map (correction_if_own cause) all_corrections
 
--- ---- explanations
-
--- the line of the list, and what the warning is about
 unfoldable pub heading : Cause → List ℕ
 heading cause = written (list_line cause ∷ []) ++ about_line cause
 
@@ -95,14 +82,12 @@ explained cause =
 abbrev pub explained_if_named : List ℕ → Cause → List ℕ
 explained_if_named name cause = if bytes_eq (name_of cause) name then explained cause else []
 
--- the explanations of all warnings with this name, when they are given, and what is proved about them
+-- of all warnings with this name, when they are given, and what is proved about them
 abbrev pub explanation : List ℕ → List ℕ
 explanation name =
     flat_map (explained_if_named name) all_causes
     ++ (flat_map (text_if_named (codes "given: ") name) all_conditions
     ++ flat_map (text_if_named (codes "proved: ") name) all_theorems)
-
--- ---- answers
 
 -- the answer is the text, or an allocation failed
 abbrev pub MayAnswer : List ℕ → Result Answer Fault → Type 0

@@ -13,8 +13,6 @@ use Rattle.printable_text.specs.Text.{Label, label}
 use Rattle.printable_text.specs.declared.level.Level.TheVariants.{Error, Note, Warning}
 use Rattle.audit_core.specs.{Findings.FindingValue}
 
--- ---- escaping
-
 -- a byte of a property or of a message
 abbrev pub escaped_byte : (is_property : Bool) → ℕ → List ℕ
 escaped_byte is_property b =
@@ -28,9 +26,7 @@ escaped is_property text = flat_map (escaped_byte is_property) text
 abbrev pub property_text : List ℕ → List ℕ
 property_text = escaped true
 
--- ---- commands
-
--- the command up to the name of the file; GitHub's word for a note is `notice`
+-- up to the name of the file; GitHub's word for a note is `notice`
 abbrev pub command_label : Level → Label
 command_label Error = label (codes "::error file=") refl
 command_label Warning = label (codes "::warning file=") refl
@@ -40,23 +36,20 @@ abbrev pub line_property : Option ℕ → List ℕ
 line_property None = []
 line_property (Some line) = codes ",line=" ++ property_text (decimal line)
 
--- the command for a finding; `file` is the sanitized name of the file
+-- `file` is the sanitized name of the file
 abbrev pub command : List ℕ → FindingValue → List ℕ
 command file finding =
     (command_label finding.level).text
     ++ (property_text file ++ (line_property finding.line ++ (codes ",title=" ++ (property_text finding.name
     ++ (codes "::" ++ escaped false finding.message)))))
 
--- the commands for the findings in the file with this name
 abbrev pub github_text : List ℕ → List FindingValue → List ℕ
 github_text file findings = ended (map (command (sanitized file)) findings)
 
--- ---- what escaping achieves
-
--- the text contains neither CR nor LF, so that it is part of a single line
+-- neither CR nor LF, so that the text is part of a single line
 abbrev pub is_in_line : List ℕ → Bool
 is_in_line text = list_all (λ b. not (b == 13 || b == 10)) text
 
--- the text contains neither of the bytes that end a property either
+-- nor the bytes that end a property
 abbrev pub is_in_property : List ℕ → Bool
 is_in_property text = list_all (λ b. not (b == 13 || b == 10 || b == byte ":" || b == byte ",")) text

@@ -20,12 +20,10 @@ abbrev pub is_joined : WarningValue → Bool
 is_joined warning =
     not (reaches (level_of warning.cause) Warning) && (is_some warning.line && has_shared_end warning.detail)
 
--- such a note, whose reason has this number
 abbrev pub is_joined_as : ℕ → WarningValue → Bool
 is_joined_as number warning = is_joined warning && (number_of warning.cause == number)
 
--- those of the warnings that pass this test, which is given the warnings before each; the warnings `before`
--- precede all of them
+-- the warnings that pass a test, which is given those before each; `before` precede all of them
 abbrev pub placed : (List WarningValue → WarningValue → Bool) → List WarningValue → List WarningValue
     → List WarningValue
 placed test before [] = []
@@ -44,12 +42,11 @@ joined warnings = placed is_first [] warnings
 abbrev pub line_as : ℕ → WarningValue → Option ℕ
 line_as number warning = if is_joined_as number warning then warning.line else None
 
--- the lines of all notes that are written as this one; none if it isn't such a note
+-- none if the warning isn't such a note
 abbrev pub shared_lines : List WarningValue → WarningValue → List ℕ
 shared_lines warnings warning =
     if is_joined warning then filter_map (line_as (number_of warning.cause)) warnings else []
 
--- what comes before the line with this index, of so many
 abbrev pub also_front : (at count : ℕ) → Label
 also_front at count =
     if at == 1 then (if count == 2 then label (codes " (also in line ") refl
@@ -60,7 +57,7 @@ abbrev pub numbered_part : Label → Option ℕ → PartValue
 numbered_part front None = Absent
 numbered_part front (Some line) = Part front (Number line)
 
--- the line with this index, if there is one
+-- if there is one
 abbrev pub also_part : List ℕ → ℕ → PartValue
 also_part lines at = numbered_part (also_front at (length lines)) (slice_get lines at)
 

@@ -1,5 +1,5 @@
--- Which warnings the text lists: of those that are left when notes are joined, the first twenty of each name
--- and level. For the others it has their number.
+-- Which warnings the text lists: when notes are joined, the first twenty of each name and level, and the
+-- number of the others.
 use Rattle.std.specs.Prelude.{ℕ, ◌-◌, ◌==◌, ◌&&◌, Bool, List, [], bytes_eq, count_by, map}
 use Rattle.std.specs.{Bool.nat_lt}
 use Rattle.audit_core.specs.{Counts.rank}
@@ -8,31 +8,26 @@ use Rattle.printable_text.specs.{declared.level.Level.Level}
 use Rattle.robots_warnings.specs.{declared.table.Cause.Cause, Message.WarningValue}
 use Rattle.robots_warnings.specs.Table.{level_of, name_of}
 
--- how many warnings of one name and level are listed
 abbrev pub most : ℕ
 most = 20
 
--- a warning with this reason has this name and this level
 abbrev pub is_like : List ℕ → Level → Cause → Bool
 is_like name level cause = bytes_eq (name_of cause) name && (rank (level_of cause) == rank level)
 
--- how many of these warnings have this name and this level
 abbrev pub count_of : List ℕ → Level → List WarningValue → ℕ
 count_of name level warnings =
     count_by (λ (warning : WarningValue). is_like name level warning.cause) warnings
 
--- how many of these warnings have the name and the level of this one
 abbrev pub count_like : Cause → List WarningValue → ℕ
 count_like cause warnings = count_of (name_of cause) (level_of cause) warnings
 
--- fewer than twenty, or just twenty, of the warnings before it are like this one
+-- fewer than twenty of the warnings before it are like this one
 abbrev pub is_early : List WarningValue → WarningValue → Bool
 is_early before warning = nat_lt (count_like warning.cause before) most
 
 abbrev pub is_next : List WarningValue → WarningValue → Bool
 is_next before warning = count_like warning.cause before == most
 
--- the first twenty of each name and level
 abbrev pub first_many : List WarningValue → List WarningValue
 first_many warnings = placed is_early [] warnings
 
@@ -40,7 +35,6 @@ first_many warnings = placed is_early [] warnings
 abbrev pub unlisted : List WarningValue → List WarningValue
 unlisted warnings = placed is_next [] warnings
 
--- the warnings that are listed
 abbrev pub listed : List WarningValue → List WarningValue
 listed warnings = first_many (joined warnings)
 

@@ -16,8 +16,6 @@ use Rattle.audit_core.specs.Request.{RequestValue, has_rows}
 use Rattle.audit_text.specs.Joined.{also_parts, shared_lines}
 use Rattle.audit_text.specs.{Listed.listed, Listed.more, declared.listed.More.More}
 
--- ---- The lines with verdicts.
-
 abbrev pub verdict_label : (is_allowed : Bool) → Label
 verdict_label true = label (codes "allow ") refl
 verdict_label false = label (codes "deny ") refl
@@ -26,7 +24,6 @@ pub verdict_begins : (is_allowed : Bool) → starts (verdict_label is_allowed).t
 verdict_begins true = refl
 verdict_begins false = refl
 
--- the line that decides, if there is one
 abbrev pub deciding : Option ℕ → Value
 deciding None = word (codes "-") refl
 deciding (Some line) = Number line
@@ -36,36 +33,30 @@ abbrev pub name_part : Option (List ℕ) → PartValue
 name_part None = Absent
 name_part (Some name) = Part (label (codes " ") refl) (Untrusted name)
 
--- whether the URL is allowed, the line that decides, that name, and the URL
+-- such as `deny 3 https://example.com/search/tea`, with the crawler's name if the report is about several
 abbrev pub verdict_line : (name : Option (List ℕ)) → VerdictValue → ReportLine
 verdict_line name verdict =
     line_from (Part (verdict_label verdict.decision.allowed) (deciding verdict.decision.line))
     (verdict_begins verdict.decision.allowed)
     (name_part name ∷ Part (label (codes " ") refl) (Untrusted verdict.url) ∷ [])
 
--- ---- The line with the numbers of warnings.
-
 -- such as `robots.txt: 1 error, 2 warnings, 3 notes`
 abbrev pub count_line : List ℕ → List WarningValue → NamedLine
 count_line file warnings = record { name = file; rest = only (codes ": ") refl ∷ count_parts warnings }
 
--- the same, if there are any warnings
 abbrev pub count_lines : List ℕ → List WarningValue → List NamedLine
 count_lines file [] = []
 count_lines file (warning ∷ warnings) = count_line file (warning ∷ warnings) ∷ []
 
 -- ---- A report on several crawlers: a line for each, and their verdicts.
 
--- ---- the line about a crawler
-
--- the group that applies to it
 abbrev pub group_part : List ℕ → Group → PartValue
 group_part agent Named = Part (label (codes ": group ") refl) (Untrusted agent)
 group_part agent Star = Part (label (codes ": group ") refl) (word (codes "*") refl)
 group_part agent Nobody = only (codes ": no group") refl
 group_part agent Everyone = only (codes ": all rules (no User-agent line)") refl
 
--- the first line that names the group, if one does
+-- if a line names the group
 abbrev pub line_part : Option ℕ → PartValue
 line_part None = Absent
 line_part (Some line) = Part (label (codes " (line ") refl) (Number line)
@@ -74,7 +65,6 @@ abbrev pub line_end : Option ℕ → PartValue
 line_end None = Absent
 line_end (Some line) = only (codes ")") refl
 
--- how many rules apply to it, if a group does
 abbrev pub rule_part : Group → ℕ → PartValue
 rule_part Nobody rules = Absent
 rule_part group rules =
@@ -86,12 +76,11 @@ abbrev pub rule_end : Group → ℕ → PartValue
 rule_end Nobody rules = Absent
 rule_end group rules = if nat_lt 1 rules then only (codes " rules") refl else Absent
 
--- its delay, if it has one
 abbrev pub delay_part : Option ℕ → PartValue
 delay_part None = Absent
 delay_part (Some micros) = Part (label (codes ", delay ") refl) (Delay micros)
 
--- what it may fetch, if that is everything or nothing
+-- if that is everything or nothing
 abbrev pub fetch_part : Option Fixed → PartValue
 fetch_part None = Absent
 fetch_part (Some word) = Part (label (codes ", may fetch ") refl) (Word word)
@@ -107,16 +96,12 @@ crawler_line agent =
     ∷ rule_part agent.group agent.rules ∷ rule_end agent.group agent.rules ∷ delay_part agent.delay
     ∷ reach_part agent.rejected agent.reach ∷ [])
 
--- this line, and whether the file is rejected for the crawler
+-- and whether the file is rejected for the crawler
 abbrev pub crawler_lines : AgentValue → List ReportLine
 crawler_lines agent = crawler_line agent ∷ rejected_lines agent.agent agent.rejected
 
--- ---- verdicts
-
 abbrev pub named_verdicts : AgentValue → List ReportLine
 named_verdicts agent = map (verdict_line (Some agent.agent)) agent.verdicts
-
--- ---- The audit as lines of text.
 
 abbrev pub delay_line : Option ℕ → ReportLine
 delay_line delay = line_from (Part (label (codes "delay: ") refl) (delay_value delay)) refl []
@@ -127,7 +112,7 @@ agent_lines agent =
     group_line agent.agent agent.group ∷ delay_line agent.delay
     ∷ (rejected_lines agent.agent agent.rejected ++ map (verdict_line None) agent.verdicts)
 
--- the lines about each crawler; of several crawlers all verdicts come last
+-- of several crawlers all verdicts come last
 abbrev pub agents_lines : (is_single : Bool) → List AgentValue → List ReportLine
 agents_lines true agents = flat_map agent_lines agents
 agents_lines false agents = flat_map crawler_lines agents ++ flat_map named_verdicts agents
@@ -147,8 +132,6 @@ numbers_line allowed denied =
 abbrev pub total_line : List AgentValue → ReportLine
 total_line agents = numbers_line (total is_allowed agents) (total is_denied agents)
 
--- ---- warnings
-
 abbrev pub place_part : Option ℕ → PartValue
 place_part None = Absent
 place_part (Some line) = Part (label (codes ":") refl) (Number line)
@@ -162,12 +145,11 @@ line_about file warning parts = record {
   rest = only (codes ": ") refl ∷ parts;
 }
 
--- the name of a warning in brackets
 abbrev pub name_parts : Cause → List PartValue
 name_parts cause = Part (label (codes " [") refl) (Word (fixed_name cause)) ∷ only (codes "]") refl ∷ []
 
--- the message of a warning, the lines of other notes, and the name; `lines` are those of all notes that are
--- written as this one
+-- the message, the lines of other notes, and the name; `lines` are those of all notes that are written as
+-- this one
 abbrev pub shown_parts : List ℕ → WarningValue → List PartValue
 shown_parts lines warning = message_parts warning ++ (also_parts lines ++ name_parts warning.cause)
 
@@ -175,12 +157,11 @@ shown_parts lines warning = message_parts warning ++ (also_parts lines ++ name_p
 abbrev pub shown_warning : List ℕ → List ℕ → WarningValue → LevelLine
 shown_warning file lines warning = line_about file warning (shown_parts lines warning)
 
--- a warning that is listed; `all` are all warnings
+-- `all` are all warnings
 abbrev pub listed_warning : List ℕ → List WarningValue → WarningValue → LevelLine
 listed_warning file all warning = shown_warning file (shared_lines all warning) warning
 
--- how many more warnings have this level and name, as in `robots.txt: warning: and 42 more
--- [unrecognized-line]`
+-- such as `robots.txt: warning: and 42 more [unrecognized-line]`
 abbrev pub more_line : List ℕ → More → NamedLine
 more_line file more = record {
   name = file;
@@ -190,8 +171,8 @@ more_line file more = record {
       ∷ Part (label (codes " more [") refl) (Word (fixed_name more.cause)) ∷ only (codes "]") refl ∷ [];
 }
 
--- the warnings that are listed, their levels in color if there are colors, how many more there are, and how
--- many there are of each level
+-- the warnings that are listed, in color if there are colors, how many more there are, and how many of each
+-- level
 abbrev pub listed_lines : (has_colors : Bool) → List ℕ → List WarningValue → List (List ℕ)
 listed_lines has_colors file warnings =
     map (level_text has_colors) (map (listed_warning file warnings) (listed warnings))

@@ -1,4 +1,5 @@
-//! For `--explain`: for each name of a warning, when it is given, and what is proved about it; and corrected examples.
+//! For `--explain`: for each name of a warning, when it is given, and what is proved about it; corrected
+//! examples.
 ghost use Rattle.std.specs.Prelude.{◌≡◌, map};
 ghost use Rattle.audit_text.specs.Explain.{all_conditions, all_corrections, all_theorems, correction_value, named_value};
 
@@ -10,7 +11,6 @@ pub(crate) type Named = (&'static str, &'static str);
 /// When warnings are given.
 #[rattlefmt::skip]
 static CONDITIONS: [(&str, &str); 62] = [
-    // the file
     ("looks-like-html",
         "the file has no directive, and its first character is <, not counting a byte order mark, spaces, tabs and line ends; then no line has a warning of its own"),
     ("looks-like-utf-16",
@@ -27,10 +27,8 @@ static CONDITIONS: [(&str, &str); 62] = [
         "the first 512,000 bytes have a NUL byte, and the file doesn't look like UTF-16"),
     ("closes-everything",
         "a Disallow of a crawler of the report is /, or a star and then only stars and $, possibly after /, and each Allow of the crawler that is at least as long is /robots.txt or the path of a sitemap of the file, with or without $, or matches no path because of its start or a $ inside; the first such line of each crawler counts, unless its vendor applies another group or a line with its name gives misspelled-name; it is a warning if one of its crawlers is *, has no group of its own, or is that of a large search engine, possibly with a version"),
-    // a URL
     ("url-not-normal",
         "the path and the query that crawlers request have a byte other than letters, digits, % and -._~:/?[]@!&'()+,;=, an escape with lowercase digits or of a letter, a digit or one of -._~, or a % that begins no escape"),
-    // an ignored line
     ("invalid-delay",
         "the field name is Crawl-delay, but the value isn't a number of seconds that is 0 or more"),
     ("noindex-line", "the field name of an ignored line is Noindex"),
@@ -46,18 +44,15 @@ static CONDITIONS: [(&str, &str); 62] = [
     ("comment-line", "the field name of an ignored line is Comment"),
     ("unrecognized-line",
         "the line is neither blank nor a comment, and has no known field name; a name is suggested if the text before the colon, or the first word, begins with it, with at most one letter more (for Allow and Disallow also - or _), or differs from it in at most two bytes; an invisible character in the name, or = in place of the colon, is named"),
-    // the field name of a line
     ("nonstandard-field",
         "the field name of a directive isn't spelled as in the message, ASCII letters in any case"),
     ("missing-colon", "a directive has no colon after its field name"),
     ("space-around-value",
         "the value of a directive with a colon, except a delay, has white space other than spaces and tabs around it"),
-    // the value of a user-agent line
     ("invalid-product-token",
         "the name isn't a product token, nor like names that crawlers have: ASCII letters, digits, _, -, dots and spaces, possibly with a single * at the end; several names in one line aren't such a name either"),
     ("unusual-product-token",
         "the name isn't a product token, but like names that crawlers have: ASCII letters, digits, _, -, dots and spaces, possibly with a single * at the end"),
-    // a rule
     ("hash-cuts-rule",
         "a # directly follows a byte of the value of a rule with a colon, or a comment that begins with #/ or #!/ is in place of a value; it is an error if the whole site or an empty Disallow is left; it isn't given if an empty Allow is left, or what is left has an error of its own"),
     ("rule-not-utf-8", "the value of a rule isn't UTF-8"),
@@ -78,26 +73,21 @@ static CONDITIONS: [(&str, &str); 62] = [
     ("escaped-delimiter",
         "a rule has an escape of one of :/?[]@!&()+,;= ; not if the group has the rule of the same kind with the plain characters, too: /a%2Fb and /a/b"),
     ("dot-segment", "the path of a rule has a segment . or .. before its first ?"),
-    // a rule or a sitemap
     ("several-values",
         "the value of a rule or a sitemap has white space inside, or another byte up to 0x20; a comma before / or http; a < before a letter, / or !; or a soft hyphen, a zero-width space, a word joiner or a byte order mark; the first of these is named; not for a rule that isn't UTF-8"),
-    // a delay
     ("delay-notation",
         "a delay with a colon isn't written as digits, possibly with a point and more digits"),
     ("delay-over-a-day", "a delay is longer than 86,400 seconds"),
-    // a sitemap
     ("sitemap-not-absolute", "the value of a sitemap isn't an http(s) URL that can be parsed"),
     ("sitemap-host",
         "the host of an absolute http(s) URL is an IP address, localhost, undefined or null, or the URL has a third slash in place of a host"),
     ("sitemap-denied",
         "the value of a sitemap is an http(s) URL that can be parsed, and a rule for * denies its path and query; not if the whole site is closed to * or the file is rejected for it; its host isn't compared with that of the file, which isn't known; the number is the line of that rule"),
-    // any line
     ("one-line",
         "after the first colon of a line and before a comment there is User-agent: anywhere, or Allow:, Disallow:, Sitemap: or Crawl-delay: after a space, a tab, a star, a literal \\n or \\r, or, with a capital letter, directly after a letter, a digit, /, $, ? or ="),
     ("control-in-comment", "a comment has a byte below 0x20 other than a tab, or isn't UTF-8"),
     ("cut-line",
         "the limit of 512,000 bytes cuts this line, which has no other warning about its text then"),
-    // the position of a line
     ("rule-before-user-agent", "a rule is above all User-agent lines of a file that has one"),
     ("empty-group", "no rule and no delay follows a User-agent line"),
     ("delay-splits-group",
@@ -110,7 +100,6 @@ static CONDITIONS: [(&str, &str); 62] = [
         "a crawler of the report has this Disallow and an Allow with an equal path; * and / are equal; an empty Disallow isn't such an Allow; the number is the line of the first such Allow, for the first such crawler"),
     ("empty-disallow",
         "a crawler of the report has this empty Disallow and a Disallow of / or *, but no Allow of these that is written so; the number is the line of that Disallow"),
-    // the groups
     ("two-delays", "the delay differs from the first one below the same User-agent lines"),
     ("replaces-star",
         "the crawlers of a group have none of the Disallow rules of *, in any of their groups, and no rule for the whole site, while * has a Disallow for a part of the site; not if only a Crawl-delay is between the group and that of * below; the number is how many Disallows * has"),
@@ -122,12 +111,11 @@ static CONDITIONS: [(&str, &str); 62] = [
         "a crawler of the report is known to get the group of another one from its vendor, if it has none of its own, and the file names that one, but not this one; a line names a crawler if the letters, _ and - that its value begins with are the name"),
     ("google-ignores-star",
         "a crawler of the report is known to get no group from its vendor, if it has none of its own, and the file has a group of *, but doesn't name this one"),
-    // a rule that can be deleted
     ("needless-rule",
         "with --needless: the rule matches nothing, another rule matches everything that it matches and makes it superfluous, or it is an Allow of what is allowed without it, and all such rules can be deleted together; deleting only some of them may change a verdict. Not all of them are found. None is reported if the file is larger than 512,000 bytes or rejected for a crawler, if its first line would begin with a byte of a byte order mark then, or if crawlers need each other's rules in too many ways; nor a rule without which User-agent lines would join those below. Crawlers that apply the first rule that matches, or read an empty Disallow otherwise, may need them, so mend empty-disallow first"),
 ];
 
-/// What is proved about what warnings say, with the theorem of `warnings_laws`.
+/// With the theorem of `warnings_laws`.
 #[rattlefmt::skip]
 static THEOREMS: [(&str, &str); 17] = [
     ("closes-everything",
@@ -235,7 +223,6 @@ static CORRECTIONS: [(Cause, &str); 71] = [
     (Cause::NotNeeded, "# robots_audit robots.txt --needless\nUser-agent: *\nDisallow: /a"),
 ];
 
-/// The rows of [`CONDITIONS`].
 #[tactic(auto, unfolding(crate::specs::Explain::all_conditions))]
 pub(crate) fn conditions() -> &'static [Named]
     ensures { map named_value result.now ≡ all_conditions }
@@ -243,7 +230,6 @@ pub(crate) fn conditions() -> &'static [Named]
     &CONDITIONS
 }
 
-/// The rows of [`THEOREMS`].
 #[tactic(auto, unfolding(crate::specs::Explain::all_theorems))]
 pub(crate) fn theorems() -> &'static [Named]
     ensures { map named_value result.now ≡ all_theorems }
@@ -251,7 +237,6 @@ pub(crate) fn theorems() -> &'static [Named]
     &THEOREMS
 }
 
-/// The rows of [`CORRECTIONS`].
 #[tactic(auto, unfolding(crate::specs::Explain::all_corrections))]
 pub(crate) fn corrections() -> &'static [(Cause, &'static str)]
     ensures { map correction_value result.now ≡ all_corrections }

@@ -8,7 +8,6 @@ use printable_text::parts::{Part, Value, push_line_of};
 use robots_warnings::warning::Warning;
 use std::alloc::AllocError;
 
-/// Appends the line with the numbers of these warnings about the file with this name, if there are any.
 pub(crate) fn push_counts(
     text: &mut String,
     file: &str,

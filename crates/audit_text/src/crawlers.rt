@@ -13,7 +13,6 @@ use printable_text::parts::{Part, Value, push_line_of};
 use robots_warnings::closed::Reach;
 use std::alloc::AllocError;
 
-/// The group that applies to the crawler.
 fn group_part<'a>(agent: &'a str, group: Group) -> Part<'a>
     ensures { raw_text result ≡ part_text (group_part agent.entry.now group) }
 {
@@ -25,7 +24,6 @@ fn group_part<'a>(agent: &'a str, group: Group) -> Part<'a>
     }
 }
 
-/// The first line that names the group, if one does.
 fn line_part(line: Option<usize>) -> Part<'static>
     ensures { raw_text result ≡ part_text (line_part line) }
 {
@@ -35,7 +33,6 @@ fn line_part(line: Option<usize>) -> Part<'static>
     }
 }
 
-/// What follows its number.
 fn line_end(line: Option<usize>) -> Part<'static>
     ensures { raw_text result ≡ part_text (line_end line) }
 {
@@ -45,7 +42,6 @@ fn line_end(line: Option<usize>) -> Part<'static>
     }
 }
 
-/// How many rules apply to the crawler, if a group does.
 fn rule_part(group: Group, rules: usize) -> Part<'static>
     ensures { raw_text result ≡ part_text (rule_part group rules) }
 {
@@ -57,7 +53,6 @@ fn rule_part(group: Group, rules: usize) -> Part<'static>
     }
 }
 
-/// What follows the number of several rules.
 fn rule_end(group: Group, rules: usize) -> Part<'static>
     ensures { raw_text result ≡ part_text (rule_end group rules) }
 {
@@ -68,7 +63,6 @@ fn rule_end(group: Group, rules: usize) -> Part<'static>
     }
 }
 
-/// The crawler's delay, if it has one.
 fn delay_part(delay: Option<u64>) -> Part<'static>
     ensures { raw_text result ≡ part_text (delay_part delay) }
 {
@@ -78,7 +72,6 @@ fn delay_part(delay: Option<u64>) -> Part<'static>
     }
 }
 
-/// What the crawler may fetch, if that is everything or nothing.
 fn reach_part(rejected: Option<usize>, reach: Reach) -> Part<'static>
     ensures { raw_text result ≡ part_text (reach_part rejected reach) }
 {
@@ -88,7 +81,6 @@ fn reach_part(rejected: Option<usize>, reach: Reach) -> Part<'static>
     }
 }
 
-/// The line about a crawler.
 fn crawler_line<'a>(agent: &AgentAudit<'a>) -> [Part<'a>; 8]
     ensures { raw_line result ≡ line_text (crawler_line agent.now) }
 {
@@ -104,7 +96,6 @@ fn crawler_line<'a>(agent: &AgentAudit<'a>) -> [Part<'a>; 8]
     ]
 }
 
-/// Appends a line about the crawler, and one if the file is rejected for it.
 fn push_crawler(text: &mut String, agent: &AgentAudit<'_>) -> Result<(), AllocError>
     ensures { OnOk result (string_bytes text.new ≡ string_bytes text.old
         ++ written (crawler_lines agent.now)) }
@@ -113,7 +104,6 @@ fn push_crawler(text: &mut String, agent: &AgentAudit<'_>) -> Result<(), AllocEr
     push_rejected(text, agent.agent, agent.rejected)
 }
 
-/// Appends these lines about each crawler.
 pub(crate) fn push_crawlers(text: &mut String, agents: &[AgentAudit<'_>]) -> Result<(), AllocError>
     ensures { OnOk result (string_bytes text.new ≡ string_bytes text.old
         ++ written (flat_map crawler_lines agents.now)) }
@@ -124,7 +114,6 @@ pub(crate) fn push_crawlers(text: &mut String, agents: &[AgentAudit<'_>]) -> Res
     Ok(())
 }
 
-/// Appends a line for each verdict on each crawler.
 pub(crate) fn push_all_verdicts(
     text: &mut String,
     agents: &[AgentAudit<'_>],

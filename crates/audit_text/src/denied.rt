@@ -4,21 +4,19 @@ ghost use Rattle.audit_core.specs.Audit.{is_allowed, is_denied, shown, total, wi
 
 use audit_core::audit::{AgentAudit, Audit, Verdict};
 
-/// How many URLs are allowed and how many are denied, for all crawlers together.
+/// Of all crawlers together.
 #[derive(Clone, Copy)]
 pub struct Totals {
     pub allowed: u128,
     pub denied: u128,
 }
 
-/// Removes the verdicts that allow.
 fn keep_denied(verdicts: &mut Vec<Verdict<'_>>)
     ensures { verdicts.new.items ≡ filter is_denied verdicts.old.items }
 {
     verdicts.retain(|verdict| !verdict.decision.allowed);
 }
 
-/// Removes the verdicts that allow, for each crawler.
 fn keep_all_denied(agents: &mut [AgentAudit<'_>])
     ensures { agents.new ≡ map with_denied agents.old }
 {
@@ -27,7 +25,7 @@ fn keep_all_denied(agents: &mut [AgentAudit<'_>])
     }
 }
 
-/// The audit that is reported: all of it, or if `denied_only` is true that with the denied URLs alone.
+/// All of the audit, or if `denied_only` is true that with the denied URLs alone.
 pub fn shown<'a>(denied_only: bool, audit: Audit<'a>) -> Audit<'a>
     ensures { result ≡ shown denied_only audit.entry }
 {
@@ -38,7 +36,6 @@ pub fn shown<'a>(denied_only: bool, audit: Audit<'a>) -> Audit<'a>
     reported
 }
 
-/// How many of these verdicts allow.
 fn count_allowed(verdicts: &[Verdict<'_>]) -> usize
     ensures { result ≡ count_by is_allowed verdicts.now }
 {
@@ -48,7 +45,6 @@ fn count_allowed(verdicts: &[Verdict<'_>]) -> usize
         .count()
 }
 
-/// How many deny.
 fn count_denied(verdicts: &[Verdict<'_>]) -> usize
     ensures { result ≡ count_by is_denied verdicts.now }
 {

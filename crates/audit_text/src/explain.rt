@@ -14,7 +14,6 @@ use printable_text::parts::{Part, Value, push_line_of};
 use robots_warnings::table::{Cause, causes, is_name};
 use std::alloc::{AllocError, Global};
 
-/// The line about a warning in the list: its level, its name and its message.
 fn list_line(cause: Cause) -> [Part<'static>; 3]
     ensures { raw_line result ≡ line_text (list_line cause) }
 {
@@ -25,7 +24,6 @@ fn list_line(cause: Cause) -> [Part<'static>; 3]
     ]
 }
 
-/// The list of all warnings.
 fn list_text(alloc: Global) -> Result<Vec<u8>, AllocError>
     ensures { IfOk result (λ text. text.items ≡ list_text) }
 {
@@ -37,7 +35,6 @@ fn list_text(alloc: Global) -> Result<Vec<u8>, AllocError>
     Ok(text.into_bytes())
 }
 
-/// Appends a byte, and after LF four spaces.
 fn push_indented_byte(text: &mut Vec<u8>, byte: u8) -> Result<(), AllocError>
     ensures { OnOk result (text.new.items ≡ text.old.items ++ indented_byte byte) }
 {
@@ -48,7 +45,6 @@ fn push_indented_byte(text: &mut Vec<u8>, byte: u8) -> Result<(), AllocError>
     Ok(())
 }
 
-/// Appends these lines, each with four spaces before it.
 #[tactic(auto, unfolding(crate::specs::Explain::indented))]
 fn push_indented(text: &mut Vec<u8>, lines: &[u8]) -> Result<(), AllocError>
     ensures { OnOk result (text.new.items ≡ text.old.items ++ indented lines.now) }
@@ -60,7 +56,6 @@ fn push_indented(text: &mut Vec<u8>, lines: &[u8]) -> Result<(), AllocError>
     Ok(())
 }
 
-/// Appends a label, these lines, each with four spaces before it, and LF.
 fn push_example(text: &mut Vec<u8>, label: &str, lines: &str) -> Result<(), AllocError>
     ensures { OnOk result (text.new.items ≡ text.old.items ++ example_lines label.now lines.now) }
 {
@@ -69,7 +64,6 @@ fn push_example(text: &mut Vec<u8>, label: &str, lines: &str) -> Result<(), Allo
     text.extend_from_slice(b"\n")
 }
 
-/// The line with what the warning is about.
 fn about_line(cause: Cause) -> &'static str
     ensures { result.now ≡ about_line cause }
 {
@@ -82,14 +76,12 @@ fn about_line(cause: Cause) -> &'static str
     }
 }
 
-/// Whether the row is about the warning.
 fn is_own(cause: Cause, row: &(Cause, &'static str)) -> bool
     ensures { result ≡ (number_of row.now.0 == number_of cause) }
 {
     row.0 as usize == cause as usize
 }
 
-/// Appends the corrected example, if the row is about the warning.
 fn push_correction(
     text: &mut Vec<u8>,
     cause: Cause,
@@ -103,7 +95,6 @@ fn push_correction(
     push_example(text, "instead:\n", row.1)
 }
 
-/// Appends the corrected example of the warning, if it has one.
 #[tactic(auto, unfolding(crate::specs::Explain::corrections_of))]
 fn push_corrections(text: &mut Vec<u8>, cause: Cause) -> Result<(), AllocError>
     ensures { OnOk result (text.new.items ≡ text.old.items ++ corrections_of cause) }
@@ -114,7 +105,6 @@ fn push_corrections(text: &mut Vec<u8>, cause: Cause) -> Result<(), AllocError>
     Ok(())
 }
 
-/// Appends the line about a warning, and what it is about.
 #[tactic(auto, unfolding(crate::specs::Explain::heading))]
 fn push_heading(alloc: Global, text: &mut Vec<u8>, cause: Cause) -> Result<(), AllocError>
     ensures { OnOk result (text.new.items ≡ text.old.items ++ heading cause) }
@@ -125,7 +115,6 @@ fn push_heading(alloc: Global, text: &mut Vec<u8>, cause: Cause) -> Result<(), A
     text.extend_from_slice(about_line(cause).as_bytes())
 }
 
-/// Appends the line about a warning, what it is about, an example and a corrected one.
 fn push_explained(alloc: Global, text: &mut Vec<u8>, cause: Cause) -> Result<(), AllocError>
     ensures { OnOk result (text.new.items ≡ text.old.items ++ explained cause) }
 {
@@ -134,7 +123,6 @@ fn push_explained(alloc: Global, text: &mut Vec<u8>, cause: Cause) -> Result<(),
     push_corrections(text, cause)
 }
 
-/// Appends the explanation of a warning, if it has this name.
 fn push_if_named(
     alloc: Global,
     text: &mut Vec<u8>,
@@ -149,7 +137,6 @@ fn push_if_named(
     push_explained(alloc, text, cause)
 }
 
-/// Appends a line with the label and the text of the row, if the row is about the name.
 fn push_text(text: &mut Vec<u8>, label: &str, name: &str, row: &Named) -> Result<(), AllocError>
     ensures { OnOk result (text.new.items ≡ text.old.items ++ text_if_named label.now name.now (named_value row.now)) }
 {
@@ -161,7 +148,6 @@ fn push_text(text: &mut Vec<u8>, label: &str, name: &str, row: &Named) -> Result
     text.extend_from_slice(b"\n")
 }
 
-/// Appends the texts of these rows that are about the name.
 fn push_texts(text: &mut Vec<u8>, label: &str, name: &str, rows: &[Named]) -> Result<(), AllocError>
     ensures { OnOk result (text.new.items ≡ text.old.items
         ++ flat_map (text_if_named label.now name.now) (map named_value rows.now)) }
@@ -172,7 +158,6 @@ fn push_texts(text: &mut Vec<u8>, label: &str, name: &str, rows: &[Named]) -> Re
     Ok(())
 }
 
-/// The explanations of all warnings with this name.
 fn explanation(alloc: Global, name: &str) -> Result<Vec<u8>, AllocError>
     ensures { IfOk result (λ text. text.items ≡ explanation name.now) }
 {
@@ -193,11 +178,8 @@ pub fn list_warnings(alloc: Global) -> Result<Answer, Fault>
     Ok(text_answer(alloc, list_text(alloc)?))
 }
 
-/// The explanation of the warning with this name as the answer.
-///
-/// # Errors
-///
-/// `Fault::UnknownWarning` if no warning has this name.
+/// The explanation of the warning with this name as the answer. The error is `Fault::UnknownWarning` if there
+/// is none.
 pub fn explain(alloc: Global, name: &str) -> Result<Answer, Fault>
     ensures answer { IfOk result (λ answer. (is_name name.now ≡ true) × IsText (explanation name.now) answer) }
     ensures fault { IfErr result (IsUnexplained name.now) }

@@ -11,7 +11,6 @@ use printable_text::level::Level;
 use printable_text::sanitize::push_sanitized;
 use std::alloc::{AllocError, Global};
 
-/// Appends a byte of a property or of a message, escaped.
 fn push_escaped_byte(out: &mut Vec<u8>, is_property: bool, byte: u8) -> Result<(), AllocError>
     ensures { OnOk result (out.new.items ≡ out.old.items ++ escaped_byte is_property byte) }
 {
@@ -25,7 +24,6 @@ fn push_escaped_byte(out: &mut Vec<u8>, is_property: bool, byte: u8) -> Result<(
     }
 }
 
-/// Appends a property or a message, escaped.
 fn push_escaped(out: &mut Vec<u8>, is_property: bool, text: &[u8]) -> Result<(), AllocError>
     ensures { OnOk result (out.new.items ≡ out.old.items ++ escaped is_property text.now) }
 {
@@ -35,7 +33,6 @@ fn push_escaped(out: &mut Vec<u8>, is_property: bool, text: &[u8]) -> Result<(),
     Ok(())
 }
 
-/// Appends a property: its label, and its escaped value.
 fn push_property(out: &mut Vec<u8>, label: &[u8], value: &[u8]) -> Result<(), AllocError>
     ensures { OnOk result (out.new.items ≡ out.old.items ++ (label.now ++ property_text value.now)) }
 {
@@ -43,7 +40,6 @@ fn push_property(out: &mut Vec<u8>, label: &[u8], value: &[u8]) -> Result<(), Al
     push_escaped(out, true, value)
 }
 
-/// The command for a level, up to the name of the file.
 fn command_label(level: Level) -> &'static [u8]
     ensures { result.now ≡ (command_label level).text }
 {
@@ -54,7 +50,6 @@ fn command_label(level: Level) -> &'static [u8]
     }
 }
 
-/// Appends the property with the line, if there is one.
 fn push_line_property(out: &mut Vec<u8>, line: Option<usize>) -> Result<(), AllocError>
     ensures { OnOk result (out.new.items ≡ out.old.items ++ line_property line) }
 {
@@ -64,7 +59,7 @@ fn push_line_property(out: &mut Vec<u8>, line: Option<usize>) -> Result<(), Allo
     }
 }
 
-/// Appends the line with the command for a finding. `file` is the sanitized name of the file.
+/// `file` is the sanitized name of the file.
 fn push_command(out: &mut Vec<u8>, file: &str, finding: &Finding) -> Result<(), AllocError>
     ensures { OnOk result (out.new.items ≡ out.old.items ++ ended (command file.now (finding_value finding.now) ∷ [])) }
 {
@@ -76,7 +71,6 @@ fn push_command(out: &mut Vec<u8>, file: &str, finding: &Finding) -> Result<(), 
     out.extend_from_slice(b"\n")
 }
 
-/// Appends a line for each of these findings.
 fn push_commands(out: &mut Vec<u8>, file: &str, findings: &[Finding]) -> Result<(), AllocError>
     ensures { OnOk result (out.new.items
         ≡ out.old.items ++ ended (map (command file.now) (map finding_value findings.now))) }
@@ -87,7 +81,7 @@ fn push_commands(out: &mut Vec<u8>, file: &str, findings: &[Finding]) -> Result<
     Ok(())
 }
 
-/// The commands for these findings, which are about the file with this name.
+/// One line for each finding in the file with this name.
 pub fn github_text(alloc: Global, file: &str, findings: &[Finding]) -> Result<Vec<u8>, AllocError>
     ensures { IfOk result (λ text. text.items ≡ github_text file.now (map finding_value findings.now)) }
 {

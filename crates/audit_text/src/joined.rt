@@ -12,10 +12,8 @@ use robots_warnings::warning::{Detail, Warning};
 use std::alloc::{AllocError, Global};
 use std::collections::BTreeSet;
 
-/// The numbers of reasons.
 type Numbers = BTreeSet<usize>;
 
-/// Whether the end of a message may be that of other messages with its reason, too.
 fn has_shared_end(detail: Option<Detail>) -> bool
     ensures { result ≡ has_shared_end detail }
 {
@@ -25,7 +23,6 @@ fn has_shared_end(detail: Option<Detail>) -> bool
     }
 }
 
-/// Whether the warning is a note about a line that is written as one with others.
 fn is_joined(warning: &Warning<'_>) -> bool
     ensures { result ≡ is_joined warning.now }
 {
@@ -33,14 +30,13 @@ fn is_joined(warning: &Warning<'_>) -> bool
         && (warning.line.is_some() && has_shared_end(warning.detail))
 }
 
-/// Whether the warning is such a note, and its reason has this number.
 fn is_joined_as(number: usize, warning: &Warning<'_>) -> bool
     ensures { result ≡ is_joined_as number warning.now }
 {
     is_joined(warning) && warning.cause as usize == number
 }
 
-/// Whether none of the earlier warnings, whose reasons are `met`, has the line of this one. Its reason is inserted.
+/// None of the earlier warnings, whose reasons are `met`, has the line of this one. Its reason is inserted.
 fn is_first(met: &mut Numbers, warning: &Warning<'_>) -> Result<bool, AllocError>
     ensures first { IfOk result (λ first. first
         ≡ not (is_joined warning.now && contains nat_cmp met.old (number_of warning.now.cause))) }
@@ -54,7 +50,6 @@ fn is_first(met: &mut Numbers, warning: &Warning<'_>) -> Result<bool, AllocError
     }
 }
 
-/// Appends the warning if `holds` is true.
 pub(crate) fn push_if<'a>(
     found: &mut Vec<Warning<'a>>,
     holds: bool,
@@ -69,7 +64,6 @@ pub(crate) fn push_if<'a>(
     Ok(())
 }
 
-/// The warnings without the notes whose lines an earlier one has.
 pub(crate) fn joined<'a>(
     alloc: Global,
     warnings: &[Warning<'a>],
@@ -85,7 +79,6 @@ pub(crate) fn joined<'a>(
     Ok(found)
 }
 
-/// The line of such a note whose reason has this number.
 fn line_as(number: usize, warning: &Warning<'_>) -> Option<usize>
     ensures { result ≡ line_as number warning.now }
 {
@@ -96,7 +89,6 @@ fn line_as(number: usize, warning: &Warning<'_>) -> Option<usize>
     }
 }
 
-/// Appends this line, if there is one.
 fn push_line_as(
     lines: &mut Vec<usize>,
     number: usize,
@@ -110,7 +102,7 @@ fn push_line_as(
     Ok(())
 }
 
-/// The lines of all notes that are written as this one; none if it isn't such a note.
+/// None if the warning isn't such a note.
 pub(crate) fn shared_lines(
     alloc: Global,
     warning: &Warning<'_>,
@@ -129,7 +121,6 @@ pub(crate) fn shared_lines(
     Ok(lines)
 }
 
-/// What comes before the line with this index.
 fn also_front(at: usize, count: usize) -> &'static str
     requires { at < count }
     ensures { result.now ≡ (also_front at count).text }
@@ -147,7 +138,6 @@ fn also_front(at: usize, count: usize) -> &'static str
     }
 }
 
-/// The line with this index, if there is one.
 fn also_part(lines: &[usize], at: usize) -> Part<'static>
     ensures { raw_text result ≡ part_text (also_part lines.now at) }
 {
@@ -157,7 +147,6 @@ fn also_part(lines: &[usize], at: usize) -> Part<'static>
     }
 }
 
-/// How many lines aren't named, if there are any.
 fn also_more(count: usize) -> Part<'static>
     ensures { raw_text result ≡ part_text (also_more count) }
 {
@@ -168,7 +157,6 @@ fn also_more(count: usize) -> Part<'static>
     }
 }
 
-/// The end of the list of lines.
 fn also_end(count: usize) -> Part<'static>
     ensures { raw_text result ≡ part_text (also_end count) }
 {
@@ -181,7 +169,7 @@ fn also_end(count: usize) -> Part<'static>
     }
 }
 
-/// The lines of the other notes, of which three are named; the first of all lines is that of the note.
+/// Three of the other lines are named; the first of all lines is that of the note.
 pub(crate) fn also_parts(lines: &[usize]) -> [Part<'static>; 5]
     ensures { raw_line result ≡ parts_text (also_parts lines.now) }
 {

@@ -1,5 +1,5 @@
-//! The audit as lines of text with the warnings, and as annotations for GitHub; the list of all warnings, and the
-//! explanation of one; what `--denied` leaves out of a report.
+//! The audit as lines of text with the warnings, and as annotations for GitHub; the list of all warnings, and
+//! the explanation of one; what `--denied` leaves out of a report.
 #![tactic(auto)]
 
 mod conditions;

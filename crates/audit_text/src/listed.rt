@@ -1,5 +1,5 @@
-//! Which warnings the text lists: of those that are left when notes are joined, the first twenty of each name and
-//! level. For the others it has their number.
+//! Which warnings the text lists: when notes are joined, the first twenty of each name and level, and the
+//! number of the others.
 ghost use Rattle.std.specs.Prelude.{◌≡◌, ℕ, ◌+◌, ◌<◌, IfOk, List, OnOk, if◌then◌else◌, map};
 ghost use Rattle.audit_text.specs.Internal.Listed.{AreCounts, counted};
 ghost use Rattle.audit_text.specs.Listed.{first_many, is_like, listed, more, more_of, unlisted};
@@ -12,10 +12,9 @@ use robots_warnings::warning::Warning;
 use std::alloc::{AllocError, Global};
 use std::collections::BTreeMap;
 
-/// How many warnings of one name and level are listed.
 const MOST: usize = 20;
 
-/// The numbers of warnings with a name, one for each level.
+/// One number for each level.
 type Counts = BTreeMap<&'static str, [usize; 3]>;
 
 /// How many warnings with the name and the level of this one aren't listed.
@@ -25,14 +24,12 @@ pub(crate) struct More {
     pub(crate) number: usize,
 }
 
-/// The warnings that are listed, and the numbers of the others.
 #[derive(Drop)]
 pub(crate) struct Listing<'a> {
     pub(crate) warnings: Vec<Warning<'a>>,
     pub(crate) more: Vec<More>,
 }
 
-/// The numbers of warnings, those that are listed, and the first of each name and level that isn't.
 #[derive(Drop)]
 struct Tally<'a> {
     counts: Counts,
@@ -40,14 +37,13 @@ struct Tally<'a> {
     unlisted: Vec<Warning<'a>>,
 }
 
-/// How many warnings with the name and the level of this one have been counted.
 fn counted(counts: &Counts, cause: Cause) -> usize
     ensures { result ≡ counted counts.now (name_of cause) (level_of cause) }
 {
     counts.get(cause.name()).copied().unwrap_or([0; 3])[cause.level() as usize]
 }
 
-/// Counts a warning. The result is how many with its name and level were counted before.
+/// The result is how many with its name and level were counted before.
 fn count(counts: &mut Counts, cause: Cause) -> Result<usize, AllocError>
     requires { counted counts.old (name_of cause) (level_of cause) < 18446744073709551615 }
     ensures place { IfOk result (λ place. place ≡ counted counts.old (name_of cause) (level_of cause)) }
@@ -60,7 +56,6 @@ fn count(counts: &mut Counts, cause: Cause) -> Result<usize, AllocError>
     Ok(place)
 }
 
-/// Counts the warnings with each name and level.
 fn tally_of<'a>(alloc: Global, warnings: &[Warning<'a>]) -> Result<Tally<'a>, AllocError>
     ensures counts { IfOk result (λ tally. AreCounts tally.counts warnings.now) }
     ensures listed { IfOk result (λ tally. tally.listed.items
@@ -83,7 +78,6 @@ fn tally_of<'a>(alloc: Global, warnings: &[Warning<'a>]) -> Result<Tally<'a>, Al
     })
 }
 
-/// The numbers of the warnings that aren't listed.
 fn more_in(
     alloc: Global,
     counts: &Counts,
@@ -101,7 +95,7 @@ fn more_in(
     Ok(found)
 }
 
-/// The first twenty of each name and level, in order, and how many more there are, in the order of the first of them.
+/// In order, and how many more there are, in the order of the first of them.
 pub(crate) fn listing_of<'a>(
     alloc: Global,
     warnings: &[Warning<'a>],

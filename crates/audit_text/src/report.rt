@@ -25,7 +25,6 @@ use robots_warnings::table::Cause;
 use robots_warnings::warning::{Warning, push_warning_text};
 use std::alloc::{AllocError, Global};
 
-/// Appends the lines about a crawler: its group, its delay, whether the file is rejected for it, and its verdicts.
 fn push_agent(text: &mut String, agent: &AgentAudit<'_>) -> Result<(), AllocError>
     ensures { OnOk result (string_bytes text.new ≡ string_bytes text.old
         ++ written (agent_lines agent.now)) }
@@ -36,7 +35,6 @@ fn push_agent(text: &mut String, agent: &AgentAudit<'_>) -> Result<(), AllocErro
     push_verdicts(text, None, &agent.verdicts)
 }
 
-/// Appends the lines about each crawler.
 fn push_agents(
     text: &mut String,
     is_single: bool,
@@ -55,7 +53,6 @@ fn push_agents(
     Ok(())
 }
 
-/// Appends the lines that the file has the syntax of RFC 9309, and its verdicts, if this is known.
 fn push_syntax(text: &mut String, syntax: Syntax) -> Result<(), AllocError>
     ensures { OnOk result (string_bytes text.new ≡ string_bytes text.old ++ written (syntax_lines syntax)) }
 {
@@ -96,9 +93,6 @@ pub fn push_totals(text: &mut String, totals: Totals) -> Result<(), AllocError>
     text.push_str(" denied\n")
 }
 
-// ---- warnings
-
-/// The line that a warning is about.
 fn place_part(line: Option<usize>) -> Part<'static>
     ensures { raw_text result ≡ part_text (place_part line) }
 {
@@ -108,7 +102,6 @@ fn place_part(line: Option<usize>) -> Part<'static>
     }
 }
 
-/// The file, the line and the level of a warning.
 fn front_of<'a>(has_colors: bool, file: &'a str, warning: &Warning<'_>) -> [Part<'a>; 4]
     ensures { raw_line result ≡ level_text has_colors (line_about file.entry.now warning.now []) }
 {
@@ -123,7 +116,6 @@ fn front_of<'a>(has_colors: bool, file: &'a str, warning: &Warning<'_>) -> [Part
     ]
 }
 
-/// The name of a warning in brackets.
 fn name_parts(cause: Cause) -> [Part<'static>; 2]
     ensures { raw_line result ≡ parts_text (name_parts cause) }
 {
@@ -133,7 +125,6 @@ fn name_parts(cause: Cause) -> [Part<'static>; 2]
     ]
 }
 
-/// Appends the message of a warning, the lines of other notes, and the name.
 fn push_shown(text: &mut String, lines: &[usize], warning: &Warning<'_>) -> Result<(), AllocError>
     ensures { OnOk result (string_bytes text.new ≡ string_bytes text.old
         ++ parts_text (shown_parts lines.now warning.now)) }
@@ -143,8 +134,7 @@ fn push_shown(text: &mut String, lines: &[usize], warning: &Warning<'_>) -> Resu
     push_parts(text, &name_parts(warning.cause))
 }
 
-/// Appends a warning about the file with this name, its level in color if there are colors; `lines` are those of all
-/// notes that are written as this one.
+/// `lines` are those of all notes that are written as this one.
 fn push_warning(
     text: &mut String,
     has_colors: bool,
@@ -160,7 +150,6 @@ fn push_warning(
     text.push('\n')
 }
 
-/// The listed warnings about the file with this name, one per line; `all` are all warnings.
 fn warning_lines(
     alloc: Global,
     has_colors: bool,
@@ -179,7 +168,6 @@ fn warning_lines(
     Ok(text)
 }
 
-/// How many more warnings about a file have a level and a name.
 fn more_line<'a>(file: &'a str, more: &More) -> [Part<'a>; 5]
     ensures { raw_line result ≡ named_text (more_line file.entry.now more.now) }
 {
@@ -192,8 +180,7 @@ fn more_line<'a>(file: &'a str, more: &More) -> [Part<'a>; 5]
     ]
 }
 
-/// The warnings about the file with this name that are listed, how many more there are, and how many there are of each
-/// level.
+/// The warnings that are listed, how many more there are, and how many there are of each level.
 pub fn listed_lines(
     alloc: Global,
     has_colors: bool,

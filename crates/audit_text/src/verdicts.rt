@@ -8,7 +8,6 @@ use audit_core::audit::Verdict;
 use printable_text::parts::{Part, Value, push_line_of};
 use std::alloc::AllocError;
 
-/// The line that decides.
 fn deciding(line: Option<usize>) -> Value<'static>
     ensures { raw_value result ≡ value_text (deciding line) }
 {
@@ -18,7 +17,6 @@ fn deciding(line: Option<usize>) -> Value<'static>
     }
 }
 
-/// The crawler's name before a URL, if it is given.
 fn name_part<'a>(name: Option<&'a str>) -> Part<'a>
     ensures { raw_text result ≡ part_text (name_part (option_map (λ name. name.now) name.entry)) }
 {
@@ -28,7 +26,6 @@ fn name_part<'a>(name: Option<&'a str>) -> Part<'a>
     }
 }
 
-/// The line with the verdict on a URL for the crawler with this name, if it is given.
 fn verdict_line<'a>(name: Option<&'a str>, verdict: &Verdict<'a>) -> [Part<'a>; 3]
     ensures { raw_line result ≡ line_text (verdict_line (option_map (λ name. name.now) name.entry) verdict.now) }
 {
@@ -46,7 +43,6 @@ fn verdict_line<'a>(name: Option<&'a str>, verdict: &Verdict<'a>) -> [Part<'a>; 
     ]
 }
 
-/// Appends a line for each verdict for the crawler with this name, if it is given.
 pub(crate) fn push_verdicts(
     text: &mut String,
     name: Option<&str>,

@@ -1,5 +1,4 @@
--- The parts of a directive that has a colon after its field name: what is before and after a byte, what is
--- between spaces and tabs, and the field name, which is one of the usual names.
+-- The parts of a directive that has a colon after its field name, which is one of the usual names.
 use Rattle.std.proofs.lemmas.{Grind.common_steps, List.Sums.take_while-cons, Bool.Decides.nat_tests}
 use Rattle.std.proofs.Common.{rules, take, append-nil, append_assoc, ◌≡◌, ◌≢◌, inl, inr, ℕ, ◌==◌, true, List}
 use Rattle.std.proofs.Common.{[], ◌∷◌, ◌++◌, ap, arith, drop, length, not, refl, subst, sym, ◌∙◌, reverse}
@@ -20,8 +19,6 @@ use Rattle.rfc9309_laws.proofs.{HasFormLemmas.leading, SyntaxLemmas.each_weaker}
 use Rattle.texting_robots.proofs.{TrimLemmas.each_append}
 use Rattle.texting_robots.specs.Internal.{Statement.IsOptionalComment}
 use Rattle.rfc9309_laws.specs.Rfc9309 as rfc
-
--- ---- the first occurrence of a byte
 
 pub at_front : (stop : ℕ) (front rest : List ℕ) → Each (λ b. b ≢ stop) front
     → position_or_len (λ b. b == stop) (front ++ stop ∷ rest) ≡ length front
@@ -53,15 +50,12 @@ pub after_is : (stop : ℕ) (front rest : List ℕ) → Each (λ b. b ≢ stop) 
     → after_byte stop (front ++ stop ∷ rest) ≡ rest
 after_is stop front rest all = grind (arith, at_front, drop-append-add)
 
--- the first bytes aren't the one that is looked for
 pub before_front : (stop : ℕ) (front rest : List ℕ) → Each (λ b. b ≢ stop) front
     → before_byte stop (front ++ rest) ≡ front ++ before_byte stop rest
 before_front stop [] rest all = refl
 before_front stop (b ∷ front) rest all =
     take_while-cons (λ c. not (c == stop)) b (front ++ rest)
     ∙ rw (ne_eqb b stop all.0) (ap (λ t. b ∷ t) (before_front stop front rest all.1))
-
--- ---- spaces and tabs at both ends
 
 each_reverse : (P : ℕ → Type 0) (xs : List ℕ) → Each P xs → Each P (reverse xs)
 each_reverse P [] all = tt
@@ -78,7 +72,6 @@ trailing text =
       sym (reverse-reverse text) ∙ ap reverse whole ∙ reverse-append front (without_front (reverse text)),
     )
 
--- spaces and tabs, the raw value, and spaces and tabs
 pub record IsAround (text : List ℕ) : Type 0 where
   pub front : List ℕ
   pub back : List ℕ
@@ -98,9 +91,6 @@ around text =
       back_blank = after;
     }
 
--- ---- bytes of a name
-
--- neither a colon nor `#`
 abbrev pub IsPlainByte : ℕ → Type 0
 IsPlainByte b = (b ≢ 58) × (b ≢ 35)
 
@@ -119,7 +109,6 @@ plain_bytes (b ∷ key) (c ∷ word) e all =
     let both = and_parts (is_plain_byte c) (list_all is_plain_byte word) all in
     (plain_byte b (subst (λ d. is_plain_byte d ≡ true) (sym same) both.0), plain_bytes key word (cc) both.1)
 
--- the text begins with a byte that is neither a space nor a tab
 abbrev pub begins_solid : List ℕ → Bool
 begins_solid [] = false
 begins_solid (b ∷ text) = not (is_space_or_tab b)
@@ -128,23 +117,18 @@ in_order : (kind : Kind) (name : List ℕ) → Contains (field_names kind) name
     → (list_all is_plain_byte name ≡ true) × (begins_solid name ≡ true)
 in_order kind name is = grind (arith, common_steps)
 
--- a name has neither a colon nor `#`
 pub plain_key : (kind : Kind) (key : List ℕ) → Contains (field_names kind) (str_to_ascii_lowercase key)
     → Each IsPlainByte key
 plain_key kind key is = grind (arith, plain_bytes, in_order)
-
--- ---- the usual names
 
 abbrev pub usual_names : List (List ℕ)
 usual_names =
     codes "user-agent" ∷ codes "allow" ∷ codes "disallow" ∷ codes "sitemap" ∷ codes "crawl-delay" ∷ []
 
--- the text, in lower case, starts with one of the usual names
 abbrev begins_usual : List ℕ → Bool
 begins_usual text =
     list_any (λ (name : List ℕ). bytes_eq (take (length name) text) (map to_ascii_lowercase name)) usual_names
 
--- the field name of a line that starts with a usual one is the standard's
 pub usual_key : (kind : Kind) (key rest : List ℕ) → Contains (field_names kind) (str_to_ascii_lowercase key)
     → list_any (λ (name : List ℕ). begins_with name (key ++ rest)) usual_names ≡ true
     → map to_ascii_lowercase key ≡ word_of kind
@@ -154,20 +138,14 @@ usual_key kind key rest is begins =
     rw (← map-append, take-map, take-map, take-map, take-map, take-map) begins in
     grind (arith, common_steps)
 
--- ---- no accepted name continues another one
-
 pub not_continued : (kind : Kind) (key more : List ℕ) (b : ℕ)
     → Contains (field_names kind) (str_to_ascii_lowercase key)
     → is_any_accepted (key ++ b ∷ more) ≡ false
 not_continued kind key more b is = grind (arith, common_steps)
 
--- ---- the first byte of a name
-
 pub solid_key : (kind : Kind) (key : List ℕ) → Contains (field_names kind) (str_to_ascii_lowercase key)
     → begins_solid key ≡ true
 solid_key kind key is = grind (arith, common_steps)
-
--- ---- the parts
 
 -- margin, field name, blanks, colon, value and comment
 pub record HasColon (kind : Kind) (value body : List ℕ) : Type 0 where
@@ -187,7 +165,6 @@ pub record HasColon (kind : Kind) (value body : List ℕ) : Type 0 where
 blank_plain : (b : ℕ) → IsBlank b → IsPlainByte b
 blank_plain b is = (λ e. omega arith, λ e. omega arith)
 
--- neither a colon nor `#` is before the colon
 pub plain_front : (kind : Kind) (margin key blanks : List ℕ) → Each IsBlank margin
     → Contains (field_names kind) (str_to_ascii_lowercase key) → Each IsBlank blanks
     → Each IsPlainByte (margin ++ (key ++ blanks))
@@ -215,7 +192,6 @@ module _ (kind : Kind) (value body : List ℕ) (line : HasColon kind value body)
   before_comment comment (inl none) = rw (none, append-nil) (before_all 35 kept no_hash)
   before_comment comment (inr (text, is)) = rw is (before_is 35 kept text no_hash)
 
-  -- the tail of the line, as the warnings see it
   pub tail_is : tail_of body ≡ line.region
   tail_is = search (rules, parted, before_comment, after_is, each_weaker, plain)
 
@@ -223,11 +199,8 @@ module _ (kind : Kind) (value body : List ℕ) (line : HasColon kind value body)
   from_comment comment (inl none) = rw (none, append-nil) (from_none 35 kept no_hash)
   from_comment comment (inr (text, is)) = rw is (from_is 35 kept text no_hash)
 
-  -- and its comment
   pub comment_is : comment_of body ≡ line.comment
   comment_is = rw parted (from_comment line.comment line.is_comment)
-
--- ---- the colon
 
 solid_absurd : (b : ℕ) → not (is_space_or_tab b) ≡ true → rfc.IsWs b → ⊥
 solid_absurd b is blank = grind (arith, nat_tests)
@@ -264,9 +237,6 @@ continued kind margin key blanks text b c before is solid =
     rw (leading_gone margin whole before, kept, same, append_assoc)
     (not_continued kind key (blanks ++ c ∷ more) b is)
 
--- ---- the directive
-
--- there is a colon in a line with one
 colon_in : (front tail : List ℕ) → Each (λ b. b ≢ 58) front
     → list_any (λ b. b == 58) (front ++ tail) ≡ list_any (λ b. b == 58) tail
 colon_in [] tail all = refl

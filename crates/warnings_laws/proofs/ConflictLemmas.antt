@@ -25,12 +25,8 @@ use Rattle.texting_robots.proofs.SegmentLemmas.{in_front, plain_wildcards}
 use Rattle.robots_needless.proofs.{TogetherLemmas.unplaced_of}
 use Rattle.warnings_laws.proofs.{WarningLemmas.without_path}
 
--- ---- What `hash-cuts-rule` and `allowed-and-disallowed` imply; and about first lines, which others have,
--- too.
+-- ---- What `hash-cuts-rule` and `allowed-and-disallowed` imply.
 
--- ---- patterns
-
--- at the end of a text, too
 stars_match : (pattern : List ℕ) → list_all is_star_or_dollar pattern ≡ true → Matches pattern []
 unfolding MatchesWith
 stars_match [] stars = tt
@@ -53,7 +49,6 @@ anything_matches (b ∷ pattern) text is =
     subst (λ b. Matches (b ∷ pattern) text) (sym (eqb-true b (byte "*") first))
     ([], (text, sym (append-nil text)), stars_match pattern stars)
 
--- after a slash
 rest_matches : (pattern text : List ℕ) → (length pattern == 0 || is_anything pattern) ≡ true
     → Matches pattern text
 unfolding MatchesWith
@@ -93,15 +88,10 @@ pub cut_to_root_matches : (value tail comment path : List ℕ) → is_cut_to_roo
 cut_to_root_matches value tail comment path is =
     search (rules, and_parts, whole_site_stays, whole_site_matches)
 
--- ---- rules
-
--- all lists of a crawler's rules have the same members
 pub also_listed : {agent : List ℕ} {lines : List LineValue} {rules others : List PlacedRule}
     → AreRulesFor agent lines rules → AreRulesFor agent lines others → (placed : PlacedRule)
     → Contains rules placed → Contains others placed
 also_listed are also placed has = (also.held placed).1 ((are.held placed).0 has)
-
--- ---- the first number that a function gives
 
 pub first_found : {X : Type 0} (f : X → Option ℕ) (xs : List X) (n : ℕ) → first_of f xs ≡ Some n
     → Any (λ x. f x ≡ Some n) xs
@@ -138,7 +128,6 @@ kind_is : (is_allow kind : Bool) → (if is_allow then kind else not kind) ≡ t
 kind_is true kind is = is
 kind_is false kind is = not-true kind is
 
--- the rule in the first line that has one like this
 pub like_found : (is_empty : ℕ → Bool) (rules : List PlacedRule) (is_allow : Bool) (pattern : List ℕ)
     (other : ℕ) → first_line (is_like is_empty is_allow pattern) rules ≡ Some other
     → (one : PlacedRule) × Contains rules one × (one.rule.1 ≡ is_allow) × (compared one.rule.0 ≡ pattern)
@@ -159,9 +148,6 @@ like_holds is_empty rules is_allow pattern other own same stated has =
     by true = refl
     by false = refl
 
--- ---- the condition
-
--- a rule of this kind and in this line is among the rules
 pub listed : (rules : List PlacedRule) (placed : PlacedRule) (is_allow : Bool) (number : ℕ)
     → Contains rules placed → placed.rule.1 ≡ is_allow → placed.line ≡ number
     → Contains rules (record { rule = (placed.rule.0, is_allow); line = number })
@@ -199,9 +185,6 @@ conflict_holds is_empty lines number other agent is =
     (record { rule = (is.pattern, false); line = number })
     (also_listed is.are own _ is.disallow) (rw (eq-eqb number number refl) allowed)
 
--- ---- patterns that are compared alike
-
--- a pattern is compared as it is, unless it is `*`
 star_or_same : (pattern : List ℕ)
     → (compared pattern ≡ pattern) ⊎ ((pattern ≡ codes "*") × (compared pattern ≡ codes "/"))
 star_or_same pattern = grind (arith, bytes_eq, bytes_eq-Decides)
@@ -229,9 +212,6 @@ pub path_wins : (pattern other path : List ℕ) → compared other ≡ compared 
 unfolding Wins
 path_wins pattern other path same = wins_on_paths pattern other path same
 
--- ---- the deciding line
-
--- a line holds at most one rule
 one_rule : (agent : List ℕ) (lines : List LineValue) (place : ℕ) (rule other : Rule)
     → HoldsRule agent lines place rule → HoldsRule agent lines place other → rule ≡ other
 one_rule agent lines place rule other one two = grind (arith, common_steps)
@@ -260,7 +240,7 @@ conflict_never_decides is_empty agent lines rules number other text is wins are 
       inl (refl, ap (λ (rule : Rule). rule.1) same),
     ))
 
--- ---- What `closes-everything` implies, and what is said to be all or nothing that a crawler may fetch.
+-- ---- What `closes-everything` implies, and that a crawler may fetch all or nothing.
 
 line_given : (test : PlacedRule → Bool) (placed : PlacedRule) → is_some (line_if test placed) ≡ test placed
 line_given test placed = by (test placed)
@@ -276,11 +256,9 @@ none_at test xs none k d below = elim (cases_Bool (test (slice_index_or xs k d))
   | inr isnt ↦ isnt
 ]
 
--- an Allow that isn't exempt and isn't a rival of the pattern is shorter
 is_shorter : (n m : ℕ) → nat_le n m ≡ false → m < n
 is_shorter n m isnt = grind (arith, nat_tests)
 
--- a text is denied if a rule closes the site, and no exempt pattern matches the text
 pub closed_denies : (is_exempt : List ℕ → Bool) (agent : List ℕ) (lines : List LineValue)
     (rules : List PlacedRule) (text : List ℕ)
     → is_some (closing_line is_exempt (placed_rules agent lines)) ≡ true → AreRulesFor agent lines rules
@@ -320,7 +298,6 @@ closed_denies is_exempt agent lines rules text is are differs opens =
     shorter n pattern matches isnt (inr stated) (inr may) =
         is_shorter n (length pattern) (rw (stated, may) at isnt)
 
--- a text that a path matches as a pattern, with or without `$`, starts with the path
 starts : (path text : List ℕ) → starts_with nat_eq (path ++ text) path ≡ true
 starts [] text = refl
 starts (b ∷ path) text = rw (eq-eqb b b refl) (starts path text)
@@ -345,7 +322,6 @@ literally_starts pattern path text is matches =
         let all = plain_wildcards path (none_at is_star_or_dollar path none) in
         let (after, is, _) = (in_front true path rest text all).0 matches in rw is (starts path after)
 
--- a line closes the site only to a crawler whose vendor applies no other group
 closed_by : (other : Bool) (line : Option ℕ) {number : ℕ} → (if other then None else line) ≡ Some number
     → line ≡ Some number
 closed_by true line is = cc
@@ -371,8 +347,6 @@ closes_everything agent lines rules number text is are none =
     within path (k, below, at) begins =
         list_any-from_Any (starts_with nat_eq (byte "/" ∷ text)) (opened_paths lines)
         (k, path, below, at, begins)
-
--- ---- what a crawler may fetch
 
 abbrev is_everything : Reach → Bool
 is_everything Everything = true

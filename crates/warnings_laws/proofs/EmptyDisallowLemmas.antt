@@ -27,13 +27,10 @@ use Rattle.texting_robots.proofs.{BestLemmas.placed_of}
 use Rattle.texting_robots.specs.declared.parser.statement.{Kind.Kind}
 use Rattle.texting_robots.specs.declared.parser.statement.Kind.TheVariants as kind
 
--- ---- a line
-
 skipped : (body : List ℕ) → without_front body ≡ skip_blanks body
 skipped [] = refl
 skipped (b ∷ body) = grind (arith, common_steps)
 
--- the first letter tells whether it can be a Disallow
 d_selects : (text : List ℕ) → begins_with_d text ≡ true → kind_by text ≡ Some kind.Disallow
 d_selects [] is = cc
 d_selects (b ∷ text) is = grind (arith, common_steps)
@@ -48,7 +45,6 @@ selects_d : (text : List ℕ) → kind_by text ≡ Some kind.Disallow → begins
 selects_d [] is = cc
 selects_d (b ∷ text) is = lower_d b (only_d (to_ascii_lowercase b) is)
 
--- the kind of a directive is the one that the first letter selects
 selected : (kind : Kind) (value body : List ℕ) → IsStatement kind value body
     → kind_by (skip_blanks body) ≡ Some kind
 unfolding statement_of
@@ -58,7 +54,6 @@ selected kind value body is =
     option_and_then_some _ (tail_as k text) (kind, value) found (λ tail reads same.
     by ∙ ap (λ (p : Kind × List ℕ). Some p.0) (same_Some _ _ same)))
 
--- the line of an empty Disallow
 pub empty_is_allow : (line : LineValue) (body : List ℕ) → IsLineOf line body
     → IsStatement kind.Disallow [] body → line ≡ Allow (codes "/")
 empty_is_allow line body (inl (k, value, is, line_is)) empty =
@@ -86,8 +81,6 @@ empty_holds line body of_body is =
     ap begins_with_d (skipped body) ∙ selects_d (skip_blanks body) (selected kind.Disallow [] body is) in
     rw (empty_is_allow line body of_body is) d
 
--- ---- the lines of a file
-
 abbrev OfBody : Label → List ℕ → Type 0
 OfBody label body = IsLineOf label.line body
 
@@ -102,7 +95,6 @@ some_there : {Y : Type 0} (o : Option Y) (P : Y → Type 0) → IsSomeAnd o P �
 some_there None P is = absurd is
 some_there (Some y) P is = (y, refl, is)
 
--- the items at an index belong together
 right_at : {X Y : Type 0} (R : X → Y → Type 0) (xs : List X) (ys : List Y) (i : ℕ) (x : X)
     → AllZip R xs ys → slice_get xs i ≡ Some x → (y : Y) × (slice_get ys i ≡ Some y) × R x y
 right_at R xs ys i x all at =
@@ -113,7 +105,6 @@ left_at : {X Y : Type 0} (R : X → Y → Type 0) (xs : List X) (ys : List Y) (i
 left_at R xs ys i y all at =
     some_there (slice_get xs i) (λ x. R x y) (rw at at (AllZip-right R xs ys all i))
 
--- a number that the function holds for
 abbrev IsFound : List Label → List (List ℕ) → ℕ → Type 0
 IsFound labels bodies number =
     (i : ℕ) × (label : Label) × (body : List ℕ) × (slice_get labels i ≡ Some label)
@@ -179,8 +170,6 @@ empty_disallows name file labels number are = (
 abbrev pub root : List ℕ
 root = codes "/"
 
--- ---- the warning
-
 pub overruled_is : (is_empty : ℕ → Bool) (lines : List LineValue) (number other : ℕ) (agent : List ℕ)
     → overruled_for is_empty lines number agent ≡ Some other → IsOverruled is_empty agent lines number other
 overruled_is is_empty lines number other agent holds =
@@ -239,9 +228,6 @@ overruled_holds is_empty lines number other agent is =
           (rw (eq-eqb number number refl, is.empty, none) denied)
     ]
 
--- ---- patterns of one byte
-
--- a pattern of one byte that matches a path is `/` or `*`
 one_byte : (pattern text : List ℕ) → length pattern ≡ 1 → Matches pattern text → Matches root text
     → compared pattern ≡ root
 unfolding MatchesWith
@@ -249,15 +235,12 @@ one_byte [] text long matches path = absurd (omega arith)
 one_byte (b ∷ c ∷ pattern) text long matches path = absurd (omega arith)
 one_byte (b ∷ []) text long (s, takes, end) (rest, begins, more) = grind (arith, common_steps)
 
--- such a pattern matches each path, and is as long as `/`
 root_wins : (pattern text : List ℕ) → compared pattern ≡ root → Matches root text
     → Matches pattern text × (length pattern ≡ 1)
 unfolding MatchesWith
 root_wins pattern text same (rest, begins, more) =
     let wins = path_wins root pattern rest same in
     (subst (Matches pattern) (sym begins) (wins.0 (rest, refl, tt)), sym wins.1)
-
--- ---- rules at empty Disallows
 
 module _ (agent file : List ℕ) (rules : List PlacedRule)
     (are : AreRulesFor agent (lines_read file) rules) where
@@ -269,7 +252,6 @@ module _ (agent file : List ℕ) (rules : List PlacedRule)
   value_of true value same = (refl, cc)
   value_of false value same = cc
 
-  -- an empty Disallow gives the rule `/`, which allows
   pub rule_there : (placed : PlacedRule) → Contains rules placed → IsEmptyDisallow bodies placed.line
       → placed.rule ≡ (root, true)
   rule_there placed has (position, body, is, at, stated) =
@@ -286,7 +268,6 @@ module _ (agent file : List ℕ) (rules : List PlacedRule)
   some_escaped : (b : ℕ) (value : List ℕ) → 0 < length (escaped (b ∷ value))
   some_escaped b value = grind (arith, common_steps)
 
-  -- the pattern of a Disallow isn't empty
   some_bytes : (pattern : List ℕ) (line : ℕ)
       → Contains rules (record { rule = (pattern, false); line = line }) → 0 < length pattern
   some_bytes pattern line has =
@@ -321,7 +302,6 @@ module _ (agent file : List ℕ) (rules : List PlacedRule)
         let (own, passes) = in_filter (λ (one : PlacedRule). not (is_empty one.line)) rules placed listed in
         (placed, own, not-true (is_empty placed.line) passes, is)
 
-    -- a Disallow isn't empty
     denies_stated : (placed : PlacedRule) (p : List ℕ) → Contains rules placed → placed.rule ≡ (p, false)
         → is_empty placed.line ≡ false
     denies_stated placed p has is = elim (cases_Bool (is_empty placed.line)) [
@@ -343,7 +323,6 @@ module _ (agent file : List ℕ) (rules : List PlacedRule)
               longest q (subst (Contains (unplaced rules)) same (unplaced_of rules allow there)),
         )
 
-    -- beside an empty Disallow and a Disallow of everything, there is an Allow of everything
     allow_beside : (allow deny : PlacedRule) → Contains rules allow → is_empty allow.line ≡ true
         → Contains rules deny → deny.rule.1 ≡ false → compared deny.rule.0 ≡ root
         → (one : PlacedRule) × Contains rules one × (one.rule.1 ≡ true) × (compared one.rule.0 ≡ root)

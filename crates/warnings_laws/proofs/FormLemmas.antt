@@ -29,12 +29,9 @@ use Rattle.texting_robots.specs.declared.parser.statement.Kind.TheVariants as ki
 use Rattle.rfc9309_laws.specs.LineForms as form
 use Rattle.rfc9309_laws.specs.Rfc9309 as rfc
 
--- ---- values
-
 nothing_trimmed : trimmed [] ≡ []
 nothing_trimmed = grind (arith, common_steps)
 
--- a raw value of spaces and tabs is read as nothing
 blank_read : (region value : List ℕ) → raw_value region ≡ [] → IsTrimOf value region → value ≡ []
 blank_read region value none is =
     let parts = around region in
@@ -44,7 +41,6 @@ blank_read region value none is =
     sym (is_trimmed region value is) ∙ ap trimmed (sym (append-nil region)) ∙ blanks_skipped region [] blank
     ∙ nothing_trimmed
 
--- the raw value is the value that is read
 pub raw_is : (kind : Kind) (value body : List ℕ) → HasColon kind value body
     → has_odd_space value (tail_of body) ≡ false → raw_value (tail_of body) ≡ value
 raw_is kind value body line space = elim (raw_cases value (tail_of body) space) [
@@ -54,14 +50,11 @@ raw_is kind value body line space = elim (raw_cases value (tail_of body) space) 
   | inr same ↦ same
 ]
 
--- and has no `#`
 pub value_plain : (kind : Kind) (value written body : List ℕ) → HasColon kind value body
     → raw_value (tail_of body) ≡ written → Each (λ b. b ≢ 35) written
 value_plain kind value written body line same =
     subst (Each (λ b. b ≢ 35)) (ap raw_value (sym (tail_is kind value body line)) ∙ same)
     (raw_plain line.region line.no_hash)
-
--- ---- user-agent lines
 
 pub agent_form : (value body : List ℕ) → IsLineOf (UserAgent value) body → IsQuietLine (UserAgent value) body
     → HasForm form.Agent body
@@ -78,9 +71,6 @@ agent_form value body of all =
       ),
     )
 
--- ---- rules
-
--- the line is a rule of the grammar with this field name
 abbrev IsRuleLine : List ℕ → List ℕ → Type 0
 IsRuleLine word body = (pattern : List ℕ) × (rfc.IsRuleWith word pattern (body ++ lf ∷ [])
     ⊎ (rfc.IsStarPattern pattern × rfc.IsKeyed word pattern (body ++ lf ∷ [])))
@@ -133,8 +123,6 @@ disallow_form value body of all =
     let quiets = quiet (Disallow value) body all in
     disallow_rule body (rule_line kind.Disallow value value body (is_stated (Disallow value) body of).0
     quiets.with_colon quiets.spelled (not-true _ quiets.raw.0) quiets.value quiets.comment)
-
--- ---- delays
 
 digit : (b : ℕ) → is_ascii_digit b ≡ true → rfc.IsDigitByte b
 digit b is = grind (arith, common_steps)
@@ -191,8 +179,6 @@ delay_form delay body of quiets =
       ),
     )
 
--- ---- sitemaps
-
 sitemap_form : (value body : List ℕ) → IsLineOf (Sitemap value) body
     → IsQuietDirective (Sitemap value) body → HasForm form.Sitemap body
 unfolding topic_of
@@ -209,9 +195,6 @@ sitemap_form value body of quiets =
       ),
     )
 
--- ---- blank lines
-
--- spaces and tabs, and possibly a comment
 record IsBlankLine (body : List ℕ) : Type 0 where
   blanks : List ℕ
   comment : List ℕ
@@ -265,12 +248,9 @@ blank_form body is odd =
       is_nl = inr (inl refl);
     }
 
--- an ignored line is blank, since otherwise there is a warning
 raw_form : (content body : List ℕ) → content ≡ body → IsQuietLine (Raw content) body → HasForm form.Empty body
 unfolding topic_of
 raw_form content body same all = grind (arith, blank_form, not-true, not_quiet)
-
--- ---- all kinds
 
 pub line_form : (line : LineValue) (body : List ℕ) → IsLineOf line body → IsQuietLine line body
     → HasForm (form_of line) body

@@ -36,12 +36,10 @@ use Rattle.robots_warnings.specs.{declared.positions.Preceding.Preceding, File.l
 use Rattle.robots_warnings.specs.declared.table.Cause.{TheVariants.TwoDelays}
 use Rattle.robots_warnings.specs.declared.positions.Preceding.TheVariants as preceding
 
--- ---- what the warning says of its line
-
 abbrev two_delays_at : ℕ → WarningValue
 two_delays_at number = record { line = Some number; cause = TwoDelays; about = None; detail = None }
 
--- the first delay of the group that these lines end in; `first` is that of the lines above them
+-- `first` is the first delay of the group above these lines
 abbrev first_after : Option ℕ → List Label → Option ℕ
 first_after first labels = fold (λ found (label : Label). first_delay found label.line) first labels
 
@@ -51,7 +49,6 @@ record IsOther (first : Option ℕ) (labels : List Label) (place : ℕ) : Type 0
   at : slice_get labels place ≡ Some label
   other : is_other_delay (first_after first (take place labels)) label ≡ true
 
--- a warning is about the line of its check, and the condition of the check holds
 condition_holds : (line : Option ℕ) (about : Option (List ℕ)) (checks : List Check) (warning : WarningValue)
     → Contains (warned line about checks) warning
     → (warning.line ≡ line) × Contains checks (warning.cause, true)
@@ -93,9 +90,6 @@ is_other last preceding above first (label ∷ labels) number has =
           (suc place, record { label = is.label; at = is.at; other = is.other }, number_is)
     ]
 
--- ---- lines that go
-
--- the lines that are left of those from this position on
 abbrev left_from : (ℕ → Bool) → ℕ → List LineValue → List LineValue
 left_from gone position lines =
     map (λ (p : ℕ × LineValue). p.1)
@@ -105,18 +99,16 @@ no_agent : (first : Option ℕ) (line : LineValue) → are_different first (dela
     → is_agent line ≡ false
 no_agent first line differs = grind (arith, common_steps)
 
--- if the group has a delay above the next line, crawlers that get this group have found their delay, and a
+-- if the group has a delay above the next line, crawlers that get this group have found theirs, and a
 -- user-agent line begins another group
 abbrev IsSettled : Option ℕ → Option ℕ → GroupTracker → Type 0
 IsSettled None found tracker = Unit {0}
 IsSettled (Some first) found tracker =
     ((other : Option ℕ) → option_or found (if_captured tracker other) ≡ found) × (tracker.named ≡ false)
 
--- what is found after one more line
 abbrev found_next : Option ℕ → GroupTracker → LineValue → Option ℕ
 found_next found tracker line = option_or found (if_captured tracker (delay_in line))
 
--- what is found after all lines
 abbrev first_found : List ℕ → Option ℕ → GroupTracker → List LineValue → Option ℕ
 first_found name found tracker lines =
     option_or found (slice_get (given_captured delay_in name tracker lines) 0)
@@ -130,7 +122,6 @@ module _ (name : List ℕ) where
   settled_next None found tracker line is = tt
   settled_next (Some one) found tracker line (same, closed) = (rw (same (delay_in line)) same, cc)
 
-  -- a line that goes changes neither
   nothing_lost : (first found : Option ℕ) (tracker : GroupTracker) (line : LineValue)
       → are_different first (delay_in line) ≡ true → IsSettled first found tracker
       → (found_next found tracker line ≡ found) × ◌≡◌ {A = GroupTracker} (step name tracker line) tracker
@@ -138,7 +129,6 @@ module _ (name : List ℕ) where
       grind (arith, common_steps)
   nothing_lost first found tracker line differs is = cc
 
--- each line that goes is such a delay
 record AreOthers (gone : ℕ → Bool) (position : ℕ) (first : Option ℕ) (labels : List Label) : Type 0 where
   each : (place : ℕ) → gone (position + place + 1) ≡ true → IsOther first labels place
 
@@ -158,7 +148,6 @@ module _ (gone : ℕ → Bool) where
         (and_parts _ _
         (subst (λ here. is_other_delay first here ≡ true) (sym (same_Some _ _ is.at)) is.other)).1
 
-  -- user-agent lines stay
   any_left : (test : LineValue → Bool) → ((line : LineValue) → is_agent line ≡ false → test line ≡ false)
       → (position : ℕ) (first : Option ℕ) (labels : List Label) → AreOthers gone position first labels
       → list_any test (left_from gone position (lines_of labels)) ≡ list_any test (lines_of labels)
@@ -171,7 +160,6 @@ module _ (gone : ℕ → Bool) where
         | inr stays ↦ rw stays (ap (λ any. test label.line || any) later)
       ]
 
-  -- what is found first stays the same
   first_left : (name : List ℕ) (position : ℕ) (first found : Option ℕ) (tracker : GroupTracker)
       (labels : List Label) → AreOthers gone position first labels → IsSettled first found tracker
       → first_found name found tracker (left_from gone position (lines_of labels))
@@ -195,9 +183,6 @@ module _ (gone : ℕ → Bool) where
             rw stays (sym (first_more given found now (given_captured delay_in name moved left) refl) ∙ later)
       ]
 
--- ---- delays above the first user-agent line
-
--- a user-agent line is above each line that goes
 abbrev AreBelow : (ℕ → Bool) → ℕ → List LineValue → Type 0
 AreBelow gone position lines =
     (place : ℕ) → gone (position + place + 1) ≡ true → list_any is_agent (take place lines) ≡ true
@@ -219,8 +204,6 @@ early_left : (gone : ℕ → Bool) (lines : List LineValue)
     → (list_any is_agent lines ≡ true → AreBelow gone 0 lines)
     → delay_before_agents (left_from gone 0 lines) ≡ delay_before_agents lines
 early_left gone lines same below = search (rules, before_agents, before_left)
-
--- ---- all lines of a file
 
 module _ {name : List ℕ} {labels : List Label} (labeled : AreLabelsOf name (lines_of labels) labels)
     (numbers : List ℕ)
@@ -287,8 +270,6 @@ two_delays_can_be_deleted name agent lines labels numbers labeled all =
     subst (λ of. delay_for agent (lines_without numbers of) ≡ delay_for agent of) same
     (delay_stays (subst (λ of. AreLabelsOf name of labels) (sym same) labeled) numbers all agent)
 
--- ---- the rules of the crawler
-
 -- no Disallow of the crawler has the pattern of a Disallow of `*`
 abbrev pub HasNone : List ℕ → List LineValue → Type 0
 HasNone agent lines =
@@ -310,9 +291,7 @@ has_none agent lines lacks star other pattern starred holds =
     false≢true (sym (not-true _ lacks)
     ∙ list_any-from_Any (is_kept (star_rules lines)) (placed_rules agent lines) (k, _, below, at, kept))
 
--- ---- the names of the group
-
--- the line at this position is a user-agent line with such a name, and there is no rule or delay up to it
+-- the line at this position is a user-agent line with such a name, with no rule or delay up to it
 record IsNamed (test : List ℕ → Bool) (lines : List LineValue) : Type 0 where
   position : ℕ
   value : List ℕ
@@ -360,8 +339,6 @@ one_run {lines} {position} {rest} from is k group = elim (cases_lt k position) [
   ]
 ]
 
--- ---- the line
-
 first_agent : (before : Preceding) (line : LineValue) → is_first_name before line ≡ true
     → (value : List ℕ) × (line ≡ UserAgent value)
 first_agent Agent line is = cc
@@ -369,7 +346,6 @@ first_agent before (UserAgent value) is = (value, refl)
 first_agent Delay line is = cc
 first_agent Other line is = cc
 
--- the line with this number passes the test for such a line
 record IsFound (agents : List (List ℕ)) (lines : List LineValue) (number : ℕ) : Type 0 where
   position : ℕ
   line : LineValue
@@ -435,8 +411,6 @@ replaces_star agents name lines labels number labeled has =
       ),
       has_none agent lines lacks,
     )
-
--- ---- the number of Disallows
 
 pub star_disallows : (lines : List LineValue) (rules : List PlacedRule) → AreRulesFor (codes "*") lines rules
     → star_count lines ≡ count_by (λ (placed : PlacedRule). not placed.rule.1) rules

@@ -39,7 +39,6 @@ use Rattle.warnings_laws.proofs.{VerdictLemmas.verdicts_stated}
 use Rattle.warnings_laws.specs.Syntax.{IsNotAboutSyntax, IsRobotStated, IsSilentOn, warnings_of}
 use Rattle.warnings_laws.specs.Verdict.{IsAsked, IsStandardVerdict}
 
--- a crawler with this name decides each text as it does without the found lines
 abbrev DecidesAlike : List LineValue → List NeedlessRule → List ℕ → Type 0
 DecidesAlike lines found agent = (text : List ℕ) (answer : Bool)
     → IsVerdict (rules_for agent lines) text answer
@@ -55,9 +54,6 @@ alike lines found agent other are has same =
     (are.together other has) in
     λ text answer. rw (are.deleted agent) (needless text answer)
 
--- ---- the bytes of a file
-
--- if needless lines are found, the whole file is read
 all_read : (requested : RequestValue) (file : List ℕ) (audit : AuditValue)
     (is : IsAuditOf requested file audit)
     → is.needless ≢ [] → length file ≤ file_limit
@@ -76,8 +72,6 @@ robot_stays requested file left audit agent is some deleted utf8 =
     subst₂ (HaveSameRobot agent) (sym whole) (sym all_left)
     (same_robot file left is.needless (subst (λ f. AreFoundIn f is.needless) whole is.needless_are) some
     deleted agent utf8)
-
--- ---- uniqueness
 
 zip_once : {A B : Type 0} (R : A → B → Type 0) → ((x : A) (y z : B) → R x y → R x z → y ≡ z)
     → (xs : List A) (ys zs : List B) → AllZip R xs ys → AllZip R xs zs → ys ≡ zs
@@ -102,7 +96,7 @@ verdict_once rules url one two is too = grind (arith, decided_once)
 abbrev IsShort : PlacedRule → Type 0
 IsShort placed = ¬ IsOverlong placed.rule.0
 
--- if a list is split before its first overlong rule in two ways, it is the same rule
+-- a list is split before its first overlong rule in one way only
 cut_once : (front others : List PlacedRule) (one two : PlacedRule) (back after : List PlacedRule)
     → front ++ one ∷ back ≡ others ++ two ∷ after → Each IsShort front → Each IsShort others
     → IsOverlong one.rule.0 → IsOverlong two.rule.0 → one ≡ two
@@ -121,7 +115,6 @@ not_both : (lines : List LineValue) (agent : List ℕ) (line : ℕ) → ¬ IsRej
 not_both lines agent line accepted is =
     accepted ((rejection_is_computed agent lines).1 (some_overlong (placed_rules agent lines) line is))
 
--- a crawler has only one ruling on a file
 ruling_once : (urls : List (List ℕ)) (lines : List LineValue) (agent : List ℕ) (one two : Option ℕ)
     (verdicts others : List VerdictValue) → IsRuling urls lines agent one verdicts
     → IsRuling urls lines agent two others → (one ≡ two) × (verdicts ≡ others)
@@ -154,8 +147,6 @@ same_audit requested file audit other is too same =
     is.sitemaps_are too.sitemaps_are in
     grind arith
 
--- ---- existence
-
 zip_some : {A B : Type 0} (R : A → B → Type 0) (xs : List A)
     → ((x : A) → Contains xs x → (y : B) × R x y) → (ys : List B) × AllZip R xs ys
 zip_some R [] some = ([], tt)
@@ -175,7 +166,6 @@ some_verdict rules url =
       },
     )
 
--- either no rule is overlong, or there is a first one
 first_overlong : (rules : List PlacedRule)
     → All IsShort rules ⊎ ((line : ℕ) × IsFirstOverlong rules line)
 first_overlong [] = inl (All-nil IsShort)
@@ -293,8 +283,6 @@ some_audit requested file =
         syntax_is = refl;
       },
     )
-
--- ---- what a report tells
 
 each_not : (warnings : List WarningValue) → has_syntax_warning warnings ≡ false
     → Each IsNotAboutSyntax warnings

@@ -1,5 +1,4 @@
--- The value of a rule without certain warnings is compared here as RFC 9309 compares its standard spelling,
--- which is the value itself unless it has a nonstandard escape.
+-- The value of a rule without certain warnings is compared here as RFC 9309 compares its standard spelling.
 use Rattle.std.proofs.Common.{◌≡◌, ℕ, ◌+◌, ◌*◌, ◌<◌, ◌≤◌, ◌==◌, ◌&&◌, ◌||◌, Bool, true, false, inl, inr, List}
 use Rattle.std.proofs.Common.{[], ◌∷◌, ◌++◌, ap, ap₂, not, arith, codes, drop, length, refl, subst, suc, sym}
 use Rattle.std.proofs.Common.{◌∙◌, nat_eq}
@@ -23,8 +22,6 @@ use Rattle.robots_warnings.specs.Rules.{after_byte, before_byte, begins_odd_esca
 use Rattle.warnings_laws.proofs.ColonLemmas.{after_is, before_all, before_is}
 use Rattle.warnings_laws.proofs.{FormLemmas.split}
 
--- ---- tests of all bytes
-
 pub any_both : (p q r : ℕ → Bool) → ((b : ℕ) → p b ≡ false → q b ≡ false → r b ≡ false) → (text : List ℕ)
     → list_any p text ≡ false → list_any q text ≡ false → list_any r text ≡ false
 any_both p q r both [] one two = refl
@@ -37,7 +34,6 @@ pub any_less : (p q : ℕ → Bool) → ((b : ℕ) → p b ≡ false → q b ≡
     → list_any p text ≡ false → list_any q text ≡ false
 any_less p q less text none = any_both p p q (λ b one _. less b one) text none none
 
--- a test fails at all bytes if it does before and after the first occurrence of a byte, and at this byte
 pub any_around : (test : ℕ → Bool) (stop : ℕ) (text : List ℕ) → test stop ≡ false
     → list_any test (before_byte stop text) ≡ false → list_any test (after_byte stop text) ≡ false
     → list_any test text ≡ false
@@ -50,8 +46,6 @@ any_around test stop text here before after = elim (split stop text) [
       ap (list_any test) some.whole ∙ parts
       ∙ or_from (list_any test some.front) _ front (or_from (test stop) _ here rest)
 ]
-
--- ---- octets
 
 -- an octet that is percent-encoded in the normal form, but isn't escaped here
 abbrev pub stays_odd : ℕ → Bool
@@ -77,8 +71,6 @@ same_octet in_query b odd dollar = elim (cases_lt b 128) [
   | inl low ↦ low_same in_query b low odd dollar
   | inr high ↦ rw (high_escaped b high, le-ltb b 128 high) refl
 ]
-
--- ---- escapes
 
 abbrev is_special : ℕ → Bool
 is_special b = is_escaped b || b == 36
@@ -111,8 +103,6 @@ escape_clean high low one two = (
       | inr isnt ↦ rw (isnt, upper high one, upper low two) refl
     ]
 
--- ---- the standard spelling
-
 octet_spelled : (b : ℕ) (text : List ℕ) → begins_escape (b ∷ text) ≡ false
     → spelled Standard (b ∷ text) ≡ b ∷ spelled Standard text
 unfolding spelled
@@ -125,7 +115,6 @@ escape_spelled : (high low : ℕ) (text : List ℕ) → is_ascii_hexdigit high �
 unfolding spelled
 escape_spelled high low text one two = rw (one, two) refl
 
--- without a nonstandard escape it is the text
 pub spelled_same : (text : List ℕ) → has_odd_escape text ≡ false → spelled Standard text ≡ text
 unfolding spelled
 spelled_same =
@@ -137,7 +126,6 @@ spelled_same =
     escape_spelled high low text one two
     ∙ ap₂ (λ x y. x ++ y) (escape_same high low digits) (later rest)) false
 
--- it isn't empty
 pub spelled_some : (b : ℕ) (text : List ℕ) → 0 < length (spelled Standard (b ∷ text))
 spelled_some b text =
     by_escapes (λ _ text. 0 < length text → 0 < length (spelled Standard text))
@@ -150,7 +138,6 @@ spelled_some b text =
     ]))
     false (b ∷ text) (omega arith)
 
--- a spelling of one byte is that of one byte
 pub spelled_short : (b : ℕ) (text : List ℕ) → (b == 37) ≡ false → length (spelled Standard (b ∷ text)) ≤ 1
     → text ≡ []
 spelled_short b [] other short = refl
@@ -164,8 +151,6 @@ spelled_short b (c ∷ text) other short =
 pub odd_escapes : (text : List ℕ) → has_odd_escape text ≡ somewhere begins_odd_escape text
 odd_escapes [] = refl
 odd_escapes (b ∷ text) = ap (λ later. begins_odd_escape (b ∷ text) || later) (odd_escapes text)
-
--- ---- a dollar at the end
 
 past_octet : (b : ℕ) (text : List ℕ) → (b == 36) ≡ false
     → (without_end (b ∷ text) ≡ b ∷ without_end text) × (is_ended (b ∷ text) ≡ is_ended text)
@@ -196,7 +181,6 @@ no_escape_left b (c ∷ d ∷ []) isnt = elim (cases_Bool (d == 36)) [
 ]
 no_escape_left b (c ∷ d ∷ e ∷ text) isnt = isnt
 
--- nothing is after the first dollar
 ends_there : (path : List ℕ) → after_byte 36 path ≡ [] → has_dollar (without_end path) ≡ false
 unfolding without_end
 ends_there [] end = refl
@@ -208,8 +192,6 @@ ends_there (b ∷ text) end = elim (cases_Bool (b == 36)) [
       let later = subst (λ (k : ℕ). drop k (b ∷ text) ≡ []) next (rw other at end) in
       rw (past_octet b text other).0 (or_from (b == 36) _ other (ends_there text later))
 ]
-
--- ---- how a path is compared
 
 -- the rest of a path is compared as its standard spelling is
 abbrev IsSameFrom : Bool → List ℕ → Type 0
@@ -282,8 +264,6 @@ pub compared_as : (path : List ℕ) → list_any stays_odd path ≡ false → af
 compared_as path odds end =
     let (normal, ended, dollar) = same_from false path odds (ends_there path end) in
     record { normal = normal; ended = ended; dollar = dollar }
-
--- ---- match targets
 
 octets : (text : List ℕ) → list_all is_normal_byte text ≡ true → list_all is_uri_octet text ≡ true
 octets [] all = refl

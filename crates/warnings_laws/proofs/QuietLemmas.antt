@@ -60,7 +60,6 @@ among_all name [] names is = is
 among_all name (line ∷ lines) names is =
     among_all name lines (with_name names line) (among_kept name names line is)
 
--- a crawler that a line names, if each of its spellings is UTF-8
 module _ (name : List ℕ) (utf8 : (value : List ℕ) → lower value ≡ lower name → is_utf8 value ≡ true) where
   added : (names : List (List ℕ)) (line : LineValue) → is_agent_named (lower name) line ≡ true
       → is_among name (with_name names line) ≡ true
@@ -100,7 +99,6 @@ token_bytes (b ∷ agent) (inl is) =
     each_weaker rfc.IsIdentifierByte (λ b. b < 123) (λ b is. (identifier_bounds b is).1) (b ∷ agent) is
 token_bytes (b ∷ agent) (inr is) = subst (Each (λ b. b < 123)) (sym is) (omega arith, tt)
 
--- each crawler has the group of one of those that are reported on if no crawler is given
 pub everyone_reported : (file agent : List ℕ) → rfc.IsProductToken agent
     → IsAsOneOf (crawlers_in (lines_read file)) file agent
 everyone_reported file agent token =
@@ -132,10 +130,7 @@ everyone_reported file agent token =
         is_utf8-from_IsUtf8 value (IsUtf8-from_ascii value (IsAscii-from_all value
         (All-from_recursion (λ b. b < 128) value (low_bytes value agent same (token_bytes agent token)))))
 
--- ---- What the silence about a line says of its parts. An ignored line that isn't blank has a warning about
--- its syntax.
-
--- ---- UTF-8
+-- ---- What the silence about a line means for its parts.
 
 pub utf8_after : (b : ℕ) (text : List ℕ) → is_utf8 (b ∷ text) ≡ true → nat_lt b 128 ≡ true
     → is_utf8 text ≡ true
@@ -143,8 +138,6 @@ utf8_after b text is small =
     let all = IsUtf8-from_is_utf8 (b ∷ text) is in
     is_utf8-from_IsUtf8 text (IsUtf8-drop (b ∷ text) 1 all
     (IsCharBoundary-after_ascii (b ∷ text) 0 all (omega arith) (grind (arith, nat_tests))))
-
--- ---- a comment
 
 comment_bytes : (text : List ℕ) → list_any is_control text ≡ false → list_all is_comment_byte text ≡ true
 comment_bytes [] none = refl
@@ -160,8 +153,6 @@ pub in_order : (comment : List ℕ) → IsOptionalComment comment → has_odd_co
 in_order comment (inl none) is = inl none
 in_order comment (inr (text, whole)) is =
     search (rules, or_parts, comment_text, and_from, utf8_after, not-false, comment_bytes)
-
--- ---- a line with a field name, a colon and a value
 
 pub keyed : (kind : Kind) (value body : List ℕ) (line : HasColon kind value body) (written : List ℕ)
     → is_misspelled body ≡ false → raw_value (tail_of body) ≡ written
@@ -202,8 +193,6 @@ keyed kind value body line written spelled is odd =
       };
     }
 
--- ---- user-agent lines
-
 token_byte : (b : ℕ) → is_token_byte b ≡ true → rfc.IsIdentifierByte b
 token_byte b is = grind (arith, nat_tests)
 
@@ -211,11 +200,8 @@ pub token : (value : List ℕ) → is_product_token value ≡ true → rfc.IsPro
 token [] is = absurd (false≢true is)
 token (b ∷ value) is = search (rules, or_cases, bytes_eq, bytes_eq-Decides, and_parts, passing, token_byte)
 
--- a value that is neither an invalid nor an unusual name is a product token
 pub named : (is usual : Bool) → not (not is && not usual) ≡ true → not (not is && usual) ≡ true → is ≡ true
 named is usual one two = grind (arith, common_steps)
-
--- ---- the checks
 
 pub each_back : {X : Type 0} (P : X → Type 0) (xs ys : List X) → Each P (xs ++ ys) → Each P ys
 each_back P [] ys all = all
@@ -240,26 +226,20 @@ pub quiet : (line : LineValue) (body : List ℕ)
 unfolding topic_of
 quiet line body all = grind (arith, not-true, chosen, each_back, each_front)
 
--- ---- the raw value
-
 empty : (text : List ℕ) → (length text == 0) ≡ true → text ≡ []
 empty [] is = refl
 empty (b ∷ text) is = grind (arith, common_steps)
 
--- the raw value is empty, or it is the value
 pub raw_cases : (value tail : List ℕ) → has_odd_space value tail ≡ false
     → (raw_value tail ≡ []) ⊎ (raw_value tail ≡ value)
 raw_cases value tail is = search (rules, empty, bytes_eq, bytes_eq-Decides, false≢true)
 
--- it has no `#`, if the tail has none
 pub raw_plain : (tail : List ℕ) → Each (λ b. b ≢ 35) tail → Each (λ b. b ≢ 35) (raw_value tail)
 raw_plain tail all =
     let parts = around tail in
     each_front (λ b. b ≢ 35) (raw_value tail) parts.back
     (each_back (λ b. b ≢ 35) parts.front (raw_value tail ++ parts.back)
     (subst (Each (λ b. b ≢ 35)) parts.whole all))
-
--- ---- values of rules and sitemaps
 
 value_byte : (b : ℕ) → nat_le b 32 ≡ false → b ≢ 35 → is_value_byte b ≡ true
 value_byte b low other = grind (arith, nat_tests)
@@ -275,8 +255,6 @@ value_bytes (b ∷ text) none all =
 pub value_units : (text : List ℕ) → is_utf8 text ≡ true → somewhere begins_next_value text ≡ false
     → Each (λ b. b ≢ 35) text → rfc.IsMany rfc.IsUtf8CharNoctl text
 value_units text utf8 none all = search (rules, value_text, and_from, value_bytes)
-
--- ---- rules
 
 -- a rule without warnings is empty, or a pattern
 pub data IsRuleValue (value : List ℕ) : Type 0 where
@@ -317,7 +295,6 @@ pub second : (x y : Bool) → x ≡ true → (x && y) ≡ false → y ≡ false
 second true y is both = both
 second false y is both = absurd (false≢true is)
 
--- a check whose warning is about syntax
 pub quiet_off : (cause : Cause) (holds : Bool) → is_not_about_syntax cause ≡ false
     → is_quiet (cause, holds) ≡ true → holds ≡ false
 quiet_off cause holds about quiet = not-true _ (rw about at quiet)
@@ -349,7 +326,6 @@ rule_value (b ∷ text) (
       | inr star ↦ Star (record { text = text; is_text = units; whole = ap (λ c. c ∷ text) star })
     ]
 
--- the warning, if there is one, is about syntax
 abbrev IsAboutSyntax : Option Cause → Type 0
 IsAboutSyntax None = Unit {0}
 IsAboutSyntax (Some cause) = is_not_about_syntax cause ≡ false

@@ -18,7 +18,6 @@ use Rattle.std.specs.{List.list_any}
 use Rattle.std.proofs.lemmas.List.{Elements.Contains-push_cases, Folds.Any-from_list_any}
 use Rattle.texting_robots.proofs.{BestLemmas.placed_of, MainTheoremLemmas.computed_are}
 
--- the rest are the lines from this position on
 pub record IsFrom (lines : List LineValue) (position : ℕ) (rest : List LineValue) : Type 0 where
   pub each : (i : ℕ) → slice_get lines (position + i) ≡ slice_get rest i
 
@@ -35,7 +34,6 @@ module _ {lines : List LineValue} {position : ℕ} {line : LineValue} {rest : Li
     each = λ i. subst (λ n. slice_get lines n ≡ slice_get rest i) (omega arith) (from.each (suc i));
   }
 
--- the labels are those of the lines from this position on
 pub record AreFrom (lines : List LineValue) (position : ℕ) (labels : List Label) : Type 0 where
   pub numbers : (i : ℕ) (label : Label) → slice_get labels i ≡ Some label → label.number ≡ position + i + 1
   pub from : IsFrom lines position (lines_of labels)
@@ -51,7 +49,6 @@ labels_next are = record {
   from = from_next are.from;
 }
 
--- the number is the first one, if the condition holds, or one of the others
 pub first_or_later : (is : Bool) (first number : ℕ) (later : List ℕ)
     → Contains ((if is then first ∷ [] else []) ++ later) number
     → ((is ≡ true) × (first ≡ number)) ⊎ Contains later number
@@ -59,21 +56,17 @@ first_or_later true first number later (zero, below, at) = inl (refl, at)
 first_or_later true first number later (suc k, below, at) = inr (k, omega arith, at)
 first_or_later false first number later has = inr has
 
--- ---- the line above that is repeated
-
--- the line is somewhere above this position, with no user-agent line from there on to the position
+-- the line is above this position, with no user-agent line from there on to the position
 record IsAbove (lines : List LineValue) (position : ℕ) (line : Option LineValue) : Type 0 where
   other : ℕ
   above : other < position
   is : slice_get lines other ≡ line
   no_agent : (k : ℕ) → other ≤ k → k < position → passes_at is_agent lines k ≡ false
 
--- the line with this number is a rule, and an equal line is above it in its group
 abbrev IsRepeat : List LineValue → ℕ → Type 0
 IsRepeat lines number = (position : ℕ) → number ≡ position + 1
     → (passes_at is_rule lines position ≡ true) × IsAbove lines position (slice_get lines position)
 
--- a line that passes the test for a repeated rule is a rule, and is among the lines above
 rule_is : (is_allow : Bool) (value : List ℕ) (line : LineValue) → is_rule_with is_allow value line ≡ true
     → line ≡ (if is_allow then Allow value else Disallow value)
 rule_is true value (Allow other) is = ap Allow ((bytes_eq-Decides other value).0 is)
@@ -93,11 +86,8 @@ repeats_one above (Allow value) is = (refl, is_listed true value above is)
 repeats_one above (Disallow value) is = (refl, is_listed false value above is)
 repeats_one above line is = cc
 
--- ---- from line to line
-
 module _ {lines : List LineValue} {position : ℕ} {line : LineValue} {rest : List LineValue}
     (from : IsFrom lines position (line ∷ rest)) where
-  -- if this line isn't a user-agent line, it and the lines above it are above the next position
   above_next_is : is_agent line ≡ false → (above : List LineValue)
       → ((other : LineValue) → Contains above other → IsAbove lines position (Some other))
       → (other : LineValue) → Contains (above ++ line ∷ []) other → IsAbove lines (position + 1) (Some other)
@@ -122,13 +112,11 @@ module _ {lines : List LineValue} {position : ℕ} {line : LineValue} {rest : Li
         }
       ]
 
-  -- a line above the next position is above this one, unless it equals the line here
   above_this : (other : LineValue) → ◌≢◌ {A = LineValue} line other
       → IsAbove lines (position + 1) (Some other) → IsAbove lines position (Some other)
   above_this other differs is = grind (arith, same_Some, here)
 
--- what `repeated_from` is given at a position: the labels of the lines from there on, and the lines above it
--- in its group
+-- the labels of the lines from a position on, and the lines above it in its group
 record IsReached (lines : List LineValue) (position : ℕ) (above : List LineValue) (labels : List Label)
     : Type 0 where
   labeled : AreFrom lines position labels
@@ -171,15 +159,11 @@ is_repeat {lines} {labels} are everywhere number = repeat_from everywhere lines 
   group = λ line (k, below, at). absurd (omega arith);
 })
 
--- ---- a repeated rule decides no verdict
-
--- a crawler to which this position applies gets the lines above it in its group, too
 captured_above : {lines : List LineValue} {position : ℕ} {line : Option LineValue} (name : List ℕ)
     (is : IsAbove lines position line) → IsCaptured name lines position → IsCaptured name lines is.other
 captured_above name is (inl none) = inl none
 captured_above {lines} name is (inr (j, below, named, alone)) = grind (arith, common_steps)
 
--- a crawler that has a repeated rule has the same rule in a line above
 rule_above : {agent : List ℕ} {lines : List LineValue} {rules : List PlacedRule}
     → AreRulesFor agent lines rules → (placed : PlacedRule) → Contains rules placed
     → IsRepeat lines placed.line
@@ -211,14 +195,10 @@ repeated_never_decides everywhere name agent lines labels rules text number labe
     let (line, above, listed) = rule_above are placed decides.listed is in
     decides.best _ listed decides.matches (inr (refl, inr (refl, above)))
 
--- ---- repeated rules can be deleted
-
--- the condition holds if a rule is above this position in its group
 abbrev IsFollowed : List LineValue → ℕ → Bool → Type 0
 IsFollowed lines position has_rule =
     (line : LineValue) → is_rule line ≡ true → IsAbove lines position (Some line) → has_rule ≡ true
 
--- a group in which a rule stays, or that has none, doesn't lose all its rules
 never_lost : (has_rule : Bool) → (if has_rule then with_rule no_rule false else no_rule).is_lost ≡ false
 never_lost true = refl
 never_lost false = refl
@@ -233,7 +213,6 @@ denied_by_same rules others text same (differs, p, has, fits, longest) =
 abbrev pub among : List ℕ → ℕ → Bool
 among numbers number = list_any (λ one. one == number) numbers
 
--- what holds of all numbers of a list holds of each that is among them
 pub holds_among : (P : ℕ → Type 0) (numbers : List ℕ) → All P numbers → (number : ℕ)
     → among numbers number ≡ true → P number
 holds_among P numbers all number is =
@@ -242,7 +221,6 @@ holds_among P numbers all number is =
 
 module _ (numbers : List ℕ) (lines : List LineValue)
     (repeats : (number : ℕ) → among numbers number ≡ true → IsRepeat lines number) where
-  -- each group that has rules keeps one
   keeps : (position : ℕ) (rest : List LineValue) (has_rule : Bool) → IsFrom lines position rest
       → IsFollowed lines position has_rule
       → keep_blocks_from (among numbers) (if has_rule then with_rule no_rule false else no_rule) position rest
@@ -279,7 +257,6 @@ module _ (numbers : List ℕ) (lines : List LineValue)
     abbrev kept : List PlacedRule
     kept = without numbers rules
 
-    -- a rule that is deleted stays in a line above
     kept_rule : (n : ℕ) (placed : PlacedRule) → placed.line ≤ n → Contains rules placed
         → Contains (unplaced kept) placed.rule
     kept_rule zero placed most has =

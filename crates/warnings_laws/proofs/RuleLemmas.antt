@@ -1,5 +1,5 @@
--- What a rule without warnings that are about verdicts has as its path: its value as read, which is compared
--- as RFC 9309 compares its standard spelling.
+-- A rule without warnings about verdicts has as its path its value as read, which is compared as RFC 9309
+-- compares its standard spelling.
 use Rattle.std.proofs.{Common.◌≡◌, lemmas.Bool.Decides.nat_tests, lemmas.Str.IsUtf8-from_is_utf8}
 use Rattle.std.proofs.Common.{◌≢◌, ◌⊎◌, inl, inr, ℕ, ◌&&◌, ◌||◌, Bool, true, false, not, List, [], ◌∷◌, ◌++◌}
 use Rattle.std.proofs.Common.{ap, arith, codes, drop, if◌then◌else◌, length, nat_lt, refl, subst, sym, ◌∙◌}
@@ -33,8 +33,6 @@ use Rattle.warnings_laws.specs.Syntax.{AreQuiet, is_quiet}
 use Rattle.rfc9309_laws.specs.Rfc9309 as rfc
 use Rattle.texting_robots.specs.declared.parser.statement.Kind.TheVariants as kind
 
--- ---- a warning that keeps verdicts isn't about syntax
-
 not_syntax : (topic : Topic) → is_meaning topic ≡ true → not (is_syntax topic) ≡ true
 not_syntax Meaning is = refl
 not_syntax Verdict is = refl
@@ -57,8 +55,6 @@ checks_quiet =
     by true other rest weaker is = or_left other rest (weaker refl)
     by false other rest weaker is = or_right other rest is
 
--- ---- the value as written
-
 solid_after : (b : ℕ) (value : List ℕ) → IsSolid b → rfc.IsPatternWith (b ∷ []) value → Each IsSolid value
 solid_after b value solid is =
     rw is.whole (
@@ -71,7 +67,6 @@ solid_value value (Empty none) = rw none tt
 solid_value value (Path is) = solid_after 47 value refl is
 solid_value value (Star is) = solid_after 42 value refl is
 
--- what is written between the colon and a comment is the raw value
 written_raw : (kind : Kind) (read body : List ℕ) (line : HasColon kind read body)
     → Each IsSolid (raw_value (tail_of body)) → written body ≡ raw_value (tail_of body)
 unfolding written
@@ -88,8 +83,6 @@ written_raw kind read body line solid =
     ∙ stripped_is parts.front (raw_value line.region) parts.back parts.front_blank
     (subst (λ tail. Each IsSolid (raw_value tail)) same solid) parts.back_blank
     ∙ ap raw_value (sym same)
-
--- ---- the value of a rule
 
 -- its path can be compared as that of the standard
 pub record IsGoodPath (value : List ℕ) : Type 0 where
@@ -124,7 +117,6 @@ odd_off : (odd held quoted : Bool) → (odd && not (held || quoted)) ≡ false �
 odd_off false held quoted none one two = refl
 odd_off true held quoted none one two = rw (one, two) at none
 
--- what the warnings about a rule leave of its value
 path_kept : (value : List ℕ) → AreQuietBy keeps_verdicts (rule_checks value)
     → (is_utf8 value ≡ true) × (begins_oddly value ≡ false)
     × IsComparedAs all_stay value (spelled Standard value)
@@ -144,7 +136,6 @@ path_kept value (
 
 module _ (kind : Kind) (read value body : List ℕ) (is : IsStatement kind read body)
     (checks : AreQuietBy keeps_verdicts (rule_checks value)) (line : HasColon kind read body) where
-  -- the value is as written, without spaces and tabs at both ends, or it is `/`
   good_path : ((read ≡ value) × (raw_value (tail_of body) ≡ value)) ⊎ (value ≡ codes "/") → IsGoodPath value
   good_path stated =
       let (utf8, begins, compared) = path_kept value checks in
@@ -171,9 +162,6 @@ module _ (kind : Kind) (read value body : List ℕ) (is : IsStatement kind read 
       (value_plain kind read value body line same)) in
       written_raw kind read body line (rw same solid) ∙ same
 
--- ---- lines
-
--- no warning about the line leaves a verdict open
 abbrev pub IsKeptLine : LineValue → List ℕ → Type 0
 IsKeptLine line body = IsLineOf line body × AreQuietBy keeps_verdicts (line_checks true line body)
 

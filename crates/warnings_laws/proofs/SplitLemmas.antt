@@ -27,9 +27,6 @@ use Rattle.robots_warnings.specs.Warnings.{positions_from, warned}
 use Rattle.warnings_laws.specs.Syntax.{AreGroupsWhole, IsNoSplit}
 use Rattle.warnings_laws.proofs.{QuietLemmas.each_back, SyntaxLemmas.each_given}
 
--- ---- from warnings to lines
-
--- no delay splits a group in these lines; `preceding` and `above` are as in `positions_from`
 abbrev are_unsplit : Preceding → Option (List ℕ) → List LineValue → Bool
 are_unsplit preceding above [] = true
 are_unsplit preceding above (line ∷ lines) =
@@ -60,9 +57,6 @@ lines_unsplit last preceding above delay (label ∷ labels) all =
     and_from _ (are_unsplit next name (lines_of labels)) (ap not split)
     (lines_unsplit last next name (first_delay delay label.line) labels (each_back IsNoSplit first rest all))
 
--- ---- what the lines from one on say about the first group
-
--- the first group passes the test, if there is one
 abbrev first : (Group → Bool) → List Group → Bool
 first test [] = true
 first test (group ∷ later) = test group
@@ -70,7 +64,6 @@ first test (group ∷ later) = test group
 abbrev has_a_rule : Group → Bool
 has_a_rule group = has_rule group.members
 
--- an Allow gives a rule
 rule_allowed : (text value : List ℕ) → is_rule (allowed_in text value) ≡ true
 rule_allowed (b ∷ text) value = refl
 rule_allowed [] [] = refl
@@ -84,7 +77,6 @@ rules_begun ((Allow value, text) ∷ sources) = rw (rule_allowed text value) ref
 rules_begun ((Disallow value, text) ∷ sources) = refl
 rules_begun ((_, text) ∷ sources) = rules_begun sources
 
--- the groups of these source lines, if these tokens come directly above them
 abbrev below : List (List ℕ) → List Source → List Group
 below tokens sources = put_before tokens (parts_in sources).ungrouped (parts_in sources).groups
 
@@ -118,14 +110,11 @@ first_names name tokens ((Sitemap value, text) ∷ sources) = first_names name t
 first_names name tokens ((Raw body, text) ∷ sources) = first_names name tokens sources
 first_names name tokens ((_, text) ∷ sources) = or-false _
 
--- ---- the walk
-
 -- the groups are unsplit, but for the check of the first one
 abbrev is_unsplit_after : List (List ℕ) → List Group → Bool
 is_unsplit_after above [] = true
 is_unsplit_after above (group ∷ later) = is_unsplit (left_above above group) later
 
--- if the first group passes the check, all are unsplit
 checked : (above : List (List ℕ)) (groups : List Group)
     → (first has_a_rule groups ≡ false) ⊎ (list_all (λ token. first (has_token token) groups) above ≡ true)
     → is_unsplit_after above groups ≡ true → is_unsplit above groups ≡ true
@@ -133,12 +122,10 @@ checked above [] passes after = refl
 checked above (group ∷ later) (inl none) after = rw (ap (λ b. not b) none) after
 checked above (group ∷ later) (inr all) after = rw (all, or-true) after
 
--- the name, if there is one, is the only one of these tokens
 abbrev IsSole : Option (List ℕ) → List (List ℕ) → Type 0
 IsSole None tokens = Unit {0}
 IsSole (Some name) tokens = tokens ≡ name ∷ []
 
--- the check of the first group, at a user-agent line after a delay
 first_passes : (name : Option (List ℕ)) (tokens : List (List ℕ)) (token text : List ℕ)
     (sources : List Source) → IsSole name tokens
     → not (begin_with_rules false (UserAgent token ∷ lines_in sources)
@@ -193,15 +180,11 @@ walk Agent name before tokens ((CrawlDelay delay, text) ∷ sources) sole are =
 walk preceding name before tokens ((_, text) ∷ sources) sole are =
     walk preceding name before tokens sources sole are
 
--- ---- the file
-
--- ignored lines have no part
 pub raw_parts : (sources : List Source) → parts_in (filter is_not_raw sources) ≡ parts_in sources
 raw_parts [] = refl
 raw_parts ((Raw body, text) ∷ sources) = raw_parts sources
 raw_parts ((line, text) ∷ sources) = ap (with_source (line, text)) (raw_parts sources)
 
--- without a warning about a delay that splits a group, each crawler gets the rules of the standard
 pub rules_not_split : (file agent : List ℕ) (groups : List Group) → IsFile groups (take file_limit file)
     → AreGroupsWhole file → rules_for agent (merged groups) ≡ standard_rules agent groups
 rules_not_split file agent groups is quiet =

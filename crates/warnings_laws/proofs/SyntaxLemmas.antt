@@ -35,18 +35,13 @@ use Rattle.robots_warnings.specs.declared.positions.Preceding.{Preceding, TheVar
 use Rattle.rfc9309_laws.specs.Rfc9309 as rfc
 use Rattle.rfc9309_laws.specs.LineForms as form
 
--- ---- NUL
-
 pub no_nul : (text : List ℕ) → list_any (λ b. b == 0) text ≡ false → All (λ b. b ≢ 0) text
 no_nul text none = grind (arith, common_steps)
-
--- ---- the byte order mark
 
 -- what is skipped at the start is a complete byte order mark, or nothing
 abbrev pub HasMark : List ℕ → Type 0
 HasMark text = (bom : List ℕ) × rfc.IsBom bom × (text ≡ bom ++ without_front text)
 
--- nothing is skipped of a text whose first byte isn't one of the mark's
 unmarked : (a : ℕ) (text others : List ℕ)
     → list_any (λ b. starts_with nat_eq (a ∷ others) (b ∷ [])) mark ≡ false
     → without_front (a ∷ text) ≡ a ∷ text
@@ -78,8 +73,6 @@ marked n (a ∷ file) no_damage =
     whole : (b : Bool) → (true && not b) ≡ false → b ≡ true
     whole true is = refl
     whole false is = sym is
-
--- ---- rules below a user-agent line
 
 rule_form : (line : LineValue) → form_of line ≡ form.Rule → (is_rule line ≡ true) × (is_agent line ≡ false)
 rule_form (Allow value) e = (refl, refl)
@@ -128,20 +121,15 @@ rules_below name labels are kinds each above below e =
     below_agent name lines i label.membership (are.each i label at).1 outside (rw here isnt) some in
     in_front above (form.Rule ∷ below) form.Agent j less (sym (formed j) ∙ agent_form _ agent)
 
--- ---- checks
-
 quiet_by : (meaning holds : Bool) → (holds ≡ true → meaning ≡ true) → (meaning || not holds) ≡ true
 quiet_by meaning holds given = grind (arith, common_steps)
 
--- the warnings have causes that pass the test
 abbrev pub ArePassed : (Cause → Bool) → List WarningValue → Type 0
 ArePassed test warnings = Each (λ warning. test warning.cause ≡ true) warnings
 
--- so have those that the checks make
 abbrev pub AreQuietBy : (Cause → Bool) → List Check → Type 0
 AreQuietBy test checks = Each (λ check. (test check.0 || not check.1) ≡ true) checks
 
--- what each warning has, the warning has whose check holds
 pub each_given : (P : WarningValue → Type 0) (line : Option ℕ) (about : Option (List ℕ)) (checks : List Check)
     → Each P (warned line about checks) → Each (λ check. check.1 ≡ true
     → P (record { line = line; cause = check.0; about = about; detail = None })) checks
@@ -163,7 +151,6 @@ module _ (test : Cause → Bool) where
   whole true checks fails all = absurd (false≢true (rw fails at all.0))
   whole false checks fails all = all
 
-  -- the same, line by line
   pub lines_quiet : (cuts : Bool) (bodies : List (List ℕ)) (labels : List Label) → test CutLine ≡ false
       → lines_of labels ≡ map line_of bodies → ArePassed test (lines_warnings cuts true bodies labels)
       → Each (λ body. AreQuietBy test (line_checks true (line_of body) body)) bodies
@@ -185,8 +172,6 @@ module _ (test : Cause → Bool) where
   shown true warnings isnt all = absurd (false≢true (sym isnt))
   shown false warnings isnt all = all
 
--- ---- the file
-
 pub record IsQuietFile (facts : FileFacts) : Type 0 where
   pub shown : suppresses_line_warnings facts ≡ false
   pub with_agent : (facts.kinds.rule && not facts.kinds.user_agent) ≡ false
@@ -198,16 +183,12 @@ unfolding topic_of
 quiet_file facts (html, (utf_16, (other, (empty, (large, (agent, (mark, (nul, end)))))))) =
     grind (arith, common_steps)
 
--- ---- the lines
-
 lines_forms : (bodies : List (List ℕ)) → AllZip IsLineOf (map line_of bodies) bodies
     → Each (λ body. IsQuietLine (line_of body) body) bodies
     → AllZip HasForm (map form_of (map line_of bodies)) bodies
 lines_forms [] reads all = tt
 lines_forms (body ∷ bodies) reads all =
     (line_form (line_of body) body reads.0 all.0, lines_forms bodies reads.1 all.1)
-
--- ---- the positions
 
 pub none_above : (last : Option ℕ) (preceding : Preceding) (above : Option (List ℕ)) (delay : Option ℕ)
     (labels : List Label)
@@ -233,8 +214,6 @@ none_above last preceding above delay (label ∷ labels) all =
 cut_is_syntax : is_not_about_syntax CutLine ≡ false
 unfolding topic_of
 cut_is_syntax = refl
-
--- ---- all warnings about a file
 
 module _ (file : List ℕ) where
   abbrev pub bodies : List (List ℕ)
@@ -332,7 +311,6 @@ module _ (agents urls : List (List ℕ)) (file : List ℕ)
       → IsRobotStated agent file robot
   robot_stated agent robot is = forms_robot agent file forms robot are_forms is
 
--- no warnings at all
 pub no_warnings : (agents urls : List (List ℕ)) (file : List ℕ)
     → warnings_of agents urls file ≡ [] → HasSyntax file
 no_warnings agents urls file none =

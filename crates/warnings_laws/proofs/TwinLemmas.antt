@@ -26,8 +26,6 @@ use Rattle.warnings_laws.proofs.RuleLemmas.{IsGoodLine, IsGoodPath, IsGoodRule, 
 use Rattle.warnings_laws.proofs.{QuietLemmas.each_back, QuietLemmas.first_byte, RepeatedLemmas.is_listed}
 use Rattle.rfc9309_laws.specs.Rfc9309 as rfc
 
--- ---- lists
-
 pub each_flat : {X Y : Type 0} (P : Y → Type 0) (f : X → List Y) (xs : List X) → Each P (flat_map f xs)
     → Each (λ x. Each P (f x)) xs
 each_flat P f [] all = tt
@@ -68,8 +66,6 @@ each_split P test (x ∷ xs) all = elim (cases_Bool (test x)) [
     by : (parts : List (List _)) → Each (Each P) parts → Each (Each P) (onto_first x parts)
     by [] each = ((all.0, tt), tt)
     by (part ∷ parts) each = ((all.0, each.0), each.1)
-
--- ---- the lines between user-agent lines
 
 abbrev begins_part : Source → Bool
 begins_part source = is_agent source.0
@@ -138,8 +134,6 @@ module _ (P : List rfc.Member → Type 0) (none : P []) where
       by [] is all = absurd is
       by (first ∷ later) is all = is.1 all.1
 
--- ---- rules
-
 abbrev IsGoodMember : rfc.Member → Type 0
 IsGoodMember (rfc.Allow path) = IsGoodPath path
 IsGoodMember (rfc.Disallow path) = IsGoodPath path
@@ -153,7 +147,6 @@ abbrev HaveRulesOf : (members all : List rfc.Member) → Type 0
 HaveRulesOf members all =
     (member : rfc.Member) → rfc.is_rule member ≡ true → Contains members member → Contains all member
 
--- these members are fine among all that have their rules
 abbrev AreFine : List rfc.Member → Type 0
 AreFine members =
     (all : List rfc.Member) → HaveRulesOf members all → (member : rfc.Member) → Contains members member
@@ -162,7 +155,6 @@ AreFine members =
 pub not_percent : (b : ℕ) (text : List ℕ) → begins_oddly (b ∷ text) ≡ false → (b == 37) ≡ false
 not_percent b text begins = elim (first_byte b text begins) [ inl is ↦ rw is refl | inr is ↦ rw is refl ]
 
--- a value with a nonstandard escape has a longer spelling than `/`
 not_root : (value : List ℕ) → begins_oddly value ≡ false → somewhere begins_odd_escape value ≡ true
     → spelled Standard value ≢ codes "/"
 not_root [] begins odd e = cc
@@ -197,8 +189,8 @@ module _ (part : List Source) (good : Each IsGood part)
   is_rule_of true value = refl
   is_rule_of false value = refl
 
-  -- if the lines have a rule of this kind with this value, so have the members, unless the value is `/`,
-  -- which an empty Disallow has too
+  -- if the lines have a rule of this kind with this value, so have the members, unless it is `/`, as of an
+  -- empty Disallow
   twin_listed : (is_allow : Bool) (value : List ℕ) → value ≢ codes "/"
       → list_any (is_rule_with is_allow value) (lines_in part) ≡ true
       → Contains all (rule_of is_allow value)
@@ -258,8 +250,6 @@ module _ (part : List Source) (good : Each IsGood part)
       subst (IsFine all) same
       (line_fine source (each_contains IsGood part source good own) (paired source own) group)
 
--- ---- the rules of a crawler
-
 abbrev pub AreFineGroups : List rfc.Group → Type 0
 AreFineGroups groups = Each (λ (group : rfc.Group). AreFine group.members) groups
 
@@ -297,10 +287,7 @@ rules_fine agent groups fine member has =
     by true = each_filter (rfc.has_token agent)
     by false = each_filter (rfc.has_token (codes "*"))
 
--- ---- the lines of a file
-
--- the members of all groups of a file whose lines are good and beside whose nonstandard escapes are the
--- standard spellings
+-- the members of all groups, if lines are good and have the standard spellings of their nonstandard escapes
 pub sources_fine : (sources : List Source) (labels : List Label) → lines_of labels ≡ lines_in sources
     → Each (λ number. ⊥) (unpaired Standard true labels) → Each IsGood sources
     → AreFineGroups (parts_in sources).groups
@@ -319,7 +306,6 @@ sources_fine sources labels same none good =
         sym (split_map (λ (source : Source). source.0) is_agent sources)
         ∙ ap (slice_split is_agent) (sym same) ∙ split_map (λ (label : Label). label.line) is_agent labels
 
-    -- a line that isn't paired would have the warning
     paired : (part : List Source) → Contains parts part → (source : Source) → Contains part source
         → is_unpaired_line Standard (lines_in part) source.0 ≡ false
     paired part has source own =

@@ -45,8 +45,6 @@ use Rattle.warnings_laws.specs.Verdict.{AreVerdictsKept, IsAsOneOf, IsAsked, IsS
 use Rattle.robots_warnings.specs.declared.table.Cause.TheVariants as cause
 use Rattle.rfc9309_laws.specs.Rfc9309 as rfc
 
--- ---- warnings that aren't given
-
 none_at : (numbers : List ℕ) → ArePassed keeps_verdicts (warned_at cause.NonstandardEscape None numbers)
     → Each (λ number. ⊥) numbers
 unfolding topic_of
@@ -70,8 +68,6 @@ cut_matters : keeps_verdicts cause.CutLine ≡ false
 unfolding topic_of
 cut_matters = refl
 
--- ---- lines
-
 kept_lines : (bodies : List (List ℕ)) → AllZip IsLineOf (map line_of bodies) bodies
     → Each (λ body. AreQuietBy keeps_verdicts (line_checks true (line_of body) body)) bodies
     → Each (λ body. IsKeptLine (line_of body) body) bodies
@@ -85,15 +81,12 @@ label_at [] P place line all at = cc
 label_at (label ∷ labels) P zero line all at = (label, refl, all.0)
 label_at (label ∷ labels) P (suc place) line all at = label_at labels P place line all.1 at
 
--- ---- octets
-
 escaped_longer : (text : List ℕ) → length text ≤ length (escaped text)
 escaped_longer [] = omega arith
 escaped_longer (b ∷ text) =
     let later = escaped_longer text in
     elim (cases_Bool (is_escaped b)) [ inl is ↦ rw is (omega arith) | inr isnt ↦ rw isnt (omega arith) ]
 
--- a path of more than one byte has more than one octet
 long_path : (b c : ℕ) (text : List ℕ) → IsGoodPath (b ∷ c ∷ text) → 1 < octets all_stay (b ∷ c ∷ text)
 long_path b c text path =
     let spelling = spelled Standard (b ∷ c ∷ text) in
@@ -104,11 +97,8 @@ long_path b c text path =
       | inr short ↦ let none = spelled_short b (c ∷ text) (not_percent b (c ∷ text) path.begins) short in cc
     ]
 
--- a path of one byte is `/` or `*`
 one_byte : (b : ℕ) → begins_oddly (b ∷ []) ≡ false → compared (escaped (b ∷ [])) ≡ root
 one_byte b begins = elim (first_byte b [] begins) [ inl is ↦ rw is refl | inr is ↦ rw is refl ]
-
--- ---- a file
 
 abbrev sources : List ℕ → List Source
 sources file = map source_of (bodies file)
@@ -163,7 +153,6 @@ module _ (agents urls : List (List ℕ)) (file : List ℕ)
   about label =
       rule_warnings (conflict is_empty agents lines) (overruled is_empty agents lines) label.number
 
-  -- neither warning about contradicting rules is given for the line
   abbrev IsUnwarned : ℕ → Type 0
   IsUnwarned number =
       (is_some (conflict is_empty agents lines number) ≡ false)
@@ -184,7 +173,8 @@ module _ (agents urls : List (List ℕ)) (file : List ℕ)
       (each_front KeepsVerdicts (crawler_warnings is_empty agents lines (labels file)) _
       (each_back KeepsVerdicts delimiters _ (each_back KeepsVerdicts escapes _ kept_groups))))
 
-  -- a crawler of the report has no Disallow of everything beside an Allow of `/`, as an empty Disallow is read
+  -- a crawler of the report has no Disallow of everything beside an Allow of `/`, as an empty Disallow is
+  -- read
   module _ (other : List ℕ) (reported : Contains agents other) where
     abbrev own_rules : List PlacedRule
     own_rules = placed_rules other lines
@@ -294,7 +284,6 @@ module _ (agents urls : List (List ℕ)) (file : List ℕ)
           (record { rule = rule; line = deny_at }))
           (e ∙ ap (λ (v : List ℕ). (escaped v, false)) value_is) has_deny))
         where
-          -- the rule of the other crawler
           theirs : (other : List ℕ) → group_name agent lines ≡ group_name other lines → (rule : Rule)
               → Contains (rules_for agent lines) rule
               → (at : ℕ) × Contains (placed_rules other lines) (record { rule = rule; line = at })
@@ -330,8 +319,6 @@ module _ (agents urls : List (List ℕ)) (file : List ℕ)
           ↔ IsRfcVerdict all_stay (octets all_stay) rules uri answer)
           (rules_not_split file agent groups written whole_groups) agree
 
--- ---- the theorem
-
 pub groups_stated : (agents urls : List (List ℕ)) (file : List ℕ)
     → AreVerdictsKept agents urls file → (groups : List rfc.Group) × rfc.IsFile groups file
 groups_stated agents urls file kept =
@@ -348,7 +335,6 @@ verdicts_stated agents urls file agent uri groups robot answer kept asked writte
     (subst (rfc.IsFile groups) (sym (all_read agents urls file kept)) written) asked.reported uri robot
     answer asked.normal of
 
--- the same from what a robot's contracts say
 pub standard_answer : (file agent uri : List ℕ) (robot : RobotValue) (answer : Bool)
     → IsRobotOfFile agent (take file_limit file) robot → IsVerdict (unplaced robot.rules) uri answer
     → (agents urls : List (List ℕ)) (groups : List rfc.Group) → AreVerdictsKept agents urls file

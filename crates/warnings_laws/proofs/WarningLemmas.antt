@@ -20,13 +20,10 @@ use Rattle.robots_warnings.specs.Positions.{is_above_agents, is_outside}
 use Rattle.texting_robots.proofs.{CapturedLemmas.some_passes, SegmentLemmas.only_wildcards_match}
 use Rattle.texting_robots.specs.declared.parser.statement.Kind.TheVariants as kind
 
--- ---- conditions and lines
-
 pub named_agent : (name : List ℕ) (line : Option LineValue)
     → option_map_or (is_agent_named name) line false ≡ true → option_map_or is_agent line false ≡ true
 named_agent name line is = grind (arith, common_steps)
 
--- what the content of a line states that is read so
 abbrev pub IsStated : LineValue → List ℕ → Type 0
 IsStated (UserAgent value) body = IsStatement kind.UserAgent value body
 IsStated (Allow value) body =
@@ -46,7 +43,6 @@ is_stated line body (inl (kind.CrawlDelay, value, is, inl (delay, names, same)))
 is_stated line body (inl (kind.CrawlDelay, value, is, inr (names, same))) = rw same refl
 is_stated line body (inr (none, same)) = rw same refl
 
--- a line in a group that isn't a user-agent line is below one, if there is one
 pub below_agent : (name : List ℕ) (lines : List LineValue) (place : ℕ) (membership : Membership)
     → HasMembership name lines place membership → is_outside membership ≡ false
     → passes_at is_agent lines place ≡ false → list_any is_agent lines ≡ true
@@ -61,9 +57,7 @@ below_agent name lines place Other (other, inr (group, j, below, agent)) inside 
     (j, below, agent)
 below_agent name lines place Ungrouped has inside isnt some = cc
 
--- ---- group-past-size-limit
-
--- the number is that of a line that passes the test, where lines are numbered from `n + 1` on
+-- where lines are numbered from `n + 1` on
 FoundLine : (ℕ × LineValue → Bool) → ℕ → List LineValue → ℕ → Type 0
 FoundLine test n lines number =
     (i : ℕ) × (line : LineValue) × (number ≡ n + i + 1) × (slice_get lines i ≡ Some line)
@@ -92,7 +86,6 @@ found_line test n (line ∷ lines) number has = elim (cases_Bool (test (n, line)
   | inr isnt ↦ found_later test n line lines number (found_line test (n + 1) lines number (rw isnt at has))
 ]
 
--- the line is a user-agent line with a name that the lines `read` don't have
 new_name : (read more : List LineValue) (line : LineValue) → has_new_name (read ++ more) line ≡ true
     → (value : List ℕ) × (line ≡ UserAgent value) × (is_named value read ≡ false)
 new_name read more (UserAgent value) is =
@@ -116,8 +109,6 @@ named_past_limit read file number has =
     (subst (λ k. is_past_limit read file (k, line) ≡ true) same passes) in
     (i, value, omega (arith, is), at ∙ ap Some named, new)
 
--- ---- rules that apply to no crawler
-
 pub not_utf8_applies_to_none : (value agent : List ℕ) (lines : List LineValue) (place : ℕ) (is_allow : Bool)
     (rule : Rule) → is_utf8 value ≡ false
     → slice_get lines place ≡ Some (if is_allow then Allow value else Disallow value)
@@ -131,9 +122,6 @@ pub above_agents_applies_to_none : (name agent : List ℕ) (lines : List LineVal
 above_agents_applies_to_none name agent lines labels place label rule are at is holds =
     grind (arith, common_steps)
 
--- ---- patterns that match nothing
-
--- if a pattern matches a text, each suffix of the pattern matches some text
 dropped : (front q t : List ℕ) → Matches (front ++ q) t → (s : List ℕ) × Matches q s
 unfolding MatchesWith
 dropped [] q t m = (t, m)
@@ -184,8 +172,6 @@ pub odd_start_matches_no_path : (value text : List ℕ) → begins_oddly value �
 unfolding MatchesWith
 odd_start_matches_no_path [] text odd m = cc
 odd_start_matches_no_path (b ∷ value) text odd m = grind (arith, common_steps)
-
--- the same of patterns, which are escaped
 
 other_than_wildcards : (pattern : List ℕ)
     → list_any (λ b. not (b == star || b == dollar)) pattern ≡ true → list_all is_wildcard pattern ≡ false

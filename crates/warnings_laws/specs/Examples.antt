@@ -5,22 +5,21 @@ use Rattle.warnings_laws.specs.{Syntax.HasSyntax, Syntax.IsSilentOn, Verdict.Are
 abbrev pub lf : List ℕ
 lf = 10 ∷ []
 
--- a file without warnings about syntax
 abbrev pub silent_file : List ℕ
 silent_file = codes "User-agent: *" ++ lf ++ codes "Disallow: /a # b" ++ lf
 
 abbrev pub silent : Type 0
 silent = IsSilentOn [] [] silent_file × HasSyntax silent_file
 
--- the same without the slash: there is a warning
+-- there is a warning, as the slash is missing
 abbrev pub warned_file : List ℕ
 warned_file = codes "User-agent: *" ++ lf ++ codes "Disallow: a" ++ lf
 
 abbrev pub warned : Type 0
 warned = ¬ IsSilentOn [] [] warned_file
 
--- a file without warnings about syntax or verdicts: with a star, a `$` at the end, a path that isn't ASCII,
--- and an empty Disallow
+-- without warnings about syntax or verdicts: a star, a `$` at the end, a path that isn't ASCII, and an empty
+-- Disallow
 abbrev pub kept_file : List ℕ
 kept_file =
     codes "User-agent: *" ++ lf ++ codes "Disallow: /" ++ (0xC3 ∷ 0xA9 ∷ []) ++ codes "*.gif$" ++ lf

@@ -12,15 +12,12 @@ use Rattle.robots_warnings.specs.Warnings.{position_warnings, warnings}
 use Rattle.rfc9309_laws.specs.LineForms as form
 use Rattle.rfc9309_laws.specs.Rfc9309 as rfc
 
--- ---- warnings about syntax
-
--- the warning isn't about syntax (by its topic in `table.rt` of robots_warnings); all others are, notes
--- included
+-- by its topic in `table.rt` of robots_warnings; all others are about syntax, notes included
 abbrev pub IsNotAboutSyntax : WarningValue → Type 0
 IsNotAboutSyntax warning = is_not_about_syntax warning.cause ≡ true
 
--- the warnings about a file if all groups are checked, as without `--agent` or with more than one;
--- `agents` are the crawlers that are reported on
+-- the warnings if all groups are checked, as without `--agent` or with more than one; `agents` are those
+-- reported on
 abbrev pub warnings_of : (agents urls : List (List ℕ)) → List ℕ → List WarningValue
 warnings_of agents urls file =
     let lines = lines_read file in
@@ -35,15 +32,12 @@ IsSilentOn agents urls file = Each IsNotAboutSyntax (warnings_of agents urls fil
 abbrev pub HasSyntax : List ℕ → Type 0
 HasSyntax file = (groups : List rfc.Group) × rfc.IsFile groups (take file_limit file)
 
--- these bytes follow the extended grammar, and the robot has the rules, the delay and the
--- sitemaps that the file states for the crawler
+-- these bytes follow the extended grammar, and the robot has what the file states for the crawler
 abbrev pub IsRobotStated : List ℕ → List ℕ → RobotValue → Type 0
 IsRobotStated agent file robot =
     (groups : List rfc.Group) × (numbers : List (List ℕ)) × (addresses : List (List ℕ))
     × IsFileWith numbers groups (take file_limit file) × rfc.ListsSitemaps addresses (take file_limit file)
     × IsRobotAs agent (rfc.merged groups) numbers addresses robot
-
--- ---- lines
 
 -- the check makes no warning about syntax
 abbrev pub is_quiet : Check → Bool
@@ -56,7 +50,7 @@ AreQuiet checks = Each (λ check. is_quiet check ≡ true) checks
 abbrev pub IsQuietLine : LineValue → List ℕ → Type 0
 IsQuietLine line body = AreQuiet (line_checks true line body)
 
--- the form of such a line; an ignored line has to be blank
+-- an ignored line has to be blank
 abbrev pub form_of : LineValue → Form
 form_of (UserAgent value) = form.Agent
 form_of (Allow value) = form.Rule
@@ -65,9 +59,6 @@ form_of (CrawlDelay delay) = form.Delay
 form_of (Sitemap value) = form.Sitemap
 form_of (Raw body) = form.Empty
 
--- ---- delays
-
--- the warning isn't about a delay that splits a group
 abbrev pub IsNoSplit : WarningValue → Type 0
 IsNoSplit warning = (warning.cause ≢ DelaySplitsGroup) × (warning.cause ≢ DelayAboveStar)
 

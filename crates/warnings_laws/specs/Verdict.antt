@@ -7,12 +7,11 @@ use Rattle.robots_warnings.specs.{Table.keeps_verdicts, Message.WarningValue}
 use Rattle.warnings_laws.specs.{Syntax.warnings_of}
 use Rattle.rfc9309_laws.specs.Rfc9309 as rfc
 
--- the warning is neither about the syntax of the file nor about its verdicts (topic `Meaning` in `table.rt`
--- of robots_warnings)
+-- the warning is neither about the syntax of the file nor about its verdicts (topic `Meaning` in `table.rt`)
 abbrev pub KeepsVerdicts : WarningValue → Type 0
 KeepsVerdicts warning = keeps_verdicts warning.cause ≡ true
 
--- no warning about the file is, if all groups are checked
+-- if all groups are checked
 abbrev pub AreVerdictsKept : (agents urls : List (List ℕ)) → List ℕ → Type 0
 AreVerdictsKept agents urls file = Each KeepsVerdicts (warnings_of agents urls file)
 

@@ -29,8 +29,8 @@ ghost use Rattle.audit_core.specs.Audit.{AuditValue, IsAuditOf, agents_requested
 ghost use Rattle.audit_core.specs.{Asked.asked_target, Request.RequestValue};
 ghost use Rattle.audit_core.specs.Syntax.{has_standard_verdicts, is_standard};
 
-/// Without `--needless`, a request and a file have at most one audit, and so at most one report; with it, at most one for
-/// each list of needless rules.
+/// Without `--needless`, a request and a file have at most one audit; with it, one for each list of needless
+/// rules.
 pub fn each_file_has_one_audit()
     ensures one { (requested : RequestValue) (file : List ℕ) (audit other : AuditValue) → requested.has_needless ≡ false
         → IsAuditOf requested file audit → IsAuditOf requested file other → audit ≡ other }
@@ -44,9 +44,8 @@ pub fn each_file_has_an_audit()
     ensures { (requested : RequestValue) (file : List ℕ) → (audit : AuditValue) × IsAuditOf requested file audit }
 {}
 
-/// Of the lines that are read, those that an audit with `--needless` warns of as needless can be deleted together: if
-/// exactly these are deleted, every verdict is the same, on any text, for `*` and each crawler that the file names, with
-/// ASCII letters in any case, and for each crawler that it doesn't name.
+/// The lines that an audit with `--needless` warns of as needless can be deleted together: if exactly these
+/// are deleted, every verdict is the same, on any text, for each crawler.
 pub fn needless_lines_decide_nothing()
     ensures named { (requested : RequestValue) (file : List ℕ) (audit : AuditValue) → (is : IsAuditOf requested file audit)
         → (agent name : List ℕ) → Contains (codes "*" ∷ agents_in (lines_read file)) name
@@ -59,18 +58,18 @@ pub fn needless_lines_decide_nothing()
         ↔ IsVerdict (rules_for agent (lines_without (numbers_of is.needless) (lines_read file))) text answer }
 {}
 
-/// If an audit with `--needless` warns of needless lines, and exactly these are deleted from the file, with their line
-/// ends, `Robot::new` gives each crawler the same as before: every verdict, the delay, the sitemaps, and whether the file
-/// is rejected. A byte order mark that the file begins with may stay, or be deleted too.
+/// If exactly these lines are deleted from the file, with their line ends, `Robot::new` gives each crawler
+/// the same as before: every verdict, the delay, the sitemaps, and whether the file is rejected. A byte order
+/// mark that the file begins with may stay, or be deleted too.
 pub fn needless_lines_can_be_deleted()
     ensures { (requested : RequestValue) (file left : List ℕ) (audit : AuditValue) (agent : List ℕ)
         → (is : IsAuditOf requested file audit) → is.needless ≢ [] → IsLeftOf (numbers_of is.needless) file left
         → IsUtf8 agent → HaveSameRobot agent (take file_limit file) (take file_limit left) }
 {}
 
-/// If a report says that the file has RFC 9309 syntax, whichever warnings it leaves out, the whole file follows the
-/// standard's grammar with the extensions of `rfc9309_laws`, and each crawler for which it isn't rejected gets the
-/// rules, the delay and the sitemaps that it states.
+/// If a report says that the file has RFC 9309 syntax, whichever warnings it leaves out, the whole file
+/// follows the standard's grammar with the extensions of `rfc9309_laws`, and each crawler for which it isn't
+/// rejected gets the rules, the delay and the sitemaps that it states.
 pub fn syntax_is_that_of_the_standard()
     ensures syntax { (requested : RequestValue) (file : List ℕ) (audit : AuditValue) → IsAuditOf requested file audit
         → is_standard audit.syntax ≡ true → (groups : List Group) × IsFile groups file }
@@ -79,9 +78,9 @@ pub fn syntax_is_that_of_the_standard()
         → IsRobotOfFile agent (take file_limit file) robot → IsRobotStated agent file robot }
 {}
 
-/// If a report says that verdicts are those of RFC 9309, whichever warnings it leaves out, the verdict of a crawler for
-/// which the file isn't rejected, on each path and query in normal form, is the standard's (`verdicts`). The crawler may be
-/// any with a product token if the request names none (`everyone`).
+/// If a report says that verdicts are those of RFC 9309, whichever warnings it leaves out, the verdict of a
+/// crawler for which the file isn't rejected, on each path and query in normal form, is the standard's
+/// (`verdicts`). The crawler may be any with a product token if the request names none (`everyone`).
 pub fn verdicts_are_those_of_the_standard()
     ensures verdicts { (requested : RequestValue) (file : List ℕ) (audit : AuditValue) (agent uri : List ℕ) (groups : List Group)
         (robot : RobotValue) (answer : Bool) → IsAuditOf requested file audit
@@ -93,9 +92,9 @@ pub fn verdicts_are_those_of_the_standard()
         → IsAsOneOf (agents_requested [] (lines_read file)) file agent }
 {}
 
-/// `allowed-and-disallowed` is given for a line exactly if it has a Disallow that applies to one of the crawlers reported
-/// on, and an Allow with the same pattern, other than an empty Disallow, applies to that crawler too, where `/` and `*` are
-/// the same. Its message names the line of such an Allow.
+/// `allowed-and-disallowed` is given for a line exactly if it has a Disallow that applies to one of the
+/// crawlers reported on, and an Allow with the same pattern, other than an empty Disallow, applies to that
+/// crawler too, where `/` and `*` are the same. Its message names the line of such an Allow.
 pub fn allowed_and_disallowed()
     ensures given { (is_empty : ℕ → Bool) (agents : List (List ℕ)) (lines : List LineValue) (number other : ℕ)
         → conflict is_empty agents lines number ≡ Some other
@@ -105,8 +104,8 @@ pub fn allowed_and_disallowed()
         → IsSome (conflict is_empty agents lines number) }
 {}
 
-/// The Disallow of an `allowed-and-disallowed` decides no verdict for the crawler to which both apply: none at all
-/// if the patterns are equal, and none on a path if they are `/` and `*`.
+/// That Disallow decides no verdict for the crawler: none at all if the patterns are equal, and none on a
+/// path if they are `/` and `*`.
 pub fn allowed_and_disallowed_never_decides()
     ensures same { (is_empty : ℕ → Bool) (agent : List ℕ) (lines : List LineValue) (rules : List PlacedRule)
         (number other : ℕ) (text : List ℕ) → (is : IsConflict is_empty agent lines number other)
@@ -116,16 +115,15 @@ pub fn allowed_and_disallowed_never_decides()
         → AreRulesFor agent lines rules → ¬ IsDecidingLine rules (byte "/" ∷ path) (Some number) }
 {}
 
-/// The numbers of empty Disallows, as the warnings have them, are those of the Disallows without a value. The labels may be
-/// those for any crawler.
+/// The numbers of empty Disallows, as the warnings have them, are those of the Disallows without a value.
 pub fn empty_disallows()
     ensures { (name file : List ℕ) (labels : List Label) (number : ℕ) → AreLabelsOf name (lines_read file) labels
         → IsTrue (is_empty_at (bodies_read file) labels number) ↔ IsEmptyDisallow (bodies_read file) number }
 {}
 
-/// `empty-disallow` is given for a line exactly if it is an empty Disallow that applies to one of the crawlers reported on, a
-/// Disallow of `/` or `*` applies to that crawler too, and each Allow of these that applies to it is an empty Disallow. Its
-/// message names the line of such a Disallow.
+/// `empty-disallow` is given for a line exactly if it is an empty Disallow that applies to one of the
+/// crawlers reported on, a Disallow of `/` or `*` applies to that crawler too, and each Allow of these that
+/// applies to it is an empty Disallow. Its message names the line of such a Disallow.
 pub fn empty_disallow()
     ensures given { (is_empty : ℕ → Bool) (agents : List (List ℕ)) (lines : List LineValue) (number other : ℕ)
         → overruled is_empty agents lines number ≡ Some other
@@ -135,8 +133,8 @@ pub fn empty_disallow()
         → IsSome (overruled is_empty agents lines number) }
 {}
 
-/// If no line has `empty-disallow` because of the rules of a crawler, every verdict is the same for it where an empty Disallow
-/// is no rule, as RFC 9309 and Google have it: for any text.
+/// If no line has `empty-disallow` because of the rules of a crawler, every verdict is the same for it where
+/// an empty Disallow is no rule, as for RFC 9309 and Google.
 pub fn without_empty_disallows()
     ensures { (is_empty : ℕ → Bool) (agent file : List ℕ) (rules : List PlacedRule)
         → ((number : ℕ) → IsTrue (is_empty number) ↔ IsEmptyDisallow (bodies_read file) number)
@@ -145,8 +143,8 @@ pub fn without_empty_disallows()
         → IsVerdict (unplaced rules) text answer ↔ IsVerdict (unplaced (stated_rules is_empty rules)) text answer }
 {}
 
-/// If `closes-everything` is given because of the rules of a crawler, every path is denied to the crawler, unless it begins
-/// with `/robots.txt` or with the path of a sitemap that the file lists.
+/// If `closes-everything` is given because of the rules of a crawler, every path is denied to it, unless it
+/// begins with `/robots.txt` or with the path of a sitemap that the file lists.
 pub fn closes_everything()
     ensures { (agent : List ℕ) (lines : List LineValue) (rules : List PlacedRule) (number : ℕ) (text : List ℕ)
         → line_closing lines agent ≡ Some number → AreRulesFor agent lines rules
@@ -154,8 +152,8 @@ pub fn closes_everything()
         → IsDenied (unplaced rules) (byte "/" ∷ text) }
 {}
 
-/// If a report says that a crawler may fetch everything, no text is denied to it; if it says that it may fetch nothing, every
-/// path is, except `/robots.txt`.
+/// If a report says that a crawler may fetch everything, no text is denied to it; if it says that it may fetch
+/// nothing, every path is, except `/robots.txt`.
 pub fn may_fetch()
     ensures everything { (agent : List ℕ) (lines : List LineValue) (rules : List PlacedRule) (text : List ℕ)
         → reach_of lines agent ≡ Everything → AreRulesFor agent lines rules → ¬ IsDenied (unplaced rules) text }
@@ -164,7 +162,7 @@ pub fn may_fetch()
         → IsDenied (unplaced rules) (byte "/" ∷ text) }
 {}
 
-/// A rule with `repeated-rule` decides no verdict, for any crawler. The labels may be those for another crawler.
+/// A rule with `repeated-rule` decides no verdict, for any crawler. The labels may be those for another one.
 pub fn repeated_rule()
     ensures { (everywhere : Bool) (name agent : List ℕ) (lines : List LineValue) (labels : List Label)
         (rules : List PlacedRule) (text : List ℕ) (number : ℕ) → AreLabelsOf name lines labels
@@ -172,8 +170,8 @@ pub fn repeated_rule()
         → ¬ IsDecidingLine rules text (Some number) }
 {}
 
-/// If lines with `repeated-rule` are deleted, one or several or all, every verdict stays the same, on any text, for any
-/// crawler; it says nothing about delays. The labels may be those for another crawler.
+/// If lines with `repeated-rule` are deleted, one or several or all, every verdict stays the same, for any
+/// crawler.
 pub fn repeated_rules_can_be_deleted()
     ensures { (everywhere : Bool) (name agent : List ℕ) (lines : List LineValue) (labels : List Label)
         (numbers text : List ℕ) (answer : Bool) → AreLabelsOf name lines labels
@@ -187,9 +185,9 @@ pub fn hash_cuts_rule()
         → Matches (escaped value) (byte "/" ∷ path) }
 {}
 
-/// A line with `replaces-star` is a user-agent line, and its list of user-agent lines has the name of a crawler that is
-/// reported on, with ASCII letters in any case. No Disallow that applies to this crawler has the pattern of a Disallow that
-/// applies to `*`. The labels may be those for another crawler. The number in the message is how many Disallows `*` has.
+/// A line with `replaces-star` is a user-agent line, and its list of user-agent lines has the name of a
+/// crawler that is reported on. No Disallow that applies to this crawler has the pattern of a Disallow that
+/// applies to `*`. The number in the message is how many Disallows `*` has.
 pub fn replaces_star()
     ensures group { (agents : List (List ℕ)) (name : List ℕ) (lines : List LineValue) (labels : List Label) (number : ℕ)
         → AreLabelsOf name lines labels → Contains (replacing agents lines labels) number
@@ -202,8 +200,7 @@ pub fn replaces_star()
         → star_count lines ≡ count_by (λ (placed : PlacedRule). not placed.rule.1) rules }
 {}
 
-/// If lines with `two-delays` are deleted, one or several or all, the delay of every crawler stays the same; it says
-/// nothing about verdicts. The labels may be those for another crawler.
+/// If lines with `two-delays` are deleted, one or several or all, the delay of every crawler stays the same.
 pub fn two_delays()
     ensures { (name agent : List ℕ) (lines : List LineValue) (labels : List Label) (numbers : List ℕ)
         → AreLabelsOf name lines labels → All (Contains (position_warnings labels)) (warned_at TwoDelays None numbers)
@@ -224,7 +221,7 @@ pub fn rule_not_utf_8()
         → ¬ HoldsRule agent lines position rule }
 {}
 
-/// A line with `rule-before-user-agent` has no rule, for any crawler. The labels may be those for another crawler.
+/// A line with `rule-before-user-agent` has no rule, for any crawler.
 pub fn rule_before_user_agent()
     ensures { (name agent : List ℕ) (lines : List LineValue) (labels : List Label) (position : ℕ) (label : Label) (rule : Rule)
         → AreLabelsOf name lines labels → slice_get labels position ≡ Some label → is_above_agents label ≡ true
@@ -236,14 +233,14 @@ pub fn dollar_not_at_end()
     ensures { (value text : List ℕ) → has_dollar_inside value ≡ true → ¬ Matches (escaped value) text }
 {}
 
-/// A rule with `missing-slash`, `url-as-rule`, `quoted-rule` or `regex-syntax` that starts with neither a slash nor a star
-/// matches no text that starts with a slash, as all paths do.
+/// A rule with `missing-slash`, `url-as-rule`, `quoted-rule` or `regex-syntax` that starts with neither a
+/// slash nor a star matches no path.
 pub fn missing_slash()
     ensures { (value text : List ℕ) → begins_oddly value ≡ true → ¬ Matches (escaped value) (byte "/" ∷ text) }
 {}
 
-/// The match target of a path, or of an http(s) URL that can be parsed, is in normal form if there is no `url-not-normal`.
-/// So `verdicts_are_those_of_the_standard` applies to it.
+/// The match target of a path, or of an http(s) URL that can be parsed, is in normal form if there is no
+/// `url-not-normal`. So `verdicts_are_those_of_the_standard` applies to it.
 pub fn url_not_normal()
     ensures { (text : List ℕ)
         → (starts_with nat_eq text (codes "/") || (begins_as_url text && not (is_unparsable text))) ≡ true

@@ -1,6 +1,5 @@
-//! What the silence of an audit means: a file without warnings about its syntax follows the grammar of
-//! RFC 9309, section 2.2, extended as `rfc9309_laws` says. Theorems about the specification, each
-//! the contract of an empty function.
+//! What the silence of an audit means: a file without warnings about its syntax follows the grammar of RFC
+//! 9309, section 2.2, extended as `rfc9309_laws` says. Each theorem is the contract of an empty function.
 ghost use Rattle.std.specs.Prelude.{◌≡◌, ℕ, List, [], take};
 ghost use Rattle.texting_robots.specs.Callers.{IsLineOf, IsRobotOfFile, LineValue, RobotValue, file_limit};
 ghost use Rattle.rfc9309_laws.specs.LineForms.{HasForm};
@@ -15,15 +14,13 @@ pub fn quiet_lines_have_forms()
         → HasForm (form_of line) body }
 {}
 
-/// What the silence of an audit of all groups means, used by owners who want a file with one meaning by the
-/// standard, and by `robots_audit`, whose reports say that a file has RFC 9309 syntax. All warnings count,
-/// whichever a report leaves out. A file with a warning about its syntax may follow the grammar too.
+/// What the silence of an audit of all groups means, whichever warnings a report leaves out.
 ///
-/// - `syntax`: without a warning about the syntax of a file, what crawlers read of it
-///   follows the extended grammar.
+/// - `syntax`: without a warning about the syntax of a file, what crawlers read of it follows the extended
+/// grammar.
 /// - `none`: so it does if there is no warning at all.
-/// - `robot`: `Robot::new` then has the rules, the delay and the sitemaps that
-///   the file states for the crawler.
+/// - `robot`: `Robot::new` then has the rules, the delay and the sitemaps that the file states for the
+/// crawler.
 pub fn silence_means_syntax()
     ensures syntax { (agents urls : List (List ℕ)) (file : List ℕ) → IsSilentOn agents urls file
         → HasSyntax file }
@@ -35,15 +32,14 @@ pub fn silence_means_syntax()
 {}
 
 /// A user-agent line after a Crawl-delay begins another group. For the standard it doesn't, since a delay is
-/// another record, which has no effect on groups. Without a warning that a delay splits a group, such as
-/// `delay-splits-group`, each crawler's rules are the same for both.
+/// another record. Without a warning that a delay splits a group, each crawler's rules are the same for both.
 pub fn delays_change_no_rules()
     ensures { (file agent : List ℕ) (groups : List rfc.Group) → rfc.IsFile groups (take file_limit file)
         → AreGroupsWhole file → rfc.rules_for agent (rfc.merged groups) ≡ rfc.standard_rules agent groups }
 {}
 
-/// Worked examples: a file without warnings about its syntax, and one with such a warning; and a file without
-/// warnings about verdicts either.
+/// A file without warnings about its syntax, one with such a warning, and one without warnings about
+/// verdicts.
 pub fn examples()
     ensures silent { example.silent }
     ensures warned { example.warned }

@@ -9,11 +9,10 @@ use std::alloc::Global;
 use texting_robots::{Error, Robot};
 
 /// What the silence of an audit of all groups means for the verdicts on a crawler for which the file isn't
-/// rejected, used by owners who want a file with one meaning. All warnings count, whichever a report leaves
-/// out.
+/// rejected, whichever warnings a report leaves out.
 ///
 /// - `groups`: if no warning is about the syntax of the file or about verdicts, the file has groups by the
-///   standard's grammar, extended as `rfc9309_laws` says.
+/// standard's grammar, extended as `rfc9309_laws` says.
 /// - `verdicts`: then the verdict on each path and query in normal form is the standard's.
 pub fn silence_means_verdicts()
     ensures groups { (agents urls : List (List ℕ)) (file : List ℕ)

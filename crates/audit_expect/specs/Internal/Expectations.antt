@@ -13,8 +13,6 @@ use Rattle.texting_robots.specs.Callers.{IsBetter, IsDecidingRule, Matches, Plac
 use Rattle.texting_robots.specs.{declared.decision.Decision.Decision, Internal.Line.line_of}
 use Rattle.robots_warnings.specs.Conflicts.{is_empty_disallow, stated_rules}
 
--- ---- The expectations as the code finds them.
-
 abbrev pub expectation_value : Expectation → ExpectationValue
 expectation_value expectation = record {
   number = expectation.number;
@@ -23,12 +21,12 @@ expectation_value expectation = record {
   url = expectation.url.now;
 }
 
--- what a line has, by value
+-- by value
 abbrev pub line_by : {X Y : Type 0} → (X → Y) → LineOf X → LineOf Y
 line_by value (Ok entry) = Ok (option_map value entry)
 line_by value (Err malformed) = Err malformed
 
--- the error names these malformed lines of this file, of which there are some, or an allocation failed
+-- the error names these malformed lines, of which there are some, or an allocation failed
 abbrev pub AreMalformed : List ℕ → List MalformedLine → Fault → Type 0
 AreMalformed name malformed (Malformed file lines) =
     (string_bytes file ≡ name) × (lines.items ≡ malformed) × ((length malformed == 0) ≡ false)
@@ -44,12 +42,10 @@ pub record IsFirstSeparator (separators text : List ℕ) (place : ℕ) : Type 0 
   pub here : is_in separators (slice_index text place) ≡ true
   pub before : HasNone separators text place
 
--- the error names this file, in which there are no such entries, or an allocation failed
+-- the error names this file, which has no such entries, or an allocation failed
 abbrev pub IsWithoutEntries : List ℕ → Entry → Fault → Type 0
 IsWithoutEntries name entry (Empty file other) = (string_bytes file ≡ name) × (other ≡ entry)
 IsWithoutEntries name entry fault = fault ≡ Memory
-
--- ---- Expectations and judgments as the code handles them.
 
 abbrev pub checked_value : Checked → CheckedValue
 checked_value checked = record {
@@ -63,7 +59,7 @@ pub record IsReadFor (agent file : List ℕ) (found : AgentReading) : Type 0 whe
   pub agent_is : found.agent.now ≡ agent
   pub reading : IsReading agent file found.reading
 
--- these are the expectations that fail on the file, of all of these
+-- the expectations that fail on the file
 pub record AreFailuresOn (file : List ℕ) (expectations : List ExpectationValue) (found : List FindingValue)
     : Type 0 where
   pub checked : List CheckedValue
@@ -71,19 +67,16 @@ pub record AreFailuresOn (file : List ℕ) (expectations : List ExpectationValue
   pub judged : Each (IsChecked file) checked
   pub whole : found ≡ failures checked
 
--- ---- The other reading of an empty Disallow as the code finds it.
-
 abbrev pub is_empty : List ℕ → Bool
 is_empty body = is_empty_disallow (line_of body) body
 
--- for each number of a line, whether this line is an empty Disallow; there is no line 0
+-- for each number of a line, whether it is an empty Disallow; there is no line 0
 abbrev pub marks_of : List (List ℕ) → List Bool
 marks_of bodies = false ∷ map is_empty bodies
 
 abbrev pub is_marked : List Bool → ℕ → Bool
 is_marked marks number = slice_index_or marks number false
 
--- the rules whose line isn't an empty Disallow
 abbrev pub others_of : List (List ℕ) → List PlacedRule → List PlacedRule
 others_of bodies rules = stated_rules (is_marked (marks_of bodies)) rules
 

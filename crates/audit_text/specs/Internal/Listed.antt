@@ -11,13 +11,12 @@ use Rattle.robots_warnings.specs.{Message.WarningValue}
 abbrev pub Counts : Type 0
 Counts = BTreeMap (Bor (List ℕ)) (List ℕ)
 
--- the number of a name and a level; zero if the name isn't there
+-- zero if the name isn't there
 abbrev pub counted : Counts → List ℕ → Level → ℕ
 counted counts name level =
     slice_index_or (unwrap_or (get_by (λ key. slice_cmp nat_cmp name key.now) counts) (0 ∷ 0 ∷ 0 ∷ []))
     (rank level) 0
 
--- the map has the number of these warnings with each name and level
 abbrev pub AreCounts : Counts → List WarningValue → Type 0
 AreCounts counts warnings =
     (name : List ℕ) (level : Level) → counted counts name level ≡ count_of name level warnings

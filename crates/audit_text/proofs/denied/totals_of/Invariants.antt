@@ -2,7 +2,7 @@ use Rattle.std.proofs.Common.{◌≡◌, ◌*◌, ◌≤◌, take}
 use Rattle.audit_core.specs.Audit.{is_allowed, is_denied, total}
 use Rattle.audit_text.proofs.denied.totals_of.Given as goal
 
--- the numbers are those of the crawlers so far, each of which has less than 2^64 URLs
+-- each of the crawlers so far has less than 2^64 URLs
 abbrev pub invariant-loop-agent : goal.invariant-loop-agent
 invariant-loop-agent l =
     let done = take l.agent-index l.agents in record {
