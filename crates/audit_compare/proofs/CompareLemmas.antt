@@ -26,9 +26,6 @@ use Rattle.audit_compare.specs.Internal.Compare.{Adds, AddsText}
 
 -- ---- Rules that other rules lack, and the verdicts by the same rules.
 
--- ---- verdicts
-
--- all rules of the first list are in the second
 abbrev Includes : List Rule → List Rule → Type 0
 Includes rules others = (rule : Rule) → Contains rules rule → Contains others rule
 
@@ -77,7 +74,6 @@ none_lacked others (first ∷ rules) none rule has =
         subst (Contains (unplaced others)) at (has_in others first.rule found)
     by true found none (suc k, below, at) later = later none (k, omega arith, at)
 
--- a crawler that has the same rules in both files gets the same verdicts
 pub same_rules_decide_alike : (agent : List ℕ) (older newer : List LineValue) (text : List ℕ) (allowed : Bool)
     → rules_only_in older newer agent ≡ [] → rules_only_in newer older agent ≡ []
     → IsVerdict (rules_for agent older) text allowed ↔ IsVerdict (rules_for agent newer) text allowed
@@ -90,13 +86,10 @@ same_rules_decide_alike agent older newer text allowed removed added =
     none_lacked (placed_rules agent older) (placed_rules agent newer) added in
     (verdict_alike before after text allowed there back, verdict_alike after before text allowed back there)
 
--- ---- what a report says
-
 unchanged_has_same : (compared : ComparedValue) → is_unchanged compared ≡ true
     → has_same_rules compared ≡ true
 unchanged_has_same compared is = (and_parts _ (has_same_rules compared) is).1
 
--- no rule was removed, and none was added
 neither : (compared : ComparedValue) → has_same_rules compared ≡ true
     → (compared.removed ≡ []) × (compared.added ≡ [])
 neither compared same =
@@ -121,7 +114,6 @@ module _ (urls : List (List ℕ)) (older newer : List LineValue) (agent : List �
       same_rules_decide_alike agent older newer text allowed (sym is.removed_are ∙ none.0)
       (sym is.added_are ∙ none.1)
 
-  -- the same of a crawler that is reported to be unchanged or to have the same rules
   pub reported_alike : (text : List ℕ) (allowed : Bool)
       → (is_unchanged compared || has_same_rules compared) ≡ true
       → IsVerdict (rules_for agent older) text allowed ↔ IsVerdict (rules_for agent newer) text allowed
@@ -158,7 +150,6 @@ module _ (urls : List (List ℕ)) (older newer : List LineValue) (agent : List �
     none_ruled None (Some line) ones others are (first, none) =
         rw none (no_verdicts compared.removed compared.added ones)
 
-    -- no URL is listed for a crawler that has the same rules in both files
     pub none_listed : compared.changes ≡ []
     none_listed =
         is.changes_are ∙ none_ruled compared.older.rejected compared.newer.rejected compared.older.verdicts
@@ -166,9 +157,6 @@ module _ (urls : List (List ℕ)) (older newer : List LineValue) (agent : List �
 
 -- ---- The decisions on URLs, and the sitemaps, that only one of the files has.
 
--- ---- URLs
-
--- from an index on, one of the lists has no verdicts
 pub none_left : (removed added : List PlacedRule) (older newer : List VerdictValue) (at : ℕ)
     → (at < length older → at < length newer → ⊥)
     → url_changes removed added (drop at older) (drop at newer) ≡ []
@@ -180,9 +168,6 @@ none_left removed added (one ∷ older) (other ∷ newer) zero over =
 none_left removed added (one ∷ older) (other ∷ newer) (suc at) over =
     none_left removed added older newer at (λ below within. over (omega arith) (omega arith))
 
--- ---- sitemaps
-
--- a set of texts after the insertion of a text
 pub text_added : (old new : BTreeSet Key) (key : Key) (text : List ℕ) (is_new : Bool) → key.items ≡ text
     → is_new ≡ not (contains key_cmp old key) → Updates key_cmp old new key true
     → AddsText old new text is_new
@@ -199,14 +184,12 @@ text_added old new key text is_new is added updates = record {
   };
 }
 
--- the texts up to an index, and the one there
 pub texts_more : (front : List (List ℕ)) (items : List (Bor (List ℕ))) (at : ℕ) (d : Bor (List ℕ))
     → at < length items
     → (front ++ map (λ text. text.now) (take at items)) ++ (slice_index_or items at d).now ∷ []
     ≡ front ++ map (λ text. text.now) (take (at + 1) items)
 texts_more front items at d below = rw (append_assoc, map_more (λ text. text.now) items at d below)
 
--- the new texts up to an index, and those from it on, after the one there
 pub found_more : (front : List (List ℕ)) (items : List (Bor (List ℕ))) (at : ℕ) (d : Bor (List ℕ))
     (found new whole : List (List ℕ)) (is_new : Bool) → at < length items
     → is_new
@@ -223,15 +206,11 @@ found_more front items at d found new whole is_new below was added before =
     rw (added, was, ← texts_more front items at d below, append_assoc)
     (rw (drop_more items at d below) at before)
 
--- ---- the report
-
--- differences were added, and then others
 pub adds_more : (old between new : List Finding) (one other : List Difference) → Adds old between one
     → Adds between new other → Adds old new (one ++ other)
 adds_more old between new one other first second =
     rw (map-append finding_of one other, ← append_assoc, ← first) second
 
--- what was added for the crawlers up to an index, and for the one there
 pub crawlers_more : (old between new : List Finding) (crawlers : List ComparedValue) (at : ℕ)
     (item : ComparedValue) → at < length crawlers → item ≡ slice_index_or crawlers at item
     → Adds old between (flat_map crawler_changes (take at crawlers))
@@ -248,7 +227,6 @@ crawlers_more old between new crawlers at item below is before added =
     subst (λ (all : List Difference). Adds old new all) (sym last)
     (adds_more old between new first (crawler_changes item) before added)
 
--- the messages of findings that are differences are the lines of these
 pub messages_of : (found : List Finding) (differences : List Difference)
     → map finding_value found ≡ map finding_of differences
     → map (λ finding. string_bytes finding.message) found

@@ -18,17 +18,15 @@ use Rattle.audit_core.specs.Audit.{AgentValue, IsAgentAudit, VerdictValue, agent
 use Rattle.audit_core.specs.Findings.{FindingValue, Found, Parts, found_value}
 use Rattle.audit_core.specs.Texts.{delay_value, group_value, rejected_parts}
 
--- ---- rules
-
--- both rules are Allows or both are Disallows, and their patterns, which are escaped values, are equal
+-- of the same kind, and with equal patterns, which are escaped values
 abbrev pub is_same_rule : Rule → Rule → Bool
 is_same_rule one other = beq one.1 other.1 && bytes_eq one.0 other.0
 
--- some of the rules is the same, in whatever line
+-- in whatever line
 abbrev pub has_rule : List PlacedRule → Rule → Bool
 has_rule rules rule = list_any (λ (placed : PlacedRule). is_same_rule placed.rule rule) rules
 
--- those of the rules that the others lack, in order
+-- in order
 abbrev pub rules_lacked : List PlacedRule → List PlacedRule → List PlacedRule
 rules_lacked others rules = filter (λ (placed : PlacedRule). not (has_rule others placed.rule)) rules
 
@@ -36,20 +34,16 @@ rules_lacked others rules = filter (λ (placed : PlacedRule). not (has_rule othe
 abbrev pub rules_only_in : List LineValue → List LineValue → List ℕ → List PlacedRule
 rules_only_in lines others agent = rules_lacked (placed_rules agent others) (placed_rules agent lines)
 
--- ---- decisions on URLs
-
--- a URL, and the decisions on it
 pub record UrlChangeValue : Type 0 where
   pub url : List ℕ
   pub older : Decision
   pub newer : Decision
 
--- one of the rules is in this line
 abbrev pub is_in_line_of : List PlacedRule → Option ℕ → Bool
 is_in_line_of rules line = list_any (λ (placed : PlacedRule). option_eq nat_eq line (Some placed.line)) rules
 
 -- both decisions allow or both deny, the rule that decided wasn't removed, and the one that decides now
--- wasn't added; a rule in another line is the same
+-- wasn't added
 abbrev pub is_same_decision : (removed added : List PlacedRule) → Decision → Decision → Bool
 is_same_decision removed added older newer =
     beq older.allowed newer.allowed
@@ -68,10 +62,8 @@ url_changes removed added (one ∷ older) (other ∷ newer) =
     change_at removed added one other ++ url_changes removed added older newer
 url_changes removed added _ _ = []
 
--- ---- what both files mean for a crawler
-
--- a crawler, what each file means for it, the rules of each file that the other one lacks, and the URLs on
--- which the decisions differ
+-- what each file means for a crawler, the rules that the other one lacks, and the URLs on which decisions
+-- differ
 pub record ComparedValue : Type 0 where
   pub agent : List ℕ
   pub older : AgentValue
@@ -91,13 +83,10 @@ pub record IsCompared (urls : List (List ℕ)) (older newer : List LineValue) (a
   pub changes_are : compared.changes
       ≡ url_changes compared.removed compared.added compared.older.verdicts compared.newer.verdicts
 
--- ---- what both files list
-
--- one of the texts is this one
 abbrev pub is_listed : List (List ℕ) → List ℕ → Bool
 is_listed texts text = list_any (λ other. bytes_eq other text) texts
 
--- those of the texts that are neither among the others nor above, in order
+-- those of the texts that are neither among the others nor above
 abbrev pub new_texts : (others texts : List (List ℕ)) → List (List ℕ)
 new_texts others [] = []
 new_texts others (text ∷ texts) =
@@ -107,11 +96,9 @@ new_texts others (text ∷ texts) =
 abbrev pub sitemaps_only_in : List LineValue → List LineValue → List (List ℕ)
 sitemaps_only_in lines others = new_texts (sitemaps_in others) (sitemaps_in lines)
 
--- a file with these kinds of lines has no directive
 abbrev pub has_no_directive : LineKinds → Bool
 has_no_directive kinds = not (kinds.user_agent || kinds.rule || kinds.extra)
 
--- the name of a file, and whether the file has no directive
 pub record SideValue : Type 0 where
   pub name : List ℕ
   pub has_no_directive : Bool
@@ -127,8 +114,7 @@ pub record ComparisonValue : Type 0 where
   pub removed : List (List ℕ)
   pub added : List (List ℕ)
 
--- the comparison of the file `older` with the file `newer`, for these crawlers, or if there are none for `*`
--- and each that one of the files names
+-- for these crawlers, or if there are none for `*` and each that one of the files names
 pub record IsComparison (agents : List (List ℕ)) (urls : List (List ℕ))
     (older_name older newer_name newer : List ℕ) (comparison : ComparisonValue) : Type 0 where
   pub older_is : comparison.older ≡ side_of older_name older
@@ -137,8 +123,6 @@ pub record IsComparison (agents : List (List ℕ)) (urls : List (List ℕ))
       (agents_requested agents (lines_read older ++ lines_read newer)) comparison.crawlers
   pub removed_are : comparison.removed ≡ sitemaps_only_in (lines_read older) (lines_read newer)
   pub added_are : comparison.added ≡ sitemaps_only_in (lines_read newer) (lines_read older)
-
--- ---- what differs
 
 -- a difference as a finding: how serious it is, the line of the newer file that it is about, if there is one,
 -- its name, and its line in the report
@@ -175,7 +159,6 @@ crawler agent = Part (label (codes "crawler ") refl) (Untrusted agent)
 abbrev pub about : List ℕ → List PartValue → ReportLine
 about agent what = line_from (crawler agent) refl what
 
--- before what is different in the newer file
 abbrev pub arrow : Label
 arrow = label (codes " -> ") refl
 
@@ -186,8 +169,7 @@ is_same_group Nobody Nobody = true
 is_same_group Everyone Everyone = true
 is_same_group _ _ = false
 
--- the groups, if they differ: `none` if no group applies, and `everyone` if all rules apply, as the file has
--- no user-agent line
+-- `none` if no group applies, and `everyone` if all rules apply, as the file has no user-agent line
 abbrev pub group_changes : List ℕ → Group → Group → List Difference
 group_changes agent older newer =
     if is_same_group older newer then []
@@ -215,7 +197,7 @@ abbrev pub kind_word : (is_allow : Bool) → Value
 kind_word true = word (codes "Allow") refl
 kind_word false = word (codes "Disallow") refl
 
--- the rule after a sign, such as `crawler Googlebot: - Disallow: /x (line 4)`
+-- such as `crawler Googlebot: - Disallow: /x (line 4)`
 abbrev pub rule_line : List ℕ → (is_added : Bool) → PlacedRule → ReportLine
 rule_line agent is_added placed =
     about agent (Part (sign is_added) (kind_word placed.rule.1)
@@ -230,18 +212,16 @@ rule_change agent is_added placed = record {
   text = rule_line agent is_added placed;
 }
 
--- ---- verdicts
-
 abbrev pub verdict_word : (allowed : Bool) → Value
 verdict_word true = word (codes "allow") refl
 verdict_word false = word (codes "deny") refl
 
--- the number of the line that decides, if there is one
+-- the line that decides
 abbrev pub deciding : Option ℕ → PartValue
 deciding None = Absent
 deciding (Some line) = Part (label (codes " ") refl) (Number line)
 
--- what the change does to a URL; without another verdict, another rule decides
+-- without another verdict, another rule decides
 abbrev pub change_name : (older newer : Bool) → Fixed
 change_name true false = record { text = codes "closed"; safe = refl }
 change_name false true = record { text = codes "opened"; safe = refl }
@@ -268,9 +248,6 @@ url_change agent change = record {
   text = url_line agent change;
 }
 
--- ---- all that is reported on a crawler
-
--- everything that differs for a crawler
 abbrev pub differences : ComparedValue → List Difference
 differences compared =
     group_changes compared.agent compared.older.group compared.newer.group
@@ -279,11 +256,9 @@ differences compared =
     ++ map (rule_change compared.agent true) compared.added
     ++ map (url_change compared.agent) compared.changes
 
--- one of the files is rejected for the crawler
 abbrev pub is_rejected : ComparedValue → Bool
 is_rejected compared = is_some compared.older.rejected || is_some compared.newer.rejected
 
--- no rule was removed, and none was added
 abbrev pub has_same_rules : ComparedValue → Bool
 has_same_rules compared = length compared.removed == 0 && length compared.added == 0
 
@@ -322,29 +297,26 @@ same_rules agent has_same =
     (about agent (only (codes ": same rules, so no URL's verdict differs") refl ∷ [])) ∷ []
     else []
 
--- what is reported on a crawler: nothing if it is unchanged
+-- nothing if the crawler is unchanged
 abbrev pub crawler_changes : ComparedValue → List Difference
 crawler_changes compared =
     if is_rejected compared then rejection false compared.older ++ rejection true compared.newer
     else if is_unchanged compared then []
     else differences compared ++ same_rules compared.agent (has_same_rules compared)
 
--- ---- the report
-
 abbrev pub unchanged_part : PartValue
 unchanged_part = only (codes ": no group, delay or rule differs, so no URL's verdict does") refl
 
--- that several crawlers are unchanged, which are all that were compared, or the others
+-- the unchanged crawlers are all that were compared, or the others
 abbrev pub several_line : (all : Bool) → ReportLine
 several_line true = line_from (only (codes "all compared crawlers") refl) refl (unchanged_part ∷ [])
 several_line false = line_from (only (codes "other compared crawlers") refl) refl (unchanged_part ∷ [])
 
--- of these crawlers, those on which nothing else is reported
 abbrev pub unchanged_line : List ComparedValue → ReportLine
 unchanged_line (compared ∷ []) = about compared.agent (unchanged_part ∷ [])
 unchanged_line crawlers = several_line (list_all is_unchanged crawlers)
 
--- the same, if there are some
+-- those on which nothing else is reported, if there are some
 abbrev pub unchanged : List ComparedValue → List Difference
 unchanged crawlers =
     if list_any is_unchanged crawlers then note (codes "unchanged") refl (unchanged_line crawlers) ∷ []
@@ -382,13 +354,9 @@ report_lines comparison =
     sides_line comparison.older comparison.newer
     ∷ map (λ (difference : Difference). difference.text) (all_differences comparison)
 
--- ---- the outcome
-
--- one of the files is rejected for one of the crawlers
 abbrev pub rejects_some : ComparisonValue → Bool
 rejects_some comparison = list_any is_rejected comparison.crawlers
 
--- all crawlers are unchanged, and both files list the same sitemaps
 abbrev pub differs_nowhere : ComparisonValue → Bool
 differs_nowhere comparison =
     (list_all is_unchanged comparison.crawlers && length comparison.removed == 0)

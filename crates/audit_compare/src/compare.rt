@@ -16,18 +16,16 @@ use robots_warnings::facts::{LineKinds, facts_of};
 use std::alloc::{AllocError, Global};
 use std::marker::Model;
 
-/// A file that is compared.
 #[derive(Clone, Copy)]
 pub struct NamedFile<'a> {
     pub name: &'a str,
     pub bytes: &'a [u8],
 }
 
-/// What is said of a file that is compared.
+/// What is reported of a file that is compared.
 #[derive(Drop)]
 pub struct Side<'a> {
     pub name: &'a str,
-    /// Whether the file has no directive.
     pub has_no_directive: bool,
 }
 
@@ -41,13 +39,12 @@ impl<'a> Model for Side<'a> {
     ghost view = { side_of };
 }
 
-/// What differs between two files.
 #[derive(Drop)]
 pub struct Comparison<'a> {
     pub older: Side<'a>,
     pub newer: Side<'a>,
     pub crawlers: Vec<Compared<'a>>,
-    /// The sitemaps that only the older file lists.
+    /// Those that only the older file lists.
     pub removed: Vec<&'a [u8]>,
     /// Those that only the newer one lists.
     pub added: Vec<&'a [u8]>,
@@ -63,14 +60,12 @@ impl<'a> Model for Comparison<'a> {
     ghost view = { comparison_of };
 }
 
-/// Whether a file with these kinds of lines has no directive.
 fn has_no_directive(kinds: LineKinds) -> bool
     ensures { result ≡ has_no_directive kinds }
 {
     !(kinds.user_agent || kinds.rule || kinds.extra)
 }
 
-/// What is said of the file with this name.
 fn side_of<'a>(name: &'a str, version: &Version<'_>) -> Side<'a>
     requires { IsVersion version.now }
     ensures { result ≡ side_of name.entry.now version.now.bytes.now }
@@ -101,7 +96,6 @@ fn agents_of<'a>(
     agents_requested(alloc, agents, &labels)
 }
 
-/// What both files mean for each of these crawlers.
 fn crawlers_of<'a>(
     alloc: Global,
     agents: &[&'a str],
@@ -123,13 +117,9 @@ fn crawlers_of<'a>(
     Ok(crawlers)
 }
 
-/// Compares two files: what differs for the given crawlers, or if there are none for `*` and each crawler that one of the
-/// files names, and for each URL, and which sitemaps only one of them lists.
-///
-/// # Errors
-///
-/// `Fault::Memory` if an allocation failed or a URL is too long for `url`. A file that is rejected for a crawler isn't an
-/// error.
+/// Compares two files: what differs for the given crawlers, or if there are none for `*` and each crawler
+/// that one of the files names, and for each URL, and which sitemaps only one of them lists. A file that is
+/// rejected for a crawler isn't an error.
 pub fn compare<'a>(
     alloc: Global,
     agents: &[&'a str],
@@ -156,14 +146,12 @@ pub fn compare<'a>(
     })
 }
 
-/// Whether one of the files is rejected for one of the crawlers.
 pub fn rejects_some(comparison: &Comparison<'_>) -> bool
     ensures { result ≡ rejects_some comparison.now }
 {
     comparison.crawlers.iter().any(is_rejected)
 }
 
-/// Whether all crawlers are unchanged, and both files list the same sitemaps.
 pub fn differs_nowhere(comparison: &Comparison<'_>) -> bool
     ensures { result ≡ differs_nowhere comparison.now }
 {

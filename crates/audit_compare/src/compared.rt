@@ -25,7 +25,6 @@ pub(crate) struct Version<'a> {
     pub(crate) site: Site,
 }
 
-/// A URL on which the decisions differ.
 #[derive(Drop)]
 pub struct UrlChange<'a> {
     pub url: &'a str,
@@ -49,7 +48,7 @@ pub struct Compared<'a> {
     pub agent: &'a str,
     pub older: AgentAudit<'a>,
     pub newer: AgentAudit<'a>,
-    /// The rules that only the older file has.
+    /// Those that only the older file has.
     pub removed: Vec<Rule>,
     /// Those that only the newer one has.
     pub added: Vec<Rule>,
@@ -66,14 +65,12 @@ impl<'a> Model for Compared<'a> {
     ghost view = { compared_of };
 }
 
-/// The rules that only one of the files has.
 #[derive(Drop)]
 struct RuleChanges {
     removed: Vec<Rule>,
     added: Vec<Rule>,
 }
 
-/// The file with these bytes.
 pub(crate) fn read_version<'a>(alloc: Global, bytes: &'a [u8]) -> Result<Version<'a>, AllocError>
     ensures bytes { IfOk result (λ version. version.bytes.now ≡ bytes.entry.now) }
     ensures parts { IfOk result IsVersion }
@@ -87,7 +84,6 @@ pub(crate) fn read_version<'a>(alloc: Global, bytes: &'a [u8]) -> Result<Version
     })
 }
 
-/// The rules that the crawler has in only one of the files.
 fn rule_changes(
     alloc: Global,
     agent: &str,
@@ -108,7 +104,6 @@ fn rule_changes(
     Ok(RuleChanges { removed, added })
 }
 
-/// What a file means for the crawler.
 fn audit_for<'a>(
     alloc: Global,
     agent: &'a str,
@@ -124,15 +119,13 @@ fn audit_for<'a>(
     agent_audit(alloc, agent, bytes, &version.labels, site, urls)
 }
 
-/// Whether one of the rules is in this line.
 fn is_in_line_of(rules: &[Rule], line: Option<usize>) -> bool
     ensures { result ≡ is_in_line_of rules.now line }
 {
     rules.iter().any(|rule| line == Some(rule.line))
 }
 
-/// Whether both decisions allow or both deny, the rule that decided wasn't removed, and the one that decides now wasn't
-/// added.
+/// Both allow or both deny, the rule that decided wasn't removed, and the one that decides now wasn't added.
 fn is_same_decision(rules: &RuleChanges, older: &Decision, newer: &Decision) -> bool
     ensures { result ≡ is_same_decision rules.now.removed.items rules.now.added.items older.now newer.now }
 {
@@ -141,7 +134,6 @@ fn is_same_decision(rules: &RuleChanges, older: &Decision, newer: &Decision) -> 
     older.allowed == newer.allowed && !(is_removed || is_added)
 }
 
-/// Adds the decisions on a URL, if they differ.
 fn add_change<'a>(
     found: &mut Vec<UrlChange<'a>>,
     rules: &RuleChanges,
@@ -161,7 +153,6 @@ fn add_change<'a>(
     })?)
 }
 
-/// The decisions that differ.
 fn url_changes<'a>(
     alloc: Global,
     rules: &RuleChanges,
@@ -178,7 +169,6 @@ fn url_changes<'a>(
     Ok(found)
 }
 
-/// The decisions that differ between what two files mean for a crawler.
 fn changes_of<'a>(
     alloc: Global,
     rules: &RuleChanges,
@@ -191,7 +181,6 @@ fn changes_of<'a>(
     url_changes(alloc, rules, &older.verdicts, &newer.verdicts)
 }
 
-/// What both files mean for the crawler.
 pub(crate) fn compared_for<'a>(
     alloc: Global,
     agent: &'a str,

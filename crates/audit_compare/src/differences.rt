@@ -20,7 +20,6 @@ use printable_text::level::Level;
 use printable_text::parts::{Part, Value, push_parts};
 use std::alloc::{AllocError, Global};
 
-/// Adds a finding whose message consists of these parts.
 pub(crate) fn add(
     alloc: Global,
     found: &mut Findings,
@@ -42,14 +41,12 @@ pub(crate) fn add(
     })?)
 }
 
-/// What a line about a crawler begins with.
 pub(crate) fn crawler(agent: &str) -> Part<'_>
     ensures { raw_text result ≡ part_text (crawler agent.now) }
 {
     Part("crawler ", Value::Untrusted(agent.as_bytes()))
 }
 
-/// Whether both groups are determined in the same way.
 fn is_same_group(one: Group, other: Group) -> bool
     ensures { result ≡ is_same_group one other }
 {
@@ -62,7 +59,6 @@ fn is_same_group(one: Group, other: Group) -> bool
     }
 }
 
-/// Adds the groups, if they differ.
 fn add_groups(
     alloc: Global,
     found: &mut Findings,
@@ -83,7 +79,6 @@ fn add_groups(
     add(alloc, found, Level::Note, None, "group", &parts)
 }
 
-/// Adds the delays, if they differ.
 fn add_delays(
     alloc: Global,
     found: &mut Findings,
@@ -104,7 +99,6 @@ fn add_delays(
     add(alloc, found, Level::Note, None, "delay", &parts)
 }
 
-/// The name of a rule that was added, or of one that was removed.
 fn rule_name(is_added: bool) -> &'static str
     ensures { result.now ≡ (rule_name is_added).text }
 {
@@ -115,7 +109,6 @@ fn rule_name(is_added: bool) -> &'static str
     }
 }
 
-/// The line about such a rule.
 fn rule_line<'a>(agent: &'a str, is_added: bool, rule: &'a Rule) -> [Part<'a>; 5]
     ensures { raw_line result ≡ line_text (rule_line agent.entry.now is_added rule.entry.now) }
 {
@@ -129,7 +122,6 @@ fn rule_line<'a>(agent: &'a str, is_added: bool, rule: &'a Rule) -> [Part<'a>; 5
     ]
 }
 
-/// Adds the rules that were added, or those that were removed.
 fn add_rules(
     alloc: Global,
     found: &mut Findings,
@@ -148,7 +140,6 @@ fn add_rules(
     Ok(())
 }
 
-/// The number of the line that decides, if there is one.
 fn deciding(line: Option<usize>) -> Part<'static>
     ensures { raw_text result ≡ part_text (deciding line) }
 {
@@ -158,14 +149,12 @@ fn deciding(line: Option<usize>) -> Part<'static>
     }
 }
 
-/// The name of a verdict.
 fn verdict_word(allowed: bool) -> Value<'static>
     ensures { raw_value result ≡ value_text (verdict_word allowed) }
 {
     Value::Word(if allowed { "allow" } else { "deny" })
 }
 
-/// What the change of a decision does to a URL.
 fn change_name(older: bool, newer: bool) -> &'static str
     ensures { result.now ≡ (change_name older newer).text }
 {
@@ -176,7 +165,6 @@ fn change_name(older: bool, newer: bool) -> &'static str
     }
 }
 
-/// The same at the end of a line.
 fn change_part(older: bool, newer: bool) -> Part<'static>
     ensures { raw_text result ≡ part_text (change_part older newer) }
 {
@@ -187,7 +175,6 @@ fn change_part(older: bool, newer: bool) -> Part<'static>
     }
 }
 
-/// The line about a URL.
 fn url_line<'a>(agent: &'a str, change: &UrlChange<'a>) -> [Part<'a>; 7]
     ensures { raw_line result ≡ line_text (url_line agent.now change.now) }
 {
@@ -202,7 +189,6 @@ fn url_line<'a>(agent: &'a str, change: &UrlChange<'a>) -> [Part<'a>; 7]
     ]
 }
 
-/// Adds a URL on which the decisions differ.
 fn add_url(
     alloc: Global,
     found: &mut Findings,
@@ -221,7 +207,6 @@ fn add_url(
     add(alloc, found, level, change.newer.line, name, &parts)
 }
 
-/// Adds all such URLs.
 fn add_urls(
     alloc: Global,
     found: &mut Findings,
@@ -236,7 +221,6 @@ fn add_urls(
     Ok(())
 }
 
-/// Adds everything that differs for a crawler.
 fn add_differences(
     alloc: Global,
     found: &mut Findings,
@@ -253,21 +237,18 @@ fn add_differences(
     Ok(())
 }
 
-/// Whether one of the files is rejected for the crawler.
 pub(crate) fn is_rejected(compared: &Compared<'_>) -> bool
     ensures { result ≡ is_rejected compared.now }
 {
     compared.older.rejected.is_some() || compared.newer.rejected.is_some()
 }
 
-/// Whether no rule was removed, and none was added.
 fn has_same_rules(compared: &Compared<'_>) -> bool
     ensures { result ≡ has_same_rules compared.now }
 {
     compared.removed.is_empty() && compared.added.is_empty()
 }
 
-/// Whether no file is rejected for the crawler, and no group, delay or rule differs.
 pub(crate) fn is_unchanged(compared: &Compared<'_>) -> bool
     ensures { result ≡ is_unchanged compared.now }
 {
@@ -278,14 +259,12 @@ pub(crate) fn is_unchanged(compared: &Compared<'_>) -> bool
         && has_same_rules(compared)
 }
 
-/// Whether this is so of all of these crawlers.
 pub(crate) fn all_unchanged(crawlers: &[Compared<'_>]) -> bool
     ensures { result ≡ list_all is_unchanged crawlers.now }
 {
     crawlers.iter().all(is_unchanged)
 }
 
-/// Adds that no rule was removed or added, if that is so.
 fn add_same_rules(
     alloc: Global,
     found: &mut Findings,
@@ -302,7 +281,6 @@ fn add_same_rules(
     add(alloc, found, Level::Note, None, "same-rules", &parts)
 }
 
-/// What a line about one of the files begins with.
 fn file_text(is_new: bool) -> &'static str
     ensures { result.now ≡ part_text (file_part is_new) }
 {
@@ -313,7 +291,6 @@ fn file_text(is_new: bool) -> &'static str
     }
 }
 
-/// Adds that a file is rejected for a crawler, if it is.
 fn add_rejection(
     alloc: Global,
     found: &mut Findings,
@@ -335,7 +312,6 @@ fn add_rejection(
     })?)
 }
 
-/// Adds what is reported on a crawler.
 pub(crate) fn add_crawler(
     alloc: Global,
     found: &mut Findings,

@@ -4,8 +4,9 @@ ghost use Rattle.texting_robots.specs.Callers.{IsVerdict, LineValue, rules_for};
 ghost use Rattle.audit_compare.specs.Compare.{ComparedValue, IsCompared, has_same_rules, is_unchanged};
 ghost use Rattle.audit_compare.specs.Compare.{rules_only_in};
 
-/// If a crawler has the same rules in two files, in whatever lines, both files give each text the same verdict. So they do
-/// if `--compare` reports that nothing differs for a crawler, or that its rules are the same; and then it lists no URL.
+/// If a crawler has the same rules in two files, in whatever lines, both files give each text the same
+/// verdict. So they do if `--compare` reports that nothing differs for a crawler, or that its rules are the
+/// same; and then it lists no URL.
 pub fn same_rules_decide_alike()
     ensures rules { (agent : List ℕ) (older newer : List LineValue) (text : List ℕ) (allowed : Bool)
         → rules_only_in older newer agent ≡ [] → rules_only_in newer older agent ≡ []

@@ -17,7 +17,6 @@ use printable_text::level::Level;
 use printable_text::parts::{Part, Value, push_line_of};
 use std::alloc::{AllocError, Global};
 
-/// Adds what is reported on each of these crawlers.
 fn add_crawlers(
     alloc: Global,
     found: &mut Findings,
@@ -31,13 +30,12 @@ fn add_crawlers(
     Ok(())
 }
 
-/// What is said of crawlers on which nothing else is reported.
+/// Of crawlers on which nothing else is reported.
 const UNCHANGED: Part<'static> = Part(
     ": no group, delay or rule differs, so no URL's verdict does",
     Value::Nothing,
 );
 
-/// The crawlers on which nothing else is reported.
 fn unchanged_subject<'a>(crawlers: &[Compared<'a>]) -> Part<'a>
     ensures { raw_text result ++ part_text unchanged_part ≡ line_text (unchanged_line crawlers.now) }
 {
@@ -48,14 +46,12 @@ fn unchanged_subject<'a>(crawlers: &[Compared<'a>]) -> Part<'a>
     }
 }
 
-/// Whether one of the crawlers is unchanged.
 fn has_unchanged(crawlers: &[Compared<'_>]) -> bool
     ensures { result ≡ list_any is_unchanged crawlers.now }
 {
     crawlers.iter().any(is_unchanged)
 }
 
-/// Adds that all of these crawlers are unchanged, or that some are.
 fn add_unchanged(
     alloc: Global,
     found: &mut Findings,
@@ -70,7 +66,6 @@ fn add_unchanged(
     add(alloc, found, Level::Note, None, "unchanged", &parts)
 }
 
-/// Adds a sitemap that was added, or one that was removed.
 fn add_sitemap(
     alloc: Global,
     found: &mut Findings,
@@ -88,7 +83,6 @@ fn add_sitemap(
     add(alloc, found, Level::Note, None, "sitemap-removed", &parts)
 }
 
-/// Adds all such sitemaps.
 fn add_sitemaps(
     alloc: Global,
     found: &mut Findings,
@@ -104,7 +98,6 @@ fn add_sitemaps(
     Ok(())
 }
 
-/// All that is reported.
 fn all_differences(alloc: Global, comparison: &Comparison<'_>) -> Result<Findings, AllocError>
     ensures { IfOk result (λ found.
         map finding_value found.items ≡ map finding_of (all_differences comparison.now)) }
@@ -117,7 +110,6 @@ fn all_differences(alloc: Global, comparison: &Comparison<'_>) -> Result<Finding
     Ok(found)
 }
 
-/// That a file has no directive.
 fn empty_part(has_no_directive: bool) -> Part<'static>
     ensures { raw_text result ≡ part_text (empty_part has_no_directive) }
 {
@@ -127,7 +119,6 @@ fn empty_part(has_no_directive: bool) -> Part<'static>
     )
 }
 
-/// The line with the names of the files.
 fn sides_line<'a>(older: &Side<'a>, newer: &Side<'a>) -> [Part<'a>; 4]
     ensures { raw_line result ≡ line_text (sides_line older.now newer.now) }
 {
@@ -139,7 +130,6 @@ fn sides_line<'a>(older: &Side<'a>, newer: &Side<'a>) -> [Part<'a>; 4]
     ]
 }
 
-/// Appends the message of a finding as a line.
 fn push_message(text: &mut String, finding: &Finding) -> Result<(), AllocError>
     ensures { OnOk result (string_bytes text.new
         ≡ string_bytes text.old ++ ended (string_bytes finding.now.message ∷ [])) }
@@ -148,7 +138,6 @@ fn push_message(text: &mut String, finding: &Finding) -> Result<(), AllocError>
     text.push('\n')
 }
 
-/// Appends the messages of findings.
 fn push_messages(text: &mut String, found: &[Finding]) -> Result<(), AllocError>
     ensures { OnOk result (string_bytes text.new
         ≡ string_bytes text.old ++ ended (map (λ finding. string_bytes finding.message) found.now)) }

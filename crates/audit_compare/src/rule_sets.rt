@@ -16,7 +16,6 @@ pub(crate) struct RuleSet {
     denied: BTreeSet<String>,
 }
 
-/// The patterns of the rules of one kind.
 fn patterns_of(
     alloc: Global,
     rules: &[Rule],
@@ -36,7 +35,6 @@ fn patterns_of(
 }
 
 impl RuleSet {
-    /// The set of these rules.
     pub(crate) fn of(alloc: Global, rules: &[Rule]) -> Result<Self, AllocError>
         ensures { IfOk result (HasRules rules.now) }
     {
@@ -45,7 +43,6 @@ impl RuleSet {
         Ok(RuleSet { allowed, denied })
     }
 
-    /// Whether the set contains the rule, in whatever line.
     pub(crate) fn contains(&self, rule: &Rule) -> bool
         ensures { result ≡ contains_rule self.now rule.now.rule }
     {

@@ -10,10 +10,8 @@ use std::alloc::{AllocError, Global};
 use std::collections::BTreeSet;
 use texting_robots::labels::LabeledLine;
 
-/// A set of texts.
 type Texts = BTreeSet<Vec<u8>>;
 
-/// The text as a key.
 fn key_of(alloc: Global, text: &[u8]) -> Result<Vec<u8>, AllocError>
     ensures { IfOk result (λ key. key.items ≡ text.now) }
 {
@@ -22,7 +20,7 @@ fn key_of(alloc: Global, text: &[u8]) -> Result<Vec<u8>, AllocError>
     Ok(key)
 }
 
-/// Inserts a text, and returns whether it is a new one.
+/// The result is whether the text is new.
 fn add_text(alloc: Global, texts: &mut Texts, text: &[u8]) -> Result<bool, AllocError>
     ensures { IfOk result (λ is_new. AddsText texts.old texts.new text.now is_new) }
 {
@@ -30,7 +28,6 @@ fn add_text(alloc: Global, texts: &mut Texts, text: &[u8]) -> Result<bool, Alloc
     Ok(texts.insert(key)?)
 }
 
-/// The set of these texts.
 fn set_of(alloc: Global, texts: &[&[u8]]) -> Result<Texts, AllocError>
     ensures { IfOk result (HasTexts (map (λ text. text.now) texts.now)) }
 {
@@ -41,7 +38,6 @@ fn set_of(alloc: Global, texts: &[&[u8]]) -> Result<Texts, AllocError>
     Ok(set)
 }
 
-/// Appends the text if `holds` is true.
 fn push_if<'a>(found: &mut Vec<&'a [u8]>, holds: bool, text: &'a [u8]) -> Result<(), AllocError>
     ensures { OnOk result (map (λ text. text.now) found.new.items
         ≡ map (λ text. text.now) found.old.items ++ (if holds then text.entry.now ∷ [] else [])) }
@@ -70,7 +66,6 @@ fn new_texts<'a>(
     Ok(found)
 }
 
-/// The sitemaps that these lines list, and the other lines don't.
 pub(crate) fn sitemaps_only_in<'a>(
     alloc: Global,
     labels: &[LabeledLine<'a>],

@@ -13,7 +13,7 @@ use Rattle.audit_core.specs.{Request.is_crawler_name, Request.is_word, Fault.Mal
 abbrev pub is_in : List ℕ → ℕ → Bool
 is_in separators byte = list_any (λ separator. separator == byte) separators
 
--- the byte is at the start of the first part
+-- the parts, with the byte at the start of the first
 abbrev pub with_byte : ℕ → List (List ℕ) → List (List ℕ)
 with_byte byte [] = (byte ∷ []) ∷ []
 with_byte byte (part ∷ parts) = (byte ∷ part) ∷ parts

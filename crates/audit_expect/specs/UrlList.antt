@@ -60,7 +60,7 @@ urls_in text = entries_of url_in (lines (without_start mark text))
 abbrev pub with_urls : List (List ℕ) → RequestValue → RequestValue
 with_urls urls requested = record requested { urls = requested.urls ++ urls }
 
--- and the text has some
+-- the same for the URLs in a text, of which there are some
 pub record HasUrlsIn (text : List ℕ) (requested extended : RequestValue) : Type 0 where
   pub urls : List (List ℕ)
   pub listed : urls_in text ≡ Ok urls

@@ -40,25 +40,17 @@ use Rattle.audit_json.specs.Sarif.{sarif_text, shown, shown_after, takes_backsla
 use Rattle.audit_json.specs.Sarif.{has_level_for, rules_named}
 use lib.Utf8.{scalar}
 
--- ---- The JSON of an audit, or of findings, contains no floating-point number, and no control or
--- bidirectional-formatting characters other than LF.
+-- ---- The JSON contains no floating-point number, and no control or bidirectional-formatting characters but
+-- LF.
 
--- ---- lists
-
--- the JSON of a list is that of the list of its items' values
 pub listed : {X Y : Type 0} (json : Y → Data) (value : X → Y) (xs : List X)
     → list_json (λ x. json (value x)) xs ≡ list_json json (map value xs)
 listed json value xs = ap (λ (values : List Data). array (items_of values)) (sym (map-map json value xs))
-
--- ---- a printable string in quotes
 
 quoted_printable : (text : List ℕ) → IsPrintable text → IsPrintable (compact_text (string text))
 unfolding serde_json_on_literals
 quoted_printable text is = in_quotes _ refl (λ byte high. grind (arith, nat_tests)) text is
 
--- ---- JSON of printable strings
-
--- there is no floating-point number, all strings are printable, and the names of members are printable ASCII
 abbrev mutual
   pub IsPlain : Data → Type 0
   IsPlain null = Unit {0}
@@ -135,8 +127,6 @@ plain_printable value is =
 
 pub plain_whole : (value : Data) → IsPlain value → has_float value ≡ false
 plain_whole value is = (data_plain value is).1
-
--- ---- an audit
 
 pub list_plain : {X : Type 0} (value : X → Data) → ((x : X) → IsPlain (value x)) → (xs : List X)
     → IsPlain (list_json value xs)
@@ -228,8 +218,6 @@ json_printable has_rows audit = plain_printable (audit_json has_rows audit) (aud
 pub audit_whole : (has_rows : Bool) (audit : AuditValue) → has_float (audit_json has_rows audit) ≡ false
 audit_whole has_rows audit = plain_whole (audit_json has_rows audit) (audit_plain has_rows audit)
 
--- ---- other findings
-
 all_plain : (all : List Found) → IsPlain (list_json finding_json (map found_value all))
 all_plain [] = tt
 all_plain (found ∷ all) = (found_plain found, all_plain all)
@@ -251,12 +239,8 @@ all_whole (finding ∷ all) = rw (number_whole finding.line, all_whole all) refl
 pub findings_whole : (file : List ℕ) (all : List FindingValue) → has_float (findings_json file all) ≡ false
 findings_whole file all = rw (all_whole all) refl
 
--- ---- The SARIF log contains no floating-point number, and no control or bidirectional-formatting characters
--- other than LF. Its messages show the texts that they are made of.
+-- ---- The same of the SARIF log, whose messages show the texts that they are made of.
 
--- ---- messages
-
--- loop step: one more character is appended
 pub literal_next : (yielded : List ℕ) (char : ℕ) (message new : List ℕ)
     → message ≡ encode_utf8_all (flat_map literal_char yielded)
     → new ≡ message ++ encode_utf8_all (literal_char char)
@@ -326,8 +310,6 @@ literal_printable text is =
     chars_printable true (flat_map literal_char (chars text)) (literal_scalars text is.utf8)
     (literal_all (is_printable true) refl (chars text) is.all)
 
--- ---- strings
-
 kept_printable : (b : ℕ) → is_uri_byte b ≡ true → is_printable_byte true b ≡ true
 kept_printable b is = grind (arith, nat_tests)
 
@@ -350,9 +332,6 @@ uri_printable file = flat_printable true uri_byte uri_byte_printable (one_slash 
 message_plain : (text : List ℕ) → IsPrintable text → IsPlain (message_json text)
 message_plain text is = (refl, literal_printable text is, tt)
 
--- ---- rules
-
--- the texts of a rule are printable ASCII and LF
 abbrev is_ascii_rule : SarifRuleValue → Bool
 is_ascii_rule rule =
     list_all (list_all (is_printable_byte true))
@@ -376,8 +355,6 @@ rules_plain (rule ∷ rules) are =
     let named = ascii_printable true rule.name name.0 in
     let first : IsPlain (rule_json rule) = assumption (described, helped, named, level_plain rule.level) in
     (first, rules_plain rules both.1)
-
--- ---- the log
 
 result_plain : (file : List ℕ) (found : Found) → IsPlain (result_json (uri_of file) (found_value found))
 result_plain file found = assumption (
@@ -408,7 +385,7 @@ log_whole file uri audit all named are =
     ap₂ (λ (uri : List ℕ) (all : List FindingValue). has_float (log_json uri all)) named are
     ∙ plain_whole (log_json (uri_of file) (findings audit)) (log_plain file audit)
 
--- ---- In the SARIF log, each name of a warning has one rule, with the most serious level of its warnings.
+-- ---- In the SARIF log, each name of a warning has one rule, with the most serious level.
 
 pub one_rule_each : list_all (λ cause. rules_named (name_of cause) == 1) all_causes ≡ true
 unfolding all_causes name_of

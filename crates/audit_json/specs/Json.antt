@@ -12,22 +12,17 @@ use Rattle.audit_core.specs.Rows.{comment_of, has_value, kind_text, line_value_t
 use Rattle.audit_core.specs.Findings.{FindingValue, found_value, warning_finding}
 use Rattle.robots_warnings.specs.{File.lines_of, Message.WarningValue}
 
--- ---- values
-
--- untrusted bytes as a JSON string, sanitized
+-- sanitized
 abbrev pub sanitized_json : List ℕ → Data
 sanitized_json text = string (sanitized text)
 
--- a number, or null for `None`
+-- null for `None`
 abbrev pub number_json : Option ℕ → Data
 number_json None = null
 number_json (Some n) = number (unsigned n)
 
--- the values of the items, in order
 abbrev pub list_json : {X : Type 0} → (X → Data) → List X → Data
 list_json value xs = array (items_of (map value xs))
-
--- ---- a crawler
 
 -- whether the URL is allowed, the line that decides, and the URL
 abbrev pub verdict_json : VerdictValue → Data
@@ -42,7 +37,6 @@ group_word Star = codes "star"
 group_word Nobody = codes "none"
 group_word Everyone = codes "everyone"
 
--- a fixed word, or null for `None`
 abbrev pub word_json : Option (List ℕ) → Data
 word_json None = null
 word_json (Some word) = string word
@@ -62,19 +56,15 @@ agent_json agent = object
     (member (codes "rules") (number (unsigned agent.rules))
     (member (codes "verdicts") (list_json verdict_json agent.verdicts) no_members))))))))
 
--- ---- a line
-
 -- a delay in microseconds; for other lines the sanitized value; null if there is no value
 abbrev pub value_json : LineValue → Data
 value_json (CrawlDelay delay) = number_json delay
 value_json line = if has_value line then string (line_value_text line) else null
 
--- a comment, or null if there is none
 abbrev pub comment_json : List ℕ → Data
 comment_json comment = if length comment == 0 then null else sanitized_json comment
 
--- a line of the file with this content: the comment of a directive, its name, its membership, its number and
--- its value
+-- the comment of a directive, its name, its membership, its number and its value
 abbrev pub line_json : List ℕ × Label → Data
 line_json (body, label) = object
     (member (codes "comment") (comment_json (comment_of label.line body))
@@ -83,11 +73,8 @@ line_json (body, label) = object
     (member (codes "number") (number (unsigned label.number))
     (member (codes "value") (value_json label.line) no_members)))))
 
--- the lines with these contents, if there are rows
 abbrev pub rows_json : (has_rows : Bool) → List (List ℕ) → List Label → Data
 rows_json has_rows bodies labels = list_json line_json (if has_rows then zip bodies labels else [])
-
--- ---- the audit
 
 -- a finding: its level, the number of its line, its name and its message
 abbrev pub finding_json : FindingValue → Data
@@ -104,7 +91,8 @@ warning_json warning = finding_json (found_value (warning_finding warning))
 abbrev pub known_json : Bool → Data
 known_json is_known = if is_known then boolean true else null
 
--- what the file means for each crawler, its syntax and verdicts, the lines if there are rows, the sitemaps, the warnings
+-- what the file means for each crawler, its syntax and verdicts, the lines if there are rows, the sitemaps,
+-- the warnings
 abbrev pub audit_json : Bool → AuditValue → Data
 audit_json has_rows audit = object
     (member (codes "agents") (list_json agent_json audit.agents)
@@ -114,14 +102,13 @@ audit_json has_rows audit = object
     (member (codes "sitemaps") (list_json sanitized_json (sitemaps_in (lines_of audit.labels)))
     (member (codes "warnings") (list_json warning_json audit.warnings) no_members))))))
 
--- a value in one line
 abbrev pub json_line : Data → List ℕ
 json_line value = compact_text value ++ lf ∷ []
 
 abbrev pub json_text : Bool → AuditValue → List ℕ
 json_text has_rows audit = json_line (audit_json has_rows audit)
 
--- the findings about the file with this name, which aren't those of an audit
+-- of findings that aren't those of an audit
 abbrev pub findings_json : List ℕ → List FindingValue → Data
 findings_json file findings = object
     (member (codes "file") (sanitized_json file)

@@ -14,8 +14,6 @@ use Rattle.robots_warnings.specs.Table.{all_causes, example_of, level_of, name_o
 use Rattle.audit_core.specs.{Findings.FindingValue}
 use Rattle.audit_json.specs.Json.{json_line, list_json}
 
--- ---- the URI reference of a file
-
 -- a letter, a digit, or one of `-._~/`
 abbrev pub is_uri_byte : ℕ → Bool
 is_uri_byte b =
@@ -29,16 +27,14 @@ abbrev pub begins_with_slash : List ℕ → Bool
 begins_with_slash [] = false
 begins_with_slash (b ∷ name) = b == byte "/"
 
--- the name with a single slash at its start in place of several, which would precede the name of a host
+-- a single slash at the start in place of several, which would precede the name of a host
 abbrev pub one_slash : List ℕ → List ℕ
 one_slash [] = []
 one_slash (b ∷ name) = if b == byte "/" && begins_with_slash name then one_slash name else b ∷ name
 
--- the file with this name, as a URI reference: other bytes are percent-encoded
+-- as a URI reference: other bytes are percent-encoded
 abbrev pub uri_of : List ℕ → List ℕ
 uri_of file = flat_map uri_byte (one_slash file)
-
--- ---- messages
 
 -- a number in braces is a placeholder (section 3.11.5)
 abbrev pub is_brace : ℕ → Bool
@@ -54,7 +50,6 @@ literal_char char =
     if is_brace char then char ∷ char ∷ [] else if takes_backslash char then byte "\\" ∷ char ∷ []
     else char ∷ []
 
--- the message that shows this text
 unfoldable pub literal_text : List ℕ → List ℕ
 literal_text text = encode_utf8_all (flat_map literal_char (chars text))
 
@@ -62,8 +57,8 @@ literal_text text = encode_utf8_all (flat_map literal_char (chars text))
 abbrev pub is_escape : ℕ → ℕ → Bool
 is_escape first char = (is_brace first && char == first) || (first == byte "\\" && takes_backslash char)
 
--- the characters that the rest of a message shows, if the first of an escape comes before it, or `None`
--- before it; and `None` if it has a brace or bracket that isn't escaped, as placeholders and links have
+-- the characters that the rest of a message shows, if the first of an escape comes before it; `None` if it
+-- has a brace or bracket that isn't escaped, as placeholders and links have
 abbrev pub shown_after : Option ℕ → List ℕ → Option (List ℕ)
 shown_after None [] = Some []
 shown_after (Some first) [] = None
@@ -73,11 +68,8 @@ shown_after None (char ∷ message) =
 shown_after (Some first) (char ∷ message) =
     if is_escape first char then option_map (λ shown. char ∷ shown) (shown_after None message) else None
 
--- the characters that a message shows, if it has no placeholder and no link
 abbrev pub shown : List ℕ → Option (List ℕ)
 shown message = shown_after None message
-
--- ---- rules
 
 -- what findings with this name are about, and an example
 pub record SarifRuleValue : Type 0 where
@@ -102,11 +94,9 @@ rejected_rule = record {
   example = codes "User-agent: *\nDisallow: /\\{4096 a}$";
 }
 
--- one of these warnings has this name
 abbrev pub has_name : List ℕ → List Cause → Bool
 has_name name causes = list_any (λ cause. bytes_eq (name_of cause) name) causes
 
--- one of these warnings has this name, and this level or a more serious one
 abbrev pub has_name_at : List ℕ → Level → List Cause → Bool
 has_name_at name level causes =
     list_any (λ cause. bytes_eq (name_of cause) name && reaches (level_of cause) level) causes
@@ -120,13 +110,12 @@ abbrev pub needless_text : List ℕ
 needless_text =
     codes "this rule can be deleted together with all other needless rules, and every verdict stays the same"
 
--- what the rule of a warning says: its message, but the messages of `needless-rule` differ in why a rule can
--- be deleted, so its description gives no reason
+-- the messages of `needless-rule` differ in why a rule can be deleted, so its description gives no reason
 abbrev pub description_of : Cause → List ℕ
 description_of cause =
     if bytes_eq (name_of cause) (codes "needless-rule") then needless_text else text_of cause
 
--- the rule of a warning, with the most serious level of all these warnings with its name
+-- with the most serious level of all these warnings with its name
 abbrev pub rule_of : (all : List Cause) → Cause → SarifRuleValue
 rule_of all cause = record {
   name = name_of cause;
@@ -135,11 +124,11 @@ rule_of all cause = record {
   example = example_of cause;
 }
 
--- the rule of a warning, unless one of these later ones has the same name
+-- unless one of these later warnings has the same name
 abbrev pub rule_unless_later : (all : List Cause) → Cause → List Cause → List SarifRuleValue
 rule_unless_later all cause later = if has_name (name_of cause) later then [] else rule_of all cause ∷ []
 
--- the rules of these warnings: a name has the description of the last warning with it
+-- a name has the description of the last warning with it
 abbrev pub rules_of : (all : List Cause) → List Cause → List SarifRuleValue
 rules_of all [] = []
 rules_of all (cause ∷ later) = rule_unless_later all cause later ++ rules_of all later
@@ -147,17 +136,13 @@ rules_of all (cause ∷ later) = rule_unless_later all cause later ++ rules_of a
 abbrev pub all_rules : List SarifRuleValue
 all_rules = denied_rule ∷ rejected_rule ∷ rules_of all_causes all_causes
 
--- unless the rule has another name than the warning, it has its level or a more serious one
+-- the rule with the warning's name has its level or a more serious one
 abbrev pub has_level_for : Cause → SarifRuleValue → Bool
 has_level_for cause rule = not (bytes_eq rule.name (name_of cause)) || reaches rule.level (level_of cause)
 
--- the number of rules with this name
 abbrev pub rules_named : List ℕ → ℕ
 rules_named name = count_by (λ (rule : SarifRuleValue). bytes_eq rule.name name) all_rules
 
--- ---- JSON
-
--- an object with one member
 abbrev pub with_one : List ℕ → Data → Data
 with_one name value = object (member name value no_members)
 
@@ -223,6 +208,5 @@ log_json uri findings = object
     (member (codes "runs") (array (item (run_json uri findings) no_items))
     (member (codes "version") (string (codes "2.1.0")) no_members)))
 
--- the log of the findings in the file with this name
 abbrev pub sarif_text : List ℕ → List FindingValue → List ℕ
 sarif_text file findings = json_line (log_json (uri_of file) findings)

@@ -32,7 +32,6 @@ trait Json {
         ensures { IfOk result (λ value. view value ≡ json self.now) };
 }
 
-/// A JSON array of these values, in order.
 fn list_json<T: Json>(alloc: Global, items: &[T]) -> Result<Value, AllocError>
     ensures { IfOk result (λ value. view value ≡ list_json T.json items.now) }
 {
@@ -43,7 +42,6 @@ fn list_json<T: Json>(alloc: Global, items: &[T]) -> Result<Value, AllocError>
     Ok(Value::Array(list))
 }
 
-/// Untrusted bytes as a JSON string, sanitized.
 fn sanitized_json(alloc: Global, bytes: &[u8]) -> Result<Value, AllocError>
     ensures { IfOk result (λ value. view value ≡ sanitized_json bytes.now) }
 {
@@ -66,7 +64,6 @@ impl<'a> Json for Verdict<'a> {
     }
 }
 
-/// The name of a group in the JSON.
 fn group_word(group: Group) -> &'static str
     ensures { result.now ≡ group_word group }
 {
@@ -78,14 +75,12 @@ fn group_word(group: Group) -> &'static str
     }
 }
 
-/// The verdicts as a JSON array.
 fn verdicts_json(alloc: Global, verdicts: &[Verdict<'_>]) -> Result<Value, AllocError>
     ensures { IfOk result (λ value. view value ≡ list_json verdict_json verdicts.now) }
 {
     list_json(alloc, verdicts)
 }
 
-/// A fixed word as a JSON string, or null if there is none.
 fn word_json(alloc: Global, word: Option<&str>) -> Result<Value, AllocError>
     ensures { IfOk result (λ value. view value ≡ word_json (option_map (λ word. word.now) word.entry)) }
 {
@@ -95,14 +90,12 @@ fn word_json(alloc: Global, word: Option<&str>) -> Result<Value, AllocError>
     }
 }
 
-/// The number of a line, or null if there is none.
 fn line_number(line: Option<usize>) -> Value
     ensures { view result ≡ number_json line }
 {
     Value::from(line)
 }
 
-/// A delay in microseconds, or null if there is none.
 fn delay_json(delay: Option<u64>) -> Value
     ensures { view result ≡ number_json delay }
 {
@@ -128,7 +121,6 @@ impl<'a> Json for AgentAudit<'a> {
     }
 }
 
-/// The value of a line: for a delay its microseconds, for another line the sanitized value, and null if there is none.
 fn value_json(alloc: Global, line: Line<'_>) -> Result<Value, AllocError>
     ensures { IfOk result (λ value. view value ≡ value_json (by_value line.entry)) }
 {
@@ -143,7 +135,6 @@ fn value_json(alloc: Global, line: Line<'_>) -> Result<Value, AllocError>
     }
 }
 
-/// A comment, or null if there is none.
 fn comment_json(alloc: Global, comment: &[u8]) -> Result<Value, AllocError>
     ensures { IfOk result (λ value. view value ≡ comment_json comment.now) }
 {
@@ -154,7 +145,6 @@ fn comment_json(alloc: Global, comment: &[u8]) -> Result<Value, AllocError>
     }
 }
 
-/// A line with this content, as a JSON object.
 fn line_json(alloc: Global, body: &[u8], labeled: &LabeledLine<'_>) -> Result<Value, AllocError>
     ensures { IfOk result (λ value. view value ≡ line_json (body.now, label_by_value labeled.now)) }
 {
@@ -211,21 +201,18 @@ impl<'a> Json for Warning<'a> {
     }
 }
 
-/// What the file means for each crawler, as a JSON array.
 fn agents_json(alloc: Global, agents: &[AgentAudit<'_>]) -> Result<Value, AllocError>
     ensures { IfOk result (λ value. view value ≡ list_json agent_json agents.now) }
 {
     list_json(alloc, agents)
 }
 
-/// The warnings as a JSON array.
 fn warnings_json(alloc: Global, warnings: &[Warning<'_>]) -> Result<Value, AllocError>
     ensures { IfOk result (λ value. view value ≡ list_json warning_json warnings.now) }
 {
     list_json(alloc, warnings)
 }
 
-/// The sitemaps that the file lists, as a JSON array.
 fn sitemaps_json(alloc: Global, labels: &[LabeledLine<'_>]) -> Result<Value, AllocError>
     ensures { IfOk result (λ value. view value
         ≡ list_json sanitized_json (sitemaps_in (lines_of (map label_by_value labels.now)))) }
@@ -234,8 +221,6 @@ fn sitemaps_json(alloc: Global, labels: &[LabeledLine<'_>]) -> Result<Value, All
     list_json(alloc, &sitemaps)
 }
 
-/// The lines of the file with these bytes as a JSON array, which is empty if the report has no rows. The labels are
-/// those of the lines.
 fn rows_json(
     alloc: Global,
     has_rows: bool,
@@ -260,7 +245,6 @@ fn rows_json(
     Ok(Value::Array(list))
 }
 
-/// True if this is known of the file, or else null.
 fn known_json(is_known: bool) -> Value
     ensures { view result ≡ known_json is_known }
 {
@@ -271,7 +255,6 @@ fn known_json(is_known: bool) -> Value
     }
 }
 
-/// The audit as a JSON object.
 fn audit_json(alloc: Global, has_rows: bool, audit: &Audit<'_>) -> Result<Value, AllocError>
     ensures { IfOk result (λ value. view value ≡ audit_json has_rows audit.now) }
 {
@@ -304,14 +287,12 @@ pub fn json_text(alloc: Global, has_rows: bool, audit: &Audit<'_>) -> Result<Str
     json_line(alloc, &audit_json(alloc, has_rows, audit)?)
 }
 
-/// The findings as a JSON array.
 fn list_of_findings(alloc: Global, findings: &[Finding]) -> Result<Value, AllocError>
     ensures { IfOk result (λ value. view value ≡ list_json finding_json (map finding_value findings.now)) }
 {
     list_json(alloc, findings)
 }
 
-/// The findings about the file with this name, as a JSON object.
 fn findings_json(alloc: Global, file: &str, findings: &[Finding]) -> Result<Value, AllocError>
     ensures { IfOk result (λ value. view value ≡ findings_json file.now (map finding_value findings.now)) }
 {
@@ -321,7 +302,7 @@ fn findings_json(alloc: Global, file: &str, findings: &[Finding]) -> Result<Valu
     })
 }
 
-/// The same as one line.
+/// The findings about the file with this name, as one line.
 pub fn findings_text(alloc: Global, file: &str, findings: &[Finding]) -> Result<String, AllocError>
     ensures { IfOk result (λ text.
         string_bytes text ≡ findings_text file.now (map finding_value findings.now)) }

@@ -4,8 +4,7 @@ ghost use Rattle.std.specs.{List.list_all, Str.chars, Str.IsUtf8};
 ghost use Rattle.robots_warnings.specs.Table.{all_causes, name_of};
 ghost use Rattle.audit_json.specs.Sarif.{all_rules, has_level_for, literal_text, rules_named, shown};
 
-/// A message of a SARIF log that is made of a text shows this text, and has neither a placeholder nor a link, whatever
-/// the text is.
+/// A message of a SARIF log shows the text that it is made of, and has neither a placeholder nor a link.
 pub fn no_text_becomes_a_link()
     ensures { (text : List ℕ) → IsUtf8 text → shown (chars (literal_text text)) ≡ Some (chars text) }
 {}

@@ -27,14 +27,12 @@ pub(crate) struct SarifRule {
     pub(crate) example: &'static str,
 }
 
-/// Whether a byte of a file's name is unchanged in a URI reference.
 fn is_uri_byte(byte: u8) -> bool
     ensures { result ≡ is_uri_byte byte }
 {
     matches!(byte, b'A'..=b'Z' | b'a'..=b'z' | b'0'..=b'9' | b'-' | b'.' | b'_' | b'~' | b'/')
 }
 
-/// Appends a byte of a file's name to a URI reference.
 fn push_uri_byte(uri: &mut String, byte: u8) -> Result<(), AllocError>
     ensures { OnOk result (string_bytes uri.new ≡ string_bytes uri.old ++ uri_byte byte) }
 {
@@ -45,14 +43,13 @@ fn push_uri_byte(uri: &mut String, byte: u8) -> Result<(), AllocError>
     }
 }
 
-/// Whether a name begins with a slash.
 fn begins_with_slash(name: &[u8]) -> bool
     ensures { result ≡ begins_with_slash name.now }
 {
     matches!(name, [b'/', ..])
 }
 
-/// The name with a single slash at its start in place of several.
+/// A single slash at the start in place of several.
 fn one_slash<'a>(file: &'a [u8]) -> &'a [u8]
     ensures { result.now ≡ one_slash file.now }
 {
@@ -66,7 +63,6 @@ fn one_slash<'a>(file: &'a [u8]) -> &'a [u8]
     rest
 }
 
-/// The file with this name, as a URI reference.
 fn uri_of(alloc: Global, file: &[u8]) -> Result<String, AllocError>
     ensures { IfOk result (λ uri. string_bytes uri ≡ uri_of file.now) }
 {
@@ -77,7 +73,6 @@ fn uri_of(alloc: Global, file: &[u8]) -> Result<String, AllocError>
     Ok(uri)
 }
 
-/// Appends a character of a text to the message that shows the text.
 fn push_literal_char(message: &mut String, char: char) -> Result<(), AllocError>
     ensures { OnOk result (string_bytes message.new
         ≡ string_bytes message.old ++ encode_utf8_all (literal_char char)) }
@@ -95,7 +90,6 @@ fn push_literal_char(message: &mut String, char: char) -> Result<(), AllocError>
     }
 }
 
-/// The message that shows this text.
 fn literal_text(alloc: Global, text: &str) -> Result<String, AllocError>
     ensures { IfOk result (λ message. string_bytes message ≡ literal_text text.now) }
 {
@@ -106,7 +100,6 @@ fn literal_text(alloc: Global, text: &str) -> Result<String, AllocError>
     Ok(message)
 }
 
-/// The message that shows this text, as a JSON object.
 fn message_json(alloc: Global, text: &str) -> Result<Value, AllocError>
     ensures { IfOk result (λ value. view value ≡ message_json text.now) }
 {
@@ -114,21 +107,18 @@ fn message_json(alloc: Global, text: &str) -> Result<Value, AllocError>
     json!(in alloc; { "text": message.as_str() })
 }
 
-/// Whether one of these warnings has this name.
 fn has_name(causes: &[Cause], name: &str) -> bool
     ensures { result ≡ has_name name.now causes.now }
 {
     causes.iter().any(|cause| cause.name() == name)
 }
 
-/// Whether one of these warnings has this name, and this level or a more serious one.
 fn has_name_at(causes: &[Cause], name: &str, level: Level) -> bool
     ensures { result ≡ has_name_at name.now level causes.now }
 {
     causes.iter().any(|cause| cause.name() == name && cause.level().reaches(level))
 }
 
-/// The most serious level of these warnings with this name.
 fn worst_level(causes: &[Cause], name: &str) -> Level
     ensures { result ≡ worst_level name.now causes.now }
 {
@@ -141,7 +131,7 @@ fn worst_level(causes: &[Cause], name: &str) -> Level
     }
 }
 
-/// What the rule of a warning says: its message, unless the messages with its name differ in their reasons.
+/// Its message, unless the messages with its name differ in their reasons.
 fn description_of(cause: Cause) -> &'static str
     ensures { result.now ≡ description_of cause }
 {
@@ -152,7 +142,6 @@ fn description_of(cause: Cause) -> &'static str
     }
 }
 
-/// Appends the rule of one of all these warnings, unless one of the `later` ones has the same name.
 fn add_rule(
     rules: &mut Vec<SarifRule>,
     all: &[Cause],
@@ -173,7 +162,6 @@ fn add_rule(
     })?)
 }
 
-/// Appends the rules of all these warnings.
 fn add_rules(rules: &mut Vec<SarifRule>, all: &[Cause]) -> Result<(), AllocError>
     ensures { OnOk result (map rule_value rules.new.items
         ≡ map rule_value rules.old.items ++ rules_of all.now all.now) }
@@ -186,7 +174,6 @@ fn add_rules(rules: &mut Vec<SarifRule>, all: &[Cause]) -> Result<(), AllocError
     Ok(())
 }
 
-/// All rules.
 fn all_rules(alloc: Global) -> Result<Vec<SarifRule>, AllocError>
     ensures { IfOk result (λ rules. map rule_value rules.items ≡ all_rules) }
 {
@@ -207,7 +194,6 @@ fn all_rules(alloc: Global) -> Result<Vec<SarifRule>, AllocError>
     Ok(rules)
 }
 
-/// The documentation of a rule with this example.
 #[tactic(auto, unfolding(crate::specs::Sarif::help_text))]
 fn help_text(alloc: Global, example: &str) -> Result<String, AllocError>
     ensures { IfOk result (λ text. string_bytes text ≡ help_text example.now) }
@@ -217,7 +203,6 @@ fn help_text(alloc: Global, example: &str) -> Result<String, AllocError>
     Ok(text)
 }
 
-/// The same as a JSON object.
 fn help_json(alloc: Global, example: &str) -> Result<Value, AllocError>
     ensures { IfOk result (λ value. view value ≡ message_json (help_text example.now)) }
 {
@@ -225,7 +210,6 @@ fn help_json(alloc: Global, example: &str) -> Result<Value, AllocError>
     message_json(alloc, &text)
 }
 
-/// A rule as a JSON object.
 fn rule_json(alloc: Global, rule: &SarifRule) -> Result<Value, AllocError>
     ensures { IfOk result (λ value. view value ≡ rule_json (rule_value rule.now)) }
 {
@@ -238,7 +222,6 @@ fn rule_json(alloc: Global, rule: &SarifRule) -> Result<Value, AllocError>
     })
 }
 
-/// All rules as a JSON array.
 fn rules_json(alloc: Global, rules: &[SarifRule]) -> Result<Value, AllocError>
     ensures { IfOk result (λ value. view value ≡ list_json rule_json (map rule_value rules.now)) }
 {
@@ -249,7 +232,7 @@ fn rules_json(alloc: Global, rules: &[SarifRule]) -> Result<Value, AllocError>
     Ok(Value::Array(list))
 }
 
-/// The file and the line, or the first one for a finding without a line.
+/// The first line for a finding without a line.
 fn place_json(alloc: Global, uri: &str, line: Option<usize>) -> Result<Value, AllocError>
     ensures { IfOk result (λ value. view value ≡ place_json uri.now line) }
 {
@@ -259,7 +242,6 @@ fn place_json(alloc: Global, uri: &str, line: Option<usize>) -> Result<Value, Al
     })
 }
 
-/// A finding as a JSON object.
 fn result_json(alloc: Global, uri: &str, finding: &Finding) -> Result<Value, AllocError>
     ensures { IfOk result (λ value. view value ≡ result_json uri.now (finding_value finding.now)) }
 {
@@ -271,7 +253,6 @@ fn result_json(alloc: Global, uri: &str, finding: &Finding) -> Result<Value, All
     })
 }
 
-/// Findings as a JSON array.
 fn results_json(alloc: Global, uri: &str, findings: &[Finding]) -> Result<Value, AllocError>
     ensures { IfOk result (λ value. view value ≡ list_json (result_json uri.now) (map finding_value findings.now)) }
 {
@@ -282,7 +263,6 @@ fn results_json(alloc: Global, uri: &str, findings: &[Finding]) -> Result<Value,
     Ok(Value::Array(list))
 }
 
-/// The program as a JSON object.
 fn tool_json(alloc: Global) -> Result<Value, AllocError>
     ensures { IfOk result (λ value. view value ≡ tool_json) }
 {
@@ -295,7 +275,6 @@ fn tool_json(alloc: Global) -> Result<Value, AllocError>
     })
 }
 
-/// The log as a JSON object.
 fn log_json(alloc: Global, uri: &str, findings: &[Finding]) -> Result<Value, AllocError>
     ensures { IfOk result (λ value. view value ≡ log_json uri.now (map finding_value findings.now)) }
 {

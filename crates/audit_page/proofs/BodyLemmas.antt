@@ -18,7 +18,6 @@ no_bodies lines none =
     let count : (length lines + (body_lines - 1)) / body_lines ≡ 0 = omega arith in
     ap (λ (n : ℕ). bodies_of n lines) count
 
--- a body that is appended is the first of those that are still to come
 pub body_added : (body : List FileLineValue → Tree) (rest first others : List FileLineValue)
     (out new whole : List ℕ) → 0 < length rest → first ≡ take body_lines rest
     → others ≡ drop body_lines rest → new ≡ out ++ written (body first)
@@ -29,14 +28,11 @@ body_added body rest first others out new whole some is are added so_far =
     ∙ ap (λ (list : List (List FileLineValue)). out ++ all body list) (sym (some_bodies rest some))
     ∙ so_far)
 
--- no body is still to come
 pub all_added : (body : List FileLineValue → Tree) (rest : List FileLineValue) (out whole : List ℕ)
     → length rest ≡ 0 → out ++ all body (bodies rest) ≡ whole → out ≡ whole
 all_added body rest out whole none so_far =
     sym (append-nil out)
     ∙ ap (λ (list : List (List FileLineValue)). out ++ all body list) (sym (no_bodies rest none)) ∙ so_far
-
--- ---- whether lines are left
 
 pub some_length : (lines : List FileLineValue) → (length lines == 0) ≡ false → 0 < length lines
 some_length lines is = grind (arith, nat_tests)

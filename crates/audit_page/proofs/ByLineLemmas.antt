@@ -23,7 +23,6 @@ first_is_before k = grind (arith, nat_tests)
 later_is_after : (index : ℕ) → (suc index == zero) ≡ false
 later_is_after index = grind (arith, nat_tests)
 
--- a warning that is pushed to a list is appended to this list alone
 pub pushed_at : (lists : List (Vec Warning)) (index : ℕ) (old new : Vec Warning) (warning : Warning)
     → slice_get lists index ≡ Some old → new.items ≡ old.items ++ warning ∷ [] → (k : ℕ)
     → list_at (slice_set lists index new) k

@@ -14,11 +14,10 @@ use Rattle.printable_text.specs.Sanitize.{IsPrintable, is_printable, is_printabl
 use Rattle.printable_text.proofs.SanitizeLemmas.{append_printable, ascii_printable, chars_pass, nil_printable}
 use Rattle.audit_core.proofs.FindingLemmas.{escaped_printable as printable_if_escaped}
 
--- content where elements may occur, whose texts are printable
 abbrev pub IsPart : Html → Type 0
 IsPart part = IsContent IsPrintable true part
 
--- ---- reading back: a printable text contains neither NUL nor CR
+-- ---- a printable text contains neither NUL nor CR
 
 is_kept : (char : ℕ) → is_printable true char ≡ true → is_character char ≡ true
 is_kept char plain = grind (arith, nat_tests)
@@ -33,14 +32,10 @@ printable_text bytes is =
 pub printable_html : (tree : Html) → IsPart tree → IsHtml tree
 printable_html tree is = content_weaker IsPrintable IsText printable_text true tree is
 
--- ---- writing: what is written for a printable text is printable
-
 escaped_printable : (bytes : List ℕ) → IsPrintable bytes → IsPrintable (escaped bytes)
 escaped_printable bytes is =
     rw (escaped-is bytes)
     (printable_if_escaped escaped_byte refl (λ byte high. grind (arith, nat_tests)) bytes is)
-
--- ---- writing trees
 
 letter_printable : (byte : ℕ) → is_letter byte ≡ true → is_printable_byte true byte ≡ true
 letter_printable byte is = grind (arith, nat_tests)

@@ -15,8 +15,6 @@ pub page_printable : (requested : RequestValue) (audit : AuditValue)
     → IsPrintable (document (page requested audit))
 page_printable requested audit = tree_printable (page_tree requested audit)
 
--- ---- the number of warnings with a row
-
 pub rest_is : (rows : ℕ) (later others : List WarningValue) → others ≡ without_row rows later
     → rest_count rows later ≡ length later - length others
 rest_is rows later others are = rw (← are) refl

@@ -19,8 +19,6 @@ use Rattle.audit_page.specs.Tree.{tag, text, title, void, words_text, words_writ
 use Rattle.audit_page.proofs.HtmlLemmas.{IsPart, document_printable, printable_html}
 use Rattle.html_writer.specs.Html as html
 
--- ---- writing
-
 pub written-each : {X : Type 0} (tree : X → Tree) (xs : List X) → written (each tree xs) ≡ all tree xs
 written-each tree [] = refl
 written-each tree (x ∷ xs) = ap (λ (b : List ℕ). written (tree x) ++ b) (written-each tree xs)
@@ -72,8 +70,6 @@ written_is (style css is) = sym (append-nil (style_bytes css))
 
 pub document_is : (tree : Tree) → doctype ++ written tree ≡ document (html_of tree)
 document_is tree = ap (λ (b : List ℕ). doctype ++ b) (written_is tree)
-
--- ---- safety
 
 none : IsPrintable []
 none = nil_printable true

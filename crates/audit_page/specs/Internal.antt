@@ -8,7 +8,6 @@ use Rattle.printable_text.specs.{Raw.raw_value, declared.parts.Part.Part}
 use Rattle.robots_warnings.specs.{declared.warning.Warning.Warning, Message.WarningValue}
 use Rattle.audit_page.specs.{Page.FileLineValue, declared.page.file.FileLine.TheInside.Inside}
 
--- a line with its content, by value
 abbrev pub line_of : Inside → FileLineValue
 line_of line = (line.body.now, label_by_value line.label.now)
 
@@ -22,6 +21,6 @@ abbrev pub list_of : Option (Vec Warning) → List WarningValue
 list_of None = []
 list_of (Some list) = list.items
 
--- the list with this index, or an empty one if there is none
+-- empty if there is no list with this index
 abbrev pub list_at : List (Vec Warning) → ℕ → List WarningValue
 list_at lists index = list_of (slice_get lists index)

@@ -26,8 +26,6 @@ use Rattle.audit_page.specs.declared.page.style.TheConstants.{CSS, POLICY, REJEC
 use Rattle.audit_page.specs.Tree.{Field, Tree, Words, each, field, fixed, is_ascii, labelled, message, opened}
 use Rattle.audit_page.specs.Tree.{nothing, shown, style, tag, text, title, void, with, written, ◌⊕◌}
 
--- ---- parts of several elements
-
 abbrev pub class : Words → List Field
 class words = with (codes "class") words
 
@@ -36,17 +34,14 @@ unfoldable pub code : List ℕ → Tree
 code bytes =
     tag (codes "code") (with (codes "dir") (fixed (codes "ltr") refl)) refl (text (shown (Untrusted bytes)))
 
--- a link to the row of a line
 unfoldable pub line_link : ℕ → Tree
 line_link number =
     tag (codes "a") (with (codes "href") (labelled (codes "#L") refl (Number number))) refl
     (text (labelled (codes "line ") refl (Number number)))
 
--- the heading of a column
 abbrev pub column : Tree → Tree
 column name = tag (codes "th") (with (codes "scope") (fixed (codes "col") refl)) refl name
 
--- the name of a row
 abbrev pub row_name : Tree → Tree
 row_name name = tag (codes "th") (with (codes "scope") (fixed (codes "row") refl)) refl name
 
@@ -59,7 +54,6 @@ columns names = tag (codes "thead") [] refl (row names)
 abbrev pub cell : Words → Tree
 cell words = tag (codes "td") [] refl (text words)
 
--- a term and its description
 abbrev pub entry : Words → Tree → Tree
 entry name description = tag (codes "dt") [] refl (text name) ⊕ tag (codes "dd") [] refl description
 
@@ -75,7 +69,6 @@ abbrev pub verdict_word : Bool → Value
 verdict_word true = word (codes "allowed") refl
 verdict_word false = word (codes "denied") refl
 
--- the line that decides
 abbrev pub deciding_line : Option ℕ → Tree
 deciding_line None = text (fixed (codes "no line") refl)
 deciding_line (Some number) = line_link number
@@ -93,7 +86,6 @@ verdict_cell has_url verdict =
     (cell_name has_url verdict.url ⊕ text name ⊕ text (fixed (codes ", ") refl)
     ⊕ deciding_line verdict.decision.line)
 
--- a row with a URL and its verdict
 unfoldable pub url_row : VerdictValue → Tree
 url_row verdict = row (row_name (code verdict.url) ⊕ verdict_cell false verdict)
 
@@ -105,25 +97,20 @@ url_head =
 unfoldable pub url_body : List VerdictValue → Tree
 url_body verdicts = tag (codes "tbody") [] refl (each url_row verdicts)
 
--- the URLs of a report about one crawler
 unfoldable pub url_table : List VerdictValue → Tree
 url_table verdicts =
     heading (fixed (codes "URLs") refl)
     ⊕ tag (codes "table") (class (fixed (codes "urls") refl)) refl
     (url_head ⊕ url_body verdicts)
 
--- the same, or nothing if there are no verdicts
+-- nothing if there are no verdicts
 abbrev pub url_part : AgentValue → Tree
 url_part agent = if length agent.verdicts == 0 then nothing else url_table agent.verdicts
 
--- ---- crawlers
-
--- that the file is rejected for a crawler, if it is
 abbrev pub rejection : Option ℕ → Tree
 rejection None = nothing
 rejection (Some line) = text (fixed REJECTED.now refl) ⊕ line_link line
 
--- the first line that names a group, if one does
 abbrev pub group_place : Option ℕ → Tree
 group_place None = nothing
 group_place (Some line) = text (fixed (codes ", ") refl) ⊕ line_link line
@@ -135,7 +122,7 @@ group_note agent =
     (group_reason agent.agent agent.group ∷ group_end agent.agent agent.group ∷ []))
     ⊕ group_place agent.group_line ⊕ rejection agent.rejected
 
--- what a crawler may fetch, if that is everything or nothing; else its rules say it
+-- if that is everything or nothing; else the crawler's rules decide
 abbrev pub fetch_value : Option Fixed → Value
 fetch_value None = Word (record { text = codes "see rules"; safe = refl })
 fetch_value (Some word) = Word word
@@ -148,20 +135,18 @@ fetch_entry rejected reach =
     tag (codes "dt") [] refl (text (fixed (codes "May fetch") refl))
     ⊕ tag (codes "dd") (class (fetch_words rejected reach)) refl (text (fetch_words rejected reach))
 
--- how many rules apply to a crawler
 unfoldable pub rule_entry : ℕ → Tree
 rule_entry rules = entry (fixed (codes "Rules") refl) (text (shown (Number rules)))
 
 unfoldable pub delay_entry : Option ℕ → Tree
 delay_entry delay = entry (fixed (codes "Crawl delay") refl) (text (shown (delay_value delay)))
 
--- what applies to a crawler
 unfoldable pub agent_entries : AgentValue → Tree
 agent_entries agent =
     entry (fixed (codes "Group") refl) (group_note agent)
     ⊕ rule_entry agent.rules ⊕ delay_entry agent.delay ⊕ fetch_entry agent.rejected agent.reach
 
--- these in a row
+-- the same in a row
 unfoldable pub fetch_cell : (rejected : Option ℕ) → Reach → Tree
 fetch_cell rejected reach =
     tag (codes "td") (class (fetch_words rejected reach)) refl (text (fetch_words rejected reach))
@@ -169,7 +154,7 @@ fetch_cell rejected reach =
 unfoldable pub fact_cells : (rules : ℕ) (delay : Option ℕ) → Tree
 fact_cells rules delay = cell (shown (Number rules)) ⊕ cell (shown (delay_value delay))
 
--- a row about a crawler; without verdicts if the file is rejected for it
+-- without verdicts if the file is rejected for the crawler
 unfoldable pub agent_row : AgentValue → Tree
 agent_row agent =
     row (row_name (code agent.agent) ⊕ tag (codes "td") [] refl (group_note agent)
@@ -179,7 +164,6 @@ agent_row agent =
 unfoldable pub url_column : List ℕ → Tree
 url_column url = column (code url)
 
--- the first columns of the table of crawlers
 unfoldable pub first_columns : Tree
 first_columns =
     column (text (fixed (codes "Crawler") refl)) ⊕ column (text (fixed (codes "Group") refl))
@@ -204,13 +188,11 @@ scroll_fields =
 abbrev pub scroll_start : List ℕ
 scroll_start = opened (codes "div") scroll_fields ++ tag_close
 
--- the table of several crawlers, which can be scrolled, also with keys
+-- it can be scrolled, also with keys
 unfoldable pub agent_table : List (List ℕ) → List AgentValue → Tree
 agent_table urls agents =
     tag (codes "div") scroll_fields refl
     (tag (codes "table") (class (fixed (codes "agents") refl)) refl (agent_content urls agents))
-
--- ---- warnings
 
 -- the level of a warning, as its text begins
 abbrev pub level_front : Level → Value
@@ -222,7 +204,7 @@ level_front Note = word (codes "Note: ") refl
 abbrev pub warning_words : WarningValue → Words
 warning_words warning = message (level_front (level_of warning.cause)) (reported_parts warning)
 
--- the name of a line: a link, if it has one of the `rows` of the table of lines, as those that are read have
+-- a link, if the line has one of the `rows` of the table of lines, as those that are read have
 abbrev pub line_name : (rows number : ℕ) → Tree
 line_name rows number =
     if nat_lt rows number then text (labelled (codes "line ") refl (Number number)) else line_link number
@@ -231,7 +213,7 @@ abbrev pub warning_place : (rows : ℕ) → Option ℕ → Tree
 warning_place rows None = nothing
 warning_place rows (Some number) = line_name rows number ⊕ text (fixed (codes ": ") refl)
 
--- a warning in the list at the top, with the name of its line
+-- with the name of its line
 unfoldable pub warning_item : (rows : ℕ) → WarningValue → Tree
 warning_item rows warning =
     tag (codes "li") [] refl (warning_place rows warning.line ⊕ text (warning_words warning))
@@ -240,11 +222,10 @@ warning_item rows warning =
 abbrev pub listed_warnings : ℕ
 listed_warnings = 100
 
--- the warnings after those
 abbrev pub later_warnings : List WarningValue → List WarningValue
 later_warnings warnings = drop listed_warnings warnings
 
--- a warning about this line has a row in the table of lines, below that of its line
+-- below the row of its line
 abbrev pub has_row : (rows : ℕ) → Option ℕ → Bool
 has_row rows None = false
 has_row rows (Some number) = not (nat_lt rows number)
@@ -259,27 +240,23 @@ warning_items rows warnings =
     each (warning_item rows) (take listed_warnings warnings)
     ⊕ each (warning_item rows) (without_row rows (later_warnings warnings))
 
--- how many of these warnings have a row
 abbrev pub rest_count : (rows : ℕ) → List WarningValue → ℕ
 rest_count rows warnings = length warnings - length (without_row rows warnings)
 
--- how many warnings aren't in the list
 unfoldable pub some_rest : ℕ → Tree
 some_rest count =
     tag (codes "p") [] refl
     (text (labelled (codes "and ") refl (Number count))
     ⊕ text (fixed (codes " more, below their lines") refl))
 
--- the same, if there are some
+-- if some warnings aren't in the list
 abbrev pub rest_note : ℕ → Tree
 rest_note count = if count == 0 then nothing else some_rest count
 
--- how many warnings there are of each level
 abbrev pub count_words : List WarningValue → Words
 count_words warnings =
     if length warnings == 0 then fixed (codes "none") refl else message Nothing (count_parts warnings)
 
--- the numbers of warnings, and the list
 unfoldable pub warning_list : (rows : ℕ) → List WarningValue → Tree
 warning_list rows warnings =
     text (count_words warnings) ⊕ tag (codes "ul") [] refl (warning_items rows warnings)
@@ -287,8 +264,6 @@ warning_list rows warnings =
 
 unfoldable pub warning_entry : (rows : ℕ) → List WarningValue → Tree
 warning_entry rows warnings = entry (fixed (codes "Warnings") refl) (warning_list rows warnings)
-
--- ---- the file
 
 unfoldable pub sitemap_item : List ℕ → Tree
 sitemap_item value = tag (codes "li") [] refl (code value)
@@ -299,18 +274,16 @@ sitemap_list values = tag (codes "ul") [] refl (each sitemap_item values)
 unfoldable pub sitemap_entry : List Label → Tree
 sitemap_entry labels = entry (fixed SITEMAPS.now refl) (sitemap_list (sitemaps_in (lines_of labels)))
 
--- the name of the line's directive
 abbrev pub kind_value : LineValue → Value
 kind_value line =
     let kind = kind_of line in
     let both = and_parts (is_fixed kind.text) (ends_apart kind.text) kind.safe in
     Word (record { text = kind.text; safe = both.0 })
 
--- a line, after its content
+-- a line after its content
 abbrev pub FileLineValue : Type 0
 FileLineValue = List ℕ × Label
 
--- the lines that were read
 abbrev pub file_lines : AuditValue → List FileLineValue
 file_lines audit = zip (file_bodies audit.bytes) audit.labels
 
@@ -330,19 +303,18 @@ line_cells (body, label) =
     ⊕ tag (codes "td") [] refl
     (text (shown (line_value label.line)) ⊕ comment_text (comment_of label.line body))
 
--- a row for a line, to which other parts link; each cell is displayed from left to right, as the page is
+-- other parts link to the row; each cell is displayed from left to right, as the page is
 unfoldable pub line_row : FileLineValue → Tree
 line_row line =
     tag (codes "tr") (line_fields line.1) refl
     (row_name (text (shown (Number line.1.number))) ⊕ line_cells line)
 
--- the start tag of the row, and the number
 abbrev pub line_start : Label → List ℕ
 line_start label =
     opened (codes "tr") (line_fields label)
     ++ (tag_close ++ written (row_name (text (shown (Number label.number)))))
 
--- a row for a warning, below that of its line
+-- below the row of its line
 unfoldable pub warning_row : WarningValue → Tree
 warning_row warning =
     tag (codes "tr") (class (shown (Word (fixed_level (level_of warning.cause))))) refl
@@ -364,7 +336,7 @@ about_line warnings number = filter (λ (warning : WarningValue). is_at number w
 unfoldable pub line_part : (about : ℕ → List WarningValue) → FileLineValue → Tree
 line_part about line = line_row line ⊕ each warning_row (about line.1.number)
 
--- how many lines a body of the table has; a browser lays out later what isn't visible yet
+-- a browser lays out later what isn't visible yet
 abbrev pub body_lines : ℕ
 body_lines = 500
 
@@ -373,7 +345,7 @@ abbrev pub bodies_of : ℕ → List FileLineValue → List (List FileLineValue)
 bodies_of zero lines = []
 bodies_of (suc more) lines = take body_lines lines ∷ bodies_of more (drop body_lines lines)
 
--- the lines of each body; the last one may have fewer
+-- the last body may have fewer lines
 abbrev pub bodies : List FileLineValue → List (List FileLineValue)
 bodies lines = bodies_of ((length lines + (body_lines - 1)) / body_lines) lines
 
@@ -395,13 +367,10 @@ file_content agent audit =
     file_caption (labeling_agent agent) ⊕ line_columns
     ⊕ each (line_body (about_line audit.warnings)) (bodies (file_lines audit))
 
--- the file with its warnings
 unfoldable pub file_table : Option (List ℕ) → AuditValue → Tree
 file_table agent audit =
     heading (fixed (codes "File") refl)
     ⊕ tag (codes "table") (class (fixed (codes "lines") refl)) refl (file_content agent audit)
-
--- ---- the page
 
 abbrev pub title_words : Option (List ℕ) → Words
 title_words None = fixed (codes "robots.txt for several crawlers") refl
@@ -427,7 +396,6 @@ page_head agent = tag (codes "head") [] refl (head_start ⊕ title (title_words 
 unfoldable pub page_heading : Option (List ℕ) → Tree
 page_heading agent = tag (codes "h1") [] refl (text (title_words agent))
 
--- the entries about a single crawler
 abbrev pub crawler_entries : Option (List ℕ) → List AgentValue → Tree
 crawler_entries None agents = nothing
 crawler_entries (Some agent) agents = each agent_entries agents
@@ -438,7 +406,7 @@ sentence_safe Standard = refl
 sentence_safe StandardVerdicts = refl
 sentence_safe StandardWithoutWarnings = refl
 
--- what the warnings tell about the syntax of the file and about its verdicts, if it is known
+-- what the warnings mean for the syntax of the file and its verdicts, if that is known
 unfoldable pub syntax_entry : Syntax → Tree
 syntax_entry syntax =
     (if is_standard syntax
@@ -453,12 +421,10 @@ file_entry name = entry (fixed (codes "File") refl) (code name)
 unfoldable pub some_date : List ℕ → Tree
 some_date date = entry (fixed (codes "Date") refl) (text (shown (Named date)))
 
--- the date, if one is given
 abbrev pub date_entry : Option (List ℕ) → Tree
 date_entry None = nothing
 date_entry (Some date) = some_date date
 
--- the summary at the top
 unfoldable pub summary : RequestValue → AuditValue → Tree
 summary requested audit =
     tag (codes "dl") [] refl
@@ -471,7 +437,6 @@ abbrev pub verdict_part : Option (List ℕ) → List (List ℕ) → List AgentVa
 verdict_part None urls agents = heading (fixed CRAWLERS.now refl) ⊕ agent_table urls agents
 verdict_part (Some agent) urls agents = each url_part agents
 
--- the version of the program
 unfoldable pub page_end : Tree
 page_end =
     tag (codes "footer") [] refl (text (fixed (codes "robots_audit ") refl) ⊕ text (fixed VERSION.now refl))
@@ -481,7 +446,6 @@ page_content requested audit =
     page_heading requested.agent ⊕ summary requested audit
     ⊕ verdict_part requested.agent requested.urls audit.agents ⊕ file_table requested.agent audit ⊕ page_end
 
--- the page on an audit
 unfoldable pub page_tree : RequestValue → AuditValue → Tree
 page_tree requested audit =
     tag (codes "html") (with (codes "lang") (fixed (codes "en") refl)) refl

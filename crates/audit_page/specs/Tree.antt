@@ -1,5 +1,5 @@
--- A page as data: its texts, names and attributes are safe by their type. So whatever it says, it is
--- printable, and reading it yields the same tree.
+-- A page as data: its texts, names and attributes are safe by their type. So it is printable, and reading it
+-- yields the same tree.
 --
 -- What is written is made of the pieces of `html_writer`, which are `unfoldable`.
 use Rattle.std.specs.Prelude.{◌≡◌, ℕ, Bool, true, List, [], ◌∷◌, ◌++◌, ◌&&◌, codes, flat_map, not}
@@ -10,16 +10,12 @@ use Rattle.html_writer.specs.Html.{void_close, void_names}
 use Rattle.printable_text.specs.Sanitize.{is_printable_byte}
 use Rattle.printable_text.specs.Text.{PartValue, Value, parts_text, value_text}
 
--- ---- texts
-
--- printable ASCII
 abbrev pub is_ascii : List ℕ → Bool
 is_ascii bytes = list_all (is_printable_byte true) bytes
 
 pub data Words : Type 0 where
   -- a text of the page's own; for a literal, `refl` shows that it is safe
   fixed : (bytes : List ℕ) → is_ascii bytes ≡ true → Words
-  -- a value
   shown : Value → Words
   -- a text of the page's own, and a value
   labelled : (bytes : List ℕ) → is_ascii bytes ≡ true → Value → Words
@@ -39,8 +35,6 @@ words_written (shown value) = escaped (value_text value)
 words_written (labelled bytes is value) = escaped bytes ++ escaped (value_text value)
 words_written (message value parts) = escaped (value_text value ++ parts_text parts)
 
--- ---- attributes
-
 pub record Field : Type 0 where
   pub name : List ℕ
   pub value : Words
@@ -48,23 +42,20 @@ pub record Field : Type 0 where
 abbrev pub field : List ℕ → Words → Field
 field name value = record { name = name; value = value }
 
--- one attribute
 abbrev pub with : List ℕ → Words → List Field
 with name value = field name value ∷ []
 
 abbrev pub field_attribute : Field → Attribute
 field_attribute field = attribute field.name (words_text field.value)
 
--- these are attributes, and no name occurs twice, nor among those before them
+-- no name occurs twice, nor among the attributes before these
 abbrev pub are_fields : List Attribute → List Field → Bool
 are_fields before [] = true
 are_fields before (field ∷ fields) =
     is_name field.name && (not (has_attribute before field.name)
     && are_fields (before ++ field_attribute field ∷ []) fields)
 
--- ---- trees
-
--- a name of an element that can contain others
+-- the element can contain others
 abbrev pub is_element : List ℕ → List Field → Bool
 is_element name fields =
     is_name name && (is_ordinary name && (not (is_title name) && are_fields [] fields))
@@ -93,8 +84,6 @@ abbrev pub each : {X : Type 0} → (X → Tree) → List X → Tree
 each tree [] = nothing
 each tree (x ∷ xs) = tree x ⊕ each tree xs
 
--- ---- writing
-
 unfoldable pub field_bytes : List ℕ → List ℕ → List ℕ
 field_bytes name value = codes " " ++ (name ++ (codes "=\"" ++ (value ++ codes "\"")))
 
@@ -113,6 +102,5 @@ written (title words) =
 written (void name fields is) = opened name fields ++ void_close
 written (style css is) = style_bytes css
 
--- what is written for one after the other
 abbrev pub all : {X : Type 0} → (X → Tree) → List X → List ℕ
 all tree xs = flat_map (λ x. written (tree x)) xs

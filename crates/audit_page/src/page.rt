@@ -30,7 +30,6 @@ use texting_robots::labels::LabeledLine;
 use verdicts::{push_crawler_entries, push_verdict_part};
 use warnings::push_warning_entry;
 
-/// Appends the head.
 #[tactic(auto, using(crate::proofs::TreeLemmas::joined), unfolding(crate::specs::Page::page_head))]
 fn push_head(page: &mut Page, agent: Option<&str>) -> Result<(), AllocError>
     ensures { OnOk result (page.new.out.items ≡ page.old.out.items
@@ -44,7 +43,6 @@ fn push_head(page: &mut Page, agent: Option<&str>) -> Result<(), AllocError>
     push_end(&mut page.out, "head")
 }
 
-/// Appends what the warnings tell about the syntax of the file and about its verdicts, if it is known.
 #[tactic(auto, using(crate::proofs::TreeLemmas::joined), unfolding(crate::specs::Page::syntax_entry))]
 fn push_syntax_entry(page: &mut Page, syntax: Syntax) -> Result<(), AllocError>
     ensures { OnOk result (page.new.out.items ≡ page.old.out.items ++ written (syntax_entry syntax)) }
@@ -60,7 +58,6 @@ fn push_syntax_entry(page: &mut Page, syntax: Syntax) -> Result<(), AllocError>
     Ok(())
 }
 
-/// Appends the name of the file.
 #[tactic(auto, using(crate::proofs::TreeLemmas::joined), unfolding(crate::specs::Page::file_entry))]
 fn push_file_entry(page: &mut Page, name: &str) -> Result<(), AllocError>
     ensures { OnOk result (page.new.out.items ≡ page.old.out.items ++ written (file_entry name.now)) }
@@ -71,7 +68,6 @@ fn push_file_entry(page: &mut Page, name: &str) -> Result<(), AllocError>
     push_end(&mut page.out, "dd")
 }
 
-/// Appends the date, if one is given.
 fn push_date_entry(page: &mut Page, date: Option<&str>) -> Result<(), AllocError>
     ensures { OnOk result (page.new.out.items ≡ page.old.out.items
         ++ written (date_entry (option_map (λ date. date.now) date.entry))) }
@@ -82,14 +78,12 @@ fn push_date_entry(page: &mut Page, date: Option<&str>) -> Result<(), AllocError
     }
 }
 
-/// How many rows the table of lines has.
 fn row_count(labels: &[LabeledLine<'_>]) -> usize
     ensures { result ≡ length (map label_by_value labels.now) }
 {
     labels.len()
 }
 
-/// Appends the summary at the top.
 #[tactic(auto, using(crate::proofs::TreeLemmas::joined), unfolding(crate::specs::Page::summary))]
 fn push_summary(
     alloc: Global,
@@ -110,7 +104,6 @@ fn push_summary(
     push_end(&mut page.out, "dl")
 }
 
-/// Appends the content of the page.
 #[tactic(auto, using(crate::proofs::TreeLemmas::joined), unfolding(crate::specs::Page::page_content))]
 fn push_content(
     alloc: Global,
@@ -128,7 +121,6 @@ fn push_content(
     push(page, &page_end())
 }
 
-/// Appends the page.
 #[tactic(auto, using(crate::proofs::TreeLemmas::joined), unfolding(crate::specs::Page::page_tree))]
 fn push_page(
     alloc: Global,
@@ -149,7 +141,7 @@ fn push_page(
     push_end(&mut page.out, "html")
 }
 
-/// The audit as an HTML page. It always has the lines of the file, to which its parts link.
+/// The page always has the lines of the file, to which its parts link.
 #[tactic(auto, using(crate::proofs::TreeLemmas::document_is))]
 pub fn page_text(
     alloc: Global,

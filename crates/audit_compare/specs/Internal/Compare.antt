@@ -12,40 +12,29 @@ use Rattle.audit_core.specs.{declared.findings.Finding.Finding, Findings.finding
 use Rattle.audit_compare.specs.Compare.{ComparedValue, ComparisonValue, Difference, SideValue, UrlChangeValue}
 use Rattle.audit_compare.specs.Compare.{finding_of, has_rule, is_listed}
 
--- ---- sets
-
--- whether the set contains the rule
 abbrev pub contains_rule : RuleSet → Rule → Bool
 contains_rule set rule =
     if rule.1 then contains_text set.allowed rule.0 else contains_text set.denied rule.0
 
--- the set contains exactly these rules
+-- exactly these rules
 pub record HasRules (rules : List PlacedRule) (set : RuleSet) : Type 0 where
   pub each : (rule : Rule) → contains_rule set rule ≡ has_rule rules rule
 
--- the set contains exactly these texts
+-- exactly these texts
 pub record HasTexts (texts : List (List ℕ)) (set : BTreeSet Key) : Type 0 where
   pub each : (key : Key) → contains key_cmp set key ≡ is_listed texts key.items
 
--- the text was inserted into the old set, and is new if the old set didn't contain it
+-- `is_new`: the old set didn't contain the text
 pub record AddsText (old new : BTreeSet Key) (text : List ℕ) (is_new : Bool) : Type 0 where
   pub was : (texts : List (List ℕ)) → HasTexts texts old → is_new ≡ not (is_listed texts text)
   pub has : (texts : List (List ℕ)) → HasTexts texts old → HasTexts (texts ++ text ∷ []) new
 
--- ---- findings
-
--- the differences were added as findings
 abbrev pub Adds : (old new : List Finding) → List Difference → Type 0
 Adds old new differences = map finding_value new ≡ map finding_value old ++ map finding_of differences
 
--- ---- files
-
--- the parts are those of the file with these bytes
 pub record IsVersion (version : Version) : Type 0 where
   pub site : version.site ≡ take file_limit version.bytes.now
   pub lines : lines_of (map label_by_value version.labels.items) ≡ lines_read version.bytes.now
-
--- ---- values
 
 abbrev pub change_of : InsideChange → UrlChangeValue
 change_of change = record { url = change.url.now; older = change.older; newer = change.newer }

@@ -6,7 +6,7 @@ ghost use Rattle.audit_page.specs.{Internal.list_at, Page.about_line};
 use robots_warnings::warning::Warning;
 use std::alloc::{AllocError, Global};
 
-/// Appends empty lists until there is one with this index. The last one has room for a warning.
+/// Appends empty lists until there is one with this index, which has capacity for a warning.
 #[tactic(auto, using(crate::proofs::ByLineLemmas::empty_appended))]
 fn grow(alloc: Global, lists: &mut Vec<Vec<Warning<'_>>>, index: usize) -> Result<(), AllocError>
     ensures len { OnOk result (index < vec_len lists.new) }
@@ -21,7 +21,6 @@ fn grow(alloc: Global, lists: &mut Vec<Vec<Warning<'_>>>, index: usize) -> Resul
     Ok(lists.push(Vec::with_capacity(alloc, 1)?)?)
 }
 
-/// Appends a warning to the list with this index.
 fn add<'a>(
     alloc: Global,
     lists: &mut Vec<Vec<Warning<'a>>>,
@@ -35,7 +34,7 @@ fn add<'a>(
     Ok(lists[index].push(warning.copy())?)
 }
 
-/// For the number of each line, the list of the warnings about it, in order.
+/// For the number of each line, the warnings about it, in order.
 pub(crate) fn by_line<'a>(
     alloc: Global,
     warnings: &[Warning<'a>],

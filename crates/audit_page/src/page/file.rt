@@ -22,10 +22,9 @@ use std::marker::Model;
 use texting_robots::labels::LabeledLine;
 use texting_robots::parser::file_bodies;
 
-/// How many lines a body of the table has. A browser lays out later what isn't visible yet.
+/// A browser lays out later what isn't visible yet.
 const BODY_LINES: usize = 500;
 
-/// A line, with its content.
 #[derive(Drop)]
 pub(crate) struct FileLine<'a> {
     pub(crate) body: &'a [u8],
@@ -42,14 +41,12 @@ impl<'a> Model for FileLine<'a> {
     ghost view = { line_of };
 }
 
-/// Appends a sitemap.
 fn push_sitemap_item(page: &mut Page, value: &[u8]) -> Result<(), AllocError>
     ensures { OnOk result (page.new.out.items ≡ page.old.out.items ++ written (sitemap_item value.now)) }
 {
     push(page, &sitemap_item(value))
 }
 
-/// Appends each sitemap.
 fn push_sitemap_items(page: &mut Page, values: &[&[u8]]) -> Result<(), AllocError>
     ensures { OnOk result (page.new.out.items ≡ page.old.out.items
         ++ all sitemap_item (map (λ value. value.now) values.now)) }
@@ -60,7 +57,6 @@ fn push_sitemap_items(page: &mut Page, values: &[&[u8]]) -> Result<(), AllocErro
     Ok(())
 }
 
-/// Appends the list of these sitemaps.
 #[tactic(auto, using(crate::proofs::TreeLemmas::joined), unfolding(crate::specs::Page::sitemap_list))]
 fn push_sitemap_list(page: &mut Page, values: &[&[u8]]) -> Result<(), AllocError>
     ensures { OnOk result (page.new.out.items ≡ page.old.out.items
@@ -71,7 +67,6 @@ fn push_sitemap_list(page: &mut Page, values: &[&[u8]]) -> Result<(), AllocError
     push_end(&mut page.out, "ul")
 }
 
-/// Appends the sitemaps that the file lists.
 #[tactic(auto, using(crate::proofs::TreeLemmas::joined), unfolding(crate::specs::Page::sitemap_entry))]
 pub(crate) fn push_sitemap_entry(
     alloc: Global,
@@ -88,7 +83,6 @@ pub(crate) fn push_sitemap_entry(
     push_end(&mut page.out, "dd")
 }
 
-/// Appends the row of a line.
 #[tactic(auto, using(crate::proofs::TreeLemmas::joined), unfolding(crate::specs::Page::line_row))]
 fn push_line_row(page: &mut Page, line: &FileLine<'_>) -> Result<(), AllocError>
     ensures { OnOk result (page.new.out.items ≡ page.old.out.items ++ written (line_row line.now)) }
@@ -97,7 +91,6 @@ fn push_line_row(page: &mut Page, line: &FileLine<'_>) -> Result<(), AllocError>
     push(page, &line_cells(line))
 }
 
-/// Appends the rows of the warnings in the list with this index, if there is one.
 fn push_listed_rows(
     page: &mut Page,
     lists: &[Vec<Warning<'_>>],
@@ -112,7 +105,6 @@ fn push_listed_rows(
     }
 }
 
-/// Appends the row of a line and those of the warnings in its list.
 #[tactic(auto, using(crate::proofs::TreeLemmas::joined), unfolding(crate::specs::Page::line_part))]
 fn push_line_part(
     page: &mut Page,
@@ -126,7 +118,6 @@ fn push_line_part(
     push_listed_rows(page, lists, line.label.number)
 }
 
-/// Appends the rows of these lines, with those of the warnings in their lists.
 fn push_line_parts(
     page: &mut Page,
     lists: &[Vec<Warning<'_>>],
@@ -141,7 +132,6 @@ fn push_line_parts(
     Ok(())
 }
 
-/// Appends a body of the table.
 #[tactic(auto, using(crate::proofs::TreeLemmas::joined), unfolding(crate::specs::Page::line_body))]
 fn push_line_body(
     page: &mut Page,
@@ -156,7 +146,6 @@ fn push_line_body(
     push_end(&mut page.out, "tbody")
 }
 
-/// Appends the bodies of the table, with the warnings in the lists.
 fn push_listed_bodies(
     page: &mut Page,
     lists: &[Vec<Warning<'_>>],
@@ -173,7 +162,6 @@ fn push_listed_bodies(
     Ok(())
 }
 
-/// Appends the bodies of the table.
 fn push_line_bodies(
     alloc: Global,
     page: &mut Page,
@@ -187,7 +175,7 @@ fn push_line_bodies(
     push_listed_bodies(page, &lists, lines)
 }
 
-/// The lines of the file with these bytes. The labels are those of the lines.
+/// The labels are those of the lines.
 fn file_lines<'a>(
     alloc: Global,
     bytes: &'a [u8],
@@ -208,7 +196,6 @@ fn file_lines<'a>(
     Ok(lines)
 }
 
-/// Appends the content of the table of lines.
 #[tactic(auto, using(crate::proofs::TreeLemmas::joined), unfolding(crate::specs::Page::file_content))]
 fn push_file_content(
     alloc: Global,
@@ -225,7 +212,6 @@ fn push_file_content(
     push_line_bodies(alloc, page, &audit.warnings, &lines)
 }
 
-/// Appends the file with its warnings.
 #[tactic(auto, using(crate::proofs::TreeLemmas::joined), unfolding(crate::specs::Page::file_table))]
 pub(crate) fn push_file_table(
     alloc: Global,

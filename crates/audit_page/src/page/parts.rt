@@ -22,7 +22,6 @@ pub(crate) struct KnownRow {
     ghost is_its_row: { row.items ≡ written (warning_row (of_cause cause)) },
 }
 
-/// What a page is written into.
 #[derive(Drop)]
 pub(crate) struct Page {
     pub(crate) out: Vec<u8>,
@@ -44,7 +43,6 @@ impl Page {
     }
 }
 
-/// Appends a value, sanitized and escaped.
 #[tactic(auto, using(html_writer::proofs::WritingLemmas::decimal_written))]
 fn push_value(page: &mut Page, value: Value<'_>) -> Result<(), AllocError>
     ensures { OnOk result (page.new.out.items ≡ page.old.out.items ++ escaped (raw_value value.entry)) }
@@ -63,7 +61,7 @@ fn push_value(page: &mut Page, value: Value<'_>) -> Result<(), AllocError>
     push_text(&mut page.out, page.text.as_bytes())
 }
 
-/// Appends a part: markup, which is copied, and a value, which is escaped.
+/// Markup is copied, and a value is escaped.
 fn push_part(page: &mut Page, part: &Part<'_>) -> Result<(), AllocError>
     ensures { OnOk result (page.new.out.items ≡ page.old.out.items ++ raw_part part.now) }
 {
@@ -71,7 +69,6 @@ fn push_part(page: &mut Page, part: &Part<'_>) -> Result<(), AllocError>
     push_value(page, part.1)
 }
 
-/// Appends the parts, one after another.
 pub(crate) fn push(page: &mut Page, parts: &[Part<'_>]) -> Result<(), AllocError>
     ensures { OnOk result (page.new.out.items ≡ page.old.out.items ++ raw_parts parts.now) }
 {
@@ -81,7 +78,6 @@ pub(crate) fn push(page: &mut Page, parts: &[Part<'_>]) -> Result<(), AllocError
     Ok(())
 }
 
-/// Appends a start tag with an attribute.
 #[tactic(auto, using(html_writer::proofs::WritingLemmas::joined), unfolding(crate::specs::Tree::field_bytes, html_writer::specs::Html::attribute_bytes))]
 pub(crate) fn push_start_with(
     page: &mut Page,

@@ -22,7 +22,6 @@ use printable_text::parts::{Part, Value};
 use robots_warnings::closed::Reach;
 use texting_robots::labels::LabeledLine;
 
-/// The title of a page.
 pub(crate) fn title(agent: Option<&str>) -> Part<'_>
     ensures { raw_part result ≡ words_written (title_words (option_map (λ agent. agent.now) agent.entry)) }
 {
@@ -32,7 +31,6 @@ pub(crate) fn title(agent: Option<&str>) -> Part<'_>
     }
 }
 
-/// What the head of a page has before its title.
 pub(crate) fn head_start() -> [Part<'static>; 5]
     ensures { raw_parts result ≡ written head_start }
 {
@@ -51,7 +49,6 @@ pub(crate) fn head_start() -> [Part<'static>; 5]
     ]
 }
 
-/// The heading of a page.
 pub(crate) fn page_heading(agent: Option<&str>) -> [Part<'_>; 3]
     ensures { raw_parts result ≡ written (page_heading (option_map (λ agent. agent.now) agent.entry)) }
 {
@@ -62,7 +59,6 @@ pub(crate) fn page_heading(agent: Option<&str>) -> [Part<'_>; 3]
     ]
 }
 
-/// A link to the row of a line.
 pub(crate) fn line_link(number: usize) -> [Part<'static>; 3]
     ensures { raw_parts result ≡ written (line_link number) }
 {
@@ -73,7 +69,6 @@ pub(crate) fn line_link(number: usize) -> [Part<'static>; 3]
     ]
 }
 
-/// The name of a row, which is untrusted.
 pub(crate) fn row_name<'a>(name: &'a [u8]) -> [Part<'a>; 2]
     ensures { raw_parts result ≡ written (row_name (code name.entry.now)) }
 {
@@ -86,7 +81,6 @@ pub(crate) fn row_name<'a>(name: &'a [u8]) -> [Part<'a>; 2]
     ]
 }
 
-/// A URL before its verdict, or the name of the file.
 pub(crate) fn cell_name<'a>(url: &'a [u8]) -> [Part<'a>; 2]
     ensures { raw_parts result ≡ written (code url.entry.now) }
 {
@@ -96,7 +90,6 @@ pub(crate) fn cell_name<'a>(url: &'a [u8]) -> [Part<'a>; 2]
     ]
 }
 
-/// The head of the table of URLs.
 pub(crate) fn url_head() -> [Part<'static>; 2]
     ensures { raw_parts result ≡ written url_head }
 {
@@ -112,7 +105,6 @@ pub(crate) fn url_head() -> [Part<'static>; 2]
     ]
 }
 
-/// The name of a column with the verdicts on a URL.
 pub(crate) fn url_column<'a>(url: &'a [u8]) -> [Part<'a>; 2]
     ensures { raw_parts result ≡ written (url_column url.entry.now) }
 {
@@ -125,7 +117,6 @@ pub(crate) fn url_column<'a>(url: &'a [u8]) -> [Part<'a>; 2]
     ]
 }
 
-/// The caption of the table of crawlers.
 pub(crate) fn agent_caption() -> [Part<'static>; 1]
     ensures { raw_parts result ≡ written agent_caption }
 {
@@ -135,7 +126,6 @@ pub(crate) fn agent_caption() -> [Part<'static>; 1]
     )]
 }
 
-/// The first columns of the table of crawlers.
 pub(crate) fn first_columns() -> [Part<'static>; 3]
     ensures { raw_parts result ≡ written first_columns }
 {
@@ -152,14 +142,14 @@ pub(crate) fn first_columns() -> [Part<'static>; 3]
     ]
 }
 
-/// The start of what can be scrolled, also with keys.
+/// It can be scrolled, also with keys.
 pub(crate) fn scroll_start() -> [Part<'static>; 1]
     ensures { raw_parts result ≡ scroll_start }
 {
     [Part("<div class=\"scroll\" tabindex=\"0\">", Value::Nothing)]
 }
 
-/// What a crawler may fetch, if that is everything or nothing; else its rules say it.
+/// If that is everything or nothing; else the crawler's rules decide.
 fn fetch_value(rejected: Option<usize>, reach: Reach) -> Value<'static>
     ensures { raw_value result ≡ value_text (fetch_value (may_fetch rejected reach)) }
 {
@@ -169,7 +159,6 @@ fn fetch_value(rejected: Option<usize>, reach: Reach) -> Value<'static>
     }
 }
 
-/// The same in the summary.
 pub(crate) fn fetch_entry(rejected: Option<usize>, reach: Reach) -> [Part<'static>; 3]
     ensures { raw_parts result ≡ written (fetch_entry rejected reach) }
 {
@@ -181,7 +170,6 @@ pub(crate) fn fetch_entry(rejected: Option<usize>, reach: Reach) -> [Part<'stati
     ]
 }
 
-/// The same in a row.
 pub(crate) fn fetch_cell(rejected: Option<usize>, reach: Reach) -> [Part<'static>; 3]
     ensures { raw_parts result ≡ written (fetch_cell rejected reach) }
 {
@@ -193,7 +181,6 @@ pub(crate) fn fetch_cell(rejected: Option<usize>, reach: Reach) -> [Part<'static
     ]
 }
 
-/// How many rules apply to a crawler, in the summary.
 pub(crate) fn rule_entry(rules: usize) -> [Part<'static>; 2]
     ensures { raw_parts result ≡ written (rule_entry rules) }
 {
@@ -203,7 +190,6 @@ pub(crate) fn rule_entry(rules: usize) -> [Part<'static>; 2]
     ]
 }
 
-/// Its delay in the summary.
 pub(crate) fn delay_entry(delay: Option<u64>) -> [Part<'static>; 2]
     ensures { raw_parts result ≡ written (delay_entry delay) }
 {
@@ -213,7 +199,6 @@ pub(crate) fn delay_entry(delay: Option<u64>) -> [Part<'static>; 2]
     ]
 }
 
-/// Both in a row.
 pub(crate) fn fact_cells(rules: usize, delay: Option<u64>) -> [Part<'static>; 3]
     ensures { raw_parts result ≡ written (fact_cells rules delay) }
 {
@@ -224,7 +209,6 @@ pub(crate) fn fact_cells(rules: usize, delay: Option<u64>) -> [Part<'static>; 3]
     ]
 }
 
-/// The date in the summary.
 pub(crate) fn some_date<'a>(date: &'a [u8]) -> [Part<'a>; 2]
     ensures { raw_parts result ≡ written (some_date date.entry.now) }
 {
@@ -234,7 +218,6 @@ pub(crate) fn some_date<'a>(date: &'a [u8]) -> [Part<'a>; 2]
     ]
 }
 
-/// The version of the program, at the end of a page.
 pub(crate) fn page_end() -> [Part<'static>; 2]
     ensures { raw_parts result ≡ written page_end }
 {
@@ -244,7 +227,6 @@ pub(crate) fn page_end() -> [Part<'static>; 2]
     ]
 }
 
-/// A sitemap.
 pub(crate) fn sitemap_item<'a>(value: &'a [u8]) -> [Part<'a>; 2]
     ensures { raw_parts result ≡ written (sitemap_item value.entry.now) }
 {
@@ -254,7 +236,6 @@ pub(crate) fn sitemap_item<'a>(value: &'a [u8]) -> [Part<'a>; 2]
     ]
 }
 
-/// How many warnings aren't in the list at the top.
 pub(crate) fn some_rest(count: usize) -> [Part<'static>; 2]
     ensures { raw_parts result ≡ written (some_rest count) }
 {
@@ -264,7 +245,6 @@ pub(crate) fn some_rest(count: usize) -> [Part<'static>; 2]
     ]
 }
 
-/// The caption of the table of lines.
 pub(crate) fn file_caption<'a>(agent: &'a [u8]) -> [Part<'a>; 2]
     ensures { raw_parts result ≡ written (file_caption agent.entry.now) }
 {
@@ -277,7 +257,6 @@ pub(crate) fn file_caption<'a>(agent: &'a [u8]) -> [Part<'a>; 2]
     ]
 }
 
-/// The columns of the table of lines.
 pub(crate) fn line_columns() -> [Part<'static>; 2]
     ensures { raw_parts result ≡ written line_columns }
 {
@@ -293,7 +272,6 @@ pub(crate) fn line_columns() -> [Part<'static>; 2]
     ]
 }
 
-/// The start of the row of a line, with its number.
 pub(crate) fn line_start(label: &LabeledLine<'_>) -> [Part<'static>; 4]
     ensures { raw_parts result ≡ line_start (label_by_value label.now) }
 {
@@ -308,7 +286,6 @@ pub(crate) fn line_start(label: &LabeledLine<'_>) -> [Part<'static>; 4]
     ]
 }
 
-/// A comment in the row of its line, if there is one.
 fn comment_part<'a>(comment: &'a [u8]) -> Part<'a>
     ensures { raw_part result ≡ written (comment_text comment.entry.now) }
 {
@@ -319,7 +296,6 @@ fn comment_part<'a>(comment: &'a [u8]) -> Part<'a>
     }
 }
 
-/// The cells of a line, and the end of its row.
 pub(crate) fn line_cells<'a>(line: &FileLine<'a>) -> [Part<'a>; 5]
     ensures { raw_parts result ≡ written (line_cells line.now) ++ end_tag (codes "tr") }
 {

@@ -2,14 +2,12 @@
 
 ghost use Rattle.std.specs.Prelude.{◌≡◌, drop, take};
 
-/// The first items, at most so many.
 pub(crate) fn first<T>(items: &[T], most: usize) -> &[T]
     ensures { result.now ≡ take most items.now }
 {
     &items[..most.min(items.len())]
 }
 
-/// The items after those.
 pub(crate) fn after<T>(items: &[T], most: usize) -> &[T]
     ensures { result.now ≡ drop most items.now }
 {

@@ -1,6 +1,6 @@
 //! The page's constants.
 
-/// The style of a page: the file `page.css`, unchanged, with which a test compares it.
+/// The file `page.css`, unchanged, with which a test compares it.
 pub(crate) const CSS: &str = "\
 :root {
   color-scheme: light dark;
@@ -121,12 +121,12 @@ tr:target { background: var(--hit) }
 }
 ";
 
-/// The policy of a page, which permits its own style only, by the SHA-256 hash that a test computes again.
+/// It permits the page's own style only, by the SHA-256 hash that a test computes again.
 pub(crate) const POLICY: &str = "default-src 'none'; \
     style-src 'sha256-Tn+YEkj+8i/Lm5ww9lcCo1YWE6yKCtgpBKwQYoT6XOs='; \
     base-uri 'none'; form-action 'none'";
 
-// Texts of a page. A longer text that is appended alone has a name, since the prover's search is limited in depth.
+// A longer text that is appended alone has a name, since the prover's search is limited in depth.
 pub(crate) const REJECTED: &str = "; rejected: ";
 
 pub(crate) const CRAWLERS: &str = "Crawlers";

@@ -19,7 +19,6 @@ use audit_core::texts::push_group_text;
 use html_writer::write::{push_element, push_end, push_start, push_text};
 use std::alloc::AllocError;
 
-/// Appends the line that decides.
 fn push_deciding_line(page: &mut Page, line: Option<usize>) -> Result<(), AllocError>
     ensures { OnOk result (page.new.out.items ≡ page.old.out.items ++ written (deciding_line line)) }
 {
@@ -29,7 +28,6 @@ fn push_deciding_line(page: &mut Page, line: Option<usize>) -> Result<(), AllocE
     }
 }
 
-/// Appends the URL, if the cell has it.
 fn push_cell_name(page: &mut Page, has_url: bool, url: &str) -> Result<(), AllocError>
     ensures { OnOk result (page.new.out.items ≡ page.old.out.items ++ written (cell_name has_url url.now)) }
 {
@@ -39,7 +37,6 @@ fn push_cell_name(page: &mut Page, has_url: bool, url: &str) -> Result<(), Alloc
     Ok(())
 }
 
-/// Appends a cell with a verdict and the line that decides.
 #[tactic(auto, using(crate::proofs::TreeLemmas::joined), unfolding(crate::specs::Page::verdict_cell))]
 fn push_verdict_cell(
     page: &mut Page,
@@ -62,7 +59,6 @@ fn push_verdict_cell(
     push_end(&mut page.out, "td")
 }
 
-/// Appends a cell for each verdict, with its URL.
 fn push_verdict_cells(page: &mut Page, verdicts: &[Verdict<'_>]) -> Result<(), AllocError>
     ensures { OnOk result (page.new.out.items ≡ page.old.out.items
         ++ all (verdict_cell true) verdicts.now) }
@@ -73,7 +69,6 @@ fn push_verdict_cells(page: &mut Page, verdicts: &[Verdict<'_>]) -> Result<(), A
     Ok(())
 }
 
-/// Appends a row for each verdict, with its URL.
 #[tactic(auto, using(crate::proofs::TreeLemmas::joined), unfolding(crate::specs::Page::url_row))]
 fn push_url_rows(page: &mut Page, verdicts: &[Verdict<'_>]) -> Result<(), AllocError>
     ensures { OnOk result (page.new.out.items ≡ page.old.out.items ++ all url_row verdicts.now) }
@@ -87,7 +82,6 @@ fn push_url_rows(page: &mut Page, verdicts: &[Verdict<'_>]) -> Result<(), AllocE
     Ok(())
 }
 
-/// Appends the body of the table of URLs.
 #[tactic(auto, using(crate::proofs::TreeLemmas::joined), unfolding(crate::specs::Page::url_body))]
 fn push_url_body(page: &mut Page, verdicts: &[Verdict<'_>]) -> Result<(), AllocError>
     ensures { OnOk result (page.new.out.items ≡ page.old.out.items
@@ -98,7 +92,6 @@ fn push_url_body(page: &mut Page, verdicts: &[Verdict<'_>]) -> Result<(), AllocE
     push_end(&mut page.out, "tbody")
 }
 
-/// Appends the table of URLs.
 #[tactic(auto, using(crate::proofs::TreeLemmas::joined), unfolding(crate::specs::Page::url_table))]
 fn push_url_table(page: &mut Page, verdicts: &[Verdict<'_>]) -> Result<(), AllocError>
     ensures { OnOk result (page.new.out.items ≡ page.old.out.items
@@ -111,7 +104,6 @@ fn push_url_table(page: &mut Page, verdicts: &[Verdict<'_>]) -> Result<(), Alloc
     push_end(&mut page.out, "table")
 }
 
-/// Appends the same, or nothing if there are no verdicts.
 fn push_url_part(page: &mut Page, agent: &AgentAudit<'_>) -> Result<(), AllocError>
     ensures { OnOk result (page.new.out.items ≡ page.old.out.items ++ written (url_part agent.now)) }
 {
@@ -121,7 +113,6 @@ fn push_url_part(page: &mut Page, agent: &AgentAudit<'_>) -> Result<(), AllocErr
     push_url_table(page, &agent.verdicts)
 }
 
-/// Appends the same for each crawler.
 fn push_url_parts(page: &mut Page, agents: &[AgentAudit<'_>]) -> Result<(), AllocError>
     ensures { OnOk result (page.new.out.items ≡ page.old.out.items ++ all url_part agents.now) }
 {
@@ -131,7 +122,6 @@ fn push_url_parts(page: &mut Page, agents: &[AgentAudit<'_>]) -> Result<(), Allo
     Ok(())
 }
 
-/// Appends that the file is rejected for a crawler, if it is.
 fn push_rejection(page: &mut Page, rejected: Option<usize>) -> Result<(), AllocError>
     ensures { OnOk result (page.new.out.items ≡ page.old.out.items ++ written (rejection rejected)) }
 {
@@ -142,7 +132,6 @@ fn push_rejection(page: &mut Page, rejected: Option<usize>) -> Result<(), AllocE
     push(page, &line_link(line))
 }
 
-/// Appends the first line that names a group, if one does.
 fn push_group_place(page: &mut Page, line: Option<usize>) -> Result<(), AllocError>
     ensures { OnOk result (page.new.out.items ≡ page.old.out.items ++ written (group_place line)) }
 {
@@ -153,7 +142,6 @@ fn push_group_place(page: &mut Page, line: Option<usize>) -> Result<(), AllocErr
     push(page, &line_link(line))
 }
 
-/// Appends the group that applies to a crawler, its line, and whether the file is rejected for the crawler.
 #[tactic(auto, using(crate::proofs::TreeLemmas::joined), unfolding(crate::specs::Page::group_note))]
 fn push_group_note(page: &mut Page, agent: &AgentAudit<'_>) -> Result<(), AllocError>
     ensures { OnOk result (page.new.out.items ≡ page.old.out.items ++ written (group_note agent.now)) }
@@ -165,7 +153,6 @@ fn push_group_note(page: &mut Page, agent: &AgentAudit<'_>) -> Result<(), AllocE
     push_rejection(page, agent.rejected)
 }
 
-/// Appends what applies to a crawler.
 #[tactic(auto, using(crate::proofs::TreeLemmas::joined), unfolding(crate::specs::Page::agent_entries))]
 fn push_agent_entry(page: &mut Page, agent: &AgentAudit<'_>) -> Result<(), AllocError>
     ensures { OnOk result (page.new.out.items ≡ page.old.out.items ++ written (agent_entries agent.now)) }
@@ -179,7 +166,6 @@ fn push_agent_entry(page: &mut Page, agent: &AgentAudit<'_>) -> Result<(), Alloc
     push(page, &fetch_entry(agent.rejected, agent.reach))
 }
 
-/// Appends what applies to each crawler.
 fn push_agent_entries(page: &mut Page, agents: &[AgentAudit<'_>]) -> Result<(), AllocError>
     ensures { OnOk result (page.new.out.items ≡ page.old.out.items ++ all agent_entries agents.now) }
 {
@@ -189,7 +175,6 @@ fn push_agent_entries(page: &mut Page, agents: &[AgentAudit<'_>]) -> Result<(), 
     Ok(())
 }
 
-/// Appends a row about a crawler.
 #[tactic(auto, using(crate::proofs::TreeLemmas::joined), unfolding(crate::specs::Page::agent_row))]
 fn push_agent_row(page: &mut Page, agent: &AgentAudit<'_>) -> Result<(), AllocError>
     ensures { OnOk result (page.new.out.items ≡ page.old.out.items ++ written (agent_row agent.now)) }
@@ -205,7 +190,6 @@ fn push_agent_row(page: &mut Page, agent: &AgentAudit<'_>) -> Result<(), AllocEr
     push_end(&mut page.out, "tr")
 }
 
-/// Appends a row about each crawler.
 fn push_agent_rows(page: &mut Page, agents: &[AgentAudit<'_>]) -> Result<(), AllocError>
     ensures { OnOk result (page.new.out.items ≡ page.old.out.items
         ++ all agent_row agents.now) }
@@ -216,14 +200,12 @@ fn push_agent_rows(page: &mut Page, agents: &[AgentAudit<'_>]) -> Result<(), All
     Ok(())
 }
 
-/// Appends the name of a column with the verdicts on a URL.
 fn push_url_column(page: &mut Page, url: &str) -> Result<(), AllocError>
     ensures { OnOk result (page.new.out.items ≡ page.old.out.items ++ written (url_column url.now)) }
 {
     push(page, &url_column(url.as_bytes()))
 }
 
-/// Appends a column for each URL.
 fn push_url_columns(page: &mut Page, urls: &[&str]) -> Result<(), AllocError>
     ensures { OnOk result (page.new.out.items ≡ page.old.out.items
         ++ all url_column (map (λ url. url.now) urls.now)) }
@@ -234,7 +216,6 @@ fn push_url_columns(page: &mut Page, urls: &[&str]) -> Result<(), AllocError>
     Ok(())
 }
 
-/// Appends the columns of the table of crawlers.
 #[tactic(auto, using(crate::proofs::TreeLemmas::joined), unfolding(crate::specs::Page::agent_columns))]
 fn push_agent_columns(page: &mut Page, urls: &[&str]) -> Result<(), AllocError>
     ensures { OnOk result (page.new.out.items ≡ page.old.out.items
@@ -248,7 +229,6 @@ fn push_agent_columns(page: &mut Page, urls: &[&str]) -> Result<(), AllocError>
     push_end(&mut page.out, "thead")
 }
 
-/// Appends the content of the table of crawlers.
 #[tactic(auto, using(crate::proofs::TreeLemmas::joined), unfolding(crate::specs::Page::agent_content))]
 fn push_agent_content(
     page: &mut Page,
@@ -265,7 +245,6 @@ fn push_agent_content(
     push_end(&mut page.out, "tbody")
 }
 
-/// Appends the table of several crawlers.
 #[tactic(auto, using(crate::proofs::TreeLemmas::joined), unfolding(crate::specs::Page::agent_table))]
 fn push_agent_table(
     page: &mut Page,
@@ -282,7 +261,6 @@ fn push_agent_table(
     push_end(&mut page.out, "div")
 }
 
-/// Appends the entries about a single crawler.
 pub(crate) fn push_crawler_entries(
     page: &mut Page,
     agent: Option<&str>,
@@ -298,7 +276,6 @@ pub(crate) fn push_crawler_entries(
     }
 }
 
-/// Appends the verdicts, as a table of URLs, or of crawlers and URLs.
 pub(crate) fn push_verdict_part(
     page: &mut Page,
     agent: Option<&str>,

@@ -19,10 +19,8 @@ use robots_warnings::table::Cause;
 use robots_warnings::warning::{Warning, push_reported};
 use std::alloc::{AllocError, Global};
 
-/// How many warnings are listed at the top first.
 const LISTED_WARNINGS: usize = 100;
 
-/// The level of a warning, as its text on a page begins.
 fn level_front(level: Level) -> &'static str
     ensures { result.now ≡ value_text (level_front level) }
 {
@@ -33,7 +31,6 @@ fn level_front(level: Level) -> &'static str
     }
 }
 
-/// Appends the level of a warning, its message and its name.
 fn push_warning_words(page: &mut Page, warning: &Warning<'_>) -> Result<(), AllocError>
     ensures { OnOk result (page.new.out.items ≡ page.old.out.items
         ++ words_written (warning_words warning.now)) }
@@ -44,7 +41,6 @@ fn push_warning_words(page: &mut Page, warning: &Warning<'_>) -> Result<(), Allo
     push_text(&mut page.out, page.text.as_bytes())
 }
 
-/// The warnings after those that are listed first.
 #[tactic(auto)]
 fn later<'a, 'b>(warnings: &'b [Warning<'a>]) -> &'b [Warning<'a>]
     ensures { result.now ≡ later_warnings warnings.now }
@@ -52,7 +48,7 @@ fn later<'a, 'b>(warnings: &'b [Warning<'a>]) -> &'b [Warning<'a>]
     after(warnings, LISTED_WARNINGS)
 }
 
-/// The warnings that have no row in the table of lines, which has so many lines.
+/// The table of lines has so many rows.
 fn without_row<'a>(
     alloc: Global,
     rows: usize,
@@ -70,7 +66,6 @@ fn without_row<'a>(
     Ok(found)
 }
 
-/// Appends the name of a line, with a link to its row, if the table of lines has it among its `rows`.
 fn push_line_name(page: &mut Page, rows: usize, number: usize) -> Result<(), AllocError>
     ensures { OnOk result (page.new.out.items ≡ page.old.out.items ++ written (line_name rows number)) }
 {
@@ -81,7 +76,6 @@ fn push_line_name(page: &mut Page, rows: usize, number: usize) -> Result<(), All
     push(page, &[Part("", Value::Number(number))])
 }
 
-/// Appends the line of a warning, if it is about one.
 fn push_warning_place(page: &mut Page, rows: usize, line: Option<usize>) -> Result<(), AllocError>
     ensures { OnOk result (page.new.out.items ≡ page.old.out.items ++ written (warning_place rows line)) }
 {
@@ -92,7 +86,6 @@ fn push_warning_place(page: &mut Page, rows: usize, line: Option<usize>) -> Resu
     push_text(&mut page.out, b": ")
 }
 
-/// Appends these warnings to the list at the top.
 #[tactic(auto, using(crate::proofs::TreeLemmas::joined), unfolding(crate::specs::Page::warning_item))]
 fn push_warning_items(
     page: &mut Page,
@@ -110,7 +103,6 @@ fn push_warning_items(
     Ok(())
 }
 
-/// Appends how many of the warnings aren't in the list at the top, if there are some.
 fn push_rest_note(page: &mut Page, count: usize) -> Result<(), AllocError>
     ensures { OnOk result (page.new.out.items ≡ page.old.out.items ++ written (rest_note count)) }
 {
@@ -120,7 +112,7 @@ fn push_rest_note(page: &mut Page, count: usize) -> Result<(), AllocError>
     push(page, &some_rest(count))
 }
 
-/// How many of these warnings have a row, if `others` are those that have none.
+/// `others` are the warnings that have no row.
 #[tactic(auto, using(crate::proofs::PageLemmas::rest_is))]
 fn rest_count(rows: usize, warnings: &[Warning<'_>], others: &[Warning<'_>]) -> usize
     requires { others.now ≡ without_row rows warnings.now }
@@ -129,7 +121,6 @@ fn rest_count(rows: usize, warnings: &[Warning<'_>], others: &[Warning<'_>]) -> 
     warnings.len().saturating_sub(others.len())
 }
 
-/// Appends how many warnings there are of each level.
 fn push_counts(page: &mut Page, warnings: &[Warning<'_>]) -> Result<(), AllocError>
     ensures { OnOk result (page.new.out.items ≡ page.old.out.items
         ++ words_written (count_words warnings.now)) }
@@ -143,7 +134,6 @@ fn push_counts(page: &mut Page, warnings: &[Warning<'_>]) -> Result<(), AllocErr
     push_text(&mut page.out, page.text.as_bytes())
 }
 
-/// Appends the numbers of warnings, and the list.
 #[tactic(auto, using(crate::proofs::TreeLemmas::joined), unfolding(crate::specs::Page::warning_list))]
 fn push_warning_list(
     page: &mut Page,
@@ -163,7 +153,6 @@ fn push_warning_list(
     push_rest_note(page, rest_count(rows, later(warnings), others))
 }
 
-/// Appends the warnings at the top.
 #[tactic(auto, using(crate::proofs::TreeLemmas::joined), unfolding(crate::specs::Page::warning_entry))]
 pub(crate) fn push_warning_entry(
     alloc: Global,
@@ -181,7 +170,6 @@ pub(crate) fn push_warning_entry(
     push_end(&mut page.out, "dd")
 }
 
-/// Appends the row of a warning.
 #[tactic(auto, using(crate::proofs::TreeLemmas::joined), unfolding(crate::specs::Page::warning_row))]
 fn push_new_row(page: &mut Page, warning: &Warning<'_>) -> Result<(), AllocError>
     ensures { OnOk result (page.new.out.items ≡ page.old.out.items
@@ -194,7 +182,6 @@ fn push_new_row(page: &mut Page, warning: &Warning<'_>) -> Result<(), AllocError
     push_end(&mut page.out, "tr")
 }
 
-/// The row of each warning that has this cause, and whose message has no URL, no name and no number.
 fn known_row(alloc: Global, cause: Cause) -> Result<KnownRow, AllocError>
     ensures { IfOk result (λ known. known.cause ≡ cause) }
 {
@@ -212,14 +199,12 @@ fn known_row(alloc: Global, cause: Cause) -> Result<KnownRow, AllocError>
     })
 }
 
-/// Whether the causes are the same.
 fn are_same(one: Cause, other: Cause) -> bool
     ensures { IsTrue result → one ≡ other }
 {
     one == other
 }
 
-/// The last row if it has this cause, else a new one.
 fn row_for(alloc: Global, last: Option<KnownRow>, cause: Cause) -> Result<KnownRow, AllocError>
     ensures { IfOk result (λ known. known.cause ≡ cause) }
 {
@@ -229,7 +214,7 @@ fn row_for(alloc: Global, last: Option<KnownRow>, cause: Cause) -> Result<KnownR
     }
 }
 
-/// Appends the row of each of these warnings, which may be one that is known.
+/// A row may be one that is known.
 #[tactic(auto, unfolding(crate::specs::Page::warning_row))]
 pub(crate) fn push_warning_rows(page: &mut Page, warnings: &[Warning<'_>]) -> Result<(), AllocError>
     ensures { OnOk result (page.new.out.items ≡ page.old.out.items ++ all warning_row warnings.now) }
@@ -243,7 +228,6 @@ pub(crate) fn push_warning_rows(page: &mut Page, warnings: &[Warning<'_>]) -> Re
     Ok(())
 }
 
-/// Appends the row of a warning that has this cause, and whose message has no URL, no name and no number.
 fn push_known_row(page: &mut Page, cause: Cause) -> Result<(), AllocError>
     ensures { OnOk result (page.new.out.items ≡ page.old.out.items
         ++ written (warning_row (of_cause cause))) }

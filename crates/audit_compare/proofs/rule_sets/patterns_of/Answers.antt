@@ -9,7 +9,6 @@ use Rattle.robots_warnings.proofs.{ClosedLemmas.either}
 use Rattle.audit_compare.specs.Compare.{has_rule, is_same_rule}
 use Rattle.audit_compare.proofs.rule_sets.patterns_of.Goals as goal
 
--- the pattern of one more rule, which is of this kind
 added : (old new : BTreeSet (String Global)) (key : String Global) (rules : List PlacedRule) (at : ℕ)
     (rule : PlacedRule) (is_allow : Bool) → at < length rules → rule ≡ get_or rules at rule
     → string_bytes key ≡ rule.rule.0 → beq rule.rule.1 is_allow ≡ true → Updates string_cmp old new key true

@@ -4,7 +4,6 @@ use Rattle.texting_robots.specs.Callers.{file_bodies, label_by_value}
 use Rattle.audit_json.specs.Json.{line_json}
 use Rattle.audit_json.proofs.json.rows_json.Given as goal
 
--- those in the list and those of the remaining lines are all
 abbrev pub invariant-loop-body : goal.invariant-loop-body
 invariant-loop-body l =
     map view l.list.items

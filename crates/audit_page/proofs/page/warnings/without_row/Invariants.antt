@@ -2,7 +2,6 @@ use Rattle.std.proofs.Common.{◌≡◌, ◌++◌, drop}
 use Rattle.audit_page.specs.Page.{without_row}
 use Rattle.audit_page.proofs.page.warnings.without_row.Given as goal
 
--- the warnings found so far, and those among the remaining ones, are all that have no row
 abbrev pub invariant-loop-warning : goal.invariant-loop-warning
 invariant-loop-warning l =
     l.found.items
