@@ -19,7 +19,7 @@ use Rattle.html_writer.specs.Reader.{only_text, raw_text, read, read_document, r
 use Rattle.html_writer.specs.Reader.{tag_open, to}
 use Rattle.html_writer.specs.Html as html
 
--- ---- Escaping: texts one after the other, and numbers.
+-- ---- Escaping.
 
 pub escaped-is : (bytes : List ℕ) → escaped bytes ≡ flat_map escaped_byte bytes
 unfolding escaped_bytes
@@ -30,7 +30,6 @@ pub escaped-append : (one two : List ℕ) → escaped (one ++ two) ≡ escaped o
 escaped-append one two =
     rw (escaped-is (one ++ two), escaped-is one, escaped-is two) (flat_map-append escaped_byte one two)
 
--- decimal digits are written unchanged
 pub decimal_written : (n : ℕ) → escaped (decimal n) ≡ decimal n
 unfolding digits
 decimal_written n = escaped-is (decimal n) ∙ onto 64 n [] refl
@@ -55,8 +54,6 @@ decimal_written n = escaped-is (decimal n) ∙ onto 64 n [] refl
         (λ t. flat_map escaped_byte t ≡ t) (λ _. more) (λ _. onto k (n / 10) (digit ∷ text) more)
 
 -- ---- Trees one after the other, what is written for them, and when they can be read back.
-
--- ---- trees
 
 pub with_text-nil : (html : Html) → with_text [] html ≡ html
 with_text-nil (text bytes) = refl
@@ -87,8 +84,6 @@ followed-nil (element before name attributes children after) =
 followed-nil (void before name attributes after) = ap (void before name attributes) (followed-nil after)
 followed-nil (style before css after) = ap (style before css) (followed-nil after)
 
--- ---- writing
-
 pub written-with_text : (bytes : List ℕ) (tree : Html)
     → written (with_text bytes tree) ≡ escaped bytes ++ written tree
 written-with_text bytes (text more) = escaped-append bytes more
@@ -104,9 +99,6 @@ written-followed (style before css after) two = rw (written-followed after two) 
 -- for `using` at a function that writes several pieces: they are joined to what is written for a tree
 pub ruleset joined = (append_assoc, append-nil, written-followed, written-with_text)
 
--- ---- content
-
--- a property of texts that holds of two, one after the other, if it holds of each
 module _ (P : List ℕ → Type 0) (both : (one two : List ℕ) → P one → P two → P (one ++ two)) (elements : Bool)
   where
     pub text_content : (bytes : List ℕ) (tree : Html) → P bytes → IsContent P elements tree
@@ -131,7 +123,6 @@ module _ (P : List ℕ → Type 0) (both : (one two : List ℕ) → P one → P 
     followed_content (style before css after) two (allowed, is, rest, plain, later) too =
         (allowed, is, rest, plain, followed_content after two later too)
 
--- a property that implies another one
 module _ (P Q : List ℕ → Type 0) (weaker : (bytes : List ℕ) → P bytes → Q bytes) where
   attributes_weaker : (before attributes : List Attribute) → AreAttributes P before attributes
       → AreAttributes Q before attributes
@@ -167,8 +158,6 @@ read_on {from = from} {one = one} {two = two} first second =
           ∙ first.leads (two ++ more) ∙ second.leads more;
     }
 
--- ---- bytes that stay in one state
-
 -- bytes are read one by one, if each is as `form` writes it
 collected : (form : ℕ → List ℕ) (test : ℕ → Bool) (after : List ℕ → Reader)
     → ((done : List ℕ) (byte : ℕ) → test byte ≡ true
@@ -190,7 +179,6 @@ unchanged test after one bytes are =
     rw (flat_map_single (λ (b : ℕ). b) bytes, map-id) at
     (collected (λ byte. byte ∷ []) test after one [] bytes are)
 
--- a name, after the bytes of `front`
 name_read : (start : Reader) (front : List ℕ) (after : List ℕ → Reader) (name : List ℕ)
     → IsTrue (is_name name)
     → ((byte : ℕ) → is_letter byte ≡ true → Reads start (front ++ byte ∷ []) (after (byte ∷ [])))
@@ -203,7 +191,6 @@ name_read start front after (byte ∷ name) named first next =
     rw (append_assoc front (byte ∷ []) name) at (read_on (first byte both.0)
     (unchanged is_name_byte (λ done. after (byte ∷ done)) (λ done. next (byte ∷ done)) name both.1))
 
--- a property of every byte, whether it is written as one of the four references or unchanged
 each_form : (P : ℕ → Type 0) (byte : ℕ) → P 38 → P 60 → P 62 → P 34
     → ((byte == 38) ≡ false → (byte == 60) ≡ false → (byte == 62) ≡ false → (byte == 34) ≡ false → P byte)
     → P byte
@@ -220,7 +207,6 @@ module _ (opened : List Opened) where
   abbrev reading : Html → Reader
   reading = reader data_state opened
 
-  -- a tag, so far with these attributes
   abbrev after_tag : Html → List ℕ → List Attribute → Reader
   after_tag content name attributes = reader (after_attribute_value (new_tag name attributes)) opened content
 
@@ -252,8 +238,6 @@ module _ (opened : List Opened) where
       (record { leads = λ more. refl })
       (λ not_38 not_60 not_62 not_34. rw (not_38, not_60, not_62, not_34)
       (record { leads = λ more. rw (not_34, not_38, is) }))) [] value are)
-
-  -- ---- tags
 
   attribute_read : (content : Html) (label name value : List ℕ) (before : List Attribute)
       → IsTrue (is_name name) → IsTrue (not (has_attribute before name)) → IsTrue (is_text value)
@@ -360,9 +344,6 @@ module _ (opened : List Opened) where
       let both = and_parts (is_character byte) (not (byte == 60)) is in
       record { leads = λ more. rw (not-true (byte == 60) both.1, both.0, run) }) css are) last)
 
--- ---- trees
-
--- what an element contains, other than `style`
 kind_inside : (name : List ℕ) → is_style name ≡ false
     → (has_references (kind_in name) ≡ true) × (has_elements (kind_in name) ≡ not (is_title name))
 kind_inside name isnt =

@@ -3,9 +3,6 @@ use Rattle.std.specs.Prelude.{ℕ, ◌==◌, Bool, true, false, not, ◌&&◌, �
 use Rattle.std.specs.Prelude.{flat_map, if◌then◌else◌}
 use Rattle.std.specs.{Int.is_in_range, List.list_all, List.list_any, Str.bytes_eq}
 
--- ---- trees
-
--- an attribute of an element
 pub record Attribute : Type 0 where
   pub name : List ℕ
   pub value : List ℕ
@@ -18,12 +15,12 @@ attribute name value = record { name = name; value = value }
 -- adjacent.
 pub data Html : Type 0 where
   text : List ℕ → Html
-  -- an element: the text before it, its name, its attributes, what it contains, and what follows it
+  -- the text before it, its name, its attributes, what it contains, and what follows it
   element : List ℕ → List ℕ → List Attribute → Html → Html → Html
-  -- an element without content and end tag, as `meta` and `br`: the text before it, its name, its attributes,
-  -- and what follows it
+  -- without content and end tag, as `meta` and `br`: the text before it, its name, its attributes, and what
+  -- follows it
   void : List ℕ → List ℕ → List Attribute → Html → Html
-  -- a `style` element: the text before it, its CSS, and what follows it
+  -- the text before a `style` element, its CSS, and what follows it
   style : List ℕ → List ℕ → Html → Html
 
 abbrev pub with_text : List ℕ → Html → Html
@@ -42,11 +39,8 @@ abbrev pub ◌⊕◌ : Html → Html → Html
 (void before name attributes rest) ⊕ after = void before name attributes (rest ⊕ after)
 (style before css rest) ⊕ after = style before css (rest ⊕ after)
 
--- an element alone
 abbrev pub tag : List ℕ → List Attribute → Html → Html
 tag name attributes children = element [] name attributes children (text [])
-
--- ---- writing
 
 -- a character reference for `&`, `<`, `>` and `"`; any other byte is unchanged
 abbrev pub escaped_byte : ℕ → List ℕ
@@ -62,23 +56,20 @@ escaped_byte byte =
 unfoldable pub escaped_bytes : List ℕ → List ℕ
 escaped_bytes bytes = flat_map escaped_byte bytes
 
--- a text, or the value of an attribute; the same as `escaped_bytes`, but an empty one is always computed
+-- the same as `escaped_bytes`, but an empty text is always computed
 abbrev pub escaped : List ℕ → List ℕ
 escaped [] = []
 escaped (byte ∷ bytes) = escaped_bytes (byte ∷ bytes)
 
--- the beginning of a start tag
 unfoldable pub tag_open : List ℕ → List ℕ
 tag_open name = codes "<" ++ name
 
 unfoldable pub attribute_bytes : Attribute → List ℕ
 attribute_bytes a = codes " " ++ (a.name ++ (codes "=\"" ++ (escaped a.value ++ codes "\"")))
 
--- the end of a start tag
 unfoldable pub tag_close : List ℕ
 tag_close = codes ">"
 
--- the end of the tag of an element without content
 unfoldable pub void_close : List ℕ
 void_close = codes "/>"
 
@@ -105,11 +96,8 @@ written (style before css after) = escaped before ++ (style_bytes css ++ written
 unfoldable pub doctype : List ℕ
 doctype = codes "<!DOCTYPE html>"
 
--- a complete page
 abbrev pub document : Html → List ℕ
 document html = doctype ++ written html
-
--- ---- which trees can be read back
 
 abbrev pub is_letter : ℕ → Bool
 is_letter byte = is_in_range 97 122 byte
@@ -185,6 +173,5 @@ IsContent P elements (style before css after) =
 abbrev pub IsText : List ℕ → Type 0
 IsText bytes = IsTrue (is_text bytes)
 
--- a tree that can be read back
 abbrev pub IsHtml : Html → Type 0
 IsHtml html = IsContent IsText true html

@@ -4,8 +4,8 @@
 -- States have the standard's names. Its data, RCDATA and RAWTEXT states are one state here, for three kinds
 -- of content. A byte leads to `outside` if what the standard does there is left out: comments, upper-case
 -- names, attributes without a value or with other quotes, other character references, and whatever the
--- standard calls an error. Then nothing is read. The text goes by bytes, not by characters, since each byte
--- that the standard treats in its own way is ASCII.
+-- standard calls an error. Then nothing is read. The text goes by bytes, since each byte that the standard
+-- treats in its own way is ASCII.
 --
 -- The standard also inserts tags that a page leaves out, and moves elements and texts from where they aren't
 -- allowed, such as a text in a `table` outside of its cells, and drops white space in front of `head`. The
@@ -18,9 +18,6 @@ use Rattle.html_writer.specs.Html.{Attribute, Html, attribute, element, style, t
 use Rattle.html_writer.specs.Html.{is_among, is_character, is_letter, is_name_byte, is_ordinary, is_style}
 use Rattle.html_writer.specs.Html.{is_title, void_names}
 
--- ---- the tokenizer
-
--- a start tag
 pub record Tag : Type 0 where
   pub name : List ℕ
   pub attributes : List Attribute
@@ -146,9 +143,7 @@ step kind (self_closing_start_tag tag) byte =
     if byte == 62 then emit (self_closing_tag tag) else to outside
 step kind outside byte = to outside
 
--- ---- the tree builder
-
--- an element whose end tag hasn't been read: what precedes it in its parent, and its start tag
+-- what precedes an element in its parent, and its start tag; its end tag hasn't been read
 pub record Opened : Type 0 where
   pub before : Html
   pub tag : Tag
@@ -173,7 +168,6 @@ abbrev pub text_of : Html → List ℕ
 text_of (text bytes) = bytes
 text_of _ = []
 
--- an element with this start tag and content
 abbrev pub element_of : Tag → Html → Html
 element_of tag content =
     if is_style tag.name then style [] (text_of content) (text [])
@@ -198,8 +192,6 @@ with_token (end_tag name) (innermost ∷ outer) content =
     then reader data_state outer (innermost.before ⊕ element_of innermost.tag content)
     else reader outside (innermost ∷ outer) content
 
--- ---- reading
-
 abbrev pub with_step : Step → List Opened → Html → Reader
 with_step (to state) opened content = reader state opened content
 with_step (emit token) opened content = with_token token opened content
@@ -209,7 +201,7 @@ run from [] = from
 run from (byte ∷ bytes) =
     run (with_step (step (kind_of from.opened) from.state byte) from.opened from.content) bytes
 
--- what has been read, if no tag or reference is incomplete and no element is open
+-- no tag or reference is incomplete, and no element is open
 abbrev pub finished : State → List Opened → Html → Option Html
 finished data_state [] content = Some content
 finished _ _ _ = None
@@ -219,7 +211,6 @@ read bytes =
     let last = run (reader data_state [] (text [])) bytes in
     finished last.state last.opened last.content
 
--- a complete page begins with a document type
 abbrev pub read_document : List ℕ → Option Html
 read_document bytes =
     let doctype = codes "<!DOCTYPE html>" in

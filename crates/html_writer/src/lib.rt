@@ -1,5 +1,4 @@
-//! Trees of HTML: writing them, and a proof that reading what is written yields the same tree. So untrusted
-//! text never becomes markup.
+//! Trees of HTML: writing them, and a proof that reading what is written yields the same tree.
 #![tactic(auto)]
 
 pub mod laws;

@@ -15,7 +15,6 @@ const CSS: &str =
 
 const NOTE: &str = "Each row is a rule of the file & the number of addresses that it decides.";
 
-/// Appends a row of a table: a number and an untrusted text.
 #[tactic(auto, using(crate::proofs::WritingLemmas::joined))]
 fn push_row(out: &mut Vec<u8>, number: &[u8], value: &[u8]) -> Result<(), AllocError>
     ensures { OnOk result (out.new.items ≡ out.old.items ++ written
@@ -33,7 +32,6 @@ fn push_row(out: &mut Vec<u8>, number: &[u8], value: &[u8]) -> Result<(), AllocE
     push_end(out, "tr")
 }
 
-/// Appends the head of a page, with an untrusted title.
 #[tactic(auto, using(crate::proofs::WritingLemmas::joined))]
 fn push_head(out: &mut Vec<u8>, title: &[u8]) -> Result<(), AllocError>
     ensures { OnOk result (out.new.items ≡ out.old.items ++ written
@@ -50,7 +48,6 @@ fn push_head(out: &mut Vec<u8>, title: &[u8]) -> Result<(), AllocError>
     push_end(out, "head")
 }
 
-/// Appends a note and a table with a row.
 #[tactic(auto, using(crate::proofs::WritingLemmas::joined))]
 fn push_table(out: &mut Vec<u8>, number: &[u8], value: &[u8]) -> Result<(), AllocError>
     ensures { OnOk result (out.new.items ≡ out.old.items ++ written

@@ -6,7 +6,6 @@ ghost use Rattle.html_writer.specs.Html.{tag_open, text, void_close, written};
 
 use std::alloc::AllocError;
 
-/// Appends a byte, or the character reference for it.
 fn push_byte(out: &mut Vec<u8>, byte: u8) -> Result<(), AllocError>
     ensures { OnOk result (out.new.items ≡ out.old.items ++ escaped_byte byte) }
 {
@@ -19,7 +18,7 @@ fn push_byte(out: &mut Vec<u8>, byte: u8) -> Result<(), AllocError>
     }
 }
 
-/// Appends a text, which may come from anyone: it is escaped.
+/// The text is escaped.
 pub fn push_text(out: &mut Vec<u8>, text: &[u8]) -> Result<(), AllocError>
     ensures { OnOk result (out.new.items ≡ out.old.items ++ escaped text.now) }
 {
@@ -29,7 +28,6 @@ pub fn push_text(out: &mut Vec<u8>, text: &[u8]) -> Result<(), AllocError>
     Ok(())
 }
 
-/// Appends the document type, with which a page begins.
 #[tactic(auto, unfolding(crate::specs::Html::doctype))]
 pub fn push_doctype(out: &mut Vec<u8>) -> Result<(), AllocError>
     ensures { OnOk result (out.new.items ≡ out.old.items ++ doctype) }
@@ -37,7 +35,6 @@ pub fn push_doctype(out: &mut Vec<u8>) -> Result<(), AllocError>
     out.extend_from_slice(b"<!DOCTYPE html>")
 }
 
-/// Appends the beginning of a start tag. Attributes and an end may follow.
 #[tactic(auto, unfolding(crate::specs::Html::tag_open))]
 pub fn push_open(out: &mut Vec<u8>, name: &str) -> Result<(), AllocError>
     ensures { OnOk result (out.new.items ≡ out.old.items ++ tag_open name.now) }
@@ -46,7 +43,7 @@ pub fn push_open(out: &mut Vec<u8>, name: &str) -> Result<(), AllocError>
     out.extend_from_slice(name.as_bytes())
 }
 
-/// Appends an attribute, with a space before it.
+/// With a space before it.
 #[tactic(auto, unfolding(crate::specs::Html::attribute_bytes))]
 pub fn push_attribute(out: &mut Vec<u8>, name: &str, value: &str) -> Result<(), AllocError>
     ensures { OnOk result (out.new.items ≡ out.old.items ++ attribute_bytes (attribute name.now value.now)) }
@@ -58,7 +55,6 @@ pub fn push_attribute(out: &mut Vec<u8>, name: &str, value: &str) -> Result<(), 
     out.extend_from_slice(b"\"")
 }
 
-/// Appends the end of a start tag.
 #[tactic(auto, unfolding(crate::specs::Html::tag_close))]
 pub fn push_close(out: &mut Vec<u8>) -> Result<(), AllocError>
     ensures { OnOk result (out.new.items ≡ out.old.items ++ tag_close) }
@@ -66,7 +62,6 @@ pub fn push_close(out: &mut Vec<u8>) -> Result<(), AllocError>
     out.extend_from_slice(b">")
 }
 
-/// Appends the end of the tag of an element without content, as `meta` and `br`.
 #[tactic(auto, unfolding(crate::specs::Html::void_close))]
 pub fn push_void_close(out: &mut Vec<u8>) -> Result<(), AllocError>
     ensures { OnOk result (out.new.items ≡ out.old.items ++ void_close) }
@@ -74,7 +69,6 @@ pub fn push_void_close(out: &mut Vec<u8>) -> Result<(), AllocError>
     out.extend_from_slice(b"/>")
 }
 
-/// Appends a start tag without attributes.
 pub fn push_start(out: &mut Vec<u8>, name: &str) -> Result<(), AllocError>
     ensures { OnOk result (out.new.items ≡ out.old.items ++ start_tag name.now []) }
 {
@@ -82,7 +76,6 @@ pub fn push_start(out: &mut Vec<u8>, name: &str) -> Result<(), AllocError>
     push_close(out)
 }
 
-/// Appends an end tag.
 #[inline(always)]
 #[tactic(auto, unfolding(crate::specs::Html::end_tag))]
 pub fn push_end(out: &mut Vec<u8>, name: &str) -> Result<(), AllocError>
@@ -93,7 +86,7 @@ pub fn push_end(out: &mut Vec<u8>, name: &str) -> Result<(), AllocError>
     out.extend_from_slice(b">")
 }
 
-/// Appends an element without attributes that contains a text, which may come from anyone.
+/// The text is escaped.
 pub fn push_element(out: &mut Vec<u8>, name: &str, value: &[u8]) -> Result<(), AllocError>
     ensures { OnOk result (out.new.items ≡ out.old.items ++ written (tag name.now [] (text value.now))) }
 {
@@ -102,7 +95,7 @@ pub fn push_element(out: &mut Vec<u8>, name: &str, value: &[u8]) -> Result<(), A
     push_end(out, name)
 }
 
-/// Appends a `style` element with this CSS, which is copied unchanged.
+/// The CSS is copied unchanged.
 #[tactic(auto, unfolding(crate::specs::Html::style_bytes))]
 pub fn push_style(out: &mut Vec<u8>, css: &str) -> Result<(), AllocError>
     ensures { OnOk result (out.new.items ≡ out.old.items ++ style_bytes css.now) }

@@ -1,5 +1,5 @@
--- Sanitized texts don't contain the start of a command; nor do texts that are appended to each other, unless
--- one ends and the next one begins with a part of it.
+-- Sanitized texts don't contain the start of a command; nor do texts one after the other, unless it is at a
+-- seam.
 use Rattle.std.specs.Prelude.{nat_eq, not, ◌&&◌, ◌||◌}
 use Rattle.std.proofs.Common.{◌≡◌, ◌≢◌, ℕ, zero, suc, ◌<◌, ◌==◌, Bool, true, false, List, [], ◌∷◌, ◌++◌, inl}
 use Rattle.std.proofs.Common.{append-nil, append_assoc, arith, decimal, flat_map, inr, refl, replicate, sym}
@@ -9,8 +9,6 @@ use Rattle.std.proofs.lemmas.Bool.{not-true, or_parts, or_right, Decides.nat_tes
 use Rattle.printable_text.specs.Sanitize.{begins_apart, command_start, ends_apart, has_command, is_front}
 use Rattle.printable_text.specs.Sanitize.{is_other, safe_in, sanitized_in, without_commands, without_hash}
 use Rattle.printable_text.proofs.SanitizeLemmas.{chars_pass, decimal_by}
-
--- ---- sanitized texts
 
 other_quiet : (text : List ℕ) → list_all is_other text ≡ true → has_command text ≡ false
 other_quiet [] are = refl
@@ -40,9 +38,6 @@ without_quiet text = elim (cases_Bool (has_command text)) [
 pub sanitized_quiet : (has_lines : Bool) (bytes : List ℕ) → has_command (sanitized_in has_lines bytes) ≡ false
 sanitized_quiet has_lines bytes = without_quiet (safe_in has_lines bytes)
 
--- ---- seams
-
--- a text that begins apart begins with neither of the last parts of the start of a command
 not_begun : (text : List ℕ) → begins_apart text ≡ true
     → (starts_with nat_eq text (35 ∷ 91 ∷ []) ≡ false) × (starts_with nat_eq text (91 ∷ []) ≡ false)
 not_begun [] is = (refl, refl)
@@ -69,8 +64,6 @@ seam (b ∷ c ∷ d ∷ one) two is too apart =
     let parts = or_parts (starts_with nat_eq (b ∷ c ∷ d ∷ []) command_start) (has_command (c ∷ d ∷ one)) is in
     rw parts.0 (seam (c ∷ d ∷ one) two parts.1 too apart)
 
--- ---- the parts of a line
-
 -- any text without the start of a command can be appended
 pub record IsFront (text : List ℕ) : Type 0 where
   pub quiet : has_command text ≡ false
@@ -92,14 +85,12 @@ front_by text before = record { quiet = rw append-nil at (before [] refl); befor
 pub front_nil : IsFront []
 front_nil = front_by [] (λ more quiet. quiet)
 
--- for a literal, `refl` proves the premise
 pub front_text : (text : List ℕ) → is_front text ≡ true → IsFront text
 front_text text is =
     let both = and_parts (not (has_command text)) (ends_apart text) is in
     let quiet = not-true (has_command text) both.0 in
     front_by text (λ more later. seam text more quiet later (rw both.1 refl))
 
--- a text begins as one before it does
 pub begins_append : (one two : List ℕ) → begins_apart one ≡ true → begins_apart (one ++ two) ≡ true
 begins_append [] two is = absurd (false≢true is)
 begins_append (b ∷ one) two is = is
@@ -111,7 +102,6 @@ middle_text text is =
     (seam less (text ++ more) quiet ((front_text text both.1).before more later)
     (or_right (ends_apart less) _ (begins_append text more both.0)))))
 
--- a text after a front
 pub after_front : (one two : List ℕ) → IsFront one → has_command two ≡ false
     → has_command (one ++ two) ≡ false
 after_front one two is too = is.before two too
@@ -120,7 +110,6 @@ pub front_append : (one two : List ℕ) → IsFront one → IsFront two → IsFr
 front_append one two is too =
     front_by (one ++ two) (λ more quiet. rw append_assoc (is.before (two ++ more) (too.before more quiet)))
 
--- a text before a middle, which is a front then
 pub before_middle : (one two : List ℕ) → has_command one ≡ false → IsMiddle two → IsFront (one ++ two)
 before_middle one two is too = too.after one is
 
@@ -128,8 +117,6 @@ pub middle_append : (one two : List ℕ) → IsMiddle one → IsFront two → Is
 middle_append one two is too =
     middle (one ++ two) (λ less quiet. rw append_assoc at
     (front_append (less ++ one) two (is.after less quiet) too))
-
--- ---- numbers and blanks
 
 abbrev pub is_calm : ℕ → Bool
 is_calm b = not (nat_eq 35 b || nat_eq 91 b)
@@ -151,8 +138,6 @@ digit_middle digit text below is =
 
 pub decimal_middle : (n : ℕ) → IsMiddle (decimal n)
 decimal_middle = decimal_by IsFront IsMiddle front_nil (λ text is. is.front) digit_middle
-
--- ---- texts of which some bytes are escaped
 
 front_lacks : (one two start : List ℕ) → starts_with nat_eq (one ++ two) start ≡ false
     → starts_with nat_eq one start ≡ false

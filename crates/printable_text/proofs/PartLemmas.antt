@@ -26,8 +26,6 @@ use Rattle.texting_robots.proofs.{TrimLemmas.each_append}
 
 -- ---- Every line that is made of parts is printable, and no workflow takes it for a command.
 
--- ---- delays
-
 either : (P : List ℕ → Type 0) (b : Bool) (one two : List ℕ) → P one → P two → P (if b then one else two)
 either P true one two is too = is
 either P false one two is too = too
@@ -49,9 +47,6 @@ digit_added old new all digits rest some more added whole =
     ap (λ (t : List ℕ). t ++ later) added ∙ append_assoc old digit later
     ∙ ap (λ (t : List ℕ). old ++ t) (sym (next_digit digits rest some more)) ∙ whole
 
--- ---- what a delay contains
-
--- a property of the parts of a delay, and of two texts, one after the other, if it holds of each
 module _ (P : List ℕ → Type 0) (none : P []) (joined : (one two : List ℕ) → P one → P two → P (one ++ two))
     (number : (n : ℕ) → P (decimal n)) (point : P (codes ".")) (unit : P (codes " s")) where
   fraction_made : (digits millionths : ℕ) → P (fraction digits millionths)
@@ -79,9 +74,7 @@ delay_front =
     delay_made IsFront front_nil front_append (λ n. (decimal_middle n).front) (front_text (codes ".") refl)
     (front_text (codes " s") refl)
 
--- ---- fixed texts and values
-
--- a text that can follow any other: together they contain no start of a command if the other doesn't
+-- together with any other text it contains no start of a command if the other doesn't
 record IsApart (text : List ℕ) : Type 0 where
   after : (less : List ℕ) → has_command less ≡ false → has_command (less ++ text) ≡ false
 
@@ -92,7 +85,6 @@ apart_append : (one two : List ℕ) → IsApart one → IsApart two → IsApart 
 apart_append one two is too =
     record { after = λ less quiet. rw (← append_assoc) (too.after (less ++ one) (is.after less quiet)) }
 
--- a middle, and a text after it
 middle_apart : (one two : List ℕ) → IsMiddle one → has_command two ≡ false → IsApart (one ++ two)
 middle_apart one two is quiet =
     record { after = λ less before. rw (← append_assoc) ((is.after less before).before two quiet) }
@@ -147,8 +139,6 @@ value_quiet (Named name) =
 value_quiet (Number number) = (decimal_middle number).front.quiet
 value_quiet (Delay micros) = (delay_front micros).quiet
 
--- ---- parts
-
 number_apart : (number : ℕ) → IsApart (decimal number)
 number_apart number = record { after = λ less quiet. ((decimal_middle number).after less quiet).quiet }
 
@@ -199,8 +189,6 @@ parts_printable (part ∷ parts) =
 pub parts_quiet : (parts : List PartValue) → has_command (parts_text parts) ≡ false
 parts_quiet parts = (parts_apart parts).after [] refl
 
--- ---- lines
-
 starts_plainly : (text : List ℕ) → starts text ≡ true → begins_plainly text ≡ true
 starts_plainly [] is = refl
 starts_plainly (b ∷ text) is = elim (cases_Bool (b == 32)) [
@@ -219,7 +207,6 @@ starts_blanks : (n : ℕ) (text : List ℕ) → starts text ≡ true → starts 
 starts_blanks zero text is = is
 starts_blanks (suc n) text is = starts_blanks n text is
 
--- a decimal digit
 starts_digit : (digit : ℕ) (text : List ℕ) → digit < 10 → starts (digit_glyph false digit ∷ text) ≡ true
 starts_digit digit text below =
     let visible : (digit_glyph false digit == 32) ≡ false = grind (arith, nat_tests) in
@@ -254,7 +241,6 @@ line_plain line =
       inside = (apart_append first rest (part_apart line.first) (parts_apart line.rest)).after [] refl;
     }
 
--- whatever a report says, its lines are plain
 pub lines_plain : (lines : List ReportLine) → Each IsPlainLine (map line_text lines)
 lines_plain [] = tt
 lines_plain (line ∷ lines) = (line_plain line, lines_plain lines)
@@ -272,8 +258,6 @@ written_append one other =
     ap ended (map-append line_text one other)
     ∙ flat_map-append (λ (line : List ℕ). line ++ lf ∷ []) (map line_text one) (map line_text other)
 
--- ---- lines that begin with any bytes
-
 pub named_printable : (line : NamedLine) → IsPrintableIn false (named_text line)
 named_printable line =
     append_printable false (sanitized line.name) (parts_text line.rest)
@@ -281,8 +265,6 @@ named_printable line =
 
 pub named_quiet : (line : NamedLine) → has_command (named_text line) ≡ false
 named_quiet line = (parts_apart line.rest).after (sanitized line.name) (sanitized_quiet false line.name)
-
--- ---- lines with a level
 
 pub level_quiet : (has_colors : Bool) (line : LevelLine) → has_command (level_text has_colors line) ≡ false
 level_quiet has_colors line =
@@ -302,8 +284,6 @@ level_quiet has_colors line =
     apart true Note = refl
 
 -- ---- With colors, lines are those without colors, in which color codes are inserted.
-
--- ---- texts with color codes
 
 pub colored_same : (text : List ℕ) → IsPrintable text → IsColored text text
 colored_same text is = record {
@@ -340,8 +320,6 @@ plain_printable plain text is = subst IsPrintable (sym is.plain_is) (all_shown i
         (subst IsPrintable (sym same) (line_printable (level_word level) (level_printable level)))
         (all_shown parts later)
 
--- ---- lines
-
 colored_word : (level : Level) → IsColored (level_word level) (shown_word true level)
 colored_word level = record {
   parts = (shown_word true level, level_word level) ∷ [];
@@ -365,7 +343,6 @@ line_colored : (has_colors : Bool) (line : LevelLine)
 line_colored true line = colored_line line
 line_colored false line = colored_same (level_text false line) (plain_printable _ _ (colored_line line))
 
--- these lines, and others that have no colors
 pub lines_colored : (has_colors : Bool) (lines : List LevelLine) (others : List NamedLine)
     → IsColored (ended (map (level_text false) lines ++ map named_text others))
     (ended (map (level_text has_colors) lines ++ map named_text others))
@@ -383,14 +360,10 @@ lines_colored has_colors (line ∷ lines) others =
     (colored_same (lf ∷ []) (ascii_printable true (lf ∷ []) refl)))
     (lines_colored has_colors lines others)
 
--- ---- what is sent to a terminal
-
--- a text without colors can be sent in either case
 pub for_terminal : (has_colors : Bool) (text : List ℕ) → IsPrintable text → IsForTerminal has_colors text
 for_terminal false text is = is
 for_terminal true text is = (text, colored_same text is)
 
--- one that may have colors can be sent if there are colors
 pub with_colors : (has_colors : Bool) (text : List ℕ) → IsForTerminal has_colors text
     → IsForTerminal true text
 with_colors false text is = for_terminal true text is

@@ -23,19 +23,15 @@ use Rattle.printable_text.specs.Sanitize.{is_printable_byte, safe_chunks, safe_i
 use Rattle.printable_text.specs.Sanitize.{sanitized_lines, without_commands, without_hash}
 use lib.Utf8.{scalar}
 
--- ---- Appending terminated lines to a string.
-
 pub ended-append : (lines more : List (List ℕ)) → ended (lines ++ more) ≡ ended lines ++ ended more
 ended-append lines more = flat_map-append (λ line. line ++ lf ∷ []) lines more
 
--- appending some lines and then more lines appends all of them
 pub lines_added : (old mid new : List ℕ) (lines more : List (List ℕ)) → mid ≡ old ++ ended lines
     → new ≡ mid ++ ended more → new ≡ old ++ ended (lines ++ more)
 lines_added old mid new lines more one two =
     two ∙ ap (λ t. t ++ ended more) one ∙ append_assoc old (ended lines) (ended more)
     ∙ ap (λ t. old ++ t) (sym (ended-append lines more))
 
--- a text that begins with one that begins with another begins with that
 pub starts_on : (old mid new : List ℕ) → StartsWith mid old → StartsWith new mid → StartsWith new old
 starts_on old mid new one two =
     let within : length old ≤ length mid = omega (arith, ap length one, length-take (length old) mid) in
@@ -45,9 +41,6 @@ starts_on old mid new one two =
 
 -- ---- Sanitized bytes are printable, and printable bytes are unchanged by sanitizing.
 
--- ---- characters and numbers
-
--- the bytes of a character that passes a test pass it too, if those of at least 128 do
 char_passes : (test : ℕ → Bool) → ((byte : ℕ) → 128 ≤ byte → test byte ≡ true) → (char : ℕ)
     → test char ≡ true → list_all test (encode_utf8 char) ≡ true
 char_passes test high char is =
@@ -85,8 +78,6 @@ decimal_by P Q none weaker more n = onto 64 n [] (omega arith) none
         ]
 
 module _ (has_lines : Bool) where
-  -- ---- printable strings
-
   pub nil_printable : IsPrintableIn has_lines []
   nil_printable = record { utf8 = IsUtf8-nil; all = rw chars-nil refl }
 
@@ -97,7 +88,6 @@ module _ (has_lines : Bool) where
     all = rw (chars-append one two is.utf8, list_all-append, is.all) too.all;
   }
 
-  -- a string is printable if all its characters are
   pub chars_printable : (cs : List ℕ) → all_scalars cs ≡ true → IsTrue (list_all (is_printable has_lines) cs)
       → IsPrintableIn has_lines (encode_utf8_all cs)
   chars_printable cs scalars are =
@@ -114,7 +104,6 @@ module _ (has_lines : Bool) where
       let low : byte < 128 = grind (arith, nat_tests) in
       (IsAscii-cons byte text low later.0, rw first.1 later.1)
 
-  -- a string is printable if all its bytes are printable ASCII; for a literal, `refl` proves the premise
   pub ascii_printable : (text : List ℕ) → IsTrue (list_all (is_printable_byte has_lines) text)
       → IsPrintableIn has_lines text
   ascii_printable text are =
@@ -131,7 +120,6 @@ module _ (has_lines : Bool) where
   blanks_printable (suc n) =
       append_printable (32 ∷ []) (replicate n 32) (ascii_printable (32 ∷ []) refl) (blanks_printable n)
 
-  -- a hexadecimal digit is printable
   glyph : (upper : Bool) (digit : ℕ) → digit < 16
       → is_printable_byte has_lines (digit_glyph upper digit) ≡ true
   glyph upper digit below = grind (arith, nat_tests)
@@ -142,8 +130,6 @@ module _ (has_lines : Bool) where
       ascii_printable (decimal n) (decimal_by are are refl (λ text is. is)
       (λ digit text below is. rw (glyph false digit (omega arith)) is) n)
 
-  -- ---- sanitizing, one UTF-8 unit at a time
-
   safe_nil : safe_in has_lines [] ≡ []
   safe_nil = rw pieces-nil refl
 
@@ -152,8 +138,7 @@ module _ (has_lines : Bool) where
       ++ safe_in has_lines (drop (decoded bytes).size bytes)
   safe_step bytes some = ap (λ ps. safe_chunks has_lines ps bytes) (pieces-step bytes some)
 
-  -- loop step: after one more UTF-8 unit is appended, the appended bytes followed by the sanitized rest are
-  -- the same as before
+  -- loop step: one more UTF-8 unit was appended, and the sanitized rest follows
   pub chunk_added : (rest old mid new : List ℕ) → 0 < length rest
       → new ≡ mid ++ safe_chunk has_lines (decoded rest).char (take (decoded rest).size rest)
       → mid ++ safe_in has_lines rest ≡ old
@@ -165,8 +150,6 @@ module _ (has_lines : Bool) where
       → mid ≡ old
   all_added [] old mid none before = rw (safe_nil, append-nil) at before
   all_added (byte ∷ rest) old mid none before = absurd (omega arith)
-
-  -- ---- printable strings are unchanged
 
   all_kept : (cs : List ℕ) → all_scalars cs ≡ true → IsTrue (list_all (is_printable has_lines) cs)
       → safe_in has_lines (encode_utf8_all cs) ≡ encode_utf8_all cs
@@ -189,8 +172,6 @@ module _ (has_lines : Bool) where
   printable_kept text is =
       subst (λ t. safe_in has_lines t ≡ t) (encodes-chars text is.utf8)
       (all_kept (chars text) (scalars-chars text is.utf8) is.all)
-
-  -- ---- sanitized bytes are printable
 
   escaped_printable : (byte : ℕ) → IsPrintableIn has_lines (escape_byte byte)
   escaped_printable byte = ascii_printable (escape_byte byte) (elim (cases_Bool (is_escaped byte)) [
@@ -229,8 +210,6 @@ module _ (has_lines : Bool) where
           (chunk_printable char (take size bytes) (λ c is. (SpellsChar-decoded bytes c is).scalar))
           (from n (drop size bytes))
 
-  -- ---- escaping the start of commands
-
   hashes_printable : (cs : List ℕ) → all_scalars cs ≡ true → IsTrue (list_all (is_printable has_lines) cs)
       → IsPrintableIn has_lines (encode_utf8_all (flat_map without_hash cs))
   unfolding lib.Utf8.encode
@@ -256,8 +235,6 @@ module _ (has_lines : Bool) where
   pub sanitized_in_printable : (bytes : List ℕ) → IsPrintableIn has_lines (sanitized_in has_lines bytes)
   sanitized_in_printable bytes = without_printable (safe_in has_lines bytes) (safe_in_printable bytes)
 
--- ---- printable text of several lines
-
 pub ended_printable : (lines : List (List ℕ)) → Each IsPrintable lines → IsPrintable (ended lines)
 ended_printable [] are = nil_printable true
 ended_printable (line ∷ lines) (first, later) =
@@ -265,7 +242,6 @@ ended_printable (line ∷ lines) (first, later) =
     (append_printable true line (lf ∷ []) first (ascii_printable true (lf ∷ []) refl))
     (ended_printable lines later)
 
--- a printable string without LF is also printable as text of several lines
 pub line_printable : (text : List ℕ) → IsPrintableIn false text → IsPrintable text
 line_printable text is = record { utf8 = is.utf8; all = with_lines (chars text) is.all }
   where

@@ -8,9 +8,6 @@ use Rattle.printable_text.specs.Sanitize.{IsPrintableIn, has_command, IsPrintabl
 use Rattle.printable_text.specs.Sanitize.{is_printable_byte, sanitized}
 use Rattle.std.proofs.{Common.refl}
 
--- ---- How serious a warning is.
-
--- the word for a level in a report and in JSON
 abbrev pub level_word : Level → List ℕ
 level_word Error = codes "error"
 level_word Warning = codes "warning"
@@ -45,33 +42,28 @@ abbrev pub starts : List ℕ → Bool
 starts [] = false
 starts (b ∷ text) = if b == 32 then starts text else not (b == 58 || b == 35)
 
--- ---- Levels in color, and texts with color codes.
-
--- the code that begins the color of a level: bold red, yellow or cyan
+-- bold red, yellow or cyan
 abbrev pub color_of : Level → List ℕ
 color_of Error = 27 ∷ codes "[1;31m"
 color_of Warning = 27 ∷ codes "[1;33m"
 color_of Note = 27 ∷ codes "[1;36m"
 
--- the code that ends a color
 abbrev pub color_end : List ℕ
 color_end = 27 ∷ codes "[0m"
 
--- the word for a level, in its color if there are colors
+-- in its color if there are colors
 abbrev pub shown_word : (has_colors : Bool) → Level → List ℕ
 shown_word false level = level_word level
 shown_word true level = color_of level ++ (level_word level ++ color_end)
 
--- ---- texts with color codes
-
--- the part of a text is printable and shown as it is, or it is the word for a level between the code that
--- begins its color and the one that ends it, and the word is shown; so no color goes on after its word
+-- the part is printable and shown as it is, or it is the word for a level between the code that begins its
+-- color and the one that ends it; so no color goes on after its word
 abbrev pub IsShownAs : (part shown : List ℕ) → Type 0
 IsShownAs part shown =
     (IsPrintable part × (shown ≡ part))
     ⊎ ((level : Level) × (part ≡ shown_word true level) × (shown ≡ level_word level))
 
--- the text consists of printable parts and colored words, and without the codes it is `plain`
+-- printable parts and colored words; without the codes the text is `plain`
 pub record IsColored (plain text : List ℕ) : Type 0 where
   -- each part, and what is shown of it
   pub parts : List (List ℕ × List ℕ)
@@ -79,22 +71,20 @@ pub record IsColored (plain text : List ℕ) : Type 0 where
   pub text_is : text ≡ flat_map (λ part. part.0) parts
   pub plain_is : plain ≡ flat_map (λ part. part.1) parts
 
--- the text is printable or, if there are colors, consists of printable parts and colored words
+-- printable or, if there are colors, printable parts and colored words
 abbrev pub IsForTerminal : (has_colors : Bool) → List ℕ → Type 0
 IsForTerminal false text = IsPrintable text
 IsForTerminal true text = (plain : List ℕ) × IsColored plain text
 
--- ---- Lines as data: a specification makes them of parts, each of which is safe by its type. So whatever the
--- parts are, the line is printable, and has no `##[`. A `ReportLine` doesn't begin with `::` either, so no
--- workflow on GitHub takes it for a command; a line that begins with the name of a file may.
-
--- ---- fixed texts
+-- ---- Lines as data, made of parts, each of which is safe by its type. So the line is printable, and has no
+-- `##[`. A `ReportLine` doesn't begin with `::` either, so no workflow on GitHub takes it for a command; a
+-- line that begins with the name of a file may.
 
 -- printable ASCII that doesn't begin with a byte of the start of a command, and doesn't contain one
 abbrev pub is_fixed : List ℕ → Bool
 is_fixed text = list_all (is_printable_byte false) text && (begins_apart text && not (has_command text))
 
--- a text of the program's own; for a literal, `refl` shows that it is safe
+-- for a literal, `refl` shows that it is safe
 pub record Fixed : Type 0 where
   pub text : List ℕ
   pub safe : is_fixed text ≡ true
@@ -118,8 +108,6 @@ pub record Label : Type 0 where
 abbrev pub label : (text : List ℕ) → is_label text ≡ true → Label
 label text is = record { text = text; safe = is }
 
--- ---- parts
-
 -- what follows a label
 pub data Value : Type 0 where
   Nothing : Value
@@ -132,7 +120,7 @@ pub data Value : Type 0 where
 abbrev pub word : (text : List ℕ) → is_fixed text ≡ true → Value
 word text is = Word (record { text = text; safe = is })
 
--- the sanitized name, or quotes for an empty one, as that of an unset variable
+-- quotes for an empty name, as that of an unset variable
 abbrev pub shown_name : List ℕ → List ℕ
 shown_name name = if length name == 0 then codes "\"\"" else sanitized name
 
@@ -144,22 +132,20 @@ value_text (Named name) = shown_name name
 value_text (Number number) = decimal number
 value_text (Delay micros) = delay_text micros
 
--- this many spaces
 abbrev pub blanks : ℕ → List ℕ
 blanks n = replicate n (byte " ")
 
 pub data PartValue : Type 0 where
-  -- nothing at all
+  -- nothing
   Absent : PartValue
   -- a label, and what follows it
   Part : Label → Value → PartValue
   -- a fixed text that nothing follows
   Only : Fixed → PartValue
-  -- a label, and what follows it, with spaces after the label up to this column
+  -- with spaces after the label up to this column
   Column : ℕ → Label → Value → PartValue
-  -- only a number
   Count : ℕ → PartValue
-  -- a number, right-aligned within this width
+  -- right-aligned within this width
   Aligned : ℕ → ℕ → PartValue
 
 abbrev pub part_text : PartValue → List ℕ
@@ -177,9 +163,7 @@ only text is = Only (record { text = text; safe = is })
 abbrev pub parts_text : List PartValue → List ℕ
 parts_text parts = flat_map part_text parts
 
--- ---- lines
-
--- the part has a byte other than a space, and the first such byte is none with which a command begins
+-- the part has a byte other than a space, and no command begins with the first such byte
 abbrev pub starts_line : PartValue → Bool
 starts_line Absent = false
 starts_line (Part front value) = starts front.text
@@ -199,7 +183,6 @@ line_from first is rest = record { first = first; begins = is; rest = rest }
 abbrev pub line_text : ReportLine → List ℕ
 line_text line = part_text line.first ++ parts_text line.rest
 
--- the lines, each followed by LF
 abbrev pub written : List ReportLine → List ℕ
 written lines = ended (map line_text lines)
 
@@ -211,8 +194,7 @@ pub record NamedLine : Type 0 where
 abbrev pub named_text : NamedLine → List ℕ
 named_text line = sanitized line.name ++ parts_text line.rest
 
--- a line about a place in a file, as compilers write them: the file's name, the place, and the level, which
--- may be in color
+-- as compilers write them: the file's name, the place, and the level, which may be in color
 pub record LevelLine : Type 0 where
   pub name : List ℕ
   pub place : PartValue

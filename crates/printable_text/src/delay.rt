@@ -5,13 +5,10 @@ ghost use Rattle.printable_text.specs.Delay.{delay_text, fraction, million, seco
 use crate::lines::push_number;
 use std::alloc::AllocError;
 
-/// Microseconds per second.
 const MILLION: u64 = 1_000_000;
 
-/// The maximum number of digits after the decimal point.
 const DIGITS: u32 = 6;
 
-/// Appends the digits after the decimal point, without trailing zeros.
 fn push_fraction(text: &mut String, millionths: u64) -> Result<(), AllocError>
     requires { millionths < million }
     ensures { OnOk result (string_bytes text.new ≡ string_bytes text.old ++ fraction 6 millionths) }
@@ -26,7 +23,6 @@ fn push_fraction(text: &mut String, millionths: u64) -> Result<(), AllocError>
     Ok(())
 }
 
-/// Appends the microseconds as a number of seconds.
 fn push_seconds(text: &mut String, micros: u64) -> Result<(), AllocError>
     ensures { OnOk result (string_bytes text.new ≡ string_bytes text.old ++ seconds micros) }
 {
@@ -39,7 +35,7 @@ fn push_seconds(text: &mut String, micros: u64) -> Result<(), AllocError>
     Ok(())
 }
 
-/// Appends the microseconds as a number of seconds with the unit.
+/// With the unit.
 pub fn push_delay_text(text: &mut String, micros: u64) -> Result<(), AllocError>
     ensures { OnOk result (string_bytes text.new ≡ string_bytes text.old ++ delay_text micros) }
 {

@@ -2,7 +2,6 @@
 ghost use Rattle.std.specs.Prelude.{◌≡◌, true};
 ghost use Rattle.printable_text.specs.Text.{level_word, reaches, shown_word};
 
-/// How serious a warning is.
 #[derive(Clone, Copy, PartialEq, Eq)]
 pub enum Level {
     /// The file very likely does something that its owner didn't intend, here and in other parsers.
@@ -14,7 +13,6 @@ pub enum Level {
 }
 
 impl Level {
-    /// The word for the level in a report and in JSON.
     pub fn word(self) -> &'static str
         ensures { result.now ≡ level_word self }
     {
@@ -25,7 +23,6 @@ impl Level {
         }
     }
 
-    /// Whether the level is `least` or a more serious one.
     pub fn reaches(self, least: Level) -> bool
         ensures { result ≡ reaches self least }
     {
@@ -37,7 +34,7 @@ impl Level {
     }
 }
 
-/// The word for a level, in its color if there are colors: bold red, yellow or cyan.
+/// In its color if there are colors: bold red, yellow or cyan.
 pub fn shown_word(has_colors: bool, level: Level) -> &'static str
     ensures { result.now ≡ shown_word has_colors level }
 {

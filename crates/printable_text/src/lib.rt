@@ -1,6 +1,6 @@
-//! Text that is safe to print, whatever untrusted bytes it is about: sanitizing them, and lines of reports as lists of
-//! parts, which one function writes. A line that a specification makes of parts is printable, and no workflow on GitHub
-//! takes it for a command. Lines contain numbers, levels, in color or not, and delays.
+//! Text that is safe to print: sanitizing untrusted bytes, and lines of reports as lists of parts, which one
+//! function writes. A line that a specification makes of parts is printable, and no workflow on GitHub takes
+//! it for a command.
 #![tactic(auto)]
 
 pub mod delay;

@@ -6,8 +6,7 @@ ghost use Rattle.printable_text.specs.Lines.{ended};
 use itoa::{Buffer, Integer};
 use std::alloc::AllocError;
 
-/// Appends a line that consists of two parts. If an allocation fails, the text may
-/// end with the start of the line.
+/// If an allocation fails, the text may end with the start of the line.
 pub fn push_line(text: &mut String, front: &str, back: &str) -> Result<(), AllocError>
     ensures added { OnOk result (string_bytes text.new ≡ string_bytes text.old
         ++ ended ((front.now ++ back.now) ∷ [])) }
@@ -18,7 +17,6 @@ pub fn push_line(text: &mut String, front: &str, back: &str) -> Result<(), Alloc
     text.push('\n')
 }
 
-/// Appends a number in decimal digits.
 pub fn push_number<I: Integer>(text: &mut String, number: I) -> Result<(), AllocError>
     ensures added { OnOk result (string_bytes text.new ≡ string_bytes text.old ++ I.text number) }
     ensures kept { StartsWith (string_bytes text.new) (string_bytes text.old) }

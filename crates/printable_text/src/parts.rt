@@ -10,15 +10,13 @@ use std::alloc::AllocError;
 /// What follows a label.
 #[derive(Clone, Copy)]
 pub enum Value<'a> {
-    /// Nothing.
     Nothing,
     /// A fixed word.
     Word(&'static str),
     /// Bytes that nobody has checked, which are sanitized.
     Untrusted(&'a [u8]),
-    /// The same, but `""` if there are none, as for an unset variable in arguments.
+    /// `""` if there are no bytes, as for an unset variable in arguments.
     Named(&'a [u8]),
-    /// A number in decimal digits.
     Number(usize),
     /// Microseconds, written as seconds.
     Delay(u64),
@@ -28,7 +26,6 @@ pub enum Value<'a> {
 #[derive(Clone, Copy)]
 pub struct Part<'a>(pub &'static str, pub Value<'a>);
 
-/// Appends a value.
 fn push_value(text: &mut String, value: Value<'_>) -> Result<(), AllocError>
     ensures { OnOk result (string_bytes text.new ≡ string_bytes text.old ++ raw_value value.entry) }
 {
@@ -43,7 +40,6 @@ fn push_value(text: &mut String, value: Value<'_>) -> Result<(), AllocError>
     }
 }
 
-/// Appends a part.
 fn push_part(text: &mut String, part: &Part<'_>) -> Result<(), AllocError>
     ensures { OnOk result (string_bytes text.new ≡ string_bytes text.old ++ raw_text part.now) }
 {
@@ -51,7 +47,7 @@ fn push_part(text: &mut String, part: &Part<'_>) -> Result<(), AllocError>
     push_value(text, part.1)
 }
 
-/// Appends the parts, one after another.
+/// One after another.
 pub fn push_parts(text: &mut String, parts: &[Part<'_>]) -> Result<(), AllocError>
     ensures { OnOk result (string_bytes text.new ≡ string_bytes text.old ++ raw_line parts.now) }
 {
@@ -61,7 +57,6 @@ pub fn push_parts(text: &mut String, parts: &[Part<'_>]) -> Result<(), AllocErro
     Ok(())
 }
 
-/// Appends a line of these parts.
 pub fn push_line_of(text: &mut String, parts: &[Part<'_>]) -> Result<(), AllocError>
     ensures { OnOk result (string_bytes text.new ≡ string_bytes text.old ++ ended (raw_line parts.now ∷ [])) }
 {

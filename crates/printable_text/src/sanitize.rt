@@ -10,14 +10,12 @@ use std::alloc::AllocError;
 use std::str::from_utf8;
 use texting_robots::push_escaped_bytes;
 
-/// Whether a character is a bidirectional control character.
 fn turns_text(char: char) -> bool
     ensures { result ≡ turns_text char }
 {
     matches!(char, '\u{61C}' | '\u{200E}'..='\u{200F}' | '\u{202A}'..='\u{202E}' | '\u{2066}'..='\u{2069}')
 }
 
-/// Whether a character is shown unchanged.
 fn is_printable(char: char, has_lines: bool) -> bool
     ensures { result ≡ is_printable has_lines char }
 {
@@ -28,15 +26,13 @@ fn is_printable(char: char, has_lines: bool) -> bool
     }
 }
 
-/// Whether a byte is an ASCII character that is shown unchanged.
 fn is_printable_byte(byte: u8, has_lines: bool) -> bool
     ensures { result ≡ is_printable_byte has_lines byte }
 {
     ((byte >= b' ') & (byte <= b'~')) | (has_lines & (byte == b'\n'))
 }
 
-/// Whether all bytes are such characters. The loop doesn't stop at the first
-/// that isn't, since usually all are.
+/// The loop doesn't stop at the first that isn't, since usually all are.
 fn are_printable_bytes(bytes: &[u8], has_lines: bool) -> bool
     ensures { result ≡ list_all (is_printable_byte has_lines) bytes.now }
 {
@@ -47,8 +43,7 @@ fn are_printable_bytes(bytes: &[u8], has_lines: bool) -> bool
     all
 }
 
-/// Appends a character, or bytes that aren't valid UTF-8 if `char` is `None`: unchanged
-/// if it is printable, else escaped.
+/// Unchanged if it is printable, else escaped; `None` is for bytes that aren't valid UTF-8.
 fn push_chunk(
     text: &mut String,
     char: Option<char>,
@@ -64,7 +59,7 @@ fn push_chunk(
     }
 }
 
-/// Appends the bytes, with all that is unsafe to display escaped, one UTF-8 unit after another.
+/// One UTF-8 unit after another.
 fn push_chunks(text: &mut String, bytes: &[u8], has_lines: bool) -> Result<(), AllocError>
     ensures added { OnOk result (string_bytes text.new ≡ string_bytes text.old ++ safe_in has_lines bytes.now) }
     ensures kept { StartsWith (string_bytes text.new) (string_bytes text.old) }
@@ -79,7 +74,6 @@ fn push_chunks(text: &mut String, bytes: &[u8], has_lines: bool) -> Result<(), A
     Ok(())
 }
 
-/// Whether the text contains `##[`, with which a command begins in a workflow on GitHub.
 fn has_command(text: &[u8]) -> bool
     ensures { result ≡ has_command text.now }
 {
@@ -93,7 +87,6 @@ fn has_command(text: &[u8]) -> bool
     false
 }
 
-/// Appends a character, or its escape if it is `#`.
 fn push_without_hash(text: &mut String, char: char) -> Result<(), AllocError>
     ensures added { OnOk result (string_bytes text.new
         ≡ string_bytes text.old ++ encode_utf8_all (without_hash char)) }
@@ -106,7 +99,6 @@ fn push_without_hash(text: &mut String, char: char) -> Result<(), AllocError>
     }
 }
 
-/// Appends the text, with each `#` escaped.
 fn push_without_hashes(text: &mut String, plain: &str) -> Result<(), AllocError>
     ensures added { OnOk result (string_bytes text.new
         ≡ string_bytes text.old ++ encode_utf8_all (flat_map without_hash (chars plain.now))) }
@@ -118,7 +110,6 @@ fn push_without_hashes(text: &mut String, plain: &str) -> Result<(), AllocError>
     Ok(())
 }
 
-/// Appends the text, with each `#` escaped if it contains the start of a command.
 #[tactic(auto, unfolding(crate::specs::Sanitize::without_commands))]
 fn push_without_commands(text: &mut String, plain: &str) -> Result<(), AllocError>
     ensures added { OnOk result (string_bytes text.new ≡ string_bytes text.old ++ without_commands plain.now) }
@@ -131,7 +122,7 @@ fn push_without_commands(text: &mut String, plain: &str) -> Result<(), AllocErro
     }
 }
 
-/// Appends the sanitized bytes. Bytes that are all printable ASCII are copied at once.
+/// Bytes that are all printable ASCII are copied at once.
 fn push_sanitized_in(text: &mut String, bytes: &[u8], has_lines: bool) -> Result<(), AllocError>
     ensures added { OnOk result (string_bytes text.new ≡ string_bytes text.old ++ sanitized_in has_lines bytes.now) }
     ensures kept { StartsWith (string_bytes text.new) (string_bytes text.old) }
@@ -146,7 +137,7 @@ fn push_sanitized_in(text: &mut String, bytes: &[u8], has_lines: bool) -> Result
     push_without_commands(text, &safe)
 }
 
-/// Appends a sanitized value, name or URL. The result contains no line end.
+/// The result contains no line end.
 pub fn push_sanitized(text: &mut String, bytes: &[u8]) -> Result<(), AllocError>
     ensures added { OnOk result (string_bytes text.new ≡ string_bytes text.old ++ sanitized bytes.now) }
     ensures kept { StartsWith (string_bytes text.new) (string_bytes text.old) }
@@ -154,7 +145,7 @@ pub fn push_sanitized(text: &mut String, bytes: &[u8]) -> Result<(), AllocError>
     push_sanitized_in(text, bytes, false)
 }
 
-/// Appends a sanitized text that may have several lines.
+/// The text may have several lines.
 pub fn push_sanitized_lines(text: &mut String, bytes: &[u8]) -> Result<(), AllocError>
     ensures added { OnOk result (string_bytes text.new ≡ string_bytes text.old ++ sanitized_lines bytes.now) }
     ensures kept { StartsWith (string_bytes text.new) (string_bytes text.old) }

@@ -20,12 +20,10 @@ has_rule members = is_some (filter is_rule members)
 abbrev pub has_all : List (List ℕ) → Group → Bool
 has_all tokens group = list_all (λ token. has_token token group) tokens
 
--- the tokens of the groups without rules directly above the group after this one; `above` are those of the
--- groups directly above this one
+-- of the group after this one; `above` are those of the groups directly above this one
 abbrev pub left_above : List (List ℕ) → Group → List (List ℕ)
 left_above above group = if has_rule group.members then [] else above ++ group.tokens
 
--- each group with rules has the tokens of the groups without rules directly above it
 abbrev pub is_unsplit : (above : List (List ℕ)) → List Group → Bool
 is_unsplit above [] = true
 is_unsplit above (group ∷ later) =
@@ -73,7 +71,6 @@ module _ (name : List ℕ) where
   held_put_none : (groups : List Group) → held (put_before [] [] groups) ≡ held groups
   held_put_none groups = grind arith
 
-  -- if all of these are tokens of the group, they add no name to it
   named_too : (above : List (List ℕ)) (group : Group) → has_all above group ≡ true
       → list_any (is_named name) (above ++ group.tokens) ≡ has name group
   named_too [] group all = refl

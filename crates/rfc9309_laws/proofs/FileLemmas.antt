@@ -56,7 +56,6 @@ pub each_read : (lines : List Line) → Each IsRead (sources_from lines)
 each_read [] = tt
 each_read (line ∷ lines) = each_append _ _ _ line.is.read (each_read lines)
 
--- no byte is NUL, and the first one is ASCII
 abbrev AreBytes : List ℕ → Type 0
 AreBytes text = Each (λ b. b ≢ 0) text × BeginsLow text
 
@@ -75,7 +74,6 @@ pub lines_free : (lines : List Line) → HasNoRule (sources_from lines) → AreF
 lines_free [] none = tt
 lines_free (line ∷ lines) none = line.is.counted _ _ (lines_free lines) none
 
--- each line lists a sitemap or none
 abbrev IsAddressLine : List (List ℕ) → List ℕ → Type 0
 IsAddressLine addresses text = rfc.IsOneOr rfc.IsSitemapLine rfc.IsUnlisted addresses text
 
@@ -99,8 +97,7 @@ lines_listed (line ∷ lines) =
     let (more, rest) = lines_listed lines in
     (addresses ++ more, repeats_both (repeats_one IsAddressLine addresses _ (rw is.whole one)) rest)
 
--- the text consists of lines; adding their source lines before others has the effect of `make` on the result
--- of those others
+-- adding the text's source lines before others has the effect of `make` on the result of those others
 pub record Makes {A : Type 0} (put : Source → A → A) (make : A → A) (text : List ℕ) : Type 0 where
   pub lines : List Line
   pub same : (following : A) → onto put (sources_from lines) following ≡ make following
@@ -174,7 +171,6 @@ module _ {Content : List ℕ → Type 0} {text : List ℕ} (file : rfc.IsFileOf 
       ap sources_in bodies_are ∙ sym (last_end_adds_none file.rest file.nl file.is_nl) ∙ ap sources_of whole
       ∙ lines_read lines
 
--- adding the text's source lines at the start of some `Parts` has the effect of `make`
 abbrev Writes : (Parts → Parts) → List ℕ → Type 0
 Writes make text = Makes with_source make text
 
@@ -253,8 +249,7 @@ no_rules : (numbers : List (List ℕ)) → filter rfc.is_rule (map rfc.Delay num
 no_rules [] = refl
 no_rules (number ∷ numbers) = no_rules numbers
 
--- the file's source lines are read correctly and define its groups, with only these delays before them; and
--- the file lists some sitemaps
+-- with only these delays before the groups, and some sitemaps
 pub record FileRead (numbers : List (List ℕ)) (groups : List rfc.Group) (text : List ℕ) : Type 0 where
   pub read : Each IsRead (file_sources text)
   pub parts : parts_in (file_sources text) ≡ parts_of (map rfc.Delay numbers) (rfc.merged groups)
@@ -306,7 +301,6 @@ pub groups_written : (text : List ℕ) (numbers : List (List ℕ)) (groups : Lis
     → FileRead numbers groups text → (parts_in (file_sources text)).groups ≡ rfc.merged groups
 groups_written text numbers groups is = ap (λ (p : Parts). p.groups) is.parts
 
--- adding the text's source lines at the start of a list of addresses has the effect of `make`
 abbrev Lists : (List (List ℕ) → List (List ℕ)) → List ℕ → Type 0
 Lists make text = Makes with_address make text
 

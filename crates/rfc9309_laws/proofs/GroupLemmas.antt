@@ -18,8 +18,7 @@ use Rattle.texting_robots.specs.Internal.{Group.start_of}
 use Rattle.rfc9309_laws.proofs.{ReadLemmas.lines_in}
 use Rattle.rfc9309_laws.specs.Rfc9309 as rfc
 
--- the states within a run of user-agent lines, with the name among them or not, and (`closed`) after the line
--- of a member
+-- a run of user-agent lines with the name among them or not
 abbrev run : Bool → GroupTracker
 run named = record { captured = named; named = named }
 
@@ -28,12 +27,12 @@ closed captured = record { captured = captured; named = false }
 
 module _ {X : Type 0} (given : LineValue → Option X) (wanted : Member → Bool) (R : Member → X → Type 0)
   where
-    -- a line gives what its member means; if it gives nothing, the member isn't wanted
+    -- if the line gives nothing, the member isn't wanted
     abbrev pub Gives : Member → Option X → Type 0
     Gives member None = wanted member ≡ false
     Gives member (Some x) = (wanted member ≡ true) × R member x
 
-    -- each line that is read correctly gives what its member means, and lines without members give nothing
+    -- lines without members give nothing
     pub record IsGiven : Type 0 where
       pub none : (line : LineValue) → is_group line ≡ false → given line ≡ None
       pub some : (line : LineValue) (text : List ℕ) → is_group line ≡ true → IsRead (line, text)
@@ -48,7 +47,7 @@ module _ {X : Type 0} (given : LineValue → Option X) (wanted : Member → Bool
     one_found member None members rest none all = rw none all
     one_found member (Some x) members rest is all = rw is.0 (is.1, all)
 
-    -- the same for any line but a user-agent line; one that isn't in a group gives nothing
+    -- a line that isn't in a group gives nothing
     pub line_found : (group : Bool) (member : Member) (found : Option X) (members : List Member)
         (rest : List X) → (group ≡ true → Gives member found) → (group ≡ false → found ≡ None)
         → AreFound members rest → AreFound (cond group (member ∷ members) members) (cons_option found rest)
@@ -88,8 +87,8 @@ module _ (name : List ℕ) where
   abbrev pub theirs : List Group → List Member
   theirs groups = members_in (filter has groups)
 
-  -- the members that apply from this state on: those before any token if the state captures them, and those
-  -- of the first group also if the current run of user-agent lines has the name
+  -- members before any token, if the state captures them, and those of the first group also if the current
+  -- run of user-agent lines has the name
   abbrev pub captured : GroupTracker → List Member → List Group → List Member
   captured walk [] [] = []
   captured walk [] (next ∷ later) = cond (walk.named || has next) next.members [] ++ theirs later
@@ -137,7 +136,6 @@ module _ {X : Type 0} (given : LineValue → Option X) (wanted : Member → Bool
       at true all = one_found given wanted R member o (members ++ theirs name groups) rest gives all
       at false all = all
 
-  -- after any line but a user-agent line
   abbrev after : Bool → GroupTracker → GroupTracker
   after group walk = record { captured = walk.captured; named = not group && walk.named }
 
@@ -190,7 +188,6 @@ module _ (agent : List ℕ) (sources : List Source)
   abbrev own_name : List ℕ
   own_name = group_name agent (lines_in sources)
 
-  -- the rules among the members that apply from the first line on are those of the crawler's groups
   pub rules_captured :
       filter is_rule
       (captured own_name (start_of (lines_in sources)) (parts_in sources).ungrouped (parts_in sources).groups)
@@ -207,7 +204,6 @@ module _ (agent : List ℕ) (sources : List Source)
       grouped true members = rw (filter-append is_rule (parts_in sources).ungrouped members, none)
       grouped false members = refl
 
-  -- if no rule comes before the first token, a crawler gets the rules that the groups define for it
   pub rules_written : Each IsRead sources → AllZip IsReadAs (rfc.rules_for agent (parts_in sources).groups)
       (rules_for agent (lines_in sources))
   rules_written all =

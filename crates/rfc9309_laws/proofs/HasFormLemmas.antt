@@ -25,11 +25,9 @@ use lib.Utf8.{scalar, scalar_cases, scalars}
 -- ---- The characters of the standard's grammar are UTF-8, and none of their bytes is `#`, a space or lower
 -- than that. UTF-8 consists of such characters, if its bytes are in order.
 
--- above the space, and not `#`
 abbrev pub IsCharByte : ℕ → Type 0
 IsCharByte byte = (33 ≤ byte) × (byte ≢ 35)
 
--- a sequence of such characters
 pub record IsCharText (text : List ℕ) : Type 0 where
   pub bytes : Each IsCharByte text
   pub utf8 : IsUtf8 text
@@ -186,7 +184,6 @@ found stop (b ∷ text) is = grind (arith, nat_tests, found stop text)
 pub blank : (b : ℕ) → is_blank b ≡ true → rfc.IsWs b
 blank b is = grind (arith, nat_tests)
 
--- the kept bytes, and spaces and tabs after them
 abbrev IsBefore : (kept text : List ℕ) → Type 0
 IsBefore kept text = (back : List ℕ) × Each rfc.IsWs back × (text ≡ kept ++ back)
 
@@ -210,7 +207,6 @@ leading (b ∷ text) = elim (cases_Bool (is_blank b)) [
   | inr solid ↦ rw solid (([], tt, refl))
 ]
 
--- spaces and tabs, the text without them, and spaces and tabs
 record IsAround (text : List ℕ) : Type 0 where
   front : List ℕ
   back : List ℕ
@@ -289,7 +285,6 @@ not_listed name names none (k, within, is) =
     let same = (bytes_eq-Decides name name).1 refl in
     false≢true (sym none ∙ list_any-from_Any (bytes_eq name) names (k, name, within, is, same))
 
--- a line with this terminator
 module _ (end : List ℕ) (nl : rfc.IsNl end) where
   eol : (blanks text : List ℕ) → Each rfc.IsWs blanks → is_comment_text (text_after hash text) ≡ true
       → rfc.IsEol (blanks ++ (text_from hash text ++ end))

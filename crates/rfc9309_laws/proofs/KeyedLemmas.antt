@@ -1,6 +1,5 @@
--- What is known of a line of the grammar: it is content with a terminator, passes the test of its form, and
--- is read as its source line. Lines with a field name, a
--- colon and a value are such lines.
+-- A line of the grammar is content with a terminator, passes the test of its form, and is read as its source
+-- line.
 use Rattle.std.proofs.Common.{◌≡◌, ◌≢◌, ◌⊎◌, inl, inr, ℕ, ◌<◌, Bool, true, false, List, [], ◌∷◌, ◌++◌}
 use Rattle.std.proofs.Common.{append-nil, ap, arith, drop, map, refl, subst, sym, ◌∙◌, append_assoc, codes}
 use Rattle.std.proofs.Common.{filter, get_or}
@@ -29,7 +28,6 @@ use Rattle.std.proofs.{lemmas.Bool.Decides.nat_tests, lemmas.Slice.Eq.bytes_eq-D
 use Rattle.rfc9309_laws.specs.Rfc9309 as rfc
 use Rattle.texting_robots.specs.declared.parser.statement.Kind.TheVariants as kind
 
--- a byte of a value: a bare byte that isn't `#`
 abbrev pub IsValueByte : ℕ → Type 0
 IsValueByte byte = IsBare byte × (byte ≢ hash)
 
@@ -45,7 +43,6 @@ blanks_value = each_weaker IsBlank IsValueByte blank_value
 pub values_bare : (bytes : List ℕ) → Each IsValueByte bytes → Each IsBare bytes
 values_bare = each_weaker _ _ (λ b is. is.0)
 
--- a byte before the colon: a bare ASCII byte that isn't a colon
 abbrev pub IsFrontByte : ℕ → Type 0
 IsFrontByte byte = IsBare byte × (byte < 128) × (byte ≢ colon)
 
@@ -233,14 +230,12 @@ parts_comment region comment all (inl none) =
     parts hash region comment all (rw none (record { before = refl; from = refl }))
 parts_comment region comment all (inr (text, is)) = rw is (parts_at hash region text all)
 
--- No rule is above the first user-agent line.
 abbrev pub AreFree : List Form → Type 0
 AreFree [] = Unit {0}
 AreFree (Agent ∷ forms) = Unit {0}
 AreFree (Rule ∷ forms) = ⊥
 AreFree (_ ∷ forms) = AreFree forms
 
--- no rule is before the first token
 abbrev pub HasNoRule : List Source → Type 0
 HasNoRule sources = filter rfc.is_rule (parts_in sources).ungrouped ≡ []
 
@@ -251,7 +246,7 @@ IsCounted form sources =
     (following : List Source) (forms : List Form) → (HasNoRule following → AreFree forms)
     → HasNoRule (sources ++ following) → AreFree (form ∷ forms)
 
--- the text is a line of this form with these source lines, one or none
+-- a line of this form with these source lines, one or none
 pub record IsLineOf (form : Form) (sources : List Source) (text : List ℕ) : Type 0 where
   pub body : List ℕ
   pub nl : List ℕ
@@ -264,7 +259,6 @@ pub record IsLineOf (form : Form) (sources : List Source) (text : List ℕ) : Ty
   pub read : Each IsRead sources
   pub counted : IsCounted form sources
 
--- the standard's field name for the kind, which is the first accepted one
 abbrev pub word_of : Kind → List ℕ
 word_of kind = get_or (field_names kind) 0 []
 
@@ -276,7 +270,6 @@ word_written : (kind : Kind) → Contains (field_names kind) (word_of kind)
 word_written kind.UserAgent = (0, omega arith, refl)
 word_written _ = (0, omega arith, refl)
 
--- the form of a line with the kind's field name, and the test of its value
 abbrev pub form_of : Kind → Form × (List ℕ → Bool)
 form_of kind.UserAgent = (Agent, is_product_token)
 form_of kind.CrawlDelay = (Delay, is_number)

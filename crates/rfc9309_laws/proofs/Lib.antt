@@ -1,7 +1,7 @@
 -- Files in the standard's grammar are read as the groups and rules that they define. Each line of such a file
 -- is a source line: the line as the library reads it, and its value as written (`Sources`). Adding the source
 -- lines one before the other, from the last one on, gives the file's merged groups or its sitemaps
--- (`FileLemmas`, `Sources`), and the `GroupTracker` finds the rules of these groups (`GroupLemmas`).
+-- (`FileLemmas`), and the `GroupTracker` finds the rules of these groups (`GroupLemmas`).
 pub mod MemberLemmas
 pub mod OtherLemmas
 pub mod HasFormLemmas

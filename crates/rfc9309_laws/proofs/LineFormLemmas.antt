@@ -1,7 +1,6 @@
 -- A text whose lines have the forms of the grammar's lines, with each rule below a user-agent line, is a file
--- of the grammar. It consists of the contents of its lines, each with terminators after it. Each user-agent
--- line begins a group of its own, whose members are those up to the next user-agent line. The text is built
--- from its last line on. And only such a text is a file of the grammar.
+-- of the grammar, and only such a text is one. Each user-agent line begins a group of its own, whose members
+-- are those up to the next one. The text is built from its last line on.
 use Rattle.std.proofs.Common.{◌≡◌, ◌⊎◌, inl, inr, ℕ, List, [], ◌∷◌, ◌++◌, sym, refl, ap, ◌∙◌, append_assoc}
 use Rattle.std.proofs.Common.{◌≢◌, zero, suc, arith, subst}
 use Rattle.std.specs.{List.AllByRecursion as Each, List.AllZip, Prelude.Contains, Prelude.All}
@@ -25,18 +24,15 @@ use Rattle.rfc9309_laws.specs.Rfc9309 as rfc
 abbrev IsEndByte : ℕ → Type 0
 IsEndByte byte = (byte ≡ cr) ⊎ (byte ≡ lf)
 
--- the content, one or more bytes of terminators, and the rest
 abbrev IsEndedBefore : (List ℕ → Type 0) → (body text : List ℕ) → Type 0
 IsEndedBefore Rest body text =
     (end : ℕ) × (ends : List ℕ) × (rest : List ℕ) × (text ≡ body ++ (end ∷ (ends ++ rest)))
     × IsEndByte end × Each IsEndByte ends × Rest rest
 
--- the text consists of these contents, each with a terminator after it
 abbrev AreEnded : List (List ℕ) → List ℕ → Type 0
 AreEnded [] text = text ≡ []
 AreEnded (body ∷ bodies) text = Each IsBodyByte body × IsEndedBefore (AreEnded bodies) body text
 
--- with a terminator after its last line, a text consists of such lines
 abbrev IsCompleted : List (List ℕ) → List ℕ → Type 0
 IsCompleted bodies text = (nl : List ℕ) × IsLastNl nl × AreEnded bodies (text ++ nl)
 
@@ -113,8 +109,7 @@ AreMembers members text = rfc.Repeats (rfc.IsOneOr rfc.IsMemberLine rfc.IsSkippe
 abbrev AreGroups : List rfc.Group → List ℕ → Type 0
 AreGroups groups text = rfc.Repeats (rfc.IsOneOr rfc.IsWideGroup rfc.IsSkipped) groups text
 
--- the text consists of lines above the first user-agent line, and of groups; if `Free` holds, the former have
--- no rule
+-- lines above the first user-agent line, and groups; if `Free` holds, the former have no rule
 record IsTail (Free : Type 0) (text : List ℕ) : Type 0 where
   lead : List ℕ
   rest : List ℕ
@@ -278,7 +273,7 @@ free_next Agent forms others more free = tt
 free_next Rule forms others more free = absurd free
 free_next form forms others more free = more free
 
--- the contents have forms, in which no rule is above the first user-agent line if that is so in the others
+-- no rule is above the first user-agent line if that is so in the others
 record AreFormed (others : List Form) (bodies : List (List ℕ)) : Type 0 where
   forms : List Form
   each : AllZip HasForm forms bodies

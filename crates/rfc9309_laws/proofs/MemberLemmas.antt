@@ -23,7 +23,6 @@ use Rattle.texting_robots.specs.Line as library
 use Rattle.texting_robots.specs.declared.parser.statement.Kind.TheVariants as kind
 use Rattle.rfc9309_laws.specs.Rfc9309 as rfc
 
--- visible, and not `#`
 abbrev pub IsPlain : ℕ → Type 0
 IsPlain byte = IsVisible byte × (byte ≢ 35)
 
@@ -35,7 +34,6 @@ token_plain [] is = tt
 token_plain (b ∷ token) (inl is) = each_weaker _ _ identifier_plain (b ∷ token) is
 token_plain (b ∷ token) (inr is) = subst (Each _) (sym is) (grind arith)
 
--- plain bytes are characters, and trimming leaves them unchanged
 pub plain_text : (bytes : List ℕ) → Each IsPlain bytes → IsCharText bytes × IsTrimOf bytes bytes
 plain_text bytes plain =
     let visible = each_weaker _ _ (λ b is. is.0) bytes plain in (
@@ -64,7 +62,6 @@ token_line token text (is, line) =
     keyed_line kind.UserAgent token token text line chars trim _ (λ body. refl) (tt, tt)
     (λ following forms more none. tt) (token_passes token is)
 
--- a line of this form, whose source line is that of the member
 pub record MemberRead (form : Form) (member : rfc.Member) (text : List ℕ) : Type 0 where
   pub source : Source
   pub is_line : IsLineOf form (source ∷ []) text
@@ -81,7 +78,7 @@ trim_is_utf8 text chars = is_utf8-from_IsUtf8 _ (trim_utf8 _ _ chars.utf8 (trimm
 pub slash_plain : IsPlain 47
 slash_plain = grind arith
 
--- a pattern as it stands in a line: nothing, or a plain byte and characters
+-- nothing, or a plain byte and characters
 pub record IsRuleValue (value : List ℕ) : Type 0 where
   pub chars : IsCharText value
   pub passes : is_pattern value ≡ true

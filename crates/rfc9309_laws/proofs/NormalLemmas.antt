@@ -26,7 +26,6 @@ hex_kept : (stays : Reading) (in_query : Bool) (b : ℕ) → is_ascii_hexdigit b
     → is_kept stays in_query b ≡ true
 hex_kept stays in_query b is = rw (lt-ltb b 128 (hex_low b is), hex_unreserved b is)
 
--- what no hexadecimal digit is
 pub hex_not : (test : ℕ → Bool) (b : ℕ)
     → agree_below (λ c. is_ascii_hexdigit c && test c) (λ c. false) 128 ≡ true
     → is_ascii_hexdigit b ≡ true → test b ≡ false
@@ -84,7 +83,6 @@ module _ (high low : ℕ) (text : List ℕ) (one : is_ascii_hexdigit high ≡ tr
   pub escape_odd : has_odd_escape (37 ∷ high ∷ low ∷ text) ≡ (has_odd_digits high low || has_odd_escape text)
   escape_odd = rw (one, two, hex_not (λ c. c == 37) _ refl one, hex_not (λ c. c == 37) low refl two)
 
--- an octet whose normal form begins with it is left as it is
 octet_stays : (stays : Reading) (in_query : Bool) (b : ℕ) (rest text : List ℕ)
     → normal_octet stays in_query b ++ rest ≡ b ∷ text → (is_kept stays in_query b ≡ true) × (rest ≡ text)
 octet_stays stays in_query b rest text = elim (cases_Bool (is_kept stays in_query b)) [
@@ -101,7 +99,6 @@ not_lowercase b same = grind (arith, nat_tests)
 uppercase : (b : ℕ) → is_ascii_lowercase b ≡ false → to_ascii_uppercase b ≡ b
 uppercase b is = grind (arith, nat_tests)
 
--- an escape whose normal form begins with it isn't odd
 escape_stays : (high low : ℕ) (rest text : List ℕ) → normal_escape high low ++ rest ≡ 37 ∷ high ∷ low ∷ text
     → (has_odd_digits high low ≡ false) × (rest ≡ text)
 escape_stays high low rest text =
@@ -115,7 +112,6 @@ escape_stays high low rest text =
           (rw (not_lowercase _ first, not_lowercase low second), (cc)))
     ]
 
--- each octet that is kept passes the test
 module _ (stays : Reading) (test : ℕ → Bool)
     (kept : (in_query : Bool) (b : ℕ) → is_kept stays in_query b ≡ true → test b ≡ true) where
   fixed : (in_query : Bool) (uri : List ℕ) → normal_from stays in_query uri ≡ uri
@@ -192,7 +188,6 @@ odd_suffix : (front text : List ℕ) → has_odd_escape (front ++ text) ≡ fals
 odd_suffix [] text even = even
 odd_suffix (b ∷ front) text even = odd_suffix front _ (or_parts _ _ even).1
 
--- what follows a part of a pattern matches a suffix of the text
 later_match : (part pattern text : List ℕ) → MatchesWith true (part ++ pattern) text
     → (rest : List ℕ) × IsSuffix rest text × MatchesWith true pattern rest
 unfolding MatchesWith
@@ -218,7 +213,6 @@ digit_match b path text is =
     rw (hex_not is_escaped b refl is)
     (rw (hex_not (λ c. c == star) b refl is, hex_not (λ c. c == dollar) b refl is) (λ m. m))
 
--- an escape at the start of a path is at the start of what it matches
 escape_match : (high low : ℕ) (path text : List ℕ) → is_ascii_hexdigit high ≡ true
     → is_ascii_hexdigit low ≡ true → MatchesWith true (escaped (37 ∷ high ∷ low ∷ path)) text
     → (rest : List ℕ) × (text ≡ 37 ∷ high ∷ low ∷ rest) × MatchesWith true (escaped path) rest
@@ -228,7 +222,6 @@ escape_match high low path text one two (s, e, m) =
     let (rest, g, last) = digit_match low path t two n in
     (rest, e ∙ ap (λ x. 37 ∷ x) (f ∙ ap (λ x. high ∷ x) g), last)
 
--- a path that matches a text without odd escapes has none
 pub never_matches : (path text : List ℕ) → has_odd_escape text ≡ false → Matches (escaped path) text
     → has_odd_escape path ≡ false
 never_matches =
@@ -275,7 +268,6 @@ filling (b ∷ q) tail t free =
       )
     ]
 
--- the end of a pattern, which may be a dollar
 abbrev pub end_of : Bool → List ℕ
 end_of true = dollar ∷ []
 end_of false = []
@@ -290,7 +282,6 @@ escaped_parts (b ∷ []) = elim (cases_Bool (b == dollar)) [
 escaped_parts (b ∷ c ∷ path) =
     ap (λ t. escape_byte b ++ t) (escaped_parts (c ∷ path)) ∙ sym (append_assoc (escape_byte b) _ _)
 
--- it restricts what is left of the URI
 restricts : (ended : Bool) (rest : List ℕ) → MatchesWith true (end_of ended) rest ↔ (ended ≡ true → rest ≡ [])
 unfolding MatchesWith
 restricts true rest = (λ (s, (e, gone), m) _. e, λ none. ([], (none refl, refl), tt))

@@ -81,17 +81,14 @@ written_begins : (spelling : List ℕ) → IsWritten spelling → Begins spellin
 written_begins spelling (inl (is, has)) = subst Begins (append-nil spelling) (word_begins spelling [] is)
 written_begins spelling (inr two) = subst Begins (sym two.whole) (word_begins two.word _ two.is_word)
 
--- a string whose lower case begins with an identifier byte begins with neither a space nor a tab
 word_plain : (word rest : List ℕ) → Begins (lower word) → NoBlank (word ++ rest)
 word_plain [] rest is = absurd is
 word_plain (b ∷ word) rest is = λ blank. blank_no_letter b blank is
 
--- an identifier ends before spaces or tabs and a colon
 colon_stops : (blanks text : List ℕ) → Each rfc.IsWs blanks → Stops (lower (blanks ++ 58 ∷ text))
 colon_stops [] text all = λ letter. (identifier_bounds 58 letter).2 refl
 colon_stops (b ∷ blanks) text all = blank_no_letter b all.0
 
--- an identifier ends before what follows a field name
 tail_stops : (tail rest : List ℕ) → IsAfterColon tail rest ⊎ IsAfterBlanks tail rest → Stops (lower rest)
 tail_stops tail rest (inl (blanks, all, whole)) = subst Stops (sym (ap lower whole)) (colon_stops _ tail all)
 tail_stops tail rest (inr ([], all, some, whole, plain)) = absurd (some refl)
@@ -126,8 +123,8 @@ module _ (text : List ℕ) (o : rfc.IsOtherLine text) where
   low_name : Each rfc.IsIdentifierByte (lower o.name)
   low_name = low_letters _ (letters _ o.is_name)
 
-  -- after the leading spaces and tabs, the line begins with the record's name, and with the field name if the
-  -- line is a directive
+  -- after the leading spaces and tabs, the line begins with the record's name, and with the field name if it
+  -- is a directive
   same_text : (kind : Kind) (value : List ℕ) (s : IsStatement kind value body)
       → lower o.name ++ lower after_name ≡ lower s.key ++ lower s.rest
   same_text kind value s =
@@ -207,7 +204,6 @@ line_of Delay text (member, is) = (_, (delay_line member text is).is_line)
 line_of Sitemap text (address, is) = (_, sitemap_line address text is)
 line_of Other text is = ([], other_line text is)
 
--- what precedes the terminator is the content
 before_end : (body front nl : List ℕ) → Each IsBodyByte body → rfc.IsNl nl
     → body ++ lf ∷ [] ≡ front ++ nl → front ≡ body
 before_end body front nl bytes is e =

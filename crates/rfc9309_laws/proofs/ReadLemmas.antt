@@ -1,5 +1,5 @@
--- The source lines of a text that consists of lines. Ignored lines have none. The last line of a file may
--- lack a terminator, and a byte order mark may come first.
+-- The source lines of a text that consists of lines. Ignored lines have none. The last line may lack a
+-- terminator, and a byte order mark may come first.
 use Rattle.std.proofs.Common.{◌≡◌, ◌≢◌, ◌⊎◌, inl, inr, ℕ, ◌<◌, ◌≤◌, List, [], ◌∷◌, ◌++◌, map, filter, cond}
 use Rattle.std.proofs.Common.{not, sym, refl, ap, ◌∙◌, append-nil, arith, Bool}
 use Rattle.std.proofs.lemmas.{Bool.ne_eqb, List.Elements.filter-append}
@@ -25,11 +25,9 @@ empty_adds_none bodies =
     ap (λ line. cond (not (is_raw line)) ((line, written []) ∷ sources_in bodies) (sources_in bodies))
     (line_without_kind [] [] refl refl)
 
--- a tab, or a byte from 32 up
 abbrev pub IsBare : ℕ → Type 0
 IsBare byte = (byte ≡ 9) ⊎ (32 ≤ byte)
 
--- the text is empty, or its first byte is ASCII
 abbrev pub BeginsLow : List ℕ → Type 0
 BeginsLow [] = Unit {0}
 BeginsLow (byte ∷ text) = byte < 128
@@ -46,7 +44,7 @@ end_bytes nl (inl is) = rw is (grind arith)
 end_bytes nl (inr (inl is)) = rw is (grind arith)
 end_bytes nl (inr (inr is)) = rw is (grind arith)
 
--- the content is before the others, of which an empty one may have been first
+-- an empty content may have been the first of the others
 pub record IsBefore (body : List ℕ) (bodies others : List (List ℕ)) : Type 0 where
   pub later : List (List ℕ)
   pub whole : bodies ≡ body ∷ later
@@ -89,7 +87,6 @@ before_sources body bodies others line =
     ap sources_in line.whole ∙ filter-append is_not_raw (source_of body ∷ []) (map source_of line.later)
     ∙ ap (λ sources. filter is_not_raw (source_of body ∷ []) ++ sources) later
 
--- the contents, and possibly an empty one more
 abbrev pub IsSameOrMore : List (List ℕ) → List (List ℕ) → Type 0
 IsSameOrMore bodies others = (bodies ≡ others) ⊎ (bodies ≡ others ++ [] ∷ [])
 
@@ -157,11 +154,10 @@ pub low_of_front : (text more : List ℕ) → BeginsLow (text ++ more) → Begin
 low_of_front [] more low = tt
 low_of_front (b ∷ text) more low = low
 
--- the source lines of a file without its byte order mark
+-- without the byte order mark
 abbrev pub file_sources : List ℕ → List Source
 file_sources text = sources_in (file_bodies text)
 
--- the lines as the library reads them, without the values as written
 abbrev pub lines_in : List Source → List LineValue
 lines_in sources = map (λ source. source.0) sources
 
@@ -173,6 +169,5 @@ lines_kept : (bodies : List (List ℕ))
 lines_kept [] = refl
 lines_kept (body ∷ bodies) = grind (arith, lines_kept bodies)
 
--- a crawler gets the same from a file as from its source lines
 pub file_same : (text agent : List ℕ) → Same agent (file_lines text) agent (lines_in (file_sources text))
 file_same text agent = raw_changes_nothing agent (file_lines text) _ (lines_kept _)

@@ -74,7 +74,6 @@ robotstxt_is_file text groups is = record {
   });
 }
 
--- a file in the standard's grammar is read as the groups and rules that it defines
 pub rules_read : (text agent : List ℕ) (numbers : List (List ℕ)) (groups : List rfc.Group)
     → FileRead numbers groups text
     → AllZip IsReadAs (rfc.rules_for agent (rfc.merged groups)) (rules_for agent (file_lines text))

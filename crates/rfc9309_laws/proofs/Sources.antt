@@ -1,5 +1,5 @@
--- Source lines: the line as the library reads it, with its value as written. The source lines of groups give
--- back the groups, merged.
+-- Source lines: the line as the library reads it, with its value as written. They give back the groups,
+-- merged.
 use Rattle.std.proofs.Common.{◌≡◌, ℕ, Bool, false, not, List, [], ◌∷◌, Option, Some, None, ◌++◌, refl, ap}
 use Rattle.std.proofs.Common.{◌∙◌, append-nil, append_assoc, arith, if◌then◌else◌, map}
 use Rattle.texting_robots.specs.Line.{LineValue, UserAgent, Allow, CrawlDelay, Disallow, Sitemap, is_raw}
@@ -21,19 +21,17 @@ source_of body = (line_of body, written body)
 abbrev pub is_not_raw : Source → Bool
 is_not_raw source = not (is_raw source.0)
 
--- the member of an Allow: if nothing is written but the Allow has a value, it was an empty Disallow
+-- if nothing is written but the Allow has a value, it was an empty Disallow
 abbrev pub allowed_in : List ℕ → List ℕ → rfc.Member
 allowed_in (b ∷ pattern) value = rfc.Allow (b ∷ pattern)
 allowed_in [] [] = rfc.Allow []
 allowed_in [] (b ∷ value) = rfc.Disallow []
 
--- the member that a group line defines
 abbrev pub member_in : LineValue → List ℕ → rfc.Member
 member_in (Allow value) pattern = allowed_in pattern value
 member_in (Disallow value) pattern = rfc.Disallow pattern
 member_in _ number = rfc.Delay number
 
--- the rule is that of the member; without a rule, the member isn't a rule
 abbrev pub GivesRuleOf : rfc.Member → Option Rule → Type 0
 GivesRuleOf member (Some rule) = IsReadAs member rule
 GivesRuleOf member None = rfc.is_rule member ≡ false
@@ -46,11 +44,10 @@ IsReadLine (Allow value) text = GivesRuleOf (member_in (Allow value) text) (rule
 IsReadLine (Disallow value) text = GivesRuleOf (member_in (Disallow value) text) (rule_in (Disallow value))
 IsReadLine line text = Unit {0}
 
--- what the library reads in the line is what its value as written defines
 abbrev pub IsRead : Source → Type 0
 IsRead source = IsReadLine source.0 source.1
 
--- adds the items one before the other to what follows them, beginning with the last item
+-- beginning with the last item
 abbrev pub onto : {X A : Type 0} → (X → A → A) → List X → A → A
 onto put [] following = following
 onto put (x ∷ xs) following = put x (onto put xs following)
@@ -112,7 +109,6 @@ tokens_put token (next ∷ tokens) parts =
     ap (with_token _) (tokens_put next tokens _)
     ∙ ap (parts_of []) (put_both _ _ _ _)
 
--- adding a group's tokens and members one by one is the same as adding the group at once
 pub group_put : (token : List ℕ) (tokens : List (List ℕ)) (group : rfc.Group) (parts : Parts)
     → group.tokens ≡ token ∷ tokens
     → onto with_token (token ∷ tokens) (onto with_member group.members parts) ≡ with_group group parts

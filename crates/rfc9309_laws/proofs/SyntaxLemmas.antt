@@ -18,7 +18,6 @@ pub each_back : {X : Type 0} (P : X → Type 0) (xs ys : List X) → Each P (xs 
 each_back P [] ys all = all
 each_back P (x ∷ xs) ys all = each_back P xs ys all.1
 
--- from a computed test of all items to a property of each item
 pub passing : {X : Type 0} (P : X → Type 0) (test : X → Bool) → ((x : X) → test x ≡ true → P x)
     → (xs : List X) → list_all test xs ≡ true
     → Each P xs
@@ -52,7 +51,7 @@ repeats_both {X} is also =
       whole = cc;
     }
 
--- a property of the parts that concatenation preserves holds for the complete text
+-- a property of the parts that concatenation preserves
 pub many : {P Q : List ℕ → Type 0} → Q [] → ((text later : List ℕ) → Q text → Q later → Q (text ++ later))
     → ((unit : List ℕ) → P unit → Q unit) → (text : List ℕ) → IsMany P text
     → Q text

@@ -21,16 +21,13 @@ use Rattle.rfc9309_laws.specs.{HasForm.is_identifier_byte}
 use Rattle.texting_robots.specs.declared.parser.statement.Kind.TheVariants as kind
 use Rattle.rfc9309_laws.specs.Rfc9309 as rfc
 
--- the text doesn't begin with an identifier byte
 abbrev pub Stops : List ℕ → Type 0
 Stops [] = Unit {0}
 Stops (b ∷ text) = rfc.IsIdentifierByte b → ⊥
 
--- only identifier bytes, and the rest doesn't begin with one
 abbrev pub IsWordBefore : List ℕ → List ℕ → Type 0
 IsWordBefore word rest = Each rfc.IsIdentifierByte word × Stops rest
 
--- equal texts begin with the same identifier
 pub same_word : (word other rest more : List ℕ) → IsWordBefore word rest → IsWordBefore other more
     → word ++ rest ≡ other ++ more → (word ≡ other) × (rest ≡ more)
 same_word [] [] rest more is also e = (refl, e)
@@ -126,7 +123,6 @@ written kind s has =
           (All-from_recursion IsTwoWords two_words are_two) (listed two_words s other))
     ]
 
--- printable ASCII other than the space
 abbrev pub IsVisible : ℕ → Type 0
 IsVisible byte = (32 < byte) × (byte < 127)
 
@@ -136,7 +132,6 @@ IsWhite char = IsTrue (is_whitespace char)
 visible_graphic : (b : ℕ) → IsVisible b → is_ascii_graphic b ≡ true
 visible_graphic b is = grind (arith, nat_tests)
 
--- a string that begins with such a byte has no leading white space
 spaces_begin : (s rest text : List ℕ) (b : ℕ) → IsVisible b → IsSpaces s → b ∷ text ≡ s ++ rest → s ≡ []
 spaces_begin s rest text b visible ([], all, is) e = is
 spaces_begin s rest text b visible (c ∷ cs, all, is) e =
@@ -172,7 +167,6 @@ visible_utf8 bytes all =
     IsUtf8-from_ascii _
     (IsAscii-from_all _ (λ i d within. let visible = each i d within in omega arith))
 
--- the rest of a UTF-8 string after leading characters is UTF-8
 after_spaces : (chars text rest : List ℕ) → IsUtf8 text → text ≡ encode_utf8_all chars ++ rest → IsUtf8 rest
 after_spaces [] text rest utf8 e = subst IsUtf8 e utf8
 after_spaces (c ∷ cs) text rest utf8 e =
@@ -188,7 +182,6 @@ trim_utf8 region value utf8 t =
     (IsUtf8-take rest _ (after_spaces _ region rest utf8 whole)
     (IsCharBoundary-at_seam rest value t.back refl (spaces_utf8 t.back t.back_spaces)))
 
--- trimming a string that begins with a visible byte leaves at least one byte
 pub trim_some : (x : ℕ) (region value : List ℕ) → IsVisible x → IsTrimOf value (x ∷ region) → value ≢ []
 trim_some x region value visible t e =
     let front : t.front ≡ [] =

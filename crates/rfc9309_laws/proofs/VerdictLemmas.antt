@@ -84,13 +84,11 @@ module _ (stays : Reading) (count : List ℕ → ℕ) (members : List rfc.Member
       → count path ≡ length (escaped spelling)
   counts path spelling listed is = are.counted path listed ∙ sym (octets_are stays path spelling is)
 
-  -- this library compares a path of the same kind of rule
   compared : (kind : List ℕ → rfc.Member) (path : List ℕ) → Contains members (kind path) → IsFitBy kind path
       → (spelling : List ℕ) × Contains members (kind spelling) × IsComparedAs stays path spelling
   compared kind path listed (inl plain) = (path, listed, plain)
   compared kind path listed (inr twin) = (twin.twin, twin.listed, twin.same)
 
-  -- a path that matches here is plain
   plain : (kind : List ℕ → rfc.Member) (path : List ℕ) → Matches (escaped path) uri → IsFitBy kind path
       → IsPlainPath stays path
   plain kind path matches (inl is) = is
@@ -115,14 +113,12 @@ module _ (stays : Reading) (count : List ℕ → ℕ) (members : List rfc.Member
       let (rule, has, is) = zip_right members rules member zip listed in
       subst (Contains rules) (read_of member rule listed is) has
 
-  -- a Disallow comes from a Disallow that isn't empty
   disallow_of : (pattern : List ℕ) (member : rfc.Member) → Contains members member
       → ◌≡◌ {A = Rule} (pattern, false) (read member)
       → (path : List ℕ) × Contains members (rfc.Disallow path) × (path ≢ []) × (pattern ≡ escaped path)
   disallow_of pattern (rfc.Disallow (b ∷ path)) listed e = (b ∷ path, listed, (λ e. cc), pattern_of _ _ e)
   disallow_of pattern _ listed e = cc (kind_of _ _ e)
 
-  -- an Allow comes from an Allow, or from an empty Disallow
   allow_of : (pattern : List ℕ) (member : rfc.Member) → Contains members member
       → IsReadAs member (pattern, true)
       → ((path : List ℕ) × Contains members (rfc.Allow path) × (pattern ≡ escaped path))

@@ -7,10 +7,7 @@ use Rattle.rfc9309_laws.specs.Matching.{normal_path, normal_uri, octets, without
 use Rattle.texting_robots.specs.{Escape.escaped, Trim.IsTrimOf}
 use Rattle.rfc9309_laws.specs.Rfc9309 as rfc
 
--- ---- escapes
-
--- the text starts with an escape that isn't in normal form: one of its digits is lowercase, or it is that of
--- an unreserved octet
+-- an escape with a lowercase digit, or of an unreserved octet, so not in normal form
 abbrev pub begins_odd_escape : List ℕ → Bool
 begins_odd_escape text =
     let high = slice_index text 1 in
@@ -19,21 +16,17 @@ begins_odd_escape text =
     && ((is_ascii_lowercase high || is_ascii_lowercase low)
     || is_unreserved (digit_value high * 16 + digit_value low))
 
--- the text contains such an escape
 abbrev pub has_odd_escape : List ℕ → Bool
 has_odd_escape [] = false
 has_odd_escape (b ∷ text) = begins_odd_escape (b ∷ text) || has_odd_escape text
 
--- an octet that a URI in normal form may contain: unreserved, `%`, or reserved other than a star, a dollar
--- and `#`
+-- unreserved, `%`, or reserved other than a star, a dollar and `#`
 abbrev pub is_uri_octet : ℕ → Bool
 is_uri_octet b = is_unreserved b || (is_one_of (codes ":/?[]@!&'()+,;=") b || b == byte "%")
 
 -- the URI is in normal form, if reserved octets stay
 abbrev pub is_normal : List ℕ → Bool
 is_normal uri = list_all is_uri_octet uri && not (has_odd_escape uri)
-
--- ---- rules
 
 -- What this library compares for the spelling is what the standard compares for the path: the normal form of
 -- the path. A dollar is only at the end.
@@ -46,8 +39,8 @@ pub record IsComparedAs (stays : Reading) (path spelling : List ℕ) : Type 0 wh
 abbrev pub IsPlainPath : Reading → List ℕ → Type 0
 IsPlainPath stays path = IsComparedAs stays path path
 
--- A path that matches no URI in normal form here, since it has an odd escape. But another rule of the same
--- kind has a spelling of the path that is compared in its place, such as `/b` for `/%62`.
+-- A path that matches no URI in normal form here, since it has an odd escape; but another rule of the same
+-- kind has a spelling of it that is compared in its place, such as `/b` for `/%62`.
 pub record HasTwin (stays : Reading) (IsListed : List ℕ → Type 0) (path : List ℕ) : Type 0 where
   pub odd : has_odd_escape path ≡ true
   pub twin : List ℕ
@@ -66,16 +59,14 @@ IsFit stays members (rfc.Delay number) = Unit {0}
 abbrev pub IsPathOf : List rfc.Member → List ℕ → Type 0
 IsPathOf members path = Contains members (rfc.Allow path) ⊎ Contains members (rfc.Disallow path)
 
--- ---- both
-
 -- The rules and the URI are such that both verdicts agree.
 -- - `normal`: the URI is in normal form;
 -- - `robots`: so is `/robots.txt`;
 -- - `trimmed`: no rule has white space to trim;
 -- - `fit`: the rules are in normal form, when escaped, or have a twin that is;
 -- - `counted`: the octets of a rule are counted in its normal form, or this count is the same;
--- - `empty`: beside an empty Disallow, which this library reads as an Allow of `/`, each Disallow that isn't
---   empty has more than one octet, so that it isn't `/` or `*`.
+-- - `empty`: beside an empty Disallow, an Allow of `/` here, each other one has more than one octet, so it
+--   isn't `/` or `*`.
 pub record AreComparable (stays : Reading) (count : List ℕ → ℕ) (members : List rfc.Member) (uri : List ℕ)
     : Type 0 where
   pub normal : normal_uri stays uri ≡ uri

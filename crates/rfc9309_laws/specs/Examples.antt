@@ -12,7 +12,7 @@ use Rattle.texting_robots.specs.Callers.{IsVerdict, Matches, escaped}
 abbrev pub tsu : List ℕ
 tsu = 0xE3 ∷ 0x83 ∷ 0x84 ∷ []
 
--- the path and the URI have this normal form, by the reading that is made for the table
+-- by the reading that is made for the table
 abbrev pub HaveForm : (path uri form : List ℕ) → Type 0
 HaveForm path uri form = (normal_path as_in_table path ≡ form) × (normal_uri as_in_table uri ≡ form)
 
@@ -42,8 +42,8 @@ pub record OnlyByStandard (stays : Reading) (path uri : List ℕ) : Type 0 where
   pub here : ¬ Matches (escaped path) uri
 
 -- a needless escape, and a lowercase one, in the rule and in the URI; octets that URIs don't contain; a star
--- in the URI, which isn't in normal form; a dollar inside, which is an octet like others for the standard,
--- also before a star and before the dollar at the end
+-- in the URI; a dollar inside, which is an octet like others for the standard, also before a star and before
+-- the dollar at the end
 abbrev pub differences : Type 0
 differences =
     OnlyByStandard all_stay (codes "/%62") (codes "/b")
@@ -76,10 +76,10 @@ empty_disallow =
     (codes "/x") false
     × IsVerdict ((codes "/", true) ∷ (codes "/", false) ∷ []) (codes "/x") true
 
--- ---- the second example of the standard: the verdict of the longest match
+-- ---- the second example of the standard
 
--- (From memory: the standard's text asks for `/example/page/disallow.gif`, which its rule doesn't match;
--- meant is the URI here.)
+-- From memory: the standard asks for `/example/page/disallow.gif`, which its rule doesn't match; meant is
+-- this.
 abbrev pub page_rules : List rfc.Member
 page_rules =
     rfc.Allow (codes "/example/page/") ∷ rfc.Disallow (codes "/example/page/disallowed.gif") ∷ []

@@ -1,12 +1,10 @@
--- The form of a line as a test of its content, for programs that examine lines: a content that passes
--- `has_form` has the form (`HasForm`), unless it contains a line terminator.
+-- The form of a line as a test of its content: a content that passes `has_form` has the form (`HasForm`),
+-- unless it contains a line terminator.
 use Rattle.std.specs.Prelude.{ℕ, ◌==◌, ◌&&◌, ◌||◌, not, nat_le, nat_lt, Bool, true, false, List, [], ◌∷◌}
 use Rattle.std.specs.Prelude.{bytes_eq, codes, drop, if◌then◌else◌, map}
 use Rattle.std.specs.{Char.to_ascii_lowercase, List.list_all, List.list_any, Str.is_utf8}
 use Rattle.rfc9309_laws.specs.LineForms.{Form, Empty, Agent, Rule, Delay, Sitemap, Other}
 use Rattle.rfc9309_laws.specs.Rfc9309 as rfc
-
--- ---- bytes and characters
 
 abbrev pub hash : ℕ
 hash = 0x23
@@ -14,15 +12,14 @@ hash = 0x23
 abbrev pub colon : ℕ
 colon = 0x3A
 
--- a space or a tab
 abbrev pub is_blank : ℕ → Bool
 is_blank b = b == 0x20 || b == 0x09
 
--- a byte of a comment: a tab, or not a control character of ASCII, apart from DEL, which is a byte of one
+-- a tab, or not a control character of ASCII, apart from DEL
 abbrev pub is_comment_byte : ℕ → Bool
 is_comment_byte b = nat_le 0x20 b || b == 0x09
 
--- a byte of a pattern or an address: one of a comment other than a space, a tab and `#`
+-- a byte of a comment other than a space, a tab and `#`
 abbrev pub is_value_byte : ℕ → Bool
 is_value_byte b = nat_lt 0x20 b && not (b == 0x23)
 
@@ -45,19 +42,16 @@ abbrev pub are_some : (ℕ → Bool) → List ℕ → Bool
 are_some test [] = false
 are_some test (b ∷ text) = list_all test (b ∷ text)
 
--- ---- parts of a line
-
--- the bytes before the first one that is `stop`, or all if there is none
+-- all bytes if there is no `stop`
 abbrev pub text_before : ℕ → List ℕ → List ℕ
 text_before stop [] = []
 text_before stop (b ∷ text) = if b == stop then [] else b ∷ text_before stop text
 
--- the bytes from the first one that is `stop` on, or nothing
+-- nothing if there is no `stop`
 abbrev pub text_from : ℕ → List ℕ → List ℕ
 text_from stop [] = []
 text_from stop (b ∷ text) = if b == stop then b ∷ text else text_from stop text
 
--- the bytes after the first one that is `stop`, or nothing
 abbrev pub text_after : ℕ → List ℕ → List ℕ
 text_after stop text = drop 1 (text_from stop text)
 
@@ -92,13 +86,11 @@ value_in body = stripped (text_before hash (text_after colon body))
 abbrev pub lower : List ℕ → List ℕ
 lower text = map to_ascii_lowercase text
 
--- the line has a colon after this field name, and its comment, if there is one, is in order
+-- a colon after this field name, and a comment in order, if there is one
 abbrev pub is_keyed : List ℕ → List ℕ → Bool
 is_keyed word body =
     (has_byte colon body && bytes_eq (lower (name_in body)) word)
     && is_comment_text (text_after hash (text_after colon body))
-
--- ---- values
 
 abbrev pub is_product_token : List ℕ → Bool
 is_product_token value = are_some is_identifier_byte value || bytes_eq value (codes "*")
@@ -115,13 +107,10 @@ is_number value =
     || (has_byte 0x2E value && (are_some is_digit (text_before 0x2E value)
     && are_some is_digit (text_after 0x2E value)))
 
--- ---- the forms
-
 -- an identifier that isn't a field name which this library recognizes
 abbrev pub is_other_name : List ℕ → Bool
 is_other_name name = are_some is_identifier_byte name && not (list_any (bytes_eq (lower name)) rfc.names_read)
 
--- a line with this content has the form
 abbrev pub has_form : Form → List ℕ → Bool
 has_form Empty body = list_all is_blank (text_before hash body) && is_comment_text (text_after hash body)
 has_form Agent body = is_keyed (codes "user-agent") body && is_product_token (value_in body)

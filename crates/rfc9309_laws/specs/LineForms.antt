@@ -1,17 +1,16 @@
--- What the lines of a file have to look like for the file to follow the grammar of RFC 9309 (`IsFile`). The
--- lines are those that this library reads. All conditions but the last are about single lines, and about the
--- bytes between them.
+-- What the lines of a file that this library reads have to look like for the file to follow the grammar of
+-- RFC 9309 (`IsFile`). All conditions but the last are about single lines, and about the bytes between them.
 use Rattle.std.specs.Prelude.{◌≡◌, ◌≢◌, ◌⊎◌, ℕ, All, Contains, List, [], ◌∷◌, ◌++◌}
 use Rattle.std.specs.List.{AllZip}
 use Rattle.texting_robots.specs.{Cut.lf, Executable.file_bodies, Line.without_front}
 use Rattle.rfc9309_laws.specs.Rfc9309 as rfc
 
--- the forms of a line: only spaces, tabs and a comment; a user-agent line; an Allow or a Disallow; a delay; a
--- sitemap; a record with another name
+-- only spaces, tabs and a comment; a user-agent line; an Allow or a Disallow; a delay; a sitemap; a record
+-- with another name
 pub data Form : Type 0 where
   Empty Agent Rule Delay Sitemap Other : Form
 
--- the line, which includes its terminator, is one of the grammar's lines of this form
+-- the line includes its terminator
 abbrev pub IsLine : Form → List ℕ → Type 0
 IsLine Empty line = rfc.IsEmptyLine line
 IsLine Agent line = (token : List ℕ) × rfc.IsStartGroupLine token line
@@ -20,8 +19,8 @@ IsLine Delay line = (member : rfc.Member) × rfc.IsDelayLine member line
 IsLine Sitemap line = (address : List ℕ) × rfc.IsSitemapLine address line
 IsLine Other line = rfc.IsOtherLine line
 
--- the content of a line has the form: with LF after it, it is such a line; another terminator, or none at
--- the end of the file, makes no difference
+-- with LF after the content, it is such a line; another terminator, or none at the end of the file, makes no
+-- difference
 abbrev pub HasForm : Form → List ℕ → Type 0
 HasForm form body = IsLine form (body ++ lf ∷ [])
 

@@ -19,8 +19,7 @@ is_unreserved b = is_ascii_alphanumeric b || is_one_of (codes "-._~") b
 abbrev pub is_reserved : ℕ → Bool
 is_reserved b = is_one_of (codes ":/?#[]@!$&'()*+,;=") b
 
--- `%` and two hexadecimal digits: uppercase ones, by RFC 3986 (sections 2.1 and 6.2.2.1), since RFC 9309 says
--- nothing of their case
+-- two uppercase hexadecimal digits, by RFC 3986 (sections 2.1 and 6.2.2.1): RFC 9309 doesn't state their case
 abbrev pub percent_encoded : ℕ → List ℕ
 percent_encoded b = byte "%" ∷ digit_glyph true (b / 16 % 16) ∷ digit_glyph true (b % 16) ∷ []
 
@@ -50,8 +49,6 @@ in_rule stays in_query b = b == byte "*" || (not (b == byte "$") && stays in_que
 
 abbrev pub in_uri : Reading → Reading
 in_uri stays in_query b = not (is_one_of (codes "*$#") b) && stays in_query b
-
--- ---- normal forms
 
 -- an octet that is left as it is: an unreserved one, a reserved one that stays, or `%`
 abbrev pub is_kept : Reading → Bool → ℕ → Bool
@@ -85,19 +82,17 @@ normal_from stays in_query (b ∷ high ∷ low ∷ text) =
     if is_escape b high low then normal_escape high low ++ normal_from stays in_query text
     else normal_octet stays in_query b ++ normal_from stays (in_query || b == byte "?") (high ∷ low ∷ text)
 
--- the path of a rule without the `$` at its end, if it has one
+-- without the `$` at the end, if there is one
 unfoldable pub without_end : List ℕ → List ℕ
 without_end [] = []
 without_end (b ∷ []) = if b == byte "$" then [] else b ∷ []
 without_end (b ∷ c ∷ path) = b ∷ without_end (c ∷ path)
 
--- the path of a rule ends with `$`
 unfoldable pub is_ended : List ℕ → Bool
 is_ended [] = false
 is_ended (b ∷ []) = b == byte "$"
 is_ended (b ∷ c ∷ path) = is_ended (c ∷ path)
 
--- the text contains `$`
 abbrev pub has_dollar : List ℕ → Bool
 has_dollar text = list_any (λ b. b == byte "$") text
 
@@ -108,8 +103,6 @@ normal_path stays path = normal_from (in_rule stays) false (without_end path)
 -- the normal form of a URI's path and query
 abbrev pub normal_uri : Reading → List ℕ → List ℕ
 normal_uri stays uri = normal_from (in_uri stays) false uri
-
--- ---- matching
 
 -- the first string, or the empty one; the others
 abbrev pub first_of : List (List ℕ) → List ℕ
@@ -135,8 +128,6 @@ pub record IsMatch (stays : Reading) (path uri : List ℕ) : Type 0 where
   pub rest : List ℕ
   pub whole : normal_uri stays uri ≡ filled (normal_path stays path) strings ++ rest
   pub end : is_ended path ≡ true → rest ≡ []
-
--- ---- verdicts
 
 -- How many octets a rule has. By the standard, the match with the most octets is used; it doesn't say which
 -- are counted. Here they are those of the rule's path in normal form, stars and a final `$` included.

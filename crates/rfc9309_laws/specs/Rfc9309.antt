@@ -2,14 +2,12 @@
 -- and the items that they contain, such as groups. The names are those of the productions; the items come
 -- before the bytes. Nothing here refers to the specification of this library.
 --
--- `IsRobotstxt` is exactly the standard's grammar. `IsFile` extends it by four things, which come after the
--- standard's own productions: a leading byte order mark, a last line without a line end, a pattern that
--- begins with a star, and the lines that the standard leaves to implementers.
+-- `IsRobotstxt` is exactly the standard's grammar. `IsFile` extends it by a leading byte order mark, a last
+-- line without a line end, a pattern that begins with a star, and the lines that the standard leaves to
+-- implementers.
 use Rattle.std.specs.Prelude.{◌≡◌, ◌⊎◌, ℕ, ◌≤◌, Bool, true, false, List, [], ◌∷◌, ◌++◌, map, codes, bytes_eq}
 use Rattle.std.specs.Prelude.{filter, Contains, if◌then◌else◌}
 use Rattle.std.specs.{List.flat_map, List.list_any, List.AllByRecursion as Each, Char.to_ascii_lowercase}
-
--- ---- items
 
 -- a line after a group's product tokens: a rule with its pattern, or a delay with its number, as written
 pub data Member : Type 0 where
@@ -21,8 +19,6 @@ pub data Member : Type 0 where
 pub record Group : Type 0 where
   pub tokens : List (List ℕ)
   pub members : List Member
-
--- ---- the forms of productions
 
 -- `low-high`
 abbrev pub IsBetween : ℕ → ℕ → ℕ → Type 0
@@ -95,8 +91,6 @@ abbrev pub IsUtf8CharNoctl : List ℕ → Type 0
 IsUtf8CharNoctl bytes =
     IsUtf8OneNoctl bytes ⊎ (IsUtf8Two bytes ⊎ (IsUtf8Three bytes ⊎ IsUtf8Four bytes))
 
--- ---- line ends
-
 -- WS = %x20 / %x09
 abbrev pub IsWs : ℕ → Type 0
 IsWs byte = (byte ≡ 0x20) ⊎ (byte ≡ 0x09)
@@ -131,8 +125,6 @@ pub record IsEol (bytes : List ℕ) : Type 0 where
 abbrev pub IsEmptyLine : List ℕ → Type 0
 IsEmptyLine bytes = IsEol bytes
 
--- ---- parts of a line
-
 -- a byte of an identifier: %x2D / %x41-5A / %x5F / %x61-7A
 abbrev pub IsIdentifierByte : ℕ → Type 0
 IsIdentifierByte byte =
@@ -165,8 +157,6 @@ IsEmptyPattern bytes = Each IsWs bytes
 abbrev pub IsPattern : List ℕ → List ℕ → Type 0
 IsPattern pattern bytes =
     (IsPathPattern bytes × (pattern ≡ bytes)) ⊎ (IsEmptyPattern bytes × (pattern ≡ []))
-
--- ---- lines
 
 -- *WS word *WS ":" *WS value EOL
 pub record IsKeyed (word value text : List ℕ) : Type 0 where
@@ -362,15 +352,14 @@ abbrev pub merged : List Group → List Group
 merged [] = []
 merged (group ∷ later) = put_before group.tokens group.members (merged later)
 
--- the product token is that of the crawler, compared without regard to the case of ASCII letters
+-- compared without regard to the case of ASCII letters
 abbrev pub is_token : List ℕ → List ℕ → Bool
 is_token agent token = bytes_eq (map to_ascii_lowercase token) (map to_ascii_lowercase agent)
 
--- one of the group's product tokens is that of the crawler
 abbrev pub has_token : List ℕ → Group → Bool
 has_token agent group = list_any (is_token agent) group.tokens
 
--- the groups of the crawler, or those of `*` if it has none
+-- or those of `*` if the crawler has none
 abbrev pub groups_for : List ℕ → List Group → List Group
 groups_for agent groups =
     if list_any (has_token agent) groups then filter (has_token agent) groups
@@ -381,7 +370,6 @@ is_rule (Allow pattern) = true
 is_rule (Disallow pattern) = true
 is_rule (Delay number) = false
 
--- the rules of these groups, in order
 abbrev pub rules_for : List ℕ → List Group → List Member
 rules_for agent groups = filter is_rule (flat_map (λ group. group.members) (groups_for agent groups))
 
@@ -395,6 +383,5 @@ abbrev pub without_delays : List Group → List Group
 without_delays groups =
     map (λ group. record { tokens = group.tokens; members = filter is_rule group.members }) groups
 
--- the rules of the crawler, by the standard
 abbrev pub standard_rules : List ℕ → List Group → List Member
 standard_rules agent groups = rules_for agent (merged (without_delays groups))

@@ -1,10 +1,7 @@
--- Two small files, and what they contain by the relations of `specs/Rfc9309.antt`. One follows the
--- standard's own grammar. The other has lines of the extended grammar before the same lines. The theorem
--- `standard_samples_are_files` shows that they follow these grammars.
+-- Two small files, and what they contain by the relations of `specs/Rfc9309.antt`: one of the standard's own
+-- grammar, and one that has lines of the extended grammar before the same lines.
 use Rattle.std.specs.Prelude.{ℕ, List, [], ◌∷◌, ◌++◌, codes}
 use Rattle.rfc9309_laws.specs.Rfc9309.{Allow, Delay, Disallow, Group, Member}
-
--- ---- line ends
 
 abbrev pub lf : List ℕ
 lf = 0x0A ∷ []
@@ -14,8 +11,6 @@ cr = 0x0D ∷ []
 
 abbrev pub cr_lf : List ℕ
 cr_lf = 0x0D ∷ 0x0A ∷ []
-
--- ---- a file of the standard's own grammar
 
 -- characters of one, two, three and four bytes
 abbrev pub path : List ℕ
@@ -44,8 +39,6 @@ bare_groups =
     }
     ∷ record { tokens = codes "*" ∷ []; members = Disallow (codes "/") ∷ [] }
     ∷ []
-
--- ---- a file of the extended grammar
 
 abbrev pub wide_text : List ℕ
 wide_text =

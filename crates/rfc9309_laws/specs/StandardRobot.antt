@@ -6,10 +6,7 @@ use Rattle.texting_robots.specs.{Robot.RobotValue, Rules.PlacedRule, Rules.unpla
 use Rattle.std.specs.{List.AllZip, List.last_or, Option.option_or}
 use Rattle.rfc9309_laws.specs.Rfc9309 as rfc
 
--- ---- What this library makes of a rule in a file that follows the standard's grammar.
-
--- The library's rule for a rule of the grammar: its pattern is trimmed of Unicode white space and escaped.
--- An empty Disallow becomes an Allow of `/`.
+-- The pattern is trimmed of Unicode white space and escaped. An empty Disallow becomes an Allow of `/`.
 abbrev pub IsReadAs : rfc.Member → Rule → Type 0
 IsReadAs (rfc.Allow pattern) rule =
     (value : List ℕ) × IsTrimOf value pattern × (rule ≡ (escaped value, true))
@@ -17,10 +14,6 @@ IsReadAs (rfc.Disallow []) rule = rule ≡ (codes "/", true)
 IsReadAs (rfc.Disallow (b ∷ pattern)) rule =
     (value : List ℕ) × IsTrimOf value (b ∷ pattern) × (rule ≡ (escaped value, false))
 IsReadAs (rfc.Delay number) rule = ⊥
-
--- ---- What `Robot::new` makes of a file that follows the grammar: the rules, the delay and the sitemaps.
-
--- ---- delays above all groups
 
 -- *( delayline / skipped ) *( widegroup / skipped ), as `IsWideFile`, with the numbers of the first delays
 pub record IsFileBelow (numbers : List (List ℕ)) (groups : List rfc.Group) (text : List ℕ) : Type 0 where
@@ -31,11 +24,9 @@ pub record IsFileBelow (numbers : List (List ℕ)) (groups : List rfc.Group) (te
       (rfc.IsOneOr (λ number. rfc.IsDelayLine (rfc.Delay number)) rfc.IsSkipped) numbers front
   pub are_groups : rfc.Repeats (rfc.IsOneOr rfc.IsWideGroup rfc.IsSkipped) groups rest
 
--- the file follows the extended grammar, with these groups and with these delays above them
+-- the extended grammar, with these delays above the groups
 abbrev pub IsFileWith : List (List ℕ) → List rfc.Group → List ℕ → Type 0
 IsFileWith numbers groups text = rfc.IsFileOf (IsFileBelow numbers groups) text
-
--- ---- the delay for a crawler
 
 abbrev pub is_delay : rfc.Member → Bool
 is_delay (rfc.Delay number) = true
@@ -45,24 +36,21 @@ is_delay _ = false
 abbrev pub delays_for : List ℕ → List rfc.Group → List rfc.Member
 delays_for agent groups = filter is_delay (flat_map (λ group. group.members) (rfc.groups_for agent groups))
 
--- the delay that counts for a crawler: the first one of its groups, or else the last one above all groups; in
--- a file without groups the first one
+-- the first delay of the crawler's groups, or else the last one above all groups; in a file without groups
+-- the first one
 abbrev pub delay_among : List ℕ → List rfc.Group → List rfc.Member → Option rfc.Member
 delay_among agent [] above = slice_get above 0
 delay_among agent (group ∷ groups) above =
     option_or (slice_get (delays_for agent (group ∷ groups)) 0) (last_or None above)
 
--- the number of the delay denotes this many microseconds
 abbrev pub IsDelayOf : rfc.Member → ℕ → Type 0
 IsDelayOf (rfc.Delay number) micros = IsDelay number (Some micros)
 IsDelayOf _ micros = ⊥
 
--- the delay, in microseconds, if there is one
+-- in microseconds, if there is one
 abbrev pub IsDelayAs : Option rfc.Member → Option ℕ → Type 0
 IsDelayAs None delay = delay ≡ None
 IsDelayAs (Some member) delay = (micros : ℕ) × IsDelayOf member micros × (delay ≡ Some micros)
-
--- ---- the robot
 
 -- The robot has what the file states for the crawler, where the file has these merged groups, these delays
 -- above them, and these sitemaps.

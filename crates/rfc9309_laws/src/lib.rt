@@ -14,12 +14,10 @@ ghost use Rattle.texting_robots.specs.{Cut.IsBodyByte, Trim.IsTrimOf};
 ghost use Rattle.rfc9309_laws.specs.Rfc9309 as rfc;
 ghost use Rattle.rfc9309_laws.specs.Sample as sample;
 
-/// Theorems about files that follow the extended grammar `IsFile`, used by site
-/// owners who write to the standard:
+/// Files that follow the extended grammar `IsFile`:
 ///
 /// - `read`: the rules that this library finds for a crawler are, in order, those that the grammar's groups
-///   have for it, each changed as `IsReadAs` states: the pattern is trimmed and escaped, and an empty
-///   Disallow becomes an Allow of `/`.
+/// have for it, each changed as `IsReadAs` states.
 /// - `once`: all ways to parse a file result in the same groups after merging.
 /// - `sitemaps`: the library's sitemaps are, in order, the addresses of the sitemap lines, trimmed.
 /// - `listed`: the grammar yields exactly one list of sitemap addresses for a file.
@@ -38,17 +36,15 @@ pub fn standard_files_are_read_so()
         → rfc.IsFile groups text }
 {}
 
-/// What `Robot::new` returns for a file whose first 512,000 bytes follow the extended
-/// grammar, used by crawlers that call it:
+/// What `Robot::new` returns for a file whose first 512,000 bytes follow the extended grammar, apart from
+/// `Error::Memory`:
 ///
 /// - `robot`: the robot has the rules, the delay and the sitemaps that the file states for the crawler, as
-///   `IsRobotAs` says. The rules are those of its groups. The delay is the first of its groups, or else the
-///   last one above all groups; in a file without groups it is the first one.
-/// - `rejected`: if there is no robot because the file is rejected, one of these rules is too long.
+/// `IsRobotAs` says. The delay is the first of its groups, or else the last one above all groups; in a file
+/// without groups it is the first one.
+/// - `rejected`: if the file is rejected, one of these rules is too long.
 /// - `delays`: each file has such delays above its groups, maybe none.
 /// - `forms`: the same as `robot`, for a file whose lines have the forms of the grammar's lines.
-///
-/// Besides, `Robot::new` only returns `Error::Memory`.
 pub fn standard_robots()
     ensures robot { (agent file : List ℕ) (groups : List rfc.Group) (numbers addresses : List (List ℕ))
         (robot : RobotValue) → IsFileWith numbers groups (take file_limit file)
@@ -74,16 +70,13 @@ pub fn standard_samples_are_files()
     ensures rules { rfc.rules_for (codes "BOT") (rfc.merged sample.wide_groups) ≡ sample.wide_rules }
 {}
 
-/// The conditions on the lines of a text under which it follows the extended grammar, so that
-/// `standard_files_are_read_so` applies to it. Used by audits, which examine a file line by line:
+/// When a text follows the extended grammar, by its lines:
 ///
-/// - `file`: a text follows the grammar if each of its lines has the form of one of the grammar's
-///   lines, each rule is below a user-agent line, and nothing else is in the text than lines and a byte
-///   order mark, as `AreForms` says.
+/// - `file`: it does if each of its lines has the form of one of the grammar's lines, each rule is below a
+/// user-agent line, and nothing else is in the text than lines and a byte order mark, as `AreForms` says.
 /// - `only`: no other text does.
 /// - `test`: a line has a form if its content passes the test `has_form`.
-/// - `exact`: only then, since the content of a line has no CR or LF. So the test is
-///   no stricter than the grammar.
+/// - `exact`: only then, since the content of a line has no CR or LF.
 pub fn line_forms_make_files()
     ensures file { (text : List ℕ) (forms : List Form) → AreForms forms text
         → (groups : List rfc.Group) × rfc.IsFile groups text }

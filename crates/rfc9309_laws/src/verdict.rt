@@ -1,5 +1,5 @@
-//! Where the verdict of this library is that of RFC 9309, sections 2.2.2 and 2.2.3. Theorems about the
-//! specification, each the contract of an empty function.
+//! Where the verdict of this library is that of RFC 9309, sections 2.2.2 and 2.2.3. Each theorem is the
+//! contract of an empty function.
 ghost use Rattle.std.specs.Prelude.{◌≡◌, ◌↔◌, ℕ, Bool, true, false, List, length, take};
 ghost use Rattle.std.specs.List.{AllZip, list_any};
 ghost use Rattle.rfc9309_laws.specs.Comparable.{AreComparable, IsComparedAs, IsPlainPath, has_odd_escape};
@@ -64,8 +64,8 @@ pub fn examples_of_matching()
     ensures reserved_alike { example.reserved_alike }
 {}
 
-/// The second example of the standard, which meets the conditions of `verdicts_agree`; rules of several forms
-/// that meet them, by which one URI is disallowed and another one isn't; and an empty Disallow.
+/// The second example of the standard; rules of several forms that meet the conditions of `verdicts_agree`,
+/// by which one URI is disallowed and another one isn't; and an empty Disallow.
 pub fn examples_of_verdicts()
     ensures longest { example.longest }
     ensures mixed { example.mixed }

@@ -15,7 +15,6 @@ use Rattle.rfc9309_laws.specs.Rfc9309 as rfc
 use Rattle.rfc9309_laws.specs.Sample as sample
 use Rattle.rfc9309_laws.proofs.standard_samples_are_files.Goals as goal
 
--- a line with an item, or a line with none
 record Row {X : Type 0} (P : X → List ℕ → Type 0) (Q : List ℕ → Type 0) : Type 0 where
   items : List X
   text : List ℕ
@@ -91,7 +90,7 @@ is_robotstxt =
     }) ∷ []) in
     repeats {P = rfc.IsGroup} {Q = rfc.IsEmptyLine} (item _ _ bots ∷ item _ _ others ∷ [])
 
--- with a byte order mark at the start, and no terminator after the last line
+-- with a byte order mark, and no terminator after the last line
 is_file : rfc.IsFile sample.wide_groups sample.wide_text
 unfolding is_utf8 chars encode
 is_file =

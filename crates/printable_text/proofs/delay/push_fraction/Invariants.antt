@@ -2,7 +2,6 @@ use Rattle.std.proofs.Common.{◌≡◌, ◌++◌, ◌<◌, string_bytes}
 use Rattle.printable_text.specs.Delay.{fraction, million}
 use Rattle.printable_text.proofs.delay.push_fraction.Given as goal
 
--- the digits appended so far and the remaining ones are all the digits
 abbrev pub invariant-loop-rest : goal.invariant-loop-rest
 invariant-loop-rest l = record {
   less : l.rest < million;

@@ -3,7 +3,6 @@ use Rattle.std.specs.Io.{StartsWith}
 use Rattle.printable_text.specs.Sanitize.{safe_in}
 use Rattle.printable_text.proofs.sanitize.push_chunks.Given as goal
 
--- the bytes appended so far and the safe rest together are the complete result
 abbrev pub invariant-loop-rest : goal.invariant-loop-rest
 invariant-loop-rest l = record {
   whole : string_bytes l.text ++ safe_in l.has_lines l.rest

@@ -7,7 +7,6 @@ use Rattle.printable_text.specs.{Sanitize.without_hash}
 use Rattle.printable_text.proofs.{SanitizeLemmas.starts_on}
 use Rattle.printable_text.proofs.sanitize.push_without_hashes.Goals as goal
 
--- one more character is appended
 char_added : (yielded : List ℕ) (char : ℕ) (old mid new : List ℕ)
     → mid ≡ old ++ encode_utf8_all (flat_map without_hash yielded)
     → new ≡ mid ++ encode_utf8_all (without_hash char)

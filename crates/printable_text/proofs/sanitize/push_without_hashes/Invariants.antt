@@ -3,7 +3,6 @@ use Rattle.std.specs.{Io.StartsWith, Str.encode_utf8_all}
 use Rattle.printable_text.specs.Sanitize.{without_hash}
 use Rattle.printable_text.proofs.sanitize.push_without_hashes.Given as goal
 
--- the characters so far are appended
 abbrev pub invariant-loop-char : goal.invariant-loop-char
 invariant-loop-char l = record {
   whole : string_bytes l.text

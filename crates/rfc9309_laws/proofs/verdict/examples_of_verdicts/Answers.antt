@@ -17,12 +17,10 @@ use Rattle.rfc9309_laws.proofs.VerdictLemmas.{each_contains, verdicts_agree}
 use Rattle.rfc9309_laws.specs.Rfc9309 as rfc
 use Rattle.rfc9309_laws.proofs.verdict.examples_of_verdicts.Goals as goal
 
--- the path is empty, or begins and ends with visible bytes
 abbrev is_trimmed : List ℕ → Bool
 is_trimmed [] = true
 is_trimmed (b ∷ path) = is_ascii_graphic b && is_ascii_graphic (get_or (b ∷ path) (length path) 0)
 
--- an Allow is trimmed, and a Disallow, too; if it isn't empty, it has more than one octet
 abbrev is_usual : Reading → rfc.Member → Bool
 is_usual stays (rfc.Allow path) = is_trimmed path
 is_usual stays (rfc.Disallow []) = true
@@ -35,7 +33,6 @@ trimmed (b ∷ path) is =
     let (first, last) = and_parts _ _ is in
     subst (λ v. IsTrimOf v (b ∷ path)) (graphic_trim b path first last) (trimmed_is_trim _)
 
--- the rule of this library; its line doesn't matter
 abbrev read : rfc.Member → PlacedRule
 read (rfc.Allow path) = record { rule = (escaped path, true); line = 0 }
 read (rfc.Disallow (b ∷ path)) = record { rule = (escaped (b ∷ path), false); line = 0 }
@@ -57,7 +54,6 @@ module _ (stays : Reading) (members : List rfc.Member) (uri : List ℕ)
   are_long [] has some = absurd (some refl)
   are_long (b ∷ path) has some = ltb-true 1 _ (and_parts _ _ (are_usual _ has)).1
 
-  -- the verdict of this library is that of the standard
   agreed : (answer : Bool) → normal_uri stays uri ≡ uri
       → normal_uri stays (codes "/robots.txt") ≡ codes "/robots.txt" → Each (IsFit stays members) members
       → allowed_by (deciding_rule (map read members) uri) ≡ answer
