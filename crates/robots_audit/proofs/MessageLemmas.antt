@@ -23,23 +23,18 @@ use Rattle.audit_json.proofs.JsonLemmas.{findings_printable, json_printable, sar
 use Rattle.audit_page.proofs.{PageLemmas.page_printable}
 use Rattle.audit_text.specs.{Report.report_lines}
 
--- ---- Which warnings are at the level of `--strict`, and results that are answers.
-
--- whether a warning from index `at` on is at the level, in terms of the warning there
 pub warned_next : (least : Level) (warnings : List WarningValue) (at : ℕ) (warning : WarningValue)
     → at < length warnings → is_warned (Some least) (drop at warnings)
     ≡ (reaches (level_of (slice_index_or warnings at warning).cause) least
     || is_warned (Some least) (drop (at + 1) warnings))
 warned_next least warnings at warning below = rw (drop_more warnings at warning below) refl
 
--- what follows from the answer, follows from a result that is one
 pub if_ok : {X E : Type 0} {P Q : X → Type 0} (result : Result X E) → ((x : X) → P x → Q x) → IfOk result P
     → IfOk result Q
 if_ok (Ok x) follows is = follows x is
 if_ok (Err fault) follows is = tt
 
--- ---- Messages on standard error are printable apart from color codes. Without the codes they are those
--- without colors.
+-- ---- Without color codes, messages on standard error are printable, and those without colors.
 
 pub message_colored : (requested : RequestValue) (audit : AuditValue)
     → IsColored (message (without_colors requested) audit) (message requested audit)
@@ -64,14 +59,11 @@ message_printable requested audit off =
     subst (λ (has_colors : Bool). IsForTerminal has_colors (message requested audit)) off
     (message_for_terminal requested audit)
 
--- ---- answers
-
 silent : (has_colors : Bool) (answer : Answer) → string_bytes answer.outcome.warnings ≡ []
     → IsForTerminal has_colors (string_bytes answer.outcome.warnings)
 silent has_colors answer is =
     subst (IsForTerminal has_colors) (sym is) (for_terminal has_colors [] (nil_printable true))
 
--- a text is for every terminal, and so are no warnings
 pub text_for_terminal : (has_colors : Bool) (text : List ℕ) (answer : Answer) → IsText text answer
     → IsForTerminal has_colors (string_bytes answer.outcome.warnings)
 text_for_terminal has_colors text answer is = silent has_colors answer is.quiet
@@ -113,7 +105,6 @@ answer_for_terminal by_default matches answer (inr (off, is)) = by _ _ _ is
     by None None (Some name) is = silent _ answer is.compared.listed.silent
     by None None None is = audited_for_terminal by_default matches answer is
 
--- with or without colors, warnings can be sent to a terminal
 pub answer_printable : (by_default : Bool) (matches : ArgMatches) (answer : Answer)
     → Answers by_default matches answer → IsForTerminal true (string_bytes answer.outcome.warnings)
 answer_printable by_default matches answer is =
@@ -137,7 +128,7 @@ output_in_printable Sarif requested audit =
 pub output_printable : (requested : RequestValue) (audit : AuditValue) → IsPrintable (output requested audit)
 output_printable requested audit = output_in_printable requested.format requested audit
 
--- so are those on findings, if they are printable as text
+-- those on findings, if they are printable as text
 pub listed_printable : {X : Type 0} (value : X → Found) (format : Format) (file text : List ℕ) (all : List X)
     → IsPrintable text → IsPrintable (listed_in format file text (map (λ one. found_value (value one)) all))
 listed_printable value Json file text all is =

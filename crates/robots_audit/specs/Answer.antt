@@ -24,9 +24,7 @@ use Rattle.audit_text.specs.{Github.github_text, Explain.explanation, Explain.li
 use Rattle.audit_json.specs.{Json.findings_text, Json.json_text, Sarif.sarif_text}
 use Rattle.audit_page.specs.{Page.page}
 
--- ---- the report and the warnings
-
--- the last line has the numbers of allowed and denied URLs, with `--urls` or `--denied`
+-- with `--urls` or `--denied`
 abbrev pub total_lines : (has_totals : Bool) → AuditValue → List ReportLine
 total_lines true audit = total_line audit.agents ∷ []
 total_lines false audit = []
@@ -40,7 +38,6 @@ has_all_urls format = false
 abbrev pub leaves_out_allowed : RequestValue → Bool
 leaves_out_allowed requested = requested.is_denied_only && not (has_all_urls requested.format)
 
--- the audit that is reported
 abbrev pub reported : RequestValue → AuditValue → AuditValue
 reported requested audit = shown (leaves_out_allowed requested) audit
 
@@ -56,26 +53,21 @@ output_in Github requested audit =
 output_in Sarif requested audit =
     sarif_text (shown_name requested.file) (findings (reported requested audit))
 
--- the report in the requested format
 abbrev pub output : RequestValue → AuditValue → List ℕ
 output requested audit = output_in requested.format requested audit
 
--- the message with a report in this format: of each name the first twenty warnings and the number of the
--- others, unless they are in the report
+-- of each name the first twenty warnings and the number of the others, unless they are in the report
 abbrev pub message_in : Format → RequestValue → AuditValue → List ℕ
 message_in Text requested audit =
     ended (listed_lines requested.has_colors (shown_name requested.file) audit.warnings)
 message_in format requested audit = []
 
--- the message on standard error
 abbrev pub message : RequestValue → AuditValue → List ℕ
 message requested audit = message_in requested.format requested audit
 
--- the same request without colors
 abbrev pub without_colors : RequestValue → RequestValue
 without_colors requested = record requested { has_colors = false }
 
--- a warning is at the level of `--strict`, or at a more serious one
 abbrev pub is_warned : Option Level → List WarningValue → Bool
 is_warned None warnings = false
 is_warned (Some least) warnings =
@@ -94,9 +86,7 @@ pub record IsAudited (requested : RequestValue) (file : List ℕ) (answer : Answ
   pub report : answer.report.items ≡ output requested audit
   pub outcome : IsOutcomeOf requested audit answer.outcome
 
--- ---- a comparison, and expectations
-
--- the report in this format on findings in the file with this name, on which `text` is the report as text
+-- on findings in the file with this name, on which `text` is the report as text
 abbrev pub listed_in : Format → (file text : List ℕ) → List FindingValue → List ℕ
 listed_in Json file text found = findings_text file found
 listed_in Github file text found = github_text file found
@@ -130,29 +120,25 @@ pub record IsCompared (requested : RequestValue) (older_name older newer_name ne
   pub listed : IsListed requested.format (shown_name requested.file) (written (comparison_lines comparison))
       (map finding_of (all_differences comparison)) (rejects_one comparison) (differs_nowhere comparison) answer
 
--- the answer to a check of the expectations in a text, of a file with this name; a rejected file is a failure
+-- a rejected file is a failure
 pub record IsExpected (format : Format) (name text file : List ℕ) (answer : Answer) : Type 0 where
   pub report : List ℕ
   pub found : List FindingValue
   pub of : IsReport name text file report found
   pub listed : IsListed format name report found false (length found == 0) answer
 
--- ---- arguments
-
--- the name of the robots.txt file as it is given
 abbrev pub given_name : Option (List ℕ) → List ℕ
 given_name None = codes "-"
 given_name (Some name) = name
 
--- The toolchain has no words for the content of a file or of standard input. So these say that there are some
--- bytes, which were read, for which the answer is the right one.
+-- The toolchain has no words for the content of a file or of standard input. So these state that there are
+-- some bytes, which were read, for which the answer is the right one.
 
--- the request has the URLs in a file as well, if the option `--urls` names one
 abbrev pub HasUrls : Option (List ℕ) → RequestValue → RequestValue → Type 0
 HasUrls None requested extended = extended ≡ requested
 HasUrls (Some name) requested extended = (text : List ℕ) × HasUrlsIn text requested extended
 
--- the request that the arguments contain, with the URLs in a file
+-- with the URLs in a file
 pub record IsAsked (by_default : Bool) (matches : ArgMatches) (extended : RequestValue) : Type 0 where
   pub request : Request
   pub asked : IsRequestOf by_default matches request
@@ -175,7 +161,7 @@ pub record AnswersExpectations (matches : ArgMatches) (name : List ℕ) (answer 
   pub can_be : content_flaw file ≡ None
   pub checked : IsExpected format name text file answer
 
--- a comparison of the file with this name with the one that the arguments name; both can be robots.txt files
+-- with the file that the arguments name; both can be robots.txt files
 pub record AnswersComparison (matches : ArgMatches) (name : List ℕ) (answer : Answer) : Type 0 where
   pub requested : RequestValue
   pub asked : IsAsked false matches requested
@@ -185,7 +171,7 @@ pub record AnswersComparison (matches : ArgMatches) (name : List ℕ) (answer : 
   pub newer_can_be : content_flaw newer ≡ None
   pub compared : IsCompared requested name older (given_name requested.file) newer answer
 
--- what the options `--explain`, `--expect` and `--compare` request, in this order, or else an audit
+-- what `--explain`, `--expect` and `--compare` request, in this order, or else an audit
 abbrev pub AnswersOptions : (explain expect compare : Option (List ℕ)) → (by_default : Bool) → ArgMatches
     → Answer → Type 0
 AnswersOptions (Some name) expect compare by_default matches answer =
@@ -194,7 +180,7 @@ AnswersOptions None (Some name) compare by_default matches answer = AnswersExpec
 AnswersOptions None None (Some name) by_default matches answer = AnswersComparison matches name answer
 AnswersOptions None None None by_default matches answer = AnswersAudit by_default matches answer
 
--- the answer to these arguments; `by_default` is whether warnings have colors without `--color`
+-- `by_default` is whether warnings have colors without `--color`
 abbrev pub Answers : (by_default : Bool) → ArgMatches → Answer → Type 0
 Answers by_default matches answer =
     (IsOn matches (codes "list-warnings") true × IsText list_text answer)
@@ -202,9 +188,7 @@ Answers by_default matches answer =
     × AnswersOptions (value_of matches (codes "explain")) (value_of matches (codes "expect"))
     (value_of matches (codes "compare")) by_default matches answer)
 
--- ---- errors
-
--- the error has the message of `clap`, of which `clap` specifies nothing, or an allocation failed
+-- `clap` specifies nothing of its message
 abbrev pub HasWords : Fault → Type 0
 HasWords (Words text) = ⊤
 HasWords fault = fault ≡ Memory

@@ -16,33 +16,31 @@ use Rattle.audit_core.specs.{Chosen.IsInBoth, Chosen.share_a_name, Fault.IsUnkno
 use Rattle.audit_expect.specs.UrlList.{IsUrlFault, first_malformed}
 use Rattle.printable_text.specs.declared.level.Level.TheVariants as level
 
--- the first value of an option or argument
 abbrev pub value_of : ArgMatches → List ℕ → Option (List ℕ)
 value_of matches id = first_value (found_of matches) id
 
--- all of its values
 abbrev pub values_of : ArgMatches → List ℕ → List (List ℕ)
 values_of matches id = option_map_or raw_values (matched_of (found_of matches) id) []
 
--- the value of an option that is on or off
+-- of an option that is on or off
 abbrev pub IsOn : ArgMatches → List ℕ → Bool → Type 0
 IsOn matches id answer =
     (one_text (found_of matches) id ≡ Some (codes "true") → answer ≡ true)
     × (one_text (found_of matches) id ≡ Some (codes "false") → answer ≡ false)
     × (one_text (found_of matches) id ≡ None → answer ≡ false)
 
--- the name of the file that is read; `None` for standard input, which `-` means too
+-- `None` for standard input, which `-` means too
 abbrev pub file_read : Option (List ℕ) → Option (List ℕ)
 file_read None = None
 file_read (Some name) = if bytes_eq name (codes "-") then None else Some name
 
--- a file with this name is read from standard input; without a name no file is read
+-- without a name no file is read
 abbrev pub is_stdin : Option (List ℕ) → Bool
 is_stdin None = false
 is_stdin (Some name) = bytes_eq name (codes "-")
 
--- the robots.txt file and another one would be read from standard input: the URLs, the expectations or the
--- older version of the robots.txt file; or both the URLs and that version would
+-- besides the robots.txt file, the URLs, the expectations or the older version of the robots.txt file would
+-- be read from standard input; or both the URLs and that version would
 abbrev pub reads_stdin_twice : ArgMatches → Bool
 reads_stdin_twice matches =
     (is_none (file_read (value_of matches (codes "file")))
@@ -50,24 +48,22 @@ reads_stdin_twice matches =
     || (is_stdin (value_of matches (codes "expect")) || is_stdin (value_of matches (codes "compare")))))
     || (is_stdin (value_of matches (codes "urls")) && is_stdin (value_of matches (codes "compare")))
 
--- the level with this word; `clap` accepts none but those of the three levels
+-- `clap` accepts none but the words of the three levels
 abbrev pub level_named : List ℕ → Level
 level_named word =
     if bytes_eq word (codes "error") then level.Error
     else if bytes_eq word (codes "note") then level.Note else level.Warning
 
--- the format that `--json` and `--html`, if they are given, and the value of `--format` request
+-- what `--json` and `--html`, if they are given, and the value of `--format` request
 abbrev pub requested_format : (is_json is_html : Bool) → Option (List ℕ) → Format
 requested_format is_json is_html name =
     if is_json then Json else if is_html then Html else option_map_or format_named name Text
 
--- the format is the one that the options request
 abbrev pub IsFormatOf : ArgMatches → Format → Type 0
 IsFormatOf matches format = (is_json is_html : Bool) × IsOn matches (codes "json") is_json
     × IsOn matches (codes "html") is_html
     × (format ≡ requested_format is_json is_html (value_of matches (codes "format")))
 
--- URLs are given, as arguments or in a file
 abbrev pub has_urls : ArgMatches → Bool
 has_urls matches = is_some (value_of matches (codes "url")) || is_some (value_of matches (codes "urls"))
 
@@ -90,22 +86,22 @@ IsFileFault matches fault =
     ⊎ (((reads_stdin_twice matches ≡ true) × (fault ≡ StdinTwice))
     ⊎ (LacksUrls matches true × (fault ≡ NoUrl)))
 
--- the values of `--agent`; crawlers have such names
+-- crawlers have such names
 pub record AreAgentsOf (matches : ArgMatches) (agents : List (List ℕ)) : Type 0 where
   pub all : agents ≡ values_of matches (codes "agent")
   pub named : IsTrue (list_all is_crawler_name agents)
 
--- the arguments after FILE; each is a path or a URL, as they are asked for
+-- the arguments after FILE, which are paths or URLs, as they are asked for
 pub record AreUrlsOf (matches : ArgMatches) (urls : List (List ℕ)) : Type 0 where
   pub all : urls ≡ values_of matches (codes "url")
   pub formed : first_malformed urls ≡ None
 
--- the names given with this option; each is that of a warning
+-- each is the name of a warning
 pub record AreNamesOf (matches : ArgMatches) (id : List ℕ) (names : List (List ℕ)) : Type 0 where
   pub all : names ≡ values_of matches id
   pub known : IsTrue (list_all is_name names)
 
--- the request that the arguments contain; `by_default` is whether warnings have colors without `--color`
+-- `by_default` is whether warnings have colors without `--color`
 pub record IsRequestOf (by_default : Bool) (matches : ArgMatches) (request : Request) : Type 0 where
   pub has_file : HasFile matches
   pub file : option_map (λ name. name.now) request.file ≡ file_read (value_of matches (codes "file"))
@@ -130,9 +126,9 @@ abbrev pub IsUnknownIn : List (List ℕ) → Fault → Type 0
 IsUnknownIn names fault =
     (fault ≡ Memory) ⊎ ((name : List ℕ) × Contains names name × (is_name name ≡ false) × IsUnknown name fault)
 
--- a request, or an error: FILE is missing, standard input would be read twice, no URL is given for `--denied`,
--- no crawler or no warning has a given name, an argument is malformed, `--only` and `--ignore` have the same
--- name, or an allocation failed
+-- a request, or an error: FILE is missing, standard input would be read twice, no URL is given for
+-- `--denied`, no crawler or no warning has a given name, an argument is malformed, `--only` and `--ignore`
+-- have the same name, or an allocation failed
 abbrev pub Asks : (by_default : Bool) → ArgMatches → Result Request Fault → Type 0
 Asks by_default matches (Ok request) = IsRequestOf by_default matches request
 Asks by_default matches (Err fault) =

@@ -21,7 +21,6 @@ use printable_text::level::Level;
 use robots_warnings::table::is_name;
 use std::alloc::{AllocError, Global};
 
-/// The end of the help.
 const AFTER_HELP: &str = "\
 With --expect, give only FILE; with --compare only FILE, URLs, --urls and --agent; with either also --json or
 --format; with --list-warnings or --explain nothing else. With --denied, give URLs or --urls.
@@ -50,7 +49,7 @@ pub fn command<'a>(alloc: Global) -> Result<Command<'a>, AllocError> {
     with_options(alloc, called)
 }
 
-/// The name of the file that is read; `None` for standard input, which `-` means too.
+/// `None` for standard input, which `-` means too.
 pub fn file_read<'a>(name: Option<&'a str>) -> Option<&'a str>
     ensures { option_map (λ name. name.now) result ≡ file_read (option_map (λ name. name.now) name.entry) }
 {
@@ -60,7 +59,6 @@ pub fn file_read<'a>(name: Option<&'a str>) -> Option<&'a str>
     }
 }
 
-/// Whether a file with this name is read from standard input. Without a name, no file is read.
 fn is_stdin(name: Option<&str>) -> bool
     ensures { result ≡ is_stdin (option_map (λ name. name.now) name.entry) }
 {
@@ -70,8 +68,6 @@ fn is_stdin(name: Option<&str>) -> bool
     }
 }
 
-/// Whether the robots.txt file and another one would be read from standard input: the URLs, the expectations or the older
-/// version of the robots.txt file; or both the URLs and that version would.
 fn reads_stdin_twice(matches: &ArgMatches<'_>) -> bool
     ensures { result ≡ reads_stdin_twice matches.now }
 {
@@ -82,14 +78,12 @@ fn reads_stdin_twice(matches: &ArgMatches<'_>) -> bool
     has_no_file && (urls || expected || older) || urls && older
 }
 
-/// Whether URLs are given, as arguments or in a file.
 fn has_urls(matches: &ArgMatches<'_>) -> bool
     ensures { result ≡ has_urls matches.now }
 {
     matches.get_str("url").is_some() || matches.get_str("urls").is_some()
 }
 
-/// Whether `--denied` is given, but no URL.
 fn lacks_urls(matches: &ArgMatches<'_>) -> bool
     ensures { LacksUrls matches.now result }
 {
@@ -111,7 +105,6 @@ pub fn check_files(matches: &ArgMatches<'_>) -> Result<(), Fault>
     }
 }
 
-/// The level with this word. `clap` accepts none but those of the three levels.
 fn level_named(word: &str) -> Level
     ensures { result ≡ level_named word.now }
 {
@@ -124,7 +117,6 @@ fn level_named(word: &str) -> Level
     }
 }
 
-/// The level that the value of `--strict` names, if the option is given.
 fn strict_level(word: Option<&str>) -> Option<Level>
     ensures { result ≡ option_map level_named (option_map (λ word. word.now) word.entry) }
 {
@@ -134,7 +126,6 @@ fn strict_level(word: Option<&str>) -> Option<Level>
     }
 }
 
-/// The format that `--json`, `--html` and the value of `--format` request.
 fn requested_format(is_json: bool, is_html: bool, name: Option<&str>) -> Format
     ensures { result ≡ requested_format is_json is_html (option_map (λ name. name.now) name.entry) }
 {
@@ -146,7 +137,6 @@ fn requested_format(is_json: bool, is_html: bool, name: Option<&str>) -> Format
     }
 }
 
-/// The format that the options request.
 pub fn format_of(matches: &ArgMatches<'_>) -> Format
     ensures { IsFormatOf matches.now result }
 {
@@ -154,7 +144,6 @@ pub fn format_of(matches: &ArgMatches<'_>) -> Format
     requested_format(is_json, is_html, matches.get_str("format"))
 }
 
-/// All values of an option or argument.
 fn values_of<'a>(
     alloc: Global,
     matches: &ArgMatches<'a>,
@@ -182,7 +171,7 @@ fn known(alloc: Global, names: &[&str]) -> Result<(), Fault>
     Ok(())
 }
 
-/// The names given with this option. Fails if one of them isn't the name of a warning.
+/// Fails if one of them isn't the name of a warning.
 fn names_of<'a>(alloc: Global, matches: &ArgMatches<'a>, id: &str) -> Result<Vec<&'a str>, Fault>
     ensures ok { IfOk result (λ names. AreNamesOf matches.now id.now (map (λ name. name.now) names.items)) }
     ensures fault { IfErr result (IsUnknownIn (values_of matches.now id.now)) }
@@ -192,7 +181,7 @@ fn names_of<'a>(alloc: Global, matches: &ArgMatches<'a>, id: &str) -> Result<Vec
     Ok(names)
 }
 
-/// The crawlers that `--agent` names. Fails with the first name that no crawler has.
+/// Fails with the first name that no crawler has.
 fn agents_of<'a>(alloc: Global, matches: &ArgMatches<'a>) -> Result<Vec<&'a str>, Fault>
     ensures ok { IfOk result (λ agents. AreAgentsOf matches.now (map (λ agent. agent.now) agents.items)) }
     ensures fault { IfErr result (IsNoCrawlerIn (values_of matches.now (codes "agent"))) }
@@ -202,7 +191,7 @@ fn agents_of<'a>(alloc: Global, matches: &ArgMatches<'a>) -> Result<Vec<&'a str>
     Ok(agents)
 }
 
-/// The URLs and paths among the arguments. Fails with the first one that is neither.
+/// Fails with the first argument that is neither a URL nor a path.
 fn urls_of<'a>(alloc: Global, matches: &ArgMatches<'a>) -> Result<Vec<&'a str>, Fault>
     ensures ok { IfOk result (λ urls. AreUrlsOf matches.now (map (λ url. url.now) urls.items)) }
     ensures fault { IfErr result (IsUrlFault (values_of matches.now (codes "url"))) }
@@ -212,17 +201,15 @@ fn urls_of<'a>(alloc: Global, matches: &ArgMatches<'a>) -> Result<Vec<&'a str>, 
     Ok(urls)
 }
 
-/// Whether the report ends with the numbers of allowed and denied URLs: with `--denied` or `--urls`.
+/// With `--denied` or `--urls`.
 fn has_totals(is_denied_only: bool, urls: Option<&str>) -> bool
     ensures { result ≡ (is_denied_only || is_some (option_map (λ name. name.now) urls.entry)) }
 {
     is_denied_only || urls.is_some()
 }
 
-/// The request that the arguments contain, without the URLs in a file; `has_colors` is whether warnings have colors
-/// without `--color` or with `--color auto`. Fails if FILE is missing, if standard input would be read twice, if no
-/// URL is given for `--denied`, if no crawler or no warning has a given name, if an argument is malformed, if `--only`
-/// and `--ignore` have the same name, or if an allocation fails.
+/// The request that the arguments contain, without the URLs in a file; `has_colors` is whether warnings have
+/// colors without `--color` or with `--color auto`.
 pub fn requested<'a>(
     alloc: Global,
     matches: &ArgMatches<'a>,

@@ -16,9 +16,9 @@ ghost use Rattle.audit_text.specs.Explain.{explanation, list_text};
 ghost use Rattle.audit_text.specs.Report.{listed_lines, report_lines as audit_lines, total_line};
 ghost use Rattle.robots_warnings.specs.{Message.WarningValue};
 
-/// Neither the output nor the message on standard error of an audit contains invalid UTF-8, a control character other
-/// than LF, a bidirectional control character or a line separator, whatever the bytes of the crawler's name, the URLs
-/// and the file, if the message has no colors. Nor does the message for any error.
+/// Neither the output nor the message on standard error of an audit contains invalid UTF-8, a control
+/// character other than LF, a bidirectional control character or a line separator, if the message has no
+/// colors. Nor does the message for any error.
 pub fn no_terminal_is_steered()
     ensures written { (requested : RequestValue) (audit : AuditValue) → IsPrintable (output requested audit) }
     ensures message { (requested : RequestValue) (audit : AuditValue) → requested.has_colors ≡ false
@@ -26,15 +26,15 @@ pub fn no_terminal_is_steered()
     ensures fault { (fault : Fault) → IsPrintable (fault_text fault) }
 {}
 
-/// With colors, the message on standard error is the one without colors, in which color codes are inserted: one that begins
-/// a color before a word for a level, and one that ends it after the word. Its other parts contain no such characters.
+/// With colors, the message on standard error is the one without colors, in which color codes are inserted:
+/// one that begins a color before a word for a level, and one that ends it after the word.
 pub fn colors_add_only_their_codes()
     ensures { (requested : RequestValue) (audit : AuditValue)
         → IsColored (message (without_colors requested) audit) (message requested audit) }
 {}
 
-/// Nor do the reports of `--expect` and `--compare`, in each of their formats, and the texts of `--list-warnings`
-/// and `--explain`.
+/// Nor do the reports of `--expect` and `--compare`, in each format, and the texts of `--list-warnings` and
+/// `--explain`.
 pub fn no_other_report_steers_a_terminal()
     ensures expected { (format : Format) (name text file : List ℕ) (answer : Answer)
         → IsExpected format name text file answer → IsPrintable answer.report.items }
@@ -44,16 +44,16 @@ pub fn no_other_report_steers_a_terminal()
     ensures explained { (name : List ℕ) → IsPrintable (explanation name) }
 {}
 
-/// If an audit as text, or a comparison, runs in a workflow on GitHub, no line of its report is a command, whatever the
-/// names of crawlers, the URLs and the files are: none begins with `::`, even after spaces, and none contains `##[`.
+/// If an audit as text, or a comparison, runs in a workflow on GitHub, no line of its report is a command:
+/// none begins with `::`, even after spaces, and none contains `##[`.
 pub fn no_line_is_a_command()
     ensures audit { (requested : RequestValue) (audit : AuditValue) → Each IsPlainLine (map line_text (audit_lines requested audit)) }
     ensures totals { (agents : List AgentValue) → IsPlainLine (line_text (total_line agents)) }
     ensures comparison { (comparison : ComparisonValue) → Each IsPlainLine (map line_text (report_lines comparison)) }
 {}
 
-/// Nor do a line of `--expect` and a line about a warning on standard error contain `##[`. They begin with the name of a
-/// file, or state how many expectations hold.
+/// Nor do a line of `--expect` and a line about a warning on standard error contain `##[`. They begin with
+/// the name of a file, or state how many expectations hold.
 pub fn no_line_contains_a_command()
     ensures expected { (name : List ℕ) (checked : List CheckedValue)
         → Each (λ line. has_command line ≡ false) (result_lines name (length checked) (failures checked)) }

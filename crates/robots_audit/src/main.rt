@@ -53,7 +53,6 @@ use std::fs::File;
 use std::io::ErrorKind;
 use std::process::ExitCode;
 
-/// The command line, including the program's name.
 fn words(rt: &HostRuntime) -> Result<Vec<String>, Fault> {
     match env::args(rt) {
         Ok(args) => Ok(args.collect(rt.alloc())?),
@@ -64,7 +63,6 @@ fn words(rt: &HostRuntime) -> Result<Vec<String>, Fault> {
     }
 }
 
-/// The bytes of the file with this name.
 fn read_named(rt: &HostRuntime, name: &str) -> Result<Vec<u8>, Fault> {
     let Ok(mut file) = File::open(rt, name) else {
         return Err(unread(rt.alloc(), name));
@@ -76,7 +74,7 @@ fn read_named(rt: &HostRuntime, name: &str) -> Result<Vec<u8>, Fault> {
     }
 }
 
-/// The bytes of the file with this name, or of standard input for `-` or without a name.
+/// Or of standard input, for `-` or without a name.
 fn read(rt: &HostRuntime, name: Option<&str>) -> Result<Vec<u8>, Fault> {
     match file_read(name) {
         Some(name) => read_named(rt, name),
@@ -84,7 +82,7 @@ fn read(rt: &HostRuntime, name: Option<&str>) -> Result<Vec<u8>, Fault> {
     }
 }
 
-/// The bytes of the file with this name, or of standard input for `-`. Fails if that can't be a robots.txt file.
+/// Or of standard input for `-`. Fails if that can't be a robots.txt file.
 fn read_robots(rt: &HostRuntime, name: &str) -> Result<Vec<u8>, Fault>
     ensures { IfOk result (λ bytes. content_flaw bytes.items ≡ None) }
 {
@@ -93,7 +91,6 @@ fn read_robots(rt: &HostRuntime, name: &str) -> Result<Vec<u8>, Fault>
     Ok(bytes)
 }
 
-/// The bytes of the file of `--urls`; none without this option.
 fn url_text(rt: &HostRuntime, matches: &ArgMatches<'_>) -> Result<Vec<u8>, Fault> {
     match matches.get_str("urls") {
         Some(name) => read(rt, Some(name)),
@@ -101,7 +98,7 @@ fn url_text(rt: &HostRuntime, matches: &ArgMatches<'_>) -> Result<Vec<u8>, Fault
     }
 }
 
-/// The request with the URLs in this text, if it is that of a file of `--urls`, which has this name.
+/// If this is the text of a file of `--urls`, which has this name.
 fn extended<'a>(
     alloc: Global,
     request: Request<'a>,
@@ -117,7 +114,7 @@ fn extended<'a>(
     }
 }
 
-/// Audits the file that the arguments name; `has_colors` is as for `requested`.
+/// `has_colors` is as for `requested`.
 fn audit(rt: &HostRuntime, matches: &ArgMatches<'_>, has_colors: bool) -> Result<Answer, Fault>
     ensures { IfOk result (AnswersAudit has_colors matches.now) }
 {
@@ -155,7 +152,7 @@ fn compared(rt: &HostRuntime, matches: &ArgMatches<'_>, older: &str) -> Result<A
     comparison(rt.alloc(), &whole, old_file, new_file)
 }
 
-/// The answer to the parsed arguments; `has_colors` is as for `requested`.
+/// `has_colors` is as for `requested`.
 fn answered(rt: &HostRuntime, matches: &ArgMatches<'_>, has_colors: bool) -> Result<Answer, Fault>
     ensures { IfOk result (Answers has_colors matches.now) }
 {
@@ -188,8 +185,7 @@ fn reported(rt: &HostRuntime, error: clap::Error) -> Result<Answer, Fault>
     }
 }
 
-/// The answer to the command line. Its warnings are printable apart from color codes, whatever the arguments, the files
-/// and their names are.
+/// The warnings are printable apart from color codes, whatever the arguments, the files and their names are.
 fn answer(rt: &HostRuntime) -> Result<Answer, Fault>
     ensures { IfOk result (λ answer. IsForTerminal true (string_bytes answer.outcome.warnings)) }
 {
@@ -203,8 +199,7 @@ fn answer(rt: &HostRuntime) -> Result<Answer, Fault>
     }
 }
 
-/// The text for standard error: the warnings of a run, or the message for its error. If an allocation fails, it is the
-/// message for that.
+/// For standard error: the warnings of a run, or the message for its error, or for a failed allocation.
 fn message(alloc: Global, outcome: Result<Outcome, Fault>) -> Result<String, &'static str>
     ensures message { IfOk result (λ text. string_bytes text ≡ message_after outcome) }
     ensures memory { IfErr result (λ text. text.now ≡ fault_text Memory) }

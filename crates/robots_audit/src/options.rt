@@ -4,27 +4,23 @@ use clap::builder::ValueParser;
 use clap::{Arg, ArgAction, Command};
 use std::alloc::{AllocError, Global};
 
-/// The value of an option, or the text of an argument: what `--help` calls it, and what it can be.
+/// What `--help` calls the value of an option or an argument, and what it can be.
 #[derive(Clone, Copy)]
 enum Value {
-    /// Nothing: the option is on or off.
     Absent,
-    /// One text.
     Text(&'static str),
-    /// One text; the option needs this other one, which follows what the text is called.
+    /// The option needs this other one, which follows what the text is called.
     TextWith(&'static str, &'static str),
-    /// Any number of texts.
     Texts(&'static str),
-    /// One text each time that the option is given.
+    /// One each time that the option is given.
     Repeated(&'static str),
     /// One of these words.
     OneOf(&'static str, &'static [&'static str]),
-    /// One of these words, which can only follow a `=`, as FILE may follow the option. If the
-    /// option is given without a `=`, its value is the last field of this variant.
+    /// They can only follow a `=`, as FILE may follow the option. Without a `=`, the last field is the value.
     OneOfAfterEquals(&'static str, &'static [&'static str], &'static str),
 }
 
-/// A row of the table: an option, or an argument, which has neither a short nor a long name.
+/// An option, or an argument, which has neither a short nor a long name.
 struct Parameter {
     /// The name by which its values are read.
     id: &'static str,
@@ -32,12 +28,11 @@ struct Parameter {
     long: Option<&'static str>,
     value: Value,
     help: &'static str,
-    /// Lists of options and arguments that can't be given with it, by their ids. If two exclude
-    /// each other, one of them names the other.
+    /// Lists of options and arguments that can't be given with it, by their ids. Of two that exclude each
+    /// other, one names the other.
     excludes: &'static [&'static [&'static str]],
 }
 
-/// The URLs, and the options that choose crawlers and URLs.
 const OF_QUERIES: &[&str] = &["url", "agent", "urls"];
 
 /// The options of an audit that are about warnings and the form of the report.
@@ -205,7 +200,6 @@ const PARAMETERS: &[Parameter] = &[
     },
 ];
 
-/// The option with its short and long names, if it has them.
 fn with_names<'a>(arg: Arg<'a>, short: Option<char>, long: Option<&'a str>) -> Arg<'a> {
     let arg = match short {
         Some(short) => arg.short(short),
@@ -217,7 +211,6 @@ fn with_names<'a>(arg: Arg<'a>, short: Option<char>, long: Option<&'a str>) -> A
     }
 }
 
-/// The option or argument with this value.
 fn with_value<'a>(arg: Arg<'a>, value: Value) -> Result<Arg<'a>, AllocError> {
     Ok(match value {
         Value::Absent => arg.action(ArgAction::SetTrue),
@@ -235,7 +228,6 @@ fn with_value<'a>(arg: Arg<'a>, value: Value) -> Result<Arg<'a>, AllocError> {
     })
 }
 
-/// The option or argument, which excludes all of these.
 fn excluding<'a>(mut arg: Arg<'a>, lists: &[&[&'a str]]) -> Result<Arg<'a>, AllocError> {
     for ids in lists {
         arg = arg.conflicts_with_all(ids)?;
@@ -244,7 +236,6 @@ fn excluding<'a>(mut arg: Arg<'a>, lists: &[&[&'a str]]) -> Result<Arg<'a>, Allo
 }
 
 impl Parameter {
-    /// The option or argument for `clap`.
     fn arg<'a>(&self, alloc: Global) -> Result<Arg<'a>, AllocError> {
         let arg = Arg::new(alloc, self.id).help(self.help);
         let arg = with_value(with_names(arg, self.short, self.long), self.value)?;
@@ -252,7 +243,6 @@ impl Parameter {
     }
 }
 
-/// Adds all options and arguments.
 pub(crate) fn with_options<'a>(
     alloc: Global,
     mut called: Command<'a>,

@@ -28,7 +28,6 @@ use printable_text::level::Level;
 use robots_warnings::warning::Warning;
 use std::alloc::{AllocError, Global};
 
-/// Whether a warning is at this level, or at a more serious one.
 #[tactic(auto, using(crate::proofs::MessageLemmas::warned_next))]
 fn has_level(least: Level, warnings: &[Warning<'_>]) -> bool
     ensures { result ≡ is_warned (Some least) warnings.now }
@@ -41,7 +40,6 @@ fn has_level(least: Level, warnings: &[Warning<'_>]) -> bool
     false
 }
 
-/// Whether a warning is at the level of `--strict`, or at a more serious one.
 fn is_warned(strict: Option<Level>, warnings: &[Warning<'_>]) -> bool
     ensures { result ≡ is_warned strict warnings.now }
 {
@@ -51,21 +49,18 @@ fn is_warned(strict: Option<Level>, warnings: &[Warning<'_>]) -> bool
     }
 }
 
-/// Whether reports in this format have all URLs, even with `--denied`.
 fn has_all_urls(format: Format) -> bool
     ensures { result ≡ has_all_urls format }
 {
     matches!(format, Format::Html)
 }
 
-/// Whether allowed URLs are left out of the report.
 fn leaves_out_allowed(request: &Request<'_>) -> bool
     ensures { result ≡ leaves_out_allowed (requested_by request.now) }
 {
     request.is_denied_only && !has_all_urls(request.format)
 }
 
-/// The report on an audit, in the requested format.
 fn output(alloc: Global, request: &Request<'_>, audit: Audit<'_>) -> Result<Vec<u8>, AllocError>
     ensures { IfOk result (λ report. report.items ≡ output (requested_by request.now) audit.entry) }
 {
@@ -89,7 +84,7 @@ fn output(alloc: Global, request: &Request<'_>, audit: Audit<'_>) -> Result<Vec<
     }
 }
 
-/// The message on standard error after an audit: the warnings, unless they are in the report.
+/// The warnings, unless they are in the report.
 fn message(alloc: Global, request: &Request<'_>, audit: &Audit<'_>) -> Result<String, AllocError>
     ensures { IfOk result (λ text. string_bytes text ≡ message (requested_by request.now) audit.now) }
 {
@@ -104,12 +99,9 @@ fn message(alloc: Global, request: &Request<'_>, audit: &Audit<'_>) -> Result<St
     }
 }
 
-/// Audits a file for the crawlers and URLs of the request, and writes the report in the requested format. A file that
-/// is rejected for a crawler isn't an error: the outcome says so.
-///
-/// # Errors
-///
-/// `Fault::Memory` if an allocation fails or a URL is too long for `url`.
+/// Audits a file for the crawlers and URLs of the request, and writes the report in the requested format. A
+/// file that is rejected for a crawler isn't an error: the outcome says so. The error is `Fault::Memory`,
+/// also if a URL is too long for `url`.
 pub fn audited<'a>(alloc: Global, request: &Request<'a>, file: &'a [u8]) -> Result<Answer, Fault>
     ensures ok { IfOk result (IsAudited (requested_by request.now) file.now) }
     ensures fault { IfErr result (λ fault. fault ≡ Fault.Memory) }
@@ -125,7 +117,6 @@ pub fn audited<'a>(alloc: Global, request: &Request<'a>, file: &'a [u8]) -> Resu
     Ok(Answer { report, outcome })
 }
 
-/// Compares two files for the crawlers and URLs of the request.
 fn compared_for<'a>(
     alloc: Global,
     request: &Request<'a>,
@@ -139,7 +130,6 @@ fn compared_for<'a>(
     compare(alloc, &request.agents, &request.urls, older, newer)
 }
 
-/// The answer in this format to a report as text and the findings in it, in the file with this name.
 fn listed(
     alloc: Global,
     format: Format,
@@ -168,13 +158,13 @@ fn listed(
     Ok(Answer { report, outcome })
 }
 
-/// Compares two files for the crawlers and URLs of the request, and writes the report. A file that is rejected for a
-/// crawler isn't an error: the outcome says so.
+/// Compares two files for the crawlers and URLs of the request, and writes the report. A file that is
+/// rejected for a crawler isn't an error: the outcome says so.
 ///
 /// # Errors
 ///
-/// `Fault::Format` if the format is one of audits alone, and `Fault::Memory` if an allocation fails or a URL is
-/// too long for `url`.
+/// `Fault::Format` if the format is one of audits alone, and `Fault::Memory` if an allocation fails or a URL
+/// is too long for `url`.
 pub fn comparison<'a>(
     alloc: Global,
     request: &Request<'a>,
@@ -191,11 +181,8 @@ pub fn comparison<'a>(
     Ok(listed(alloc, request.format, name, found, is_rejected, has_passed)?)
 }
 
-/// Checks the expectations in a text, of a file with this name, against a robots.txt file, and writes the report.
-///
-/// # Errors
-///
-/// As for `check`, and `Fault::Format` if the format is one of audits alone.
+/// Checks the expectations in a text, of a file with this name, against a robots.txt file, and writes the
+/// report. The errors are those of `check`, and `Fault::Format` if the format is one of audits alone.
 pub fn expectations(
     alloc: Global,
     format: Format,
@@ -212,7 +199,6 @@ pub fn expectations(
     Ok(listed(alloc, format, name, found, false, has_passed)?)
 }
 
-/// The name of the robots.txt file as it is given.
 pub fn given_name<'a>(file: Option<&'a str>) -> &'a str
     ensures { result.now ≡ given_name (option_map (λ name. name.now) file.entry) }
 {
@@ -222,7 +208,7 @@ pub fn given_name<'a>(file: Option<&'a str>) -> &'a str
     }
 }
 
-/// The error for a file with this name that can't be opened or read.
+/// It can't be opened or read.
 pub fn unread(alloc: Global, name: &str) -> Fault
     ensures { IsFileUnreadable name.now result }
 {

@@ -5,7 +5,6 @@ use Rattle.texting_robots.specs.Callers.{Sitemap as SitemapLine}
 use Rattle.robots_examples.specs.declared.audit.{Kind.Kind, Row.Row}
 use Rattle.robots_examples.specs.declared.audit.Kind.TheVariants.{Agent, Rule, Sitemap, Delay, Other}
 
--- the kind of a line
 abbrev pub kind_of : LineValue → Kind
 kind_of (UserAgent value) = Agent
 kind_of (Allow value) = Rule
@@ -14,7 +13,7 @@ kind_of (SitemapLine value) = Sitemap
 kind_of (CrawlDelay delay) = Delay
 kind_of _ = Other
 
--- a row by value, independent of where the bytes of its line are stored
+-- independent of where the bytes of its line are stored
 pub record RowValue : Type 0 where
   pub number : ℕ
   pub kind : Kind
@@ -23,7 +22,7 @@ pub record RowValue : Type 0 where
 abbrev pub row_value : Row → RowValue
 row_value row = record { number = row.number; kind = row.kind; line = by_value row.line }
 
--- the rows of these lines, numbered from n
+-- numbered from n
 abbrev pub rows_from : ℕ → List LineValue → List RowValue
 rows_from n [] = []
 rows_from n (line ∷ lines) =

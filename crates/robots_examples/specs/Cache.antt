@@ -6,16 +6,14 @@ use Rattle.texting_robots.specs.Callers.{IsFileRejected, IsMemoryErrorOr, file_l
 use Rattle.robots_examples.specs.declared.cache.CacheError.{CacheError}
 use Rattle.robots_examples.specs.declared.cache.CacheError.TheVariants.{Url, File, Memory}
 
--- the maximum number of robots in a cache
 abbrev pub most_robots : ℕ
 most_robots = 64
 
--- the error that the URL causes, as it has no robots.txt address, or an allocation failure or `Overflow`
+-- the URL has no robots.txt address, or an allocation failed, or `Overflow`
 abbrev pub IsNoAddressOrMemory : List ℕ → ParseError → Type 0
 IsNoAddressOrMemory url error = (robots_address url ≡ Err error) ⊎ IsOutOfRoom error
 
--- the error has its cause: the URL has no robots.txt address, the file is rejected for the crawler, or an
--- allocation failed
+-- the URL has no robots.txt address, the file is rejected for the crawler, or an allocation failed
 abbrev pub IsCacheError : List ℕ → List ℕ → List ℕ → CacheError → Type 0
 IsCacheError agent url file (Url error) = IsNoAddressOrMemory url error
 IsCacheError agent url file (File error) =
@@ -23,13 +21,12 @@ IsCacheError agent url file (File error) =
 IsCacheError agent url file Memory = IsOk (robots_address url)
     × (¬ IsFileRejected agent (take file_limit file))
 
--- the entries, without the first if there are `most_robots` and none of them has the address
+-- without the first entry if there are `most_robots` and none has the address
 abbrev pub with_room : {E : Type 0} → Bool → List E → List E
 with_room is_known entries =
     if nat_lt (length entries) most_robots || is_known then entries else remove entries 0
 
--- the entries after this error: unchanged, but without the first if the cache was full and an allocation
--- failed
+-- unchanged, but without the first entry if the cache was full and an allocation failed
 abbrev pub left_after : {E : Type 0} → CacheError → List E → List E
 left_after (Url error) entries = entries
 left_after (File error) entries = entries

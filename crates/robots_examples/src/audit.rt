@@ -6,33 +6,25 @@ ghost use Rattle.texting_robots.specs.Callers.{by_value, file_lines};
 use std::alloc::{AllocError, Global};
 use texting_robots::parser::{Line, file_lines};
 
-/// The kind of a line.
 #[derive(Clone, Copy, PartialEq, Eq, Debug)]
 pub enum Kind {
-    /// A user-agent line.
     Agent,
-    /// An Allow or a Disallow.
     Rule,
     /// A sitemap line, which applies to every crawler.
     Sitemap,
-    /// A crawl delay.
     Delay,
     /// Any other line, such as an empty one or a comment.
     Other,
 }
 
-/// A row of the audit.
 #[derive(Clone, Copy, PartialEq, Eq, Debug)]
 pub struct Row<'a> {
-    /// The line's number, counted from 1, as in `texting_robots::Decision`.
+    /// Counted from 1, as in `texting_robots::Decision`.
     pub number: usize,
-    /// The kind of the line.
     pub kind: Kind,
-    /// The line.
     pub line: Line<'a>,
 }
 
-/// The kind of a line.
 fn kind_of(line: Line<'_>) -> Kind
     ensures { result ≡ kind_of (by_value line.entry) }
 {

@@ -62,14 +62,12 @@ impl<T: Drop> From<AllocFailed<T>> for CacheError {
     }
 }
 
-/// Removes the robot of the oldest site, if there is one.
 fn forget_oldest(robots: &mut IndexMap<String, Robot>)
     ensures { robots.new.entries ≡ remove robots.old.entries 0 }
 {
     robots.shift_remove_index(0);
 }
 
-/// Makes sure that there is capacity for the robot of this address.
 fn evict_one(robots: &mut IndexMap<String, Robot>, address: &str)
     requires { index_map_len robots.old ≤ most_robots }
     ensures room { index_map_len robots.new + (if is_some (get_by_text robots.new address.now) then 0 else 1) ≤ most_robots }
@@ -82,7 +80,6 @@ fn evict_one(robots: &mut IndexMap<String, Robot>, address: &str)
     forget_oldest(robots);
 }
 
-/// Stores a robot for an address, for which there is capacity.
 fn add(
     robots: &mut IndexMap<String, Robot>,
     address: String,
@@ -106,7 +103,6 @@ fn add(
 /// site's age.
 #[derive(Drop)]
 pub struct Cache {
-    /// The robots, by the address of the file.
     pub robots: IndexMap<String, Robot>,
     ghost bounded: { index_map_len robots ≤ most_robots },
 }
@@ -121,12 +117,9 @@ impl Cache {
         }
     }
 
-    /// Stores the robot that this file has for the crawler, for the site of a URL, and replaces the site's previous
-    /// robot. If the site is new and there are [`MAX_ROBOTS`] sites, the oldest one is removed.
-    ///
-    /// # Errors
-    ///
-    /// After `Memory` the oldest site has been removed if the cache was full. After any other error the cache is
+    /// Stores the robot that this file has for the crawler, for the site of a URL, and replaces the site's
+    /// previous robot. If the site is new and there are [`MAX_ROBOTS`] sites, the oldest one is removed.
+    /// After `Memory` it has been removed if the cache was full. After any other error the cache is
     /// unchanged.
     pub fn put(
         &mut self,

@@ -21,11 +21,10 @@ pub struct DelayPolicy {
 pub struct Plan<'a> {
     /// The URLs that it fetches, in the given order.
     pub urls: Vec<&'a str>,
-    /// The wait between two requests, in microseconds.
+    /// Between two requests, in microseconds.
     pub wait: u64,
 }
 
-/// Those of the URLs that the robot allows.
 fn allowed_of<'a>(alloc: Global, robot: &Robot, urls: &[&'a str]) -> Result<Vec<&'a str>, Error>
     ensures urls { IfOk result (λ allowed. AreAllowed (unplaced robot.now.rules)
         (map (λ url. url.now) urls.now) (map (λ url. url.now) allowed.items)) }

@@ -15,8 +15,7 @@ pub struct Denied {
     pub looks: u64,
 }
 
-/// Counts the links that a robot denies, and the looks of their views. Each view is over the match target of a link. It
-/// doesn't allocate.
+/// Each view is over the match target of a link. It doesn't allocate.
 pub fn count_denied(robot: &Robot, links: &mut [View<'_>]) -> Denied
     ensures count { AreDenied (unplaced robot.now.rules) (map (λ link. link.text) links.old) result.count }
     ensures views { AllZip (LooksForRules robot.now.rules) links.old links.new }

@@ -16,8 +16,8 @@ use std::io::ErrorKind;
 use std::{env, fs, io};
 use texting_robots::{Error, Robot};
 
-/// Prints whether the crawler may fetch a URL. A string that is neither a URL nor a path is matched too. As it doesn't
-/// start with a slash, usually no rule matches it, and the result is "allow".
+/// A string that is neither a URL nor a path is matched too. As it doesn't start with a slash, usually no
+/// rule matches it, and the result is "allow".
 fn print_verdict(rt: &HostRuntime, robot: &Robot, url: &str) -> io::Result<()> {
     match robot.allowed(rt.alloc(), url) {
         Ok(true) => println!(rt; "allow {url}"),

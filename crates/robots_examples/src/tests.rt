@@ -15,13 +15,11 @@ fn each_line_has_its_row(rt: HostRuntime) {
     assert!(rt; rows.len() == 4);
 }
 
-/// Stores the robot of a file that denies `/a`, for the site of a URL.
 fn store(rt: &(impl Abort + AllocGlobal), cache: &mut Cache, url: &str) {
     let stored = cache.put(rt.alloc(), "Bot", url, b"User-agent: *\nDisallow: /a\n");
     assert!(rt; stored.is_ok(), "{url}");
 }
 
-/// Checks whether a robot is stored for the site of a URL.
 fn check_stored(rt: &(impl Abort + AllocGlobal), cache: &Cache, url: &str, want: bool) {
     let found = cache.find(rt.alloc(), url).expect(rt, url);
     assert!(rt; found.is_some() == want, "{url}");

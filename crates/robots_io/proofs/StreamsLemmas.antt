@@ -5,8 +5,6 @@ use Rattle.std.specs.Io.KnownBytes.{Appends, Keeps}
 use Rattle.std.proofs.{Math.Seq.take-add, lemmas.List.take-append-drop, lemmas.List.take_rest}
 use Rattle.robots_io.specs.{Streams.AppendsBeginning}
 
--- ---- writes
-
 appends_more : (old mid new : Option (List ℕ)) (xs ys : List ℕ) → Appends old mid xs
     → Appends mid new ys → Appends old new (xs ++ ys)
 appends_more None mid new xs ys one two = tt
@@ -22,7 +20,6 @@ appends_kept (Some a) None new xs one two = absurd one
 appends_kept (Some a) (Some b) None xs one two = absurd two
 appends_kept (Some a) (Some b) (Some d) xs one two = two ∙ one
 
--- writing the first n bytes and then the next m writes the first n + m
 pub appends_next : (old mid new : Option (List ℕ)) (n m : ℕ) (text : List ℕ)
     → Appends old mid (take n text) → Appends mid new (take m (take (length text - n) (drop n text)))
     → Appends old new (take (n + m) text)

@@ -6,20 +6,18 @@ use std::io::{ErrorKind, Write};
 /// Accepts bytes in chunks. One write fails if `good_calls` is set, and each flush if `flush_fails` is.
 #[derive(Drop)]
 pub struct Sink {
-    /// The bytes that were accepted.
     pub held: Vec<u8>,
     /// The maximum number of bytes per write.
     pub chunk: usize,
     /// The number of successful writes before the one that fails; `None` if none fails.
     pub good_calls: Option<u32>,
-    /// Whether a flush fails.
     pub flush_fails: bool,
     /// How many writes there were.
     pub calls: u32,
 }
 
 impl Sink {
-    /// An empty sink with chunks of at most this length, which never fails.
+    /// Chunks have at most this length, and no call fails.
     pub fn new(alloc: Global, chunk: usize) -> Self {
         Sink {
             held: Vec::new(alloc),

@@ -6,10 +6,8 @@ ghost use Rattle.robots_io.specs.Streams.{AppendsBeginning};
 use std::alloc::{AllocError, Global};
 use std::io::{Error, ErrorKind, Read, Write};
 
-/// The maximum number of bytes per read.
 const CHUNK_LEN: usize = 65_536;
 
-/// The maximum number of reads.
 const MOST_READS: u32 = 1_048_576;
 
 /// Why an input couldn't be read to its end.
@@ -17,7 +15,6 @@ const MOST_READS: u32 = 1_048_576;
 pub enum ReadFault {
     /// A read failed, or the input didn't end within the maximum number of reads.
     Read,
-    /// An allocation failed.
     Memory,
 }
 
@@ -30,7 +27,6 @@ pub enum WriteFault {
     Write,
 }
 
-/// What a failed write or flush means.
 fn write_fault(error: Error) -> WriteFault {
     match error.kind() {
         ErrorKind::BrokenPipe => WriteFault::Closed,
@@ -49,7 +45,7 @@ impl From<AllocError> for ReadFault {
     }
 }
 
-/// Makes one more read. Returns `ReadFault::Read` if it fails, or if none is left.
+/// `ReadFault::Read` if the read fails, or if none is left.
 fn read_chunk<R: Read>(reader: &mut R, left: &mut u32, chunk: &mut [u8]) -> Result<usize, ReadFault>
     ensures counted { OnOk result (left.new + 1 ≡ left.old) }
     ensures bound { ReadsAtMost result chunk.new }
@@ -66,12 +62,12 @@ fn read_chunk<R: Read>(reader: &mut R, left: &mut u32, chunk: &mut [u8]) -> Resu
     }
 }
 
-/// Reads to the end of the input.
+/// Reads to the end of the input. An empty input needs no allocation.
 ///
 /// # Errors
 ///
 /// `ReadFault::Read` if a read fails or more than 1,048,576 are needed, and `ReadFault::Memory` if an
-/// allocation fails. An empty input needs no allocation.
+/// allocation fails.
 pub fn read_all<R: Read>(alloc: Global, reader: &mut R) -> Result<Vec<u8>, ReadFault>
     ensures all { IfOk result (λ all. IfSome (R.remaining reader.old) (λ input. all.items ≡ input)) }
     ensures memory { IsErrOf result ReadFault.Memory → IfSome (R.remaining reader.old) (λ input. input ≢ []) }
@@ -88,12 +84,7 @@ pub fn read_all<R: Read>(alloc: Global, reader: &mut R) -> Result<Vec<u8>, ReadF
     }
 }
 
-/// Writes all bytes and flushes.
-///
-/// # Errors
-///
-/// `WriteFault` if a write fails or accepts no bytes, or if the flush fails. Then a prefix of the bytes
-/// has been written, possibly all.
+/// Writes all bytes and flushes. After an error a prefix of the bytes has been written, possibly all.
 pub fn write_out<W: Write>(writer: &mut W, text: &[u8]) -> Result<(), WriteFault>
     ensures ok { OnOk result (Appends (W.contents writer.old) (W.contents writer.new) text.now) }
     ensures beginning { AppendsBeginning (W.contents writer.old) (W.contents writer.new) text.now }

@@ -22,15 +22,12 @@ use Rattle.robots_verdict.specs.Report.{IsReport, IsReportText, delay_line, site
 
 -- ---- How an input is split line by line, and that it has at most one split.
 
--- the lines up to `rest` are those of `urls`: the splits of `input` are the splits of `rest` with `urls` at
--- the start
+-- the splits of `input` are the splits of `rest` with `urls` at the start
 pub record GoesOn (input : List ℕ) (urls : List (List ℕ)) (rest : List ℕ) : Type 0 where
   pub from_rest : (later : List (List ℕ)) (file : List ℕ) → AreUrlLines rest later file
       → AreUrlLines input (urls ++ later) file
   pub to_rest : (all : List (List ℕ)) (file : List ℕ) → AreUrlLines input all file
       → (later : List (List ℕ)) × (all ≡ urls ++ later) × AreUrlLines rest later file
-
--- ---- the first line
 
 one_before : (input : List ℕ) (place : ℕ) → ((k : ℕ) → k < place → slice_index input k ≢ lf)
     → IsOneLine (take place input)
@@ -82,8 +79,6 @@ pub rest_shorter : (input text rest : List ℕ) → BeginsWithLine input text re
     → length rest < length input
 rest_shorter input text rest is = rw is.whole (simp length-append (omega arith))
 
--- ---- the lines of the URLs
-
 pub goes_first : (input : List ℕ) → GoesOn input [] input
 goes_first input = record { from_rest = λ later file is. is; to_rest = λ all file is. (all, refl, is) }
 
@@ -128,8 +123,6 @@ same_lines (url ∷ urls) others input file rest one two =
     let later = same_lines urls on.0 one.0 file rest one.3 on.2 in
     (ap (λ u. url ∷ u) later.0 ∙ sym on.1, later.1)
 
--- ---- complete inputs
-
 -- an empty line after the URLs completes the split
 pub split_found : (input agent start rest url file : List ℕ) (urls : List (List ℕ))
     → BeginsWithLine input agent start → GoesOn start urls rest → BeginsWithLine rest url file
@@ -142,12 +135,10 @@ split_found input agent start rest url file urls line goes end empty =
           (goes.from_rest [] file (subst (λ t. BeginsWithLine rest t file) empty end));
     }
 
--- no split if the first line has no LF
 pub no_split_first : (input : List ℕ) → IsOneLine input → (agent : List ℕ) (urls : List (List ℕ))
     (file : List ℕ) → ¬ IsInput input agent urls file
 no_split_first input one agent urls file is = no_line input agent is.rest one is.agent_line
 
--- no split if a later line has no LF
 pub no_split : (input agent start rest : List ℕ) (urls : List (List ℕ))
     → BeginsWithLine input agent start → GoesOn start urls rest → IsOneLine rest
     → (other : List ℕ) (all : List (List ℕ)) (file : List ℕ) → ¬ IsInput input other all file
@@ -173,12 +164,10 @@ pub if_memory : {X P : Type 0} (r : Result X Fault) → P → IfErr r (λ fault.
 if_memory (Ok x) is = tt
 if_memory (Err fault) is = λ _. is
 
--- an input that has its parts isn't empty
 pub some_input : {X : Type 0} (r : Result X Fault) (input agent : List ℕ) (urls : List (List ℕ))
     (file : List ℕ) → IsInput input agent urls file → IfErr r (λ fault. fault ≡ Memory → input ≢ [])
 some_input r input agent urls file is = if_memory r (not_empty input agent is.rest is.agent_line)
 
--- a URL was found
 pub some_url : (input agent start rest url next : List ℕ) (urls : List (List ℕ))
     → BeginsWithLine input agent start → GoesOn start urls rest → BeginsWithLine rest url next
     → url ≢ [] → ¬ HasNoUrl input
@@ -197,7 +186,6 @@ no_items : (urls : List (Bor (List ℕ))) → map (λ url. url.now) urls ≡ [] 
 no_items [] none = refl
 no_items (url ∷ urls) none = absurd (cc)
 
--- so an allocation may have failed, if there are URLs
 pub urls_allocated : {X : Type 0} (r : Result X Fault) (fault : Fault) (urls : List (Bor (List ℕ)))
     (input agent file : List ℕ) → IsErrAnd r (λ other. other ≡ fault) → (fault ≡ Memory → urls ≢ [])
     → IsInput input agent (map (λ url. url.now) urls) file
@@ -209,8 +197,6 @@ urls_allocated (Err e) fault urls input agent file is some split = λ memory. (
       some (sym is ∙ memory) (no_items urls (one_split input agent other _ [] file rest split none).1),
 )
 
--- ---- empty and nonempty strings
-
 pub no_bytes : (text : List ℕ) → (length text == 0) ≡ true → text ≡ []
 no_bytes [] e = refl
 no_bytes (b ∷ text) e = grind (arith, nat_tests)
@@ -218,8 +204,6 @@ no_bytes (b ∷ text) e = grind (arith, nat_tests)
 pub some_bytes : (text : List ℕ) → (length text == 0) ≡ false → text ≢ []
 some_bytes [] e = grind (arith, nat_tests)
 some_bytes (b ∷ text) e = λ is. cc
-
--- ---- UTF-8 strings
 
 each_at : (P : List ℕ → Type 0) (texts : List (List ℕ)) (k : ℕ) (text : List ℕ) → k < length texts
     → slice_index_or texts k text ≡ text → Each P texts → P text
@@ -253,9 +237,6 @@ first_not_utf8 (Err e) fault urls place url is below not = λ known. (
 
 -- ---- Every input has a report.
 
--- ---- the split
-
--- an input has a first LF, or none
 first_feed : (input : List ℕ)
     → ((line : List ℕ) × (rest : List ℕ) × IsOneLine line × (input ≡ line ++ lf ∷ rest)) ⊎ IsOneLine input
 first_feed [] = inr tt
@@ -275,7 +256,6 @@ first_line input = elim (first_feed input) [
   | inr one ↦ inr one
 ]
 
--- an input has a split into crawler name, URLs and file, or it has none
 abbrev Split : List ℕ → Type 0
 Split input =
     ((agent : List ℕ) × (urls : List (List ℕ)) × (file : List ℕ) × IsInput input agent urls file)
@@ -301,8 +281,6 @@ split_of input = elim (first_line input) [
       split_after (suc (length start)) input agent start start [] (omega arith) line (goes_first start)
 ]
 
--- ---- decidable properties
-
 decided : {P : Type 0} (b : Bool) → Decides b P → Either P
 decided b is = elim (cases_Bool b) [
   | inl holds ↦ inl (is.0 holds)
@@ -312,7 +290,6 @@ decided b is = elim (cases_Bool b) [
 utf8_or_not : (text : List ℕ) → Either (IsUtf8 text)
 utf8_or_not text = decided (is_utf8 text) (IsUtf8-from_is_utf8 text, is_utf8-from_IsUtf8 text)
 
--- each of the strings is UTF-8, or some string isn't
 each_or_any : (texts : List (List ℕ)) → Each IsUtf8 texts ⊎ Any (λ text. ¬ IsUtf8 text) texts
 each_or_any [] = inl tt
 each_or_any (text ∷ texts) = elim (utf8_or_not text) [
@@ -331,8 +308,6 @@ rejected_or_not agent file =
       | inl some ↦ inl (lines, lines_are_read file, is.1 some)
       | inr none ↦ inr (λ rejected. none (is.0 (read_rejected agent file rejected)))
     ]
-
--- ---- the report
 
 text_of_report : (agent : List ℕ) (urls : List (List ℕ)) (file : List ℕ)
     → (text : List ℕ) × IsReportText agent urls file text

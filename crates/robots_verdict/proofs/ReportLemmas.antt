@@ -18,9 +18,6 @@ use Rattle.robots_verdict.proofs.VerdictsLemmas.{lines_like, lines_once}
 use Rattle.robots_verdict.proofs.InputLemmas.{not_both, one_split}
 use Rattle.robots_io.specs.declared.streams.ReadFault.TheVariants as reading
 
--- ---- the report
-
--- writing the delay line, the sitemap lines and the verdict lines writes the report
 pub text_made : (agent : List ℕ) (urls : List (List ℕ)) (file one two text : List ℕ)
     (robot : RobotValue)
     → IsRobotOf agent (lines_read file) robot → one ≡ ended (delay_line robot.delay ∷ [])
@@ -41,8 +38,6 @@ text_made agent urls file one two text robot is first second last =
           ∙ sym (ended-append delay (sitemaps ++ last.lines));
     }
 
--- ---- uniqueness
-
 text_once : (agent : List ℕ) (urls : List (List ℕ)) (file text other : List ℕ)
     → IsReportText agent urls file text
     → IsReportText agent urls file other → text ≡ other
@@ -55,7 +50,6 @@ text_once agent urls file text other one two =
     two.verdicts)
     ∙ sym two.whole
 
--- a property of one split also holds for any other split of the input, since they are equal
 same_split : {input agent other : List ℕ} {urls others : List (List ℕ)} {file rest : List ℕ}
     (P : List ℕ → List (List ℕ) → List ℕ → Type 0) → IsInput input agent urls file
     → IsInput input other others rest → P other others rest → P agent urls file
@@ -103,15 +97,11 @@ one_report input (Ok text) (Err fault) one two = absurd (no_fault input text fau
 one_report input (Err fault) (Ok text) one two = absurd (no_fault input text fault two one)
 one_report input (Err fault) (Err other) one two = ap (λ f. Err f) (same_fault input fault other one two)
 
--- ---- the run
-
--- what holds of the bytes that were read holds of the input
 of_input : (left : Option (List ℕ)) (P : List ℕ → Type 0) (items bytes : List ℕ)
     → IfSome left (λ input. items ≡ input) → bytes ≡ items → P bytes → IfSome left P
 of_input None P items bytes read same is = tt
 of_input (Some input) P items bytes read same is = subst P (same ∙ read) is
 
--- the report was written in the way W
 pub run_wrote : (left : Option (List ℕ)) (W : List ℕ → Type 0) (items bytes text written : List ℕ)
     → IfSome left (λ input. items ≡ input) → bytes ≡ items → IsReport bytes (Ok text) → written ≡ text
     → W written

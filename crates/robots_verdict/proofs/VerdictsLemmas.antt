@@ -13,13 +13,10 @@ use Rattle.robots_verdict.specs.Report.{AddsVerdict, AddsVerdicts, IsVerdictLine
 use Rattle.printable_text.proofs.{SanitizeLemmas.lines_added}
 
 module _ (rules : List PlacedRule) where
-  -- ---- appending verdict lines
-
   pub adds_nothing : (text : List ℕ) → AddsVerdicts rules [] text text
   adds_nothing text = record { lines = []; verdicts = tt; whole = sym (append-nil text) }
 
-  -- appending the front of the line (the verdict and the line number), then the URL and LF, appends a verdict
-  -- line
+  -- appending the verdict and the line number, then the URL and LF, appends a verdict line
   pub adds_one : (decision : Decision) (url old mid new : List ℕ) → IsDecisionOn rules (prepared url) decision
       → mid ≡ old ++ verdict_front decision.allowed decision.line
       → new ≡ mid ++ ended (url ∷ [])
@@ -46,8 +43,6 @@ module _ (rules : List PlacedRule) where
     whole = lines_added old mid new first.lines (then.line ∷ []) first.whole then.whole;
   }
 
-  -- ---- uniqueness
-
   line_once : (url line other : List ℕ) → IsVerdictLine rules url line
       → IsVerdictLine rules url other → line ≡ other
   line_once url line other one two =
@@ -73,7 +68,6 @@ module _ (rules : List PlacedRule) where
       let later = lines_once urls lines others more rest in
       cc
 
-  -- every URL has a verdict line
   pub some_lines : (urls : List (List ℕ))
       → (lines : List (List ℕ)) × AllZip (IsVerdictLine rules) urls lines
   some_lines [] = ([], tt)
@@ -91,8 +85,6 @@ module _ (rules : List PlacedRule) where
           are,
         ),
       )
-
--- ---- rules that decide alike
 
 pub lines_like : (rules others : List PlacedRule) → AnswerAlike rules others
     → (urls lines : List (List ℕ)) → AllZip (IsVerdictLine rules) urls lines

@@ -24,23 +24,20 @@ status_of HeaderNotUtf8 = 2
 status_of InvalidRule = 3
 status_of Memory = 4
 
--- the exit status of the process
 abbrev pub status_after : Result (Unit {0}) Fault → ℕ
 status_after (Ok _) = 0
 status_after (Err fault) = status_of fault
 
--- the message on standard error
 abbrev pub message_after : Result (Unit {0}) Fault → Option (List ℕ)
 message_after (Ok _) = None
 message_after (Err fault) = Some (text_of fault)
 
--- the error of the program for an error of the library, which never returns `InvalidRobots`
+-- the library never returns `InvalidRobots`
 abbrev pub fault_of : Error → Fault
 fault_of error.InvalidRobots = Memory
 fault_of error.InvalidRule = InvalidRule
 fault_of error.Memory = Memory
 
--- the error of the program for a failed read
 abbrev pub fault_of_read : ReadFault → Fault
 fault_of_read read.Read = Read
 fault_of_read read.Memory = Memory

@@ -11,20 +11,15 @@ use Rattle.robots_verdict.specs.{Input.AreUtf8, Input.HoldNotUtf8, Input.IsInput
 use Rattle.robots_verdict.specs.declared.fault.Fault.TheVariants.{HeaderNotUtf8, InvalidRule, Memory, Read}
 use Rattle.robots_verdict.specs.declared.fault.Fault.TheVariants.{NoEmptyLine, Write}
 
--- ---- Verdicts on URLs, and the lines that say them.
-
--- ---- a line
-
 abbrev pub verdict_word : Bool → List ℕ
 verdict_word true = codes "allow "
 verdict_word false = codes "deny "
 
--- the number of the deciding line, or `-` if there is none
+-- `-` if no line decides
 abbrev pub line_text : Option ℕ → List ℕ
 line_text None = codes "-"
 line_text (Some number) = decimal number
 
--- the part of the line that precedes the URL
 abbrev pub verdict_front : Bool → Option ℕ → List ℕ
 verdict_front allowed number = verdict_word allowed ++ line_text number ++ codes " "
 
@@ -34,23 +29,16 @@ pub record IsVerdictLine (rules : List PlacedRule) (url line : List ℕ) : Type 
   pub decided : IsDecisionOn rules (prepared url) decision
   pub whole : line ≡ verdict_front decision.allowed decision.line ++ url
 
--- ---- lines appended to a text
-
--- a line with the decision of the rules on the URL is appended
 pub record AddsVerdict (rules : List PlacedRule) (url old new : List ℕ) : Type 0 where
   pub line : List ℕ
   pub verdict : IsVerdictLine rules url line
   pub whole : new ≡ old ++ ended (line ∷ [])
 
--- such a line is appended for each URL, in order
+-- a line for each URL is appended, in order
 pub record AddsVerdicts (rules : List PlacedRule) (urls : List (List ℕ)) (old new : List ℕ) : Type 0 where
   pub lines : List (List ℕ)
   pub verdicts : AllZip (IsVerdictLine rules) urls lines
   pub whole : new ≡ old ++ ended lines
-
--- ---- The report on an input.
-
--- ---- the lines of a report
 
 abbrev pub delay_line : Option ℕ → List ℕ
 delay_line None = codes "delay none"
@@ -59,15 +47,12 @@ delay_line (Some micros) = codes "delay " ++ decimal micros
 abbrev pub sitemap_line : List ℕ → List ℕ
 sitemap_line sitemap = codes "sitemap " ++ sitemap
 
--- the text has a line with the crawler's delay, one for each sitemap of the file, and one with the verdict
--- on each URL
+-- a line with the crawler's delay, one for each sitemap of the file, and one with the verdict on each URL
 pub record IsReportText (agent : List ℕ) (urls : List (List ℕ)) (file text : List ℕ) : Type 0 where
   pub verdict_lines : List (List ℕ)
   pub verdicts : AllZip (IsVerdictLine (placed_rules agent (lines_read file))) urls verdict_lines
   pub whole : text ≡ ended (delay_line (delay_for agent (lines_read file))
       ∷ (map sitemap_line (sitemaps_in (lines_read file)) ++ verdict_lines))
-
--- ---- the report on an input
 
 -- the input is the cause of this error
 abbrev pub HasFault : List ℕ → Fault → Type 0
@@ -89,8 +74,6 @@ IsReport input (Ok text) =
     × IsInput input agent urls file × AreUtf8 agent urls × (¬ IsFileRejected agent (take file_limit file))
     × IsReportText agent urls file text
 IsReport input (Err fault) = HasFault input fault
-
--- ---- what is written
 
 -- the writer contains its previous content and then the report on the input
 abbrev pub AppendsReport : Option (List ℕ) → Option (List ℕ) → List ℕ → Type 0

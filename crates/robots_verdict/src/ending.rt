@@ -9,11 +9,9 @@ use crate::fault::Fault;
 #[derive(Drop)]
 pub struct Exit {
     pub status: u8,
-    /// The message on standard error, if there is one.
     pub text: Option<&'static str>,
 }
 
-/// How the process ends after a run with this result.
 pub fn exit_of(outcome: &Result<(), Fault>) -> Exit
     ensures status { result.status ≡ status_after outcome.now }
     ensures text { option_map (λ text. text.now) result.text ≡ message_after outcome.now }

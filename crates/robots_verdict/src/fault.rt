@@ -12,7 +12,6 @@ pub enum Fault {
     Write,
     /// The input has no empty line after its first line.
     NoEmptyLine,
-    /// The crawler's name or a URL isn't UTF-8.
     HeaderNotUtf8,
     /// A rule that applies to the crawler contains `$` and is too long.
     InvalidRule,
@@ -24,7 +23,6 @@ impl Fault {
     ghost use Rattle.std.specs.Prelude.{◌≡◌};
     ghost use Rattle.robots_verdict.specs.Fault.{status_of, text_of};
 
-    /// The message on standard error.
     pub fn text(&self) -> &'static str
         ensures { result.now ≡ text_of self.now }
     {
@@ -38,7 +36,6 @@ impl Fault {
         }
     }
 
-    /// The exit status of the process.
     pub fn status(&self) -> u8
         ensures { result ≡ status_of self.now }
     {

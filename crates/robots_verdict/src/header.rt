@@ -8,7 +8,6 @@ ghost use Rattle.robots_verdict.specs.Report.{HasFault};
 use crate::fault::Fault;
 use std::alloc::Global;
 
-/// The parts of an input.
 #[derive(Drop)]
 pub struct Header<'a> {
     pub agent: &'a str,
@@ -16,7 +15,7 @@ pub struct Header<'a> {
     pub file: &'a [u8],
 }
 
-/// The parts of an input, before the header is known to be UTF-8.
+/// Before the header is known to be UTF-8.
 #[derive(Drop)]
 struct RawInput<'a> {
     agent: &'a [u8],
@@ -24,7 +23,6 @@ struct RawInput<'a> {
     file: &'a [u8],
 }
 
-/// The line without a CR at its end.
 fn without_cr<'a>(line: &'a [u8]) -> &'a [u8]
     ensures { result.now ≡ strip_last cr line.now }
 {
@@ -34,14 +32,12 @@ fn without_cr<'a>(line: &'a [u8]) -> &'a [u8]
     line
 }
 
-/// The index of the first LF.
 fn find_lf(input: &[u8]) -> Option<usize>
     ensures { MatchOption result (IsOneLine input.now) (λ place. IsFirstLf input.now place) }
 {
     input.iter().position(|byte| *byte == b'\n')
 }
 
-/// The content of the first line, and the bytes after its LF; `None` if there is no LF.
 fn first_line<'a>(input: &'a [u8]) -> Option<(&'a [u8], &'a [u8])>
     ensures { MatchOption result (IsOneLine input.now)
         (λ found. BeginsWithLine input.now found.0.now found.1.now) }
@@ -75,7 +71,6 @@ fn split<'a>(alloc: Global, input: &'a [u8]) -> Result<RawInput<'a>, Fault>
     Err(Fault::NoEmptyLine)
 }
 
-/// The bytes as a string.
 fn text_of<'a>(bytes: &'a [u8]) -> Result<&'a str, Fault>
     ensures ok { IfOk result (λ text. (text.now ≡ bytes.now) × IsUtf8 bytes.now) }
     ensures fault { IfErr result (λ fault. (fault ≡ Fault.HeaderNotUtf8) × ¬ IsUtf8 bytes.now) }
@@ -86,7 +81,6 @@ fn text_of<'a>(bytes: &'a [u8]) -> Result<&'a str, Fault>
     }
 }
 
-/// Each URL as a string.
 fn texts_of<'a>(alloc: Global, urls: &[&'a [u8]]) -> Result<Vec<&'a str>, Fault>
     ensures ok { IfOk result (λ texts. (map (λ url. url.now) texts.items ≡ map (λ url. url.now) urls.now)
         × Each IsUtf8 (map (λ url. url.now) urls.now)) }
@@ -101,7 +95,7 @@ fn texts_of<'a>(alloc: Global, urls: &[&'a [u8]]) -> Result<Vec<&'a str>, Fault>
     Ok(texts)
 }
 
-/// Parses the header of an input. If both errors apply, it returns `NoEmptyLine`. Only URLs need allocations.
+/// If both errors apply, the error is `NoEmptyLine`. Only URLs need allocations.
 pub(crate) fn read_header<'a>(alloc: Global, input: &'a [u8]) -> Result<Header<'a>, Fault>
     ensures input { IfOk result (λ header. IsInput input.now header.agent.now
         (map (λ url. url.now) header.urls.items) header.file.now) }

@@ -9,13 +9,11 @@ pub fn each_input_has_one_split()
         → (agent ≡ other) × (urls ≡ others) × (file ≡ rest) }
 {}
 
-/// An input has at most one report.
 pub fn each_input_has_one_report()
     ensures { (input : List ℕ) (report other : Result (List ℕ) Fault) → IsReport input report
         → IsReport input other → report ≡ other }
 {}
 
-/// Each input has a report.
 pub fn each_input_has_a_report()
     ensures { (input : List ℕ) → (report : Result (List ℕ) Fault) × IsReport input report }
 {}

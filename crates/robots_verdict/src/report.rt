@@ -12,7 +12,6 @@ use printable_text::lines::push_line;
 use std::alloc::{AllocError, Global};
 use texting_robots::{Error, Robot};
 
-/// Appends the line with the delay in microseconds.
 fn push_delay(text: &mut String, delay: Option<u64>) -> Result<(), AllocError>
     ensures { OnOk result (string_bytes text.new ≡ string_bytes text.old
         ++ ended (delay_line delay ∷ [])) }
@@ -23,7 +22,6 @@ fn push_delay(text: &mut String, delay: Option<u64>) -> Result<(), AllocError>
     }
 }
 
-/// Appends a line for each sitemap.
 fn push_sitemaps(text: &mut String, sitemaps: &[String]) -> Result<(), AllocError>
     ensures { OnOk result (string_bytes text.new ≡ string_bytes text.old
         ++ ended (map sitemap_line (map string_bytes sitemaps.now))) }
@@ -34,7 +32,6 @@ fn push_sitemaps(text: &mut String, sitemaps: &[String]) -> Result<(), AllocErro
     Ok(())
 }
 
-/// Appends the line with the robot's verdict on a URL.
 fn push_verdict(alloc: Global, text: &mut String, robot: &Robot, url: &str) -> Result<(), Error>
     ensures ok { OnOk result (AddsVerdict robot.now.rules url.now (string_bytes text.old) (string_bytes text.new)) }
     ensures memory { IfErr result (λ error. error ≡ Error.Memory) }
@@ -44,7 +41,6 @@ fn push_verdict(alloc: Global, text: &mut String, robot: &Robot, url: &str) -> R
     Ok(push_line(text, "", url)?)
 }
 
-/// Appends a line with the robot's verdict for each URL.
 fn push_verdicts(
     alloc: Global,
     text: &mut String,
@@ -61,7 +57,6 @@ fn push_verdicts(
     Ok(())
 }
 
-/// The report on an input.
 pub(crate) fn report_of(alloc: Global, input: &[u8]) -> Result<String, Fault>
     ensures ok { IfOk result (λ text. IsReport input.now (Ok (string_bytes text))) }
     ensures fault { IfErr result (λ fault. fault ≢ Fault.Memory → HasFault input.now fault) }

@@ -9,12 +9,9 @@ use texting_robots::robot::Decision;
 use texting_robots::view::View;
 use texting_robots::{Error, Robot};
 
-/// The robot's decision on a URL, by counted byte comparisons, within the bound that [`Robot::decision`] states. There
-/// is no prefilter, so this is usually slower than [`Robot::decide`] for a file with many rules.
-///
-/// # Errors
-///
-/// `Error::Memory` if an allocation fails or the URL is too long for `url`.
+/// The robot's decision on a URL, by counted byte comparisons, within the bound that [`Robot::decision`]
+/// states. There is no prefilter, so this is usually slower than [`Robot::decide`] for a file with many
+/// rules.
 pub(crate) fn counted_decision_on(
     alloc: Global,
     robot: &Robot,
@@ -27,14 +24,12 @@ pub(crate) fn counted_decision_on(
     Ok(robot.decision(&mut View::new(&prepared)))
 }
 
-/// The label of a verdict, followed by a space.
 fn verdict_word(allowed: bool) -> &'static str
     ensures { result.now ≡ verdict_word allowed }
 {
     if allowed { "allow " } else { "deny " }
 }
 
-/// Appends the number of the deciding line, or `-` if there is none.
 fn push_line_number(text: &mut String, line: Option<usize>) -> Result<(), AllocError>
     ensures added { OnOk result (string_bytes text.new ≡ string_bytes text.old ++ line_text line) }
 {
@@ -44,7 +39,6 @@ fn push_line_number(text: &mut String, line: Option<usize>) -> Result<(), AllocE
     }
 }
 
-/// Appends the part of a verdict's line that precedes the URL.
 pub(crate) fn push_decision(text: &mut String, decision: &Decision) -> Result<(), AllocError>
     ensures added { OnOk result (string_bytes text.new ≡ string_bytes text.old
         ++ verdict_front decision.now.allowed decision.now.line) }

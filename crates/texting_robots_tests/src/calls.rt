@@ -7,7 +7,7 @@ use texting_robots::view::View;
 use texting_robots::{Decision, Error, Robot, Site, allowed_in_file, get_robots_url};
 use url::{ParseError, Url};
 
-/// What is called. The variants after `RobotAndUrl` allocate nothing more than the call before `, then` in their name.
+/// The variants after `RobotAndUrl` allocate nothing more than the call before `, then` in their name.
 pub(crate) enum Call {
     ParseLines,
     Pattern,
@@ -50,7 +50,6 @@ pub(crate) const CALLS: &[(&str, Call)] = &[
     ("Robot::new on line ends without memory", Call::LineEnds),
 ];
 
-/// Makes a call, and returns whether its result is right.
 pub(crate) fn answer(alloc: Global, call: &Call) -> Result<bool, Error> {
     match call {
         Call::ParseLines => Ok(robots_txt_parse(alloc, PAGE)?.as_slice() == PAGE_LINES),
@@ -72,7 +71,6 @@ pub(crate) fn answer(alloc: Global, call: &Call) -> Result<bool, Error> {
     }
 }
 
-/// A file, and its lines.
 pub(crate) const PAGE: &[u8] =
     b"User-Agent: SmerBot\nDisallow: /path\nAllow:    /path/exception   # ONLY THIS IS ALLOWED\n\
     Crawl-delay : 60 # Very slow delay\n\nsitemap: https://example.com/sitemap.xml";
@@ -86,7 +84,7 @@ pub(crate) const PAGE_LINES: &[Line<'static>] = &[
     Line::Sitemap(b"https://example.com/sitemap.xml"),
 ];
 
-/// Whether the pattern is right, and for `Call::Clone` its clone too. The pattern is unchanged if that can't be made.
+/// The pattern is unchanged if the clone of `Call::Clone` can't be made.
 fn asks_pattern(alloc: Global, pattern: &MinRegex, call: &Call) -> Result<bool, Error> {
     if !matches!(call, Call::Clone) {
         return Ok(is_right_pattern(pattern));
@@ -211,7 +209,6 @@ fn is_right_pattern(pattern: &MinRegex) -> bool {
         && pattern.partial_cmp(pattern) == Some(Ordering::Equal)
 }
 
-/// Whether this is the decision on a match target.
 fn decides(robot: &Robot, text: &str, allowed: bool, line: Option<usize>) -> bool {
     let want = Decision { allowed, line };
     let mut view = View::new(text);

@@ -3,7 +3,6 @@ use crate::helpers::check_equal;
 use std::alloc::Global;
 use texting_robots::{Error, Robot};
 
-/// What a crawler does about a page.
 #[derive(PartialEq, Eq, Debug, Drop)]
 enum Plan {
     /// Fetch it, after this many microseconds.

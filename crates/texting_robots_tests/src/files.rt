@@ -7,7 +7,7 @@ use std::process::Abort;
 use texting_robots::robot::FILE_LIMIT;
 use texting_robots::{Error, Robot};
 
-/// A file, and what no golden test of `robots_verdict` can check: verdicts on the empty string, which its input can't
+/// What no golden test of `robots_verdict` can check: verdicts on the empty string, which its input can't
 /// contain, and on parsed URLs.
 const VERDICTS: &[(&str, Verdicts)] = &[
     // the empty string means the root
@@ -185,8 +185,9 @@ fn a_greater_limit_reads_on(rt: HostRuntime) {
     }
 }
 
-/// Line ends, and the verdicts by two Disallow lines that each come after them. The first has a user-agent line above it,
-/// so after n empty lines they are lines n + 2 and 2n + 3. CRs, and the LF or NUL after them, are one end.
+/// Line ends, and the verdicts by two Disallow lines that each come after them. The first has a user-agent
+/// line above it, so after n empty lines they are lines n + 2 and 2n + 3. CRs, and the LF or NUL after them,
+/// are one end.
 const EMPTY_LINES: &[(TextParts, i64, i64)] = &[
     (&[("\n", 1)], -3, -5),
     (&[("\n", 31)], -33, -65),

@@ -25,12 +25,10 @@ const URLS: &[&str] = &[
     "https://example.com/a?b#c",
 ];
 
-/// Checks that the condition holds.
 pub fn check(rt: &impl Abort, name: &str, holds: bool) {
     assert!(rt; holds, "{name}");
 }
 
-/// Checks that the result is the expected one.
 pub fn check_equal<T: PartialEq + Debug>(rt: &impl Abort, name: &str, answer: &T, want: &T) {
     assert!(rt; *answer == *want, "{name}: {answer:?}");
 }
@@ -58,13 +56,11 @@ pub fn long_text(rt: &(impl Abort + AllocGlobal), name: &str, parts: &[(&str, us
     text
 }
 
-/// The robot of a file, which has to be accepted.
 pub fn robot_of(rt: &(impl Abort + AllocGlobal), name: &str, agent: &str, file: &[u8]) -> Robot {
     Robot::new(rt.alloc(), agent, file).expect(rt, name)
 }
 
-/// The robots of a file with this size limit, or with the one of `new`: by itself and of a site. They have to be
-/// accepted.
+/// With this size limit, or with the one of `new`: the robot of the file itself and that of a site.
 pub fn robots_of(
     rt: &(impl Abort + AllocGlobal),
     agent: &str,
@@ -85,12 +81,10 @@ pub fn robots_of(
     [robot.expect(rt, agent), of_site.expect(rt, agent)]
 }
 
-/// The robot as `Debug` prints it.
 pub fn shown(rt: &(impl Abort + AllocGlobal), robot: &Robot) -> String {
     format!(in rt.alloc(); "{robot:?}").expect(rt, "robot")
 }
 
-/// The decision of a verdict.
 fn decision_of(verdict: i64) -> Decision {
     Decision {
         allowed: verdict >= 0,
@@ -98,7 +92,7 @@ fn decision_of(verdict: i64) -> Decision {
     }
 }
 
-/// Checks the verdict on a match target by all of the robot's functions.
+/// By all of the robot's functions.
 pub fn check_target(rt: &impl Abort, robot: &Robot, text: &str, verdict: i64) {
     let want = decision_of(verdict);
     let (mut view, mut other) = (View::new(text), View::new(text));
@@ -108,7 +102,7 @@ pub fn check_target(rt: &impl Abort, robot: &Robot, text: &str, verdict: i64) {
     check_equal(rt, text, &decisions, &[want; 2]);
 }
 
-/// Checks the verdict on a URL, parsed and not, and on its match target.
+/// Parsed and not, and on its match target.
 pub fn check_url(rt: &(impl Abort + AllocGlobal), robot: &Robot, url: &str, verdict: i64) {
     let want = decision_of(verdict);
     let answer = robot.allowed(rt.alloc(), url).expect(rt, url);
@@ -122,7 +116,6 @@ pub fn check_url(rt: &(impl Abort + AllocGlobal), robot: &Robot, url: &str, verd
     check_target(rt, robot, &target, verdict);
 }
 
-/// Checks the sitemaps.
 pub fn check_sitemaps(rt: &impl Abort, name: &str, sitemaps: &[String], want: &[&str]) {
     check_equal(rt, name, &sitemaps.len(), &want.len());
     for (sitemap, want) in sitemaps.iter().zip(want) {
@@ -130,7 +123,7 @@ pub fn check_sitemaps(rt: &impl Abort, name: &str, sitemaps: &[String], want: &[
     }
 }
 
-/// Checks that the robot has no rule, delay or sitemap: it is printed as that of an empty file, and allows every URL.
+/// The robot is printed as that of an empty file, and allows every URL.
 pub fn check_nothing(rt: &(impl Abort + AllocGlobal), name: &str, robot: &Robot) {
     let empty = shown(rt, &robot_of(rt, name, BOB, b""));
     check_equal(rt, name, &shown(rt, robot), &empty);

@@ -8,8 +8,8 @@ use texting_robots::parser::file_lines;
 const FILE: &[u8] =
     b"Disallow: /x\nUser-agent: a\nUser-agent: B\nDisallow: /y\nUser-agent: c\nAllow: /z";
 
-/// A crawler, a file, whether it names the crawler, and a character for each line: `+` in the crawler's group, `-` in
-/// another, a space in none.
+/// A crawler, a file, whether it names the crawler, and a character for each line: `+` in the crawler's
+/// group, `-` in another, a space in none.
 type MaskCase = (&'static str, &'static [u8], bool, &'static [u8]);
 
 const GROUPS: &[MaskCase] = &[
@@ -102,7 +102,6 @@ const ENDS: &[MaskCase] = &[
     ("a", b"", false, b""),
 ];
 
-/// Checks that the lines of a file are numbered, and the membership of each.
 fn check_labels(rt: &impl Abort, agent: &str, file: &[u8], masks: &[u8]) {
     check_equal(rt, agent, &file_lines(file).count(), &masks.len());
     let mut labeled = labeled_lines(agent, file);

@@ -8,7 +8,6 @@ use texting_robots::parser::{
     robots_txt_parse,
 };
 
-/// A text and its lines.
 type LinesCase = (&'static [u8], &'static [Line<'static>]);
 
 const SIX: &[Line<'static>] = &[
@@ -95,7 +94,6 @@ const VALUES: &[LinesCase] = &[
     (b"Disallow:/a:b", &[Disallow(b"/a:b")]),
 ];
 
-/// Delays.
 const DELAYS: &[LinesCase] = &[
     (b"    crawl-delay  : 3.14", &[CrawlDelay(Some(3_140_000))]),
     (b"    crawl-delay  : 60", &[CrawlDelay(Some(60_000_000))]),
@@ -158,7 +156,6 @@ fn check_each<'a>(rt: &impl Abort, lines: LineIter<'a>, want: &[Line<'a>]) {
     check_equal(rt, "line", &lines.next(), &None);
 }
 
-/// The iterator returns these line contents, and then `None`.
 fn check_bodies(rt: &impl Abort, bodies: BodyIter<'_>, want: &[&[u8]]) {
     let mut bodies = bodies;
     for body in want {
@@ -168,7 +165,7 @@ fn check_bodies(rt: &impl Abort, bodies: BodyIter<'_>, want: &[&[u8]]) {
     check_equal(rt, "body", &bodies.next(), &None);
 }
 
-/// Checks a line. If it is ignored, it can have eight spaces before the expected content.
+/// If the line is ignored, it can have eight spaces before the expected content.
 fn check_line(rt: &impl Abort, line: Line<'_>, want: Line<'_>) {
     let is_wanted = match (line, want) {
         (Raw(body), Raw(want)) => body == want || body.strip_prefix(b"        ") == Some(want),
@@ -177,7 +174,6 @@ fn check_line(rt: &impl Abort, line: Line<'_>, want: Line<'_>) {
     assert!(rt; is_wanted, "{line:?}");
 }
 
-/// Checks the lines of a text that can be indented.
 fn check_parsed(rt: &(impl Abort + AllocGlobal), text: &[u8], want: &[Line<'_>]) {
     let lines = robots_txt_parse(rt.alloc(), text).expect(rt, "lines");
     check_equal(rt, "lines", &lines.len(), &want.len());
@@ -186,8 +182,7 @@ fn check_parsed(rt: &(impl Abort + AllocGlobal), text: &[u8], want: &[Line<'_>])
     }
 }
 
-/// Checks the lines of the text, as a vector and by iterator. Without NUL, the lines of a file with this text are the
-/// same.
+/// As a vector and by iterator. Without NUL, the lines of a file with this text are the same.
 pub fn check_lines<'a>(rt: &(impl Abort + AllocGlobal), text: &'a [u8], want: &[Line<'a>]) {
     check_parsed(rt, text, want);
     check_each(rt, lines(text), want);
@@ -248,7 +243,6 @@ const FIELD_NAMES: &[(Kind, &[&str], Line<'static>)] = &[
     ),
 ];
 
-/// Checks that each field name makes the line.
 fn check_names(rt: &(impl Abort + AllocGlobal), names: &[&str], want: Line<'_>) {
     for name in names {
         let text = format!(in rt.alloc(); "{name}: 7").expect(rt, name);
@@ -309,7 +303,6 @@ const NUMBERS: &[(&str, u64)] = &[
     ("INFINITY", u64::MAX),
 ];
 
-/// Values that aren't delays.
 const NO_DELAYS: &[&str] = &[
     "", ".", "nan", "1e", " 5", "-inf", "-1e-99", "+", "e5", ".e5", "1_0", "infin", "-nan", "-.5",
 ];

@@ -79,8 +79,8 @@ const COSTS: &[(TextParts, usize, u64)] = &[
     (&[("User-agent: other\nDisallow: /b", 1)], 10, 0),
 ];
 
-/// Checks that a query with a budget has the result of one without, and never takes more than the budget: it answers
-/// for the cost, and gives up for less than it took.
+/// A query with a budget has the result of one without, and never takes more than the budget: it answers for
+/// the cost, and gives up for less than it took.
 fn check_budget(rt: &(impl Abort + AllocGlobal), robot: &Robot, text: &str, want: Decision) {
     let cost = robot.cost(text.len());
     let mut view = View::new(text);
@@ -96,7 +96,6 @@ fn check_budget(rt: &(impl Abort + AllocGlobal), robot: &Robot, text: &str, want
     }
 }
 
-/// Checks the verdict of a robot for this file by each function that counts looks, and counts them.
 fn check_looks(
     rt: &(impl Abort + AllocGlobal),
     file: &[u8],

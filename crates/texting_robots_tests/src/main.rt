@@ -41,7 +41,7 @@ use std::io::Read;
 use std::process::ExitCode;
 use texting_robots::Error;
 
-/// Makes a call and prints its outcome. Returns whether it is an acceptable one.
+/// The result is whether the outcome of the call is an acceptable one.
 fn makes_call(rt: &HostRuntime, name: &str, call: &Call) -> bool {
     let (word, may_be) = match answer(rt.alloc(), call) {
         Ok(true) => ("right", true),
@@ -52,8 +52,7 @@ fn makes_call(rt: &HostRuntime, name: &str, call: &Call) -> bool {
     println!(rt; "{name}: {word}").is_ok() && may_be
 }
 
-/// Makes the call that the line on standard input names, or all if there is none. Returns whether all outcomes are
-/// acceptable.
+/// Makes the call that the line on standard input names, or all if there is none.
 fn makes_calls(rt: &HostRuntime, line: &[u8]) -> bool {
     let mut well = true;
     for (name, call) in CALLS {

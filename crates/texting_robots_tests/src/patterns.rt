@@ -60,12 +60,11 @@ const ORDERS: &[(&str, &str, Ordering)] = &[
     ("/a", "/a", Ordering::Equal),
 ];
 
-/// The compiled pattern, which has to be accepted.
 pub fn regex_of(rt: &(impl Abort + AllocGlobal), pattern: &str) -> MinRegex {
     MinRegex::new(rt.alloc(), pattern).expect(rt, pattern)
 }
 
-/// The pattern's copy, which has to be equal to it and has to have the same text.
+/// The copy has to be equal, with the same text.
 pub fn copy_of(rt: &(impl Abort + AllocGlobal), regex: &MinRegex) -> MinRegex {
     let copy = regex.clone(rt.alloc()).expect(rt, "copy");
     check(rt, "copy", copy == *regex);
@@ -73,7 +72,7 @@ pub fn copy_of(rt: &(impl Abort + AllocGlobal), regex: &MinRegex) -> MinRegex {
     copy
 }
 
-/// Matches the text with and without a view, and counts the looks.
+/// With and without a view, whose looks are counted.
 pub fn check_match(rt: &impl Abort, regex: &MinRegex, text: &str, want: bool) {
     let mut view = View::new(text);
     let answers = [regex.is_match(text), regex.matches_view(&mut view)];

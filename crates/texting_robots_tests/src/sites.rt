@@ -129,7 +129,7 @@ const UNNAMED_RULES: &[RuleCase] = &[
 
 const SITES: &[SiteCase] = &[WHOLE, CUT, UNNAMED];
 
-/// Checks the crawler's lines and rules, in the file's order. A crawler that isn't named gets the group of `*`.
+/// In the file's order. A crawler that isn't named gets the group of `*`.
 fn check_lines(rt: &(impl Abort + AllocGlobal), site: &Site, case: &CrawlerCase) {
     let agent = case.agent;
     let group = if case.is_named { agent } else { "*" };
@@ -150,7 +150,6 @@ fn check_lines(rt: &(impl Abort + AllocGlobal), site: &Site, case: &CrawlerCase)
     check(rt, agent, rules.next().is_none());
 }
 
-/// Checks the crawler's robot, with sitemaps and without.
 fn check_robot(
     rt: &(impl Abort + AllocGlobal),
     site: &Site,

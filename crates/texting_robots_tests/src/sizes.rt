@@ -7,8 +7,8 @@ use texting_robots::parser::robots_txt_parse;
 use texting_robots::view::View;
 use texting_robots::{allowed_in_file, push_escaped_bytes};
 
-/// Checks a file of equal rules, of which the first one decides, and as many sitemaps. A verdict compares two bytes of
-/// each rule.
+/// A file of equal rules, of which the first one decides, and as many sitemaps. A verdict compares two bytes
+/// of each rule.
 fn check_file(rt: &(impl Abort + AllocGlobal), size: usize) {
     let file = long_text(rt, "file", &[("Disallow: /a\nSitemap:\n", size)]);
     let lines = robots_txt_parse(rt.alloc(), file.as_bytes()).expect(rt, "lines");
@@ -24,7 +24,7 @@ fn check_file(rt: &(impl Abort + AllocGlobal), size: usize) {
     check_equal(rt, "looks", &view.seen(), &(size as u64).saturating_mul(2));
 }
 
-/// Checks patterns with this many segments, and with one segment of this many letters.
+/// With this many segments, and with one segment of this many letters.
 fn check_patterns(rt: &(impl Abort + AllocGlobal), size: usize) {
     for part in ["a*", "a"] {
         let pattern = long_text(rt, part, &[("/", 1), (part, size)]);
@@ -35,7 +35,6 @@ fn check_patterns(rt: &(impl Abort + AllocGlobal), size: usize) {
     }
 }
 
-/// Checks that the bytes are escaped.
 fn check_escaped(rt: &(impl Abort + AllocGlobal), bytes: &[u8], want: &str) {
     let mut text = String::new(rt.alloc());
     push_escaped_bytes(&mut text, bytes).expect(rt, "escaped");

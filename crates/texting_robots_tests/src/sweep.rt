@@ -9,7 +9,7 @@ use texting_robots::parser::{Line, robots_txt_parse};
 /// The number of texts with at most six bytes, each of them `/`, `a`, `*` or `$`.
 const SMALL_TEXTS: u32 = 5_461;
 
-/// The text with this index. Index 0 is the empty text, and shorter texts come first.
+/// Index 0 is the empty text, and shorter texts come first.
 fn small_text(rt: &(impl Abort + AllocGlobal), number: u32) -> String {
     let mut text = String::new(rt.alloc());
     let mut left = number;
@@ -41,7 +41,6 @@ fn check_small(rt: &(impl Abort + AllocGlobal), text: &str) {
     check_lines(rt, text.as_bytes(), &lines[..count]);
 }
 
-/// Checks the text as the value of the only rule in a file.
 fn check_rule(rt: &(impl Abort + AllocGlobal), text: &str) {
     let file = long_text(rt, text, &[("Disallow: ", 1), (text, 1)]);
     let robot = robot_of(rt, text, BOB, file.as_bytes());
@@ -64,7 +63,7 @@ fn small_texts(rt: HostRuntime) {
     check_equal(&rt, "last", &last.as_str(), &"$$$$$$");
 }
 
-/// Checks the input as a file: all lines are ignored, and the robot has no rule, delay or sitemap.
+/// All lines are ignored, and the robot has no rule, delay or sitemap.
 fn check_input(rt: &(impl Abort + AllocGlobal), input: &[u8]) {
     let robot = robot_of(rt, "robot", BOB, input);
     let is_bare = robot.delay == None && robot.sitemaps.is_empty() && robot.allowed_prepared("/");
@@ -74,7 +73,6 @@ fn check_input(rt: &(impl Abort + AllocGlobal), input: &[u8]) {
     }
 }
 
-/// All inputs of at most two bytes.
 #[test]
 fn small_inputs(rt: HostRuntime) {
     check_input(&rt, b"");

@@ -126,13 +126,11 @@ https://a b/ -> https://a%20b/",
     ),
 ];
 
-/// Checks the match target of the URL or path.
 pub fn check_prepared(rt: &(impl Abort + AllocGlobal), url: &str, want: &str) {
     let target = Robot::prepare_url(rt.alloc(), url).expect(rt, url);
     check_equal(rt, url, &target.as_str(), &want);
 }
 
-/// Checks what is before `/robots.txt` in a robots.txt address, or the error.
 fn check_answer(
     rt: &impl Abort,
     url: &str,
@@ -145,8 +143,7 @@ fn check_answer(
     }
 }
 
-/// Checks what is before `/robots.txt` in the robots.txt address of a text, or the error, and the same of the parsed URL
-/// if the text is one.
+/// The same for a text, and for the parsed URL if the text is one.
 pub fn check_address(
     rt: &(impl Abort + AllocGlobal),
     text: &str,
@@ -162,7 +159,6 @@ pub fn check_address(
     }
 }
 
-/// The two parts of a row.
 fn parts<'a>(rt: &impl Abort, row: &'a str) -> (&'a str, &'a str) {
     row.split_once(" -> ").expect(rt, row)
 }

@@ -6,7 +6,6 @@ use Rattle.texting_robots.specs.Callers.{IsVerdict, Rule, prepared, unplaced}
 use Rattle.robots_examples.proofs.crawler.allowed_of.Goals.{then-branch+in_ok-push, else-branch}
 use Rattle.robots_examples.proofs.crawler.allowed_of.Goals as goal
 
--- which URLs are kept from index `at` on, given the verdict on the URL there and the URLs kept after it
 from_here : (rules : List Rule) (urls : List (Bor (List ℕ))) (at : ℕ) (url : Bor (List ℕ))
     (allowed : Bool) (rest : List (List ℕ)) → at < length urls
     → IsVerdict rules (prepared (slice_index_or urls at url).now) allowed

@@ -3,8 +3,6 @@ use Rattle.robots_examples.specs.Crawler.{AreAllowed}
 use Rattle.texting_robots.specs.Callers.{unplaced}
 use Rattle.robots_examples.proofs.crawler.allowed_of.Given as goal
 
--- if `rest` are the URLs to keep among those that remain, then the URLs kept so far and `rest` are those to
--- keep among all
 abbrev pub invariant-loop-url : goal.invariant-loop-url
 invariant-loop-url l =
     let rules = unplaced l.fn.robot.rules in

@@ -7,7 +7,6 @@ use Rattle.texting_robots.specs.Callers.{IsVerdict, Rule, ViewValue, unplaced}
 use Rattle.robots_examples.proofs.link_check.count_denied.Goals.{then-not-allowed_view, else-not-allowed_view}
 use Rattle.robots_examples.proofs.link_check.count_denied.Goals as goal
 
--- two lists that are equal from an index on have the same item there, and the same items after it
 same_there : (xs ys : List ViewValue) (at : ℕ) (x : ViewValue) → at < length xs → at < length ys
     → drop at xs ≡ drop at ys
     → (slice_index_or xs at x ≡ slice_index_or ys at x) × (drop (at + 1) xs ≡ drop (at + 1) ys)
@@ -16,7 +15,6 @@ same_there xs ys at x within_xs within_ys same =
     let other = drop_more ys at x within_ys in
     (cc, cc)
 
--- how many links are denied from index `at` on, given the verdict on the link there and the count after it
 from_here : (rules : List Rule) (links : List ViewValue) (at : ℕ) (link : ViewValue)
     (allowed : Bool) (rest : ℕ) → at < length links
     → IsVerdict rules (slice_index_or links at link).text allowed
@@ -25,7 +23,6 @@ from_here : (rules : List Rule) (links : List ViewValue) (at : ℕ) (link : View
 from_here rules links at link allowed rest below (is, are) =
     rw (drop_more links at link below) (allowed, rest, is, are, refl)
 
--- the comparisons of one more view are added to the sum
 looks_more : (links : List ViewValue) (at : ℕ) (link : ViewValue) → at < length links
     → sum_by (λ link. link.looks) (take (at + 1) (slice_set links at link))
     ≡ sum_by (λ link. link.looks) (take at links) + link.looks
