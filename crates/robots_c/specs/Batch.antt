@@ -20,7 +20,7 @@ abbrev pub IsBatchPutIn : List PlacedRule → List ℕ → List ℕ → List ℤ
 IsBatchPutIn rules text ends old new = Ascend 0 ends (length text)
     × ((numbers : List ℤ) × AllZip (HasResult rules) (pieces text 0 ends) numbers × IsPutIn old new numbers)
 
--- the places are checked first, then the URLs, then the room, and then an allocation can fail
+-- the places are checked first, then the URLs, then the capacity, and then an allocation can fail
 abbrev pub IsWhyNoBatch : List ℕ → List ℕ → ℕ → Fault → Type 0
 IsWhyNoBatch text ends capacity InvalidEnds = ¬ Ascend 0 ends (length text)
 IsWhyNoBatch text ends capacity NotUtf8 = Ascend 0 ends (length text) × ¬ All IsUtf8 (pieces text 0 ends)

@@ -45,6 +45,6 @@ opened_at R P at = fex R.Denot (λ value. fex (P value) (λ _. owned_at R at val
 abbrev pub opens : (R : RattleType) → (R.Denot → Type 0) → ℤ → Ptr → Fml
 opens R P status at = fall (status ≡ pos 0) (λ _. opened_at R P at)
 
--- the caller hands over this share of the lifetime's token
+-- the caller passes this share of the lifetime's token
 abbrev pub lends : (R : RattleType) → Ptr → Lft × Share × R.Denot → Fml
 lends R at g = fsep (lent_at R at g.2 g.0) (flft g.0 g.1)

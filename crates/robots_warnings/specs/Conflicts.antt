@@ -23,7 +23,7 @@ begins_with_d [] = false
 begins_with_d (b ∷ text) = b == byte "d" || b == byte "D"
 
 -- the line is read as an Allow, but its field name begins with a `d`; by the theorem `empty_disallows` of
--- `warnings_laws` this agrees
+-- `warnings_laws` this agrees with `IsEmptyDisallow`
 abbrev pub is_empty_disallow : LineValue → List ℕ → Bool
 is_empty_disallow (Allow value) body = begins_with_d (without_front body)
 is_empty_disallow _ body = false
@@ -104,8 +104,8 @@ overruled_by is_empty rules placed =
 abbrev pub at_line : ℕ → (PlacedRule → Option ℕ) → PlacedRule → Option ℕ
 at_line number other placed = if placed.line == number then other placed else None
 
--- for a rule in the line with this number, by the rules of this crawler; `warnings_laws` proves that it
--- agrees with `IsConflict`, and `overruled_for` with `IsOverruled`
+-- the other line of a conflict of the line with this number; `warnings_laws` proves that this agrees with
+-- `IsConflict`, and `overruled_for` with `IsOverruled`
 abbrev pub conflict_for : (ℕ → Bool) → List LineValue → ℕ → List ℕ → Option ℕ
 conflict_for is_empty lines number agent =
     let rules = placed_rules agent lines in first_of (at_line number (allow_beside is_empty rules)) rules

@@ -131,7 +131,7 @@ name_warning label = warned_of_name (Some label.number) None (meant_in label.lin
 abbrev pub name_warnings : List Label → List WarningValue
 name_warnings labels = flat_map name_warning labels
 
--- of the crawlers that the file doesn't name
+-- if the file doesn't name this crawler
 abbrev pub agent_warning : List LineValue → List ℕ → List WarningValue
 agent_warning lines agent =
     if is_named agent lines then [] else warned_of_name None (Some agent) (meant agent)
@@ -139,7 +139,7 @@ agent_warning lines agent =
 abbrev pub agent_warnings : List LineValue → List (List ℕ) → List WarningValue
 agent_warnings lines agents = flat_map (agent_warning lines) agents
 
--- its vendor applies the group with this name, or none if it is empty
+-- the crawler's vendor applies the group with this name, or none if the name is empty
 abbrev pub other_cause : (group : List ℕ) → Cause
 other_cause group = if length group == 0 then GoogleIgnoresStar else GooglebotGroup
 
@@ -158,7 +158,7 @@ vendor_warning everywhere agents lines number row =
     } ∷ []
     else []
 
--- of the rows from this index on
+-- `number` is the index of the first of these rows; each crawler once
 abbrev pub vendor_warnings : Bool → List (List ℕ) → List LineValue → ℕ → List Row → List WarningValue
 vendor_warnings everywhere agents lines number [] = []
 vendor_warnings everywhere agents lines number (row ∷ rows) =

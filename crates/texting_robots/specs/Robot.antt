@@ -23,7 +23,7 @@ pub record IsRobotOf (agent : List ℕ) (lines : List LineValue) (robot : RobotV
 abbrev pub IsRobotOfFile : List ℕ → List ℕ → RobotValue → Type 0
 IsRobotOfFile agent file robot = HasLines file (λ lines. IsRobotOf agent lines robot)
 
--- the same without sitemaps, whatever the file lists
+-- the robot for this crawler and this file, but without sitemaps
 abbrev pub IsRobotWithoutSitemaps : List ℕ → List ℕ → RobotValue → Type 0
 IsRobotWithoutSitemaps agent file robot =
     (robot.sitemaps ≡ []) × (sitemaps : List (List ℕ))
