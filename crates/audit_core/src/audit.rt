@@ -210,7 +210,7 @@ fn agent_audits<'a>(
     Ok(audits)
 }
 
-/// With `None`, `*`.
+/// The crawler for which lines are labeled; `*` for `None`.
 pub fn labeling_agent<'a>(agent: Option<&'a str>) -> &'a str
     ensures { result.now ≡ labeling_agent (option_map (λ agent. agent.now) agent.entry) }
 {

@@ -48,7 +48,7 @@ fn plural_part(count: usize) -> Part<'static>
     }
 }
 
-/// After two other parts.
+/// The number of warnings of each level that occurs, after two other parts.
 pub fn count_parts<'a>(
     first: Part<'a>,
     second: Part<'a>,

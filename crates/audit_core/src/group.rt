@@ -12,9 +12,9 @@ use texting_robots::parser::Line;
 /// Which user-agent lines determine the group of a crawler.
 #[derive(Clone, Copy, PartialEq, Eq)]
 pub enum Group {
-    /// That of lines that name the crawler.
+    /// Those that name the crawler.
     Named,
-    /// That of `*`, as no line names the crawler.
+    /// Those of `*`, as no line names the crawler.
     Star,
     /// No line names the crawler or `*`, so no group applies.
     Nobody,

@@ -4,7 +4,7 @@ ghost use Rattle.audit_core.specs.Syntax.{has_standard_verdicts, has_syntax_warn
 
 use robots_warnings::warning::Warning;
 
-/// Where verdicts are stated to be those of RFC 9309.
+/// The sentence about verdicts, where they are stated to be those of RFC 9309.
 pub const VERDICTS_SENTENCE: &str =
     "verdicts are those of RFC 9309 for URLs in normal form (reserved characters as in RFC 3986, octets counted in normal form)";
 

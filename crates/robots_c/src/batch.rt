@@ -82,7 +82,7 @@ fn results_at(
     Ok(numbers)
 }
 
-/// Each URL ends at a place.
+/// Each URL ends at one of these places.
 pub(crate) fn query_batch(
     alloc: Global,
     robot: &Shared<Robot>,

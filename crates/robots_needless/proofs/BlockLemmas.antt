@@ -1,5 +1,5 @@
--- Rules that can be removed from a file: each block that has rules keeps one, so others apply to the same
--- crawlers.
+-- Rules that can be removed from a file: each block that has rules keeps one, so the other lines apply to the
+-- same crawlers.
 use Rattle.std.proofs.Common.{◌≡◌, ◌⊎◌, ◌<◌, ◌≤◌, inl, inr, ℕ, ◌+◌, ◌==◌, Bool, true, false, not, ◌&&◌, ◌||◌}
 use Rattle.std.proofs.Common.{List, [], ◌∷◌, Option, Some, None, ap, ap₂, sym, refl, ◌∙◌, arith, cond, drop}
 use Rattle.std.proofs.Common.{filter, filter_map, length, length-drop, map, slice_get, if◌then◌else◌}
