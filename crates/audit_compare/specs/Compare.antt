@@ -22,11 +22,11 @@ use Rattle.audit_core.specs.Texts.{delay_value, group_value, rejected_parts}
 abbrev pub is_same_rule : Rule → Rule → Bool
 is_same_rule one other = beq one.1 other.1 && bytes_eq one.0 other.0
 
--- in whatever line
+-- one of the rules is the same, in whatever line
 abbrev pub has_rule : List PlacedRule → Rule → Bool
 has_rule rules rule = list_any (λ (placed : PlacedRule). is_same_rule placed.rule rule) rules
 
--- in order
+-- those of the rules that the others lack, in order
 abbrev pub rules_lacked : List PlacedRule → List PlacedRule → List PlacedRule
 rules_lacked others rules = filter (λ (placed : PlacedRule). not (has_rule others placed.rule)) rules
 
@@ -114,7 +114,8 @@ pub record ComparisonValue : Type 0 where
   pub removed : List (List ℕ)
   pub added : List (List ℕ)
 
--- for these crawlers, or if there are none for `*` and each that one of the files names
+-- the comparison of two files for these crawlers, or if there are none for `*` and each that one of them
+-- names
 pub record IsComparison (agents : List (List ℕ)) (urls : List (List ℕ))
     (older_name older newer_name newer : List ℕ) (comparison : ComparisonValue) : Type 0 where
   pub older_is : comparison.older ≡ side_of older_name older
@@ -169,7 +170,7 @@ is_same_group Nobody Nobody = true
 is_same_group Everyone Everyone = true
 is_same_group _ _ = false
 
--- `none` if no group applies, and `everyone` if all rules apply, as the file has no user-agent line
+-- the groups, if they differ: `none` if no group applies, and `everyone` if the file has no user-agent line
 abbrev pub group_changes : List ℕ → Group → Group → List Difference
 group_changes agent older newer =
     if is_same_group older newer then []
@@ -221,7 +222,7 @@ abbrev pub deciding : Option ℕ → PartValue
 deciding None = Absent
 deciding (Some line) = Part (label (codes " ") refl) (Number line)
 
--- without another verdict, another rule decides
+-- what the change does to a URL; without another verdict, another rule decides
 abbrev pub change_name : (older newer : Bool) → Fixed
 change_name true false = record { text = codes "closed"; safe = refl }
 change_name false true = record { text = codes "opened"; safe = refl }
@@ -297,7 +298,7 @@ same_rules agent has_same =
     (about agent (only (codes ": same rules, so no URL's verdict differs") refl ∷ [])) ∷ []
     else []
 
--- nothing if the crawler is unchanged
+-- what is reported on a crawler: nothing if it is unchanged
 abbrev pub crawler_changes : ComparedValue → List Difference
 crawler_changes compared =
     if is_rejected compared then rejection false compared.older ++ rejection true compared.newer

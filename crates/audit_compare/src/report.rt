@@ -30,7 +30,7 @@ fn add_crawlers(
     Ok(())
 }
 
-/// Of crawlers on which nothing else is reported.
+/// What is reported on crawlers on which nothing else is.
 const UNCHANGED: Part<'static> = Part(
     ": no group, delay or rule differs, so no URL's verdict does",
     Value::Nothing,

@@ -19,7 +19,7 @@ use texting_robots::{Robot, Site};
 /// What a file says about a URL for a crawler.
 #[derive(Drop)]
 pub(crate) enum Judgment {
-    /// The rule in this line.
+    /// The file is rejected because of the rule in this line.
     Rejected(usize),
     /// The decision, the one where an empty Disallow is no rule, and the same of normal forms.
     Decided(Decision, Decision, Decision),
@@ -28,7 +28,7 @@ pub(crate) enum Judgment {
 /// Which group the vendor of a crawler applies.
 #[derive(Drop)]
 pub(crate) enum AtVendor<'a> {
-    /// That which applies here.
+    /// The group that applies here.
     Same,
     /// The group with this name, and what the file says about it.
     Group(&'a str, Judgment),

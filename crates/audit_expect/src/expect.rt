@@ -20,7 +20,7 @@ use std::alloc::{AllocError, Global};
 /// What has to be allowed or denied.
 #[derive(Clone, Copy)]
 pub(crate) struct Expectation<'a> {
-    /// Of the line that says so.
+    /// The number of its line.
     pub(crate) number: usize,
     /// Otherwise the URL must be denied to the crawler.
     pub(crate) allowed: bool,

@@ -34,7 +34,7 @@ const IN_TARGETS: AsciiSet = ascii_set!(
         .remove(b'=')
 );
 
-/// Before a `$` at the end of a rule: a star is special.
+/// The same in a rule before a `$` at its end, where a star is special.
 const IN_RULES: AsciiSet = ascii_set!(IN_TARGETS.remove(b'*'));
 
 fn normal_text(alloc: Global, set: AsciiSet, text: &[u8]) -> Result<String, AllocError>

@@ -71,7 +71,7 @@ fn is_match(alloc: Global, rule: &Rule, target: &str) -> Result<bool, Fault>
     }
 }
 
-/// Longer, or as long, and an Allow for a Disallow, or in a line above.
+/// The first rule is longer, or as long, and an Allow for a Disallow, or in a line above.
 fn is_better(one: &Rule, other: &Rule) -> bool
     ensures { Decides result (IsBetter one.now other.now) }
 {

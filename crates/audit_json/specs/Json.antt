@@ -12,7 +12,7 @@ use Rattle.audit_core.specs.Rows.{comment_of, has_value, kind_text, line_value_t
 use Rattle.audit_core.specs.Findings.{FindingValue, found_value, warning_finding}
 use Rattle.robots_warnings.specs.{File.lines_of, Message.WarningValue}
 
--- sanitized
+-- untrusted bytes, sanitized
 abbrev pub sanitized_json : List ℕ → Data
 sanitized_json text = string (sanitized text)
 
@@ -108,7 +108,7 @@ json_line value = compact_text value ++ lf ∷ []
 abbrev pub json_text : Bool → AuditValue → List ℕ
 json_text has_rows audit = json_line (audit_json has_rows audit)
 
--- of findings that aren't those of an audit
+-- the findings about a file, which aren't those of an audit
 abbrev pub findings_json : List ℕ → List FindingValue → Data
 findings_json file findings = object
     (member (codes "file") (sanitized_json file)

@@ -32,7 +32,7 @@ abbrev pub one_slash : List ℕ → List ℕ
 one_slash [] = []
 one_slash (b ∷ name) = if b == byte "/" && begins_with_slash name then one_slash name else b ∷ name
 
--- as a URI reference: other bytes are percent-encoded
+-- the file as a URI reference: other bytes are percent-encoded
 abbrev pub uri_of : List ℕ → List ℕ
 uri_of file = flat_map uri_byte (one_slash file)
 
@@ -115,7 +115,7 @@ abbrev pub description_of : Cause → List ℕ
 description_of cause =
     if bytes_eq (name_of cause) (codes "needless-rule") then needless_text else text_of cause
 
--- with the most serious level of all these warnings with its name
+-- the rule of a warning, with the most serious level of all these warnings with its name
 abbrev pub rule_of : (all : List Cause) → Cause → SarifRuleValue
 rule_of all cause = record {
   name = name_of cause;
@@ -124,7 +124,7 @@ rule_of all cause = record {
   example = example_of cause;
 }
 
--- unless one of these later warnings has the same name
+-- the rule of a warning, unless one of these later ones has the same name
 abbrev pub rule_unless_later : (all : List Cause) → Cause → List Cause → List SarifRuleValue
 rule_unless_later all cause later = if has_name (name_of cause) later then [] else rule_of all cause ∷ []
 

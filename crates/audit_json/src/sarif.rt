@@ -131,7 +131,7 @@ fn worst_level(causes: &[Cause], name: &str) -> Level
     }
 }
 
-/// Its message, unless the messages with its name differ in their reasons.
+/// The message of the warning, unless the messages with its name differ in their reasons.
 fn description_of(cause: Cause) -> &'static str
     ensures { result.now ≡ description_of cause }
 {

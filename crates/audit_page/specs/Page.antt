@@ -122,7 +122,7 @@ group_note agent =
     (group_reason agent.agent agent.group ∷ group_end agent.agent agent.group ∷ []))
     ⊕ group_place agent.group_line ⊕ rejection agent.rejected
 
--- if that is everything or nothing; else the crawler's rules decide
+-- what a crawler may fetch, if that is everything or nothing; else its rules decide
 abbrev pub fetch_value : Option Fixed → Value
 fetch_value None = Word (record { text = codes "see rules"; safe = refl })
 fetch_value (Some word) = Word word
@@ -213,7 +213,7 @@ abbrev pub warning_place : (rows : ℕ) → Option ℕ → Tree
 warning_place rows None = nothing
 warning_place rows (Some number) = line_name rows number ⊕ text (fixed (codes ": ") refl)
 
--- with the name of its line
+-- a warning in the list at the top, with the name of its line
 unfoldable pub warning_item : (rows : ℕ) → WarningValue → Tree
 warning_item rows warning =
     tag (codes "li") [] refl (warning_place rows warning.line ⊕ text (warning_words warning))
@@ -225,7 +225,7 @@ listed_warnings = 100
 abbrev pub later_warnings : List WarningValue → List WarningValue
 later_warnings warnings = drop listed_warnings warnings
 
--- below the row of its line
+-- a warning about this line has a row in the table, below that of its line
 abbrev pub has_row : (rows : ℕ) → Option ℕ → Bool
 has_row rows None = false
 has_row rows (Some number) = not (nat_lt rows number)
@@ -249,7 +249,7 @@ some_rest count =
     (text (labelled (codes "and ") refl (Number count))
     ⊕ text (fixed (codes " more, below their lines") refl))
 
--- if some warnings aren't in the list
+-- how many warnings aren't in the list, if there are some
 abbrev pub rest_note : ℕ → Tree
 rest_note count = if count == 0 then nothing else some_rest count
 
@@ -314,7 +314,7 @@ line_start label =
     opened (codes "tr") (line_fields label)
     ++ (tag_close ++ written (row_name (text (shown (Number label.number)))))
 
--- below the row of its line
+-- a row for a warning, below that of its line
 unfoldable pub warning_row : WarningValue → Tree
 warning_row warning =
     tag (codes "tr") (class (shown (Word (fixed_level (level_of warning.cause))))) refl
@@ -336,7 +336,7 @@ about_line warnings number = filter (λ (warning : WarningValue). is_at number w
 unfoldable pub line_part : (about : ℕ → List WarningValue) → FileLineValue → Tree
 line_part about line = line_row line ⊕ each warning_row (about line.1.number)
 
--- a browser lays out later what isn't visible yet
+-- how many lines a body of the table has; a browser lays out later what isn't visible yet
 abbrev pub body_lines : ℕ
 body_lines = 500
 

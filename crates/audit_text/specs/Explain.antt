@@ -60,7 +60,7 @@ all_theorems = map (λ row. (row.0.now, row.1.now)) THEOREMS
 unfoldable pub all_corrections : List (Cause × List ℕ)
 all_corrections = map (λ row. (row.0, row.1.now)) CORRECTIONS
 
--- if the row is about the name
+-- a line with the label and the text of the row, if the row is about the name
 abbrev pub text_if_named : (label name : List ℕ) → List ℕ × List ℕ → List ℕ
 text_if_named label name row = if bytes_eq row.0 name then label ++ (row.1 ++ lf ∷ []) else []
 
@@ -82,7 +82,7 @@ explained cause =
 abbrev pub explained_if_named : List ℕ → Cause → List ℕ
 explained_if_named name cause = if bytes_eq (name_of cause) name then explained cause else []
 
--- of all warnings with this name, when they are given, and what is proved about them
+-- the explanations of all warnings with this name, when they are given, and what is proved about them
 abbrev pub explanation : List ℕ → List ℕ
 explanation name =
     flat_map (explained_if_named name) all_causes

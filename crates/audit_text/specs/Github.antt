@@ -50,6 +50,6 @@ github_text file findings = ended (map (command (sanitized file)) findings)
 abbrev pub is_in_line : List ℕ → Bool
 is_in_line text = list_all (λ b. not (b == 13 || b == 10)) text
 
--- nor the bytes that end a property
+-- neither CR, LF nor a byte that ends a property
 abbrev pub is_in_property : List ℕ → Bool
 is_in_property text = list_all (λ b. not (b == 13 || b == 10 || b == byte ":" || b == byte ",")) text

@@ -57,7 +57,6 @@ abbrev pub numbered_part : Label → Option ℕ → PartValue
 numbered_part front None = Absent
 numbered_part front (Some line) = Part front (Number line)
 
--- if there is one
 abbrev pub also_part : List ℕ → ℕ → PartValue
 also_part lines at = numbered_part (also_front at (length lines)) (slice_get lines at)
 

@@ -56,7 +56,7 @@ group_part agent Star = Part (label (codes ": group ") refl) (word (codes "*") r
 group_part agent Nobody = only (codes ": no group") refl
 group_part agent Everyone = only (codes ": all rules (no User-agent line)") refl
 
--- if a line names the group
+-- the first line that names the group, if one does
 abbrev pub line_part : Option ℕ → PartValue
 line_part None = Absent
 line_part (Some line) = Part (label (codes " (line ") refl) (Number line)
@@ -80,7 +80,7 @@ abbrev pub delay_part : Option ℕ → PartValue
 delay_part None = Absent
 delay_part (Some micros) = Part (label (codes ", delay ") refl) (Delay micros)
 
--- if that is everything or nothing
+-- what the crawler may fetch, if that is everything or nothing
 abbrev pub fetch_part : Option Fixed → PartValue
 fetch_part None = Absent
 fetch_part (Some word) = Part (label (codes ", may fetch ") refl) (Word word)
@@ -96,7 +96,7 @@ crawler_line agent =
     ∷ rule_part agent.group agent.rules ∷ rule_end agent.group agent.rules ∷ delay_part agent.delay
     ∷ reach_part agent.rejected agent.reach ∷ [])
 
--- and whether the file is rejected for the crawler
+-- the line about a crawler, and whether the file is rejected for it
 abbrev pub crawler_lines : AgentValue → List ReportLine
 crawler_lines agent = crawler_line agent ∷ rejected_lines agent.agent agent.rejected
 

@@ -115,7 +115,7 @@ static CONDITIONS: [(&str, &str); 62] = [
         "with --needless: the rule matches nothing, another rule matches everything that it matches and makes it superfluous, or it is an Allow of what is allowed without it, and all such rules can be deleted together; deleting only some of them may change a verdict. Not all of them are found. None is reported if the file is larger than 512,000 bytes or rejected for a crawler, if its first line would begin with a byte of a byte order mark then, or if crawlers need each other's rules in too many ways; nor a rule without which User-agent lines would join those below. Crawlers that apply the first rule that matches, or read an empty Disallow otherwise, may need them, so mend empty-disallow first"),
 ];
 
-/// With the theorem of `warnings_laws`.
+/// What is proved about what warnings report, with the theorem of `warnings_laws`.
 #[rattlefmt::skip]
 static THEOREMS: [(&str, &str); 17] = [
     ("closes-everything",

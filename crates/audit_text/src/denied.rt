@@ -4,7 +4,7 @@ ghost use Rattle.audit_core.specs.Audit.{is_allowed, is_denied, shown, total, wi
 
 use audit_core::audit::{AgentAudit, Audit, Verdict};
 
-/// Of all crawlers together.
+/// The numbers for all crawlers together.
 #[derive(Clone, Copy)]
 pub struct Totals {
     pub allowed: u128,

@@ -95,7 +95,7 @@ fn more_in(
     Ok(found)
 }
 
-/// In order, and how many more there are, in the order of the first of them.
+/// The warnings that are listed, in order, and how many more there are, in the order of the first of them.
 pub(crate) fn listing_of<'a>(
     alloc: Global,
     warnings: &[Warning<'a>],

@@ -39,7 +39,7 @@ has_command (b ∷ text) = starts_with nat_eq (b ∷ text) command_start || has_
 abbrev pub is_other : ℕ → Bool
 is_other b = not (nat_eq 35 b)
 
--- with a byte that isn't in the start of a command
+-- the text begins with a byte that isn't in the start of a command
 abbrev pub begins_apart : List ℕ → Bool
 begins_apart [] = false
 begins_apart (b ∷ text) = not (nat_eq 35 b || nat_eq 91 b)

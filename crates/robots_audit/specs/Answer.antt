@@ -24,7 +24,7 @@ use Rattle.audit_text.specs.{Github.github_text, Explain.explanation, Explain.li
 use Rattle.audit_json.specs.{Json.findings_text, Json.json_text, Sarif.sarif_text}
 use Rattle.audit_page.specs.{Page.page}
 
--- with `--urls` or `--denied`
+-- the last line, with `--urls` or `--denied`
 abbrev pub total_lines : (has_totals : Bool) → AuditValue → List ReportLine
 total_lines true audit = total_line audit.agents ∷ []
 total_lines false audit = []
@@ -56,7 +56,8 @@ output_in Sarif requested audit =
 abbrev pub output : RequestValue → AuditValue → List ℕ
 output requested audit = output_in requested.format requested audit
 
--- of each name the first twenty warnings and the number of the others, unless they are in the report
+-- the message: of each name the first twenty warnings and the number of the others, unless they are in the
+-- report
 abbrev pub message_in : Format → RequestValue → AuditValue → List ℕ
 message_in Text requested audit =
     ended (listed_lines requested.has_colors (shown_name requested.file) audit.warnings)
@@ -86,7 +87,7 @@ pub record IsAudited (requested : RequestValue) (file : List ℕ) (answer : Answ
   pub report : answer.report.items ≡ output requested audit
   pub outcome : IsOutcomeOf requested audit answer.outcome
 
--- on findings in the file with this name, on which `text` is the report as text
+-- the report on findings in the file with this name, of which `text` is the form as text
 abbrev pub listed_in : Format → (file text : List ℕ) → List FindingValue → List ℕ
 listed_in Json file text found = findings_text file found
 listed_in Github file text found = github_text file found
@@ -138,7 +139,7 @@ abbrev pub HasUrls : Option (List ℕ) → RequestValue → RequestValue → Typ
 HasUrls None requested extended = extended ≡ requested
 HasUrls (Some name) requested extended = (text : List ℕ) × HasUrlsIn text requested extended
 
--- with the URLs in a file
+-- the request that the arguments contain, with the URLs in a file
 pub record IsAsked (by_default : Bool) (matches : ArgMatches) (extended : RequestValue) : Type 0 where
   pub request : Request
   pub asked : IsRequestOf by_default matches request
@@ -161,7 +162,7 @@ pub record AnswersExpectations (matches : ArgMatches) (name : List ℕ) (answer 
   pub can_be : content_flaw file ≡ None
   pub checked : IsExpected format name text file answer
 
--- with the file that the arguments name; both can be robots.txt files
+-- a comparison with the file that the arguments name; both can be robots.txt files
 pub record AnswersComparison (matches : ArgMatches) (name : List ℕ) (answer : Answer) : Type 0 where
   pub requested : RequestValue
   pub asked : IsAsked false matches requested

@@ -22,7 +22,7 @@ value_of matches id = first_value (found_of matches) id
 abbrev pub values_of : ArgMatches → List ℕ → List (List ℕ)
 values_of matches id = option_map_or raw_values (matched_of (found_of matches) id) []
 
--- of an option that is on or off
+-- the value of an option that is on or off
 abbrev pub IsOn : ArgMatches → List ℕ → Bool → Type 0
 IsOn matches id answer =
     (one_text (found_of matches) id ≡ Some (codes "true") → answer ≡ true)

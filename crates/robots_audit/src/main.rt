@@ -74,7 +74,7 @@ fn read_named(rt: &HostRuntime, name: &str) -> Result<Vec<u8>, Fault> {
     }
 }
 
-/// Or of standard input, for `-` or without a name.
+/// The bytes of the file with this name, or of standard input for `-` or without a name.
 fn read(rt: &HostRuntime, name: Option<&str>) -> Result<Vec<u8>, Fault> {
     match file_read(name) {
         Some(name) => read_named(rt, name),
@@ -82,7 +82,7 @@ fn read(rt: &HostRuntime, name: Option<&str>) -> Result<Vec<u8>, Fault> {
     }
 }
 
-/// Or of standard input for `-`. Fails if that can't be a robots.txt file.
+/// The same for `-` or a name. Fails if that can't be a robots.txt file.
 fn read_robots(rt: &HostRuntime, name: &str) -> Result<Vec<u8>, Fault>
     ensures { IfOk result (λ bytes. content_flaw bytes.items ≡ None) }
 {
@@ -98,7 +98,7 @@ fn url_text(rt: &HostRuntime, matches: &ArgMatches<'_>) -> Result<Vec<u8>, Fault
     }
 }
 
-/// If this is the text of a file of `--urls`, which has this name.
+/// The request with the URLs in this text, if that is of a file of `--urls`, which has this name.
 fn extended<'a>(
     alloc: Global,
     request: Request<'a>,

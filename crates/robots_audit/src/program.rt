@@ -208,7 +208,7 @@ pub fn given_name<'a>(file: Option<&'a str>) -> &'a str
     }
 }
 
-/// It can't be opened or read.
+/// The error for a file that can't be opened or read.
 pub fn unread(alloc: Global, name: &str) -> Fault
     ensures { IsFileUnreadable name.now result }
 {

@@ -19,7 +19,7 @@ pub enum Kind {
 
 #[derive(Clone, Copy, PartialEq, Eq, Debug)]
 pub struct Row<'a> {
-    /// Counted from 1, as in `texting_robots::Decision`.
+    /// The number of the line, counted from 1, as in `texting_robots::Decision`.
     pub number: usize,
     pub kind: Kind,
     pub line: Line<'a>,

@@ -15,7 +15,7 @@ use std::marker::Model;
 pub enum Detail {
     /// How many rules there are.
     Rules(usize),
-    /// Of another rule.
+    /// The line of another rule.
     Line(usize),
     /// The index of a known crawler whose vendor applies the group.
     Group(usize),

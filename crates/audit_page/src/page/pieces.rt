@@ -149,7 +149,7 @@ pub(crate) fn scroll_start() -> [Part<'static>; 1]
     [Part("<div class=\"scroll\" tabindex=\"0\">", Value::Nothing)]
 }
 
-/// If that is everything or nothing; else the crawler's rules decide.
+/// What a crawler may fetch, if that is everything or nothing; else its rules decide.
 fn fetch_value(rejected: Option<usize>, reach: Reach) -> Value<'static>
     ensures { raw_value result ≡ value_text (fetch_value (may_fetch rejected reach)) }
 {

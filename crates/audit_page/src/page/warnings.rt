@@ -48,7 +48,7 @@ fn later<'a, 'b>(warnings: &'b [Warning<'a>]) -> &'b [Warning<'a>]
     after(warnings, LISTED_WARNINGS)
 }
 
-/// The table of lines has so many rows.
+/// The warnings that have no row in the table of lines, which has so many rows.
 fn without_row<'a>(
     alloc: Global,
     rows: usize,
