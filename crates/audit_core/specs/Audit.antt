@@ -187,8 +187,6 @@ shown denied_only audit =
 abbrev pub total : (VerdictValue → Bool) → List AgentValue → ℕ
 total test agents = sum_by (λ (agent : AgentValue). count_by test agent.verdicts) agents
 
--- ---- the outcome
-
 abbrev pub allows_all : List VerdictValue → Bool
 allows_all verdicts = list_all (λ (verdict : VerdictValue). verdict.decision.allowed) verdicts
 

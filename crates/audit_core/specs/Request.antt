@@ -12,8 +12,6 @@ use Rattle.audit_core.specs.declared.request.Format.TheVariants.{Github, Html, J
 use Rattle.printable_text.specs.declared.level.{Level.Level}
 use Rattle.audit_core.specs.declared.fault.Flaw.TheVariants as flaw
 
--- ---- Whether warnings have colors.
-
 -- `by_default` is what no value and `auto` mean
 abbrev pub requested_colors : Option (List ℕ) → (by_default : Bool) → Bool
 requested_colors None by_default = by_default
@@ -34,8 +32,6 @@ is_dumb (Err error) = false
 -- what `by_default` is, with these values of NO_COLOR and TERM
 abbrev pub default_colors : (is_terminal : Bool) → (no_color term : Result (String Global) VarError) → Bool
 default_colors is_terminal no_color term = is_terminal && not (is_set no_color) && not (is_dumb term)
-
--- ---- What crawlers call themselves: names in arguments and in the file of `--expect`.
 
 -- a dot and a digit, as with a version: `Googlebot.2`
 abbrev pub has_version : List ℕ → Bool

@@ -13,8 +13,6 @@ abbrev pub delay_value : Option ℕ → Value
 delay_value None = word (codes "none") refl
 delay_value (Some micros) = Delay micros
 
--- ---- groups
-
 -- the name of the group that applies to a crawler
 abbrev pub group_value : List ℕ → Group → Value
 group_value agent Named = Untrusted agent
@@ -61,8 +59,6 @@ abbrev pub may_fetch : (rejected : Option ℕ) → Reach → Option Fixed
 may_fetch None reach.Everything = Some (record { text = codes "everything"; safe = refl })
 may_fetch None reach.Nothing = Some (record { text = codes "nothing"; safe = refl })
 may_fetch rejected reach = None
-
--- ---- rejected files
 
 -- that the file is rejected for the crawler, and the line of its first overlong rule
 abbrev pub rejected_front : List ℕ → PartValue

@@ -17,8 +17,6 @@ use Rattle.audit_core.proofs.FindingLemmas.{escaped_printable as printable_if_es
 abbrev pub IsPart : Html → Type 0
 IsPart part = IsContent IsPrintable true part
 
--- ---- a printable text contains neither NUL nor CR
-
 is_kept : (char : ℕ) → is_printable true char ≡ true → is_character char ≡ true
 is_kept char plain = grind (arith, nat_tests)
 

@@ -63,8 +63,6 @@ heading words = tag (codes "h2") [] refl (text words)
 abbrev pub caption : Words → Tree
 caption words = tag (codes "caption") [] refl (text words)
 
--- ---- verdicts
-
 abbrev pub verdict_word : Bool → Value
 verdict_word true = word (codes "allowed") refl
 verdict_word false = word (codes "denied") refl

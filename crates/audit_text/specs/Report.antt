@@ -48,8 +48,6 @@ abbrev pub count_lines : List ℕ → List WarningValue → List NamedLine
 count_lines file [] = []
 count_lines file (warning ∷ warnings) = count_line file (warning ∷ warnings) ∷ []
 
--- ---- A report on several crawlers: a line for each, and their verdicts.
-
 abbrev pub group_part : List ℕ → Group → PartValue
 group_part agent Named = Part (label (codes ": group ") refl) (Untrusted agent)
 group_part agent Star = Part (label (codes ": group ") refl) (word (codes "*") refl)

@@ -23,8 +23,6 @@ is_reserved b = is_one_of (codes ":/?#[]@!$&'()*+,;=") b
 abbrev pub percent_encoded : ℕ → List ℕ
 percent_encoded b = byte "%" ∷ digit_glyph true (b / 16 % 16) ∷ digit_glyph true (b % 16) ∷ []
 
--- ---- readings
-
 -- Which reserved octets stay as they are, given whether they come after the first `?`. RFC 9309 (section
 -- 2.2.2) requires that octets "in the reserved range" are percent-encoded, but by its own table some stay,
 -- and it doesn't state which. So a reading is a parameter here.

@@ -22,8 +22,6 @@ kinds_differ : (p q : List ℕ) → ◌≢◌ {A = Rule} (p, false) (q, true)
 kinds_differ p q same = false≢true (ap (λ (r : Rule). r.1) same)
 
 module _ (others all : List Rule) (text : List ℕ) where
-  -- ---- a Disallow
-
   module _ (p : List ℕ) (are : AreWith others (p, false) all) where
     denied_with : IsDenied others text → IsDenied all text
     denied_with (differs, q, has, fits, longest) = (

@@ -44,8 +44,6 @@ fixed_name cause = record { text = name_of cause; safe = name_safe cause }
 abbrev pub fixed_text : Cause → Fixed
 fixed_text cause = record { text = text_of cause; safe = text_safe cause }
 
--- ---- parts
-
 abbrev pub is_about_crawler : Cause → Bool
 is_about_crawler ClosesSite = true
 is_about_crawler ClosesEverything = true

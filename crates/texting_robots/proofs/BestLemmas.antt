@@ -94,8 +94,6 @@ unplaced_of rules placed (k, below, at) =
     let rule = λ (p : PlacedRule). p.rule in
     (k, rw (length-map rules rule) below, get_or-map rule rules k placed placed.rule below ∙ ap rule at)
 
--- ---- the rule that decides
-
 abbrev pub rank_of : PlacedRule → ℕ
 rank_of placed = rank (length placed.rule.0) placed.rule.1
 

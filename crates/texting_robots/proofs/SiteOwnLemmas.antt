@@ -79,8 +79,6 @@ none_below name (n ∷ names) least q above below =
     rw (ne_eqb n.run q (λ same. (let here = above 0 n refl in omega arith)), and-false (has_name name n))
     (none_below name names least q (λ j m at. above (suc j) m at) below)
 
--- ---- the iteration
-
 runs_after : (name : List ℕ) (names : List Named) (name_index next r : ℕ)
     → next ≡ name_index + 1 + first_named name (drop (name_index + 1) names)
     → is_run_of name (drop next names) r ≡ is_run_of name (drop (name_index + 1) names) r

@@ -289,7 +289,7 @@ transitive p q r first second =
     (less_is_before p r).0
     (pattern_total.trans p q r ((less_is_before p q).1 first) ((less_is_before q r).1 second))
 
--- ---- The order of patterns and of sorted entries.
+-- ---- The order of sorted entries.
 
 abbrev pub is_before : Entry → Entry → Bool
 is_before a b = is_lt (entry_cmp a b)
