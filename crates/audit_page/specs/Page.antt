@@ -63,6 +63,8 @@ heading words = tag (codes "h2") [] refl (text words)
 abbrev pub caption : Words → Tree
 caption words = tag (codes "caption") [] refl (text words)
 
+-- ---- verdicts
+
 abbrev pub verdict_word : Bool → Value
 verdict_word true = word (codes "allowed") refl
 verdict_word false = word (codes "denied") refl
@@ -192,6 +194,8 @@ agent_table urls agents =
     tag (codes "div") scroll_fields refl
     (tag (codes "table") (class (fixed (codes "agents") refl)) refl (agent_content urls agents))
 
+-- ---- warnings
+
 -- the level of a warning, as its text begins
 abbrev pub level_front : Level → Value
 level_front Error = word (codes "Error: ") refl
@@ -262,6 +266,8 @@ warning_list rows warnings =
 
 unfoldable pub warning_entry : (rows : ℕ) → List WarningValue → Tree
 warning_entry rows warnings = entry (fixed (codes "Warnings") refl) (warning_list rows warnings)
+
+-- ---- the file
 
 unfoldable pub sitemap_item : List ℕ → Tree
 sitemap_item value = tag (codes "li") [] refl (code value)
@@ -369,6 +375,8 @@ unfoldable pub file_table : Option (List ℕ) → AuditValue → Tree
 file_table agent audit =
     heading (fixed (codes "File") refl)
     ⊕ tag (codes "table") (class (fixed (codes "lines") refl)) refl (file_content agent audit)
+
+-- ---- the page
 
 abbrev pub title_words : Option (List ℕ) → Words
 title_words None = fixed (codes "robots.txt for several crawlers") refl
