@@ -43,15 +43,15 @@ decimal_written n = escaped-is (decimal n) ∙ onto 64 n [] refl
         let high : digit_glyph false digit < 58 = grind (arith, nat_tests) in
         unchanged (digit_glyph false digit) low high
 
-    onto : (k n : ℕ) (text : List ℕ) → flat_map escaped_byte text ≡ text
-        → flat_map escaped_byte (digits_onto k 10 false n text) ≡ digits_onto k 10 false n text
-    onto zero n text is = is
-    onto (suc k) n text is =
+    onto : (k n : ℕ) (tail : List ℕ) → flat_map escaped_byte tail ≡ tail
+        → flat_map escaped_byte (digits_onto k 10 false n tail) ≡ digits_onto k 10 false n tail
+    onto zero n tail is = is
+    onto (suc k) n tail is =
         let digit = digit_glyph false (n % 10) in
-        let more : flat_map escaped_byte (digit ∷ text) ≡ digit ∷ text =
+        let more : flat_map escaped_byte (digit ∷ tail) ≡ digit ∷ tail =
         rw (glyph (n % 10) (omega arith)) (ap (λ (t : List ℕ). digit ∷ t) is) in
-        cond_both (n / 10 == 0) (digit ∷ text) (digits_onto k 10 false (n / 10) (digit ∷ text))
-        (λ t. flat_map escaped_byte t ≡ t) (λ _. more) (λ _. onto k (n / 10) (digit ∷ text) more)
+        cond_both (n / 10 == 0) (digit ∷ tail) (digits_onto k 10 false (n / 10) (digit ∷ tail))
+        (λ t. flat_map escaped_byte t ≡ t) (λ _. more) (λ _. onto k (n / 10) (digit ∷ tail) more)
 
 -- ---- Trees one after the other, what is written for them, and when they can be read back.
 
