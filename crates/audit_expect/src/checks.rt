@@ -30,9 +30,9 @@ pub(crate) enum Judgment {
 pub(crate) enum AtVendor<'a> {
     /// The one that applies here.
     Same,
-    /// The group with this name, and the file says this about it.
+    /// The one with this name, which isn't empty, and what the file says about it.
     Group(&'a str, Judgment),
-    /// No group, so everything is allowed.
+    /// None, so everything is allowed.
     Nobody,
 }
 
