@@ -17,8 +17,8 @@ use Rattle.audit_core.specs.declared.group.Group.TheVariants.{Everyone, Named, N
 use Rattle.audit_core.specs.Audit.{AgentValue, IsAgentAudit, VerdictValue, agents_requested}
 use Rattle.audit_core.specs.Findings.{FindingValue, Found, Parts, found_value}
 use Rattle.audit_core.specs.Texts.{delay_value, group_value, rejected_parts}
-use Rattle.audit_compare.specs.declared.differences.Section.{Section}
-use Rattle.audit_compare.specs.declared.differences.Section.TheVariants.{Groups, Rejections, Rules, SameRules, Urls}
+use Rattle.audit_compare.specs.declared.differences.Section.{Section, TheVariants.Groups}
+use Rattle.audit_compare.specs.declared.differences.Section.TheVariants.{Rejections, Rules, SameRules, Urls}
 
 -- ---- rules
 
@@ -379,15 +379,16 @@ all_lines comparison =
     flat_map (crawler_changes (Rejections ∷ Groups ∷ Rules ∷ Urls ∷ SameRules ∷ [])) comparison.crawlers
     ++ unchanged comparison.crawlers ++ sitemap_changes comparison
 
+abbrev pub empty_line : ReportLine
+empty_line = line_from (only (codes "the new file has no directive") refl) refl []
+
 -- that the new file has no directive, but the old one has some
 abbrev pub emptied : SideValue → SideValue → List Difference
 emptied older newer =
     if newer.has_no_directive && not older.has_no_directive
-    then record (note (codes "empty") refl (line_from (only (codes "the new file has no directive") refl) refl []))
-    { level = Warning } ∷ []
-    else []
+    then record (note (codes "empty") refl empty_line) { level = Warning } ∷ [] else []
 
--- what annotations and JSON have: first rejections and verdicts, as a service may show only the first findings
+-- what annotations and JSON have: first rejections and verdicts, as a service may show only some findings
 abbrev pub all_differences : ComparisonValue → List Difference
 all_differences comparison =
     emptied comparison.older comparison.newer

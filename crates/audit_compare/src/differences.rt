@@ -5,10 +5,10 @@ ghost use Rattle.printable_text.specs.Raw.{raw_line, raw_text, raw_value};
 ghost use Rattle.printable_text.specs.Text.{line_text, part_text, value_text};
 ghost use Rattle.audit_core.specs.Findings.{finding_value};
 ghost use Rattle.audit_compare.specs.Compare.{change_name, change_part, crawler, crawler_changes, deciding};
-ghost use Rattle.audit_compare.specs.Compare.{delay_changes, file_part, group_changes, has_same_rules, is_rejected};
-ghost use Rattle.audit_compare.specs.Compare.{is_same_group, is_unchanged, rejection, rejection_name, rule_change};
-ghost use Rattle.audit_compare.specs.Compare.{rule_line, rule_name, same_rules, section_changes, url_change, url_line};
-ghost use Rattle.audit_compare.specs.Compare.{verdict_word};
+ghost use Rattle.audit_compare.specs.Compare.{delay_changes, file_part, group_changes, has_same_rules};
+ghost use Rattle.audit_compare.specs.Compare.{is_rejected, is_same_group, is_unchanged, rejection};
+ghost use Rattle.audit_compare.specs.Compare.{rejection_name, rule_change, rule_line, rule_name, same_rules};
+ghost use Rattle.audit_compare.specs.Compare.{section_changes, url_change, url_line, verdict_word};
 ghost use Rattle.audit_compare.specs.Internal.Compare.{Adds};
 
 use crate::compared::{Compared, UrlChange};

@@ -1,11 +1,10 @@
 //! The report on a comparison: what differs, as findings, and as text.
 ghost use Rattle.std.specs.Prelude.{◌≡◌, ◌++◌, ◌∷◌, [], IfOk, OnOk, flat_map, map, string_bytes};
-ghost use Rattle.std.specs.List.{list_any};
 ghost use Rattle.printable_text.specs.{Lines.ended, Raw.raw_line, Raw.raw_text};
 ghost use Rattle.printable_text.specs.Text.{line_text, part_text, written};
 ghost use Rattle.audit_core.specs.Findings.{finding_value};
-ghost use Rattle.audit_compare.specs.Compare.{all_differences, all_lines, crawler_changes, emptied, empty_part};
-ghost use Rattle.audit_compare.specs.Compare.{finding_of, is_unchanged, report_lines, sides_line, sitemap_change};
+ghost use Rattle.audit_compare.specs.Compare.{all_differences, all_lines, crawler_changes, emptied};
+ghost use Rattle.audit_compare.specs.Compare.{empty_part, finding_of, report_lines, sides_line, sitemap_change};
 ghost use Rattle.audit_compare.specs.Compare.{sitemap_changes, unchanged, unchanged_line, unchanged_part};
 ghost use Rattle.audit_compare.specs.Internal.Compare.{Adds};
 
@@ -24,7 +23,8 @@ fn add_crawlers(
     sections: &[Section],
     crawlers: &[Compared<'_>],
 ) -> Result<(), AllocError>
-    ensures { OnOk result (Adds found.old.items found.new.items (flat_map (crawler_changes sections.now) crawlers.now)) }
+    ensures { OnOk result (Adds found.old.items found.new.items
+        (flat_map (crawler_changes sections.now) crawlers.now)) }
 {
     for compared in crawlers {
         add_crawler(alloc, found, sections, compared)?;
@@ -49,13 +49,6 @@ fn unchanged_subject<'a>(crawlers: &[Compared<'a>]) -> Part<'a>
     }
 }
 
-/// Whether one of the crawlers is unchanged.
-fn has_unchanged(crawlers: &[Compared<'_>]) -> bool
-    ensures { result ≡ list_any is_unchanged crawlers.now }
-{
-    crawlers.iter().any(is_unchanged)
-}
-
 /// Adds that all of these crawlers are unchanged, or that some are.
 fn add_unchanged(
     alloc: Global,
@@ -64,7 +57,7 @@ fn add_unchanged(
 ) -> Result<(), AllocError>
     ensures { OnOk result (Adds found.old.items found.new.items (unchanged crawlers.now)) }
 {
-    if !has_unchanged(crawlers) {
+    if !crawlers.iter().any(is_unchanged) {
         return Ok(());
     }
     let parts = [unchanged_subject(crawlers), UNCHANGED];
@@ -83,10 +76,11 @@ fn add_sitemap(
     let value = Value::Untrusted(sitemap);
     if is_added {
         let parts = [Part("sitemap added: ", value)];
-        return add(alloc, found, Level::Note, None, "sitemap-added", &parts);
+        add(alloc, found, Level::Note, None, "sitemap-added", &parts)
+    } else {
+        let parts = [Part("sitemap removed: ", value)];
+        add(alloc, found, Level::Note, None, "sitemap-removed", &parts)
     }
-    let parts = [Part("sitemap removed: ", value)];
-    add(alloc, found, Level::Note, None, "sitemap-removed", &parts)
 }
 
 /// Adds all such sitemaps.
@@ -119,7 +113,8 @@ fn add_both_sitemaps(
 
 /// All lines of the text but the first, as findings.
 fn all_lines(alloc: Global, comparison: &Comparison<'_>) -> Result<Findings, AllocError>
-    ensures { IfOk result (λ found. map finding_value found.items ≡ map finding_of (all_lines comparison.now)) }
+    ensures { IfOk result (λ found.
+        map finding_value found.items ≡ map finding_of (all_lines comparison.now)) }
 {
     let mut found = Vec::new(alloc);
     let sections = [

@@ -318,7 +318,8 @@ fn findings_json(
     old: &str,
     findings: &[Finding],
 ) -> Result<Value, AllocError>
-    ensures { IfOk result (λ value. view value ≡ findings_json file.now old.now (map finding_value findings.now)) }
+    ensures { IfOk result (λ value.
+        view value ≡ findings_json file.now old.now (map finding_value findings.now)) }
 {
     json!(in alloc; {
         "file": sanitized_json(alloc, file.as_bytes())?,

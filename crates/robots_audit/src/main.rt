@@ -1,17 +1,14 @@
 //! Explains how crawlers interpret a robots.txt file, which is a named one or standard input. The report has a row
-//! for each line of the first 512,000 bytes, with its number, whether it is in the crawler's group, and its directive;
-//! then the group and the delay that apply to the crawler; then for each URL whether the crawler may fetch it, and
-//! which line decides. Warnings about lines that probably don't do what was intended go to standard error. All of this
-//! can be written as JSON or as an HTML page instead, and what was found as annotations for GitHub or as a SARIF log.
+//! for each line of the first 512,000 bytes; then the group and the delay that apply to the crawler; then for each
+//! URL whether the crawler may fetch it, and which line decides. Warnings go to standard error. All of this can be
+//! written as JSON or as an HTML page instead, and what was found as annotations or as a SARIF log.
 //!
 //! `robots_audit [OPTIONS] FILE [URL]..`
 //!
-//! With `--compare` it writes instead what differs from an older version of the file, and with `--expect` which lines of
-//! a file of expectations fail: as text, JSON or annotations.
+//! With `--compare` it writes instead what differs from an older version of the file, and with `--expect` which
+//! lines of a file of expectations fail: as text, JSON or annotations.
 //!
 //! With `--list-warnings` or `--explain` it writes what warnings there are, or what one means, and reads nothing.
-//!
-//! `status_after` says what the exit status is.
 #![tactic(auto)]
 
 ghost use Rattle.std.specs.Prelude.{◌≡◌, ◌≢◌, IfErr, IfOk, IsErr, None, option_map, string_bytes, true};

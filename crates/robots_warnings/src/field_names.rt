@@ -132,8 +132,8 @@ fn is_accepted(kind: Kind, word: &[u8]) -> bool
     false
 }
 
-/// Whether two or more bytes of a product token follow the name, and the first is a letter, or after `allow` and
-/// `disallow` also `-` or `_`.
+/// Whether two or more bytes of a product token follow the name, and the first is a letter, or after `allow`
+/// and `disallow` also `-` or `_`.
 fn goes_on(name: &str, word: &[u8]) -> bool
     ensures { result ≡ goes_on name.now word.now }
 {
