@@ -1,11 +1,13 @@
 //! The report on a comparison: what differs, as findings, and as text.
 ghost use Rattle.std.specs.Prelude.{◌≡◌, ◌++◌, ◌∷◌, [], IfOk, OnOk, flat_map, map, string_bytes};
+ghost use Rattle.std.specs.List.{list_any};
 ghost use Rattle.printable_text.specs.{Lines.ended, Raw.raw_line, Raw.raw_text};
 ghost use Rattle.printable_text.specs.Text.{line_text, part_text, written};
 ghost use Rattle.audit_core.specs.Findings.{finding_value};
 ghost use Rattle.audit_compare.specs.Compare.{all_differences, all_lines, crawler_changes, emptied};
-ghost use Rattle.audit_compare.specs.Compare.{empty_part, finding_of, report_lines, sides_line, sitemap_change};
-ghost use Rattle.audit_compare.specs.Compare.{sitemap_changes, unchanged, unchanged_line, unchanged_part};
+ghost use Rattle.audit_compare.specs.Compare.{empty_part, finding_of, is_unchanged, report_lines, sides_line};
+ghost use Rattle.audit_compare.specs.Compare.{sitemap_change, sitemap_changes, unchanged, unchanged_line};
+ghost use Rattle.audit_compare.specs.Compare.{unchanged_part};
 ghost use Rattle.audit_compare.specs.Internal.Compare.{Adds};
 
 use crate::compare::{Comparison, Side};
@@ -49,6 +51,13 @@ fn unchanged_subject<'a>(crawlers: &[Compared<'a>]) -> Part<'a>
     }
 }
 
+/// Whether one of the crawlers is unchanged.
+fn has_unchanged(crawlers: &[Compared<'_>]) -> bool
+    ensures { result ≡ list_any is_unchanged crawlers.now }
+{
+    crawlers.iter().any(is_unchanged)
+}
+
 /// Adds that all of these crawlers are unchanged, or that some are.
 fn add_unchanged(
     alloc: Global,
@@ -57,7 +66,7 @@ fn add_unchanged(
 ) -> Result<(), AllocError>
     ensures { OnOk result (Adds found.old.items found.new.items (unchanged crawlers.now)) }
 {
-    if !crawlers.iter().any(is_unchanged) {
+    if !has_unchanged(crawlers) {
         return Ok(());
     }
     let parts = [unchanged_subject(crawlers), UNCHANGED];
@@ -76,11 +85,10 @@ fn add_sitemap(
     let value = Value::Untrusted(sitemap);
     if is_added {
         let parts = [Part("sitemap added: ", value)];
-        add(alloc, found, Level::Note, None, "sitemap-added", &parts)
-    } else {
-        let parts = [Part("sitemap removed: ", value)];
-        add(alloc, found, Level::Note, None, "sitemap-removed", &parts)
+        return add(alloc, found, Level::Note, None, "sitemap-added", &parts);
     }
+    let parts = [Part("sitemap removed: ", value)];
+    add(alloc, found, Level::Note, None, "sitemap-removed", &parts)
 }
 
 /// Adds all such sitemaps.

@@ -143,11 +143,7 @@ pub(crate) fn checked_on<'a>(
 pub(crate) fn is_unexpected(allowed: bool, decision: &Decision) -> bool
     ensures { result ≡ is_unexpected allowed decision.now }
 {
-    if allowed {
-        !decision.allowed
-    } else {
-        decision.allowed
-    }
+    allowed != decision.allowed
 }
 
 /// Whether the file is rejected for the crawler, or the decision isn't the expected one in one of the readings.
