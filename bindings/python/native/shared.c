@@ -159,7 +159,7 @@ static size_t site_bytes(struct site *shared)
     return bytes;
 }
 
-/* How many bytes of memory the robot takes beside its site. */
+/* How many bytes of memory the robot takes next to its site. */
 static size_t robot_bytes(struct robot *shared)
 {
     return shared->is_unnamed ? 0 : bytes_of(shared);

@@ -1,13 +1,13 @@
 -- What a comparison finds: decisions, sitemaps and rules.
 use Rattle.std.proofs.Common.{◌≡◌, ◌∙◌, ◌↔◌, ◌||◌, ℕ, zero, suc, Bool, true, false, List, [], ◌∷◌, Contains}
 use Rattle.std.proofs.Common.{None, Option, Some, ap, arith, not, refl, ⊎_elim, subst, ◌==◌, if◌then◌else◌}
-use Rattle.std.proofs.Common.{length, sym, ◌+◌, ◌<◌, Bor, ◌++◌, append-nil, append_assoc, bytes_eq, cond, map}
-use Rattle.std.proofs.Common.{drop, flat_map, slice_index_or, string_bytes, take}
+use Rattle.std.proofs.Common.{length, sym, ◌+◌, ◌<◌, Bor, ◌++◌, append_assoc, bytes_eq, cond, drop, map}
+use Rattle.std.proofs.Common.{slice_index_or, string_bytes, take}
 use Rattle.std.proofs.Math.{Bool.beq, Seq.drop-nil}
 use Rattle.std.specs.{List.AllZip, BTreeSet.BTreeSet, BTreeSet.Updates, BTreeSet.contains}
 use Rattle.std.proofs.lemmas.{Bool.and_parts, Bool.or_cases, Grind.common_steps, Slice.Eq.bytes_eq-Decides}
-use Rattle.std.proofs.lemmas.{List.map_more, Map.Text.is_eq-slice_cmp, List.take_more, Simd.map-map}
-use Rattle.std.proofs.lemmas.List.{Folds.Any-from_list_any, drop_more, map-append, Concat.flat_map-append}
+use Rattle.std.proofs.lemmas.{List.map_more, Map.Text.is_eq-slice_cmp, Simd.map-map}
+use Rattle.std.proofs.lemmas.List.{Folds.Any-from_list_any, drop_more}
 use Rattle.texting_robots.specs.Callers.{IsDenied, IsVerdict, LineValue, PlacedRule, Rule, placed_rules}
 use Rattle.texting_robots.specs.Callers.{rules_for, unplaced}
 use Rattle.texting_robots.specs.{Decision.IsDecisionOn, declared.decision.Decision.Decision}
@@ -17,12 +17,12 @@ use Rattle.audit_core.specs.Audit.{IsRuling, IsVerdictOn, VerdictValue}
 use Rattle.audit_core.proofs.{AuditLemmas.none_of}
 use Rattle.audit_compare.specs.Compare.{ComparedValue, IsCompared, has_rule, has_same_rules, is_same_decision}
 use Rattle.audit_compare.specs.Compare.{is_same_rule, is_unchanged, rules_lacked, rules_only_in, url_changes}
-use Rattle.audit_compare.specs.Compare.{Difference, crawler_changes, finding_of, is_listed, new_texts}
+use Rattle.audit_compare.specs.Compare.{Difference, finding_of, is_listed, new_texts}
 use Rattle.printable_text.specs.{Text.line_text}
 use Rattle.robots_warnings.specs.Internal.Names.{Key, key_cmp}
 use Rattle.robots_warnings.proofs.ClosedLemmas.{any_last, either}
 use Rattle.audit_core.specs.declared.findings.{Finding.Finding}
-use Rattle.audit_compare.specs.Internal.Compare.{Adds, AddsText}
+use Rattle.audit_compare.specs.Internal.Compare.{AddsText}
 
 -- ---- Rules that other rules lack, and the verdicts by the same rules.
 
@@ -205,27 +205,6 @@ pub found_more : (front : List (List ℕ)) (items : List (Bor (List ℕ))) (at :
 found_more front items at d found new whole is_new below was added before =
     rw (added, was, ← texts_more front items at d below, append_assoc)
     (rw (drop_more items at d below) at before)
-
-pub adds_more : (old between new : List Finding) (one other : List Difference) → Adds old between one
-    → Adds between new other → Adds old new (one ++ other)
-adds_more old between new one other first second =
-    rw (map-append finding_of one other, ← append_assoc, ← first) second
-
-pub crawlers_more : (old between new : List Finding) (crawlers : List ComparedValue) (at : ℕ)
-    (item : ComparedValue) → at < length crawlers → item ≡ slice_index_or crawlers at item
-    → Adds old between (flat_map crawler_changes (take at crawlers))
-    → Adds between new (crawler_changes item)
-    → Adds old new (flat_map crawler_changes (take (at + 1) crawlers))
-crawlers_more old between new crawlers at item below is before added =
-    let first = flat_map crawler_changes (take at crawlers) in
-    let here = slice_index_or crawlers at item in
-    let last : flat_map crawler_changes (take (at + 1) crawlers) ≡ first ++ crawler_changes item =
-    ap (flat_map crawler_changes) (take_more crawlers at item below)
-    ∙ flat_map-append crawler_changes (take at crawlers) (here ∷ [])
-    ∙ ap (λ (more : List Difference). first ++ more) (append-nil (crawler_changes here))
-    ∙ ap (λ (one : ComparedValue). first ++ crawler_changes one) (sym is) in
-    subst (λ (all : List Difference). Adds old new all) (sym last)
-    (adds_more old between new first (crawler_changes item) before added)
 
 pub messages_of : (found : List Finding) (differences : List Difference)
     → map finding_value found ≡ map finding_of differences

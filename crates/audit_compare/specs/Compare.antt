@@ -17,6 +17,8 @@ use Rattle.audit_core.specs.declared.group.Group.TheVariants.{Everyone, Named, N
 use Rattle.audit_core.specs.Audit.{AgentValue, IsAgentAudit, VerdictValue, agents_requested}
 use Rattle.audit_core.specs.Findings.{FindingValue, Found, Parts, found_value}
 use Rattle.audit_core.specs.Texts.{delay_value, group_value, rejected_parts}
+use Rattle.audit_compare.specs.declared.differences.Section.{Section, TheVariants.Groups}
+use Rattle.audit_compare.specs.declared.differences.Section.TheVariants.{Rejections, Rules, SameRules, Urls}
 
 -- of the same kind, and with equal patterns, which are escaped values
 abbrev pub is_same_rule : Rule → Rule → Bool
@@ -249,14 +251,6 @@ url_change agent change = record {
   text = url_line agent change;
 }
 
-abbrev pub differences : ComparedValue → List Difference
-differences compared =
-    group_changes compared.agent compared.older.group compared.newer.group
-    ++ delay_changes compared.agent compared.older.delay compared.newer.delay
-    ++ map (rule_change compared.agent false) compared.removed
-    ++ map (rule_change compared.agent true) compared.added
-    ++ map (url_change compared.agent) compared.changes
-
 abbrev pub is_rejected : ComparedValue → Bool
 is_rejected compared = is_some compared.older.rejected || is_some compared.newer.rejected
 
@@ -278,13 +272,17 @@ abbrev pub file_begins : (is_new : Bool) → starts_line (file_part is_new) ≡ 
 file_begins true = refl
 file_begins false = refl
 
+abbrev pub rejection_name : (is_new : Bool) → Fixed
+rejection_name true = record { text = codes "rejected"; safe = refl }
+rejection_name false = record { text = codes "old-rejected"; safe = refl }
+
 -- that this file is rejected for the crawler, and why, if it is
 abbrev pub rejection_of : (is_new : Bool) → List ℕ → Option ℕ → List Difference
 rejection_of is_new agent None = []
 rejection_of is_new agent (Some line) = (record {
   level = Error;
   line = if is_new then Some line else None;
-  name = record { text = codes "rejected"; safe = refl };
+  name = rejection_name is_new;
   text = line_from (file_part is_new) (file_begins is_new) (rejected_parts agent line);
 }) ∷ []
 
@@ -298,12 +296,26 @@ same_rules agent has_same =
     (about agent (only (codes ": same rules, so no URL's verdict differs") refl ∷ [])) ∷ []
     else []
 
--- what is reported on a crawler: nothing if it is unchanged
-abbrev pub crawler_changes : ComparedValue → List Difference
-crawler_changes compared =
-    if is_rejected compared then rejection false compared.older ++ rejection true compared.newer
-    else if is_unchanged compared then []
-    else differences compared ++ same_rules compared.agent (has_same_rules compared)
+-- what a section of the report says of a crawler for which no file is rejected
+abbrev pub accepted_changes : Section → ComparedValue → List Difference
+accepted_changes Groups compared =
+    group_changes compared.agent compared.older.group compared.newer.group
+    ++ delay_changes compared.agent compared.older.delay compared.newer.delay
+accepted_changes Rules compared =
+    map (rule_change compared.agent false) compared.removed
+    ++ map (rule_change compared.agent true) compared.added
+accepted_changes Urls compared = map (url_change compared.agent) compared.changes
+accepted_changes SameRules compared =
+    same_rules compared.agent (has_same_rules compared && not (is_unchanged compared))
+accepted_changes Rejections compared = []
+
+abbrev pub section_changes : Section → ComparedValue → List Difference
+section_changes Rejections compared = rejection false compared.older ++ rejection true compared.newer
+section_changes section compared = if is_rejected compared then [] else accepted_changes section compared
+
+-- what these sections say, in order
+abbrev pub crawler_changes : List Section → ComparedValue → List Difference
+crawler_changes sections compared = flat_map (λ section. section_changes section compared) sections
 
 abbrev pub unchanged_part : PartValue
 unchanged_part = only (codes ": no group, delay or rule differs, so no URL's verdict does") refl
@@ -331,12 +343,32 @@ sitemap_change false text =
     note (codes "sitemap-removed") refl
     (line_from (Part (label (codes "sitemap removed: ") refl) (Untrusted text)) refl [])
 
--- what annotations and JSON have of a comparison
+abbrev pub sitemap_changes : ComparisonValue → List Difference
+sitemap_changes comparison =
+    map (sitemap_change false) comparison.removed ++ map (sitemap_change true) comparison.added
+
+-- what the text has of a comparison
+abbrev pub all_lines : ComparisonValue → List Difference
+all_lines comparison =
+    flat_map (crawler_changes (Rejections ∷ Groups ∷ Rules ∷ Urls ∷ SameRules ∷ [])) comparison.crawlers
+    ++ unchanged comparison.crawlers ++ sitemap_changes comparison
+
+abbrev pub empty_line : ReportLine
+empty_line = line_from (only (codes "the new file has no directive") refl) refl []
+
+-- that the new file has no directive, but the old one has some
+abbrev pub emptied : SideValue → SideValue → List Difference
+emptied older newer =
+    if newer.has_no_directive && not older.has_no_directive
+    then record (note (codes "empty") refl empty_line) { level = Warning } ∷ [] else []
+
+-- what annotations and JSON have: first rejections and verdicts, as a service may show only some findings
 abbrev pub all_differences : ComparisonValue → List Difference
 all_differences comparison =
-    flat_map crawler_changes comparison.crawlers ++ unchanged comparison.crawlers
-    ++ map (sitemap_change false) comparison.removed
-    ++ map (sitemap_change true) comparison.added
+    emptied comparison.older comparison.newer
+    ++ flat_map (crawler_changes (Rejections ∷ [])) comparison.crawlers
+    ++ flat_map (crawler_changes (Urls ∷ [])) comparison.crawlers
+    ++ flat_map (crawler_changes (Groups ∷ Rules ∷ [])) comparison.crawlers ++ sitemap_changes comparison
 
 -- that a file has no directive
 abbrev pub empty_part : (has_no_directive : Bool) → PartValue
@@ -353,7 +385,7 @@ sides_line older newer =
 abbrev pub report_lines : ComparisonValue → List ReportLine
 report_lines comparison =
     sides_line comparison.older comparison.newer
-    ∷ map (λ (difference : Difference). difference.text) (all_differences comparison)
+    ∷ map (λ (difference : Difference). difference.text) (all_lines comparison)
 
 abbrev pub rejects_some : ComparisonValue → Bool
 rejects_some comparison = list_any is_rejected comparison.crawlers

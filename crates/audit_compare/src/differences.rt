@@ -5,9 +5,10 @@ ghost use Rattle.printable_text.specs.Raw.{raw_line, raw_text, raw_value};
 ghost use Rattle.printable_text.specs.Text.{line_text, part_text, value_text};
 ghost use Rattle.audit_core.specs.Findings.{finding_value};
 ghost use Rattle.audit_compare.specs.Compare.{change_name, change_part, crawler, crawler_changes, deciding};
-ghost use Rattle.audit_compare.specs.Compare.{delay_changes, differences, file_part, group_changes, has_same_rules};
-ghost use Rattle.audit_compare.specs.Compare.{is_rejected, is_same_group, is_unchanged, rejection, rule_change};
-ghost use Rattle.audit_compare.specs.Compare.{rule_line, rule_name, same_rules, url_change, url_line, verdict_word};
+ghost use Rattle.audit_compare.specs.Compare.{delay_changes, file_part, group_changes, has_same_rules};
+ghost use Rattle.audit_compare.specs.Compare.{is_rejected, is_same_group, is_unchanged, rejection};
+ghost use Rattle.audit_compare.specs.Compare.{rejection_name, rule_change, rule_line, rule_name, same_rules};
+ghost use Rattle.audit_compare.specs.Compare.{section_changes, url_change, url_line, verdict_word};
 ghost use Rattle.audit_compare.specs.Internal.Compare.{Adds};
 
 use crate::compared::{Compared, UrlChange};
@@ -19,6 +20,16 @@ use audit_core::texts::{delay_value, group_value, rejected_parts};
 use printable_text::level::Level;
 use printable_text::parts::{Part, Value, push_parts};
 use std::alloc::{AllocError, Global};
+
+/// A section of what is reported on a crawler. If a file is rejected for it, the other sections are empty.
+#[derive(Clone, Copy)]
+pub(crate) enum Section {
+    Rejections,
+    Groups,
+    Rules,
+    Urls,
+    SameRules,
+}
 
 pub(crate) fn add(
     alloc: Global,
@@ -221,22 +232,6 @@ fn add_urls(
     Ok(())
 }
 
-fn add_differences(
-    alloc: Global,
-    found: &mut Findings,
-    compared: &Compared<'_>,
-) -> Result<(), AllocError>
-    ensures { OnOk result (Adds found.old.items found.new.items (differences compared.now)) }
-{
-    let (agent, older, newer) = (compared.agent, &compared.older, &compared.newer);
-    add_groups(alloc, found, agent, older.group, newer.group)?;
-    add_delays(alloc, found, agent, older.delay, newer.delay)?;
-    add_rules(alloc, found, agent, false, &compared.removed)?;
-    add_rules(alloc, found, agent, true, &compared.added)?;
-    add_urls(alloc, found, agent, &compared.changes)?;
-    Ok(())
-}
-
 pub(crate) fn is_rejected(compared: &Compared<'_>) -> bool
     ensures { result ≡ is_rejected compared.now }
 {
@@ -291,6 +286,13 @@ fn file_text(is_new: bool) -> &'static str
     }
 }
 
+/// The name of the finding that a file is rejected.
+fn rejection_name(is_new: bool) -> &'static str
+    ensures { result.now ≡ (rejection_name is_new).text }
+{
+    if is_new { "rejected" } else { "old-rejected" }
+}
+
 fn add_rejection(
     alloc: Global,
     found: &mut Findings,
@@ -307,26 +309,54 @@ fn add_rejection(
     Ok(found.push(Finding {
         level: Level::Error,
         line: if is_new { Some(line) } else { None },
-        name: "rejected",
+        name: rejection_name(is_new),
         message,
     })?)
 }
 
+/// Adds what a section says of a crawler.
+fn add_section(
+    alloc: Global,
+    found: &mut Findings,
+    section: Section,
+    compared: &Compared<'_>,
+) -> Result<(), AllocError>
+    ensures { OnOk result (Adds found.old.items found.new.items (section_changes section compared.now)) }
+{
+    let (agent, older, newer) = (compared.agent, &compared.older, &compared.newer);
+    match section {
+        Section::Rejections => {
+            add_rejection(alloc, found, false, older)?;
+            add_rejection(alloc, found, true, newer)
+        }
+        _ if is_rejected(compared) => Ok(()),
+        Section::Groups => {
+            add_groups(alloc, found, agent, older.group, newer.group)?;
+            add_delays(alloc, found, agent, older.delay, newer.delay)
+        }
+        Section::Rules => {
+            add_rules(alloc, found, agent, false, &compared.removed)?;
+            add_rules(alloc, found, agent, true, &compared.added)
+        }
+        Section::Urls => add_urls(alloc, found, agent, &compared.changes),
+        Section::SameRules => {
+            let has_same = has_same_rules(compared) && !is_unchanged(compared);
+            add_same_rules(alloc, found, agent, has_same)
+        }
+    }
+}
+
+/// Adds what these sections say of a crawler.
 pub(crate) fn add_crawler(
     alloc: Global,
     found: &mut Findings,
+    sections: &[Section],
     compared: &Compared<'_>,
 ) -> Result<(), AllocError>
-    ensures { OnOk result (Adds found.old.items found.new.items (crawler_changes compared.now)) }
+    ensures { OnOk result (Adds found.old.items found.new.items (crawler_changes sections.now compared.now)) }
 {
-    if is_rejected(compared) {
-        add_rejection(alloc, found, false, &compared.older)?;
-        return add_rejection(alloc, found, true, &compared.newer);
+    for section in sections {
+        add_section(alloc, found, *section, compared)?;
     }
-    if is_unchanged(compared) {
-        return Ok(());
-    }
-    add_differences(alloc, found, compared)?;
-    add_same_rules(alloc, found, compared.agent, has_same_rules(compared))?;
     Ok(())
 }

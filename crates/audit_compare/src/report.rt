@@ -4,28 +4,32 @@ ghost use Rattle.std.specs.List.{list_any};
 ghost use Rattle.printable_text.specs.{Lines.ended, Raw.raw_line, Raw.raw_text};
 ghost use Rattle.printable_text.specs.Text.{line_text, part_text, written};
 ghost use Rattle.audit_core.specs.Findings.{finding_value};
-ghost use Rattle.audit_compare.specs.Compare.{all_differences, crawler_changes, empty_part, finding_of};
-ghost use Rattle.audit_compare.specs.Compare.{is_unchanged, report_lines, sides_line, sitemap_change, unchanged};
-ghost use Rattle.audit_compare.specs.Compare.{unchanged_line, unchanged_part};
+ghost use Rattle.audit_compare.specs.Compare.{all_differences, all_lines, crawler_changes, emptied};
+ghost use Rattle.audit_compare.specs.Compare.{empty_part, finding_of, is_unchanged, report_lines, sides_line};
+ghost use Rattle.audit_compare.specs.Compare.{sitemap_change, sitemap_changes, unchanged, unchanged_line};
+ghost use Rattle.audit_compare.specs.Compare.{unchanged_part};
 ghost use Rattle.audit_compare.specs.Internal.Compare.{Adds};
 
 use crate::compare::{Comparison, Side};
 use crate::compared::Compared;
-use crate::differences::{add, add_crawler, all_unchanged, crawler, is_unchanged};
+use crate::differences::{Section, add, add_crawler, all_unchanged, crawler, is_unchanged};
 use audit_core::findings::{Finding, Findings};
 use printable_text::level::Level;
 use printable_text::parts::{Part, Value, push_line_of};
 use std::alloc::{AllocError, Global};
 
+/// Adds what these sections say of each of these crawlers.
 fn add_crawlers(
     alloc: Global,
     found: &mut Findings,
+    sections: &[Section],
     crawlers: &[Compared<'_>],
 ) -> Result<(), AllocError>
-    ensures { OnOk result (Adds found.old.items found.new.items (flat_map crawler_changes crawlers.now)) }
+    ensures { OnOk result (Adds found.old.items found.new.items
+        (flat_map (crawler_changes sections.now) crawlers.now)) }
 {
     for compared in crawlers {
-        add_crawler(alloc, found, compared)?;
+        add_crawler(alloc, found, sections, compared)?;
     }
     Ok(())
 }
@@ -98,15 +102,69 @@ fn add_sitemaps(
     Ok(())
 }
 
+/// Adds all sitemaps that only one of the files lists.
+fn add_both_sitemaps(
+    alloc: Global,
+    found: &mut Findings,
+    comparison: &Comparison<'_>,
+) -> Result<(), AllocError>
+    ensures { OnOk result (Adds found.old.items found.new.items (sitemap_changes comparison.now)) }
+{
+    add_sitemaps(alloc, found, false, &comparison.removed)?;
+    add_sitemaps(alloc, found, true, &comparison.added)
+}
+
+/// All lines of the text but the first, as findings.
+fn all_lines(alloc: Global, comparison: &Comparison<'_>) -> Result<Findings, AllocError>
+    ensures { IfOk result (λ found.
+        map finding_value found.items ≡ map finding_of (all_lines comparison.now)) }
+{
+    let mut found = Vec::new(alloc);
+    let sections = [
+        Section::Rejections,
+        Section::Groups,
+        Section::Rules,
+        Section::Urls,
+        Section::SameRules,
+    ];
+    add_crawlers(alloc, &mut found, &sections, &comparison.crawlers)?;
+    add_unchanged(alloc, &mut found, &comparison.crawlers)?;
+    add_both_sitemaps(alloc, &mut found, comparison)?;
+    Ok(found)
+}
+
+/// Adds that the new file has no directive, if the old one has some.
+fn add_emptied(
+    alloc: Global,
+    found: &mut Findings,
+    older: &Side<'_>,
+    newer: &Side<'_>,
+) -> Result<(), AllocError>
+    ensures { OnOk result (Adds found.old.items found.new.items (emptied older.now newer.now)) }
+{
+    if older.has_no_directive || !newer.has_no_directive {
+        return Ok(());
+    }
+    let parts = [Part("the new file has no directive", Value::Nothing)];
+    add(alloc, found, Level::Warning, None, "empty", &parts)
+}
+
+/// What formats other than text have.
 fn all_differences(alloc: Global, comparison: &Comparison<'_>) -> Result<Findings, AllocError>
     ensures { IfOk result (λ found.
         map finding_value found.items ≡ map finding_of (all_differences comparison.now)) }
 {
-    let mut found = Vec::new(alloc);
-    add_crawlers(alloc, &mut found, &comparison.crawlers)?;
-    add_unchanged(alloc, &mut found, &comparison.crawlers)?;
-    add_sitemaps(alloc, &mut found, false, &comparison.removed)?;
-    add_sitemaps(alloc, &mut found, true, &comparison.added)?;
+    let (mut found, crawlers) = (Vec::new(alloc), &comparison.crawlers);
+    add_emptied(alloc, &mut found, &comparison.older, &comparison.newer)?;
+    add_crawlers(alloc, &mut found, &[Section::Rejections], crawlers)?;
+    add_crawlers(alloc, &mut found, &[Section::Urls], crawlers)?;
+    add_crawlers(
+        alloc,
+        &mut found,
+        &[Section::Groups, Section::Rules],
+        crawlers,
+    )?;
+    add_both_sitemaps(alloc, &mut found, comparison)?;
     Ok(found)
 }
 
@@ -157,9 +215,9 @@ pub fn reported(
     ensures found { IfOk result (λ reported.
         map finding_value reported.1.items ≡ map finding_of (all_differences comparison.now)) }
 {
-    let found = all_differences(alloc, comparison)?;
+    let found = all_lines(alloc, comparison)?;
     let mut text = String::new(alloc);
     push_line_of(&mut text, &sides_line(&comparison.older, &comparison.newer))?;
     push_messages(&mut text, &found)?;
-    Ok((text, found))
+    Ok((text, all_differences(alloc, comparison)?))
 }

@@ -34,7 +34,8 @@ IsJudgmentOn file agent url (Decided decision other normal) =
 abbrev pub IsAtVendor : List ℕ → List ℕ → List ℕ → AtVendor → Type 0
 IsAtVendor file agent url Same = other_group (lines_read file) agent ≡ None
 IsAtVendor file agent url (Group name judgment) =
-    (other_group (lines_read file) agent ≡ Some name.now) × IsJudgmentOn file name.now url judgment
+    ((length name.now == 0) ≡ false) × (other_group (lines_read file) agent ≡ Some name.now)
+    × IsJudgmentOn file name.now url judgment
 IsAtVendor file agent url Nobody = other_group (lines_read file) agent ≡ Some []
 
 -- an expectation and what the file says, here and at the vendor of its crawler

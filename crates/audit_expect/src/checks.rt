@@ -30,9 +30,9 @@ pub(crate) enum Judgment {
 pub(crate) enum AtVendor<'a> {
     /// The group that applies here.
     Same,
-    /// The group with this name, and what the file says about it.
+    /// The one with this name, which isn't empty, and what the file says about it.
     Group(&'a str, Judgment),
-    /// No group, so everything is allowed.
+    /// None, so everything is allowed.
     Nobody,
 }
 
@@ -140,11 +140,7 @@ pub(crate) fn checked_on<'a>(
 pub(crate) fn is_unexpected(allowed: bool, decision: &Decision) -> bool
     ensures { result ≡ is_unexpected allowed decision.now }
 {
-    if allowed {
-        !decision.allowed
-    } else {
-        decision.allowed
-    }
+    allowed != decision.allowed
 }
 
 fn fails_at(allowed: bool, judgment: &Judgment) -> bool

@@ -27,7 +27,7 @@ use Rattle.audit_core.specs.Rows.{comment_of, has_value, kind_of, line_value, me
 use Rattle.audit_core.specs.Audit.{AgentValue, AuditValue, VerdictValue}
 use Rattle.audit_core.specs.Findings.{Found, found_value, warning_finding, all_found, findings, message_of}
 use Rattle.audit_core.proofs.FindingLemmas.{in_quotes, message_printable, name_printable}
-use Rattle.audit_json.specs.Json.{comment_json, finding_json, findings_json, findings_text, sanitized_json}
+use Rattle.audit_json.specs.Json.{finding_json, findings_json, findings_text, sanitized_json, text_json}
 use Rattle.audit_json.specs.Json.{agent_json, audit_json, group_word, number_json, verdict_json, warning_json}
 use Rattle.audit_json.specs.Json.{json_text, known_json, line_json, list_json, value_json, word_json}
 use Rattle.std.specs.Str.{IsUtf8, all_scalars, chars, encode_utf8_all}
@@ -175,14 +175,14 @@ printed_plain : (none : Bool) (text : List ℕ) → IsPlain (if none then null e
 printed_plain true text = tt
 printed_plain false text = sanitized_printable text
 
-comment_plain : (comment : List ℕ) → IsPlain (comment_json comment)
-comment_plain comment = printed_plain (length comment == 0) comment
+bytes_plain : (text : List ℕ) → IsPlain (text_json text)
+bytes_plain text = printed_plain (length text == 0) text
 
 line_plain : (line : List ℕ × Label) → IsPlain (line_json line)
 line_plain (body, label) =
     let kind = line_printable (kind_of label.line).text (label_printable (kind_of label.line)) in
     assumption (
-      comment_plain (comment_of label.line body),
+      bytes_plain (comment_of label.line body),
       kind,
       word_printable (membership_value label.membership),
       value_plain label.line,
@@ -222,11 +222,11 @@ all_plain : (all : List Found) → IsPlain (list_json finding_json (map found_va
 all_plain [] = tt
 all_plain (found ∷ all) = (found_plain found, all_plain all)
 
-pub findings_printable : (file : List ℕ) (all : List Found)
-    → IsPrintable (findings_text file (map found_value all))
-findings_printable file all =
-    plain_printable (findings_json file (map found_value all))
-    (assumption (sanitized_printable file, all_plain all))
+pub findings_printable : (file old : List ℕ) (all : List Found)
+    → IsPrintable (findings_text file old (map found_value all))
+findings_printable file old all =
+    plain_printable (findings_json file old (map found_value all))
+    (assumption (sanitized_printable file, all_plain all, bytes_plain old))
 
 number_whole : (n : Option ℕ) → has_float (number_json n) ≡ false
 number_whole None = refl
@@ -236,8 +236,9 @@ all_whole : (all : List FindingValue) → has_float (list_json finding_json all)
 all_whole [] = refl
 all_whole (finding ∷ all) = rw (number_whole finding.line, all_whole all) refl
 
-pub findings_whole : (file : List ℕ) (all : List FindingValue) → has_float (findings_json file all) ≡ false
-findings_whole file all = rw (all_whole all) refl
+pub findings_whole : (file old : List ℕ) (all : List FindingValue)
+    → has_float (findings_json file old all) ≡ false
+findings_whole file old all = rw (all_whole all, plain_whole (text_json old) (bytes_plain old)) refl
 
 -- ---- The same of the SARIF log, whose messages show the texts that they are made of.
 

@@ -16,6 +16,10 @@ use Rattle.robots_warnings.specs.{File.lines_of, Message.WarningValue}
 abbrev pub sanitized_json : List ℕ → Data
 sanitized_json text = string (sanitized text)
 
+-- the same, or null if there are none
+abbrev pub text_json : List ℕ → Data
+text_json text = if length text == 0 then null else sanitized_json text
+
 -- null for `None`
 abbrev pub number_json : Option ℕ → Data
 number_json None = null
@@ -61,13 +65,10 @@ abbrev pub value_json : LineValue → Data
 value_json (CrawlDelay delay) = number_json delay
 value_json line = if has_value line then string (line_value_text line) else null
 
-abbrev pub comment_json : List ℕ → Data
-comment_json comment = if length comment == 0 then null else sanitized_json comment
-
 -- the comment of a directive, its name, its membership, its number and its value
 abbrev pub line_json : List ℕ × Label → Data
 line_json (body, label) = object
-    (member (codes "comment") (comment_json (comment_of label.line body))
+    (member (codes "comment") (text_json (comment_of label.line body))
     (member (codes "kind") (string (kind_text label.line))
     (member (codes "membership") (string (membership_word label.membership))
     (member (codes "number") (number (unsigned label.number))
@@ -108,11 +109,12 @@ json_line value = compact_text value ++ lf ∷ []
 abbrev pub json_text : Bool → AuditValue → List ℕ
 json_text has_rows audit = json_line (audit_json has_rows audit)
 
--- the findings about a file, which aren't those of an audit
-abbrev pub findings_json : List ℕ → List FindingValue → Data
-findings_json file findings = object
+-- the name of a file, what was found in it, and the name of an older version, or null if that is empty
+abbrev pub findings_json : (file old : List ℕ) → List FindingValue → Data
+findings_json file old findings = object
     (member (codes "file") (sanitized_json file)
-    (member (codes "findings") (list_json finding_json findings) no_members))
+    (member (codes "findings") (list_json finding_json findings)
+    (member (codes "old") (text_json old) no_members)))
 
-abbrev pub findings_text : List ℕ → List FindingValue → List ℕ
-findings_text file findings = json_line (findings_json file findings)
+abbrev pub findings_text : (file old : List ℕ) → List FindingValue → List ℕ
+findings_text file old findings = json_line (findings_json file old findings)

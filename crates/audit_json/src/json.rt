@@ -2,10 +2,10 @@
 ghost use Rattle.std.specs.Prelude.{◌≡◌, false, IfOk, map, option_map, string_bytes};
 ghost use Rattle.serde_json.specs.{View.view, Written.has_float};
 ghost use Rattle.texting_robots.specs.Callers.{by_value, file_bodies, label_by_value, sitemaps_in};
-ghost use Rattle.audit_json.specs.Json.{agent_json, audit_json, comment_json, finding_json, findings_json};
+ghost use Rattle.audit_json.specs.Json.{agent_json, audit_json, finding_json, findings_json};
 ghost use Rattle.audit_json.specs.Json.{findings_text, group_word, json_line, json_text};
 ghost use Rattle.audit_json.specs.Json.{known_json, line_json, list_json, number_json, rows_json, sanitized_json};
-ghost use Rattle.audit_json.specs.Json.{value_json, verdict_json, warning_json, word_json};
+ghost use Rattle.audit_json.specs.Json.{text_json, value_json, verdict_json, warning_json, word_json};
 ghost use Rattle.audit_core.specs.{Findings.finding_value, Rows.membership_word};
 ghost use Rattle.robots_warnings.specs.File.{lines_of};
 
@@ -48,6 +48,17 @@ fn sanitized_json(alloc: Global, bytes: &[u8]) -> Result<Value, AllocError>
     let mut text = String::new(alloc);
     push_sanitized(&mut text, bytes)?;
     Ok(Value::String(text))
+}
+
+/// The same, or null if there are none.
+fn text_json(alloc: Global, bytes: &[u8]) -> Result<Value, AllocError>
+    ensures { IfOk result (λ value. view value ≡ text_json bytes.now) }
+{
+    if bytes.is_empty() {
+        Ok(Value::Null)
+    } else {
+        sanitized_json(alloc, bytes)
+    }
 }
 
 impl<'a> Json for Verdict<'a> {
@@ -135,21 +146,11 @@ fn value_json(alloc: Global, line: Line<'_>) -> Result<Value, AllocError>
     }
 }
 
-fn comment_json(alloc: Global, comment: &[u8]) -> Result<Value, AllocError>
-    ensures { IfOk result (λ value. view value ≡ comment_json comment.now) }
-{
-    if comment.is_empty() {
-        Ok(Value::Null)
-    } else {
-        sanitized_json(alloc, comment)
-    }
-}
-
 fn line_json(alloc: Global, body: &[u8], labeled: &LabeledLine<'_>) -> Result<Value, AllocError>
     ensures { IfOk result (λ value. view value ≡ line_json (body.now, label_by_value labeled.now)) }
 {
     json!(in alloc; {
-        "comment": comment_json(alloc, comment_of(labeled.line, body))?,
+        "comment": text_json(alloc, comment_of(labeled.line, body))?,
         "kind": kind_text(labeled.line),
         "membership": membership_word(labeled.membership),
         "number": labeled.number,
@@ -293,19 +294,32 @@ fn list_of_findings(alloc: Global, findings: &[Finding]) -> Result<Value, AllocE
     list_json(alloc, findings)
 }
 
-fn findings_json(alloc: Global, file: &str, findings: &[Finding]) -> Result<Value, AllocError>
-    ensures { IfOk result (λ value. view value ≡ findings_json file.now (map finding_value findings.now)) }
+/// The name of a file, what was found in it, and the name of an older version, or null if that is empty.
+fn findings_json(
+    alloc: Global,
+    file: &str,
+    old: &str,
+    findings: &[Finding],
+) -> Result<Value, AllocError>
+    ensures { IfOk result (λ value.
+        view value ≡ findings_json file.now old.now (map finding_value findings.now)) }
 {
     json!(in alloc; {
         "file": sanitized_json(alloc, file.as_bytes())?,
         "findings": list_of_findings(alloc, findings)?,
+        "old": text_json(alloc, old.as_bytes())?,
     })
 }
 
 /// The findings about the file with this name, as one line.
-pub fn findings_text(alloc: Global, file: &str, findings: &[Finding]) -> Result<String, AllocError>
+pub fn findings_text(
+    alloc: Global,
+    file: &str,
+    old: &str,
+    findings: &[Finding],
+) -> Result<String, AllocError>
     ensures { IfOk result (λ text.
-        string_bytes text ≡ findings_text file.now (map finding_value findings.now)) }
+        string_bytes text ≡ findings_text file.now old.now (map finding_value findings.now)) }
 {
-    json_line(alloc, &findings_json(alloc, file, findings)?)
+    json_line(alloc, &findings_json(alloc, file, old, findings)?)
 }

@@ -129,10 +129,11 @@ pub output_printable : (requested : RequestValue) (audit : AuditValue) → IsPri
 output_printable requested audit = output_in_printable requested.format requested audit
 
 -- those on findings, if they are printable as text
-pub listed_printable : {X : Type 0} (value : X → Found) (format : Format) (file text : List ℕ) (all : List X)
-    → IsPrintable text → IsPrintable (listed_in format file text (map (λ one. found_value (value one)) all))
-listed_printable value Json file text all is =
-    rw (← map-map found_value value all) (findings_printable file (map value all))
-listed_printable value Github file text all is =
+pub listed_printable : {X : Type 0} (value : X → Found) (format : Format) (file old text : List ℕ)
+    (all : List X) → IsPrintable text
+    → IsPrintable (listed_in format file old text (map (λ one. found_value (value one)) all))
+listed_printable value Json file old text all is =
+    rw (← map-map found_value value all) (findings_printable file old (map value all))
+listed_printable value Github file old text all is =
     rw (← map-map found_value value all) (github_printable file (map value all))
-listed_printable value _ file text all is = is
+listed_printable value _ file old text all is = is

@@ -87,11 +87,14 @@ pub record IsAudited (requested : RequestValue) (file : List ℕ) (answer : Answ
   pub report : answer.report.items ≡ output requested audit
   pub outcome : IsOutcomeOf requested audit answer.outcome
 
--- the report on findings in the file with this name, of which `text` is the form as text
-abbrev pub listed_in : Format → (file text : List ℕ) → List FindingValue → List ℕ
-listed_in Json file text found = findings_text file found
-listed_in Github file text found = github_text file found
-listed_in format file text found = text
+-- ---- a comparison, and expectations
+
+-- the report in this format on findings in the file with this name, on which `text` is the report as text; an
+-- empty name means that there is no old file
+abbrev pub listed_in : Format → (file old text : List ℕ) → List FindingValue → List ℕ
+listed_in Json file old text found = findings_text file old found
+listed_in Github file old text found = github_text file found
+listed_in format file old text found = text
 
 -- pages and logs are those of audits
 abbrev pub is_for_audits : Format → Bool
@@ -104,10 +107,10 @@ abbrev pub IsFormatFault : Format → Fault → Type 0
 IsFormatFault format fault = (fault ≡ Memory) ⊎ ((is_for_audits format ≡ true) × (fault ≡ OfAudits))
 
 -- the answer is this report, and whether a file is rejected and all is well; there are no warnings
-pub record IsListed (format : Format) (file text : List ℕ) (found : List FindingValue)
+pub record IsListed (format : Format) (file old text : List ℕ) (found : List FindingValue)
     (is_rejected has_passed : Bool) (answer : Answer) : Type 0 where
   pub can_be : is_for_audits format ≡ false
-  pub report : answer.report.items ≡ listed_in format file text found
+  pub report : answer.report.items ≡ listed_in format file old text found
   pub rejected : answer.outcome.is_rejected ≡ is_rejected
   pub passed : answer.outcome.has_passed ≡ has_passed
   pub unwarned : answer.outcome.is_warned ≡ false
@@ -118,15 +121,16 @@ pub record IsCompared (requested : RequestValue) (older_name older newer_name ne
     (answer : Answer) : Type 0 where
   pub comparison : ComparisonValue
   pub of : IsComparison requested.agents requested.urls older_name older newer_name newer comparison
-  pub listed : IsListed requested.format (shown_name requested.file) (written (comparison_lines comparison))
-      (map finding_of (all_differences comparison)) (rejects_one comparison) (differs_nowhere comparison) answer
+  pub listed : IsListed requested.format (shown_name requested.file) older_name
+      (written (comparison_lines comparison)) (map finding_of (all_differences comparison))
+      (rejects_one comparison) (differs_nowhere comparison) answer
 
 -- a rejected file is a failure
 pub record IsExpected (format : Format) (name text file : List ℕ) (answer : Answer) : Type 0 where
   pub report : List ℕ
   pub found : List FindingValue
   pub of : IsReport name text file report found
-  pub listed : IsListed format name report found false (length found == 0) answer
+  pub listed : IsListed format name [] report found false (length found == 0) answer
 
 abbrev pub given_name : Option (List ℕ) → List ℕ
 given_name None = codes "-"

@@ -1,22 +1,14 @@
 //! Explains how crawlers interpret a robots.txt file, which is a named one or standard input. The report has a row
-//! for each line of the first 512,000 bytes, with its number, whether it is in the crawler's group, and its directive;
-//! then the group and the delay that apply to the crawler; then for each URL whether the crawler may fetch it, and
-//! which line decides. Warnings about lines that probably don't do what was intended go to standard error. All of this
-//! can be written as JSON or as an HTML page instead. Annotations for GitHub and a SARIF log have what was found: the
-//! URLs that are denied, the crawlers for which the file is rejected, and the warnings.
+//! for each line of the first 512,000 bytes; then the group and the delay that apply to the crawler; then for each
+//! URL whether the crawler may fetch it, and which line decides. Warnings go to standard error. All of this can be
+//! written as JSON or as an HTML page instead, and what was found as annotations or as a SARIF log.
 //!
 //! `robots_audit [OPTIONS] FILE [URL]..`
 //!
-//! With `--compare` it writes instead what differs from an older version of the file.
+//! With `--compare` it writes instead what differs from an older version of the file, and with `--expect` which
+//! lines of a file of expectations fail: as text, JSON or annotations.
 //!
 //! With `--list-warnings` or `--explain` it writes what warnings there are, or what one means, and reads nothing.
-//!
-//! With `--expect` it checks instead whether crawlers may fetch what a file of expectations says, and writes a line for
-//! each that fails, or how many hold if none fails. What these two write can also be JSON and annotations.
-//!
-//! The exit status is 0 if every URL is allowed, all expectations hold or nothing differs, and 1 if not; but with
-//! `--strict` 3 if there is a warning at its level or a more serious one; and 2 after an error, or if the file is rejected
-//! for a crawler of a report or of a comparison.
 #![tactic(auto)]
 
 ghost use Rattle.std.specs.Prelude.{◌≡◌, ◌≢◌, IfErr, IfOk, IsErr, None, option_map, string_bytes, true};

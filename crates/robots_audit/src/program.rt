@@ -130,22 +130,25 @@ fn compared_for<'a>(
     compare(alloc, &request.agents, &request.urls, older, newer)
 }
 
+/// The answer in this format to a report as text and findings in the file with this name. An empty name means
+/// that there is no old file.
 fn listed(
     alloc: Global,
     format: Format,
     file: &str,
+    old: &str,
     reported: (String, Findings),
     is_rejected: bool,
     has_passed: bool,
 ) -> Result<Answer, Fault>
-    ensures ok { IfOk result (IsListed format file.now (string_bytes reported.0)
+    ensures ok { IfOk result (IsListed format file.now old.now (string_bytes reported.0)
         (map finding_value reported.1.items) is_rejected has_passed) }
     ensures fault { IfErr result (IsFormatFault format) }
 {
     let (text, found) = reported;
     let report = match format {
         Format::Text => text.into_bytes(),
-        Format::Json => findings_text(alloc, file, &found)?.into_bytes(),
+        Format::Json => findings_text(alloc, file, old, &found)?.into_bytes(),
         Format::Github => github_text(alloc, file, &found)?,
         Format::Html | Format::Sarif => return Err(Fault::Format),
     };
@@ -177,8 +180,9 @@ pub fn comparison<'a>(
 {
     let compared = compared_for(alloc, request, older, newer)?;
     let (is_rejected, has_passed) = (rejects_one(&compared), differs_nowhere(&compared));
-    let (name, found) = (request.shown_name(), reported(alloc, &compared)?);
-    Ok(listed(alloc, request.format, name, found, is_rejected, has_passed)?)
+    let (format, name, old) = (request.format, request.shown_name(), older.name);
+    let found = reported(alloc, &compared)?;
+    Ok(listed(alloc, format, name, old, found, is_rejected, has_passed)?)
 }
 
 /// Checks the expectations in a text, of a file with this name, against a robots.txt file, and writes the
@@ -196,7 +200,7 @@ pub fn expectations(
 {
     let found = check(alloc, name, text, file)?;
     let has_passed = found.1.is_empty();
-    Ok(listed(alloc, format, name, found, false, has_passed)?)
+    Ok(listed(alloc, format, name, "", found, false, has_passed)?)
 }
 
 pub fn given_name<'a>(file: Option<&'a str>) -> &'a str

@@ -5,7 +5,7 @@ use std::alloc::{AllocError, Global};
 use std::marker::Model;
 use std::sync::Arc;
 
-/// What a value takes besides its own bytes, with one handle: the count of handles, and the handle.
+/// The bytes of memory that a value takes next to its own, with one handle: the count of handles, and the handle.
 pub(crate) const HANDLE_BYTES: usize = 16;
 
 /// A value that several handles share. Nobody writes to it, and the last of them frees it.

@@ -1,5 +1,5 @@
 -- Field names: which one was probably intended in an ignored line, and what is unusual in a directive.
-use Rattle.std.specs.Prelude.{ℕ, ◌+◌, ◌-◌, ◌==◌, nat_eq, nat_le, nat_lt, Bool, not, ◌||◌, ◌&&◌, List, [], ◌∷◌}
+use Rattle.std.specs.Prelude.{ℕ, ◌+◌, ◌==◌, nat_eq, nat_le, Bool, not, ◌||◌, ◌&&◌, List, [], ◌∷◌}
 use Rattle.std.specs.Prelude.{Option, bytes_eq, codes, drop, find, if◌then◌else◌, length, map, option_map}
 use Rattle.std.specs.Prelude.{reverse, slice_index, take, unwrap_or}
 use Rattle.std.specs.Char.{is_ascii_alphabetic, is_ascii_alphanumeric, is_ascii_uppercase}
@@ -46,12 +46,13 @@ begins_with name word = is_name name (take (length name) word)
 abbrev pub is_accepted : Kind → List ℕ → Bool
 is_accepted kind word = list_any (bytes_eq (str_to_ascii_lowercase word)) (field_names kind)
 
--- two or more bytes follow the name, and the first is a letter, or after `allow` and `disallow` `-` or `_`
+-- two or more bytes of a product token follow the name, and the first is a letter, or after `allow` and
+-- `disallow` also `-` or `_`
 abbrev pub goes_on : (name word : List ℕ) → Bool
 goes_on name word =
     let b = slice_index word (length name) in
-    (is_token_byte b && (is_ascii_alphabetic b || ends_with nat_eq name (codes "allow")))
-    && nat_lt 1 (length word - length name)
+    (is_token_byte b && is_token_byte (slice_index word (length name + 1)))
+    && (is_ascii_alphabetic b || ends_with nat_eq name (codes "allow"))
 
 -- the token starts with the name, and doesn't go on, as `Disallow-AI` does; or it is similar to the name: the
 -- lengths differ by at most 2, and in lower case, it has an edit distance of at most 2 from it

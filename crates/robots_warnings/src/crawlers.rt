@@ -29,7 +29,7 @@ pub(crate) type Crawler = (&'static str, &'static str);
 /// The known crawlers. Above each block is where its vendor, or those of its crawlers, say so; where none says which
 /// group it applies, the standard does.
 #[rattlefmt::skip]
-static CRAWLERS: [(&str, &str); 108] = [
+static CRAWLERS: [(&str, &str); 109] = [
     // RFC 9309, 2.2.1: all that have no group of their own
     ("*", "*"),
     // https://developers.google.com/search/docs/crawling-indexing/google-common-crawlers
@@ -70,10 +70,11 @@ static CRAWLERS: [(&str, &str); 108] = [
     // https://developers.facebook.com/docs/sharing/webmasters/web-crawlers
     ("facebookexternalhit", "*"), ("FacebookBot", "*"), ("meta-externalagent", "*"),
     ("meta-externalfetcher", "*"),
-    // https://developer.amazon.com/amazonbot, https://commoncrawl.org/ccbot, https://allenai.org/crawler,
-    // https://docs.mistral.ai/robots, https://webz.io/bot.html, https://imagesift.com/about
-    ("Amazonbot", "*"), ("CCBot", "*"), ("AI2Bot", "*"), ("MistralAI-User", "*"), ("omgili", "*"),
-    ("omgilibot", "*"), ("ImagesiftBot", "*"),
+    // https://developer.amazon.com/amazonbot, https://adbot.amazon.com, https://commoncrawl.org/ccbot,
+    // https://allenai.org/crawler, https://docs.mistral.ai/robots, https://webz.io/bot.html,
+    // https://imagesift.com/about
+    ("Amazonbot", "*"), ("AmazonAdBot", "*"), ("CCBot", "*"), ("AI2Bot", "*"), ("MistralAI-User", "*"),
+    ("omgili", "*"), ("omgilibot", "*"), ("ImagesiftBot", "*"),
     // RFC 9309, 2.2.1: other crawlers for language models
     ("Bytespider", "*"), ("TikTokSpider", "*"), ("cohere-ai", "*"), ("Diffbot", "*"), ("YouBot", "*"),
     ("Timpibot", "*"), ("img2dataset", "*"), ("ICC-Crawler", "*"),

@@ -122,13 +122,15 @@ fn is_accepted(kind: Kind, word: &[u8]) -> bool
     false
 }
 
+/// Whether two or more bytes of a product token follow the name, and the first is a letter, or after `allow`
+/// and `disallow` also `-` or `_`.
 fn goes_on(name: &str, word: &[u8]) -> bool
     ensures { result ≡ goes_on name.now word.now }
 {
     match word.get(name.len()) {
         Some(byte) => is_token_byte(*byte)
-            && (byte.is_ascii_alphabetic() || name.as_bytes().ends_with(b"allow"))
-            && word.len() - name.len() > 1,
+            && matches!(word.get(name.len() + 1), Some(next) if is_token_byte(*next))
+            && (byte.is_ascii_alphabetic() || name.as_bytes().ends_with(b"allow")),
         None => false,
     }
 }

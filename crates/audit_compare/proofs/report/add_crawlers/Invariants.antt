@@ -4,4 +4,5 @@ use Rattle.audit_compare.proofs.report.add_crawlers.Given as goal
 
 abbrev pub invariant-loop-compared : goal.invariant-loop-compared
 invariant-loop-compared l =
-    Adds l.fn.found.items l.found.items (flat_map crawler_changes (take l.compared-index l.crawlers))
+    let before = take l.compared-index l.crawlers in
+    Adds l.fn.found.items l.found.items (flat_map (crawler_changes l.sections) before)

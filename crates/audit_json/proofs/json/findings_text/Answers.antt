@@ -7,4 +7,4 @@ use Rattle.audit_json.proofs.json.findings_text.Goals as goal
 pub json_line-requires : goal.json_line-requires
 json_line-requires c =
     ap has_float c.in_ok-findings_json.ensures
-    ∙ findings_whole c.args.file.now (map finding_value c.args.findings.now)
+    ∙ findings_whole c.args.file.now c.args.old.now (map finding_value c.args.findings.now)

@@ -1,4 +1,4 @@
-use Rattle.std.proofs.Common.{filter, map}
+use Rattle.std.proofs.Common.{[], filter, map}
 use Rattle.printable_text.proofs.PartLemmas.{written_printable}
 use Rattle.robots_warnings.specs.Table.{all_causes}
 use Rattle.audit_core.specs.Request.{shown_name}
@@ -13,10 +13,10 @@ use Rattle.robots_audit.proofs.laws.no_other_report_steers_a_terminal.Goals as g
 pub returns : goal.returns
 returns c = record {
   expected = λ format name text file answer is.
-      rw (is.listed.report, is.of.found_are) (listed_printable failure format name is.report
+      rw (is.listed.report, is.of.found_are) (listed_printable failure format name [] is.report
       (filter fails is.of.checked) (expect_printable name text file is.report is.found is.of));
   compared = λ requested older_name older newer_name newer answer is.
-      rw is.listed.report (listed_printable found_in requested.format (shown_name requested.file) _
+      rw is.listed.report (listed_printable found_in requested.format (shown_name requested.file) _ _
       (all_differences is.comparison) (written_printable (report_lines is.comparison)));
   list = written_printable (map list_line all_causes);
   explained = explanation_printable;
