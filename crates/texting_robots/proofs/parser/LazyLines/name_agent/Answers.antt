@@ -1,4 +1,4 @@
-use Rattle.std.proofs.Common.{◌∙◌, ◌||◌, List, ℕ, map, sym, ap, arith}
+use Rattle.std.proofs.Common.{◌∙◌, ◌||◌, map, sym, ap, arith}
 use Rattle.std.proofs.lemmas.{Bool.Decides.nat_tests, List.nil_from_length}
 use Rattle.std.specs.{List.list_any, Str.str_to_ascii_lowercase}
 use Rattle.texting_robots.specs.{Group.is_agent_named}
