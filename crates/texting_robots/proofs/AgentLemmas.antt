@@ -1,6 +1,6 @@
 -- Pairs of adjacent bytes show where no user-agent line can begin, so that the code may skip those bytes.
-use Rattle.std.proofs.Common.{◌≡◌, ◌⊎◌, ℕ, zero, suc, ◌+◌, ◌<◌, Bool, true, false, List, [], ◌∷◌, length, map}
-use Rattle.std.proofs.Common.{take, drop, sym, refl, ap, ◌∙◌, arith, Some, ◌==◌, ◌||◌, inl, inr}
+use Rattle.std.proofs.Common.{◌≡◌, ◌⊎◌, ℕ, zero, suc, ◌+◌, ◌<◌, ◌≤◌, Bool, true, false, List, [], ◌∷◌, length, map}
+use Rattle.std.proofs.Common.{slice_index, take, drop, sym, refl, ap, ◌∙◌, arith, Some, ◌==◌, ◌||◌, inl, inr}
 use Rattle.std.specs.{List.list_any, Char.to_ascii_lowercase}
 use Rattle.std.proofs.lemmas.{Grind.common_steps, Bool.cases_Bool, Bool.eqb-true, Bool.ne_eqb}
 use Rattle.texting_robots.specs.Cut.{Pair, cr, lf}
@@ -132,6 +132,15 @@ pub later_lines : (name : List ℕ) (n : Bool) (rest : List ℕ) → 0 < length 
     list_any (is_agent_named name) (lines_of (read_as n (drop (end_len (read_as n after)) after)))
     ≡ is_named_later name n rest)
 later_lines name n rest some = rw (next_body n rest some) refl
+
+-- a first line that begins as no user-agent line does names no crawler
+pub other_first : (name : List ℕ) (n : Bool) (text : List ℕ) → 1 ≤ length text
+    → may_begin (slice_index text 0) ≡ false
+    → is_named_later name n text ≡ list_any (is_agent_named name) (lines_of (read_as n text))
+other_first name n [] some other = absurd (omega (arith, some))
+other_first name n (b ∷ text) some other = sym (first_or_later name n (b ∷ text) (omega arith)
+    ∙ ap (λ first. first || is_named_later name n (b ∷ text))
+    (names_none name _ (front_other (body_len (read_as n (b ∷ text))) b text other)))
 
 pub advances : (n : Bool) (rest : List ℕ) → 0 < length rest
     → (let k = body_len (read_as n rest) in 0 < k + end_len (read_as n (drop k rest)))

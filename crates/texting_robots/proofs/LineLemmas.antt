@@ -1,9 +1,10 @@
 -- The computed lines are those of the text, and their values are ranges of it.
-use Rattle.std.proofs.Common.{◌≡◌, ◌⊎◌, ℕ, false, inl, inr, List, [], ◌∷◌, ◌++◌, map, sym, refl, ap, ◌∙◌, ◌≢◌}
-use Rattle.std.proofs.Common.{append_assoc, append-nil, Option, Some, None, ◌==◌, arith, subst, ◌↔◌}
-use Rattle.std.specs.{List.AllZip}
+use Rattle.std.proofs.Common.{◌≡◌, ◌⊎◌, ℕ, false, true, inl, inr, List, [], ◌∷◌, ◌++◌, map, sym, refl, ap, ◌∙◌, ◌≢◌}
+use Rattle.std.proofs.Common.{bytes_eq, append_assoc, append-nil, Option, Some, None, ◌==◌, arith, subst, ◌↔◌}
+use Rattle.std.specs.{List.AllZip, Str.str_to_ascii_lowercase}
 use Rattle.std.proofs.lemmas.Bool.{cases_Bool, cond-true, cond-false, ne_eqb, Decides.eqb_tells}
 use Rattle.texting_robots.specs.{declared.parser.statement.Kind.Kind, Cut.Pair, Cut.lf, Group.is_agent}
+use Rattle.texting_robots.specs.{Group.is_agent_named}
 use Rattle.texting_robots.specs.{Delay.IsDelay, Internal.Delay.delay_of, Internal.Statement.colon}
 use Rattle.texting_robots.specs.Executable.{file_bodies, file_lines, parsed}
 use Rattle.texting_robots.specs.Internal.Cut.{bodies_of, cut}
@@ -11,7 +12,7 @@ use Rattle.texting_robots.specs.Statement.{IsAfterBlanks, IsAfterColon, IsStatem
 use Rattle.texting_robots.specs.Internal.Statement.{kind_by, skip_blanks, statement_of, tail_as, value_of}
 use Rattle.texting_robots.specs.Line.{AreFileBodiesOf, AreLinesOf, HoldRangesOf, HoldsRangeOf, IsLineOf, Raw}
 use Rattle.texting_robots.specs.Line.{IsLineWith, IsRangeOf, LineValue, CrawlDelay, Sitemap, UserAgent}
-use Rattle.texting_robots.specs.Line.{delay_in, is_sitemap, nul_as_lf, without, without_front}
+use Rattle.texting_robots.specs.Line.{delay_in, is_raw, is_sitemap, nul_as_lf, without, without_front}
 use Rattle.texting_robots.specs.Internal.Line.{delay_or_raw, line_by, line_of, line_with}
 use Rattle.texting_robots.proofs.DelayLemmas.{delay_of_is, is_delay_of}
 use Rattle.texting_robots.proofs.CutLemmas.{is_cut, only_cut}
@@ -122,6 +123,19 @@ module _ (body text : List ℕ) (is : text ≡ skip_blanks body) where
   unfolding line_of statement_of
   line_read kind tail by found = rw (← is, by, found) refl
 
+  pub no_agent_tail : kind_by text ≡ Some kind.UserAgent → tail_as kind.UserAgent text ≡ None
+      → is_agent (line_of body) ≡ false
+  no_agent_tail by none = rw (line_without_tail _ by none) refl
+
+  pub agent_tail : (tail : List ℕ) → kind_by text ≡ Some kind.UserAgent
+      → tail_as kind.UserAgent text ≡ Some tail → is_agent (line_of body) ≡ true
+  agent_tail tail by found = rw (line_read _ tail by found) refl
+
+  pub agent_value : (tail name : List ℕ) → kind_by text ≡ Some kind.UserAgent
+      → tail_as kind.UserAgent text ≡ Some tail
+      → is_agent_named name (line_of body) ≡ bytes_eq (str_to_ascii_lowercase (value_of tail)) name
+  agent_value tail name by found = rw (line_read _ tail by found) refl
+
 -- the directive of a user-agent line, a sitemap or a delay
 abbrev kind_in : LineValue → Option Kind
 kind_in (UserAgent value) = Some kind.UserAgent
@@ -157,11 +171,24 @@ kind_is body = at (kind_by (skip_blanks body)) refl
     at None none = rw (line_without_kind body _ refl none) (inr refl)
     at (Some k) by = keyed k (tail_as k (skip_blanks body)) by refl
 
+pub agent_or_raw : (body : List ℕ) → kind_by (skip_blanks body) ≡ Some kind.UserAgent
+    → (is_agent (line_of body) ≡ true) ⊎ (is_raw (line_of body) ≡ true)
+agent_or_raw body by = at (tail_as kind.UserAgent (skip_blanks body)) refl
+  where
+    at : (tail : Option (List ℕ)) → tail_as kind.UserAgent (skip_blanks body) ≡ tail
+        → (is_agent (line_of body) ≡ true) ⊎ (is_raw (line_of body) ≡ true)
+    at None none = rw (line_without_tail body _ refl _ by none) (inr refl)
+    at (Some tail) is = rw (line_read body _ refl _ tail by is) (inl refl)
+
 pub agent_or_other : (found : Option Kind) (line : LineValue) → IsKindOf found line
     → (found ≡ Some kind.UserAgent) ⊎ (is_agent line ≡ false)
 agent_or_other found (UserAgent value) (inl same) = inl (sym same)
 agent_or_other found (UserAgent value) (inr none) = cc
 agent_or_other found _ is = inr refl
+
+pub other_line : (body : List ℕ) → ¬ (kind_by (skip_blanks body) ≡ Some kind.UserAgent)
+    → is_agent (line_of body) ≡ false
+other_line body other = elim (agent_or_other _ _ (kind_is body)) [ inl is ↦ absurd (other is) | inr none ↦ none ]
 
 pub delay_or_other : (found : Option Kind) (line : LineValue) → IsKindOf found line
     → (found ≡ Some kind.CrawlDelay) ⊎ (delay_in line ≡ None)

@@ -1,13 +1,14 @@
 -- What the loops of the code preserve.
-use Rattle.std.proofs.Common.{◌≡◌, ℕ, Bool, true, false, not, cond, List, [], ◌∷◌, ◌++◌, Option, Some, None}
+use Rattle.std.proofs.Common.{◌≡◌, ◌⊎◌, ℕ, Bool, true, false, not, cond, List, [], ◌∷◌, ◌++◌, Option, Some, None}
 use Rattle.std.proofs.Common.{length, append_assoc, length-append, subst, sym, refl, ap, ◌∙◌, arith, inl, inr}
 use Rattle.std.proofs.{Common.slice_get, lemmas.Bool.cases_Bool, lemmas.List.Elements.All-push}
 use Rattle.std.specs.List.{All, Any, before_first, cons_option, filter_map, last_or, list_any}
 use Rattle.std.specs.Option.{option_to_list, option_or, IfSome, IsSomeAnd}
 use Rattle.std.proofs.lemmas.List.{append-nil, get_or-map, get_or_at, length-map, Sums.take_while-cons}
-use Rattle.texting_robots.specs.{declared.error.Error.Error, Executable.sitemap_in, Pattern.IsOverlong}
-use Rattle.texting_robots.specs.{Error.IsMemoryErrorOr, Group.is_agent, Internal.Group.placed}
-use Rattle.texting_robots.specs.Line.{LineValue, Sitemap, delay_in, is_sitemap}
+use Rattle.texting_robots.specs.{declared.error.Error.Error, Executable.rule_in, Executable.sitemap_in}
+use Rattle.texting_robots.specs.{Error.IsMemoryErrorOr, Group.is_agent, Group.is_group, Internal.Group.placed}
+use Rattle.texting_robots.specs.Line.{LineValue, Raw, Sitemap, UserAgent, delay_in, is_raw, is_sitemap}
+use Rattle.texting_robots.specs.{Pattern.IsOverlong}
 use Rattle.texting_robots.specs.Rules.{IsFirstOverlong, PlacedRule, Rule, unplaced}
 use Rattle.texting_robots.specs.Internal.Robot.{IsRejectionOf, rejection_at}
 use Rattle.texting_robots.proofs.{BestLemmas.placed_of}
@@ -16,6 +17,14 @@ use Rattle.texting_robots.specs.declared.error.Error.TheVariants as mine
 pub no_sitemap : (line : LineValue) → is_sitemap line ≡ false → sitemap_in line ≡ None
 no_sitemap (Sitemap value) isnt = cc
 no_sitemap _ isnt = refl
+
+-- a user-agent line gives nothing, and neither does a line that isn't a directive
+pub nothing_in : (line : LineValue) → (is_agent line ≡ true) ⊎ (is_raw line ≡ true)
+    → (rule_in line ≡ None) × (sitemap_in line ≡ None) × (delay_in line ≡ None) × (is_group line ≡ false)
+nothing_in (UserAgent value) is = (refl, refl, refl, refl)
+nothing_in (Raw body) is = (refl, refl, refl, refl)
+nothing_in _ (inl is) = cc
+nothing_in _ (inr is) = cc
 
 pub rejected_wider : (P Q : Type 0) (e : Error) → (P → Q) → IsMemoryErrorOr P e → IsMemoryErrorOr Q e
 rejected_wider P Q mine.InvalidRule wider is = wider is

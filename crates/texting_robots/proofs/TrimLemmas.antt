@@ -1,10 +1,11 @@
 -- `trimmed` computes the trim of a raw value, and the trim is unique.
 use Rattle.std.proofs.Common.{◌≡◌, ℕ, zero, suc, ◌+◌, ◌≤◌, ◌<◌, ◌-◌, Bool, true, false, cond, inl, inr, List}
 use Rattle.std.proofs.Common.{[], ◌∷◌, ◌++◌, length, take, drop, sym, refl, ap, ap₂, subst, ◌∙◌, append_assoc}
-use Rattle.std.proofs.Common.{append-nil, arith, IsTrue, Option, Some, None, length-append, slice_get, get_or}
+use Rattle.std.proofs.Common.{◌==◌, not, append-nil, arith, bytes_eq, IsTrue, Option, Some, None, length-append, slice_get, get_or}
 use Rattle.std.proofs.Math.{Seq.drop-nil, Utf8.scalars}
-use Rattle.std.specs.{List.AllByRecursion as Each, Str.IsUtf8, Str.encode_utf8_all}
-use Rattle.std.specs.Char.{is_ascii_graphic, is_whitespace, encode_utf8}
+use Rattle.std.specs.{List.AllByRecursion as Each, List.prefix_len, Str.str_to_ascii_lowercase}
+use Rattle.std.specs.{Str.IsUtf8, Str.encode_utf8_all}
+use Rattle.std.specs.Char.{is_ascii_graphic, is_whitespace, encode_utf8, eq_ignore_ascii_case}
 use Rattle.std.proofs.lemmas.Bool.{and_parts, cases_Bool, cond-true, cond-false, Decides.nat_tests}
 use Rattle.std.proofs.lemmas.{List.append_cancel_right, Option.slice_get-get_or}
 use Rattle.std.proofs.lemmas.List.{drop_all, drop_at, drop-append-le, drop-drop, length-drop, length-take}
@@ -18,6 +19,7 @@ use Rattle.bstr.proofs.lemmas.{EncodeLemmas.decoded-encode, SoundLemmas.SpellsCh
 use Rattle.bstr.proofs.lemmas.{TrimLemmas.kept_end-snoc}
 use lib.Utf8.{low_scalar, scalar}
 use Rattle.texting_robots.specs.{Trim.IsSpaces, Trim.IsTrimOf, Statement.IsBlank, Internal.Statement.trimmed}
+use Rattle.texting_robots.specs.Internal.Statement.{hash, region_of, value_of}
 
 abbrev first_char : List ℕ → ℕ
 first_char bytes = or_replacement (decoded bytes).char
@@ -342,3 +344,27 @@ graphic_ends (b ∷ rest) first last here there first_is last_is =
     let n : length (b ∷ rest) - 1 ≡ length rest = omega arith in
     let same = slice_get-get_or (b ∷ rest) (length rest) 0 (omega arith) in
     graphic_trim b rest (cc) (cc)
+
+-- if the first byte of a tail is visible and starts no comment, the value is empty or begins with it
+pub other_value : (tail name : List ℕ) (first letter : ℕ) → Some first ≡ slice_get tail 0
+    → Some letter ≡ slice_get name 0 → (first == hash) ≡ false → is_ascii_graphic first ≡ true
+    → eq_ignore_ascii_case first letter ≡ false
+    → bytes_eq (str_to_ascii_lowercase (value_of tail)) (str_to_ascii_lowercase name) ≡ false
+other_value [] name first letter here there plain is other = cc
+other_value tail [] first letter here there plain is other = cc
+other_value (b ∷ tail) (x ∷ name) first letter here there unlike visible differs =
+    let plain : (b == hash) ≡ false = cc in
+    let is : is_ascii_graphic b ≡ true = cc in
+    let other : eq_ignore_ascii_case b x ≡ false = cc in
+    let len = prefix_len (λ byte. not (byte == hash)) tail in
+    let one : 1 + len ≡ suc len = omega arith in
+    let region : region_of (b ∷ tail) ≡ b ∷ region_of tail = rw plain (ap (λ k. take k (b ∷ tail)) one) in
+    let value = ap trimmed region ∙ ap (trim_end_by is_whitespace) (graphic_first b (region_of tail) is) in
+    ap (λ v. bytes_eq (str_to_ascii_lowercase v) (str_to_ascii_lowercase (x ∷ name))) value
+    ∙ short other (kept_end is_whitespace 0 (spans_from 0 (pieces (b ∷ region_of tail))))
+  where
+    short : eq_ignore_ascii_case b x ≡ false → (k : ℕ)
+        → bytes_eq (str_to_ascii_lowercase (take k (b ∷ region_of tail))) (str_to_ascii_lowercase (x ∷ name))
+        ≡ false
+    short other zero = refl
+    short other (suc k) = rw other refl

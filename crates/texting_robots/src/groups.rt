@@ -1,7 +1,7 @@
 //! Which lines apply to a crawler. A group line is an Allow, a Disallow or a Crawl-delay; it is captured if
 //! it applies to the crawler. A first pass finds the group name. A tracker that reads the lines in order then
 //! finds the captured ones.
-ghost use Rattle.std.specs.Prelude.{◌≡◌, not, false};
+ghost use Rattle.std.specs.Prelude.{◌≡◌, ◌||◌, not, false};
 ghost use Rattle.std.specs.{Str.str_to_ascii_lowercase};
 ghost use Rattle.texting_robots.specs.{Group.group_name, Labels.is_named, Line.by_value};
 ghost use Rattle.texting_robots.specs.{Executable.delay_before_agents};
@@ -81,15 +81,20 @@ impl GroupTracker {
         }
     }
 
+    /// Reads a user-agent line, which may have the group name.
+    pub(crate) fn step_agent(&mut self, is_named: bool)
+        ensures { let named = is_named || self.old.named in self.new ≡ record { captured = named; named = named } }
+    {
+        self.named = self.named || is_named;
+        self.captured = self.named;
+    }
+
     #[tactic(auto, using(crate::proofs::NameLemmas::tested_names))]
     pub(crate) fn step(&mut self, name: &[u8], line: Line<'_>)
         ensures { self.new ≡ step (str_to_ascii_lowercase name.now) self.old (by_value line.entry) }
     {
         match line {
-            Line::UserAgent(value) => {
-                self.named = self.named || value.eq_ignore_ascii_case(name);
-                self.captured = self.named;
-            }
+            Line::UserAgent(value) => self.step_agent(value.eq_ignore_ascii_case(name)),
             Line::Allow(_) | Line::Disallow(_) | Line::CrawlDelay(_) => self.named = false,
             _ => {}
         }

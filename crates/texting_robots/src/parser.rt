@@ -1,13 +1,13 @@
 //! The lines of a robots.txt file. The content of a line is its bytes without the line terminator.
 ghost use Rattle.std.specs.Prelude.{◌≡◌, ◌⊎◌, ◌<◌, ◌≤◌, ◌++◌, ◌∷◌, IfErr, IfOk, None, Some, false, length, ℕ};
-ghost use Rattle.std.specs.Prelude.{map, option_map, List};
+ghost use Rattle.std.specs.Prelude.{MatchOption, map, option_map, true, List};
 ghost use Rattle.std.specs.Iterator.{YieldsFirst, YieldsFirstBy, item_count};
 ghost use Rattle.std.specs.{List.AllZip, Str.str_to_ascii_lowercase};
 ghost use Rattle.texting_robots.specs.Executable.{file_bodies, file_lines, parsed};
 ghost use Rattle.texting_robots.specs.Internal.{Cut.bodies_of, Cut.read_as, Line.line_of, Line.line_with};
 ghost use Rattle.texting_robots.specs.{Group.is_agent, Group.is_agent_named, Group.is_group, Labels.is_named};
 ghost use Rattle.texting_robots.specs.Line.{AreFileBodiesOf, AreFileLinesOf, AreLinesOf, HoldRangesOf};
-ghost use Rattle.texting_robots.specs.Line.{IsLineOf, by_value, delay_in, is_sitemap, nul_as_lf, value_in};
+ghost use Rattle.texting_robots.specs.Line.{IsLineOf, by_value, delay_in, is_raw, is_sitemap, nul_as_lf, value_in};
 ghost use Rattle.texting_robots.specs.Line.{without_front};
 
 mod agents;
@@ -16,12 +16,12 @@ mod delay;
 mod statement;
 
 use crate::error::Error;
-use agents::after_others;
+use agents::without_others;
 pub(crate) use cut::empty_lines;
 use cut::{after_end, body_len};
 pub use delay::read_delay;
 pub use statement::{Kind, field_names};
-use statement::{kind_by, skip_blanks, tail_as, value_of};
+use statement::{kind_by, skip_blanks, tail_as, value_is, value_of};
 use std::alloc::{AllocError, Global};
 use std::marker::Model;
 
@@ -109,20 +109,32 @@ impl<'a> LazyLine<'a> {
         ensures agent { (result ≡ Some Kind.UserAgent) ⊎ (is_agent self.now ≡ false) }
         ensures delay { (result ≡ Some Kind.CrawlDelay) ⊎ (delay_in self.now ≡ None) }
         ensures sitemap { (result ≡ Some Kind.Sitemap) ⊎ (is_sitemap self.now ≡ false) }
+        ensures raw { result ≡ Some Kind.UserAgent → (is_agent self.now ≡ true) ⊎ (is_raw self.now ≡ true) }
     {
         self.kind
     }
 
-    #[tactic(auto, using(crate::proofs::AgentLemmas::no_agent, crate::proofs::NameLemmas::tested_names))]
+    /// If it is a user-agent line: whether it names the crawler.
+    #[tactic(auto, using(crate::proofs::LineLemmas::no_agent_tail, crate::proofs::LineLemmas::other_line))]
+    #[inline(always)]
+    pub(crate) fn naming(&self, agent: &[u8]) -> Option<bool>
+        ensures { MatchOption result (is_agent self.now ≡ false) (λ named. (is_agent self.now ≡ true)
+            × (named ≡ is_agent_named (str_to_ascii_lowercase agent.now) self.now)) }
+    {
+        match self.kind {
+            Some(Kind::UserAgent) => Some(value_is(tail_as(Kind::UserAgent, self.text)?, agent)),
+            _ => None,
+        }
+    }
+
+    #[tactic(auto, using(crate::proofs::AgentLemmas::no_agent))]
+    #[inline(always)]
     fn names(&self, agent: &[u8]) -> bool
         ensures { result ≡ is_agent_named (str_to_ascii_lowercase agent.now) self.now }
     {
-        match self.kind() {
-            Some(Kind::UserAgent) => match self.read() {
-                Line::UserAgent(name) => name.eq_ignore_ascii_case(agent),
-                _ => false,
-            },
-            _ => false,
+        match self.naming(agent) {
+            Some(is_named) => is_named,
+            None => false,
         }
     }
 
@@ -210,11 +222,11 @@ impl<'a> LazyLines<'a> {
         let nul_ends = self.bodies.nul_ends;
         let mut rest = self.bodies.rest;
         while !rest.is_empty() {
-            let (body, _) = rest.split_at(body_len(rest, nul_ends));
+            let (body, after) = split_line(rest, nul_ends);
             if LazyLine::new(body).names(agent) {
                 return true;
             }
-            rest = after_others(rest, nul_ends);
+            rest = without_others(after, nul_ends);
         }
         false
     }

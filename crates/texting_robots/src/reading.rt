@@ -136,7 +136,7 @@ impl RobotBuilder {
 
     /// It allocates only for a rule or a sitemap. If group lines don't apply here, only lines that may be
     /// user-agent lines or sitemaps are parsed.
-    #[tactic(auto, using(crate::proofs::RulesLemmas::no_sitemap))]
+    #[tactic(auto, using(crate::proofs::RulesLemmas::no_sitemap, crate::proofs::RulesLemmas::nothing_in))]
     pub(crate) fn take(
         &mut self,
         alloc: Global,
@@ -159,8 +159,14 @@ impl RobotBuilder {
         ensures without_memory { if_captured self.old.tracker (placed number (rule_in line.now)) ≡ None
             → sitemap_in line.now ≡ None → IsOk result }
     {
+        if matches!(line.kind(), Some(Kind::UserAgent)) {
+            if let Some(is_named) = line.naming(name) {
+                self.tracker.step_agent(is_named);
+            }
+            return Ok(());
+        }
         let of_group = self.tracker.captured || self.tracker.named;
-        if !of_group && !matches!(line.kind(), Some(Kind::UserAgent | Kind::Sitemap)) {
+        if !of_group && !matches!(line.kind(), Some(Kind::Sitemap)) {
             return Ok(());
         }
         let line = line.read();

@@ -1,5 +1,5 @@
 //! Skips lines that can't be user-agent lines, many bytes at a time and without cutting them.
-ghost use Rattle.std.specs.Prelude.{◌≡◌, ℕ, ◌+◌, ◌<◌, List, length, true};
+ghost use Rattle.std.specs.Prelude.{◌≡◌, ℕ, ◌+◌, ◌<◌, ◌≤◌, List, length, true};
 ghost use Rattle.std.specs.{List.list_any};
 ghost use Rattle.texting_robots.specs.{Group.is_agent_named, Internal.Cut.read_as, Internal.Line.lines_of};
 ghost use Rattle.texting_robots.specs.Internal.Agents.{NoneBegins, is_named_later, may_begin, may_end};
@@ -35,7 +35,7 @@ fn none_begins(text: &[u8]) -> bool
 }
 
 /// The lines after the first one, from which some leading lines that can't be user-agent lines may be missing.
-pub(crate) fn after_others<'a>(text: &'a [u8], nul_ends: bool) -> &'a [u8]
+fn after_others<'a>(text: &'a [u8], nul_ends: bool) -> &'a [u8]
     requires { 0 < length text.now }
     ensures shorter { length result.now < length text.now }
     ensures named { (name : List ℕ) → list_any (is_agent_named name) (lines_of (read_as nul_ends result.now))
@@ -48,4 +48,17 @@ pub(crate) fn after_others<'a>(text: &'a [u8], nul_ends: bool) -> &'a [u8]
     // the rest may begin within a line that isn't a user-agent line; skip to the next line
     let (_, after) = rest.split_at(body_len(rest, nul_ends));
     after_end(after, nul_ends)
+}
+
+/// The lines, from which some leading lines that can't be user-agent lines may be missing.
+#[inline(always)]
+pub(crate) fn without_others<'a>(text: &'a [u8], nul_ends: bool) -> &'a [u8]
+    ensures shorter { length result.now ≤ length text.now }
+    ensures named { (name : List ℕ) → list_any (is_agent_named name) (lines_of (read_as nul_ends result.now))
+        ≡ list_any (is_agent_named name) (lines_of (read_as nul_ends text.now)) }
+{
+    match text {
+        [first, ..] if !may_begin(*first) => after_others(text, nul_ends),
+        _ => text,
+    }
 }

@@ -1,6 +1,6 @@
 //! Directives. A directive consists of a field name, a separator, and a tail, which is a raw value and
 //! possibly a comment.
-ghost use Rattle.std.specs.Prelude.{◌≡◌, ◌==◌, IfSome, MatchOption, Some, None, map, true, false, drop, length};
+ghost use Rattle.std.specs.Prelude.{◌≡◌, ◌==◌, bytes_eq, IfSome, MatchOption, Some, None, map, true, false, drop, length};
 ghost use Rattle.std.specs.List.{list_any};
 ghost use Rattle.std.specs.Str.{str_to_ascii_lowercase};
 ghost use Rattle.texting_robots.specs.Statement.{field_names};
@@ -230,4 +230,19 @@ pub(crate) fn value_of<'a>(tail: &'a [u8]) -> &'a [u8]
     ensures { result.now ≡ value_of tail.now }
 {
     trimmed(region_of(tail))
+}
+
+/// Whether the value in a tail is the name, ASCII letters in any case. Most values begin with another visible byte than
+/// the name, and aren't cut out then.
+#[tactic(auto, using(crate::proofs::NameLemmas::tested_names))]
+#[inline(always)]
+pub(crate) fn value_is(tail: &[u8], name: &[u8]) -> bool
+    ensures { result ≡ bytes_eq (str_to_ascii_lowercase (value_of tail.now)) (str_to_ascii_lowercase name.now) }
+{
+    if let (Some(first), Some(letter)) = (tail.first(), name.first()) {
+        if *first != b'#' && first.is_ascii_graphic() && !first.eq_ignore_ascii_case(letter) {
+            return false;
+        }
+    }
+    value_of(tail).eq_ignore_ascii_case(name)
 }
