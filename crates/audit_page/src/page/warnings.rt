@@ -6,7 +6,7 @@ ghost use Rattle.printable_text.specs.Text.{Nothing, value_text};
 ghost use Rattle.audit_core.specs.Counts.{count_parts};
 ghost use Rattle.audit_page.specs.Page.{level_front, line_name, later_warnings, of_cause, rest_count, rest_note, warning_entry, warning_item};
 ghost use Rattle.audit_page.specs.Page.{count_words, warning_list, warning_place, warning_row, warning_words, without_row};
-ghost use Rattle.audit_page.specs.Tree.{all, message, words_written, written};
+ghost use Rattle.audit_page.specs.Tree.{all, words_written, written};
 
 use crate::page::parts::{KnownRow, Page, push, push_start_with};
 use crate::page::pieces::{line_link, some_rest};
