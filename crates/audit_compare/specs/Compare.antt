@@ -161,7 +161,7 @@ found_in difference = record {
 abbrev pub finding_of : Difference → FindingValue
 finding_of difference = found_value (found_in difference)
 
--- most differences are notes; a line of the text alone has no name
+-- most differences are notes
 abbrev pub note : (name : List ℕ) → is_fixed name ≡ true → ReportLine → Difference
 note name is text = record {
   level = Note;
@@ -315,7 +315,7 @@ rejection is_new audit = rejection_of is_new audit.agent audit.rejected
 -- that no rule was removed or added, if that is so
 abbrev pub same_rules : List ℕ → (has_same : Bool) → List Difference
 same_rules agent has_same =
-    if has_same then note [] refl
+    if has_same then note (codes "same-rules") refl
     (about agent (only (codes ": same rules, so no URL's verdict differs") refl ∷ [])) ∷ []
     else []
 
@@ -358,7 +358,7 @@ unchanged_line crawlers = several_line (list_all is_unchanged crawlers)
 -- the same, if there are some
 abbrev pub unchanged : List ComparedValue → List Difference
 unchanged crawlers =
-    if list_any is_unchanged crawlers then note [] refl (unchanged_line crawlers) ∷ []
+    if list_any is_unchanged crawlers then note (codes "unchanged") refl (unchanged_line crawlers) ∷ []
     else []
 
 abbrev pub sitemap_change : (is_added : Bool) → List ℕ → Difference

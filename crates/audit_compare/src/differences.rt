@@ -293,7 +293,7 @@ fn add_same_rules(
     }
     let what = Part(": same rules, so no URL's verdict differs", Value::Nothing);
     let parts = [crawler(agent), what];
-    add(alloc, found, Level::Note, None, "", &parts)
+    add(alloc, found, Level::Note, None, "same-rules", &parts)
 }
 
 /// What a line about one of the files begins with.

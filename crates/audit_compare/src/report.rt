@@ -70,7 +70,7 @@ fn add_unchanged(
         return Ok(());
     }
     let parts = [unchanged_subject(crawlers), UNCHANGED];
-    add(alloc, found, Level::Note, None, "", &parts)
+    add(alloc, found, Level::Note, None, "unchanged", &parts)
 }
 
 /// Adds a sitemap that was added, or one that was removed.
