@@ -170,8 +170,7 @@ fn listed(
     Ok(Answer { report, outcome })
 }
 
-/// Compares two files for the crawlers and URLs of the request, and writes the report. A file that is rejected for a
-/// crawler isn't an error: the outcome says so.
+/// Compares two files for the crawlers and URLs of the request, and writes the report.
 ///
 /// # Errors
 ///
