@@ -139,8 +139,8 @@ fn compared_for<'a>(
     compare(alloc, &request.agents, &request.urls, older, newer)
 }
 
-/// The answer in this format to a report as text and findings in the file with this name. An empty name means
-/// that there is no old file.
+/// The answer in this format to a report as text and findings in the file with this name; an empty `old` is no
+/// file.
 fn listed(
     alloc: Global,
     format: Format,
