@@ -1,5 +1,4 @@
--- Two versions of a robots.txt file compared: for each crawler the group, the delay and the rules that
--- differ, and the URLs with another verdict or another deciding rule; and the sitemaps that only one lists.
+-- Two versions of a robots.txt file compared.
 use Rattle.std.specs.Prelude.{◌≡◌, ℕ, ◌==◌, Bool, true, false, not, ◌&&◌, ◌||◌, List, [], ◌∷◌, ◌++◌, Option}
 use Rattle.std.specs.Prelude.{Some, None, bytes_eq, codes, filter, flat_map, if◌then◌else◌, is_some, length}
 use Rattle.std.specs.Prelude.{map, nat_eq, refl}

@@ -1,5 +1,6 @@
 //! The URLs in the file of `--urls`, one per line, and those in arguments.
 ghost use Rattle.std.specs.Prelude.{◌≡◌, ◌==◌, ◌++◌, IfErr, IfOk, None, Ok, OnOk, false, length, map};
+ghost use Rattle.robots_warnings.specs.Rules.{somewhere};
 ghost use Rattle.audit_core.specs.Request.{requested_by};
 ghost use Rattle.audit_core.specs.declared.fault.Entry.TheVariants as entry;
 ghost use Rattle.audit_expect.specs.Expect.{IsEntryFault, IsLineFault, entries_at, entries_of, lines, malformed_at};
@@ -42,14 +43,28 @@ fn begins_next_url(text: &[u8]) -> bool
     }
 }
 
+/// Whether the text has such white space.
+fn has_space(text: &[u8]) -> bool
+    ensures { result ≡ somewhere begins_space text.now }
+{
+    somewhere(text, begins_space)
+}
+
+/// Whether the text has such a comma.
+fn has_next_url(text: &[u8]) -> bool
+    ensures { result ≡ somewhere begins_next_url text.now }
+{
+    somewhere(text, begins_next_url)
+}
+
 fn url_flaw(alloc: Global, url: &[u8]) -> Result<Option<Flaw>, AllocError>
     ensures { IfOk result (λ flaw. flaw ≡ url_flaw url.now) }
 {
     if has(b'<', url) || has(b'>', url) {
         Ok(Some(Flaw::Tag))
-    } else if somewhere(url, begins_space) {
+    } else if has_space(url) {
         Ok(Some(Flaw::Space))
-    } else if somewhere(url, begins_next_url) {
+    } else if has_next_url(url) {
         Ok(Some(Flaw::Comma))
     } else if is_path_or_url(alloc, url)? {
         Ok(None)

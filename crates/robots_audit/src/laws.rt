@@ -1,5 +1,4 @@
-//! Theorems about what the program writes, each written as the contract of an empty function. Those about a
-//! single format, or about comparisons alone, are in the crates that write these.
+//! Theorems about what the program writes, each written as the contract of an empty function.
 ghost use Rattle.std.specs.Prelude.{Bool, codes, false, length, List, map, ℕ, string_bytes, ◌≡◌};
 ghost use Rattle.std.specs.{List.AllByRecursion as Each};
 ghost use Rattle.clap.specs.{declared.parser.matches.ArgMatches.ArgMatches};

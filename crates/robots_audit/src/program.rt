@@ -130,8 +130,8 @@ fn compared_for<'a>(
     compare(alloc, &request.agents, &request.urls, older, newer)
 }
 
-/// The answer in this format to a report as text and findings in the file with this name. An empty name means
-/// that there is no old file.
+/// The answer in this format to a report as text and findings in the file with this name; an empty `old` is no
+/// file.
 fn listed(
     alloc: Global,
     format: Format,
@@ -161,8 +161,7 @@ fn listed(
     Ok(Answer { report, outcome })
 }
 
-/// Compares two files for the crawlers and URLs of the request, and writes the report. A file that is
-/// rejected for a crawler isn't an error: the outcome says so.
+/// Compares two files for the crawlers and URLs of the request, and writes the report.
 ///
 /// # Errors
 ///
