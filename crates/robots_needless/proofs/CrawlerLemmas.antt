@@ -1,7 +1,8 @@
 -- Crawlers with the same rules.
-use Rattle.std.specs.Prelude.{if◌then◌else◌}
+use Rattle.std.proofs.lemmas.Grind.{common_steps}
 use Rattle.std.proofs.Common.{◌≡◌, inl, inr, List, ℕ, ap, codes, false, refl, sym, ◌≢◌, ◌<◌, ◌≤◌, ◌∙◌, zero}
-use Rattle.std.proofs.Common.{suc, true, [], ◌∷◌, ◌++◌, Contains, IsAscii, IsUtf8, ap₂, subst, arith, get_or}
+use Rattle.std.proofs.Common.{[]}
+use Rattle.std.proofs.Common.{suc, true, ◌∷◌, ◌++◌, Contains, IsAscii, IsUtf8, ap₂, subst, arith, get_or}
 use Rattle.std.proofs.Common.{bytes_eq, encode_utf8, encode_utf8_all, filter_map, length, map, None, Option}
 use Rattle.std.proofs.Common.{Some, append-nil}
 use Rattle.std.specs.List.{filter_map, list_any, cons_option}
@@ -9,7 +10,6 @@ use Rattle.std.specs.Str.{str_to_ascii_lowercase, is_utf8}
 use Rattle.std.proofs.lemmas.Bool.{cases_Bool, and_parts, cases_lt, false≢true, or_cases}
 use Rattle.texting_robots.specs.{Group.group_name, Group.is_agent_named, Line.LineValue}
 use Rattle.texting_robots.specs.Callers.{is_named, placed_rules, LineValue, UserAgent}
-use Rattle.texting_robots.specs.Executable.{captured_lines, placed_in}
 use lib.Utf8.{scalar as is_scalar, scalars}
 use Rattle.std.specs.Char.{to_ascii_lowercase}
 use Rattle.std.proofs.lemmas.List.{map-append, Elements.Contains-push_cases, Folds.Any-from_list_any}
@@ -22,42 +22,25 @@ use Rattle.robots_needless.proofs.TogetherLemmas.{in_cons, to_filter}
 rules_of_group : (agent other : List ℕ) (lines : List LineValue)
     → group_name agent lines ≡ group_name other lines
     → placed_rules agent lines ≡ placed_rules other lines
-rules_of_group agent other lines same = ap (λ name. filter_map placed_in (captured_lines name lines)) same
+rules_of_group agent other lines same = grind arith
 
 star_is_star : (lines : List LineValue) → group_name (codes "*") lines ≡ codes "*"
-star_is_star lines = elim (cases_Bool (list_any (is_agent_named (codes "*")) lines)) [
-  | inl is ↦ rw is refl
-  | inr isnt ↦ rw isnt refl
-]
+star_is_star lines = grind arith
 
 pub rules_of_star : (agent : List ℕ) (lines : List LineValue) → is_named agent lines ≡ false
     → placed_rules agent lines ≡ placed_rules (codes "*") lines
-rules_of_star agent lines isnt =
-    let same : group_name agent lines ≡ group_name (codes "*") lines = rw isnt (sym (star_is_star lines)) in
-    rules_of_group agent (codes "*") lines same
+rules_of_star agent lines isnt = grind (arith, star_is_star, rules_of_group)
 
 pub rules_in_any_case : (agent other : List ℕ) (lines : List LineValue)
     → str_to_ascii_lowercase agent ≡ str_to_ascii_lowercase other
     → placed_rules agent lines ≡ placed_rules other lines
-rules_in_any_case agent other lines same =
-    rules_of_group agent other lines
-    (ap (λ (lowered : List ℕ). if list_any (is_agent_named lowered) lines then lowered else codes "*") same)
+rules_in_any_case agent other lines same = grind (arith, rules_of_group)
 
 low_byte : (a b : ℕ) → to_ascii_lowercase a ≡ to_ascii_lowercase b → b < 128 → a < 128
-low_byte a b same low = elim (cases_lt a 128) [
-  | inl less ↦ less
-  | inr high ↦
-      let stays = (lowercase_is a).2 (omega arith) in
-      let less = lowercase_ascii b low in absurd (omega (arith, same, stays, less))
-]
+low_byte a b same low = grind (arith, lowercase_is, lowercase_ascii)
 
 high_byte : (a b : ℕ) → to_ascii_lowercase a ≡ to_ascii_lowercase b → 128 ≤ b → a ≡ b
-high_byte a b same high =
-    let stays = (lowercase_is b).2 (omega arith) in
-    elim (cases_lt a 128) [
-      | inl low ↦ let less = lowercase_ascii a low in absurd (omega (arith, same, stays, less))
-      | inr other ↦ sym ((lowercase_is a).2 (omega arith)) ∙ same ∙ stays
-    ]
+high_byte a b same high = grind (arith, lowercase_is, lowercase_ascii)
 
 high_bytes : (one other : List ℕ) → map to_ascii_lowercase one ≡ map to_ascii_lowercase other
     → ((k : ℕ) → k < length other → 128 ≤ get_or other k 0) → one ≡ other
@@ -76,11 +59,7 @@ ascii_byte b less (suc k) = omega arith
 
 one_ascii : (one : List ℕ) (c : ℕ) → c < 128 → map to_ascii_lowercase one ≡ to_ascii_lowercase c ∷ []
     → IsUtf8 one
-one_ascii [] c low same = cc
-one_ascii (b ∷ []) c low same =
-    let first : to_ascii_lowercase b ≡ to_ascii_lowercase c = cc in
-    IsUtf8-from_ascii (b ∷ []) (ascii_byte b (low_byte b c first low))
-one_ascii (b ∷ d ∷ one) c low same = cc
+one_ascii one c low same = grind (arith, common_steps, IsUtf8-from_ascii, ascii_byte, low_byte)
 
 one_char : (one : List ℕ) (c : ℕ) → is_scalar c ≡ true
     → map to_ascii_lowercase one ≡ map to_ascii_lowercase (encode_utf8 c) → IsUtf8 one
@@ -121,11 +100,10 @@ lowered_utf8 (c ∷ chars) one valid same =
 
 utf8_in_any_case : (name agent : List ℕ) → IsUtf8 agent
     → str_to_ascii_lowercase name ≡ str_to_ascii_lowercase agent → IsUtf8 name
-utf8_in_any_case name agent (chars, (valid, is)) same =
-    lowered_utf8 chars name valid (same ∙ ap (map to_ascii_lowercase) (sym is))
+utf8_in_any_case name agent (chars, (valid, is)) same = grind (arith, lowered_utf8)
 
 same_name : (one other : List ℕ) → bytes_eq one other ≡ false → one ≢ other
-same_name one other differ same = false≢true (sym differ ∙ (bytes_eq-Decides one other).1 same)
+same_name one other differ same = grind (arith, bytes_eq-Decides)
 
 -- one of these names, in letters of some case, which is among them once
 each_once_has : (lowered : List ℕ) (earlier names : List (List ℕ)) (name : List ℕ)

@@ -1,6 +1,6 @@
 -- The lines of what is left of a file are those that stay, but for some empty ones: a line end without LF and
 -- an empty line with LF after it become one line end.
-use Rattle.std.proofs.Common.{◌≡◌, ◌≢◌, inl, inr, ℕ, zero, suc, ◌+◌, Bool, not, List, [], ◌∷◌, ◌++◌, All, ap}
+use Rattle.std.proofs.Common.{◌≡◌, ◌≢◌, inl, inr, ℕ, zero, suc, ◌+◌, Bool, not, List, ◌∷◌, ◌++◌, All, ap, []}
 use Rattle.std.proofs.Common.{sym, refl, ◌∙◌, append_assoc, append-nil, filter, map, replicate, ◌⊎◌, ◌==◌}
 use Rattle.std.proofs.Common.{arith}
 use Rattle.std.specs.{List.AllByRecursion as Each}
@@ -22,10 +22,7 @@ meant bodies = filter (λ (line : LineValue). not (is_raw line)) (map line_of bo
 
 meant_next : (first : List ℕ) (bodies others : List (List ℕ)) → meant bodies ≡ meant others
     → meant (first ∷ bodies) ≡ meant (first ∷ others)
-meant_next first bodies others same = elim (cases_Bool (is_raw (line_of first))) [
-  | inl raw ↦ rw raw same
-  | inr other ↦ rw other (ap (λ lines. line_of first ∷ lines) same)
-]
+meant_next first bodies others same = grind arith
 
 empty_line : line_of [] ≡ Raw []
 unfolding line_of statement_of
@@ -52,33 +49,28 @@ one_return rest =
     record { later = later; bodies = step cr rest ∙ is; same = same }
 
 more_return : (text rest : List ℕ) → IsEnded text rest → IsEnded (cr ∷ text) rest
-more_return text rest is = record {
-  later = is.later;
-  bodies = step cr text ∙ ap body_return is.bodies;
-  same = is.same;
-}
+more_return text rest is = grind (arith, step, body_return)
 
 returns_end : (k : ℕ) (rest : List ℕ) → IsEnded (replicate (suc k) cr ++ rest) rest
 returns_end zero rest = one_return rest
-returns_end (suc k) rest = more_return (replicate (suc k) cr ++ rest) rest (returns_end k rest)
+returns_end (suc k) rest = grind (arith, more_return, returns_end k rest)
 
 feed_end : (k : ℕ) (rest : List ℕ) → IsEnded ((replicate k cr ++ lf ∷ []) ++ rest) rest
 feed_end zero rest = record { later = bodies_of rest; bodies = step lf rest; same = refl }
 feed_end (suc k) rest = more_return ((replicate k cr ++ lf ∷ []) ++ rest) rest (feed_end k rest)
 
 at_body : (b : ℕ) (bodies : List (List ℕ)) → IsBodyByte b → body_step b bodies ≡ body_byte b bodies
-at_body b bodies other = rw (ne_eqb b lf other.1, ne_eqb b cr other.0) refl
+at_body b bodies other = grind (arith, ne_eqb)
 
 body_first : (bytes text : List ℕ) (later : List (List ℕ)) → Each IsBodyByte bytes
     → bodies_of text ≡ [] ∷ later → bodies_of (bytes ++ text) ≡ bytes ∷ later
 body_first [] text later all is = is
 body_first (b ∷ bytes) text later all is =
-    step b (bytes ++ text) ∙ at_body b _ all.0 ∙ ap (body_byte b) (body_first bytes text later all.1 is)
+    grind (arith, step, at_body, body_byte, body_first bytes text later all.1 is)
 
 body_last : (b : ℕ) (bytes : List ℕ) → Each IsBodyByte (b ∷ bytes) → bodies_of (b ∷ bytes) ≡ (b ∷ bytes) ∷ []
-body_last b [] all = step b [] ∙ at_body b _ all.0 ∙ ap (λ pairs. body_byte b (map pair_body pairs)) cut_nil
-body_last b (c ∷ bytes) all =
-    step b (c ∷ bytes) ∙ at_body b _ all.0 ∙ ap (body_byte b) (body_last c bytes all.1)
+body_last b [] all = grind (arith, step, at_body, body_byte, cut_nil)
+body_last b (c ∷ bytes) all = grind (arith, step, at_body, body_byte, body_last c bytes all.1)
 
 pub record IsPair (pair : Pair) (later : List Pair) : Type 0 where
   pub body : Each IsBodyByte pair.body
@@ -111,21 +103,7 @@ cut_pairs (pair ∷ later) text is = (
 pub pairs_left : (gone : ℕ → Bool) (position : ℕ) (pairs : List Pair) → ArePairs pairs
     → ArePairs (left_from gone position pairs)
 pairs_left gone position [] are = tt
-pairs_left gone position (pair ∷ later) (is, are) =
-    let left = pairs_left gone (position + 1) later are in
-    elim (cases_Bool (gone (position + 1))) [
-      | inl goes ↦ rw goes left
-      | inr stays ↦ rw stays (
-        record {
-          body = is.body;
-          ending = is.ending;
-          last = λ none.
-              let (no_more, some) = is.last none in
-              (ap (left_from gone (position + 1)) no_more, some);
-        },
-        left,
-      )
-    ]
+pairs_left gone position (pair ∷ later) (is, are) = grind (arith, pairs_left gone (position + 1) later are)
 
 first_pair : (bytes ending rest : List ℕ) (later : List (List ℕ)) → Each IsBodyByte bytes → IsLineEnd ending
     → (ending ≡ [] → (rest ≡ []) × (bytes ≢ [])) → meant (bodies_of rest) ≡ meant later
@@ -154,12 +132,8 @@ first_pair bytes ending rest later all end last same none = at bytes ending all 
 
 pub meant_joined : (pairs : List Pair) → ArePairs pairs
     → meant (bodies_of (joined pairs)) ≡ meant (map pair_body pairs)
-meant_joined [] are = ap (λ pairs. meant (map pair_body pairs)) cut_nil
-meant_joined (pair ∷ later) (is, are) =
-    first_pair pair.body pair.ending (joined later) (map pair_body later) is.body is.ending
-    (λ none. let (no_more, some) = is.last none in (ap joined no_more, some))
-    (meant_joined later are)
-    (λ none. ap (map pair_body) (is.last none).0)
+meant_joined [] are = grind (arith, cut_nil)
+meant_joined (pair ∷ later) (is, are) = grind (arith, first_pair, meant_joined later are)
 
 abbrev pub IsTaken : ℕ → List ℕ → Type 0
 IsTaken byte taken = (taken ≡ []) ⊎ (taken ≡ byte ∷ [])
@@ -177,13 +151,11 @@ IsNotFirst byte text = without byte text ≡ text
 
 taken_off : (byte : ℕ) (front text : List ℕ) → IsTaken byte front → IsNotFirst byte text
     → without byte (front ++ text) ≡ text
-taken_off byte front text (inl none) isnt = rw none isnt
-taken_off byte front text (inr one) isnt = rw (one, (Decides-eqb byte byte).1 refl) refl
+taken_off byte front text taken isnt = grind (arith, Decides-eqb)
 
 other_first : (byte other : ℕ) (front text : List ℕ) → other ≢ byte → IsTaken other front
     → IsNotFirst byte text → IsNotFirst byte (front ++ text)
-other_first byte other front text differs (inl none) isnt = rw none isnt
-other_first byte other front text differs (inr one) isnt = rw (one, ne_eqb other byte differs) refl
+other_first byte other front text differs taken isnt = grind (arith, ne_eqb)
 
 -- no byte of the byte order mark is the first
 pub record IsUnmarked (text : List ℕ) : Type 0 where
@@ -232,28 +204,10 @@ mark_of file mark (inr is) =
 
 read_taken : (byte : ℕ) (front : List ℕ) → nul_as_lf byte ≡ byte → IsTaken byte front
     → map nul_as_lf front ≡ front
-read_taken byte front same (inl none) = rw none refl
-read_taken byte front same (inr one) = rw one (ap (λ b. b ∷ []) same)
+read_taken byte front same taken = grind arith
 
 pub mark_read : (mark : List ℕ) → IsMark mark → map nul_as_lf mark ≡ mark
-mark_read mark is =
-    rw is.whole (map-append nul_as_lf is.one (is.two ++ is.three)
-    ∙ ap (λ t. map nul_as_lf is.one ++ t) (map-append nul_as_lf is.two is.three)
-    ∙ rw (
-      read_taken 0xEF is.one refl is.is_one,
-      read_taken 0xBB is.two refl is.is_two,
-      read_taken 0xBF is.three refl is.is_three,
-    ) refl)
+mark_read mark is = grind (arith, map-append, read_taken)
 
 pub mark_off : (mark text : List ℕ) → IsMark mark → IsUnmarked text → without_front (mark ++ text) ≡ text
-mark_off mark text is isnt =
-    let rest = is.three ++ text in
-    let last = other_first 0xEF 0xBF is.three text (λ e. omega arith) is.is_three isnt.first in
-    let first = other_first 0xEF 0xBB is.two rest (λ e. omega arith) is.is_two last in
-    let second = other_first 0xBB 0xBF is.three text (λ e. omega arith) is.is_three isnt.second in
-    let moved : mark ++ text ≡ is.one ++ (is.two ++ rest) =
-    ap (λ m. m ++ text) is.whole ∙ simp append_assoc in
-    ap without_front moved
-    ∙ ap (λ t. without 0xBF (without 0xBB t)) (taken_off 0xEF is.one (is.two ++ rest) is.is_one first)
-    ∙ ap (without 0xBF) (taken_off 0xBB is.two rest is.is_two second)
-    ∙ taken_off 0xBF is.three text is.is_three isnt.third
+mark_off mark text is isnt = grind (arith, other_first, append_assoc, taken_off)

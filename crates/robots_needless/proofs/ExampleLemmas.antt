@@ -1,4 +1,5 @@
 -- The worked examples.
+use mathlib.Core.Logic.Iff
 use Rattle.std.proofs.Common.{◌≡◌, ◌≢◌, ◌<◌, ◌↔◌, ◌⊎◌, inl, inr, ℕ, zero, suc, Bool, true, false, List, []}
 use Rattle.std.proofs.Common.{◌∷◌, Contains, codes, get_or, refl, arith}
 use Rattle.std.proofs.lemmas.Bool.{false≢true}
@@ -9,7 +10,7 @@ use Rattle.robots_needless.specs.Examples.{allow_at, deny_at, twice}
 use Rattle.robots_needless.specs.Internal.{fresh, generic}
 use Rattle.robots_needless.proofs.SettledLemmas.{covers_by, escaped_below, heads_apart}
 use Rattle.robots_needless.proofs.RemovalLemmas.{AreWith, can_go}
-use Rattle.robots_needless.proofs.TogetherLemmas.{both_ways, verdicts}
+use Rattle.robots_needless.proofs.TogetherLemmas.{verdicts}
 use Rattle.robots_needless.specs.Examples as example
 
 -- of two equal rules, one can go
@@ -44,7 +45,7 @@ one_of_two = (
 )
 
 pub two_of_three : example.two_of_three
-two_of_three = λ text answer. both_ways (again ((codes "/a", false) ∷ []) text answer) (again [] text answer)
+two_of_three = grind (arith, again)
 
 pub between : example.between
 between = λ needless.
@@ -65,8 +66,7 @@ covering = (
 slash_same : (k : ℕ) → k < 1
     → (get_or (generic (codes "/a*")) k 0 ≡ get_or (generic (codes "/b*")) k 0)
     × (get_or (generic (codes "/a*")) k 0 ≢ fresh)
-slash_same zero less = (refl, λ same. omega arith)
-slash_same (suc k) less = absurd (omega arith)
+slash_same k less = grind arith
 
 pub apart : example.apart
 apart = (

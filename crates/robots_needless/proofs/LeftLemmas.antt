@@ -1,9 +1,11 @@
 -- If the found lines are deleted from a file, each crawler's robot stays the same.
+use mathlib.Core.Logic.Iff
 use Rattle.std.proofs.Common.{◌≡◌, ◌≢◌, ◌≤◌, ◌↔◌, inl, inr, ℕ, zero, suc, ◌+◌, ◌==◌, ◌||◌, Bool, false, not}
-use Rattle.std.proofs.Common.{List, [], ◌∷◌, ◌++◌, Any, IsUtf8, ap, ap₂, sym, refl, subst, ◌∙◌, arith, filter}
+use Rattle.std.proofs.Common.{[]}
+use Rattle.std.proofs.Common.{List, ◌∷◌, ◌++◌, Any, IsUtf8, ap, ap₂, sym, refl, subst, ◌∙◌, arith, filter}
 use Rattle.std.proofs.Common.{length, length-append, map}
 use Rattle.std.specs.{List.concat}
-use Rattle.std.proofs.lemmas.{Bool.cases_Bool, Bool.or_parts, List.map-append}
+use Rattle.std.proofs.lemmas.{Bool.or_parts, List.map-append}
 use Rattle.texting_robots.specs.Callers.{HasLines, IsOverlong, IsRejected, IsRobotOf, IsVerdict, LineValue}
 use Rattle.texting_robots.specs.Callers.{PlacedRule, RobotValue, Rule, file_bodies, file_lines, nul_as_lf}
 use Rattle.texting_robots.specs.Callers.{placed_rules, rules_for, unplaced}
@@ -22,7 +24,7 @@ use Rattle.robots_needless.specs.Needless.{AreNeedless, lines_without, numbers_o
 use Rattle.robots_needless.proofs.DeletedLemmas.{ArePairs, cut_pairs, meant, meant_joined, pair_body, mark_of}
 use Rattle.robots_needless.proofs.DeletedLemmas.{pairs_left, IsUnmarked, mark_off, mark_read}
 use Rattle.robots_needless.proofs.CrawlerLemmas.{split_read, star_or_named}
-use Rattle.robots_needless.proofs.TogetherLemmas.{both_ways, unplaced_of, in_filter}
+use Rattle.robots_needless.proofs.TogetherLemmas.{unplaced_of, in_filter}
 use Rattle.robots_needless.proofs.BlockLemmas.{among, left_are}
 
 unmarked : (pairs : List Pair) → ArePairs pairs → begin_with_mark (map pair_body pairs) ≡ false
@@ -45,22 +47,18 @@ unmarked (pair ∷ later) (is, are) none = at pair.body pair.ending is.ending is
 map_left : {A B : Type 0} (f : A → B) (gone : ℕ → Bool) (position : ℕ) (lines : List A)
     → map f (left_from gone position lines) ≡ left_from gone position (map f lines)
 map_left f gone position [] = refl
-map_left f gone position (line ∷ lines) = elim (cases_Bool (gone (position + 1))) [
-  | inl goes ↦ rw goes (map_left f gone (position + 1) lines)
-  | inr stays ↦ rw stays (ap (λ ls. f line ∷ ls) (map_left f gone (position + 1) lines))
-]
+map_left f gone position (line ∷ lines) = grind (arith, map_left f gone (position + 1) lines)
 
 map_concat : (f : ℕ → ℕ) (texts : List (List ℕ)) → map f (concat texts) ≡ concat (map (map f) texts)
 map_concat f [] = refl
-map_concat f (text ∷ texts) =
-    map-append f text (concat texts) ∙ ap (λ t. map f text ++ t) (map_concat f texts)
+map_concat f (text ∷ texts) = grind (arith, map-append, map_concat f texts)
 
 abbrev bytes_of : Pair → List ℕ
 bytes_of pair = pair.body ++ pair.ending
 
 joined_bytes : (pairs : List Pair) → concat (map bytes_of pairs) ≡ joined pairs
 joined_bytes [] = refl
-joined_bytes (pair ∷ later) = ap (λ t. bytes_of pair ++ t) (joined_bytes later)
+joined_bytes (pair ∷ later) = grind (arith, joined_bytes later)
 
 module _ (numbers file left : List ℕ) (is : IsLeftOf numbers file left)
     (front : begin_with_mark (lines_without numbers (file_bodies file)) ≡ false) where
@@ -71,7 +69,7 @@ module _ (numbers file left : List ℕ) (is : IsLeftOf numbers file left)
   kept = left_from gone 0 is.lines.pairs
 
   kept_pairs : ArePairs kept
-  kept_pairs = pairs_left gone 0 is.lines.pairs (cut_pairs is.lines.pairs _ is.lines.is_cut)
+  kept_pairs = grind (arith, pairs_left, cut_pairs)
 
   bodies_kept : lines_without numbers (file_bodies file) ≡ map pair_body kept
   bodies_kept =
@@ -89,13 +87,7 @@ module _ (numbers file left : List ℕ) (is : IsLeftOf numbers file left)
 
   without_mark : without_front (map nul_as_lf left) ≡ joined kept
   without_mark =
-      let mark = mark_of file is.mark is.front in
-      let rest = concat (lines_without numbers is.whole) in
-      let read : map nul_as_lf (is.mark ++ rest) ≡ is.mark ++ joined kept =
-      map-append nul_as_lf is.mark rest ∙ rw (mark_read is.mark mark, text_left) refl in
-      ap (λ text. without_front (map nul_as_lf text)) is.rest ∙ ap without_front read
-      ∙ mark_off is.mark (joined kept) mark
-      (unmarked kept kept_pairs (sym (ap begin_with_mark bodies_kept) ∙ front))
+      grind (arith, mark_of, map-append, mark_read, text_left, mark_off, unmarked, kept_pairs, bodies_kept)
 
   -- the lines that aren't ignored are the same
   same_lines : filter (λ (line : LineValue). not (is_raw line)) (file_lines left)
@@ -134,17 +126,7 @@ concat_within : (gone : ℕ → Bool) (position : ℕ) (lines : List (List ℕ))
     → length (concat (left_from gone position lines)) ≤ length (concat lines)
 concat_within gone position [] = omega arith
 concat_within gone position (line ∷ lines) =
-    let less = concat_within gone (position + 1) lines in
-    let all = length-append line (concat lines) in
-    elim (cases_Bool (gone (position + 1))) [
-      | inl goes ↦ rw goes (omega (arith, less, all))
-      | inr stays ↦ rw stays (omega (
-        arith,
-        less,
-        all,
-        length-append line (concat (left_from gone (position + 1) lines)),
-      ))
-    ]
+    grind (arith, length-append, concat_within gone (position + 1) lines)
 
 pub left_within : (numbers file left : List ℕ) → IsLeftOf numbers file left → length left ≤ length file
 left_within numbers file left is =
@@ -205,7 +187,7 @@ module _ (file left : List ℕ) (found : List NeedlessRule) (are : AreFoundIn fi
       → IsVerdict (rules_for agent lines) text answer
       ↔ IsVerdict (rules_for agent (file_lines left)) text answer
   verdicts_stay text answer =
-      both_ways (rw (are.lines.deleted agent) (needless text answer))
+      Iff.trans (rw (are.lines.deleted agent) (needless text answer))
       ((same_as_less.0.verdict text answer).1, (same_as_less.0.verdict text answer).0)
 
   accepted : ¬ IsRejected agent lines
@@ -228,7 +210,7 @@ module _ (file left : List ℕ) (found : List NeedlessRule) (are : AreFoundIn fi
     verdicts = λ text answer.
         let first = (answers_computed agent lines one.rules is_one.rules).verdicts text answer in
         let second = (answers_computed agent _ two.rules is_two.rules).verdicts text answer in
-        both_ways first (both_ways (verdicts_stay text answer) (second.1, second.0));
+        Iff.trans first (Iff.trans (verdicts_stay text answer) (second.1, second.0));
   }
 
   pub same_robot : HaveSameRobot agent file left

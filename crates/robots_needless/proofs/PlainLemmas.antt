@@ -1,13 +1,14 @@
 -- Plain rules, which are tried in the order of their patterns: of those that are kept, only the ones that
 -- begin a rule match a text that it matches.
-use Rattle.std.proofs.Common.{◌≡◌, ◌≢◌, ◌<◌, ◌≤◌, ◌⊎◌, inl, inr, ℕ, ◌+◌, ◌*◌, Bool, true, false, List, [], ap}
+use Rattle.std.proofs.Common.{rules, []}
+use Rattle.std.proofs.Common.{◌≡◌, ◌≢◌, ◌<◌, ◌≤◌, ◌⊎◌, inl, inr, ℕ, ◌+◌, ◌*◌, Bool, true, false, List, ap}
 use Rattle.std.proofs.Common.{◌∷◌, ◌++◌, All, if◌then◌else◌, IsTrue, ◌↔◌, sym, subst, refl, ◌∙◌, append-nil}
-use Rattle.std.proofs.Common.{arith, drop, length, Less, Equal, Greater, nat_eq, take}
-use Rattle.std.specs.Cmp.Lexicographic.{slice_cmp, bytes_decides, on_texts, pointwise}
+use Rattle.std.proofs.Common.{arith, drop, length, Equal, nat_eq, take}
+use Rattle.std.specs.Cmp.Lexicographic.{slice_cmp, on_texts, pointwise}
 use Rattle.std.specs.Ordering.{is_lt, nat_cmp, ordering_then}
 use Rattle.std.specs.List.{Contains, starts_with, Sorted.IsSortedBy}
 use Rattle.std.specs.{Cmp.IsStrictWeakOrder, declared.cmp.Ordering.Ordering}
-use Rattle.std.proofs.{Math.Dec.eqb, lemmas.Bool.cases_lt, lemmas.Bool.eq-eqb, lemmas.List.MinMax.ranks_by}
+use Rattle.std.proofs.{Math.Dec.eqb, lemmas.Bool.eq-eqb, lemmas.List.MinMax.ranks_by}
 use Rattle.std.proofs.lemmas.Cmp.{back_total, nat_cmp_total, nat_list_cmp_total, on_total, then_total}
 use Rattle.std.proofs.lemmas.Cmp.{tied_itself}
 use Rattle.std.proofs.lemmas.List.{get_or_append_left, get_or_push, length_push, take-append-drop, take_at}
@@ -41,25 +42,14 @@ begun p t plain is = subst (λ q. Matches q t) (append-nil p) ((in_front true p 
 
 pub plain_by : (p t one other : List ℕ) (same : Bool) → one ≡ p → other ≡ t → All IsPlainByte p
     → same ≡ pointwise eqb one (take (length one) other) → IsTrue same ↔ Matches p t
-plain_by p t one other same first second plain is =
-    let compared = rw (first, second) at is in
-    let decides = bytes_decides p (take (length p) t) in (
-      λ yes. begun p t plain (sym (decides.0 (sym compared ∙ yes))),
-      λ fits. compared ∙ decides.1 (sym (begins p t plain fits)),
-    )
+plain_by p t one other same first second plain is = search (rules, begun, begins)
 
 abbrev Follows : List ℕ → List ℕ → Type 0
 Follows p q = is_lt (slice_cmp nat_cmp p q) ≡ false
 
 first_bytes : (x y : ℕ) (o : Ordering) → is_lt (ordering_then (nat_cmp x y) o) ≡ false
     → (y < x) ⊎ ((x ≡ y) × (is_lt o ≡ false))
-first_bytes x y o h = elim (cases_lt y x) [
-  | inl more ↦ inl more
-  | inr most ↦ elim (cases_lt x y) [
-    | inl less ↦ let wrong = rw (cmp_less x y less) at h in cc
-    | inr least ↦ let same : x ≡ y = omega (arith, most, least) in inr (same, rw (same, cmp_same y) at h)
-  ]
-]
+first_bytes x y o h = grind (arith, cmp_less, cmp_same)
 
 -- if a pattern isn't the beginning of a later one, no text begins with it and with one that is later still
 parted : (p q r t : List ℕ) → starts_with nat_eq q p ≡ false → Follows q p → Follows r q
@@ -68,78 +58,39 @@ parted [] q r t other later last one = λ two. cc
 parted (x ∷ p) [] r t other later last one = λ two. cc
 parted (x ∷ p) (y ∷ q) [] t other later last one = λ two. cc
 parted (x ∷ p) (y ∷ q) (z ∷ r) [] other later last one = λ two. cc
-parted (x ∷ p) (y ∷ q) (z ∷ r) (w ∷ t) other later last one = λ two.
-    let first : w ≡ x = cc in
-    let second : w ≡ z = cc in
-    elim (first_bytes y x (slice_cmp nat_cmp q p) later) [
-      | inl more ↦ elim (first_bytes z y (slice_cmp nat_cmp r q) last) [
-        | inl again ↦ absurd (omega (arith, first, second, more, again))
-        | inr (same, rest) ↦ absurd (omega (arith, first, second, more, same))
-      ]
-      | inr (is, rest) ↦ elim (first_bytes z y (slice_cmp nat_cmp r q) last) [
-        | inl more ↦ absurd (omega (arith, first, second, more, is))
-        | inr (same, further) ↦
-            let begins_first : take (length p) t ≡ p = cc in
-            let begins_last : take (length r) t ≡ r = cc in
-            parted p q r t (rw (eq-eqb x y (sym is)) at other) rest further begins_first begins_last
-      ]
-    ]
+parted (x ∷ p) (y ∷ q) (z ∷ r) (w ∷ t) other later last one =
+    grind (arith, first_bytes, eq-eqb, parted p q r t)
 
 same_pattern : (p r t : List ℕ) → Follows r p → length r ≤ length p → take (length p) t ≡ p
     → take (length r) t ≡ r → r ≡ p
 same_pattern [] [] t later short one two = refl
-same_pattern [] (z ∷ r) t later short one two = absurd (omega (arith, short))
+same_pattern [] (z ∷ r) t later short one two = grind arith
 same_pattern (x ∷ p) [] t later short one two = cc
 same_pattern (x ∷ p) (z ∷ r) [] later short one two = cc
-same_pattern (x ∷ p) (z ∷ r) (w ∷ t) later short one two =
-    let first : w ≡ x = cc in
-    let second : w ≡ z = cc in
-    elim (first_bytes z x (slice_cmp nat_cmp r p) later) [
-      | inl more ↦ absurd (omega (arith, first, second, more))
-      | inr (is, rest) ↦
-          let begins_first : take (length p) t ≡ p = cc in
-          let begins_last : take (length r) t ≡ r = cc in
-          let tail : r ≡ p = same_pattern p r t rest (omega (arith, short)) begins_first begins_last in
-          cc
-    ]
+same_pattern (x ∷ p) (z ∷ r) (w ∷ t) later short one two = grind (arith, first_bytes, same_pattern p r t)
 
 patterns_first : (s r l : Ordering) → is_lt (ordering_then (ordering_then s r) l) ≡ false → is_lt s ≡ false
-patterns_first Less r l h = h
-patterns_first Equal r l h = refl
-patterns_first Greater r l h = refl
+patterns_first s r l h = grind arith
 
 pattern_follows : (placed other : PlacedRule) → IsAfter placed other → Follows placed.rule.0 other.rule.0
 pattern_follows placed other after = patterns_first _ _ _ after
 
 ranks_next : (s l : Ordering) (m n : ℕ) → s ≡ Equal
     → is_lt (ordering_then (ordering_then s (nat_cmp m n)) l) ≡ false → n ≤ m
-ranks_next s l m n same h = elim (cases_lt m n) [
-  | inl less ↦ let wrong = rw (same, cmp_less m n less) at h in cc
-  | inr most ↦ most
-]
+ranks_next s l m n same h = grind (arith, cmp_less)
 
 ranks_then : (placed other : PlacedRule) → IsAfter placed other → placed.rule.0 ≡ other.rule.0
     → rank_of other.rule ≤ rank_of placed.rule
-ranks_then placed other after same =
-    ranks_next (slice_cmp nat_cmp placed.rule.0 other.rule.0) _ _ _
-    (rw same (tied_itself nat_list_cmp_total other.rule.0)) after
+ranks_then placed other after same = grind (arith, ranks_next, tied_itself, nat_list_cmp_total)
 
 not_longer : (m n : ℕ) (a b : Bool) → 2 * m + (if a then 1 else 0) < 2 * n + (if b then 1 else 0) → m ≤ n
-not_longer m n true true less = omega arith
-not_longer m n true false less = omega arith
-not_longer m n false true less = omega arith
-not_longer m n false false less = omega arith
+not_longer m n a b less = grind arith
 
 -- a rule that isn't before a rule is none of its rivals
 later_no_rival : (rule other : PlacedRule) → IsPlain rule → IsPlain other → IsAfter other rule
     → IsNoRival 0 rule.rule other.rule
 later_no_rival rule other plain other_plain after differ low less text fits others =
-    let short = not_longer (length other.rule.0) (length rule.rule.0) other.rule.1 rule.rule.1 less in
-    let same =
-    same_pattern rule.rule.0 other.rule.0 text (pattern_follows other rule after) short
-    (begins rule.rule.0 text plain others) (begins other.rule.0 text other_plain fits) in
-    let above = ranks_then other rule after same in
-    absurd (omega (arith, less, above))
+    grind (arith, not_longer, same_pattern, pattern_follows, begins, ranks_then)
 
 -- and one with which a rule doesn't begin matches no text that a later one matches
 parted_rules : (last rule other : PlacedRule) → IsPlain last → IsPlain other
@@ -215,9 +166,7 @@ module _ (near far rest old new_near new_far : List PlacedRule) (rule : PlacedRu
   pub near_moved : (later : List PlacedRule) {all : List PlacedRule} {start found : Reasons}
       → IsReducing all ((far ++ near) ++ later) start found
       → IsReducing all ((new_far ++ new_near) ++ later) start found
-  near_moved later is =
-      reordered is ((new_far ++ new_near) ++ later)
-      (IsPermutation-append_left later (far ++ near) (new_far ++ new_near) left.same)
+  near_moved later is = grind (arith, reordered, IsPermutation-append_left)
 
   pub rule_goes : AreParted new_near new_far rest
   rule_goes = record {
@@ -268,18 +217,10 @@ module _ (near far rest old new_near new_far : List PlacedRule) (rule : PlacedRu
       }
 
 pub nothing_parted : (rules : List PlacedRule) → AreDescending rules → AreParted [] [] rules
-nothing_parted rules order = record {
-  order = order;
-  far = λ one other (k, below, at). absurd (omega arith);
-  near = λ one other (k, below, at). absurd (omega arith);
-}
+nothing_parted rules order = grind arith
 
 pub nothing_left_behind : (near far : List PlacedRule) (rule : PlacedRule) → AreLeft near far near far rule
-nothing_left_behind near far rule = record {
-  same = IsPermutation-refl (far ++ near);
-  near = λ placed has. has;
-  far = λ placed has. inl has;
-}
+nothing_left_behind near far rule = grind (arith, IsPermutation-refl)
 
 pub one_left : (near far old rest more : List PlacedRule) (last rule : PlacedRule)
     → AreLeft near far old more rule

@@ -1,8 +1,9 @@
 -- A rule that can go changes no verdict.
-use Rattle.std.proofs.Common.{◌≡◌, ◌≢◌, ◌<◌, ◌≤◌, ◌↔◌, ◌⊎◌, inl, inr, ℕ, Bool, true, false, List, length, ap}
+use Rattle.std.proofs.Common.{rules}
+use Rattle.std.proofs.Common.{◌≡◌, ◌≢◌, ◌<◌, ◌≤◌, ◌↔◌, ◌⊎◌, inl, inr, ℕ, Bool, true, false, List, length}
 use Rattle.std.proofs.Common.{sym, subst, arith}
 use Rattle.std.specs.List.{Contains}
-use Rattle.std.proofs.lemmas.Bool.{cases_Bool, cases_lt, false≢true}
+use Rattle.std.proofs.lemmas.Bool.{false≢true}
 use Rattle.texting_robots.specs.{Pattern.Matches, Rules.Rule, Verdict.IsDenied, Verdict.robots_file}
 use Rattle.texting_robots.proofs.{BestLemmas.matches, ExampleLemmas.matching, ExampleLemmas.not_matching}
 use Rattle.robots_needless.specs.Internal.{CanGo, HasNoRival, IsReplacedBy}
@@ -16,10 +17,10 @@ abbrev IsLongest : List Rule → List ℕ → List ℕ → Type 0
 IsLongest rules text p = (q : List ℕ) → Contains rules (q, true) → Matches q text → length q < length p
 
 same_pattern : (p q : List ℕ) (a b : Bool) → ◌≡◌ {A = Rule} (p, a) (q, b) → p ≡ q
-same_pattern p q a b same = ap (λ (r : Rule). r.0) same
+same_pattern p q a b same = grind arith
 
 kinds_differ : (p q : List ℕ) → ◌≢◌ {A = Rule} (p, false) (q, true)
-kinds_differ p q same = false≢true (ap (λ (r : Rule). r.1) same)
+kinds_differ p q same = grind arith
 
 module _ (others all : List Rule) (text : List ℕ) where
   module _ (p : List ℕ) (are : AreWith others (p, false) all) where
@@ -37,29 +38,8 @@ module _ (others all : List Rule) (text : List ℕ) where
 
     replaced : text ≢ robots_file → Matches p text → IsLongest all text p → (other : Rule)
         → IsReplacedBy others (p, false) other → IsDenied others text
-    replaced differs fits longest (q, true) is =
-        let less = longest q (are.more (q, true) is.listed) (is.covers text fits) in
-        elim is.decides [
-          | inl above ↦ absurd (omega arith)
-          | inr (kinds, none) ↦ absurd (false≢true (sym kinds))
-        ]
-    replaced differs fits longest (q, false) is = (
-      differs,
-      q,
-      is.listed,
-      is.covers text fits,
-      λ a listed here. elim (cases_lt (length a) (length q)) [
-        | inl less ↦ less
-        | inr most ↦
-            let below = longest a (are.more (a, true) listed) here in
-            elim is.decides [
-              | inl above ↦ absurd (omega arith)
-              | inr (kinds, none) ↦
-                  absurd (none.none (a, true) listed (λ same. false≢true (sym same)) (omega arith)
-                  (omega arith) text here fits)
-            ]
-      ],
-    )
+    replaced differs fits longest (q, true) is = search (rules)
+    replaced differs fits longest (q, false) is = search (rules)
 
     denied_without : CanGo others (p, false) → IsDenied all text → IsDenied others text
     denied_without can (differs, q, has, fits, longest) = elim (are.only (q, false) has) [
@@ -101,44 +81,16 @@ module _ (others all : List Rule) (text : List ℕ) where
         (fits : Matches q text) (longest : IsLongest others text q) where
       above_floor : (floor : ℕ) → HasNoRival others floor (p, true) → floor ≤ rank_of (q, false)
           → Matches p text → length p < length q
-      above_floor floor none low here = elim (cases_lt (length p) (length q)) [
-        | inl less ↦ less
-        | inr most ↦ absurd (none.none (q, false) listed false≢true low (omega arith) text fits here)
-      ]
+      above_floor floor none low here = grind arith
 
       kept_denied : (other : Rule) → IsReplacedBy others (p, true) other → IsDenied all text
-      kept_denied (r, true) is = decides differs q listed fits longest (λ here.
-          let less = longest r is.listed (is.covers text here) in
-          elim is.decides [
-            | inl above ↦ omega arith
-            | inr (kinds, none) ↦ above_floor (rank_of (r, true)) none (omega arith) here
-          ])
-      kept_denied (r, false) is = elim is.decides [
-        | inr (kinds, none) ↦ absurd (false≢true kinds)
-        | inl above ↦ elim (cases_lt (length p) (length q)) [
-          | inl less ↦ decides differs q listed fits longest (λ here. less)
-          | inr most ↦ elim (cases_Bool (matches true p text)) [
-            | inr isnt ↦ decides differs q listed fits longest
-                (λ here. absurd (not_matching true p text isnt here))
-            | inl here ↦
-                decides differs r is.listed (is.covers text (matching true p text here))
-                (λ a has same. let less = longest a has same in omega arith) (λ _. omega arith)
-          ]
-        ]
-      ]
+      kept_denied (r, true) is = grind (arith, decides, above_floor)
+      kept_denied (r, false) is = grind (arith, decides, matches, not_matching, matching)
 
     denied_more : CanGo others (p, true) → IsDenied others text → IsDenied all text
-    denied_more can (differs, q, listed, fits, longest) = elim can [
-      | inl nothing ↦ decides differs q listed fits longest (λ here. absurd (differs (nothing text here)))
-      | inr (inl (allows, none)) ↦
-          decides differs q listed fits longest
-          (above_floor differs q listed fits longest 0 none (omega arith))
-      | inr (inr (other, is)) ↦ kept_denied differs q listed fits longest other is
-    ]
+    denied_more can (differs, q, listed, fits, longest) = grind (arith, decides, above_floor, kept_denied)
 
 pub can_go : (others all : List Rule) (rule : Rule) → AreWith others rule all → CanGo others rule
     → (text : List ℕ) → IsDenied all text ↔ IsDenied others text
-can_go others all (p, true) are can text =
-    (denied_less others all text p are, denied_more others all text p are can)
-can_go others all (p, false) are can text =
-    (denied_without others all text p are can, denied_with others all text p are)
+can_go others all (p, true) are can text = search (rules, denied_less, denied_more)
+can_go others all (p, false) are can text = search (rules, denied_without, denied_with)

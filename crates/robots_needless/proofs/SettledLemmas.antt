@@ -1,11 +1,11 @@
 -- What is found for one crawler and for several.
-use Rattle.std.proofs.Common.{◌≡◌, ◌≢◌, ℕ, ◌==◌, inl, inr, List, [], ◌∷◌, ◌++◌, All, refl, sym, append-nil}
-use Rattle.std.proofs.Common.{◌<◌, zero, suc, ◌/◌, ◌%◌, Bool, true, false, length, get_or, subst, ◌∙◌, arith}
-use Rattle.std.proofs.Common.{nat_lt, not, ◌↔◌, ◌+◌, ap, codes, filter, map}
+use Rattle.std.proofs.Common.{◌≡◌, ◌≢◌, ℕ, ◌==◌, inl, inr, List, ◌∷◌, ◌++◌, All, refl, sym, append-nil, []}
+use Rattle.std.proofs.Common.{◌<◌, zero, suc, Bool, true, false, length, get_or, subst, ◌∙◌, arith}
+use Rattle.std.proofs.Common.{not, ◌↔◌, ◌+◌, ap, codes, filter, map}
 use Rattle.std.specs.{Bool.MatchBool, Bool.IsTrue, Fmt.digit_glyph, BTreeMap.IsOrdered, BTreeMap.keys}
 use Rattle.std.specs.{BTreeSet.BTreeSet, BTreeSet.contains, Ordering.nat_cmp, Cmp.nat_cmp_total, Bool.Decides}
-use Rattle.std.proofs.lemmas.Bool.{cases_Bool, ne_eqb, cases_lt, false≢true, lt-ltb, or_parts, not-true}
-use Rattle.std.proofs.lemmas.List.Elements.{All-head, All-tail, All-append, All-cons, All-nil, All-contains}
+use Rattle.std.proofs.lemmas.Bool.{cases_Bool, ne_eqb, false≢true, not-true}
+use Rattle.std.proofs.lemmas.List.Elements.{All-head, All-tail, All-append, All-nil, All-contains}
 use Rattle.std.proofs.lemmas.List.Elements.{Contains-append_left, All-map, Contains-push, Contains-push_cases}
 use Rattle.texting_robots.specs.Pattern.{IsSuffix, Matches, MatchesWith, dollar, star}
 use Rattle.texting_robots.specs.Escape.{escape_byte, escaped, is_escaped}
@@ -112,11 +112,11 @@ fills_match (b ∷ q) g t all m fills =
 
 pub covers_by_generic : (wide narrow : List ℕ) → All (λ b. b ≢ fresh) wide → Matches wide (generic narrow)
     → Covers wide narrow
-covers_by_generic wide narrow all m t n = fills_match wide (generic narrow) t all m (matches_fill narrow t n)
+covers_by_generic wide narrow all m t n = grind (arith, fills_match, matches_fill)
 
 pub generic_by_covers : (wide narrow : List ℕ) → Matches narrow (generic narrow) → Covers wide narrow
     → Matches wide (generic narrow)
-generic_by_covers wide narrow own covers = covers (generic narrow) own
+generic_by_covers wide narrow own covers = grind arith
 
 differ_at : (at : ℕ) (g h t : List ℕ) → at < length g → at < length h
     → ((k : ℕ) → k < at → (get_or g k 0 ≡ get_or h k 0) × (get_or g k 0 ≢ fresh))
@@ -139,9 +139,7 @@ differ_at (suc at) (a ∷ g) (b ∷ h) t in_g in_h same differ fixed other_fixed
     other_fixed m (subst (λ r. Fills h r) tails n)
 
 pub heads_apart : (p q : List ℕ) → HeadsDiffer (generic p) (generic q) → AreApart p q
-heads_apart p q is = λ text fits others.
-    differ_at is.at (generic p) (generic q) text is.in_one is.in_other is.same is.differ is.fixed
-    is.other_fixed (matches_fill p text fits) (matches_fill q text others)
+heads_apart p q is = grind (arith, differ_at, matches_fill)
 
 pub apart_by : (p q one other : List ℕ) → one ≡ generic p → other ≡ generic q → HeadsDiffer one other
     → AreApart p q
@@ -149,12 +147,10 @@ apart_by p q one other first second is = heads_apart p q (rw (first, second) at 
 
 pub covers_by : (wide narrow text : List ℕ) → All (λ b. b < fresh) wide → text ≡ generic narrow
     → Matches wide text → Covers wide narrow
-covers_by wide narrow text below is fits =
-    covers_by_generic wide narrow (λ k d within same. let less = below k d within in omega arith)
-    (rw is at fits)
+covers_by wide narrow text below is fits = grind (arith, covers_by_generic)
 
 pub nothing_by : (p text : List ℕ) → text ≡ generic p → ¬ Matches p text → MatchesNothing p
-nothing_by p text is none = λ t fits. absurd (none (rw is (matches_generic p t fits)))
+nothing_by p text is none = grind (arith, matches_generic)
 
 pub not_true : (b : Bool) → IsTrue (not b) → ¬ IsTrue b
 not_true true is too = cc
@@ -164,45 +160,23 @@ glyph_below : (n : ℕ) → n < 16 → digit_glyph true n < fresh
 glyph_below n less = grind (arith, nat_tests)
 
 plain_below : (b : ℕ) → is_escaped b ≡ false → b < fresh
-plain_below b stays = elim (cases_lt b fresh) [
-  | inl less ↦ less
-  | inr most ↦
-      let high : nat_lt 0x7E b ≡ false = (or_parts _ _ stays).1 in
-      absurd (false≢true (sym high ∙ lt-ltb 0x7E b (omega arith)))
-]
-
-three_below : (a b c : ℕ) → a < fresh → b < fresh → c < fresh → All (λ n. n < fresh) (a ∷ b ∷ c ∷ [])
-three_below a b c one two three =
-    let P : ℕ → Type 0 = λ n. n < fresh in
-    All-cons P a (b ∷ c ∷ []) one (All-cons P b (c ∷ []) two (All-cons P c [] three (All-nil P)))
+plain_below b stays = grind (arith, nat_tests)
 
 escape_below : (b : ℕ) → All (λ n. n < fresh) (escape_byte b)
-escape_below b = elim (cases_Bool (is_escaped b)) [
-  | inl escapes ↦
-      let one = glyph_below (b / 16 % 16) (omega arith) in
-      let two = glyph_below (b % 16) (omega arith) in
-      rw escapes (three_below 37 _ _ (omega arith) one two)
-  | inr stays ↦
-      let P : ℕ → Type 0 = λ n. n < fresh in
-      rw stays (All-cons P b [] (plain_below b stays) (All-nil P))
-]
+escape_below b = grind (arith, nat_tests, glyph_below, plain_below)
 
 pub escaped_below : (bytes : List ℕ) → All (λ c. c < fresh) (escaped bytes)
 escaped_below [] = All-nil (λ c. c < fresh)
-escaped_below (b ∷ bytes) =
-    All-append (λ c. c < fresh) (escape_byte b) (escaped bytes) (escape_below b) (escaped_below bytes)
+escaped_below (b ∷ bytes) = grind (arith, All-append, escape_below, escaped_below bytes)
 
 -- ---- What is found for several crawlers: rules that are needless for each of them.
 
 pub no_reasons : (lines : List LineValue) (found : Reasons) → found.entries ≡ [] → AreReasons lines found
-no_reasons lines found empty line reason at = let wrong = rw empty at at in cc
+no_reasons lines found empty line reason at = grind arith
 
 pub reasons_more : (lines : List LineValue) (old new : Reasons) → AreReasons lines old
     → Grow (IsFoundFor lines) old new → AreReasons lines new
-reasons_more lines old new before grow line reason at = elim (grow.reasons line reason at) [
-  | inl old ↦ before line reason old
-  | inr is ↦ is
-]
+reasons_more lines old new before grow line reason at = grind arith
 
 not_rejected : (agent : List ℕ) (lines : List LineValue) → AreAccepted (placed_rules agent lines)
     → ¬ IsRejected agent lines
@@ -253,8 +227,7 @@ settled_more P lines agents last old new stayed stays are grow more accepted is 
 -- `*` and the names that the file has are among the names, if `*` is
 pub among_names : (star : List ℕ) (agents : List (List ℕ)) → Contains agents star
     → (agent : List ℕ) → Contains (star ∷ agents) agent → Contains agents agent
-among_names star agents has agent (zero, below, same) = subst (Contains agents) same has
-among_names star agents has agent (suc k, below, at) = (k, omega arith, at)
+among_names star agents has agent listed = grind arith
 
 pub among_pushed : (star : List ℕ) (agents : List (List ℕ)) (agent : List ℕ) → Contains (star ∷ agents) agent
     → Contains (agents ++ star ∷ []) agent
@@ -313,7 +286,7 @@ is_key found list are n =
 
 are_keys : (found : Reasons) (list : List NeedlessRule) → list ≡ map rule_at found.entries
     → ◌≡◌ {A = ℕ → Bool} (among (numbers_of list)) (is_found found)
-are_keys found list are = λ i n. is_key found list are n i
+are_keys found list are = grind (arith, is_key)
 
 found_within : (lines : List LineValue) (one : NeedlessRule) → IsFoundFor lines one
     → (place : ℕ) × (one.line ≡ place + 1) × (place < length lines)

@@ -1,10 +1,14 @@
 -- Rules that are needless together.
-use Rattle.std.proofs.Common.{◌≡◌, ◌↔◌, inl, inr, ℕ, zero, suc, ◌==◌, Bool, true, List, [], ◌∷◌, ◌++◌, ap}
+use Rattle.std.proofs.Common.{rules, []}
+use Rattle.std.proofs.lemmas.Grind.{common_steps}
+use Rattle.std.proofs.Common.{◌≡◌, ◌↔◌, ◌⊎◌, inl, inr, ℕ, zero, suc, ◌==◌, Bool, true, List, ◌∷◌, ◌++◌}
+use Rattle.std.proofs.Common.{ap}
 use Rattle.std.proofs.Common.{IsPermutation, sym, refl, ◌∙◌, arith, get_or, map, subst, length, length-append}
 use Rattle.std.proofs.Common.{false, ◌+◌, append_assoc, append-nil, ◌≢◌, ◌≤◌, Some}
 use Rattle.std.specs.List.{Contains, filter, list_any}
-use Rattle.std.proofs.lemmas.Bool.{cases_Bool, eqb-true, false≢true, ne_eqb}
-use Rattle.std.proofs.lemmas.Bool.Decides.{Decides-eqb, same_from_decides}
+use Rattle.std.proofs.lemmas.Bool.{cond_both, eqb-true, false≢true, ne_eqb}
+use Rattle.std.proofs.lemmas.Bool.Decides.{Decides-eqb, nat_tests}
+use mathlib.Core.Logic.Iff
 use Rattle.std.proofs.lemmas.List.Elements.{All-contains, All-contains_itself, All-filter, filter_passes}
 use Rattle.std.proofs.lemmas.List.Elements.{Contains-append_cases, Contains-append_left, Contains-push}
 use Rattle.std.proofs.lemmas.List.Elements.{Contains-append_right, Contains-push_cases}
@@ -16,7 +20,7 @@ use Rattle.std.proofs.lemmas.List.{get_or_default, Folds.Any-from_list_any, Fold
 use Rattle.texting_robots.specs.Rules.{PlacedRule, Rule, unplaced}
 use Rattle.robots_needless.specs.Needless.{AreDistinct, lines_of, without, AreNeedless, IsReason, Overrules}
 use Rattle.std.proofs.lemmas.Map.Keys.{IsDistinct-IsPermutation, IsDistinct-from_apart, apart_from_distinct}
-use Rattle.std.specs.{Ordering.eq_by_cmp, Ordering.nat_cmp, BTreeMap.Updates, BTreeMap.get}
+use Rattle.std.specs.{Ordering.nat_cmp, BTreeMap.Updates, BTreeMap.get}
 use Rattle.texting_robots.specs.Verdict.{IsDenied, IsVerdict}
 use Rattle.texting_robots.proofs.{BestLemmas.placed_of, VerdictLemmas.same_verdicts}
 use Rattle.robots_needless.specs.declared.needless.Reason.{Reason}
@@ -24,7 +28,6 @@ use Rattle.robots_needless.specs.Internal.{AreAmong, CanGoInTurn, Goes, AreNear,
 use Rattle.robots_needless.specs.Internal.{IsNoRival, HasLine, IsReducing, Reasons}
 use Rattle.robots_needless.proofs.RemovalLemmas.{AreWith, can_go}
 use Rattle.robots_needless.specs.declared.needless.Reason.TheVariants.{AllowedAnyway, NeverDecides, NotNeeded}
-use Rattle.std.proofs.lemmas.Map.{Lookups.exact_unsigned, Views.tells_apart}
 use Rattle.robots_needless.specs.declared.needless.Reason.TheVariants as reasons
 
 -- ---- Which rules are left without those in some lines.
@@ -41,14 +44,11 @@ of_map f (x ∷ xs) y (suc k, below, at) =
 
 pub named_in : (n : ℕ) (numbers : List ℕ) → Contains numbers n
     → list_any (λ number. number == n) numbers ≡ true
-named_in n numbers (k, below, at) =
-    list_any_at (λ number. number == n) numbers k n below ((Decides-eqb (get_or numbers k n) n).1 at)
+named_in n numbers (k, below, at) = grind (arith, list_any_at, Decides-eqb)
 
 pub in_named : (n : ℕ) (numbers : List ℕ) → list_any (λ number. number == n) numbers ≡ true
     → Contains numbers n
-in_named n numbers is =
-    let (k, one, below, at, same) = Any-from_list_any (λ number. number == n) numbers is in
-    subst (Contains numbers) (eqb-true one n same) (k, below, at)
+in_named n numbers is = grind (arith, Any-from_list_any, eqb-true)
 
 pub in_cons : {A : Type 0} (first : A) (rules : List A) (placed : A) → Contains rules placed
     → Contains (first ∷ rules) placed
@@ -56,24 +56,24 @@ in_cons first rules placed (k, below, at) = (suc k, omega arith, at)
 
 pub in_filter : (test : PlacedRule → Bool) (rules : List PlacedRule) (placed : PlacedRule)
     → Contains (filter test rules) placed → Contains rules placed × (test placed ≡ true)
-in_filter test rules placed has =
-    let listed = All-filter test (Contains rules) rules (All-contains_itself rules) in (
-      All-contains (Contains rules) (filter test rules) placed listed has,
-      All-contains (λ (p : PlacedRule). test p ≡ true) (filter test rules) placed (filter_passes test rules)
-          has,
-    )
+in_filter test rules placed has = (
+  All-contains (Contains rules) _ placed (All-filter test (Contains rules) rules (All-contains_itself rules))
+      has,
+  All-contains (λ (p : PlacedRule). test p ≡ true) _ placed (filter_passes test rules) has,
+)
+
+pub cons_cases : {A : Type 0} (x : A) (xs : List A) (y : A) → Contains (x ∷ xs) y
+    → (x ≡ y) ⊎ Contains xs y
+cons_cases x xs y has = grind arith
 
 pub to_filter : {A : Type 0} (test : A → Bool) (rules : List A) (placed : A) → Contains rules placed
     → test placed ≡ true → Contains (filter test rules) placed
-to_filter test [] placed (k, below, at) is = absurd (omega arith)
-to_filter test (first ∷ rules) placed (zero, below, at) is =
-    let passes : test first ≡ true = ap test at ∙ is in rw passes (0, omega arith, at)
+to_filter test [] placed has is = grind arith
+to_filter test (first ∷ rules) placed (zero, below, at) is = grind arith
 to_filter test (first ∷ rules) placed (suc k, below, at) is =
     let rest = to_filter test rules placed (k, omega arith, at) is in
-    elim (cases_Bool (test first)) [
-      | inl passes ↦ rw passes (in_cons first (filter test rules) placed rest)
-      | inr fails ↦ rw fails rest
-    ]
+    cond_both (test first) _ _ (λ kept. Contains kept placed)
+    (λ _. in_cons first (filter test rules) placed rest) (λ _. rest)
 
 module _ (numbers : List ℕ) (rules left removed : List PlacedRule)
     (same : IsPermutation rules (left ++ removed))
@@ -87,27 +87,20 @@ module _ (numbers : List ℕ) (rules left removed : List PlacedRule)
         elim (Contains-append_cases left removed placed
         (Contains-permutation rules (left ++ removed) placed same listed)) [
           | inl stays ↦ stays
-          | inr goes ↦
-              let wrong = rw (named_in placed.line numbers (go placed goes)) at passes in
-              absurd (false≢true wrong)
+          | inr goes ↦ absurd (false≢true (rw (named_in placed.line numbers (go placed goes)) at passes))
         ],
     λ has.
-        let listed = Contains-permutation (left ++ removed) rules placed
-        (IsPermutation-sym rules (left ++ removed) same) (Contains-append_left left removed placed has) in
-        to_filter _ rules placed listed
-        (elim (cases_Bool (list_any (λ number. number == placed.line) numbers)) [
-          | inr none ↦ rw none refl
-          | inl some ↦ absurd (stay placed has (in_named placed.line numbers some))
-        ]),
+        to_filter _ rules placed
+        (Contains-permutation (left ++ removed) rules placed
+        (IsPermutation-sym rules (left ++ removed) same) (Contains-append_left left removed placed has))
+        (grind (arith, in_named placed.line numbers, stay placed has)),
   )
 
 abbrev in_one_line : PlacedRule → PlacedRule → Bool
 in_one_line placed other = placed.line == other.line
 
 either_way : (m n : ℕ) → (m == n) ≡ (n == m)
-either_way m n =
-    let back = Decides-eqb n m in
-    same_from_decides (m == n) (n == m) (Decides-eqb m n) (λ is. sym (back.0 is), λ same. back.1 (sym same))
+either_way m n = grind (arith, nat_tests)
 
 module _ (rules kept removed : List PlacedRule) (same : IsPermutation rules (kept ++ removed))
     (once : AreDistinct rules) where
@@ -138,7 +131,7 @@ module _ (rules kept removed : List PlacedRule) (same : IsPermutation rules (kep
 
 pub unplaced_of : (rules : List PlacedRule) (placed : PlacedRule) → Contains rules placed
     → Contains (unplaced rules) placed.rule
-unplaced_of = to_map (λ (p : PlacedRule). p.rule)
+unplaced_of = search (rules, to_map)
 
 abbrev SameMembers : List PlacedRule → List PlacedRule → Type 0
 SameMembers rules others = (placed : PlacedRule) → Contains rules placed ↔ Contains others placed
@@ -147,40 +140,25 @@ unplaced_same : (rules others : List PlacedRule) → SameMembers rules others �
     → Contains (unplaced rules) rule → Contains (unplaced others) rule
 unplaced_same rules others same rule has =
     let (placed, listed, is) = placed_of rules rule has in
-    subst (λ (r : Rule). Contains (unplaced others) r) is
-    (unplaced_of others placed ((same placed).0 listed))
+    rw is at (unplaced_of others placed ((same placed).0 listed))
 
 pub denied_same : (rules others : List PlacedRule) (text : List ℕ) → SameMembers rules others
     → IsDenied (unplaced rules) text → IsDenied (unplaced others) text
 denied_same rules others text same (differs, p, has, fits, longest) =
-    let back : SameMembers others rules = λ placed. ((same placed).1, (same placed).0) in (
-      differs,
-      p,
-      unplaced_same rules others same (p, false) has,
-      fits,
-      λ q listed. longest q (unplaced_same others rules back (q, true) listed),
-    )
+    let back = unplaced_same others rules (λ placed. Iff.symm (same placed)) in
+    (differs, p, unplaced_same rules others same _ has, fits, λ q listed. longest q (back _ listed))
 
 pub verdicts : (rules others : List Rule) (text : List ℕ) → IsDenied rules text ↔ IsDenied others text
     → (answer : Bool) → IsVerdict rules text answer ↔ IsVerdict others text answer
-verdicts rules others text same false = same
-verdicts rules others text same true =
-    (λ allowed denied. allowed (same.1 denied), λ allowed denied. allowed (same.0 denied))
+verdicts rules others text same answer = grind (arith, common_steps)
 
 with_last : (others : List PlacedRule) (rule : PlacedRule)
     → AreWith (unplaced others) rule.rule (unplaced (others ++ rule ∷ []))
-with_last others rule = rw (map-append (λ (p : PlacedRule). p.rule) others (rule ∷ [])) (record {
-  more = Contains-append_left (unplaced others) (rule.rule ∷ []);
-  only = Contains-push_cases (unplaced others) rule.rule;
-})
+with_last others rule = search (rules, map-append, Contains-append_left, Contains-push_cases)
 
 pub denied_permuted : (rules others : List PlacedRule) → IsPermutation rules others → (text : List ℕ)
     → IsDenied (unplaced rules) text ↔ IsDenied (unplaced others) text
-denied_permuted rules others same text =
-    let (back, to) = same_verdicts rules others same text false in (to, back)
-
-pub both_ways : {A B C : Type 0} → A ↔ B → B ↔ C → A ↔ C
-both_ways (to, from) (on, back) = (λ a. on (to a), λ c. from (back c))
+denied_permuted rules others same text = Iff.symm (same_verdicts rules others same text false)
 
 pub verdicts_without : (rules left : List PlacedRule) (numbers : List ℕ) (text : List ℕ)
     → IsDenied (unplaced rules) text ↔ IsDenied (unplaced left) text
@@ -188,41 +166,27 @@ pub verdicts_without : (rules left : List PlacedRule) (numbers : List ℕ) (text
     → IsVerdict (unplaced rules) text answer ↔ IsVerdict (unplaced (without numbers rules)) text answer
 verdicts_without rules left numbers text denied members answer =
     let rest = without numbers rules in
-    let back : SameMembers left rest = λ placed. ((members placed).1, (members placed).0) in
-    let same : IsDenied (unplaced left) text ↔ IsDenied (unplaced rest) text =
-    (denied_same left rest text back, denied_same rest left text members) in
-    verdicts (unplaced rules) (unplaced rest) text (both_ways denied same) answer
+    let back = denied_same left rest text (λ placed. Iff.symm (members placed)) in
+    verdicts _ (unplaced rest) text (Iff.trans denied (back, denied_same rest left text members)) answer
 
 reason_among : (some all : List PlacedRule) → AreAmong some all → (rule : PlacedRule) (reason : Reason)
     → IsReason some rule reason → IsReason all rule reason
-reason_among some all among rule reasons.MatchesNothing holds = holds
-reason_among some all among rule reasons.AllowedAnyway holds = holds
-reason_among some all among rule (reasons.NeverDecides line) (other, has, at, is) =
-    (other, among other has, at, is)
-reason_among some all among rule (reasons.NotNeeded line) (other, has, at, another, kind, covers) =
-    (other, among other has, at, another, kind, covers)
+reason_among some all among rule reason holds = grind arith
 
 pub rest_to_front : (front rest : List PlacedRule) (rule : PlacedRule)
     → IsPermutation (front ++ (rest ++ rule ∷ [])) ((front ++ rule ∷ []) ++ rest)
 rest_to_front front rest rule =
-    let last : List PlacedRule = rule ∷ [] in
-    subst (λ to. IsPermutation (front ++ (rest ++ last)) to) (sym (append_assoc front last rest))
-    (IsPermutation-append_right front (rest ++ last) (last ++ rest) (IsPermutation-append_comm rest last))
+    search (rules, append_assoc, IsPermutation-append_right, IsPermutation-append_comm)
 
 module _ (one two rest old : List PlacedRule) (rule : PlacedRule) (last : old ≡ rest ++ rule ∷ []) where
   pub to_second : (more : List PlacedRule) → more ≡ two ++ rule ∷ []
       → IsPermutation ((one ++ two) ++ old) ((one ++ more) ++ rest)
-  to_second more added =
-      rw (last, added, ← append_assoc one two (rule ∷ [])) (rest_to_front (one ++ two) rest rule)
+  to_second more added = grind (arith, append_assoc, rest_to_front)
 
   pub to_first : (more : List PlacedRule) → more ≡ one ++ rule ∷ []
       → IsPermutation ((one ++ two) ++ old) ((more ++ two) ++ rest)
   to_first more added =
-      let second : List PlacedRule = two ++ rule ∷ [] in
-      rw added (IsPermutation-trans ((one ++ two) ++ old) ((one ++ second) ++ rest)
-      (((one ++ rule ∷ []) ++ two) ++ rest) (to_second second refl)
-      (IsPermutation-append_left rest (one ++ second) ((one ++ rule ∷ []) ++ two)
-      (rest_to_front one two rule)))
+      grind (arith, common_steps, IsPermutation-trans, to_second, IsPermutation-append_left, rest_to_front)
 
 pub nothing_removed : (rules others : List PlacedRule) (found : Reasons) → IsPermutation rules others
     → IsReducing rules others found found
@@ -236,14 +200,20 @@ nothing_removed rules others found same = record {
   grow = record { found = λ line has. has; reasons = λ line reason is. inl is };
 }
 
+-- one more line is found
+updated : (old new : Reasons) (line : ℕ) (reason : Reason) → Updates nat_cmp old new line (Some reason)
+    → (n : ℕ)
+    → ((line ≡ n) × (get nat_cmp new n ≡ Some reason)) ⊎ (get nat_cmp new n ≡ get nat_cmp old n)
+updated old new line reason set n = grind arith
+
 module _ {all left : List PlacedRule} {start found : Reasons} (is : IsReducing all left start found) where
   pub reordered : (others : List PlacedRule) → IsPermutation left others → IsReducing all others start found
   reordered others same = record {
     reduced = record {
       removed = is.reduced.removed;
-      same = IsPermutation-trans all (left ++ is.reduced.removed) (others ++ is.reduced.removed)
-          is.reduced.same (IsPermutation-append_left is.reduced.removed left others same);
-      denied = λ text. both_ways (is.reduced.denied text) (denied_permuted left others same text);
+      same = IsPermutation-trans all _ _ is.reduced.same
+          (IsPermutation-append_left is.reduced.removed left others same);
+      denied = λ text. Iff.trans (is.reduced.denied text) (denied_permuted left others same text);
       go = is.reduced.go;
     };
     grow = is.grow;
@@ -253,49 +223,36 @@ module _ {all left : List PlacedRule} {start found : Reasons} (is : IsReducing a
       → (reason : Reason) (new : Reasons) → Goes others rule reason
       → Updates nat_cmp found new rule.line (Some reason) → IsReducing all others start new
   rule_gone others rule last reason new goes set =
-      let one : List PlacedRule = rule ∷ [] in
       let removed = is.reduced.removed in
-      let same : IsPermutation all ((others ++ one) ++ removed) = rw last at is.reduced.same in
-      let listed : AreAmong (others ++ one) all =
-      λ placed has. Contains-permutation ((others ++ one) ++ removed) all placed
-      (IsPermutation-sym all ((others ++ one) ++ removed) same)
-      (Contains-append_left (others ++ one) removed placed has) in
+      let same : IsPermutation all ((others ++ rule ∷ []) ++ removed) = rw last at is.reduced.same in
+      let listed : AreAmong (others ++ rule ∷ []) all =
+      λ placed has. Contains-permutation _ all placed (IsPermutation-sym all _ same)
+      (Contains-append_left _ removed placed has) in
       let holds = reason_among others all
-      (λ placed has. listed placed (Contains-append_left others one placed has)) rule reason goes.holds in
-      let hit : (line : ℕ) → eq_by_cmp nat_cmp rule.line line ≡ true → get nat_cmp new line ≡ Some reason =
-      λ line here. set.0 line ∙ rw here refl in
-      let more : (line : ℕ) → HasLine found line → HasLine new line =
-      λ line has. elim (cases_Bool (eq_by_cmp nat_cmp rule.line line)) [
-        | inl here ↦ rw (hit line here) refl
-        | inr other ↦ rw (set.2 line other) has
+      (λ placed has. listed placed (Contains-append_left others _ placed has)) rule reason goes.holds in
+      let more = λ (line : ℕ) (has : HasLine found line).
+      elim (updated found new rule.line reason set line) as (λ _. HasLine new line) [
+        | inl (here, at) ↦ rw at refl
+        | inr other ↦ rw other has
       ] in
       record {
         reduced = record {
-          removed = removed ++ one;
-          same = IsPermutation-trans all (others ++ (one ++ removed)) (others ++ (removed ++ one))
-              (rw (← append_assoc others one removed) same)
-              (IsPermutation-append_right others (one ++ removed) (removed ++ one)
-              (IsPermutation-append_comm one removed));
-          denied = λ text. both_ways (rw last at (is.reduced.denied text))
-              (can_go (unplaced others) (unplaced (others ++ one)) rule.rule (with_last others rule) goes.go
-              text);
-          go = λ placed has. elim (Contains-push_cases removed rule placed has) [
-            | inl before ↦ more placed.line (is.reduced.go placed before)
-            | inr this ↦ subst (λ (p : PlacedRule). HasLine new p.line) this (rw set.1 refl)
+          removed = rule ∷ removed;
+          same = rw append_assoc at same;
+          denied = λ text. Iff.trans (rw last at (is.reduced.denied text))
+              (can_go (unplaced others) _ rule.rule (with_last others rule) goes.go text);
+          go = λ placed has. elim (cons_cases rule removed placed has) [
+            | inl this ↦ subst (λ (p : PlacedRule). HasLine new p.line) this (rw set.1 refl)
+            | inr before ↦ more placed.line (is.reduced.go placed before)
           ];
         };
         grow = record {
           found = λ line has. more line (is.grow.found line has);
-          reasons = λ line why at. elim (cases_Bool (eq_by_cmp nat_cmp rule.line line)) [
-            | inl here ↦
-                let equal : reason ≡ why = let e = hit line here in cc in
-                inr (
-                  rule,
-                  listed rule (Contains-push others rule),
-                  tells_apart exact_unsigned rule.line line here,
-                  subst (IsReason all rule) equal holds,
-                )
-            | inr other ↦ is.grow.reasons line why (sym (set.2 line other) ∙ at)
+          reasons = λ line why at. elim (updated found new rule.line reason set line) [
+            | inl (here, hit) ↦
+                let equal : reason ≡ why = cc in
+                inr (rule, listed rule (Contains-push others rule), here, rw equal at holds)
+            | inr other ↦ is.grow.reasons line why (sym other ∙ at)
           ];
         };
       }
@@ -303,25 +260,19 @@ module _ {all left : List PlacedRule} {start found : Reasons} (is : IsReducing a
 -- all of them, for a list of removed rules
 in_turn : (kept removed : List PlacedRule) → CanGoInTurn kept removed → (text : List ℕ)
     → IsDenied (unplaced (kept ++ removed)) text ↔ IsDenied (unplaced kept) text
-in_turn kept [] can text =
-    subst (λ all. IsDenied (unplaced all) text ↔ IsDenied (unplaced kept) text) (sym (append-nil kept))
-    (λ denied. denied, λ denied. denied)
+in_turn kept [] can text = rw append-nil Iff.rfl
 in_turn kept (rule ∷ later) (can, rest) text =
-    let one : List PlacedRule = rule ∷ [] in
-    let moved : IsPermutation (kept ++ rule ∷ later) ((kept ++ later) ++ one) =
-    IsPermutation-trans (kept ++ rule ∷ later) (rule ∷ (kept ++ later)) ((kept ++ later) ++ one)
-    (IsPermutation-middle kept rule later) (IsPermutation-append_comm one (kept ++ later)) in
-    both_ways (denied_permuted (kept ++ rule ∷ later) ((kept ++ later) ++ one) moved text)
-    (both_ways
-    (can_go (unplaced (kept ++ later)) (unplaced ((kept ++ later) ++ one)) rule.rule
-    (with_last (kept ++ later) rule) can text)
+    let moved = IsPermutation-trans _ _ ((kept ++ later) ++ rule ∷ []) (IsPermutation-middle kept rule later)
+    (IsPermutation-append_comm (rule ∷ []) (kept ++ later)) in
+    Iff.trans (denied_permuted (kept ++ rule ∷ later) ((kept ++ later) ++ rule ∷ []) moved text)
+    (Iff.trans (can_go (unplaced (kept ++ later)) _ rule.rule (with_last (kept ++ later) rule) can text)
     (in_turn kept later rest text))
 
 pub needless_in_turn : (rules kept removed : List PlacedRule) → AreDistinct rules
     → IsPermutation rules (kept ++ removed) → CanGoInTurn kept removed → AreNeedless rules (lines_of removed)
 needless_in_turn rules kept removed once same can text answer =
     verdicts_without rules kept (lines_of removed) text
-    (both_ways (denied_permuted rules (kept ++ removed) same text) (in_turn kept removed can text))
+    (Iff.trans (denied_permuted rules (kept ++ removed) same text) (in_turn kept removed can text))
     (left_are_kept rules kept removed same once) answer
 
 pub no_rival_near : (one two others : List PlacedRule) (m n : ℕ) (rule : PlacedRule)
@@ -354,12 +305,7 @@ pub no_rival_more : (others : List PlacedRule) (other : PlacedRule) (m n : ℕ) 
     → HasNoRival (unplaced others) m rule → m ≤ n → IsNoRival n rule other.rule
     → HasNoRival (unplaced (others ++ other ∷ [])) n rule
 no_rival_more others other m n rule before most apart =
-    rw (map-append (λ (p : PlacedRule). p.rule) others (other ∷ [])) (record {
-      none = λ x has. elim (Contains-push_cases (unplaced others) other.rule x has) [
-        | inl sooner ↦ λ kinds low high. before.none x sooner kinds (omega arith) high
-        | inr last ↦ subst (λ (r : Rule). IsNoRival n rule r) last apart
-      ];
-    })
+    grind (arith, common_steps, map-append, Contains-push_cases)
 
 pub overruled_goes : (some others : List PlacedRule) (rule : PlacedRule) (line : ℕ) → AreAmong some others
     → (other : PlacedRule) × Contains some other × (other.line ≡ line) × Overrules other rule
@@ -403,5 +349,4 @@ covered_goes some others floor rule line among none (other, has, at, another, is
 pub allow_goes : (others : List PlacedRule) (floor : ℕ) (rule : PlacedRule)
     → HasNoRival (unplaced others) floor rule.rule → floor ≡ 0 → rule.rule.1 ≡ true
     → Goes others rule AllowedAnyway
-allow_goes others floor rule none is allows =
-    record { go = inr (inl (allows, rw is at none)); holds = allows }
+allow_goes others floor rule none is allows = grind arith
