@@ -77,7 +77,7 @@ def test_delays_are_in_microseconds(name):
 def test_the_numbers_of_the_guide():
     """The alignment of blocks, and which redirect is too many."""
     (alignment,) = re.findall(r"blocks are aligned to (\d+) bytes", joined(GUIDE))
-    assert f"alignment <= {alignment} ?" in (ROOT / "tests/test_c_handles.py").read_text()
+    assert f"alignment <= {alignment} " in (ROOT / "tests/test_c_handles.py").read_text()
     ordinals = ["zeroth", "first", "second", "third", "fourth", "fifth", "sixth", "seventh"]
     assert re.findall(r"a (\w+) redirect is a missing file", joined(GUIDE)) == [ordinals[constant("REDIRECT_LIMIT") + 1]]
 
