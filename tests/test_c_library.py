@@ -222,14 +222,23 @@ def moved(installed, tmp_path_factory):
     return folder / "opt/robots"
 
 
+@pytest.fixture(scope="session")
+def spaced(installed, tmp_path_factory):
+    """A folder whose name has a space, with an installation that was made for it."""
+    folder = tmp_path_factory.mktemp("two") / "two words"
+    ended = make("install", f"OUT={installed}/out", f"PREFIX={folder}")
+    assert ended.returncode == 0, ended.stderr
+    return folder
+
+
 @pytest.mark.parametrize("linked", ["shared", "static"])
-@pytest.mark.parametrize("folder", ["installed", "moved"])
+@pytest.mark.parametrize("folder", ["installed", "moved", "spaced"])
 def test_program_with_the_installed_library(request, tmp_path, folder, linked):
     if not shutil.which("pkg-config"):
         pytest.skip("pkg-config is missing")
+    words = ["pkg-config", *["--define-prefix"] * (folder != "spaced"), "--cflags", "--libs", "robots_c"]
     folder = request.getfixturevalue(folder)
     path = {"PKG_CONFIG_PATH": f"{folder}/lib/pkgconfig"}
-    words = ["pkg-config", "--define-prefix", "--cflags", "--libs", "robots_c"]
     words = shlex.split(subprocess.run(words, env=os.environ | path, capture_output=True, text=True).stdout)
     way = [f"-Wl,-rpath,{folder}/lib"] if linked == "shared" else ["-static"]
     ask = compiled(tmp_path / "ask", "examples/ask.c", *words, *way)
