@@ -64,9 +64,9 @@ def test_what_the_longest_file_can_hold():
     """Its shortest rules and sitemaps, and the comparisons for a URL of 2,000 bytes."""
     limit, text = constant("FILE_LIMIT"), joined(DOCUMENTS["SECURITY.md"])
     rules, sitemaps = limit // len("allow:\n"), limit // len("sitemap:\n")
-    for word, most in [("rules", rules), ("sitemaps that are fetched \\| a file can list", sitemaps)]:
-        before = re.search(rf"more than ([\d,]+) {word}" if word == "rules" else rf"{word} more than ([\d,]+)", text)[1]
-        assert 0.85 * most < int(before.replace(",", "")) <= most
+    for words, most in [(r"can hold more than ([\d,]+) rules", rules), (r"a file can list more than ([\d,]+),", sitemaps)]:
+        (number,) = re.findall(words, text)
+        assert 0.85 * most < int(number.replace(",", "")) <= most
     assert "URL of 2,000 bytes, escaped, a verdict takes fewer than 300 million comparisons" in text and rules * 2 * 2_000 < 300e6 < 1.1 * rules * 2 * 2_000
     assert re.findall(r"at most (\d) × the target's length", joined(PROOFS)) == re.findall(r"looks \{ .*\((\d) \* length", source("texting_robots/src/minregex.rt")) == ["2"]
 

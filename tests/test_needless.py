@@ -88,6 +88,7 @@ FOUND = {
     "it has a star, and an Allow matches nothing of it": (["Disallow: /", "Allow: /ac", "Disallow: /b*d"], [4]),
     "patterns with stars, the shortest first": (["Disallow: /*ab", "Allow: /*ab*", "Allow: /*abc*", "Allow: /"], [2, 3, 4]),
     "a long Allow is no rival of a short Disallow": (["Disallow: /a", "Disallow: /ab", "Allow: /abc"], [3]),
+    "a rule that one of two crawlers needs stays": (["User-agent: B", "Disallow: /b", "Disallow: /ab", "Disallow: /abc", "User-agent: B", "Disallow: /a"], [5]),
     "equal rules": (["Disallow: /a*", "Disallow: /a*", "Disallow: /b", "Disallow: /b"], [3, 5]),
 }
 
