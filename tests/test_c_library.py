@@ -413,6 +413,16 @@ def test_python_overlong_rule(robots):
     assert robots.matrix(["Bot", "Other"], long_rules(4097), ["/b", "/c"]) == [[robots.NO_RESULT] * 2, [-6, -6]]
 
 
+def test_python_line_feeds(robots):
+    """Only Robot.query takes them."""
+    for agents, urls in [(["Bot"], ["/a\nb"]), (["Bot"], ["/", "/a\nb"]), (["a\nb"], ["/a"])]:
+        with pytest.raises(ValueError, match="line feed"):
+            robots.matrix(agents, FILE, urls)
+    for urls in [["/a\nb"], ["/", "/a\n"]]:
+        with pytest.raises(ValueError, match="line feed"), robots.Robot("Bot", FILE) as robot:
+            robots.decide("Bot", FILE, urls) if len(urls) > 1 else robot.query_many(urls)
+
+
 def test_python_site(robots):
     with robots.Site(FILE) as site:
         assert site.matrix(["Bot", "*", ""], URLS) == [VERDICTS] * 3
