@@ -88,7 +88,6 @@ FOUND = {
     "it has a star, and an Allow matches nothing of it": (["Disallow: /", "Allow: /ac", "Disallow: /b*d"], [4]),
     "patterns with stars, the shortest first": (["Disallow: /*ab", "Allow: /*ab*", "Allow: /*abc*", "Allow: /"], [2, 3, 4]),
     "a long Allow is no rival of a short Disallow": (["Disallow: /a", "Disallow: /ab", "Allow: /abc"], [3]),
-    "a rule that one of two crawlers needs stays": (["User-agent: B", "Disallow: /b", "Disallow: /ab", "Disallow: /abc", "User-agent: B", "Disallow: /a"], [5]),
     "equal rules": (["Disallow: /a*", "Disallow: /a*", "Disallow: /b", "Disallow: /b"], [3, 5]),
 }
 
@@ -96,6 +95,12 @@ FOUND = {
 @pytest.mark.parametrize("lines, numbers", FOUND.values(), ids=FOUND)
 def test_lines_are_found(lines, numbers):
     assert found_in(["User-agent: *", *lines]) == numbers
+
+
+def test_a_rule_that_one_of_two_crawlers_needs_stays():
+    """And no other rule stays for it."""
+    lines = ["User-agent: B", "User-agent: *", "Disallow: /b", "Disallow: /ab", "Disallow: /abc", "User-agent: B", "Disallow: /a"]
+    assert found_in(lines) == [5]
 
 
 def test_ten_thousand_rules():
