@@ -125,9 +125,10 @@ BYTES = r"""
 /* The length of each block is in front of it. */
 static size_t held;
 static char nothing;
+static bool fails;
 struct tried { _Bool worked; void *block; };
 struct tried rattle_alloc(size_t length, size_t alignment) {
-    size_t *block = alignment <= 16 ? malloc(16 + length) : NULL;
+    size_t *block = alignment <= 16 && !fails ? malloc(16 + length) : NULL;
     if (block == NULL)
         return (struct tried){0, &nothing};
     held += *block = length;
@@ -157,6 +158,13 @@ int main(void) {
     printf("%zu %zu\n", before = held, robots_bytes(robot));
     if (robots_share(robot, &other) != ROBOTS_OK || held != before + 8 || robots_bytes(other) != before)
         return 3;
+    fails = true; /* then nothing is written */
+    before = held;
+    robots *kept = other;
+    if (robots_share(robot, &other) != ROBOTS_OUT_OF_MEMORY || robots_open("Bot", 3, file, length, &other, NULL) != ROBOTS_OUT_OF_MEMORY
+        || other != kept || held != before)
+        return 7;
+    fails = false;
     robots_close(robot);
     robots_close(other);
     if (held != 0 || robots_site_open(file, length, &site) != ROBOTS_OK)
@@ -169,6 +177,12 @@ int main(void) {
     printf("%zu %zu\n", held, robots_site_bytes(site));
     if (robots_site_share(site, &same) != ROBOTS_OK || held != before + 8 || robots_site_bytes(same) != before)
         return 6;
+    fails = true;
+    before = held;
+    robots_site *whole = same;
+    if (robots_site_share(site, &same) != ROBOTS_OUT_OF_MEMORY || robots_site_open(file, length, &same) != ROBOTS_OUT_OF_MEMORY
+        || robots_site_robot(site, "Bot", 3, &other, NULL) != ROBOTS_OUT_OF_MEMORY || same != whole || other != kept || held != before)
+        return 8;
     robots_site_close(site);
     robots_site_close(same);
     return held != 0;

@@ -222,14 +222,23 @@ def moved(installed, tmp_path_factory):
     return folder / "opt/robots"
 
 
+@pytest.fixture(scope="session")
+def spaced(installed, tmp_path_factory):
+    """A folder whose name has a space, with an installation that was made for it."""
+    folder = tmp_path_factory.mktemp("two") / "two words"
+    ended = make("install", f"OUT={installed}/out", f"PREFIX={folder}")
+    assert ended.returncode == 0, ended.stderr
+    return folder
+
+
 @pytest.mark.parametrize("linked", ["shared", "static"])
-@pytest.mark.parametrize("folder", ["installed", "moved"])
+@pytest.mark.parametrize("folder", ["installed", "moved", "spaced"])
 def test_program_with_the_installed_library(request, tmp_path, folder, linked):
     if not shutil.which("pkg-config"):
         pytest.skip("pkg-config is missing")
+    words = ["pkg-config", *["--define-prefix"] * (folder != "spaced"), "--cflags", "--libs", "robots_c"]
     folder = request.getfixturevalue(folder)
     path = {"PKG_CONFIG_PATH": f"{folder}/lib/pkgconfig"}
-    words = ["pkg-config", "--define-prefix", "--cflags", "--libs", "robots_c"]
     words = shlex.split(subprocess.run(words, env=os.environ | path, capture_output=True, text=True).stdout)
     way = [f"-Wl,-rpath,{folder}/lib"] if linked == "shared" else ["-static"]
     ask = compiled(tmp_path / "ask", "examples/ask.c", *words, *way)
@@ -402,6 +411,16 @@ def test_python_overlong_rule(robots):
     assert robots.decide("Other", long_rules(4097), ["/b"]) == [-6]
     assert robots.decide("Bot", long_rules(4096), ["/b"]) == [-3]
     assert robots.matrix(["Bot", "Other"], long_rules(4097), ["/b", "/c"]) == [[robots.NO_RESULT] * 2, [-6, -6]]
+
+
+def test_python_line_feeds(robots):
+    """Only Robot.query takes them."""
+    for agents, urls in [(["Bot"], ["/a\nb"]), (["Bot"], ["/", "/a\nb"]), (["a\nb"], ["/a"])]:
+        with pytest.raises(ValueError, match="line feed"):
+            robots.matrix(agents, FILE, urls)
+    for urls in [["/a\nb"], ["/", "/a\n"]]:
+        with pytest.raises(ValueError, match="line feed"), robots.Robot("Bot", FILE) as robot:
+            robots.decide("Bot", FILE, urls) if len(urls) > 1 else robot.query_many(urls)
 
 
 def test_python_site(robots):

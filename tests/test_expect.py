@@ -243,6 +243,15 @@ def test_normal_forms(tmp_path, rules, text, line):
     assert outcome(check(tmp_path, text, robots=b"User-agent: *\n" + rules)) == expected
 
 
+@pytest.mark.parametrize("char", "-._~:/?[]@!&'()+,;=")
+def test_characters_that_normal_forms_keep(tmp_path, char):
+    """So each counts as one octet, and those of RFC 3986 that are reserved differ from their escapes."""
+    rules = f"User-agent: *\nDisallow: /{char}a\nAllow: /*bc\nDisallow: /d{char}\n"
+    text = f"allow Ferris /{char}abc\nallow Ferris /e\n" + f"allow Ferris /d%{ord(char):02X}\n" * (char not in "-._~")
+    result = check(tmp_path, text.encode(), robots=rules.encode())
+    assert outcome(result) == (0, f"{text.count('allow')} expectations hold\n", "")
+
+
 def test_normal_forms_of_the_group_of_googlebot(tmp_path):
     line = f"expect.txt:1: Googlebot-News must be allowed /%62, {GOOGLEBOT}, and {NORMALLY} line 2 denies it\n"
     result = check(tmp_path, b"allow Googlebot-News /%62", robots=b"User-agent: Googlebot\nDisallow: /b\n")

@@ -2,10 +2,12 @@
 source that decides it."""
 
 import re
+import signal
 import subprocess
 
 import pytest
-from support import CRATES, DOCUMENTS, KEYS, ROOT, run, tables
+from support import CRATES, DOCUMENTS, KEYS, PAGES, ROOT, run, tables
+from library import kit
 from test_documents import GUIDE, PROGRAMS, PROOFS, README, section
 
 SPECIFICATION, ARCHITECTURE = DOCUMENTS["docs/SPECIFICATION.md"], DOCUMENTS["docs/ARCHITECTURE.md"]
@@ -44,6 +46,11 @@ def test_numbers_of_bytes_and_reads_are_those_of_the_sources(name):
 
 
 def test_the_limit_of_the_header():
+    for name in ("LIFETIME", "REDIRECT_LIMIT"):
+        assert re.findall(rf"#define ROBOTS_{name} (\d+) ", source("robots_c/robots.h")) == [str(constant(name))]
+    assert constant("LIFETIME") == 24 * 60 * 60
+    (bytes_of_a_handle,) = re.findall(r"robots_share\n \* opens takes (\d+) more, for a pointer", source("robots_c/robots.h"))
+    assert f"held != before + {bytes_of_a_handle} " in (ROOT / "tests/test_c_handles.py").read_text()
     assert re.findall(r"#define ROBOTS_FILE_LIMIT (\d+)", source("robots_c/robots.h")) == [str(constant("FILE_LIMIT"))]
 
 
@@ -51,6 +58,35 @@ def test_the_numbers_of_listed_warnings():
     assert [int(it) for it in re.findall(r"the first (\d+) warnings", joined(PROGRAMS))] == [constant("LISTED_WARNINGS")]
     assert constant("MOST") == 20
     assert "with one name, the first twenty have a line" in joined(PROGRAMS)
+
+
+def test_what_the_longest_file_can_hold():
+    """Its shortest rules and sitemaps, and the comparisons for a URL of 2,000 bytes."""
+    limit, text = constant("FILE_LIMIT"), joined(DOCUMENTS["SECURITY.md"])
+    rules, sitemaps = limit // len("allow:\n"), limit // len("sitemap:\n")
+    for words, most in [(r"can hold more than ([\d,]+) rules", rules), (r"a file can list more than ([\d,]+),", sitemaps)]:
+        (number,) = re.findall(words, text)
+        assert 0.85 * most < int(number.replace(",", "")) <= most
+    assert "URL of 2,000 bytes, escaped, a verdict takes fewer than 300 million comparisons" in text and rules * 2 * 2_000 < 300e6 < 1.1 * rules * 2 * 2_000
+    assert re.findall(r"at most (\d) × the target's length", joined(PROOFS)) == re.findall(r"looks \{ .*\((\d) \* length", source("texting_robots/src/minregex.rt")) == ["2"]
+
+
+@pytest.mark.parametrize("name", PAGES)
+def test_delays_are_in_microseconds(name):
+    assert set(re.findall(r"`u64::MAX` (\w+)", joined(PAGES[name]))) <= {"microseconds"}
+
+
+def test_the_numbers_of_the_guide():
+    """The alignment of blocks, and which redirect is too many."""
+    (alignment,) = re.findall(r"blocks are aligned to (\d+) bytes", joined(GUIDE))
+    assert f"alignment <= {alignment} " in (ROOT / "tests/test_c_handles.py").read_text()
+    ordinals = ["zeroth", "first", "second", "third", "fourth", "fifth", "sixth", "seventh"]
+    assert re.findall(r"a (\w+) redirect is a missing file", joined(GUIDE)) == [ordinals[constant("REDIRECT_LIMIT") + 1]]
+
+
+def test_the_status_after_the_reader_has_gone():
+    assert re.findall(r"the status is (\d+), without a message", joined(PROGRAMS)) == [str(128 + signal.SIGPIPE)]
+    assert f"each `#` is shown as `%{ord('#'):X}`" in joined(PROGRAMS)
 
 
 def test_the_number_of_worked_examples():
@@ -109,6 +145,24 @@ def test_table_of_known_crawlers():
         assert "https://" in block[0] or set(re.findall(r'"([^"]*)"\)', block[1])) == {"*"}, block[1]
 
 
+def test_groups_that_vendors_apply():
+    """By the vendors' documents, which the table names: the group of another crawler, or none in place of that of *."""
+    others = {
+        "Googlebot": "Googlebot-Image Googlebot-News Googlebot-Video Google-InspectionTool Storebot-Google Google-CloudVertexBot Applebot",
+        "GoogleOther": "GoogleOther-Image GoogleOther-Video",
+        "Yandex": "YandexBot YandexImages YandexVideo YandexMedia YandexBlogs YandexMarket YandexWebmaster YandexPagechecker",
+        "": "AdsBot-Google AdsBot-Google-Mobile APIs-Google Mediapartners-Google YandexMobileBot YandexMetrika YandexDirect",
+    }
+    assert {name: group for name, group in CRAWLERS.items() if group != "*"} == {name: group for group, names in others.items() for name in names.split()}
+
+
+def test_names_are_spelled_as_their_owners_spell_them():
+    """As far as a file in the wild has them."""
+    names = set(re.findall(r"^User-agent: (\S+)$", (ROOT / "tests/wild/ai-robots-txt.txt").read_text(), re.M))
+    known = {name for name in CRAWLERS if name.lower() in {it.lower() for it in names}}
+    assert len(known) > 20 and known <= names
+
+
 @pytest.mark.parametrize("name", [name for name, group in CRAWLERS.items() if group != "*"])
 def test_crawler_with_another_group_has_its_note(name):
     """The specification takes the names from the source, so no proof sees a wrong one."""
@@ -131,6 +185,20 @@ def test_errors_of_the_guide_are_those_of_the_library():
     variants = re.findall(r"^    (\w+),$", re.search(r"pub enum Error \{.*?^\}", source("texting_robots/src/error.rt"), re.M | re.S)[0], re.M)
     documented = [name for row in tables(section(GUIDE, "From Rattle")) for name in re.findall(r"`Error::(\w+)`", row[0])]
     assert documented == [name for name in variants if name != "InvalidRobots"]  # which no call returns
+
+
+def test_errors_of_the_address_are_those_of_the_library():
+    named = re.findall(r"`([A-Z]\w+)`", SPECIFICATION.split("**Address of robots.txt**")[1])
+    assert set(named) == set(re.findall(r"ParseError::(\w+)\)", source("texting_robots/src/address.rt")))
+
+
+def test_crates_that_documents_name_in_commands():
+    """And those that another repository needs for the C library."""
+    rows = dict(re.findall(r"^(\w+)[^:#\n]*:(.*)$", (ROOT / "crates.txt").read_text(), re.M))
+    for text in PAGES.values():
+        assert {it for words in re.findall(r"`rt ci ([a-z_ ]+)`", joined(text)) for it in words.split()} <= set(rows)
+    sentence = re.search(r"Another repository needs `bindings/c`, and (.*?) in its `crates.txt`", joined(GUIDE))[1]
+    assert set(re.findall(r"`(\w+)`", sentence)) == {"robots_c", *rows["robots_c"].split()} & {*rows}
 
 
 def test_keys_of_golden_cases():
@@ -165,7 +233,8 @@ def test_http_status_codes_are_those_of_the_standard():
     assert {number: row[0] for number, row in rows.items()} == {
         "2.3.1.1": "success", "2.3.1.2": "redirect", "2.3.1.3": "400 to 499", "2.3.1.4": "500 to 599, or a network error",
     }  # fmt: skip
-    assert "five" in rows["2.3.1.2"][1] and "may fetch everything" in rows["2.3.1.3"][1] and "must not fetch anything" in rows["2.3.1.4"][1]
+    assert rows["2.3.1.2"][1] == "follow at least five, also to another host; the rules apply to the first host"
+    assert "may fetch everything" in rows["2.3.1.3"][1] and "must not fetch anything" in rows["2.3.1.4"][1]
     assert "24 hours" in section(GUIDE, "HTTP status codes")
 
 
@@ -193,6 +262,16 @@ def test_least_versions_of_python_and_rust():
     assert re.findall(r"CPython ([\d.]+\d), or later", joined(BINDINGS["python"])) == [python]
     rust = re.search(r'rust-version = "([\d.]+)"', (ROOT / "bindings/rust/Cargo.toml").read_text())[1]
     assert re.findall(r"Rust ([\d.]+\d) or later", joined(BINDINGS["rust"])) == [rust]
+
+
+def test_one_version_of_the_c_library():
+    release = re.search(r"^GLIBC = \((\d+), (\d+)\)$", (ROOT / "release").read_text(), re.M)
+    assert re.findall(r"GNU C library ([\d.]+\d)", joined(BINDINGS["python"])) == [".".join(release.groups())]
+
+
+def test_the_url_standard_is_that_of_the_toolchain():
+    (date,) = re.findall(r"The toolchain's crate `url` follows the URL Standard of ([^,]+),", joined(DOCUMENTS["docs/COMPATIBILITY.md"]))
+    assert f"in its text of {date}" in (kit() / "rattle/url/README.md").read_text()
 
 
 def test_one_version_of_the_rust_crate():
@@ -238,3 +317,21 @@ def test_table_of_exit_statuses(tmp_path):
         for cause in causes:
             (status,) = [int(row[0]) for row in rows if cause in row[header.index(name)]]
             assert run("robots_audit", *calls[cause]).status == status, cause
+
+
+def test_manual_page_of_robots_verdict_has_the_statuses():
+    """A word or two of each message, as PROGRAMS has it."""
+    words = {"0": ["also if a URL is denied"], "1": ["Reading", "writing"], "2": ["empty line", "UTF-8"], "3": ["too long"], "4": ["memory"], "127": ["x86-64-v2"]}
+    page = (ROOT / "man/robots_verdict.1").read_text().split(".SH EXIT STATUS")[1]
+    entries = dict(re.findall(r"^\.TP\n\.B (\d+)\n(.*)$", page, re.M))
+    assert entries.keys() == words.keys() and all(word in entries[status] for status in words for word in words[status])
+    rows = [(row[0], row[1]) for row in tables(section(PROGRAMS, "`robots_verdict`")) if row[0].isdigit()]
+    assert all(any(word.lower() in message.lower() for word in words[status]) for status, message in rows)
+
+
+def test_manual_page_says_of_an_option_what_help_says():
+    page = re.sub(r"\\f[BIR]|^\.[A-Z]+ ?|\\", "", (ROOT / "man/robots_audit.1").read_text(), flags=re.M)
+    usage = joined(run("robots_audit", ["--help"]).out)
+    for sentence in ["List only the URLs that are denied", "Check or compare the URLs in this file too", "Don't list the lines of the file", "Report on this crawler",
+                     "Warn also of rules that can be deleted", "Give only warnings with this name", "Report instead what differs from OLD"]:  # fmt: skip
+        assert sentence in usage and sentence in joined(page), sentence

@@ -97,6 +97,12 @@ def test_lines_are_found(lines, numbers):
     assert found_in(["User-agent: *", *lines]) == numbers
 
 
+def test_a_rule_that_one_of_two_crawlers_needs_stays():
+    """And no other rule stays for it."""
+    lines = ["User-agent: B", "User-agent: *", "Disallow: /b", "Disallow: /ab", "Disallow: /abc", "User-agent: B", "Disallow: /a"]
+    assert found_in(lines) == [5]
+
+
 def test_ten_thousand_rules():
     """The number of bytes that are compared is bounded, but suffices for a file of this size."""
     lines = ["User-agent: *", *(f"Disallow: /*/s{n}x" for n in range(50))]

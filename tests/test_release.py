@@ -19,7 +19,7 @@ from http.server import BaseHTTPRequestHandler, ThreadingHTTPServer
 from pathlib import Path
 
 import pytest
-from library import is_built
+from library import is_built, kit
 from support import CC, CRATES, DOCUMENTS, ROOT, Result, compiled, program, run, shown
 from test_c_library import CMAKE
 from test_documents import code, section
@@ -118,8 +118,18 @@ def members(path):
 def test_every_file_has_the_licenses_and_no_path_of_this_machine(releases):
     for path in releases[0].glob(f"*-{VERSION}*"):
         files = members(path)
+        if path.name.endswith("linux-x86_64.tar.gz"):
+            with tarfile.open(path) as packed:
+                assert {(it.uid, it.gid, it.uname, it.gname) for it in packed} == {(0, 0, "", "")}
         assert {"LICENSE-MIT", "LICENSE-APACHE", "LICENSE-LIBRARIES"} <= {Path(it).name for it in files}, path.name
         assert [name for name, data in files.items() if str(ROOT).encode() in data] == [], path.name
+
+
+@pytest.mark.parametrize("crate", ["robots_audit", "robots_c"])
+def test_each_library_of_the_toolchain_has_a_license(crate):
+    named = re.findall(r"^---- (.*)$", MODULE.notices(crate, kit()), re.M)
+    licensed = {it for it in MODULE.below(crate, kit()) if it not in MODULE.ROWS and any((kit() / "rattle" / it).glob("LICENSE*"))}
+    assert {it for names in named for it in names.split(", ")} == licensed and len(licensed) > 5
 
 
 @pytest.mark.parametrize("release", [None, "texting_robots 1.0.0", "another release"])

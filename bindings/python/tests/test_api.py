@@ -166,6 +166,9 @@ def test_sitemaps_and_agents():
     assert Robots(SHOP + b"User-agent: SLOWBOT\nUser-agent: b\xc3\xb6tbot\nUser-agent: \xff").agents == ["*", "SlowBot", "bötbot"]
     assert Robots(b"").sitemaps == Robots(b"").agents == []
     assert Robots(b"Sitemap: \xff\nSitemap:\nSitemap: a").sitemaps == ["", "a"]
+    inner = [f"a{space}b" for space in " \x0b\x0c\x1c\x85\u2028"]  # which end no line
+    assert Robots("".join(f"Sitemap: {it}\n" for it in inner)).sitemaps == inner
+    assert Robots("User-agent:\n" + "".join(f"User-agent: {it}\n" for it in inner)).agents == ["", *inner]
     many = [f"https://example.com/{n}.xml" for n in range(1000)]
     assert Robots("".join(f"Sitemap: {url}\n" for url in many)).sitemaps == many
     assert Robots("".join(f"User-agent: {url}\n" for url in many)).agents == many
@@ -326,6 +329,7 @@ def test_an_agent_with_a_slash(agent, error):
     """So arguments that are swapped, and a User-Agent with a version."""
     robots = Robots(SHOP)
     calls = [lambda: robots.delay(agent), lambda: robots.crawl_delay(agent), lambda: robots.is_named(agent)]
+    calls += [lambda: robots.matrix([], [agent]), lambda: robots.matrix([], ["a\nb", agent])]
     for call in [*calls_with(robots, "FerrisBot", agent), *calls]:
         with pytest.raises(error, match="product token"):
             call()
@@ -389,6 +393,7 @@ def test_an_overlong_rule():
         ("Mozilla/5.0 (compatible; FerrisBot/1.0)", "Mozilla"),
         ("Google-Extended", "Google-Extended"),
         ("my_bot 3", "my_bot"),
+        ("FerrisBot: a friendly one", "FerrisBot"),
         ("MJ12bot/v1.4.8", "MJ12bot"),
         ("Bötbot; a friendly one", "Bötbot"),
         ("(FerrisBot)", "*"),
@@ -426,6 +431,7 @@ class FetchedRobots(Robots):
 def test_pickles_of_a_subclass():
     own = pickle.loads(pickle.dumps(OwnRobots(SHOP)))
     assert type(own) is type(copy.copy(own)) is OwnRobots and own.verdict("/search", "FerrisBot") == Verdict(False, 2)
+    assert repr(own) == f"<OwnRobots of {len(SHOP)} bytes>"
 
 
 @pytest.mark.parametrize("again", [copy.copy, copy.deepcopy, lambda robots: pickle.loads(pickle.dumps(robots))])

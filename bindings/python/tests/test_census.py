@@ -293,6 +293,24 @@ def test_a_host_counts_once(tmp_path):
         assert rows == [(site, "GPTBot", path, "deny", 2) for site, path in [("a.example", "/0"), ("b.example", "/6"), ("xn--bcher-kva.example", "/7")]]
 
 
+def test_the_first_record_of_a_host_counts_whatever_its_place_has_for_digits(tmp_path, monkeypatch):
+    """Here byte 90 comes before byte 131, also if each row is merged from a file of its own."""
+    monkeypatch.setattr(census, "MOST", 1)
+    body = base64.b64encode(b"User-agent: GPTBot\nDisallow: /0").decode()
+    lines = [json.dumps({"host": host, "body": text}) for host, text in [("b.example", ""), ("a.example", body), ("a.example", "")]]
+    (tmp_path / "all.jsonl").write_text("\n".join([lines[0].ljust(89), *lines[1:]]))
+    _, left_out, counts, _, _ = counted(census.batches_of(str(tmp_path / "all.jsonl"), 500), paths=["/0"])
+    assert (left_out, counts) == ({"more files of a site": 1}, {("GPTBot", "/0", "deny"): 1})
+
+
+def test_twenty_damaged_records_are_shown(tmp_path, capsys):
+    (tmp_path / "all.jsonl").write_text("{\n" * 30)
+    tally, rows = census.census(census.run_here, census.batches_of(str(tmp_path / "all.jsonl"), 500), (AGENTS, PATHS, "a program", str(tmp_path), str(tmp_path)))
+    census.report(tally, rows, AGENTS, PATHS)
+    out = capsys.readouterr().out
+    assert "\n0 sites with a robots.txt file, 30 damaged, 0 unread\n" in out and out.count("\ndamaged: ") == 20
+
+
 def test_hosts_of_files_and_lines_are_those_of_urls(tmp_path):
     for name in ["A.example.txt", "B\u00fccher.example.robots.txt", "xn--bcher-kva.example."]:
         (tmp_path / name).write_bytes(b"")

@@ -251,8 +251,8 @@ def test_requests_to_a_site_wait_for_one_file():
 def test_a_site_is_a_scheme_with_a_host_and_a_port():
     robots, crawler = ours(file())
     urls = ["http://a.example/", "HTTP://name@A.example:80/x?y#z", "https://a.example/", "http://a.example:8080/", "http://b.a.example/"]
-    assert all(allowed(robots, url) for url in [*urls, "ftp://a.example/x"])
-    schemes = ["http://a.example", "https://a.example", "http://a.example:8080", "http://b.a.example", "ftp://a.example"]
+    assert all(allowed(robots, url) for url in [*urls, "ftp://a.example/x", "ftp://a.example:2121/x"])
+    schemes = ["http://a.example", "https://a.example", "http://a.example:8080", "http://b.a.example", "ftp://a.example", "ftp://a.example:2121"]
     assert crawler.engine.urls() == [f"{it}/robots.txt" for it in schemes]
 
 
@@ -348,6 +348,24 @@ def test_the_name_of_the_crawler():
     assert groups(headers={"User-Agent": "Other/1.0"}) == groups(types.SimpleNamespace(user_agent="Other/1.0")) == other
     assert groups(types.SimpleNamespace(user_agent="Other/1.0"), {"User-Agent": "Nobody"}) == neither
     assert groups(headers={"User-Agent": "Nobody"}, ROBOTSTXT_USER_AGENT="Other") == other
+
+
+def test_the_longest_delay_and_the_memory_of_several_crawlers_count():
+    robots, _ = ours(file(b"User-agent: A\nCrawl-delay: 3\n\nUser-agent: B\nCrawl-delay: 2\n"))
+    for name in "AB":
+        assert allowed(robots, "http://a.example/", headers={"User-Agent": name})
+        (kept,) = robots._sites.values()
+        assert kept.pace._delay == 3 and robots._size == middleware._SITE_BYTES + kept.parser.size
+
+
+def test_other_sitemaps_of_a_later_file_come_too():
+    robots, crawler = ours(file(), TEXTING_ROBOTS_LIFETIME=0)
+    found, names = [], ["a", "a", "b", None, "b"]
+    crawler.signals.send_catch_log = lambda signal, sitemaps, **_: found.extend(sitemaps)
+    for name in names:
+        crawler.engine.answer = file(f"Sitemap: {name}\n".encode() if name else b"")
+        assert allowed(robots, "http://a.example/")
+    assert found == ["a", "b", "b"]
 
 
 def test_a_newer_scrapy():

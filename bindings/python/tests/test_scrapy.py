@@ -150,7 +150,9 @@ def test_an_overlong_rule_is_logged_once(crawls, caplog):
 
 
 def test_the_parser_takes_what_scrapy_gives():
-    parser = RobotParser.from_crawler(None, b"User-agent: FerrisBot\nDisallow: /private/")
+    parser = RobotParser.from_crawler(None, b"User-agent: FerrisBot\nDisallow: /private/\nCrawl-delay: 2")
+    agents = [b"FerrisBot/1.0 (+https://example.com)", "FerrisBot", " FerrisBot (+https://example.com)", "FerrisBot; a/b", b"\xff/"]
+    assert [parser.delay(it) for it in agents] == [2, 2, 2, 2, 0]
     assert not parser.allowed("https://example.com/private/", b"FerrisBot/1.0 (+https://example.com)")
     assert not parser.allowed(b"https://example.com/private/", "FerrisBot")
     assert not parser.allowed("https://example.com/private/", "FerrisBot (+https://example.com)")

@@ -63,6 +63,8 @@ fn decisions_within_a_budget() {
         assert_eq!(ferris.decision_within(url, least), Ok(decision));
         assert_eq!(ferris.decision_within(url, least - 1), Err(Error::TooCostly));
     }
+    let private = robot("FerrisBot", "Disallow: /private");
+    assert_eq!([0, 1].map(|budget| private.decision_within("/", budget)), [Err(Error::TooCostly), Ok(ALLOWED)]);
     assert_eq!([0, 6, 7, 12, usize::MAX].map(|len| ferris.cost(len)), [2, 2, 9, 21, 21]);
     assert_eq!(robot("FerrisBot", "Disallow: *\nDisallow: /*a").cost(usize::MAX), u64::MAX);
 }
@@ -99,6 +101,8 @@ fn sitemaps_and_agents() {
         (0..1000).map(|n| (format!("User-agent: {n}\nSitemap: {n}\n"), n.to_string())).unzip();
     let site = Site::new(named.as_bytes()).unwrap();
     assert_eq!((&site.sitemaps, &site.agents().unwrap()), (&many, &many));
+    assert_eq!(robot("x", "Sitemap:\nSitemap: a b\nSitemap:").sitemaps, ["", "a b", ""]);
+    assert_eq!(Site::new(b"User-agent:\nUser-agent: a b").unwrap().agents().unwrap(), ["", "a b"]);
     assert!(site.is_named("999") && !site.is_named("1000") && !site.is_named(""));
     assert!(Site::new(b"").unwrap().sitemaps.is_empty() && Site::new(b"").unwrap().agents().unwrap().is_empty());
 }
@@ -203,10 +207,15 @@ fn responses() {
 
 #[test]
 fn debug_and_errors_of_the_standard_library() {
-    let empty = format!("{:?} {:?}", robot("a", "Sitemap: b\nCrawl-delay: 1"), Site::new(b"").unwrap());
-    assert_eq!(empty, r#"Robot { delay: Some(1s), sitemaps: ["b"], .. } Site { sitemaps: [], .. }"#);
-    let errors: [Box<dyn std::error::Error + Send + Sync>; 2] = [Error::OutOfMemory.into(), Error::NoAddress.into()];
-    assert_eq!(errors.map(|error| error.to_string()), ["out of memory", "the URL has no robots.txt file"]);
+    let (robot, site) = (robot("a", "Sitemap: b\nCrawl-delay: 1"), Site::new(b"Sitemap: c").unwrap());
+    for (robot, site) in [(&robot.clone(), &site.clone()), (&robot, &site)] {
+        let shown = r#"Robot { delay: Some(1s), sitemaps: ["b"], .. } Site { sitemaps: ["c"], .. }"#;
+        assert_eq!(format!("{robot:?} {site:?}"), shown);
+    }
+    let errors: [Box<dyn std::error::Error + Send + Sync>; 3] =
+        [Error::OutOfMemory.into(), Error::NoAddress.into(), Error::TooCostly.into()];
+    let texts = ["out of memory", "the URL has no robots.txt file", "the query is too costly for its budget"];
+    assert_eq!(errors.map(|error| error.to_string()), texts);
 }
 
 #[test]
