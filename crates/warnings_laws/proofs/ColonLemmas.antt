@@ -23,13 +23,12 @@ use Rattle.rfc9309_laws.specs.Rfc9309 as rfc
 pub at_front : (stop : ℕ) (front rest : List ℕ) → Each (λ b. b ≢ stop) front
     → position_or_len (λ b. b == stop) (front ++ stop ∷ rest) ≡ length front
 at_front stop [] rest all = rw (eq-eqb stop stop refl) refl
-at_front stop (b ∷ front) rest all =
-    rw (ne_eqb b stop all.0, at_front stop front rest all.1) (omega arith)
+at_front stop (b ∷ front) rest all = grind (arith, ne_eqb, at_front stop front rest all.1)
 
 pub nowhere : (stop : ℕ) (text : List ℕ) → Each (λ b. b ≢ stop) text
     → position_or_len (λ b. b == stop) text ≡ length text
 nowhere stop [] all = refl
-nowhere stop (b ∷ text) all = rw (ne_eqb b stop all.0, nowhere stop text all.1) (omega arith)
+nowhere stop (b ∷ text) all = grind (arith, ne_eqb, nowhere stop text all.1)
 
 pub before_is : (stop : ℕ) (front rest : List ℕ) → Each (λ b. b ≢ stop) front
     → before_byte stop (front ++ stop ∷ rest) ≡ front
@@ -66,11 +65,8 @@ each_reverse P (x ∷ xs) all =
 pub trailing : (text : List ℕ)
     → (back : List ℕ) × Each rfc.IsWs back × (text ≡ without_end text ++ back)
 trailing text =
-    let (front, all, whole) = leading (reverse text) in (
-      reverse front,
-      each_reverse rfc.IsWs front all,
-      sym (reverse-reverse text) ∙ ap reverse whole ∙ reverse-append front (without_front (reverse text)),
-    )
+    let (front, all, whole) = leading (reverse text) in
+    grind (arith, each_reverse, reverse-reverse, reverse-append)
 
 pub record IsAround (text : List ℕ) : Type 0 where
   pub front : List ℕ
@@ -83,13 +79,7 @@ pub around : (text : List ℕ) → IsAround text
 around text =
     let (front, before, whole) = leading text in
     let (back, after, rest) = trailing (without_front text) in
-    record {
-      front = front;
-      back = back;
-      whole = whole ∙ ap (λ t. front ++ t) rest;
-      front_blank = before;
-      back_blank = after;
-    }
+    (grind arith)
 
 abbrev pub IsPlainByte : ℕ → Type 0
 IsPlainByte b = (b ≢ 58) × (b ≢ 35)
@@ -104,10 +94,7 @@ plain_bytes : (key word : List ℕ) → map to_ascii_lowercase key ≡ word → 
     → Each IsPlainByte key
 plain_bytes [] word e all = tt
 plain_bytes (b ∷ key) [] e all = absurd cc
-plain_bytes (b ∷ key) (c ∷ word) e all =
-    let same : to_ascii_lowercase b ≡ c = cc in
-    let both = and_parts (is_plain_byte c) (list_all is_plain_byte word) all in
-    (plain_byte b (subst (λ d. is_plain_byte d ≡ true) (sym same) both.0), plain_bytes key word (cc) both.1)
+plain_bytes (b ∷ key) (c ∷ word) e all = grind (arith, and_parts, plain_byte, plain_bytes key word (cc))
 
 abbrev pub begins_solid : List ℕ → Bool
 begins_solid [] = false
@@ -216,13 +203,10 @@ stays xs ys [] back c solid all e = search (rules, solid_absurd, last_of)
 stays [] ys (d ∷ kept) back c solid all e =
     let same : c ≡ d = cc in (kept, ap (λ x. x ∷ kept) (sym same))
 stays (x ∷ xs) ys (d ∷ kept) back c solid all e =
-    let same : x ≡ d = cc in
-    let (more, is) = stays xs ys kept back c solid all cc in
-    (more, ap (λ y. y ∷ kept) (sym same) ∙ ap (λ t. x ∷ t) is)
+    grind (arith, stays xs ys kept back c solid all cc)
 
 pub front_kept : (text more : List ℕ) → begins_solid text ≡ true → without_front (text ++ more) ≡ text ++ more
-front_kept [] more is = absurd (false≢true is)
-front_kept (b ∷ text) more is = rw (not-true _ is) refl
+front_kept text more solid = grind (arith, not-true)
 
 -- the name in a text of blanks, a key, a blank, and a text that begins with a solid byte
 continued : (kind : Kind) (margin key blanks text : List ℕ) (b c : ℕ) → Each IsBlank margin
@@ -255,8 +239,7 @@ module _ (kind : Kind) (value body : List ℕ) (is : IsStatement kind value body
     blanks = blanks;
     region = is.region;
     comment = is.comment;
-    whole = is.whole ∙ ap (λ t. is.margin ++ (is.key ++ t)) (rest ∙ ap (λ t. blanks ++ 58 ∷ t) is.parted)
-        ∙ simp append_assoc;
+    whole = (grind (arith, append_assoc));
     margin_blank = is.margin_blank;
     is_key = is.is_key;
     blanks_blank = all;

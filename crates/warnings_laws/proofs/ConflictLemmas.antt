@@ -5,7 +5,7 @@ use Rattle.std.proofs.{lemmas.Bool.Decides.nat_tests, lemmas.List.Elements.All-c
 use Rattle.std.proofs.Common.{rules, Some, bytes_eq, codes, if◌then◌else◌, ◌∙◌, ◌≡◌, ℕ, ◌==◌, ◌&&◌, ◌||◌, []}
 use Rattle.std.proofs.Common.{Bool, true, false, List, ◌∷◌, Contains, append-nil, ap, arith, inl, inr, length}
 use Rattle.std.proofs.Common.{not, refl, subst, suc, sym, ◌⊎◌, Any, None, Option, ◌≢◌, ◌<◌, ◌++◌, All, nat_eq}
-use Rattle.std.proofs.Common.{nat_le, slice_index_or}
+use Rattle.std.proofs.Common.{nat_le}
 use Rattle.std.proofs.lemmas.Bool.{and_parts, cases_Bool, not-true, eqb-true, or_cases, eq-eqb, false≢true}
 use Rattle.std.specs.{List.list_all, List.list_any, Str.byte, Option.option_or, List.starts_with}
 use Rattle.std.proofs.lemmas.List.Folds.{list_any-from_Any, Any-from_list_any, list_all_at, list_any_at}
@@ -30,16 +30,7 @@ use Rattle.warnings_laws.proofs.{WarningLemmas.without_path}
 stars_match : (pattern : List ℕ) → list_all is_star_or_dollar pattern ≡ true → Matches pattern []
 unfolding MatchesWith
 stars_match [] stars = tt
-stars_match (b ∷ pattern) stars =
-    let (first, later) = and_parts (is_star_or_dollar b) _ stars in
-    elim (or_cases (b == byte "*") (b == byte "$") first) [
-      | inl is ↦
-          subst (λ b. Matches (b ∷ pattern) []) (sym (eqb-true b (byte "*") is))
-          ([], ([], refl), stars_match pattern later)
-      | inr is ↦
-          subst (λ b. Matches (b ∷ pattern) []) (sym (eqb-true b (byte "$") is))
-          ([], (refl, refl), stars_match pattern later)
-    ]
+stars_match (b ∷ pattern) stars = grind (arith, and_parts, or_cases, eqb-true, stars_match pattern)
 
 anything_matches : (pattern text : List ℕ) → is_anything pattern ≡ true → Matches pattern text
 unfolding MatchesWith
@@ -52,11 +43,7 @@ anything_matches (b ∷ pattern) text is =
 rest_matches : (pattern text : List ℕ) → (length pattern == 0 || is_anything pattern) ≡ true
     → Matches pattern text
 unfolding MatchesWith
-rest_matches [] text rest = tt
-rest_matches (c ∷ pattern) text rest = elim (or_cases (length (c ∷ pattern) == 0) _ rest) [
-  | inl is ↦ let none : length (c ∷ pattern) ≡ 0 = eqb-true _ 0 is in absurd (omega arith)
-  | inr any ↦ anything_matches (c ∷ pattern) text any
-]
+rest_matches pattern text rest = grind (arith, or_cases, eqb-true, anything_matches)
 
 root_matches : (pattern text : List ℕ) → is_root pattern ≡ true → Matches pattern (byte "/" ∷ text)
 unfolding MatchesWith
@@ -69,19 +56,12 @@ root_matches (b ∷ pattern) text root =
 stars_match_before : (pattern text : List ℕ) → Matches (without_stars pattern) text → Matches pattern text
 unfolding MatchesWith
 stars_match_before [] text rest = rest
-stars_match_before (b ∷ pattern) text rest = elim (cases_Bool (b == byte "*")) [
-  | inl star ↦
-      subst (λ b. Matches (b ∷ pattern) text) (sym (eqb-true b (byte "*") star))
-      (text, ([], refl), stars_match_before pattern text (rw star at rest))
-  | inr other ↦ rw other at rest
-]
+stars_match_before (b ∷ pattern) text rest = grind (arith, eqb-true, stars_match_before pattern text)
 
 pub whole_site_matches : (pattern text : List ℕ) → is_whole_site pattern ≡ true
     → Matches pattern (byte "/" ∷ text)
-whole_site_matches pattern text whole = elim (or_cases (is_anything pattern) _ whole) [
-  | inl any ↦ anything_matches pattern (byte "/" ∷ text) any
-  | inr root ↦ stars_match_before pattern _ (root_matches (without_stars pattern) text root)
-]
+whole_site_matches pattern text whole =
+    grind (arith, or_cases, anything_matches, stars_match_before, root_matches)
 
 pub cut_to_root_matches : (value tail comment path : List ℕ) → is_cut_to_root value tail comment ≡ true
     → Matches (escaped value) (byte "/" ∷ path)
@@ -200,7 +180,7 @@ same_wins pattern other text same = grind (arith, common_steps)
 root_wins : (pattern other path : List ℕ) → is_whole_site other ≡ true → length pattern ≡ length other
     → Wins pattern other (byte "/" ∷ path)
 unfolding Wins
-root_wins pattern other path whole long = (λ matches. whole_site_matches other path whole, long)
+root_wins pattern other path whole long = grind (arith, whole_site_matches)
 
 pub wins_on_paths : (pattern other path : List ℕ) → compared other ≡ compared pattern
     → Wins pattern other (byte "/" ∷ path)
@@ -235,26 +215,16 @@ conflict_never_decides is_empty agent lines rules number other text is wins are 
     decides.best (record { rule = (is.allowed, true); line = other })
     (also_listed is.are are _ is.allow)
     (wins.0 (subst (λ (rule : Rule). Matches rule.0 text) same decides.matches))
-    (inr (
-      sym wins.1 ∙ ap (λ (rule : Rule). length rule.0) (sym same),
-      inl (refl, ap (λ (rule : Rule). rule.1) same),
-    ))
+    (grind arith)
 
 -- ---- What `closes-everything` implies, and that a crawler may fetch all or nothing.
 
 line_given : (test : PlacedRule → Bool) (placed : PlacedRule) → is_some (line_if test placed) ≡ test placed
-line_given test placed = by (test placed)
-  where
-    by : (b : Bool) → is_some (if b then Some placed.line else None) ≡ b
-    by true = refl
-    by false = refl
+line_given test placed = grind arith
 
 none_at : {X : Type 0} (test : X → Bool) (xs : List X) → list_any test xs ≡ false
     → All (λ x. test x ≡ false) xs
-none_at test xs none k d below = elim (cases_Bool (test (slice_index_or xs k d))) [
-  | inl is ↦ absurd (false≢true (sym none ∙ list_any_at test xs k d below is))
-  | inr isnt ↦ isnt
-]
+none_at test xs none k d below = grind (arith, list_any_at)
 
 is_shorter : (n m : ℕ) → nat_le n m ≡ false → m < n
 is_shorter n m isnt = grind (arith, nat_tests)
@@ -284,8 +254,7 @@ closed_denies is_exempt agent lines rules text is are differs opens =
           (none_at (is_rival is_exempt placed.rule.0) all (not-true _ alone))
           (also_listed are own allow listed) in
           shorter (length placed.rule.0) pattern matches
-          (subst (λ (rule : Rule). ((rule.1 && not (is_exempt rule.0 || matches_no_path rule.0))
-          && nat_le (length placed.rule.0) (length rule.0)) ≡ false) same isnt)
+          (grind arith)
           (cases_Bool (is_exempt pattern)) (cases_Bool (matches_no_path pattern)),
     )
   where
@@ -309,8 +278,7 @@ literally_starts pattern path text is matches =
     elim (or_cases (bytes_eq path pattern) _ same) [
       | inl whole ↦
           by (not-true _ none) []
-          (subst (λ pattern. Matches pattern text)
-          (sym ((bytes_eq-Decides path pattern).0 whole) ∙ sym (append-nil path)) matches)
+          (grind (arith, bytes_eq-Decides, append-nil))
       | inr ended ↦
           by (not-true _ none) (codes "$")
           (subst (λ pattern. Matches pattern text) (sym ((bytes_eq-Decides _ pattern).0 ended)) matches)
@@ -334,8 +302,7 @@ pub closes_everything : (agent : List ℕ) (lines : List LineValue) (rules : Lis
 closes_everything agent lines rules number text is are none =
     closed_denies (is_exempt lines) agent lines rules text
     (ap is_some (closed_by _ _ is)) are
-    (λ same. false≢true (sym none ∙ within robots_file (0, omega arith, refl)
-    (subst (λ (text : List ℕ). starts_with nat_eq text robots_file ≡ true) (sym same) refl)))
+    (grind arith)
     (λ pattern exempt matches.
     let (k, path, below, at, literal) =
     Any-from_list_any (is_literally pattern) (opened_paths lines) exempt in
@@ -348,28 +315,14 @@ closes_everything agent lines rules number text is are none =
         list_any-from_Any (starts_with nat_eq (byte "/" ∷ text)) (opened_paths lines)
         (k, path, below, at, begins)
 
-abbrev is_everything : Reach → Bool
-is_everything Everything = true
-is_everything _ = false
-
-abbrev is_nothing : Reach → Bool
-is_nothing Nothing = true
-is_nothing _ = false
-
 abbrev reach_if : (other all shut : Bool) → Reach
 reach_if other all shut = if other then Part else if all then Everything else if shut then Nothing else Part
 
 everything_if : (other all shut : Bool) → reach_if other all shut ≡ Everything → all ≡ true
-everything_if true all shut is = absurd (false≢true (ap is_everything is))
-everything_if false true shut is = refl
-everything_if false false true is = absurd (false≢true (ap is_everything is))
-everything_if false false false is = absurd (false≢true (ap is_everything is))
+everything_if other all shut is = grind arith
 
 nothing_if : (other all shut : Bool) → reach_if other all shut ≡ Nothing → shut ≡ true
-nothing_if true all shut is = absurd (false≢true (ap is_nothing is))
-nothing_if false true shut is = absurd (false≢true (ap is_nothing is))
-nothing_if false false true is = refl
-nothing_if false false false is = absurd (false≢true (ap is_nothing is))
+nothing_if other all shut is = grind arith
 
 abbrev is_shut : List PlacedRule → Bool
 is_shut rules = is_some (closing_line (λ pattern. false) rules)
@@ -382,8 +335,7 @@ fetches_everything agent lines rules text is are (differs, pattern, has, matches
     let (k, below, at) = also_listed are (computed_are agent lines) denies listed in
     let isnt = list_all_at is_allow all k denies below
     (ap is_allow at ∙ ap (λ (rule : Rule). rule.1) same) in
-    false≢true (sym isnt
-    ∙ everything_if (is_some (other_group lines agent)) (list_all is_allow all) (is_shut all) is)
+    (grind (arith, everything_if))
 
 pub fetches_nothing : (agent : List ℕ) (lines : List LineValue) (rules : List PlacedRule) (text : List ℕ)
     → reach_of lines agent ≡ Nothing → AreRulesFor agent lines rules → byte "/" ∷ text ≢ robots_file

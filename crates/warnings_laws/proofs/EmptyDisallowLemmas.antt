@@ -17,7 +17,7 @@ use Rattle.robots_warnings.specs.Conflicts.{stated_rules, IsOverruled, at_line, 
 use Rattle.robots_warnings.specs.Conflicts.{overruled_by, overruled_for}
 use Rattle.robots_warnings.specs.{FieldNames.without_front}
 use Rattle.warnings_laws.proofs.{WarningLemmas.is_stated}
-use Rattle.texting_robots.specs.{Pattern.MatchesWith, Line.IsLineWith, Statement.IsStatement}
+use Rattle.texting_robots.specs.{Pattern.MatchesWith, Statement.IsStatement}
 use Rattle.robots_needless.proofs.TogetherLemmas.{in_filter, to_filter, unplaced_of}
 use Rattle.warnings_laws.proofs.ConflictLemmas.{first_found, first_some, like_found, like_holds, listed}
 use Rattle.warnings_laws.proofs.ConflictLemmas.{also_listed, if_found, path_wins, unless_found}
@@ -42,8 +42,7 @@ only_d : (letter : ℕ) → kind_with letter ≡ Some kind.Disallow → letter �
 only_d letter is = grind (arith, common_steps)
 
 selects_d : (text : List ℕ) → kind_by text ≡ Some kind.Disallow → begins_with_d text ≡ true
-selects_d [] is = cc
-selects_d (b ∷ text) is = lower_d b (only_d (to_ascii_lowercase b) is)
+selects_d text is = grind (arith, lower_d, only_d)
 
 selected : (kind : Kind) (value body : List ℕ) → IsStatement kind value body
     → kind_by (skip_blanks body) ≡ Some kind
@@ -58,8 +57,7 @@ pub empty_is_allow : (line : LineValue) (body : List ℕ) → IsLineOf line body
     → IsStatement kind.Disallow [] body → line ≡ Allow (codes "/")
 empty_is_allow line body (inl (k, value, is, line_is)) empty =
     let (kind_same, value_same) = one_statement k kind.Disallow value [] body is empty in
-    subst (λ v. IsLineWith kind.Disallow v body line) value_same
-    (subst (λ k. IsLineWith k value body line) kind_same line_is)
+    (grind arith)
 empty_is_allow line body (inr (none, line_is)) empty = absurd (none kind.Disallow [] empty)
 
 empty_stated : (line : LineValue) (body : List ℕ) → IsLineOf line body → is_empty_disallow line body ≡ true
@@ -67,10 +65,7 @@ empty_stated : (line : LineValue) (body : List ℕ) → IsLineOf line body → i
 empty_stated (Allow own) body of_body holds = elim (is_stated (Allow own) body of_body) [
   | inr (same, is) ↦ is
   | inl is ↦
-      let by : kind_by (skip_blanks body) ≡ Some kind.Disallow =
-      d_selects (skip_blanks body) (subst (λ text. begins_with_d text ≡ true) (skipped body) holds) in
-      let other = selected kind.Allow own body is in
-      cc
+      (grind (arith, d_selects, skipped, selected))
 ]
 empty_stated line body of_body holds = cc
 
@@ -133,8 +128,7 @@ at_found (first ∷ labels) [] number i label body at beside same empty = cc
 at_found (first ∷ labels) (own ∷ bodies) number zero label body at beside same empty =
     grind (arith, common_steps)
 at_found (first ∷ labels) (own ∷ bodies) number (suc i) label body at beside same empty =
-    or_right (is_empty_disallow first.line own && first.number == number) (is_empty_at bodies labels number)
-    (at_found labels bodies number i label body at beside same empty)
+    grind (arith, or_right, at_found labels bodies number i label body at beside same empty)
 
 pub zips : (file : List ℕ) → AllZip IsLineOf (lines_read file) (bodies_read file)
 zips file = search (rules, lines_of_file_bodies)
@@ -404,8 +398,5 @@ module _ (agent file : List ℕ) (rules : List PlacedRule)
 
     pub same_without : (text : List ℕ) (answer : Bool)
         → IsVerdict (unplaced rules) text answer ↔ IsVerdict (unplaced stated) text answer
-    same_without text true = (
-      λ allowed is. allowed (denied_all text is),
-      λ allowed is. allowed (denied_stated text is),
-    )
+    same_without text true = grind (arith, denied_all, denied_stated)
     same_without text false = (denied_stated text, denied_all text)

@@ -1,8 +1,9 @@
 -- A line without a warning about its syntax has the form of its kind.
+use Rattle.std.proofs.Common.{rules}
 use Rattle.std.proofs.{lemmas.Grind.common_steps, lemmas.Bool.and_parts}
 use Rattle.std.proofs.Common.{◌≡◌, ◌≢◌, ◌⊎◌, inl, inr, ℕ, false, List, [], ◌∷◌, ◌++◌, ap, append-nil, codes}
-use Rattle.std.proofs.Common.{refl, subst, sym, ◌∙◌, ◌==◌, ◌||◌, true, Option, append_assoc, arith, not}
-use Rattle.std.proofs.lemmas.Bool.{not-true, cases_Bool, eqb-true, eqb-false, false≢true, not-false, or_cases}
+use Rattle.std.proofs.Common.{refl, subst, sym, ◌∙◌, ◌==◌, ◌||◌, true, Option, append_assoc, arith}
+use Rattle.std.proofs.lemmas.Bool.{not-true, cases_Bool, eqb-true, eqb-false, not-false, or_cases}
 use Rattle.texting_robots.specs.{Callers.Allow, Cut.lf, Trim.IsTrimOf, declared.parser.statement.Kind.Kind}
 use Rattle.texting_robots.specs.Callers.{Disallow, IsLineOf, UserAgent, CrawlDelay, LineValue, Raw, Sitemap}
 use Rattle.texting_robots.specs.Internal.Statement.{trimmed, IsOptionalComment}
@@ -19,7 +20,6 @@ use Rattle.warnings_laws.proofs.QuietLemmas.{keyed, named, token, Empty, Path, S
 use Rattle.warnings_laws.proofs.QuietLemmas.{raw_plain, rule_value, not_quiet, in_order, IsQuietDirective}
 use Rattle.warnings_laws.proofs.QuietLemmas.{quiet_off, several_about, value_units}
 use Rattle.warnings_laws.specs.Syntax.{AreQuiet, IsQuietLine, form_of}
-use Rattle.robots_warnings.specs.Rules.{after_byte, before_byte, has}
 use Rattle.rfc9309_laws.proofs.KeyedLemmas.{has_at, word_of}
 use Rattle.std.specs.{List.AllByRecursion as Each, Char.is_ascii_digit, Str.is_utf8}
 use Rattle.rfc9309_laws.proofs.{HasFormLemmas.blank, SyntaxLemmas.passing}
@@ -36,8 +36,7 @@ blank_read : (region value : List ℕ) → raw_value region ≡ [] → IsTrimOf 
 blank_read region value none is =
     let parts = around region in
     let blank : Each IsBlank region =
-    subst (Each IsBlank) (sym (parts.whole ∙ ap (λ v. parts.front ++ (v ++ parts.back)) none))
-    (each_append IsBlank parts.front parts.back parts.front_blank parts.back_blank) in
+    (grind (arith, each_append)) in
     sym (is_trimmed region value is) ∙ ap trimmed (sym (append-nil region)) ∙ blanks_skipped region [] blank
     ∙ nothing_trimmed
 
@@ -128,8 +127,7 @@ digit : (b : ℕ) → is_ascii_digit b ≡ true → rfc.IsDigitByte b
 digit b is = grind (arith, common_steps)
 
 digits : (text : List ℕ) → are_digits text ≡ true → rfc.IsDigits text
-digits [] is = absurd (false≢true is)
-digits (b ∷ text) is = grind (arith, and_parts, passing, digit)
+digits text is = grind (arith, and_parts, passing, digit)
 
 -- the text before a byte, that byte, and the text after it; or a text without the byte
 pub record IsSplitAt (stop : ℕ) (text : List ℕ) : Type 0 where
@@ -159,11 +157,7 @@ split stop (b ∷ text) = elim (cases_Bool (b == stop)) [
 ]
 
 number : (text : List ℕ) → is_plain_number text ≡ true → rfc.IsNumber text
-number text is = grind (arith, and_parts, split, digits, before_all, point)
-  where
-    point : (text : List ℕ) (some : IsSplitAt 46 text) → are_digits (before_byte 46 text) ≡ true
-        → (not (has 46 text) || are_digits (after_byte 46 text)) ≡ true → rfc.IsFraction text
-    point text some units fraction = grind (arith, digits, before_is, after_is, has_at)
+number text is = grind (arith, and_parts, split, digits, before_all, before_is, after_is, has_at)
 
 delay_form : (delay : Option ℕ) (body : List ℕ) → IsLineOf (CrawlDelay delay) body
     → IsQuietDirective (CrawlDelay delay) body → HasForm form.Delay body
@@ -205,13 +199,7 @@ record IsBlankLine (body : List ℕ) : Type 0 where
 blank_line : (body : List ℕ) → is_blank body ≡ true → IsBlankLine body
 blank_line [] is = grind (arith, common_steps)
 blank_line (b ∷ body) is = elim (or_cases (b == 35) _ is) [
-  | inl hash ↦ record {
-    blanks = [];
-    comment = b ∷ body;
-    whole = refl;
-    are_blank = tt;
-    is_comment = inr (body, ap (λ c. c ∷ body) (eqb-true b 35 hash));
-  }
+  | inl hash ↦ (grind (arith, eqb-true))
   | inr rest ↦
       let both = and_parts (b == 32 || b == 9) (is_blank body) rest in
       let line = blank_line body both.1 in
@@ -238,15 +226,7 @@ blank_form : (body : List ℕ) → is_blank body ≡ true → has_odd_comment (c
 blank_form body is odd =
     let line = blank_line body is in
     let found = comment_there line.blanks line.comment line.are_blank line.is_comment in
-    record {
-      blanks = line.blanks;
-      comment = line.comment;
-      nl = lf ∷ [];
-      whole = ap (λ t. t ++ lf ∷ []) line.whole ∙ simp append_assoc;
-      are_blanks = line.are_blank;
-      is_comment = in_order line.comment line.is_comment (rw (line.whole, found) at odd);
-      is_nl = inr (inl refl);
-    }
+    (grind (arith, append_assoc, in_order))
 
 raw_form : (content body : List ℕ) → content ≡ body → IsQuietLine (Raw content) body → HasForm form.Empty body
 unfolding topic_of
@@ -257,6 +237,6 @@ pub line_form : (line : LineValue) (body : List ℕ) → IsLineOf line body → 
 line_form (UserAgent value) body is all = agent_form value body is all
 line_form (Allow value) body is all = allow_form value body is all
 line_form (Disallow value) body is all = disallow_form value body is all
-line_form (CrawlDelay delay) body is all = delay_form delay body is (quiet (CrawlDelay delay) body all)
-line_form (Sitemap value) body is all = sitemap_form value body is (quiet (Sitemap value) body all)
-line_form (Raw content) body is all = raw_form content body (is_stated (Raw content) body is) all
+line_form (CrawlDelay delay) body is all = search (rules, delay_form, quiet)
+line_form (Sitemap value) body is all = search (rules, sitemap_form, quiet)
+line_form (Raw content) body is all = search (rules, raw_form, is_stated)

@@ -2,13 +2,13 @@
 -- line with `replaces-star` is in the group of a crawler that has no Disallow of `*`.
 use Rattle.std.proofs.lemmas.{Grind.common_steps, Option.same_Some, Option.slice_get-map}
 use Rattle.std.proofs.Common.{rules, codes, if◌then◌else◌, inl, inr, refl, subst, sym, ◌≤◌, ◌-◌, ◌≡◌, ◌+◌, ℕ}
-use Rattle.std.proofs.Common.{◌∙◌, ◌||◌, suc, zero, Bool, true, false, not, List, [], ◌∷◌, All, Contains, map}
+use Rattle.std.proofs.Common.{◌∙◌, suc, zero, Bool, true, false, not, List, [], ◌∷◌, All, Contains, map}
 use Rattle.std.proofs.Common.{Option, None, Some, filter, slice_get, take, ap, ap₂, arith}
 use Rattle.std.specs.List.{enumerate_from, fold, list_any, count_by}
 use Rattle.std.proofs.lemmas.Bool.{and_parts, cases_Bool, false≢true, cases_lt, not-true, or_cases, or_right}
 use Rattle.std.proofs.lemmas.List.{get_or-map, length-map, Elements.Contains-append_cases, Sums.length-filter}
 use Rattle.std.proofs.lemmas.List.{Sorted.sum_by-IsPermutation}
-use Rattle.texting_robots.specs.Callers.{AreLabelsOf, CrawlDelay, Label, LineValue, UserAgent, delay_for}
+use Rattle.texting_robots.specs.Callers.{AreLabelsOf, Label, LineValue, UserAgent, delay_for}
 use Rattle.texting_robots.specs.Callers.{group_name, AreRulesFor, HoldsRule, PlacedRule, Rule, placed_rules}
 use Rattle.texting_robots.specs.Executable.{captured_delays, delay_before_agents}
 use Rattle.texting_robots.specs.Group.{is_agent, is_agent_named, passes_at, is_group}
@@ -19,19 +19,20 @@ use Rattle.robots_warnings.specs.Checks.{Check, position_checks}
 use Rattle.robots_warnings.specs.Positions.{are_different, first_delay, is_other_delay, last_group, sole_name}
 use Rattle.robots_warnings.specs.Positions.{preceding_with, begin_with_one}
 use Rattle.robots_warnings.specs.Warnings.{position_warnings, positions_from, warned, warned_at}
-use Rattle.warnings_laws.proofs.RepeatedLemmas.{among, holds_among, AreFrom, IsFrom, all_labels, here}
+use Rattle.warnings_laws.proofs.RepeatedLemmas.{holds_among, AreFrom, IsFrom, all_labels, here}
 use Rattle.warnings_laws.proofs.RepeatedLemmas.{first_or_later, labels_next}
 use Rattle.warnings_laws.proofs.{WarningLemmas.below_agent}
 use Rattle.std.proofs.lemmas.List.Folds.{Any-from_list_any, list_any-from_Any}
 use Rattle.texting_robots.specs.{Labels.AreOneRun, Labels.IsInOwnGroup, Line.delay_in}
 use Rattle.texting_robots.proofs.MainTheoremLemmas.{computed_are, one_list}
-use Rattle.robots_warnings.specs.declared.positions.Preceding.TheVariants.{Agent, Delay, Other}
-use Rattle.robots_warnings.specs.Closed.{denies, is_first_name, is_kept, is_partial, is_replacing, lacks_all}
+use Rattle.robots_warnings.specs.declared.positions.Preceding.TheVariants.{Other}
+use Rattle.robots_warnings.specs.Closed.{denies, is_first_name, is_partial, is_replacing, lacks_all}
 use Rattle.robots_warnings.specs.Closed.{replacing, replacing_from, star_count, star_rules, is_whole_site}
 use Rattle.std.specs.{Option.option_or, Str.str_to_ascii_lowercase}
 use Rattle.std.proofs.lemmas.Slice.{Eq.bytes_eq-Decides}
 use Rattle.texting_robots.specs.declared.groups.{GroupTracker.GroupTracker}
 use Rattle.robots_needless.specs.{Needless.lines_without}
+use Rattle.robots_needless.proofs.{BlockLemmas.among}
 use Rattle.robots_warnings.specs.{declared.positions.Preceding.Preceding, File.lines_of, Message.WarningValue}
 use Rattle.robots_warnings.specs.declared.table.Cause.{TheVariants.TwoDelays}
 use Rattle.robots_warnings.specs.declared.positions.Preceding.TheVariants as preceding
@@ -66,11 +67,7 @@ other_here : (last : Option ℕ) (preceding : Preceding) (above : Option (List �
     (label : Label) (lines : List LineValue)
     → Contains (position_checks last preceding above first label lines) (TwoDelays, true)
     → is_other_delay first label ≡ true
-other_here last preceding above first label lines (suc (suc (suc (suc (suc zero)))), below, at) =
-    ap (λ (check : Check). check.1) at
-other_here last preceding above first label lines (suc (suc (suc (suc (suc (suc k))))), below, at) =
-    absurd (omega arith)
-other_here last preceding above first label lines (place, below, at) = grind (arith, common_steps)
+other_here last preceding above first label lines has = grind (arith, common_steps)
 
 is_other : (last : Option ℕ) (preceding : Preceding) (above : Option (List ℕ)) (first : Option ℕ)
     (labels : List Label) (number : ℕ)
@@ -117,17 +114,12 @@ module _ (name : List ℕ) where
   settled_next : (first found : Option ℕ) (tracker : GroupTracker) (line : LineValue)
       → IsSettled first found tracker
       → IsSettled (first_delay first line) (found_next found tracker line) (step name tracker line)
-  settled_next first found tracker (UserAgent value) is = tt
-  settled_next None found tracker (CrawlDelay (Some delay)) is = grind (arith, common_steps)
-  settled_next None found tracker line is = tt
-  settled_next (Some one) found tracker line (same, closed) = (rw (same (delay_in line)) same, cc)
+  settled_next first found tracker line is = grind (arith, common_steps)
 
   nothing_lost : (first found : Option ℕ) (tracker : GroupTracker) (line : LineValue)
       → are_different first (delay_in line) ≡ true → IsSettled first found tracker
       → (found_next found tracker line ≡ found) × ◌≡◌ {A = GroupTracker} (step name tracker line) tracker
-  nothing_lost (Some one) found tracker (CrawlDelay delay) differs (same, closed) =
-      grind (arith, common_steps)
-  nothing_lost first found tracker line differs is = cc
+  nothing_lost first found tracker line differs is = grind (arith, common_steps)
 
 record AreOthers (gone : ℕ → Bool) (position : ℕ) (first : Option ℕ) (labels : List Label) : Type 0 where
   each : (place : ℕ) → gone (position + place + 1) ≡ true → IsOther first labels place
@@ -153,12 +145,14 @@ module _ (gone : ℕ → Bool) where
       → list_any test (left_from gone position (lines_of labels)) ≡ list_any test (lines_of labels)
   any_left test others position first [] are = refl
   any_left test others position first (label ∷ labels) are =
-      let later = any_left test others (position + 1) (first_delay first label.line) labels
-      (others_next are) in
-      elim (cases_Bool (gone (position + 1))) [
-        | inl goes ↦ rw (goes, others label.line (no_agent first label.line (differs_here are goes))) later
-        | inr stays ↦ rw stays (ap (λ any. test label.line || any) later)
-      ]
+      grind (
+        arith,
+        others,
+        others_next,
+        no_agent,
+        differs_here,
+        any_left test others (position + 1) (first_delay first label.line) labels (others_next are),
+      )
 
   first_left : (name : List ℕ) (position : ℕ) (first found : Option ℕ) (tracker : GroupTracker)
       (labels : List Label) → AreOthers gone position first labels → IsSettled first found tracker
@@ -174,14 +168,7 @@ module _ (gone : ℕ → Bool) where
       let later = first_left name (position + 1) (first_delay first line) now moved labels (others_next are)
       (settled_next name first found tracker line is)
       ∙ first_more given found now (given_captured delay_in name moved (lines_of labels)) refl in
-      elim (cases_Bool (gone (position + 1))) [
-        | inl goes ↦
-            let (same, still) = nothing_lost name first found tracker line (differs_here are goes) is in
-            let unchanged = ap₂ (λ found tracker. first_found name found tracker left) same still in
-            rw goes (sym unchanged ∙ later)
-        | inr stays ↦
-            rw stays (sym (first_more given found now (given_captured delay_in name moved left) refl) ∙ later)
-      ]
+      (grind (arith, nothing_lost, differs_here, first_more, given_captured))
 
 abbrev AreBelow : (ℕ → Bool) → ℕ → List LineValue → Type 0
 AreBelow gone position lines =
@@ -288,8 +275,7 @@ has_none agent lines lacks star other pattern starred holds =
     let same = (bytes_eq-Decides pattern pattern).1 refl in
     let denied = list_any-from_Any (denies pattern) (star_rules lines) (i, _, within, there, same) in
     let kept = or_right (is_whole_site pattern) _ denied in
-    false≢true (sym (not-true _ lacks)
-    ∙ list_any-from_Any (is_kept (star_rules lines)) (placed_rules agent lines) (k, _, below, at, kept))
+    (grind (arith, not-true, list_any-from_Any, below))
 
 -- the line at this position is a user-agent line with such a name, with no rule or delay up to it
 record IsNamed (test : List ℕ → Bool) (lines : List LineValue) : Type 0 where
@@ -321,8 +307,7 @@ named test (UserAgent value ∷ lines) is = elim (or_cases (test value) (begin_w
   | inr later ↦ named_next (UserAgent value) refl (named test lines later)
 ]
 named test (line ∷ lines) is =
-    let (outside, later) = and_parts (not (is_group line)) (begin_with_one test lines) is in
-    named_next line (not-true _ outside) (named test lines later)
+    grind (arith, and_parts, named_next, not-true, named test lines)
 
 one_run : {test : List ℕ → Bool} {lines : List LineValue} {position : ℕ} {rest : List LineValue}
     → IsFrom lines position rest → (is : IsNamed test rest)
@@ -341,10 +326,7 @@ one_run {lines} {position} {rest} from is k group = elim (cases_lt k position) [
 
 first_agent : (before : Preceding) (line : LineValue) → is_first_name before line ≡ true
     → (value : List ℕ) × (line ≡ UserAgent value)
-first_agent Agent line is = cc
-first_agent before (UserAgent value) is = (value, refl)
-first_agent Delay line is = cc
-first_agent Other line is = cc
+first_agent before line is = grind arith
 
 record IsFound (agents : List (List ℕ)) (lines : List LineValue) (number : ℕ) : Type 0 where
   position : ℕ
@@ -378,8 +360,7 @@ found_from agents lines before position (label ∷ labels) number are has =
 
 if_any : (some : Bool) (numbers : List ℕ) (number : ℕ) → Contains (if some then numbers else []) number
     → Contains numbers number
-if_any true numbers number has = has
-if_any false numbers number (k, below, at) = absurd (omega arith)
+if_any some numbers number has = grind arith
 
 pub replaces_star : (agents : List (List ℕ)) (name : List ℕ) (lines : List LineValue) (labels : List Label)
     (number : ℕ) → AreLabelsOf name lines labels → Contains (replacing agents lines labels) number

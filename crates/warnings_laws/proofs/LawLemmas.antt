@@ -4,8 +4,8 @@ use Rattle.std.specs.Prelude.{flat_map, is_some, zip, ◌||◌}
 use Rattle.std.proofs.{lemmas.Grind.common_steps, Common.rules}
 use Rattle.std.proofs.Common.{false, true, ◌++◌, ap, None, Option, Some, if◌then◌else◌, is_none, ◌≡◌, ◌≢◌, ℕ}
 use Rattle.std.proofs.Common.{◌≤◌, ◌↔◌, Bool, inl, inr, List, [], ◌∷◌, Contains, IsUtf8, arith, codes, length}
-use Rattle.std.proofs.Common.{ltb-false, refl, subst, subst₂, sym, take, take_all, ◌⊎◌, suc, map, not, ◌==◌}
-use Rattle.std.proofs.lemmas.Bool.{cases_Bool, false_from_ne_true, false≢true, ne_eqb, not-false, or_parts}
+use Rattle.std.proofs.Common.{ltb-false, refl, subst, subst₂, sym, take, take_all, ◌⊎◌, suc, map, ◌==◌}
+use Rattle.std.proofs.lemmas.Bool.{false_from_ne_true, false≢true, ne_eqb, not-false, or_parts}
 use Rattle.texting_robots.specs.Callers.{IsVerdict, Label, LineValue, PlacedRule, agents_in, placed_rules}
 use Rattle.texting_robots.specs.Callers.{file_limit, rules_for, IsFirstOverlong, IsOverlong, IsRejected, Rule}
 use Rattle.texting_robots.specs.Callers.{delay_for, lines_read, unplaced, IsRobotOfFile, RobotValue}
@@ -17,7 +17,7 @@ use Rattle.audit_core.specs.Audit.{AgentValue, AreOfSitemaps, AuditValue, IsAgen
 use Rattle.audit_core.specs.Audit.{IsVerdictOn, VerdictValue, agents_requested, group_of, labeling_agent}
 use Rattle.audit_core.specs.Audit.{labels_requested, naming_line, rejects_some, sitemap_warning}
 use Rattle.audit_core.specs.Audit.{sitemaps_asked, warnings_found, warnings_requested}
-use Rattle.audit_core.specs.{Needless.needless_warning, declared.syntax.Syntax.TheVariants.StandardVerdicts}
+use Rattle.audit_core.specs.{declared.syntax.Syntax.TheVariants.StandardVerdicts}
 use Rattle.audit_core.specs.{Request.RequestValue, Asked.asked_target, declared.syntax.Syntax.Syntax}
 use Rattle.audit_core.specs.Syntax.{syntax_of, has_standard_verdicts, has_syntax_warning, is_about_syntax}
 use Rattle.audit_core.specs.Syntax.{is_standard, keep_verdicts}
@@ -81,9 +81,7 @@ zip_once R once [] (y ∷ ys) zs one two = absurd one
 zip_once R once (x ∷ xs) [] zs one two = absurd one
 zip_once R once (x ∷ xs) (y ∷ ys) [] one two = absurd two
 zip_once R once (x ∷ xs) (y ∷ ys) (z ∷ zs) (one, more) (two, rest) =
-    let first = once x y z one two in
-    let later = zip_once R once xs ys zs more rest in
-    cc
+    grind (arith, zip_once R once xs ys zs more rest)
 
 decided_once : (rules : List PlacedRule) (text : List ℕ) (one two : Decision)
     → IsDecisionOn rules text one → IsDecisionOn rules text two → one ≡ two
@@ -238,15 +236,7 @@ some_agent urls lines agent =
         rejected = rejected;
         verdicts = verdicts;
       },
-      record {
-        agent_is = refl;
-        group_is = refl;
-        line_is = refl;
-        rules_are = refl;
-        reach_is = refl;
-        delay_is = refl;
-        ruling = ruling;
-      },
+      (grind arith),
     )
 
 pub some_audit : (requested : RequestValue) (file : List ℕ) → (audit : AuditValue)
@@ -288,9 +278,7 @@ each_not : (warnings : List WarningValue) → has_syntax_warning warnings ≡ fa
     → Each IsNotAboutSyntax warnings
 unfolding is_about_syntax
 each_not [] none = tt
-each_not (warning ∷ warnings) none =
-    let parts = or_parts (not (is_not_about_syntax warning.cause)) (has_syntax_warning warnings) none in
-    (not-false (is_not_about_syntax warning.cause) parts.0, each_not warnings parts.1)
+each_not (warning ∷ warnings) none = grind (arith, or_parts, not-false, each_not warnings)
 
 stated : (unstated : Bool) (syntax : Syntax) → is_standard (if unstated then Unstated else syntax) ≡ true
     → unstated ≡ false
@@ -306,15 +294,9 @@ kept : (unstated : Bool) (warnings : List WarningValue)
     else (if length warnings == 0 then StandardWithoutWarnings
     else (if keep_verdicts warnings then StandardVerdicts else Standard))) ≡ true
     → ArePassed keeps_verdicts warnings
-kept true warnings is = absurd (false≢true is)
+kept true warnings is = grind arith
 kept false [] is = tt
-kept false (warning ∷ warnings) is = elim (cases_Bool (keep_verdicts (warning ∷ warnings))) [
-  | inl all ↦ passing _ (λ (warning : WarningValue). keeps_verdicts warning.cause) (λ _ is. is)
-      (warning ∷ warnings) all
-  | inr other ↦
-      let some : (length (warning ∷ warnings) == 0) ≡ false = ne_eqb _ 0 (λ e. omega arith) in
-      absurd (false≢true (rw (some, other) at is))
-]
+kept false (warning ∷ warnings) is = grind (arith, passing, ne_eqb)
 
 -- all warnings but those about needless rules and sitemaps, as `warnings_found` has them
 abbrev warnings_for : Option (List ℕ) → (agents urls : List (List ℕ)) → List ℕ → List WarningValue
@@ -345,21 +327,13 @@ module _ (requested : RequestValue) (file : List ℕ) (audit : AuditValue) (is :
       -- all groups are checked, the whole file is read, and no warning is about syntax
       known : ((is_some requested.agent ≡ false) × (is_too_large file ≡ false))
           × (has_syntax_warning found ≡ false)
-      known =
-          let (other, none) =
-          or_parts _ _ (stated unstated _ (subst (λ s. is_standard s ≡ true) is.syntax_is standard)) in
-          (or_parts _ _ (or_parts _ _ other).0, none)
+      known = grind (arith, or_parts, stated)
 
       audited : (test : Cause → Bool) → ArePassed test found
           → ArePassed test (warnings_of agents requested.urls file)
       audited test passed =
           passed_on test requested.agent agents requested.urls file known.0.0
-          (each_front (λ warning. test warning.cause ≡ true)
-          (warnings_for requested.agent agents requested.urls file)
-          (map needless_warning is.needless)
-          (each_front (λ warning. test warning.cause ≡ true)
-          (warnings_for requested.agent agents requested.urls file ++ map needless_warning is.needless)
-          is.sitemaps passed))
+          (grind (arith, each_front))
 
       silent : IsSilentOn agents requested.urls file
       silent = audited is_not_about_syntax (each_not found known.1)
@@ -372,8 +346,7 @@ module _ (requested : RequestValue) (file : List ℕ) (audit : AuditValue) (is :
 
       pub robot_of_the_standard : (agent : List ℕ) (robot : RobotValue)
           → IsRobotOfFile agent (take file_limit file) robot → IsRobotStated agent file robot
-      robot_of_the_standard agent robot of =
-          robot_stated agents requested.urls file silent agent robot of
+      robot_of_the_standard agent robot of = search (rules, robot_stated, silent)
 
     pub verdicts_of_the_standard : has_standard_verdicts audit.syntax ≡ true → (agent uri : List ℕ)
         (groups : List Group) (robot : RobotValue) (answer : Bool) → IsAsked agents file agent uri

@@ -15,7 +15,7 @@ use Rattle.rfc9309_laws.specs.Matching.{normal_escape, normal_from, normal_octet
 use Rattle.rfc9309_laws.specs.Comparable.{IsComparedAs, has_odd_escape, is_uri_octet}
 use Rattle.rfc9309_laws.proofs.NormalLemmas.{begins_escape, by_escapes, escape_first, escape_odd, escape_same}
 use Rattle.rfc9309_laws.proofs.NormalLemmas.{hex_not, normal_uris, octet_first}
-use Rattle.robots_warnings.specs.Targets.{asked_target, has_odd_target, is_normal, is_normal_byte}
+use Rattle.robots_warnings.specs.Targets.{asked_target, has_odd_target, is_normal_byte}
 use Rattle.robots_warnings.specs.{Urls.begins_as_url, Urls.is_unparsable, Spellings.spelled}
 use Rattle.robots_warnings.specs.declared.spellings.Spelling.{TheVariants.Standard}
 use Rattle.robots_warnings.specs.Rules.{after_byte, before_byte, begins_odd_escape, has, somewhere}
@@ -25,10 +25,7 @@ use Rattle.warnings_laws.proofs.{FormLemmas.split}
 pub any_both : (p q r : ℕ → Bool) → ((b : ℕ) → p b ≡ false → q b ≡ false → r b ≡ false) → (text : List ℕ)
     → list_any p text ≡ false → list_any q text ≡ false → list_any r text ≡ false
 any_both p q r both [] one two = refl
-any_both p q r both (b ∷ text) one two =
-    let (first, later) = or_parts (p b) (list_any p text) one in
-    let (second, more) = or_parts (q b) (list_any q text) two in
-    or_from (r b) (list_any r text) (both b first second) (any_both p q r both text later more)
+any_both p q r both (b ∷ text) one two = grind (arith, or_parts, or_from, any_both p q r both text)
 
 pub any_less : (p q : ℕ → Bool) → ((b : ℕ) → p b ≡ false → q b ≡ false) → (text : List ℕ)
     → list_any p text ≡ false → list_any q text ≡ false
@@ -37,15 +34,8 @@ any_less p q less text none = any_both p p q (λ b one _. less b one) text none 
 pub any_around : (test : ℕ → Bool) (stop : ℕ) (text : List ℕ) → test stop ≡ false
     → list_any test (before_byte stop text) ≡ false → list_any test (after_byte stop text) ≡ false
     → list_any test text ≡ false
-any_around test stop text here before after = elim (split stop text) [
-  | inl none ↦ rw (before_all stop text none) at before
-  | inr some ↦
-      let parts = list_any-append test some.front (stop ∷ some.rest) in
-      let front = rw (some.whole, before_is stop some.front some.rest some.before) at before in
-      let rest = rw (some.whole, after_is stop some.front some.rest some.before) at after in
-      ap (list_any test) some.whole ∙ parts
-      ∙ or_from (list_any test some.front) _ front (or_from (test stop) _ here rest)
-]
+any_around test stop text here before after =
+    grind (arith, split, before_all, list_any-append, before_is, after_is, or_from)
 
 -- an octet that is percent-encoded in the normal form, but isn't escaped here
 abbrev pub stays_odd : ℕ → Bool
@@ -76,11 +66,7 @@ abbrev is_special : ℕ → Bool
 is_special b = is_escaped b || b == 36
 
 unreserved_clean : (b : ℕ) → is_unreserved b ≡ true → is_special b ≡ false
-unreserved_clean b is =
-    let low : b < 128 = grind (arith, nat_tests) in
-    let e : (is_unreserved b && is_special b) ≡ false =
-    agree_below_at (λ b. is_unreserved b && is_special b) (λ b. false) 128 b refl low in
-    rw is at e
+unreserved_clean b is = grind (arith, nat_tests, agree_below_at)
 
 -- the standard spelling of an escape isn't escaped, and has no dollar
 escape_clean : (high low : ℕ) → is_ascii_hexdigit high ≡ true → is_ascii_hexdigit low ≡ true
@@ -106,9 +92,7 @@ escape_clean high low one two = (
 octet_spelled : (b : ℕ) (text : List ℕ) → begins_escape (b ∷ text) ≡ false
     → spelled Standard (b ∷ text) ≡ b ∷ spelled Standard text
 unfolding spelled
-octet_spelled b [] isnt = refl
-octet_spelled b (c ∷ []) isnt = refl
-octet_spelled b (high ∷ low ∷ text) isnt = rw isnt refl
+octet_spelled b text octet = grind arith
 
 escape_spelled : (high low : ℕ) (text : List ℕ) → is_ascii_hexdigit high ≡ true → is_ascii_hexdigit low ≡ true
     → spelled Standard (37 ∷ high ∷ low ∷ text) ≡ normal_escape high low ++ spelled Standard text
@@ -119,8 +103,7 @@ pub spelled_same : (text : List ℕ) → has_odd_escape text ≡ false → spell
 unfolding spelled
 spelled_same =
     by_escapes (λ _ text. has_odd_escape text ≡ false → spelled Standard text ≡ text) (λ _ even. refl)
-    (λ _ b text isnt later even.
-    octet_spelled b text isnt ∙ ap (λ t. b ∷ t) (later (or_parts _ (has_odd_escape text) even).1))
+    (grind (arith, octet_spelled, or_parts))
     (λ _ high low text one two later even.
     let (digits, rest) = or_parts _ _ (sym (escape_odd high low text one two) ∙ even) in
     escape_spelled high low text one two
@@ -131,32 +114,23 @@ spelled_some b text =
     by_escapes (λ _ text. 0 < length text → 0 < length (spelled Standard text))
     (λ _ some. absurd (omega arith))
     (λ _ c rest isnt later some. rw (octet_spelled c rest isnt) (omega arith))
-    (λ _ high low rest one two later some. rw (escape_spelled high low rest one two)
-    (elim (cases_Bool (is_unreserved (digit_value high * 16 + digit_value low))) [
-      | inl is ↦ rw is (omega arith)
-      | inr isnt ↦ rw isnt (omega arith)
-    ]))
+    (grind (arith, escape_spelled))
     false (b ∷ text) (omega arith)
 
 pub spelled_short : (b : ℕ) (text : List ℕ) → (b == 37) ≡ false → length (spelled Standard (b ∷ text)) ≤ 1
     → text ≡ []
 spelled_short b [] other short = refl
-spelled_short b (c ∷ text) other short =
-    let isnt : begins_escape (b ∷ c ∷ text) ≡ false = rw other refl in
-    let size = ap (λ (t : List ℕ). length t) (octet_spelled b (c ∷ text) isnt) in
-    let some = spelled_some c text in
-    absurd (omega arith)
+spelled_short b (c ∷ text) other short = grind (arith, begins_escape, octet_spelled, spelled_some)
 
 -- both libraries of specifications find the same escapes
 pub odd_escapes : (text : List ℕ) → has_odd_escape text ≡ somewhere begins_odd_escape text
 odd_escapes [] = refl
-odd_escapes (b ∷ text) = ap (λ later. begins_odd_escape (b ∷ text) || later) (odd_escapes text)
+odd_escapes (b ∷ text) = grind (arith, odd_escapes text)
 
 past_octet : (b : ℕ) (text : List ℕ) → (b == 36) ≡ false
     → (without_end (b ∷ text) ≡ b ∷ without_end text) × (is_ended (b ∷ text) ≡ is_ended text)
 unfolding is_ended without_end
-past_octet b [] other = (rw other refl, other)
-past_octet b (c ∷ text) other = (refl, refl)
+past_octet b text octet = grind arith
 
 past_front : (front text : List ℕ) → has_dollar front ≡ false
     → (without_end (front ++ text) ≡ front ++ without_end text) × (is_ended (front ++ text) ≡ is_ended text)
@@ -171,14 +145,8 @@ no_escape_left : (b : ℕ) (text : List ℕ) → begins_escape (b ∷ text) ≡ 
     → begins_escape (b ∷ without_end text) ≡ false
 unfolding without_end
 no_escape_left b [] isnt = isnt
-no_escape_left b (c ∷ []) isnt = elim (cases_Bool (c == 36)) [
-  | inl is ↦ rw is (and_right (b == 37) _ refl)
-  | inr other ↦ rw other isnt
-]
-no_escape_left b (c ∷ d ∷ []) isnt = elim (cases_Bool (d == 36)) [
-  | inl is ↦ rw is (and_right (b == 37) _ (and_right (is_ascii_hexdigit c) false refl))
-  | inr other ↦ rw other isnt
-]
+no_escape_left b (c ∷ []) isnt = grind (arith, and_right)
+no_escape_left b (c ∷ d ∷ []) isnt = grind (arith, and_right)
 no_escape_left b (c ∷ d ∷ e ∷ text) isnt = isnt
 
 ends_there : (path : List ℕ) → after_byte 36 path ≡ [] → has_dollar (without_end path) ≡ false
@@ -208,8 +176,7 @@ nothing_more in_query = (refl, refl, refl)
 only_dollar : (in_query : Bool) (b : ℕ) (text : List ℕ) → (b == 36) ≡ true
     → has_dollar (without_end (b ∷ text)) ≡ false → IsSameFrom in_query (b ∷ text)
 unfolding normal_from is_ended without_end spelled
-only_dollar in_query b [] is end = rw (eqb-true b 36 is) (refl, refl, refl)
-only_dollar in_query b (c ∷ text) is end = let wrong = rw is at end in cc
+only_dollar in_query b text is other = grind (arith, eqb-true)
 
 same_from : (in_query : Bool) (path : List ℕ) → list_any stays_odd path ≡ false
     → has_dollar (without_end path) ≡ false → IsSameFrom in_query path
@@ -231,8 +198,7 @@ same_from =
                 ∙ ap₂ (λ x y. x ++ y) (same_octet in_query b odd other) normal
                 ∙ ap escaped (sym (ap without_end spelling ∙ spelled_first)),
             ended ∙ same_end ∙ sym (ap is_ended spelling ∙ spelled_end),
-            ap has_dollar (ap without_end spelling ∙ spelled_first)
-                ∙ or_from (b == 36) (has_dollar (without_end (spelled Standard text))) other dollar,
+            (grind (arith, or_from)),
           )
     ])
     (λ in_query high low text one two later odds end.
@@ -248,15 +214,8 @@ same_from =
     (or_parts (high == 36) (has_dollar (low ∷ without_end text)) (ap has_dollar (sym first) ∙ end)).1 in
     let (normal, same_end, dollar) = later more end_after in
     let whole = escape_spelled high low text one two in
-    let (spelled_first, spelled_end) = past_front spelling (spelled Standard text) no_dollar in (
-      ap (normal_from (in_rule all_stay) in_query) first
-          ∙ escape_first high low (without_end text) one two (in_rule all_stay) in_query
-          ∙ ap₂ (λ x y. x ++ y) clean normal ∙ sym (flat_map-append escape_byte spelling last)
-          ∙ ap escaped (sym (ap without_end whole ∙ spelled_first)),
-      ended ∙ same_end ∙ sym (ap is_ended whole ∙ spelled_end),
-      ap has_dollar (ap without_end whole ∙ spelled_first) ∙ list_any-append (λ b. b == 36) spelling last
-          ∙ or_from _ _ no_dollar dollar,
-    ))
+    let (spelled_first, spelled_end) = past_front spelling (spelled Standard text) no_dollar in
+    grind (arith, escape_first, flat_map-append, list_any-append, or_from))
 
 -- a path with nothing after its first dollar is compared as its standard spelling is
 pub compared_as : (path : List ℕ) → list_any stays_odd path ≡ false → after_byte 36 path ≡ []
@@ -267,25 +226,10 @@ compared_as path odds end =
 
 octets : (text : List ℕ) → list_all is_normal_byte text ≡ true → list_all is_uri_octet text ≡ true
 octets [] all = refl
-octets (b ∷ text) all =
-    let both = and_parts (is_normal_byte b) _ all in
-    and_from (is_uri_octet b) _ (one b both.0) (octets text both.1)
-  where
-    one : (b : ℕ) → is_normal_byte b ≡ true → is_uri_octet b ≡ true
-    one b is = grind (arith, nat_tests)
+octets (b ∷ text) all = grind (arith, and_parts, and_from, nat_tests, octets text)
 
 pub target_normal : (text : List ℕ)
     → (starts_with nat_eq text (codes "/") || (begins_as_url text && not (is_unparsable text))) ≡ true
     → has_odd_target text ≡ false → normal_uri all_stay (asked_target text) ≡ asked_target text
 target_normal text asked quiet =
-    let target = asked_target text in
-    let odd = not (is_normal target) in
-    let is = not-false (is_normal target) (second _ odd asked quiet) in
-    let (bytes, even) = and_parts (list_all is_normal_byte target) _ is in
-    let none = (or_parts (somewhere begins_odd_escape target) _ (not-true _ even)).0 in
-    (normal_uris target).1
-    (and_from (list_all is_uri_octet target) _ (octets target bytes) (ap not (odd_escapes target ∙ none)))
-  where
-    second : (x y : Bool) → x ≡ true → (x && y) ≡ false → y ≡ false
-    second true y is both = both
-    second false y is both = cc
+    grind (arith, not-false, and_parts, or_parts, not-true, normal_uris, and_from, octets, odd_escapes)

@@ -1,6 +1,6 @@
 -- What the silence about a line says, and reports for no crawler.
 use Rattle.std.proofs.Common.{if◌then◌else◌, append_assoc, length, nat_lt, nat_le, Option, unwrap_or, nat_eq}
-use Rattle.std.proofs.Common.{Bool, true, false, List, [], ◌++◌, arith, codes, refl, subst, rules, ◌==◌, ◌&&◌}
+use Rattle.std.proofs.Common.{Bool, true, false, List, [], ◌++◌, arith, codes, refl, rules, ◌==◌, ◌&&◌}
 use Rattle.std.proofs.Common.{◌≡◌, ℕ, ◌<◌, ◌∷◌, ap, inl, inr, map, sym, ◌∙◌, not, ◌⊎◌, ◌≢◌, None, Some, ◌||◌}
 use Rattle.std.proofs.{Common.bytes_eq, lemmas.List.Elements.All-from_recursion, lemmas.Grind.common_steps}
 use Rattle.std.proofs.{lemmas.Slice.Eq.bytes_eq-Decides}
@@ -11,7 +11,7 @@ use Rattle.std.proofs.lemmas.Bool.{and_from, and_parts, not-false, or_parts, not
 use Rattle.std.proofs.lemmas.List.Folds.{Any-from_list_any, list_any-append}
 use Rattle.std.proofs.lemmas.Str.{Ascii.IsAscii-from_all, IsUtf8-from_ascii, is_utf8-from_IsUtf8, IsUtf8-drop}
 use Rattle.std.proofs.lemmas.Str.{IsCharBoundary-after_ascii, IsUtf8-from_is_utf8}
-use Rattle.texting_robots.specs.Callers.{LineValue, UserAgent, is_named, lines_read}
+use Rattle.texting_robots.specs.Callers.{LineValue, is_named, lines_read}
 use Rattle.texting_robots.specs.{Agents.is_among, Group.is_agent_named, Cut.lf}
 use Rattle.texting_robots.specs.{Internal.Statement.IsOptionalComment, declared.parser.statement.Kind.Kind}
 use Rattle.texting_robots.proofs.{CapturedLemmas.cond_same}
@@ -44,15 +44,7 @@ lower name = str_to_ascii_lowercase name
 
 among_kept : (name : List ℕ) (names : List (List ℕ)) (line : LineValue) → is_among name names ≡ true
     → is_among name (with_name names line) ≡ true
-among_kept name names (UserAgent value) is = by (is_utf8 value) (is_among value names)
-  where
-    by : (utf8 among : Bool)
-        → is_among name (if utf8 then (if among then names else names ++ value ∷ []) else names) ≡ true
-    by false among = is
-    by true true = is
-    by true false =
-        list_any-append (λ other. bytes_eq (lower other) (lower name)) names (value ∷ []) ∙ or_left _ _ is
-among_kept name names _ is = is
+among_kept name names line is = grind (arith, list_any-append, or_left)
 
 among_all : (name : List ℕ) (lines : List LineValue) (names : List (List ℕ)) → is_among name names ≡ true
     → is_among name (with_names names lines) ≡ true
@@ -63,41 +55,23 @@ among_all name (line ∷ lines) names is =
 module _ (name : List ℕ) (utf8 : (value : List ℕ) → lower value ≡ lower name → is_utf8 value ≡ true) where
   added : (names : List (List ℕ)) (line : LineValue) → is_agent_named (lower name) line ≡ true
       → is_among name (with_name names line) ≡ true
-  added names (UserAgent value) is =
-      let same = (bytes_eq-Decides (lower value) (lower name)).0 is in
-      elim (cases_Bool (is_among value names)) [
-        | inl among ↦ rw (utf8 value same, among)
-            (subst (λ key. list_any (λ other. bytes_eq (lower other) key) names ≡ true) same among)
-        | inr new ↦ rw (utf8 value same, new)
-            (list_any-append (λ other. bytes_eq (lower other) (lower name)) names (value ∷ [])
-            ∙ or_right _ _ (or_left _ false is))
-      ]
-  added names _ is = absurd (false≢true is)
+  added names line is = grind (arith, bytes_eq-Decides, list_any-append, or_right, or_left)
 
   named_among : (lines : List LineValue) (names : List (List ℕ))
       → list_any (is_agent_named (lower name)) lines ≡ true → is_among name (with_names names lines) ≡ true
-  named_among [] names is = absurd (false≢true is)
-  named_among (line ∷ lines) names is = elim (or_cases (is_agent_named (lower name) line) _ is) [
-    | inl here ↦ among_all name lines (with_name names line) (added names line here)
-    | inr later ↦ named_among lines (with_name names line) later
-  ]
+  named_among [] names is = grind arith
+  named_among (line ∷ lines) names is =
+      grind (arith, or_cases, among_all, added, named_among lines (with_name names line))
 
 low_bytes : (value word : List ℕ) → map to_ascii_lowercase value ≡ map to_ascii_lowercase word
     → Each (λ b. b < 123) word → Each (λ b. b < 128) value
 low_bytes [] word e all = tt
 low_bytes (b ∷ value) [] e all = absurd cc
 low_bytes (b ∷ value) (c ∷ word) e (small, all) =
-    let same : to_ascii_lowercase b ≡ to_ascii_lowercase c = cc in
-    (below b c small same, low_bytes value word (cc) all)
-  where
-    below : (b c : ℕ) → c < 123 → to_ascii_lowercase b ≡ to_ascii_lowercase c → b < 128
-    below b c small same = grind (arith, nat_tests)
+    grind (arith, nat_tests, low_bytes value word (cc) all)
 
 token_bytes : (agent : List ℕ) → rfc.IsProductToken agent → Each (λ b. b < 123) agent
-token_bytes [] is = tt
-token_bytes (b ∷ agent) (inl is) =
-    each_weaker rfc.IsIdentifierByte (λ b. b < 123) (λ b is. (identifier_bounds b is).1) (b ∷ agent) is
-token_bytes (b ∷ agent) (inr is) = subst (Each (λ b. b < 123)) (sym is) (omega arith, tt)
+token_bytes agent is = grind (arith, each_weaker, identifier_bounds)
 
 pub everyone_reported : (file agent : List ℕ) → rfc.IsProductToken agent
     → IsAsOneOf (crawlers_in (lines_read file)) file agent
@@ -141,18 +115,12 @@ utf8_after b text is small =
 
 comment_bytes : (text : List ℕ) → list_any is_control text ≡ false → list_all is_comment_byte text ≡ true
 comment_bytes [] none = refl
-comment_bytes (b ∷ text) none =
-    let parts = or_parts (is_control b) (list_any is_control text) none in
-    and_from (is_comment_byte b) _ (one b parts.0) (comment_bytes text parts.1)
-  where
-    one : (b : ℕ) → is_control b ≡ false → is_comment_byte b ≡ true
-    one b isnt = grind (arith, nat_tests)
+comment_bytes (b ∷ text) none = grind (arith, or_parts, and_from, nat_tests, comment_bytes text)
 
 pub in_order : (comment : List ℕ) → IsOptionalComment comment → has_odd_comment comment ≡ false
     → (comment ≡ []) ⊎ rfc.IsComment comment
-in_order comment (inl none) is = inl none
-in_order comment (inr (text, whole)) is =
-    search (rules, or_parts, comment_text, and_from, utf8_after, not-false, comment_bytes)
+in_order comment is odd =
+    grind (arith, or_parts, comment_text, and_from, utf8_after, not-false, comment_bytes)
 
 pub keyed : (kind : Kind) (value body : List ℕ) (line : HasColon kind value body) (written : List ℕ)
     → is_misspelled body ≡ false → raw_value (tail_of body) ≡ written
@@ -174,31 +142,19 @@ keyed kind value body line written spelled is odd =
       blanks = line.blanks;
       gap = parts.front;
       eol = parts.back ++ (line.comment ++ lf ∷ []);
-      whole = ap (λ t. t ++ lf ∷ []) (line.whole
-          ∙ ap (λ r. (line.margin ++ (key ++ line.blanks)) ++ 58 ∷ (r ++ line.comment))
-          (parts.whole ∙ ap (λ v. parts.front ++ (v ++ parts.back)) raw))
-          ∙ simp append_assoc;
+      whole = grind (arith, append_assoc);
       margin_blank = line.margin_blank;
       is_key = usual_key kind key rest line.is_key (rw starts at (not-false _ spelled));
       blanks_blank = line.blanks_blank;
       gap_blank = parts.front_blank;
-      is_eol = record {
-        blanks = parts.back;
-        comment = line.comment;
-        nl = lf ∷ [];
-        whole = refl;
-        are_blanks = parts.back_blank;
-        is_comment = comment;
-        is_nl = inr (inl refl);
-      };
+      is_eol = grind arith;
     }
 
 token_byte : (b : ℕ) → is_token_byte b ≡ true → rfc.IsIdentifierByte b
 token_byte b is = grind (arith, nat_tests)
 
 pub token : (value : List ℕ) → is_product_token value ≡ true → rfc.IsProductToken value
-token [] is = absurd (false≢true is)
-token (b ∷ value) is = search (rules, or_cases, bytes_eq, bytes_eq-Decides, and_parts, passing, token_byte)
+token value is = grind (arith, or_cases, bytes_eq-Decides, and_parts, passing, token_byte)
 
 pub named : (is usual : Bool) → not (not is && not usual) ≡ true → not (not is && usual) ≡ true → is ≡ true
 named is usual one two = grind (arith, common_steps)
@@ -216,8 +172,7 @@ pub record IsQuietDirective (line : LineValue) (body : List ℕ) : Type 0 where
 
 chosen : (b : Bool) (checks more : List Check) → b ≡ false
     → AreQuiet ((if b then [] else checks) ++ more) → AreQuiet (checks ++ more)
-chosen true checks more isnt all = absurd (false≢true (sym isnt))
-chosen false checks more isnt all = all
+chosen b checks more isnt all = grind arith
 
 pub quiet : (line : LineValue) (body : List ℕ)
     → AreQuiet (directive_checks true line body
@@ -237,9 +192,7 @@ raw_cases value tail is = search (rules, empty, bytes_eq, bytes_eq-Decides, fals
 pub raw_plain : (tail : List ℕ) → Each (λ b. b ≢ 35) tail → Each (λ b. b ≢ 35) (raw_value tail)
 raw_plain tail all =
     let parts = around tail in
-    each_front (λ b. b ≢ 35) (raw_value tail) parts.back
-    (each_back (λ b. b ≢ 35) parts.front (raw_value tail ++ parts.back)
-    (subst (Each (λ b. b ≢ 35)) parts.whole all))
+    (grind (arith, each_front, each_back))
 
 value_byte : (b : ℕ) → nat_le b 32 ≡ false → b ≢ 35 → is_value_byte b ≡ true
 value_byte b low other = grind (arith, nat_tests)
@@ -247,10 +200,7 @@ value_byte b low other = grind (arith, nat_tests)
 pub value_bytes : (text : List ℕ) → somewhere begins_next_value text ≡ false → Each (λ b. b ≢ 35) text
     → list_all is_value_byte text ≡ true
 value_bytes [] none all = refl
-value_bytes (b ∷ text) none all =
-    let parts = or_parts (begins_next_value (b ∷ text)) (somewhere begins_next_value text) none in
-    let low = or_parts (nat_le b 32) _ parts.0 in
-    and_from (is_value_byte b) _ (value_byte b low.0 all.0) (value_bytes text parts.1 all.1)
+value_bytes (b ∷ text) none all = grind (arith, or_parts, and_from, value_byte, value_bytes text)
 
 pub value_units : (text : List ℕ) → is_utf8 text ≡ true → somewhere begins_next_value text ≡ false
     → Each (λ b. b ≢ 35) text → rfc.IsMany rfc.IsUtf8CharNoctl text
@@ -301,8 +251,7 @@ quiet_off cause holds about quiet = not-true _ (rw about at quiet)
 
 either_about : (b : Bool) (one other : Cause) → is_not_about_syntax one ≡ false
     → is_not_about_syntax other ≡ false → is_not_about_syntax (if b then one else other) ≡ false
-either_about true one other first second = first
-either_about false one other first second = second
+either_about b one other first more = grind (arith, second)
 
 pub several_about : (value : List ℕ) → is_not_about_syntax (several_values value) ≡ false
 unfolding topic_of
@@ -321,10 +270,7 @@ rule_value (b ∷ text) (
     let single = second (is_utf8 (b ∷ text)) (has_several_values (b ∷ text)) one
     (quiet_off (several_values (b ∷ text)) _ (several_about (b ∷ text)) several) in
     let units = value_units text (utf8_after b text one (small b first)) (later b text single) plain.1 in
-    elim first [
-      | inl slash ↦ Path (record { text = text; is_text = units; whole = ap (λ c. c ∷ text) slash })
-      | inr star ↦ Star (record { text = text; is_text = units; whole = ap (λ c. c ∷ text) star })
-    ]
+    (grind arith)
 
 abbrev IsAboutSyntax : Option Cause → Type 0
 IsAboutSyntax None = Unit {0}
@@ -334,19 +280,12 @@ first_one : (test : List ℕ → Bool) (rows : List Row)
     → list_all (λ (row : Row). not (is_not_about_syntax row.1)) rows ≡ true
     → IsAboutSyntax (first_that test rows)
 first_one test [] all = tt
-first_one test (row ∷ rows) all =
-    let both = and_parts (not (is_not_about_syntax row.1)) _ all in
-    elim (cases_Bool (test row.0)) [
-      | inl is ↦ rw is (not-true _ both.0)
-      | inr isnt ↦ rw isnt (first_one test rows both.1)
-    ]
+first_one test (row ∷ rows) all = grind (arith, and_parts, not-true, first_one test rows)
 
 either : (one other : Option Cause) → IsAboutSyntax one → IsAboutSyntax other
     → is_not_about_syntax (unwrap_or (option_or one other) cause.UnrecognizedLine) ≡ false
 unfolding topic_of
-either None None first second = refl
-either None (Some other) first second = second
-either (Some one) other first second = first
+either one other first more = grind (arith, second)
 
 meant : (body : List ℕ) → is_not_about_syntax (meant_by body) ≡ false
 unfolding topic_of

@@ -1,21 +1,22 @@
 -- A rule with `repeated-rule` decides no verdict, and can be deleted.
 use Rattle.std.proofs.lemmas.{Grind.common_steps, Option.same_Some, Slice.Eq.bytes_eq-Decides}
-use Rattle.std.proofs.lemmas.Bool.{and_parts, cases_Bool, cases_eq, eqb-true, false_from_ne_true, false≢true}
+use Rattle.std.proofs.lemmas.Bool.{and_parts, cases_Bool, false_from_ne_true, false≢true}
 use Rattle.std.proofs.Common.{◌≡◌, ◌+◌, ◌⊎◌, ℕ, suc, zero, Bool, true, false, List, [], ◌∷◌, ◌++◌, Contains}
-use Rattle.std.proofs.Common.{Some, arith, if◌then◌else◌, inl, inr, refl, slice_get, subst, sym, ◌≢◌, ◌<◌, ap}
-use Rattle.std.proofs.Common.{◌≤◌, ◌↔◌, All, Option, ◌&&◌, ◌==◌, ◌∙◌}
+use Rattle.std.proofs.Common.{Some, arith, if◌then◌else◌, inl, inr, refl, slice_get, subst, sym, ◌≢◌, ◌<◌}
+use Rattle.std.proofs.Common.{◌≤◌, ◌↔◌, All, Option, ◌∙◌}
 use Rattle.texting_robots.specs.Callers.{AreLabelsOf, Label, LineValue, Allow, AreRulesFor, Disallow, Rule}
 use Rattle.texting_robots.specs.Callers.{IsCaptured, IsDecidingLine, IsDenied, IsVerdict, PlacedRule}
 use Rattle.texting_robots.specs.Callers.{group_name, placed_rules, rules_for, unplaced}
 use Rattle.texting_robots.specs.Group.{is_agent, passes_at}
 use Rattle.robots_needless.specs.Blocks.{is_rule, keep_blocks_from, no_rule, with_rule}
 use Rattle.robots_needless.specs.Needless.{lines_without, without}
-use Rattle.robots_needless.proofs.TogetherLemmas.{unplaced_of, verdicts, in_filter, to_filter}
-use Rattle.robots_needless.proofs.{BlockLemmas.deleted}
-use Rattle.robots_warnings.specs.Repeated.{above_next, is_checked, is_repeated, repeated, repeated_from}
+use Rattle.robots_needless.proofs.TogetherLemmas.{in_named, unplaced_of, verdicts, in_filter, to_filter}
+use Rattle.robots_needless.proofs.BlockLemmas.{among, deleted}
+use Rattle.robots_warnings.specs.Repeated.{above_next, is_repeated, repeated, repeated_from}
 use Rattle.robots_warnings.specs.{File.lines_of, Spellings.is_rule_with}
 use Rattle.std.specs.{List.list_any}
-use Rattle.std.proofs.lemmas.List.{Elements.Contains-push_cases, Folds.Any-from_list_any}
+use Rattle.std.proofs.lemmas.List.{Elements.All-contains, Elements.Contains-push_cases}
+use Rattle.std.proofs.lemmas.List.{Folds.Any-from_list_any}
 use Rattle.texting_robots.proofs.{BestLemmas.placed_of, MainTheoremLemmas.computed_are}
 
 pub record IsFrom (lines : List LineValue) (position : ℕ) (rest : List LineValue) : Type 0 where
@@ -52,9 +53,7 @@ labels_next are = record {
 pub first_or_later : (is : Bool) (first number : ℕ) (later : List ℕ)
     → Contains ((if is then first ∷ [] else []) ++ later) number
     → ((is ≡ true) × (first ≡ number)) ⊎ Contains later number
-first_or_later true first number later (zero, below, at) = inl (refl, at)
-first_or_later true first number later (suc k, below, at) = inr (k, omega arith, at)
-first_or_later false first number later has = inr has
+first_or_later is first number later has = grind arith
 
 -- the line is above this position, with no user-agent line from there on to the position
 record IsAbove (lines : List LineValue) (position : ℕ) (line : Option LineValue) : Type 0 where
@@ -69,16 +68,12 @@ IsRepeat lines number = (position : ℕ) → number ≡ position + 1
 
 rule_is : (is_allow : Bool) (value : List ℕ) (line : LineValue) → is_rule_with is_allow value line ≡ true
     → line ≡ (if is_allow then Allow value else Disallow value)
-rule_is true value (Allow other) is = ap Allow ((bytes_eq-Decides other value).0 is)
-rule_is false value (Disallow other) is = ap Disallow ((bytes_eq-Decides other value).0 is)
-rule_is is_allow value line is = cc
+rule_is is_allow value line is = grind (arith, bytes_eq-Decides)
 
 pub is_listed : (is_allow : Bool) (value : List ℕ) (above : List LineValue)
     → list_any (is_rule_with is_allow value) above ≡ true
     → Contains above (if is_allow then Allow value else Disallow value)
-is_listed is_allow value above is =
-    let (k, line, below, at, same) = Any-from_list_any (is_rule_with is_allow value) above is in
-    subst (Contains above) (rule_is is_allow value line same) (k, below, at)
+is_listed is_allow value above is = grind (arith, Any-from_list_any, rule_is)
 
 repeats_one : (above : List LineValue) (line : LineValue) → is_repeated above line ≡ true
     → (is_rule line ≡ true) × Contains above line
@@ -99,17 +94,9 @@ module _ {lines : List LineValue} {position : ℕ} {line : LineValue} {rest : Li
               other = is.other;
               above = omega arith;
               is = is.is;
-              no_agent = λ k from below. elim (cases_eq k position) [
-                | inl same ↦ rw same passes
-                | inr less ↦ is.no_agent k from (omega arith)
-              ];
+              no_agent = (grind arith);
             }
-        | inr same ↦ record {
-          other = position;
-          above = omega arith;
-          is = here from ∙ ap Some same;
-          no_agent = λ k from below. let same : k ≡ position = omega arith in rw same passes;
-        }
+        | inr same ↦ (grind (arith, here))
       ]
 
   above_this : (other : LineValue) → ◌≢◌ {A = LineValue} line other
@@ -145,12 +132,14 @@ repeat_from : (everywhere : Bool) (lines : List LineValue) (position : ℕ) (abo
 repeat_from everywhere lines position above [] number reached (k, below, at) = absurd (omega arith)
 repeat_from everywhere lines position above (label ∷ labels) number reached has =
     let group = above_next above label.line in
-    elim (first_or_later (is_checked everywhere label.membership && is_repeated above label.line)
-    label.number number (repeated_from everywhere group labels) has) [
-      | inl (is, same) ↦ subst (IsRepeat lines) same (first_repeat reached (and_parts _ _ is).1)
-      | inr later ↦
-          repeat_from everywhere lines (position + 1) group labels number (next reached) later
-    ]
+    (grind (
+      arith,
+      first_or_later,
+      first_repeat,
+      and_parts,
+      next,
+      repeat_from everywhere lines (position + 1) group labels number (next reached),
+    ))
 
 is_repeat : {name : List ℕ} {lines : List LineValue} {labels : List Label} → AreLabelsOf name lines labels
     → (everywhere : Bool) (number : ℕ) → Contains (repeated everywhere labels) number → IsRepeat lines number
@@ -210,14 +199,9 @@ denied_by_same : (rules others : List Rule) (text : List ℕ)
 denied_by_same rules others text same (differs, p, has, fits, longest) =
     (differs, p, (same (p, false)).0 has, fits, λ q listed. longest q ((same (q, true)).1 listed))
 
-abbrev pub among : List ℕ → ℕ → Bool
-among numbers number = list_any (λ one. one == number) numbers
-
 pub holds_among : (P : ℕ → Type 0) (numbers : List ℕ) → All P numbers → (number : ℕ)
     → among numbers number ≡ true → P number
-holds_among P numbers all number is =
-    let (k, one, below, at, same) = Any-from_list_any (λ one. one == number) numbers is in
-    subst P (at ∙ eqb-true one number same) (all k one below)
+holds_among P numbers all number is = grind (arith, All-contains, in_named)
 
 module _ (numbers : List ℕ) (lines : List LineValue)
     (repeats : (number : ℕ) → among numbers number ≡ true → IsRepeat lines number) where
@@ -233,20 +217,13 @@ module _ (numbers : List ℕ) (lines : List LineValue)
       let repeat = λ (goes : among numbers (position + 1) ≡ true).
       rw at at (repeats (position + 1) goes position refl) in
       elim (cases_Bool (is_rule line)) [
-        | inl rule ↦ elim (cases_Bool (among numbers (position + 1))) [
-          | inl goes ↦ rw (rule, goes, is line rule (repeat goes).1) ruled
-          | inr stays ↦ rw (rule, stays) ruled
-        ]
+        | inl rule ↦ (grind (arith, among))
         | inr isnt ↦
             let stays = false_from_ne_true (among numbers (position + 1))
             (λ goes. false≢true (sym isnt ∙ (repeat goes).0)) in
             elim (cases_Bool (is_agent line)) [
-              | inl agent ↦ rw (isnt, stays, agent, never_lost has_rule) (later false (λ other rule above.
-                  let none = above.no_agent position (omega arith) (omega arith) in
-                  absurd (false≢true (sym none ∙ rw at agent))))
-              | inr plain ↦ rw (isnt, stays, plain) (later has_rule (λ other rule above.
-                  let differs = λ (same : line ≡ other). false≢true (sym isnt ∙ rw same rule) in
-                  is other rule (above_this from other differs above)))
+              | inl agent ↦ rw (isnt, stays, agent, never_lost has_rule) (later false (grind arith))
+              | inr plain ↦ (grind (arith, above_this))
             ]
       ]
 

@@ -1,10 +1,11 @@
 -- A rule without warnings about verdicts has as its path its value as read, which is compared as RFC 9309
 -- compares its standard spelling.
+use Rattle.std.proofs.Common.{rules}
 use Rattle.std.proofs.{Common.◌≡◌, lemmas.Bool.Decides.nat_tests, lemmas.Str.IsUtf8-from_is_utf8}
 use Rattle.std.proofs.Common.{◌≢◌, ◌⊎◌, inl, inr, ℕ, ◌&&◌, ◌||◌, Bool, true, false, not, List, [], ◌∷◌, ◌++◌}
-use Rattle.std.proofs.Common.{ap, arith, codes, drop, if◌then◌else◌, length, nat_lt, refl, subst, sym, ◌∙◌}
+use Rattle.std.proofs.Common.{ap, arith, codes, if◌then◌else◌, length, nat_lt, refl, subst, sym, ◌∙◌}
 use Rattle.std.specs.{List.AllByRecursion as Each, List.list_any, Str.is_utf8}
-use Rattle.std.proofs.lemmas.Bool.{false≢true, not-true, or_left, or_parts, or_right, not-false}
+use Rattle.std.proofs.lemmas.Bool.{not-true, or_left, or_parts, or_right, not-false}
 use Rattle.texting_robots.specs.Callers.{Allow, Disallow, IsLineOf, LineValue}
 use Rattle.texting_robots.specs.{Statement.IsStatement, declared.parser.statement.Kind.Kind, Trim.IsTrimOf}
 use Rattle.texting_robots.specs.{Internal.Statement.trimmed}
@@ -12,14 +13,13 @@ use Rattle.rfc9309_laws.proofs.{HasFormLemmas.IsCharByte, HasFormLemmas.chars_te
 use Rattle.rfc9309_laws.proofs.{SyntaxLemmas.each_front, SyntaxLemmas.each_weaker, ValueLemmas.visible_trim}
 use Rattle.rfc9309_laws.proofs.Sources.{allowed_in, member_in, written}
 use Rattle.rfc9309_laws.proofs.KeyedLemmas.{IsSolid, parts_at, parts_comment, solid_char, stripped_is}
-use Rattle.rfc9309_laws.specs.HasForm.{stripped, text_after, text_before}
 use Rattle.rfc9309_laws.specs.{Matching.all_stay, Comparable.IsComparedAs}
 use Rattle.texting_robots.proofs.TrimLemmas.{blanks_skipped, same_trim, trailing_blanks}
 use Rattle.robots_warnings.specs.{declared.spellings.Spelling.TheVariants.Standard, Spellings.spelled}
 use Rattle.robots_warnings.specs.{declared.table.Cause.Cause, declared.table.Topic.Topic}
 use Rattle.robots_warnings.specs.Checks.{Check, directive_checks, line_checks, rule_checks, text_checks}
 use Rattle.robots_warnings.specs.Contents.{comment_of, raw_value, tail_of}
-use Rattle.robots_warnings.specs.Rules.{has, has_any, has_odd_character, before_byte, after_byte, is_quoted}
+use Rattle.robots_warnings.specs.Rules.{has_odd_character, after_byte}
 use Rattle.robots_warnings.specs.Rules.{begins_oddly, has_dollar_inside, holds_otherwise}
 use Rattle.robots_warnings.specs.Table.{is_meaning, is_not_about_syntax, is_syntax, keeps_verdicts, topic_of}
 use Rattle.robots_warnings.specs.declared.table.Topic.TheVariants.{Meaning, Syntax, Verdict}
@@ -29,7 +29,7 @@ use Rattle.warnings_laws.proofs.PathLemmas.{any_around, any_both, any_less, comp
 use Rattle.warnings_laws.proofs.QuietLemmas.{Empty, IsRuleValue, Path, Star, each_back, quiet, raw_cases}
 use Rattle.warnings_laws.proofs.QuietLemmas.{rule_value, started}
 use Rattle.warnings_laws.proofs.{SyntaxLemmas.AreQuietBy, WarningLemmas.is_stated}
-use Rattle.warnings_laws.specs.Syntax.{AreQuiet, is_quiet}
+use Rattle.warnings_laws.specs.Syntax.{AreQuiet}
 use Rattle.rfc9309_laws.specs.Rfc9309 as rfc
 use Rattle.texting_robots.specs.declared.parser.statement.Kind.TheVariants as kind
 
@@ -41,19 +41,8 @@ not_syntax Syntax is = cc
 pub kept_not_syntax : (cause : Cause) → keeps_verdicts cause ≡ true → is_not_about_syntax cause ≡ true
 kept_not_syntax cause = not_syntax (topic_of cause)
 
-abbrev IsKept : Check → Type 0
-IsKept check = (keeps_verdicts check.0 || not check.1) ≡ true
-
 checks_quiet : (checks : List Check) → AreQuietBy keeps_verdicts checks → AreQuiet checks
-checks_quiet =
-    each_weaker IsKept (λ check. is_quiet check ≡ true)
-    (λ check.
-    by (keeps_verdicts check.0) (is_not_about_syntax check.0) (not check.1) (kept_not_syntax check.0))
-  where
-    by : (one other rest : Bool) → (one ≡ true → other ≡ true) → (one || rest) ≡ true
-        → (other || rest) ≡ true
-    by true other rest weaker is = or_left other rest (weaker refl)
-    by false other rest weaker is = or_right other rest is
+checks_quiet = grind (arith, each_weaker, kept_not_syntax, or_left, or_right)
 
 solid_after : (b : ℕ) (value : List ℕ) → IsSolid b → rfc.IsPatternWith (b ∷ []) value → Each IsSolid value
 solid_after b value solid is =
@@ -77,12 +66,7 @@ written_raw kind read body line solid =
     let colon = parts_at 58 front (line.region ++ line.comment)
     (each_weaker IsPlainByte (λ b. b ≢ 58) (λ b is. is.0) front (plain kind read body line)) in
     let hash = parts_comment line.region line.comment line.no_hash line.is_comment in
-    ap (λ text. stripped (text_before 35 (text_after 58 text))) line.whole
-    ∙ ap (λ text. stripped (text_before 35 (drop 1 text))) colon.from
-    ∙ ap stripped (hash.before ∙ parts.whole)
-    ∙ stripped_is parts.front (raw_value line.region) parts.back parts.front_blank
-    (subst (λ tail. Each IsSolid (raw_value tail)) same solid) parts.back_blank
-    ∙ ap raw_value (sym same)
+    (grind (arith, stripped_is))
 
 -- its path can be compared as that of the standard
 pub record IsGoodPath (value : List ℕ) : Type 0 where
@@ -93,29 +77,15 @@ pub record IsGoodPath (value : List ℕ) : Type 0 where
 nothing_more : (text : List ℕ) (inside : Bool) → (nat_lt 0 (length text) && not inside) ≡ false
     → inside ≡ false → text ≡ []
 nothing_more [] inside more not_inside = refl
-nothing_more (b ∷ text) inside more not_inside =
-    absurd (false≢true (sym more ∙ rw not_inside (grind (arith, nat_tests))))
+nothing_more (b ∷ text) inside more not_inside = grind (arith, nat_tests)
 
 no_odd_octet : (value : List ℕ) → holds_otherwise value ≡ false → has_odd_character value ≡ false
     → list_any stays_odd value ≡ false
-no_odd_octet value held odd =
-    let before = (or_parts (has_any (codes "\t\\^{}") (before_byte 63 value)) _ held).0 in
-    let (first, parts) = or_parts (has_any (codes "|\"<>`\u{7f}") value || _) _ odd in
-    let (anywhere, percents) = or_parts (has_any (codes "|\"<>`\u{7f}") value) _ first in
-    let after = (or_parts (has_any (codes "\\^{}'") (after_byte 63 value)) _ parts).0 in
-    let one = λ (b : ℕ). has b (codes "\\^{}") in
-    any_both one (λ b. has b (codes "|\"<>`\u{7f}")) stays_odd (λ b first second. grind (arith, nat_tests)) value
-    (any_around one 63 value refl
-    (any_less (λ b. has b (codes "\t\\^{}")) one (λ b no. grind (arith, nat_tests)) (before_byte 63 value)
-    before)
-    (any_less (λ b. has b (codes "\\^{}'")) one (λ b no. grind (arith, nat_tests)) (after_byte 63 value)
-    after))
-    anywhere
+no_odd_octet value held odd = grind (arith, or_parts, any_both, stays_odd, nat_tests, any_around, any_less)
 
 odd_off : (odd held quoted : Bool) → (odd && not (held || quoted)) ≡ false → held ≡ false → quoted ≡ false
     → odd ≡ false
-odd_off false held quoted none one two = refl
-odd_off true held quoted none one two = rw (one, two) at none
+odd_off odd held quoted one two three = grind arith
 
 path_kept : (value : List ℕ) → AreQuietBy keeps_verdicts (rule_checks value)
     → (is_utf8 value ≡ true) × (begins_oddly value ≡ false)
@@ -128,9 +98,7 @@ path_kept value (
   not-false _ (not-true _ utf8),
   started value equals starts url quoted regex,
   compared_as value
-      (no_odd_octet value (not-true _ held)
-      (odd_off (has_odd_character value) (holds_otherwise value) (is_quoted value) (not-true _ odd)
-      (not-true _ held) (not-true _ quoted)))
+      (grind (arith, no_odd_octet, not-true, odd_off))
       (nothing_more (after_byte 36 value) (has_dollar_inside value) (not-true _ more) (not-true _ dollar)),
 )
 
@@ -187,10 +155,7 @@ value_kept : (line : LineValue) (value body : List ℕ)
     → AreQuietBy keeps_verdicts (directive_checks true line body
     ++ (rule_checks value ++ text_checks (tail_of body) (comment_of body)))
     → AreQuietBy keeps_verdicts (rule_checks value)
-value_kept line value body all =
-    let texts : List Check = text_checks (tail_of body) (comment_of body) in
-    each_front IsKept (rule_checks value) texts
-    (each_back IsKept (directive_checks true line body) (rule_checks value ++ texts) all)
+value_kept line value body all = search (rules, each_front, each_back)
 
 pub good_line : (line : LineValue) (body : List ℕ) → IsKeptLine line body
     → IsGoodLine line (member_in line (written body))

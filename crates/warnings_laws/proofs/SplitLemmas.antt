@@ -2,7 +2,7 @@
 -- (`is_unsplit`), so each crawler's rules are those of the standard. The proof walks through the source lines
 -- (`Sources`), as the warnings do: they keep one name above a line, which is enough to check the next group.
 use Rattle.std.proofs.{lemmas.Grind.common_steps, lemmas.List.Folds.list_any-append, lemmas.Simd.map-map}
-use Rattle.std.proofs.Common.{arith, rules, subst, sym, take, ◌≡◌, ◌⊎◌, inl, inr, ℕ, Bool, true, false, not}
+use Rattle.std.proofs.Common.{arith, rules, subst, sym, take, ◌≡◌, ◌⊎◌, inr, ℕ, Bool, true, false, not}
 use Rattle.std.proofs.Common.{◌||◌, ◌&&◌, List, [], ◌∷◌, ◌++◌, ◌∙◌, Option, Some, None, ap, codes, filter}
 use Rattle.std.proofs.Common.{if◌then◌else◌, map, refl}
 use Rattle.std.specs.List.{AllByRecursion as Each, list_all, list_any}
@@ -65,9 +65,7 @@ abbrev has_a_rule : Group → Bool
 has_a_rule group = has_rule group.members
 
 rule_allowed : (text value : List ℕ) → is_rule (allowed_in text value) ≡ true
-rule_allowed (b ∷ text) value = refl
-rule_allowed [] [] = refl
-rule_allowed [] (b ∷ value) = refl
+rule_allowed text value = grind arith
 
 rules_begun : (sources : List Source)
     → begin_with_rules true (lines_in sources) ≡ has_rule (parts_in sources).ungrouped
@@ -88,7 +86,7 @@ first_rules : (tokens : List (List ℕ)) (sources : List Source)
     → begin_with_rules false (lines_in sources) ≡ first has_a_rule (below tokens sources)
 first_rules tokens [] = refl
 first_rules tokens ((UserAgent token, text) ∷ sources) =
-    rw (below_token tokens token text sources) (first_rules (tokens ++ token ∷ []) sources)
+    grind (arith, below_token, first_rules (tokens ++ token ∷ []) sources)
 first_rules tokens ((Allow value, text) ∷ sources) = rw (rule_allowed text value) refl
 first_rules tokens ((Disallow value, text) ∷ sources) = refl
 first_rules tokens ((CrawlDelay delay, text) ∷ sources) = rules_begun sources
@@ -99,13 +97,7 @@ first_names : (name : List ℕ) (tokens : List (List ℕ)) (sources : List Sourc
     ≡ first (has_token name) (below tokens sources)
 first_names name tokens [] = or-false _
 first_names name tokens ((UserAgent token, text) ∷ sources) =
-    rw (
-      below_token tokens token text sources,
-      ← first_names name (tokens ++ token ∷ []) sources,
-      list_any-append,
-      or_assoc,
-      or_assoc,
-    ) refl
+    grind (arith, below_token, list_any-append, or_assoc, first_names name (tokens ++ token ∷ []) sources)
 first_names name tokens ((Sitemap value, text) ∷ sources) = first_names name tokens sources
 first_names name tokens ((Raw body, text) ∷ sources) = first_names name tokens sources
 first_names name tokens ((_, text) ∷ sources) = or-false _
@@ -118,9 +110,7 @@ is_unsplit_after above (group ∷ later) = is_unsplit (left_above above group) l
 checked : (above : List (List ℕ)) (groups : List Group)
     → (first has_a_rule groups ≡ false) ⊎ (list_all (λ token. first (has_token token) groups) above ≡ true)
     → is_unsplit_after above groups ≡ true → is_unsplit above groups ≡ true
-checked above [] passes after = refl
-checked above (group ∷ later) (inl none) after = rw (ap (λ b. not b) none) after
-checked above (group ∷ later) (inr all) after = rw (all, or-true) after
+checked above groups is all = grind (arith, or-true)
 
 abbrev IsSole : Option (List ℕ) → List (List ℕ) → Type 0
 IsSole None tokens = Unit {0}

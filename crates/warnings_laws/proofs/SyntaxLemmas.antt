@@ -3,7 +3,7 @@
 use Rattle.std.proofs.lemmas.{Grind.common_steps, List.Elements.All-from_recursion}
 use Rattle.std.proofs.Common.{rules, ◌≡◌, ◌≢◌, inl, inr, ℕ, suc, ◌==◌, ◌&&◌, Bool, true, false, List, [], ◌∷◌}
 use Rattle.std.proofs.Common.{◌++◌, All, nat_eq, not, refl, sym, take, zero, ◌<◌, Some, ap, arith, length}
-use Rattle.std.proofs.Common.{map, slice_get, subst, ◌∙◌, ◌||◌, None, Option, codes, flat_map, if◌then◌else◌}
+use Rattle.std.proofs.Common.{map, slice_get, subst, ◌∙◌, ◌||◌, None, Option, codes, if◌then◌else◌}
 use Rattle.std.specs.List.{AllByRecursion as Each, list_any, starts_with, Contains, AllZip}
 use Rattle.std.proofs.lemmas.Bool.{and_parts, cases_Bool, eqb-true, false≢true, not-true, not-false}
 use Rattle.std.proofs.lemmas.Option.{slice_get-map, slice_get_within, same_Some, get_or_from_slice_get}
@@ -11,12 +11,12 @@ use Rattle.std.specs.Option.{option_map, option_map_or}
 use Rattle.robots_warnings.specs.Facts.{has_damaged_mark, mark, is_rule, suppresses_line_warnings, facts_of}
 use Rattle.robots_warnings.specs.Positions.{is_above_agents, preceding_with, sole_name, last_group}
 use Rattle.robots_warnings.specs.{Positions.first_delay, File.lines_of, File.labels_for, Message.WarningValue}
-use Rattle.robots_warnings.specs.Checks.{Check, file_checks, line_checks, position_checks}
+use Rattle.robots_warnings.specs.Checks.{Check, file_checks, line_checks}
 use Rattle.robots_warnings.specs.Table.{is_not_about_syntax, topic_of}
-use Rattle.robots_warnings.specs.Warnings.{line_warnings, lines_warnings, positions_from, warned, warning_of}
-use Rattle.robots_warnings.specs.Warnings.{file_lines_warnings, general_warnings, site_warnings, url_warnings}
+use Rattle.robots_warnings.specs.Warnings.{lines_warnings, positions_from, warned}
+use Rattle.robots_warnings.specs.Warnings.{file_lines_warnings}
 use Rattle.robots_warnings.specs.Warnings.{group_warnings, past_limit_warnings, position_warnings, warnings}
-use Rattle.texting_robots.specs.Callers.{Allow, Disallow, Label, LineValue, UserAgent, IsLineOf, lines_read}
+use Rattle.texting_robots.specs.Callers.{Label, LineValue, UserAgent, IsLineOf, lines_read}
 use Rattle.texting_robots.specs.Callers.{IsRobotOfFile, RobotValue, file_bodies, file_limit, group_name}
 use Rattle.texting_robots.specs.{Group.is_agent, Line.without_front, Labels.AreLabelsOf}
 use Rattle.rfc9309_laws.specs.LineForms.{AreRulesBelowAgents, Form, HasForm, AreForms}
@@ -75,9 +75,7 @@ marked n (a ∷ file) no_damage =
     whole false is = sym is
 
 rule_form : (line : LineValue) → form_of line ≡ form.Rule → (is_rule line ≡ true) × (is_agent line ≡ false)
-rule_form (Allow value) e = (refl, refl)
-rule_form (Disallow value) e = (refl, refl)
-rule_form line e = absurd cc
+rule_form line is = grind arith
 
 agent_form : (line : Option LineValue) → option_map_or is_agent line false ≡ true
     → option_map form_of line ≡ Some form.Agent
@@ -135,10 +133,7 @@ pub each_given : (P : WarningValue → Type 0) (line : Option ℕ) (about : Opti
     → P (record { line = line; cause = check.0; about = about; detail = None })) checks
 each_given P line about [] all = tt
 each_given P line about (check ∷ checks) all =
-    let first : List WarningValue = warning_of line about check in
-    let rest : List WarningValue = warned line about checks in
-    let one = each_front P first rest all in
-    (λ holds. (rw holds at one).0, each_given P line about checks (each_back P first rest all))
+    grind (arith, each_front, each_back, each_given P line about checks)
 
 module _ (test : Cause → Bool) where
   pub warned_quiet : (line : Option ℕ) (about : Option (List ℕ)) (checks : List Check)
@@ -148,8 +143,7 @@ module _ (test : Cause → Bool) where
   -- the line isn't cut, if the warning of that doesn't pass the test
   whole : (is_cut : Bool) (checks : List Check) → test CutLine ≡ false
       → AreQuietBy test (if is_cut then (CutLine, true) ∷ [] else checks) → AreQuietBy test checks
-  whole true checks fails all = absurd (false≢true (rw fails at all.0))
-  whole false checks fails all = all
+  whole is_cut checks fails all = grind arith
 
   pub lines_quiet : (cuts : Bool) (bodies : List (List ℕ)) (labels : List Label) → test CutLine ≡ false
       → lines_of labels ≡ map line_of bodies → ArePassed test (lines_warnings cuts true bodies labels)
@@ -157,20 +151,11 @@ module _ (test : Cause → Bool) where
   lines_quiet cuts [] labels fails same all = tt
   lines_quiet cuts (body ∷ bodies) [] fails same all = absurd cc
   lines_quiet cuts (body ∷ bodies) (label ∷ labels) fails same all =
-      let is_cut : Bool = cuts && length labels == 0 in
-      let first : List WarningValue = line_warnings is_cut true label body in
-      let rest : List WarningValue = lines_warnings cuts true bodies labels in
-      let line : label.line ≡ line_of body = cc in (
-        subst (λ line. AreQuietBy test (line_checks true line body)) line
-            (whole is_cut (line_checks true label.line body) fails
-            (warned_quiet (Some label.number) None _ (each_front _ first rest all))),
-        lines_quiet cuts bodies labels fails (cc) (each_back _ first rest all),
-      )
+      grind (arith, whole, warned_quiet, each_front, each_back, lines_quiet cuts bodies labels fails (cc))
 
   pub shown : (hidden : Bool) (warnings : List WarningValue) → hidden ≡ false
       → ArePassed test (if hidden then [] else warnings) → ArePassed test warnings
-  shown true warnings isnt all = absurd (false≢true (sym isnt))
-  shown false warnings isnt all = all
+  shown hidden warnings isnt all = grind arith
 
 pub record IsQuietFile (facts : FileFacts) : Type 0 where
   pub shown : suppresses_line_warnings facts ≡ false
@@ -187,8 +172,7 @@ lines_forms : (bodies : List (List ℕ)) → AllZip IsLineOf (map line_of bodies
     → Each (λ body. IsQuietLine (line_of body) body) bodies
     → AllZip HasForm (map form_of (map line_of bodies)) bodies
 lines_forms [] reads all = tt
-lines_forms (body ∷ bodies) reads all =
-    (line_form (line_of body) body reads.0 all.0, lines_forms bodies reads.1 all.1)
+lines_forms (body ∷ bodies) reads all = grind (arith, line_form, reads, lines_forms bodies reads.1 all.1)
 
 pub none_above : (last : Option ℕ) (preceding : Preceding) (above : Option (List ℕ)) (delay : Option ℕ)
     (labels : List Label)
@@ -197,18 +181,14 @@ pub none_above : (last : Option ℕ) (preceding : Preceding) (above : Option (Li
 unfolding topic_of
 none_above last preceding above delay [] all = tt
 none_above last preceding above delay (label ∷ labels) all =
-    let checks : List Check =
-    position_checks last preceding above delay label (lines_of (label ∷ labels)) in
-    let first : List WarningValue = warned (Some label.number) None checks in
-    let next = preceding_with preceding label.line in
-    let name : Option (List ℕ) = sole_name preceding above label.line in
-    let after : Option ℕ = first_delay delay label.line in
-    let rest : List WarningValue = positions_from last next name after labels in
-    let quiets =
-    warned_quiet is_not_about_syntax (Some label.number) None checks
-    (each_front IsNotAboutSyntax first rest all) in (
-      not-true _ quiets.0,
-      none_above last next name after labels (each_back IsNotAboutSyntax first rest all),
+    grind (
+      arith,
+      warned_quiet,
+      each_front,
+      not-true,
+      each_back,
+      none_above last (preceding_with preceding label.line) (sole_name preceding above label.line)
+          (first_delay delay label.line) labels,
     )
 
 cut_is_syntax : is_not_about_syntax CutLine ≡ false
@@ -239,9 +219,6 @@ module _ (file : List ℕ) where
     abbrev Passes : WarningValue → Type 0
     Passes warning = test warning.cause ≡ true
 
-    abbrev general : List WarningValue
-    general = general_warnings facts agents urls (lines_read file) labels
-
     abbrev of_lines : List WarningValue
     of_lines = file_lines_warnings facts true labels bodies
 
@@ -263,14 +240,11 @@ module _ (file : List ℕ) where
     pub facts_quiet : AreQuietBy test (file_checks facts)
     facts_quiet =
         warned_quiet test None None (file_checks facts)
-        (each_front Passes (warned None None (file_checks facts))
-        (site_warnings agents (lines_read file) labels ++ flat_map url_warnings urls)
-        (each_front Passes general (of_lines ++ (of_positions ++ (past_limit ++ of_groups))) all))
+        (grind (arith, each_front))
 
     pub bodies_quiet : test CutLine ≡ false → suppresses_line_warnings facts ≡ false
         → Each (λ body. AreQuietBy test (line_checks true (line_of body) body)) bodies
-    bodies_quiet fails are_shown =
-        grind (arith, lines_quiet, bodies, labels, labels_are, shown, facts, each_front, passed_later)
+    bodies_quiet fails are_shown = grind (arith, lines_quiet, labels_are, shown, each_front, passed_later)
 
     pub passed_positions : ArePassed test of_positions
     passed_positions = grind (arith, each_front, passed_after)

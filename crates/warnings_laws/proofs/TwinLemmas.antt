@@ -1,5 +1,6 @@
 -- The members of the groups of a file are those of the lines between user-agent lines. So beside a rule with
 -- a nonstandard escape that isn't warned of, its group has the standard spelling.
+use Rattle.std.proofs.Common.{rules}
 use Rattle.std.proofs.Common.{◌≡◌, ◌≢◌, ◌⊎◌, inl, inr, ℕ, ◌==◌, Bool, true, false, List, [], ◌∷◌, Contains}
 use Rattle.std.proofs.Common.{ap, arith, codes, filter, flat_map, if◌then◌else◌, length, map, refl, subst}
 use Rattle.std.proofs.Common.{sym, ◌∙◌}
@@ -33,7 +34,7 @@ each_flat P f (x ∷ xs) all =
     (each_front P (f x) (flat_map f xs) all, each_flat P f xs (each_back P (f x) (flat_map f xs) all))
 
 pub each_from : {X : Type 0} (P : X → Type 0) (xs : List X) → ((x : X) → Contains xs x → P x) → Each P xs
-each_from P xs all = recursion_from_All P xs (All-weaker (Contains xs) P all xs (All-contains_itself xs))
+each_from P xs all = search (rules, recursion_from_All, All-weaker, All-contains_itself)
 
 in_filter : {X : Type 0} (test : X → Bool) (xs : List X) (x : X) → Contains (filter test xs) x
     → Contains xs x × (test x ≡ true)
@@ -46,26 +47,12 @@ in_filter test xs x has =
 split_map : {X Y : Type 0} (f : X → Y) (test : Y → Bool) (xs : List X)
     → slice_split test (map f xs) ≡ map (map f) (slice_split (λ x. test (f x)) xs)
 split_map f test [] = refl
-split_map f test (x ∷ xs) = elim (cases_Bool (test (f x))) [
-  | inl is ↦ rw is (ap (λ parts. [] ∷ parts) (split_map f test xs))
-  | inr isnt ↦ rw isnt (ap (onto_first (f x)) (split_map f test xs) ∙ by (slice_split (λ x. test (f x)) xs))
-]
-  where
-    by : (parts : List (List _)) → onto_first (f x) (map (map f) parts) ≡ map (map f) (onto_first x parts)
-    by [] = refl
-    by (part ∷ parts) = refl
+split_map f test (x ∷ xs) = grind (arith, split_map f test xs)
 
 each_split : {X : Type 0} (P : X → Type 0) (test : X → Bool) (xs : List X) → Each P xs
     → Each (Each P) (slice_split test xs)
 each_split P test [] all = (tt, tt)
-each_split P test (x ∷ xs) all = elim (cases_Bool (test x)) [
-  | inl is ↦ rw is (tt, each_split P test xs all.1)
-  | inr isnt ↦ rw isnt (by (slice_split test xs) (each_split P test xs all.1))
-]
-  where
-    by : (parts : List (List _)) → Each (Each P) parts → Each (Each P) (onto_first x parts)
-    by [] each = ((all.0, tt), tt)
-    by (part ∷ parts) each = ((all.0, each.0), each.1)
+each_split P test (x ∷ xs) all = grind (arith, each_split P test xs all.1)
 
 abbrev begins_part : Source → Bool
 begins_part source = is_agent source.0
@@ -93,46 +80,33 @@ module _ (P : List rfc.Member → Type 0) (none : P []) where
 
   put_has : (tokens : List (List ℕ)) (members : List rfc.Member) (groups : List rfc.Group) → P members
       → HaveAll groups → HaveAll (rfc.put_before tokens members groups)
-  put_has tokens [] [] above below = (above, tt)
-  put_has tokens [] (next ∷ later) above below = below
-  put_has tokens (member ∷ members) groups above below = (above, below)
+  put_has tokens members groups above below = grind arith
 
   after_agent : (token : List ℕ) (parts : Parts) (split : List (List Source)) → IsParted parts split
       → Each (λ part. P (members_of part)) split
       → HaveAll (rfc.put_before (token ∷ []) parts.ungrouped parts.groups)
-  after_agent token parts [] is all = absurd is
-  after_agent token parts (first ∷ later) is all =
-      put_has (token ∷ []) parts.ungrouped parts.groups (subst P (sym is.0) all.0) (is.1 all.1)
+  after_agent token parts split is all = grind (arith, put_has)
 
   after_line : (source : Source) (parts : Parts) (split : List (List Source)) → defines source ≡ true
       → IsParted parts split
       → IsParted (record { ungrouped = member_of source ∷ parts.ungrouped; groups = parts.groups })
       (onto_first source split)
-  after_line source parts [] group is = absurd is
-  after_line source parts (first ∷ later) group is =
-      (rw group (ap (λ members. member_of source ∷ members) is.0), is.1)
+  after_line source parts split group is = grind arith
 
   after_other : (source : Source) (parts : Parts) (split : List (List Source)) → defines source ≡ false
       → IsParted parts split → IsParted parts (onto_first source split)
-  after_other source parts [] other is = absurd is
-  after_other source parts (first ∷ later) other is = (rw other is.0, is.1)
+  after_other source parts split other is = grind arith
 
   parted : (sources : List Source) → IsParted (parts_in sources) (slice_split begins_part sources)
   parted [] = (refl, λ all. tt)
-  parted ((UserAgent token, text) ∷ sources) =
-      (refl, after_agent token (parts_in sources) (slice_split begins_part sources) (parted sources))
-  parted ((Sitemap value, text) ∷ sources) = after_other (Sitemap value, text) _ _ refl (parted sources)
-  parted ((Raw body, text) ∷ sources) = after_other (Raw body, text) _ _ refl (parted sources)
+  parted ((UserAgent token, text) ∷ sources) = grind (arith, after_agent, parts_in, parted sources)
+  parted ((Sitemap value, text) ∷ sources) = grind (arith, after_other, parted sources)
+  parted ((Raw body, text) ∷ sources) = grind (arith, after_other, parted sources)
   parted ((line, text) ∷ sources) = after_line (line, text) _ _ refl (parted sources)
 
   groups_have : (sources : List Source) → Each (λ part. P (members_of part)) (slice_split begins_part sources)
       → HaveAll (parts_in sources).groups
-  groups_have sources all = by (slice_split begins_part sources) (parted sources) all
-    where
-      by : (split : List (List Source)) → IsParted (parts_in sources) split
-          → Each (λ part. P (members_of part)) split → HaveAll (parts_in sources).groups
-      by [] is all = absurd is
-      by (first ∷ later) is all = is.1 all.1
+  groups_have sources all = grind (arith, parted, parts_in)
 
 abbrev IsGoodMember : rfc.Member → Type 0
 IsGoodMember (rfc.Allow path) = IsGoodPath path
@@ -153,7 +127,7 @@ AreFine members =
     → IsFine all member
 
 pub not_percent : (b : ℕ) (text : List ℕ) → begins_oddly (b ∷ text) ≡ false → (b == 37) ≡ false
-not_percent b text begins = elim (first_byte b text begins) [ inl is ↦ rw is refl | inr is ↦ rw is refl ]
+not_percent b text begins = grind (arith, first_byte)
 
 not_root : (value : List ℕ) → begins_oddly value ≡ false → somewhere begins_odd_escape value ≡ true
     → spelled Standard value ≢ codes "/"
@@ -198,25 +172,14 @@ module _ (part : List Source) (good : Each IsGood part)
       let (source, has, same) =
       of_map (λ (source : Source). source.0) part _ (is_listed is_allow value (lines_in part) is) in
       let ((path, stated), member) = listed is_allow value source has same in
-      elim stated [
-        | inl rule ↦
-            have (rule_of is_allow value) (is_rule_of is_allow value)
-            (subst (Contains (members_of part)) rule member)
-        | inr (slash, none) ↦ absurd (other slash)
-      ]
+      (grind (arith, rule_of, is_rule_of))
 
   fits : (is_allow : Bool) (value : List ℕ) → IsGoodPath value
       → is_unpaired Standard (lines_in part) is_allow value ≡ false → IsFine all (rule_of is_allow value)
   fits is_allow value path paired = by is_allow (elim (cases_Bool (somewhere begins_odd_escape value)) [
     | inr plain ↦ inl (subst (IsComparedAs all_stay value) (spelled_same value (odd_escapes value ∙ plain))
         path.compared)
-    | inl odd ↦ inr (record {
-      odd = odd_escapes value ∙ odd;
-      twin = spelled Standard value;
-      listed = twin_listed is_allow (spelled Standard value) (not_root value path.begins odd)
-          (not-false _ (rw odd at paired));
-      same = path.compared;
-    })
+    | inl odd ↦ (grind (arith, odd_escapes, listed, twin_listed, not_root, not-false))
   ])
     where
       by : (is_allow : Bool)

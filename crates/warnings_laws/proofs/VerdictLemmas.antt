@@ -5,12 +5,12 @@ use Rattle.std.proofs.Common.{◌≡◌, ◌≢◌, ◌↔◌, inl, inr, ℕ, ze
 use Rattle.std.proofs.Common.{◌∷◌, Option, None, Some, Contains, ap, arith, if◌then◌else◌, length, map, refl}
 use Rattle.std.proofs.Common.{slice_get, subst, sym, take, ◌∙◌}
 use Rattle.std.specs.List.{AllByRecursion as Each, AllZip, filter_map}
-use Rattle.std.proofs.lemmas.Bool.{cases_Bool, cases_lt, false_from_ne_true, false≢true, ltb-false, not-true}
+use Rattle.std.proofs.lemmas.Bool.{cases_Bool, false_from_ne_true, false≢true, ltb-false, not-true}
 use Rattle.std.proofs.{lemmas.List.take_all, lemmas.Simd.map-map}
 use Rattle.texting_robots.specs.Callers.{Allow, Disallow, IsLineOf, IsRobotOfFile, IsVerdict, Label, Rule}
 use Rattle.texting_robots.specs.Callers.{LineValue, PlacedRule, RobotValue, escaped, file_limit, group_name}
 use Rattle.texting_robots.specs.Callers.{lines_read, placed_rules, unplaced}
-use Rattle.texting_robots.specs.{Escape.is_escaped, Internal.Line.line_of}
+use Rattle.texting_robots.specs.{Internal.Line.line_of}
 use Rattle.texting_robots.specs.Executable.{captured_lines, placed_in, rules_for}
 use Rattle.texting_robots.proofs.{BestLemmas.placed_of, MainTheoremLemmas.computed_are, TrimLemmas.is_trimmed}
 use Rattle.rfc9309_laws.proofs.FileLemmas.{FileRead, file_with, groups_written, has_delays}
@@ -20,14 +20,14 @@ use Rattle.rfc9309_laws.proofs.Sources.{Source, parts_in, source_of, written}
 use Rattle.rfc9309_laws.proofs.VerdictLemmas.{each_contains, octets_are, robot_agrees, zip_right}
 use Rattle.rfc9309_laws.specs.{Comparable.AreComparable}
 use Rattle.rfc9309_laws.specs.Matching.{IsRfcVerdict, all_stay, normal_from, normal_uri, octets}
-use Rattle.robots_warnings.specs.declared.spellings.Spelling.TheVariants.{Plain, Standard}
+use Rattle.robots_warnings.specs.declared.spellings.Spelling.TheVariants.{Standard}
 use Rattle.robots_warnings.specs.Checks.{file_checks, line_checks}
 use Rattle.robots_warnings.specs.Conflicts.{compared, conflict, conflict_for, overruled, overruled_for}
 use Rattle.robots_warnings.specs.Conflicts.{IsEmptyDisallow, is_empty_at}
 use Rattle.robots_warnings.specs.{File.lines_of, Rules.begins_oddly, Spellings.unpaired, Spellings.spelled}
 use Rattle.robots_warnings.specs.{Table.keeps_verdicts, Table.topic_of, Message.WarningValue}
 use Rattle.robots_warnings.specs.{declared.facts.FileFacts.FileFacts, declared.table.Cause.Cause}
-use Rattle.robots_warnings.specs.Warnings.{crawler_warnings, group_warnings, position_warnings, rule_warnings}
+use Rattle.robots_warnings.specs.Warnings.{group_warnings, position_warnings, rule_warnings}
 use Rattle.robots_warnings.specs.Warnings.{warned_at, warned_beside}
 use Rattle.warnings_laws.proofs.SplitLemmas.{raw_parts, rules_not_split}
 use Rattle.warnings_laws.proofs.ConflictLemmas.{conflict_holds, first_some}
@@ -40,7 +40,7 @@ use Rattle.warnings_laws.proofs.{SyntaxLemmas.passed_positions, PathLemmas.spell
 use Rattle.warnings_laws.proofs.TwinLemmas.{AreFineGroups, IsFine, IsGood, each_flat, each_from, not_percent}
 use Rattle.warnings_laws.proofs.TwinLemmas.{rules_fine, sources_fine}
 use Rattle.robots_needless.proofs.{TogetherLemmas.of_map}
-use Rattle.warnings_laws.specs.Syntax.{AreGroupsWhole, IsNoSplit, IsNotAboutSyntax, IsSilentOn, warnings_of}
+use Rattle.warnings_laws.specs.Syntax.{AreGroupsWhole, IsNoSplit, IsSilentOn}
 use Rattle.warnings_laws.specs.Verdict.{AreVerdictsKept, IsAsOneOf, IsAsked, IsStandardVerdict, KeepsVerdicts}
 use Rattle.robots_warnings.specs.declared.table.Cause.TheVariants as cause
 use Rattle.rfc9309_laws.specs.Rfc9309 as rfc
@@ -53,8 +53,7 @@ none_at (number ∷ numbers) all = absurd (false≢true all.0)
 
 none_beside : (cause : Cause) (number : ℕ) (other : Option ℕ) → keeps_verdicts cause ≡ false
     → ArePassed keeps_verdicts (warned_beside cause number other) → is_some other ≡ false
-none_beside cause number None isnt all = refl
-none_beside cause number (Some other) isnt all = absurd (false≢true (sym isnt ∙ all.0))
+none_beside cause number other isnt all = grind arith
 
 no_split : (warning : WarningValue) → KeepsVerdicts warning → IsNoSplit warning
 unfolding topic_of
@@ -83,22 +82,17 @@ label_at (label ∷ labels) P (suc place) line all at = label_at labels P place 
 
 escaped_longer : (text : List ℕ) → length text ≤ length (escaped text)
 escaped_longer [] = omega arith
-escaped_longer (b ∷ text) =
-    let later = escaped_longer text in
-    elim (cases_Bool (is_escaped b)) [ inl is ↦ rw is (omega arith) | inr isnt ↦ rw isnt (omega arith) ]
+escaped_longer (b ∷ text) = grind (arith, escaped_longer text)
 
 long_path : (b c : ℕ) (text : List ℕ) → IsGoodPath (b ∷ c ∷ text) → 1 < octets all_stay (b ∷ c ∷ text)
 long_path b c text path =
     let spelling = spelled Standard (b ∷ c ∷ text) in
     let size = octets_are all_stay (b ∷ c ∷ text) spelling path.compared in
     let longer = escaped_longer spelling in
-    elim (cases_lt 1 (length spelling)) [
-      | inl more ↦ omega arith
-      | inr short ↦ let none = spelled_short b (c ∷ text) (not_percent b (c ∷ text) path.begins) short in cc
-    ]
+    (grind (arith, spelled_short, not_percent))
 
 one_byte : (b : ℕ) → begins_oddly (b ∷ []) ≡ false → compared (escaped (b ∷ [])) ≡ root
-one_byte b begins = elim (first_byte b [] begins) [ inl is ↦ rw is refl | inr is ↦ rw is refl ]
+one_byte b begins = grind (arith, first_byte)
 
 abbrev sources : List ℕ → List Source
 sources file = map source_of (bodies file)
@@ -112,9 +106,7 @@ module _ (agents urls : List (List ℕ)) (file : List ℕ)
   text = take file_limit file
 
   pub silent : IsSilentOn agents urls file
-  silent =
-      each_weaker KeepsVerdicts IsNotAboutSyntax (λ warning. kept_not_syntax warning.cause)
-      (warnings_of agents urls file) kept
+  silent = grind (arith, each_weaker, kept_not_syntax)
 
   pub all_read : take file_limit file ≡ file
   all_read =
@@ -134,14 +126,8 @@ module _ (agents urls : List (List ℕ)) (file : List ℕ)
   kept_groups : Each KeepsVerdicts (group_warnings true agents (bodies file) lines (labels file))
   kept_groups = passed_groups file keeps_verdicts agents urls kept
 
-  abbrev escapes : List WarningValue
-  escapes = warned_at cause.NonstandardEscape None (unpaired Standard true (labels file))
-
-  abbrev delimiters : List WarningValue
-  delimiters = warned_at cause.EscapedDelimiter None (unpaired Plain true (labels file))
-
   no_escapes : Each (λ number. ⊥) (unpaired Standard true (labels file))
-  no_escapes = none_at (unpaired Standard true (labels file)) (each_front KeepsVerdicts escapes _ kept_groups)
+  no_escapes = grind (arith, none_at, labels, each_front, kept_groups)
 
   abbrev is_empty : ℕ → Bool
   is_empty = is_empty_at (bodies file) (labels file)
@@ -162,16 +148,10 @@ module _ (agents urls : List (List ℕ)) (file : List ℕ)
   unfolding topic_of
   unwarned =
       each_weaker (λ label. Each KeepsVerdicts (about label)) (λ label. IsUnwarned label.number)
-      (λ (label : Label) all.
-      let number = label.number in
-      let first = warned_beside cause.AllowedAndDisallowed number (conflict is_empty agents lines number) in (
-        none_beside cause.AllowedAndDisallowed number _ refl (each_front KeepsVerdicts first _ all),
-        none_beside cause.EmptyDisallow number _ refl (each_back KeepsVerdicts first _ all),
-      ))
+      (grind (arith, none_beside, each_front, each_back))
       (labels file)
       (each_flat KeepsVerdicts about (labels file)
-      (each_front KeepsVerdicts (crawler_warnings is_empty agents lines (labels file)) _
-      (each_back KeepsVerdicts delimiters _ (each_back KeepsVerdicts escapes _ kept_groups))))
+      (grind (arith, each_front, labels, each_back, kept_groups)))
 
   -- a crawler of the report has no Disallow of everything beside an Allow of `/`, as an empty Disallow is
   -- read
@@ -199,16 +179,7 @@ module _ (agents urls : List (List ℕ)) (file : List ℕ)
           | inl is ↦ is
           | inr stated ↦ absurd (false≢true (sym no_conflict
               ∙ first_some (conflict_for is_empty lines deny) agents other reported
-              (conflict_holds is_empty lines deny at other (record {
-                rules = own_rules;
-                are = are;
-                pattern = pattern;
-                allowed = allowed;
-                same = like ∙ sym all;
-                disallow = has_deny;
-                allow = has;
-                stated = stated;
-              }))))
+              (conflict_holds is_empty lines deny at other (grind arith))))
         ] in
         let stated : is_empty deny ≡ false = false_from_ne_true (is_empty deny) (λ is.
         let at_root = rule_there other file own_rules are _ has_deny ((empty_is deny).0 is) in
@@ -278,11 +249,8 @@ module _ (agents urls : List (List ℕ)) (file : List ℕ)
           let (deny_at, has_deny) = theirs other group deny own in
           absurd (none_denied other (k, below, at) allow_at deny_at (escaped (b ∷ []))
           (one_byte b good.begins)
-          (subst (λ (rule : Rule). Contains (placed_rules other lines)
-          (record { rule = rule; line = allow_at })) is has_allow)
-          (subst (λ (rule : Rule). Contains (placed_rules other lines)
-          (record { rule = rule; line = deny_at }))
-          (e ∙ ap (λ (v : List ℕ). (escaped v, false)) value_is) has_deny))
+          (grind arith)
+          (grind arith))
         where
           theirs : (other : List ℕ) → group_name agent lines ≡ group_name other lines → (rule : Rule)
               → Contains (rules_for agent lines) rule

@@ -1,19 +1,18 @@
 -- Theorems about warnings: what the conditions of some warnings imply for rules, names and URLs.
 use Rattle.std.proofs.{lemmas.Grind.common_steps, lemmas.List.Folds.list_any-append}
 use Rattle.std.proofs.{lemmas.List.Elements.Contains-append_cases}
-use Rattle.std.proofs.Common.{rules, ◌||◌, ◌==◌, ap, arith, if◌then◌else◌, inl, inr, drop, suc, ◌≡◌, ◌≢◌, ◌⊎◌}
+use Rattle.std.proofs.Common.{◌||◌, ◌==◌, ap, arith, if◌then◌else◌, inl, inr, suc, ◌≡◌, ◌≢◌, ◌⊎◌}
 use Rattle.std.proofs.Common.{◌<◌, ℕ, Bool, true, false, List, [], ◌∷◌, ◌++◌, Contains, codes, filter, map}
 use Rattle.std.proofs.Common.{not, Option, refl, slice_get, Some, subst, sym, take, ◌+◌, ◌∙◌}
 use Rattle.std.proofs.lemmas.Bool.{not-true, or_cases, or_parts, cases_Bool, eqb-true, false≢true}
-use Rattle.std.specs.{List.enumerate_from, List.list_all, List.list_any, List.prefix_len, Str.byte}
-use Rattle.std.specs.{Str.is_utf8, Str.str_to_ascii_lowercase, Option.option_map_or}
+use Rattle.std.specs.{List.enumerate_from, List.list_all, List.list_any, Str.byte}
+use Rattle.std.specs.{Str.is_utf8, Option.option_map_or}
 use Rattle.texting_robots.specs.Callers.{Allow, AreLabelsOf, CrawlDelay, Disallow, HoldsRule, IsLineOf, Label}
 use Rattle.texting_robots.specs.Callers.{LineValue, Matches, Raw, Rule, Sitemap, HasMembership, UserAgent}
 use Rattle.texting_robots.specs.Callers.{escaped, file_lines, is_agent_named, is_named}
-use Rattle.texting_robots.specs.{Escape.escape_byte, Escape.is_escaped, Group.is_agent, Group.passes_at}
+use Rattle.texting_robots.specs.{Group.is_agent, Group.passes_at}
 use Rattle.texting_robots.specs.{Pattern.MatchesWith, Pattern.dollar, Pattern.star, Statement.IsStatement}
 use Rattle.texting_robots.specs.{declared.labels.Membership.Membership, Internal.Segments.is_wildcard}
-use Rattle.texting_robots.specs.declared.labels.Membership.TheVariants.{Other, Ungrouped, Own}
 use Rattle.robots_warnings.specs.{Closed.matches_no_path, Rules.begins_oddly, Rules.has_dollar_inside}
 use Rattle.robots_warnings.specs.Crawlers.{has_new_name, is_past_limit, names_past_limit}
 use Rattle.robots_warnings.specs.Positions.{is_above_agents, is_outside}
@@ -34,28 +33,13 @@ IsStated (Sitemap value) body = IsStatement kind.Sitemap value body
 IsStated (Raw content) body = content ≡ body
 
 pub is_stated : (line : LineValue) (body : List ℕ) → IsLineOf line body → IsStated line body
-is_stated line body (inl (kind.UserAgent, value, is, same)) = rw same is
-is_stated line body (inl (kind.Allow, value, is, same)) = rw same (inl is)
-is_stated line body (inl (kind.Disallow, [], is, same)) = rw same (inr (refl, is))
-is_stated line body (inl (kind.Disallow, b ∷ value, is, same)) = rw same (is, λ e. cc)
-is_stated line body (inl (kind.Sitemap, value, is, same)) = rw same is
-is_stated line body (inl (kind.CrawlDelay, value, is, inl (delay, names, same))) = rw same (value, is)
-is_stated line body (inl (kind.CrawlDelay, value, is, inr (names, same))) = rw same refl
-is_stated line body (inr (none, same)) = rw same refl
+is_stated line body of_body = grind arith
 
 pub below_agent : (name : List ℕ) (lines : List LineValue) (place : ℕ) (membership : Membership)
     → HasMembership name lines place membership → is_outside membership ≡ false
     → passes_at is_agent lines place ≡ false → list_any is_agent lines ≡ true
     → (j : ℕ) × (j < place) × (passes_at is_agent lines j ≡ true)
-below_agent name lines place Own (inl (group, inl alone)) inside isnt some = search (rules, some_passes)
-below_agent name lines place Own (inl (group, inr (j, below, named, alone))) inside isnt some =
-    search (rules, named_agent)
-below_agent name lines place Own (inr run) inside isnt some = absurd (false≢true (sym isnt ∙ run.0))
-below_agent name lines place Other (other, inl agent) inside isnt some =
-    absurd (false≢true (sym isnt ∙ agent))
-below_agent name lines place Other (other, inr (group, j, below, agent)) inside isnt some =
-    (j, below, agent)
-below_agent name lines place Ungrouped has inside isnt some = cc
+below_agent name lines place membership is outside isnt some = grind (arith, some_passes, named_agent)
 
 -- where lines are numbered from `n + 1` on
 FoundLine : (ℕ × LineValue → Bool) → ℕ → List LineValue → ℕ → Type 0
@@ -88,14 +72,7 @@ found_line test n (line ∷ lines) number has = elim (cases_Bool (test (n, line)
 
 new_name : (read more : List LineValue) (line : LineValue) → has_new_name (read ++ more) line ≡ true
     → (value : List ℕ) × (line ≡ UserAgent value) × (is_named value read ≡ false)
-new_name read more (UserAgent value) is =
-    let test = is_agent_named (str_to_ascii_lowercase value) in (
-      value,
-      refl,
-      (or_parts (list_any test read) (list_any test more)
-          (not-true _ (ap not (sym (list_any-append test read more)) ∙ is))).0,
-    )
-new_name read more other is = cc
+new_name read more line isnt = grind (arith, or_parts, not-true, list_any-append)
 
 pub named_past_limit : (read : List LineValue) (file : List ℕ) (number : ℕ)
     → Contains (names_past_limit read file) number
@@ -130,22 +107,7 @@ dropped (b ∷ front) q t (s, takes, m) = dropped front q s m
 other_bytes : (value : List ℕ) → list_any (λ b. not (b == star || b == dollar)) value ≡ true
     → list_all is_wildcard (escaped value) ≡ false
 other_bytes [] some = cc
-other_bytes (b ∷ value) some = elim (cases_Bool (b == star)) [
-  | inl first ↦
-      let is = eqb-true b star first in
-      subst (λ b. list_all is_wildcard (escaped (b ∷ value)) ≡ false) (sym is)
-      (other_bytes value (rw first at some))
-  | inr other ↦ elim (cases_Bool (b == dollar)) [
-    | inl end ↦
-        let is = eqb-true b dollar end in
-        subst (λ b. list_all is_wildcard (escaped (b ∷ value)) ≡ false) (sym is)
-        (other_bytes value (rw (other, end) at some))
-    | inr plain ↦ elim (cases_Bool (is_escaped b)) [
-      | inl bad ↦ rw bad refl
-      | inr good ↦ rw (good, other, plain) refl
-    ]
-  ]
-]
+other_bytes (b ∷ value) some = grind (arith, eqb-true, other_bytes value)
 
 pub dollar_inside_matches_nothing : (value text : List ℕ) → has_dollar_inside value ≡ true
     → ¬ Matches (escaped value) text
@@ -158,13 +120,7 @@ dollar_inside_matches_nothing (b ∷ value) text inside m = elim (cases_Bool (b 
       false≢true (sym (other_bytes value (rw is at inside))
       ∙ (only_wildcards_match (escaped value)).1 (subst (Matches (escaped value)) gone later))
   | inr other ↦
-      let (s, later) = dropped (escape_byte b) (escaped value) text m in
-      let before = prefix_len (λ x. not (x == byte "$")) value in
-      let same : 1 + before + 1 ≡ suc (before + 1) = omega arith in
-      let later_inside : has_dollar_inside value ≡ true =
-      subst (λ k. list_any (λ b. not (b == byte "*" || b == byte "$")) (drop k (b ∷ value)) ≡ true) same
-      (rw other at inside) in
-      dollar_inside_matches_nothing value s later_inside later
+      (grind (arith, dropped, dollar_inside_matches_nothing value))
 ]
 
 pub odd_start_matches_no_path : (value text : List ℕ) → begins_oddly value ≡ true
@@ -176,10 +132,7 @@ odd_start_matches_no_path (b ∷ value) text odd m = grind (arith, common_steps)
 other_than_wildcards : (pattern : List ℕ)
     → list_any (λ b. not (b == star || b == dollar)) pattern ≡ true → list_all is_wildcard pattern ≡ false
 other_than_wildcards [] some = cc
-other_than_wildcards (b ∷ pattern) some = elim (cases_Bool (b == star || b == dollar)) [
-  | inl wild ↦ rw wild (other_than_wildcards pattern (rw wild at some))
-  | inr plain ↦ rw plain refl
-]
+other_than_wildcards (b ∷ pattern) some = grind (arith, other_than_wildcards pattern)
 
 inside_matches_nothing : (pattern text : List ℕ) → has_dollar_inside pattern ≡ true → ¬ Matches pattern text
 unfolding MatchesWith
@@ -191,13 +144,7 @@ inside_matches_nothing (b ∷ pattern) text inside m = elim (cases_Bool (b == do
       false≢true (sym (other_than_wildcards pattern (rw is at inside))
       ∙ (only_wildcards_match pattern).1 (subst (Matches pattern) gone later))
   | inr other ↦
-      let (s, later) = dropped (b ∷ []) pattern text m in
-      let before = prefix_len (λ x. not (x == byte "$")) pattern in
-      let same : 1 + before + 1 ≡ suc (before + 1) = omega arith in
-      let later_inside : has_dollar_inside pattern ≡ true =
-      subst (λ k. list_any (λ b. not (b == byte "*" || b == byte "$")) (drop k (b ∷ pattern)) ≡ true) same
-      (rw other at inside) in
-      inside_matches_nothing pattern s later_inside later
+      (grind (arith, dropped, inside_matches_nothing pattern))
 ]
 
 odd_matches_nothing : (pattern text : List ℕ) → begins_oddly pattern ≡ true
@@ -208,7 +155,4 @@ odd_matches_nothing (b ∷ pattern) text odd m = grind (arith, common_steps)
 
 pub without_path : (pattern text : List ℕ) → matches_no_path pattern ≡ true
     → ¬ Matches pattern (byte "/" ∷ text)
-without_path pattern text none m = elim (or_cases (begins_oddly pattern) _ none) [
-  | inl odd ↦ odd_matches_nothing pattern text odd m
-  | inr inside ↦ inside_matches_nothing pattern _ inside m
-]
+without_path pattern text none m = grind (arith, or_cases, odd_matches_nothing, inside_matches_nothing)
