@@ -1,5 +1,6 @@
 //! Percent-encoding of patterns and match targets.
-ghost use Rattle.std.specs.Prelude.{◌≡◌, ◌<◌, ◌++◌, All, IsOk, OnErr, OnOk, IfOk, false, length, string_bytes, true};
+ghost use Rattle.std.specs.Prelude.{◌≡◌, ◌<◌, ◌++◌, All, IsOk, OnErr, OnOk, IfOk, false, length};
+ghost use Rattle.std.specs.Prelude.{string_bytes, true};
 ghost use Rattle.std.specs.{Cow.cow_str_bytes, Fmt.digit_glyph, List.list_any};
 ghost use Rattle.texting_robots.specs.Escape.{escape_byte, escaped, is_escaped};
 
@@ -147,6 +148,7 @@ fn push_byte(out: &mut String, byte: u8) -> Result<(), AllocError>
     out.push(hex_digit(byte & 15))
 }
 
+/// Byte by byte, as a call for each escape takes longer.
 #[inline(never)]
 fn push_escapes(out: &mut String, bytes: &[u8]) -> Result<(), AllocError>
     ensures { OnOk result (string_bytes out.new ≡ string_bytes out.old ++ escaped bytes.now) }
