@@ -1,7 +1,8 @@
 //! Percent-encoding of patterns and match targets.
-ghost use Rattle.std.specs.Prelude.{◌≡◌, ◌++◌, All, IsOk, OnErr, OnOk, IfOk, false, length, string_bytes};
-ghost use Rattle.std.specs.{Cow.cow_str_bytes, List.list_any};
-ghost use Rattle.texting_robots.specs.Escape.{escaped, is_escaped};
+ghost use Rattle.std.specs.Prelude.{◌≡◌, ◌<◌, ◌++◌, All, IsOk, OnErr, OnOk, IfOk, false, length};
+ghost use Rattle.std.specs.Prelude.{string_bytes, true};
+ghost use Rattle.std.specs.{Cow.cow_str_bytes, Fmt.digit_glyph, List.list_any};
+ghost use Rattle.texting_robots.specs.Escape.{escape_byte, escaped, is_escaped};
 
 use percent_encoding::{AsciiSet, CONTROLS, ascii_set, percent_encode, utf8_percent_encode};
 use std::alloc::{AllocError, Global};
@@ -123,6 +124,41 @@ pub(crate) fn holds_escaped(bytes: &[u8]) -> bool
     few_hold_escaped(rest)
 }
 
+fn hex_digit(digit: u8) -> char
+    requires { digit < 16 }
+    ensures value { result ≡ digit_glyph true digit }
+    ensures ascii { result < 128 }
+{
+    char::from(if digit < 10 {
+        b'0' + digit
+    } else {
+        b'A' - 10 + digit
+    })
+}
+
+#[inline(always)]
+fn push_byte(out: &mut String, byte: u8) -> Result<(), AllocError>
+    ensures { OnOk result (string_bytes out.new ≡ string_bytes out.old ++ escape_byte byte) }
+{
+    if !is_escaped(byte) {
+        return out.push(char::from(byte));
+    }
+    out.push('%')?;
+    out.push(hex_digit(byte >> 4))?;
+    out.push(hex_digit(byte & 15))
+}
+
+/// Byte by byte, as a call for each escape takes longer.
+#[inline(never)]
+fn push_escapes(out: &mut String, bytes: &[u8]) -> Result<(), AllocError>
+    ensures { OnOk result (string_bytes out.new ≡ string_bytes out.old ++ escaped bytes.now) }
+{
+    for byte in bytes {
+        push_byte(out, *byte)?;
+    }
+    Ok(())
+}
+
 /// Appends the escaped string. Most strings hold no escaped byte and are copied in one go.
 pub(crate) fn push_escaped(
     out: &mut String,
@@ -133,7 +169,7 @@ pub(crate) fn push_escaped(
     ensures { OnOk result (string_bytes out.new ≡ string_bytes out.old ++ escaped text.now) }
 {
     if holds_escaped {
-        return utf8_percent_encode(text, ESCAPED).append_to(out);
+        return push_escapes(out, text.as_bytes());
     }
     out.push_str(text)
 }

@@ -159,18 +159,22 @@ impl RobotBuilder {
         ensures without_memory { if_captured self.old.tracker (placed number (rule_in line.now)) ≡ None
             → sitemap_in line.now ≡ None → IsOk result }
     {
-        if matches!(line.kind(), Some(Kind::UserAgent)) {
-            if let Some(is_named) = line.naming(name) {
-                self.tracker.step_agent(is_named);
+        let captured = self.tracker.captured;
+        match line.kind() {
+            Some(Kind::UserAgent) => {
+                if let Some(is_named) = line.naming(name) {
+                    self.tracker.step_agent(is_named);
+                }
+                return Ok(());
             }
-            return Ok(());
-        }
-        let of_group = self.tracker.captured || self.tracker.named;
-        if !of_group && !matches!(line.kind(), Some(Kind::Sitemap)) {
-            return Ok(());
+            Some(Kind::Sitemap) => {}
+            _ => {
+                if !captured && !self.tracker.named {
+                    return Ok(());
+                }
+            }
         }
         let line = line.read();
-        let captured = self.tracker.captured;
         self.tracker.step(name, line);
         match line {
             Line::Sitemap(value) => Ok(push_text(alloc, &mut self.sitemaps, value)?),
@@ -181,7 +185,7 @@ impl RobotBuilder {
                 self.delay = self.delay.or(delay);
                 Ok(())
             }
-            _ => Ok(()),
+            Line::UserAgent(_) | Line::Raw(_) => Ok(()),
         }
     }
 }

@@ -1,18 +1,13 @@
-use Rattle.std.proofs.Common.{◌≡◌, ◌<◌, length}
+use Rattle.std.proofs.Common.{◌<◌, length}
 use Rattle.std.specs.Prelude.{IsPermutation}
 use Rattle.texting_robots.proofs.rules.swap_by_keys.Given as goal
 
 abbrev pub invariant-loop-start : goal.invariant-loop-start
-invariant-loop-start l =
-    record {
-      permutation : IsPermutation l.fn.entries.items l.entries.items;
-      as_many : length l.keys.items ≡ length l.fn.keys.items;
-    }
+invariant-loop-start l = IsPermutation l.fn.entries.items l.entries.items
 
 abbrev pub invariant-loop : goal.invariant-loop
 invariant-loop l =
     record {
       permutation : IsPermutation l.fn.entries.items l.entries.items;
-      as_many : length l.keys.items ≡ length l.fn.keys.items;
-      within : l.at < length l.keys.items;
+      within : l.at < length l.keys;
     }

@@ -1,4 +1,5 @@
 use Rattle.std.proofs.Common.{string_bytes, arith}
+use Rattle.std.proofs.lemmas.Grind.{common_steps}
 use Rattle.std.proofs.lemmas.List.Sorted.{All-permutation, IsPermutation-map, length_permutation}
 use Rattle.texting_robots.specs.Internal.Segments.{IsEntry, placed_at}
 use Rattle.texting_robots.proofs.rules.Rules.sorted.Goals as goal
@@ -12,7 +13,7 @@ put_masks-requires c =
     let known = All-permutation is _ _ order made.known in
     let size = length_permutation _ _ order in
     rw (c.deref.ensures.value, c.as_bytes.ensures.value) (record {
-      within = omega (arith, made.masks, c.sort_entries.ensures.as_many);
+      within = grind (arith, common_steps, made.masks, size);
       spans = λ k d below. (known k d below).pattern;
       firsts = λ k d below. (known k d below).is_cut.first;
     })
