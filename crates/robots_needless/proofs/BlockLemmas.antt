@@ -6,8 +6,8 @@ use Rattle.std.proofs.Common.{List, ◌∷◌, Option, Some, None, ap, ap₂, sy
 use Rattle.std.proofs.Common.{filter, filter_map, length, length-drop, map, slice_get, if◌then◌else◌}
 use Rattle.std.specs.{List.cons_option, List.enumerate_from, List.list_any, Option.option_or}
 use Rattle.std.proofs.lemmas.Bool.{cases_Bool, cases_eq, false≢true}
-use Rattle.texting_robots.specs.{Executable.delay_for, Rules.Rule, declared.groups.GroupTracker.GroupTracker}
-use Rattle.texting_robots.specs.{Line.LineValue, Rules.PlacedRule, Rules.placed, Rules.unplaced, Laws.Same}
+use Rattle.texting_robots.specs.{Executable.delay_for, declared.groups.GroupTracker.GroupTracker}
+use Rattle.texting_robots.specs.{Line.LineValue, Rules.PlacedRule, Rules.unplaced, Laws.Same}
 use Rattle.texting_robots.specs.Line.{Raw, delay_in, is_raw}
 use Rattle.texting_robots.specs.Group.{group_name, is_agent, passes_at}
 use Rattle.texting_robots.specs.Executable.{captured_delays, captured_lines, delay_before_agents, placed_in}
@@ -87,13 +87,7 @@ module _ (numbers : List ℕ) (lines : List LineValue) where
   kept_below place position [] left keeps under clear = absurd (false≢true keeps)
   kept_below place position (line ∷ rest) left keeps under clear =
       let (at, later) = at_front lines position line rest left in
-      elim (cases_Bool (is_rule line && not (gone (position + 1)))) [
-        | inl stays ↦ (position, kept_here position line at stays, under, clear)
-        | inr goes ↦
-            let (isnt, more) = lost_next gone position line rest goes keeps in
-            kept_below place (position + 1) rest later more (omega arith)
-            (further place position line at isnt clear)
-      ]
+      grind (arith, kept_here, lost_next, further, kept_below place (position + 1) rest later)
 
   safe : (place other : ℕ) → passes_at is_rule lines place ≡ true → IsKept other → IsClear place other
       → IsClear other place → KeepsRule numbers lines (place + 1)
@@ -125,15 +119,7 @@ module _ (numbers : List ℕ) (lines : List LineValue) where
             ]
         | inr differs ↦
             all_safe next (position + 1) rest later more
-            (λ has. elim (cases_Bool (is_rule line && not (gone (position + 1)))) [
-              | inl stays ↦
-                  let kept = kept_here position line at stays in
-                  (position, kept, omega arith, λ k over less. absurd (omega arith))
-              | inr removed ↦
-                  let (isnt, had) = had_rule block next _ line is has removed in
-                  let (other, kept, over, clear) = above had in
-                  (other, kept, omega arith, further other position line at isnt clear)
-            ])
+            (grind (arith, kept_here, had_rule, further))
             place (omega arith) within goes
       ]
 
@@ -160,11 +146,6 @@ record AreAlike (block : Block) (tracker other : GroupTracker) : Type 0 where
   named : block.is_lost ≡ false → tracker.named ≡ other.named
   unnamed : block.has_rule ≡ true → other.named ≡ false
 
-next_alike : (name : List ℕ) (block next : Block) (tracker other : GroupTracker) (goes : Bool)
-    (line : LineValue) → AreAlike block tracker other → block_after block goes line ≡ Some next
-    → AreAlike next (step name tracker line) (step name other (if goes then Raw [] else line))
-next_alike name block next tracker other goes line alike is = grind arith
-
 module _ (gone : ℕ → Bool) (name : List ℕ) where
   -- what is found in the lines that stay
   abbrev masked : {X : Type 0} → (ℕ × LineValue → Option X) → ℕ × LineValue → Option X
@@ -178,20 +159,15 @@ module _ (gone : ℕ → Bool) (name : List ℕ) where
       ≡ from_captured (masked given) name tracker position lines
   walked given none position [] block tracker other alike keeps = refl
   walked {X} given none position (line ∷ lines) block tracker other alike keeps =
-      grind (arith, next_block, next_alike, walked given none (position + 1) lines)
+      grind (arith, next_block, walked given none (position + 1) lines)
 
   abbrev staying : List PlacedRule → List PlacedRule
   staying = filter (λ (p : PlacedRule). not (gone p.line))
 
-  one_more : (n : ℕ) (rule : Option Rule) (rest : List PlacedRule)
-      → cons_option (if gone n then None else placed n rule) (staying rest)
-      ≡ staying (cons_option (placed n rule) rest)
-  one_more n rule rest = grind arith
-
   masked_rules : (lines : List (ℕ × LineValue))
       → filter_map (masked placed_in) lines ≡ staying (filter_map placed_in lines)
   masked_rules [] = refl
-  masked_rules ((position, line) ∷ lines) = grind (arith, one_more, masked_rules lines)
+  masked_rules ((position, line) ∷ lines) = grind (arith, masked_rules lines)
 
 -- ---- what no rule gives
 

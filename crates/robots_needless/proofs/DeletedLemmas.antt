@@ -57,7 +57,7 @@ returns_end (suc k) rest = grind (arith, more_return, returns_end k rest)
 
 feed_end : (k : ℕ) (rest : List ℕ) → IsEnded ((replicate k cr ++ lf ∷ []) ++ rest) rest
 feed_end zero rest = record { later = bodies_of rest; bodies = step lf rest; same = refl }
-feed_end (suc k) rest = more_return ((replicate k cr ++ lf ∷ []) ++ rest) rest (feed_end k rest)
+feed_end (suc k) rest = grind (arith, more_return, feed_end k rest)
 
 at_body : (b : ℕ) (bodies : List (List ℕ)) → IsBodyByte b → body_step b bodies ≡ body_byte b bodies
 at_body b bodies other = grind (arith, ne_eqb)
@@ -85,8 +85,7 @@ pub cut_pairs : (pairs : List Pair) (text : List ℕ) → IsCut pairs text → A
 cut_pairs [] text is = tt
 cut_pairs (pair ∷ later) text is = (
   record {
-    body = recursion_from_All IsBodyByte pair.body
-        (All-head (λ p. All IsBodyByte p.body) pair later is.bodies);
+    body = (grind (arith, recursion_from_All, All-head));
     ending = All-head (λ p. IsLineEnd p.ending) pair later is.endings;
     last = is.empty_ending [] later pair refl;
   },
@@ -149,14 +148,6 @@ taken byte (b ∷ text) = elim (cases_Bool (b == byte)) [
 abbrev pub IsNotFirst : ℕ → List ℕ → Type 0
 IsNotFirst byte text = without byte text ≡ text
 
-taken_off : (byte : ℕ) (front text : List ℕ) → IsTaken byte front → IsNotFirst byte text
-    → without byte (front ++ text) ≡ text
-taken_off byte front text taken isnt = grind (arith, Decides-eqb)
-
-other_first : (byte other : ℕ) (front text : List ℕ) → other ≢ byte → IsTaken other front
-    → IsNotFirst byte text → IsNotFirst byte (front ++ text)
-other_first byte other front text differs taken isnt = grind (arith, ne_eqb)
-
 -- no byte of the byte order mark is the first
 pub record IsUnmarked (text : List ℕ) : Type 0 where
   pub first : IsNotFirst 0xEF text
@@ -191,23 +182,11 @@ mark_of file mark (inr is) =
     let (two, is_two, then) = taken 0xBB (without 0xEF file) in
     let (three, is_three, last) = taken 0xBF (without 0xBB (without 0xEF file)) in
     let whole : file ≡ (one ++ (two ++ three)) ++ without_front file =
-    at ∙ ap (λ t. one ++ t) (then ∙ ap (λ t. two ++ t) last) ∙ simp append_assoc in
-    record {
-      one = one;
-      two = two;
-      three = three;
-      whole = append_cancel_right mark (one ++ (two ++ three)) (without_front file) (is ∙ whole);
-      is_one = is_one;
-      is_two = is_two;
-      is_three = is_three;
-    }
-
-read_taken : (byte : ℕ) (front : List ℕ) → nul_as_lf byte ≡ byte → IsTaken byte front
-    → map nul_as_lf front ≡ front
-read_taken byte front same taken = grind arith
+    (grind (arith, append_assoc)) in
+    (grind (arith, append_cancel_right))
 
 pub mark_read : (mark : List ℕ) → IsMark mark → map nul_as_lf mark ≡ mark
-mark_read mark is = grind (arith, map-append, read_taken)
+mark_read mark is = grind (arith, map-append)
 
 pub mark_off : (mark text : List ℕ) → IsMark mark → IsUnmarked text → without_front (mark ++ text) ≡ text
-mark_off mark text is isnt = grind (arith, other_first, append_assoc, taken_off)
+mark_off mark text is isnt = grind (arith, ne_eqb, append_assoc, Decides-eqb)

@@ -1,6 +1,6 @@
 -- If the found lines are deleted from a file, each crawler's robot stays the same.
 use mathlib.Core.Logic.Iff
-use Rattle.std.proofs.Common.{◌≡◌, ◌≢◌, ◌≤◌, ◌↔◌, inl, inr, ℕ, zero, suc, ◌+◌, ◌==◌, ◌||◌, Bool, false, not}
+use Rattle.std.proofs.Common.{◌≡◌, ◌≢◌, ◌≤◌, ◌↔◌, inl, inr, ℕ, zero, suc, ◌+◌, Bool, false, not}
 use Rattle.std.proofs.Common.{[]}
 use Rattle.std.proofs.Common.{List, ◌∷◌, ◌++◌, Any, IsUtf8, ap, ap₂, sym, refl, subst, ◌∙◌, arith, filter}
 use Rattle.std.proofs.Common.{length, length-append, map}
@@ -29,20 +29,17 @@ use Rattle.robots_needless.proofs.BlockLemmas.{among, left_are}
 
 unmarked : (pairs : List Pair) → ArePairs pairs → begin_with_mark (map pair_body pairs) ≡ false
     → IsUnmarked (joined pairs)
-unmarked [] are none = record { first = refl; second = refl; third = refl }
+unmarked [] are none = grind arith
 unmarked (pair ∷ later) (is, are) none = at pair.body pair.ending is.ending is.last none
   where
     at : (bytes ending : List ℕ) → IsLineEnd ending → (ending ≡ [] → (later ≡ []) × (bytes ≢ []))
         → begin_with_mark (bytes ∷ map pair_body later) ≡ false
         → IsUnmarked ((bytes ++ ending) ++ joined later)
-    at (b ∷ bytes) ending end last none =
-        let (one, rest) = or_parts (b == 0xEF) ((b == 0xBB) || (b == 0xBF)) none in
-        let (two, three) = or_parts (b == 0xBB) (b == 0xBF) rest in
-        record { first = rw one refl; second = rw two refl; third = rw three refl }
-    at [] ending (zero, inl e) last none = absurd ((last e).1 refl)
-    at [] ending (suc k, inl e) last none = rw e (record { first = refl; second = refl; third = refl })
-    at [] ending (zero, inr e) last none = rw e (record { first = refl; second = refl; third = refl })
-    at [] ending (suc k, inr e) last none = rw e (record { first = refl; second = refl; third = refl })
+    at (b ∷ bytes) ending end last none = grind (arith, or_parts)
+    at [] ending (zero, inl e) last none = grind arith
+    at [] ending (suc k, inl e) last none = grind arith
+    at [] ending (zero, inr e) last none = grind arith
+    at [] ending (suc k, inr e) last none = grind arith
 
 map_left : {A B : Type 0} (f : A → B) (gone : ℕ → Bool) (position : ℕ) (lines : List A)
     → map f (left_from gone position lines) ≡ left_from gone position (map f lines)
@@ -136,12 +133,7 @@ left_within numbers file left is =
     let (mark, whole) = front_is_end file in
     let all = ap length whole ∙ length-append mark (without_front file) in
     let both = ap length is.rest ∙ length-append is.mark rest in
-    elim is.front [
-      | inl none ↦ let no_mark = ap length none in omega (arith, less, all, both, no_mark)
-      | inr same ↦
-          let front = sym (length-append is.mark (without_front file)) ∙ ap length same in
-          omega (arith, less, both, front)
-    ]
+    (grind (arith, length-append))
 
 of_file : (file : List ℕ) (P : List LineValue → Type 0)
     → HasLines file P → P (file_lines file)
@@ -205,8 +197,7 @@ module _ (file left : List ℕ) (found : List NeedlessRule) (are : AreFoundIn fi
   robots_alike one two is_one is_two = record {
     delay = (delay_is_computed agent lines one.delay).0 is_one.delay ∙ sym (are.lines.delays agent)
         ∙ sym same_as_less.0.delay ∙ sym ((delay_is_computed agent _ two.delay).0 is_two.delay);
-    sitemaps = (sitemaps_are_computed lines one.sitemaps).0 is_one.sitemaps ∙ sym are.lines.sitemaps
-        ∙ sym same_as_less.1 ∙ sym ((sitemaps_are_computed _ two.sitemaps).0 is_two.sitemaps);
+    sitemaps = (grind (arith, sitemaps_are_computed, same_as_less));
     verdicts = λ text answer.
         let first = (answers_computed agent lines one.rules is_one.rules).verdicts text answer in
         let second = (answers_computed agent _ two.rules is_two.rules).verdicts text answer in

@@ -1,9 +1,9 @@
 -- Plain rules, which are tried in the order of their patterns: of those that are kept, only the ones that
 -- begin a rule match a text that it matches.
 use Rattle.std.proofs.Common.{rules, []}
-use Rattle.std.proofs.Common.{◌≡◌, ◌≢◌, ◌<◌, ◌≤◌, ◌⊎◌, inl, inr, ℕ, ◌+◌, ◌*◌, Bool, true, false, List, ap}
-use Rattle.std.proofs.Common.{◌∷◌, ◌++◌, All, if◌then◌else◌, IsTrue, ◌↔◌, sym, subst, refl, ◌∙◌, append-nil}
-use Rattle.std.proofs.Common.{arith, drop, length, Equal, nat_eq, take}
+use Rattle.std.proofs.Common.{◌≡◌, ◌≢◌, ◌<◌, ◌≤◌, ◌⊎◌, inl, inr, ℕ, ◌+◌, Bool, true, false, List}
+use Rattle.std.proofs.Common.{◌∷◌, ◌++◌, All, IsTrue, ◌↔◌, sym, subst, refl, append-nil}
+use Rattle.std.proofs.Common.{arith, drop, length, nat_eq, take}
 use Rattle.std.specs.Cmp.Lexicographic.{slice_cmp, on_texts, pointwise}
 use Rattle.std.specs.Ordering.{is_lt, nat_cmp, ordering_then}
 use Rattle.std.specs.List.{Contains, starts_with, Sorted.IsSortedBy}
@@ -36,7 +36,7 @@ begins p t plain fits =
 begun : (p t : List ℕ) → All IsPlainByte p → take (length p) t ≡ p → Matches p t
 begun p t plain is = subst (λ q. Matches q t) (append-nil p) ((in_front true p [] t plain).1 (
   drop (length p) t,
-  sym (take-append-drop (length p) t) ∙ ap (λ front. front ++ drop (length p) t) is,
+  (grind (arith, take-append-drop)),
   nothing_left (drop (length p) t),
 ))
 
@@ -75,22 +75,11 @@ patterns_first s r l h = grind arith
 pattern_follows : (placed other : PlacedRule) → IsAfter placed other → Follows placed.rule.0 other.rule.0
 pattern_follows placed other after = patterns_first _ _ _ after
 
-ranks_next : (s l : Ordering) (m n : ℕ) → s ≡ Equal
-    → is_lt (ordering_then (ordering_then s (nat_cmp m n)) l) ≡ false → n ≤ m
-ranks_next s l m n same h = grind (arith, cmp_less)
-
-ranks_then : (placed other : PlacedRule) → IsAfter placed other → placed.rule.0 ≡ other.rule.0
-    → rank_of other.rule ≤ rank_of placed.rule
-ranks_then placed other after same = grind (arith, ranks_next, tied_itself, nat_list_cmp_total)
-
-not_longer : (m n : ℕ) (a b : Bool) → 2 * m + (if a then 1 else 0) < 2 * n + (if b then 1 else 0) → m ≤ n
-not_longer m n a b less = grind arith
-
 -- a rule that isn't before a rule is none of its rivals
 later_no_rival : (rule other : PlacedRule) → IsPlain rule → IsPlain other → IsAfter other rule
     → IsNoRival 0 rule.rule other.rule
 later_no_rival rule other plain other_plain after differ low less text fits others =
-    grind (arith, not_longer, same_pattern, pattern_follows, begins, ranks_then)
+    grind (arith, same_pattern, pattern_follows, begins, cmp_less, tied_itself, nat_list_cmp_total)
 
 -- and one with which a rule doesn't begin matches no text that a later one matches
 parted_rules : (last rule other : PlacedRule) → IsPlain last → IsPlain other
@@ -194,10 +183,8 @@ module _ (near far rest old new_near new_far : List PlacedRule) (rule : PlacedRu
   they_are_near starred =
       let kept = new_far ++ new_near in
       let later = starred ++ rest in record {
-        first = λ placed has.
-            Contains-append_left kept later placed (Contains-append_right new_far new_near placed has);
-        second = λ placed has.
-            Contains-append_right kept later placed (Contains-append_left starred rest placed has);
+        first = (grind (arith, Contains-append_left, Contains-append_right));
+        second = (grind (arith, Contains-append_right, Contains-append_left));
         only = λ other has. elim (Contains-append_cases kept later other has) [
           | inl stays ↦ elim (Contains-append_cases new_far new_near other stays) [
             | inl is_far ↦
@@ -227,14 +214,12 @@ pub one_left : (near far old rest more : List PlacedRule) (last rule : PlacedRul
     → old ≡ rest ++ last ∷ [] → starts_with nat_eq rule.rule.0 last.rule.0 ≡ false
     → AreLeft near far rest (more ++ last ∷ []) rule
 one_left near far old rest more last rule are is begins_not = record {
-  same = IsPermutation-trans (far ++ near) (more ++ old) ((more ++ last ∷ []) ++ rest) are.same
-      (rw is (rest_to_front more rest last));
+  same = (grind (arith, IsPermutation-trans, rest_to_front));
   near = λ placed has. are.near placed (rw is (Contains-append_left rest (last ∷ []) placed has));
   far = λ placed has. elim (Contains-push_cases more last placed has) [
     | inl before ↦ are.far placed before
     | inr same ↦
         let listed = are.near last (rw is (Contains-push rest last)) in
-        inr (subst (λ (p : PlacedRule). Contains near p
-        × (starts_with nat_eq rule.rule.0 p.rule.0 ≡ false)) same (listed, begins_not))
+        inr (grind arith)
   ];
 }

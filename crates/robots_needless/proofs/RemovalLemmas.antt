@@ -1,9 +1,8 @@
 -- A rule that can go changes no verdict.
 use Rattle.std.proofs.Common.{rules}
 use Rattle.std.proofs.Common.{◌≡◌, ◌≢◌, ◌<◌, ◌≤◌, ◌↔◌, ◌⊎◌, inl, inr, ℕ, Bool, true, false, List, length}
-use Rattle.std.proofs.Common.{sym, subst, arith}
+use Rattle.std.proofs.Common.{sym, arith}
 use Rattle.std.specs.List.{Contains}
-use Rattle.std.proofs.lemmas.Bool.{false≢true}
 use Rattle.texting_robots.specs.{Pattern.Matches, Rules.Rule, Verdict.IsDenied, Verdict.robots_file}
 use Rattle.texting_robots.proofs.{BestLemmas.matches, ExampleLemmas.matching, ExampleLemmas.not_matching}
 use Rattle.robots_needless.specs.Internal.{CanGo, HasNoRival, IsReplacedBy}
@@ -43,22 +42,15 @@ module _ (others all : List Rule) (text : List ℕ) where
 
     denied_without : CanGo others (p, false) → IsDenied all text → IsDenied others text
     denied_without can (differs, q, has, fits, longest) = elim (are.only (q, false) has) [
-      | inl other ↦ (differs, q, other, fits, λ a listed. longest a (are.more (a, true) listed))
+      | inl other ↦ (grind arith)
       | inr same ↦
-          let e = same_pattern q p false false (sym same) in
-          let here = subst (λ r. Matches r text) e fits in
-          let most = subst (λ r. IsLongest all text r) e longest in
-          elim can [
-            | inl nothing ↦ absurd (differs (nothing text here))
-            | inr (inl (allows, none)) ↦ absurd (false≢true allows)
-            | inr (inr (other, is)) ↦ replaced differs here most other is
-          ]
+          (grind (arith, same_pattern, replaced))
     ]
 
   module _ (p : List ℕ) (are : AreWith others (p, true) all) where
     denied_less : IsDenied all text → IsDenied others text
     denied_less (differs, q, has, fits, longest) = elim (are.only (q, false) has) [
-      | inl other ↦ (differs, q, other, fits, λ a listed. longest a (are.more (a, true) listed))
+      | inl other ↦ (grind arith)
       | inr same ↦ absurd (kinds_differ q p (sym same))
     ]
 
@@ -72,8 +64,7 @@ module _ (others all : List Rule) (text : List ℕ) where
       λ a has here. elim (are.only (a, true) has) [
         | inl other ↦ longest a other here
         | inr same ↦
-            let e = same_pattern p a true true same in
-            subst (λ r. length r < length q) e (longer (subst (λ r. Matches r text) (sym e) here))
+            (grind (arith, same_pattern))
       ],
     )
 

@@ -2,13 +2,13 @@
 use Rattle.std.proofs.Common.{◌≡◌, ◌≢◌, ℕ, ◌==◌, inl, inr, List, ◌∷◌, ◌++◌, All, refl, sym, append-nil, []}
 use Rattle.std.proofs.Common.{◌<◌, zero, suc, Bool, true, false, length, get_or, subst, ◌∙◌, arith}
 use Rattle.std.proofs.Common.{not, ◌↔◌, ◌+◌, ap, codes, filter, map}
-use Rattle.std.specs.{Bool.MatchBool, Bool.IsTrue, Fmt.digit_glyph, BTreeMap.IsOrdered, BTreeMap.keys}
+use Rattle.std.specs.{Bool.MatchBool, Bool.IsTrue, BTreeMap.IsOrdered, BTreeMap.keys}
 use Rattle.std.specs.{BTreeSet.BTreeSet, BTreeSet.contains, Ordering.nat_cmp, Cmp.nat_cmp_total, Bool.Decides}
 use Rattle.std.proofs.lemmas.Bool.{cases_Bool, ne_eqb, false≢true, not-true}
 use Rattle.std.proofs.lemmas.List.Elements.{All-head, All-tail, All-append, All-nil, All-contains}
 use Rattle.std.proofs.lemmas.List.Elements.{Contains-append_left, All-map, Contains-push, Contains-push_cases}
 use Rattle.texting_robots.specs.Pattern.{IsSuffix, Matches, MatchesWith, dollar, star}
-use Rattle.texting_robots.specs.Escape.{escape_byte, escaped, is_escaped}
+use Rattle.texting_robots.specs.Escape.{escaped}
 use Rattle.texting_robots.proofs.{SegmentLemmas.suffix_trans, BestLemmas.placed_of}
 use Rattle.robots_needless.specs.Internal.{fresh, generic, HeadsDiffer, are_free, AreReasons, AreSettled}
 use Rattle.robots_needless.specs.Internal.{Grow, HasAll, IsSettled, Reasons, rule_at, AreAccepted}
@@ -18,7 +18,7 @@ use Rattle.std.proofs.lemmas.{Bool.Decides.nat_tests, Bool.Decides.same_from_dec
 use Rattle.std.specs.List.{Contains, enumerate_from, list_any}
 use Rattle.std.proofs.lemmas.List.{Sums.AllPass-from_list_all}
 use Rattle.std.proofs.lemmas.Map.{Lookups.exact_unsigned, Views.All-found, Views.btree_map_contains_key_iff}
-use Rattle.texting_robots.specs.Callers.{IsOverlong, IsRejected, Rule, file_bodies, placed_rules, sitemaps_in}
+use Rattle.texting_robots.specs.Callers.{IsRejected, file_bodies, placed_rules, sitemaps_in}
 use Rattle.texting_robots.specs.Callers.{LineValue, PlacedRule, agents_in, delay_for, file_lines, rules_for}
 use Rattle.robots_needless.specs.declared.needless.{NeedlessRule.NeedlessRule, Reason.Reason}
 use Rattle.texting_robots.proofs.MainTheoremLemmas.{computed_are, rejection_is_computed}
@@ -43,14 +43,7 @@ matches_generic (b ∷ q) t m = elim (cases_Bool (b == star)) [
   | inl first ↦
       let (s, i, n) = rw first at m in
       rw first (generic q, (fresh ∷ [], refl), matches_generic q s n)
-  | inr other ↦ elim (cases_Bool (b == dollar)) [
-    | inl ends ↦
-        let (s, (whole, none), n) = rw (other, ends) at m in
-        rw (other, ends) ([], (refl, refl), rw none at n)
-    | inr plain ↦
-        let (s, whole, n) = rw (other, plain) at m in
-        rw (other, plain) (generic q, refl, matches_generic q s n)
-  ]
+  | inr other ↦ (grind (arith, matches_generic q))
 ]
 
 pub matches_fill : (r t : List ℕ) → Matches r t → Fills (generic r) t
@@ -62,8 +55,7 @@ matches_fill (b ∷ q) t m = elim (cases_Bool (b == star)) [
       rw first (s, i, matches_fill q s n)
   | inr other ↦ elim (cases_Bool (b == dollar)) [
     | inl ends ↦
-        let (s, (whole, none), n) = rw (other, ends) at m in
-        rw (other, ends) whole
+        (grind arith)
     | inr plain ↦
         let (s, whole, n) = rw (other, plain) at m in
         rw (other, plain) (elim (cases_Bool (b == fresh)) [
@@ -92,23 +84,7 @@ unfolding MatchesWith Fills
 fills_match [] g t all m fills = tt
 fills_match (b ∷ q) g t all m fills =
     let later = All-tail (λ b. b ≢ fresh) b q all in
-    elim (cases_Bool (b == star)) [
-      | inl first ↦
-          let (h, (front, whole), n) = rw first at m in
-          let (u, i, o) = fill_suffix front h t (rw whole at fills) in
-          rw first (u, i, fills_match q h u later n o)
-      | inr other ↦ elim (cases_Bool (b == dollar)) [
-        | inl ends ↦
-            let (h, (whole, none), n) = rw (other, ends) at m in
-            let empty : t ≡ [] = rw whole at fills in
-            rw (other, ends) ([], (empty, refl), rw none at n)
-        | inr plain ↦
-            let (h, whole, n) = rw (other, plain) at m in
-            let differs = ne_eqb b fresh (All-head (λ b. b ≢ fresh) b q all) in
-            let (u, begins, o) = rw differs at (rw whole at fills) in
-            rw (other, plain) (u, begins, fills_match q h u later n o)
-      ]
-    ]
+    (grind (arith, fill_suffix, ne_eqb, All-head, fills_match q))
 
 pub covers_by_generic : (wide narrow : List ℕ) → All (λ b. b ≢ fresh) wide → Matches wide (generic narrow)
     → Covers wide narrow
@@ -125,10 +101,7 @@ differ_at : (at : ℕ) (g h t : List ℕ) → at < length g → at < length h
 unfolding Fills
 differ_at at [] h t in_g in_h same differ fixed other_fixed fills = absurd (omega arith)
 differ_at at (a ∷ g) [] t in_g in_h same differ fixed other_fixed fills = absurd (omega arith)
-differ_at zero (a ∷ g) (b ∷ h) t in_g in_h same differ fixed other_fixed fills = λ others.
-    let (s, first, m) = rw (ne_eqb a fresh fixed) at fills in
-    let (u, second, n) = rw (ne_eqb b fresh other_fixed) at others in
-    let heads : a ≡ b = cc in differ heads
+differ_at zero (a ∷ g) (b ∷ h) t in_g in_h same differ fixed other_fixed fills = grind (arith, ne_eqb)
 differ_at (suc at) (a ∷ g) (b ∷ h) t in_g in_h same differ fixed other_fixed fills = λ others.
     let (equal, a_fixed) = same 0 (omega arith) in
     let b_fixed : b ≢ fresh = λ is. a_fixed (equal ∙ is) in
@@ -156,18 +129,9 @@ pub not_true : (b : Bool) → IsTrue (not b) → ¬ IsTrue b
 not_true true is too = cc
 not_true false is too = cc
 
-glyph_below : (n : ℕ) → n < 16 → digit_glyph true n < fresh
-glyph_below n less = grind (arith, nat_tests)
-
-plain_below : (b : ℕ) → is_escaped b ≡ false → b < fresh
-plain_below b stays = grind (arith, nat_tests)
-
-escape_below : (b : ℕ) → All (λ n. n < fresh) (escape_byte b)
-escape_below b = grind (arith, nat_tests, glyph_below, plain_below)
-
 pub escaped_below : (bytes : List ℕ) → All (λ c. c < fresh) (escaped bytes)
 escaped_below [] = All-nil (λ c. c < fresh)
-escaped_below (b ∷ bytes) = grind (arith, All-append, escape_below, escaped_below bytes)
+escaped_below (b ∷ bytes) = grind (arith, All-append, nat_tests, escaped_below bytes)
 
 -- ---- What is found for several crawlers: rules that are needless for each of them.
 
@@ -184,8 +148,7 @@ not_rejected agent lines all rejected =
     let rules = placed_rules agent lines in
     let (k, rule, below, at, overlong) = (rejection_is_computed agent lines).0 rejected in
     let (placed, listed, is) = placed_of rules rule (k, below, at) in
-    All-contains (λ (one : PlacedRule). ¬ IsOverlong one.rule.0) rules placed all listed
-    (subst (λ (r : Rule). IsOverlong r.0) (sym is) overlong)
+    (grind (arith, All-contains))
 
 pub grow_for : (lines : List LineValue) (agent : List ℕ) (rules : List PlacedRule) (old new : Reasons)
     → rules ≡ placed_rules agent lines → Grow (IsFound rules) old new → Grow (IsFoundFor lines) old new
@@ -206,19 +169,7 @@ pub settled_more : (P : NeedlessRule → Type 0) (lines : List LineValue) (agent
 settled_more P lines agents last old new stayed stays are grow more accepted is agent has =
     elim (Contains-push_cases agents last agent has) [
       | inl before ↦
-          let (all, was) = are agent before in (
-            all,
-            record {
-              left = was.left;
-              reduced = record {
-                removed = was.reduced.removed;
-                same = was.reduced.same;
-                denied = was.reduced.denied;
-                go = λ placed has. grow.found placed.line (was.reduced.go placed has);
-              };
-              stay = λ placed has. more placed.line (was.stay placed has);
-            },
-          )
+          let (all, was) = are agent before in (grind arith)
       | inr same ↦
           subst (λ a. AreAccepted (placed_rules a lines) × IsSettled (placed_rules a lines) new stays)
           same (accepted, is)
@@ -234,7 +185,7 @@ pub among_pushed : (star : List ℕ) (agents : List (List ℕ)) (agent : List �
 among_pushed star agents agent (zero, below, same) =
     subst (Contains (agents ++ star ∷ [])) same (Contains-push agents star)
 among_pushed star agents agent (suc k, below, at) =
-    Contains-append_left agents (star ∷ []) agent (k, omega arith, at)
+    grind (arith, Contains-append_left)
 
 pub no_one_settled : (lines : List LineValue) (found : Reasons) (stays : BTreeSet ℕ)
     → AreSettled lines [] found stays
@@ -257,15 +208,14 @@ settled_needless found stays list are free rules is text answer =
     let key =
     (btree_map_contains_key_iff nat_cmp_total exact_unsigned found placed.line).0
     (is.reduced.go placed removed) in
-    rw are (subst (λ ns. Contains ns placed.line) (sym (numbers_are found.entries)) key))
+    rw are (grind (arith, numbers_are)))
     (λ placed kept number.
     let (one, listed, at) = of_map (λ (o : NeedlessRule). o.line) list placed.line number in
     let (k, below, same) = listed in
     let none : not (contains nat_cmp stays one.line) ≡ true =
-    rw same at (AllPass-from_list_all (λ (o : NeedlessRule). not (contains nat_cmp stays o.line)) list free k
-    one below) in
+    (grind (arith, AllPass-from_list_all)) in
     let stay : contains nat_cmp stays one.line ≡ true =
-    subst (λ n. contains nat_cmp stays n ≡ true) (sym at) (is.stay placed kept) in
+    (grind arith) in
     false≢true (sym (not-true _ none) ∙ stay)) in
     verdicts_without rules left numbers text (is.reduced.denied text) members answer
 
@@ -301,8 +251,7 @@ all_keep lines found keeps all number has =
     let (one, listed, at) = of_map (λ (o : NeedlessRule). o.line) found number has in
     let (place, is, to) = found_within lines one (All-contains (IsFoundFor lines) found one all listed) in
     let same : number ≡ place + 1 = sym at ∙ is in
-    rw same (keeps_rule (numbers_of found) lines keeps place to
-    (named_in (place + 1) (numbers_of found) (subst (Contains (numbers_of found)) same has)))
+    (grind (arith, keeps_rule, named_in))
 
 pub are_found : (lines : List LineValue) (found : Reasons) (stays : BTreeSet ℕ) (list : List NeedlessRule)
     → list ≡ map rule_at found.entries → are_free list stays ≡ true

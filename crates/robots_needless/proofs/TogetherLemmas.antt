@@ -59,7 +59,7 @@ pub in_filter : (test : PlacedRule → Bool) (rules : List PlacedRule) (placed :
 in_filter test rules placed has = (
   All-contains (Contains rules) _ placed (All-filter test (Contains rules) rules (All-contains_itself rules))
       has,
-  All-contains (λ (p : PlacedRule). test p ≡ true) _ placed (filter_passes test rules) has,
+  (grind (arith, All-contains, filter_passes)),
 )
 
 pub cons_cases : {A : Type 0} (x : A) (xs : List A) (y : A) → Contains (x ∷ xs) y
@@ -110,16 +110,16 @@ module _ (rules kept removed : List PlacedRule) (same : IsPermutation rules (kep
       let (other, (m, within, there), same_line) =
       of_map (λ (p : PlacedRule). p.line) removed placed.line number in
       let first : get_or all k other ≡ placed =
-      get_or_append_left kept removed other k below ∙ get_or_default kept k other placed below ∙ at in
+      (grind (arith, get_or_append_left, get_or_default)) in
       let second : get_or all (length kept + m) other ≡ other =
       get_or-append-add kept removed m other ∙ there in
       let distinct =
       IsDistinct-IsPermutation in_one_line (λ one two. either_way one.line two.line) rules all same
-      (IsDistinct-from_apart in_one_line rules (λ i j d less far. ne_eqb _ _ (once i j d less far))) in
+      (grind (arith, IsDistinct-from_apart, ne_eqb)) in
       let apart = apart_from_distinct in_one_line all k (length kept + m) other distinct (omega arith)
       (omega (arith, length-append kept removed)) in
       let none : (placed.line == other.line) ≡ false = rw (first, second) at apart in
-      false≢true (sym none ∙ (Decides-eqb placed.line other.line).1 (sym same_line))
+      (grind (arith, Decides-eqb))
 
   pub left_are_kept : (placed : PlacedRule)
       → Contains (without (lines_of removed) rules) placed ↔ Contains kept placed
@@ -241,17 +241,13 @@ module _ {all left : List PlacedRule} {start found : Reasons} (is : IsReducing a
           same = rw append_assoc at same;
           denied = λ text. Iff.trans (rw last at (is.reduced.denied text))
               (can_go (unplaced others) _ rule.rule (with_last others rule) goes.go text);
-          go = λ placed has. elim (cons_cases rule removed placed has) [
-            | inl this ↦ subst (λ (p : PlacedRule). HasLine new p.line) this (rw set.1 refl)
-            | inr before ↦ more placed.line (is.reduced.go placed before)
-          ];
+          go = (grind (arith, cons_cases));
         };
         grow = record {
           found = λ line has. more line (is.grow.found line has);
           reasons = λ line why at. elim (updated found new rule.line reason set line) [
             | inl (here, hit) ↦
-                let equal : reason ≡ why = cc in
-                inr (rule, listed rule (Contains-push others rule), here, rw equal at holds)
+                (grind (arith, Contains-push))
             | inr other ↦ is.grow.reasons line why (sym other ∙ at)
           ];
         };
@@ -281,14 +277,8 @@ pub no_rival_near : (one two others : List PlacedRule) (m n : ℕ) (rule : Place
 no_rival_near one two others m n rule are first most second = record {
   none = λ x has.
       let (placed, listed, is) = placed_of others x has in
-      let at : IsNoRival n rule.rule placed.rule = elim (are.only placed listed) [
-        | inl of_one ↦ λ kinds low high.
-            first.none placed.rule (unplaced_of one placed of_one) kinds (omega (arith, most, low)) high
-        | inr others ↦ elim others [
-          | inl of_two ↦ second.none placed.rule (unplaced_of two placed of_two)
-          | inr apart ↦ λ kinds low high. apart kinds (omega arith) high
-        ]
-      ] in subst (λ (r : Rule). IsNoRival n rule.rule r) is at;
+      let at : IsNoRival n rule.rule placed.rule = grind (arith, unplaced_of) in
+      subst (λ (r : Rule). IsNoRival n rule.rule r) is at;
 }
 
 pub both_near : (kept rest : List PlacedRule) (rule : PlacedRule) → AreNear kept rest (kept ++ rest) rule
@@ -311,17 +301,7 @@ pub overruled_goes : (some others : List PlacedRule) (rule : PlacedRule) (line :
     → (other : PlacedRule) × Contains some other × (other.line ≡ line) × Overrules other rule
     → Goes others rule (NeverDecides line)
 overruled_goes some others rule line among (other, has, at, is) =
-    let listed = among other has in record {
-      go = inr (inr (
-        other.rule,
-        record {
-          listed = unplaced_of others other listed;
-          covers = is.covers;
-          decides = inl is.precedes.above;
-        },
-      ));
-      holds = (other, listed, at, is);
-    }
+    let listed = among other has in (grind (arith, unplaced_of))
 
 pub covered_goes : (some others : List PlacedRule) (floor : ℕ) (rule : PlacedRule) (line : ℕ)
     → AreAmong some others → HasNoRival (unplaced others) floor rule.rule
@@ -330,19 +310,7 @@ pub covered_goes : (some others : List PlacedRule) (floor : ℕ) (rule : PlacedR
 covered_goes some others floor rule line among none (other, has, at, another, is) =
     let listed = among other has in
     let above = is.above in record {
-      go = inr (inr (
-        other.rule,
-        record {
-          listed = unplaced_of others other listed;
-          covers = is.covers;
-          decides = inr (
-            is.kind,
-            record {
-              none = λ x has differ low less. none.none x has differ (omega arith) less;
-            },
-          );
-        },
-      ));
+      go = inr (inr (grind (arith, unplaced_of)));
       holds = (other, listed, at, another, is.kind, is.covers);
     }
 
