@@ -65,8 +65,8 @@ IsPathOf members path = Contains members (rfc.Allow path) ⊎ Contains members (
 -- - `trimmed`: no rule has white space to trim;
 -- - `fit`: the rules are in normal form, when escaped, or have a twin that is;
 -- - `counted`: the octets of a rule are counted in its normal form, or this count is the same;
--- - `empty`: beside an empty Disallow, an Allow of `/` here, each other one has more than one octet, so it
---   isn't `/` or `*`.
+-- - `empty`: if there is an empty Disallow, which is an Allow of `/` here, each other rule has more than one
+--   octet, so it isn't `/` or `*`.
 pub record AreComparable (stays : Reading) (count : List ℕ → ℕ) (members : List rfc.Member) (uri : List ℕ)
     : Type 0 where
   pub normal : normal_uri stays uri ≡ uri

@@ -1,15 +1,17 @@
 -- The index of the first byte that passes a test, as vectors find it.
 use Rattle.std.proofs.Common.{◌≡◌, ℕ, zero, suc, ◌+◌, ◌-◌, ◌*◌, ◌%◌, ◌^◌, ◌<◌, ◌≤◌, ◌==◌, ◌||◌, Bool, true}
 use Rattle.std.proofs.Common.{false, not, List, [], ◌∷◌, length, take, drop, map, sym, refl, ap, ◌∙◌, arith}
-use Rattle.std.proofs.Common.{cond, if◌then◌else◌, bit_or, inl, inr, Option, Some, None}
+use Rattle.std.proofs.Common.{subst, cond, if◌then◌else◌, bit_or, inl, inr, Option, Some, None}
 use Rattle.std.specs.List.{list_all, list_any, position_or_len, prefix_len}
 use Rattle.std.specs.Int.{trailing_zeros, w64}
-use Rattle.std.proofs.lemmas.Bool.{cases_Bool, cases_lt, cond-true, cond-false, eq-eqb, ne_eqb}
-use lib.Dec.{ltb}
+use Rattle.std.proofs.lemmas.Bool.{cases_Bool, cases_eq, cases_lt, cond-true, cond-false, eq-eqb, ne_eqb}
+use lib.Dec.{eqb, ltb}
 use Rattle.std.proofs.lemmas.List.{length-drop, length-map, length-take, length-take-le, take-append-drop}
 use Rattle.std.proofs.lemmas.List.{take_all, take_rest, Folds.prefix_len-append, Sums.prefix_len-le-length}
-use Rattle.std.proofs.lemmas.Simd.{first_set_mask_l, map-map, mask_l-mod}
-use lib.Lanes.{mask_l, top}
+use Rattle.std.proofs.lemmas.Simd.{first_set_mask_l, length-zip2, map-map, mask_l-mod, tops_compared}
+use lib.Lanes.{mask_l, top, zip2}
+use mir.Syntax.{w8}
+use native.Mathlib.Nat.{two-pow-succ}
 use std.Path.{fun_ext}
 use Rattle.std.specs.{Option.unwrap_or}
 use Rattle.memchr.specs.{Find.IsFirstByte}
@@ -164,3 +166,28 @@ pub escaped_lane : (v lanes : List ℕ) → length v ≤ 64 → lanes ≡ map es
     → not (mask_l (map (top 7) lanes) % 2 ^ 64 == 0) ≡ list_any is_escaped v
 escaped_lane v lanes fits lanes_are = any_flagged escape_lane v lanes fits lanes_are
     ∙ ap (λ test. list_any test v) (fun_ext escape_lane_is)
+
+-- vectors are the same if the comparison sets every bit
+module _ where
+  ones : (xs ys : List ℕ) → length xs ≡ length ys → mask_l (zip2 eqb xs ys) + 1 ≡ 2 ^ length xs → xs ≡ ys
+  ones [] [] long full = refl
+  ones [] (y ∷ ys) long full = absurd (omega arith)
+  ones (x ∷ xs) [] long full = absurd (omega arith)
+  ones (x ∷ xs) (y ∷ ys) long full =
+      let first = λ (b : Bool). cond b 1 0 + 2 * mask_l (zip2 eqb xs ys) + 1 ≡ 2 ^ suc (length xs) in
+      elim (cases_eq x y) [
+        | inl same ↦
+            let full = subst first (eq-eqb x y same) full in
+            rw (same, ones xs ys (omega (arith, long)) (omega (arith, full, two-pow-succ (length xs)))) refl
+        | inr other ↦
+            let full = subst first (ne_eqb x y other) full in
+            absurd (omega (arith, full, two-pow-succ (length xs)))
+      ]
+
+  pub same_lanes : (xs ys : List ℕ) → length xs ≡ 8 → length ys ≡ 8
+      → mask_l (map (top 7) (zip2 (λ a b. cond (eqb a b) 255 0) xs ys)) % 2 ^ 64 ≡ 255 → xs ≡ ys
+  same_lanes xs ys long along full =
+      let tops = ap (λ ms. mask_l ms % 2 ^ 64) (tops_compared w8 eqb xs ys) in
+      let short = length-zip2 eqb xs ys in
+      let mask = mask_l-mod (zip2 eqb xs ys) 64 (omega (arith, short, long, along)) in
+      ones xs ys (omega (arith, long, along)) (rw long (omega (arith, sym mask ∙ (sym tops ∙ full))))

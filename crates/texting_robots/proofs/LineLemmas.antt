@@ -188,7 +188,8 @@ agent_or_other found _ is = inr refl
 
 pub other_line : (body : List ℕ) → ¬ (kind_by (skip_blanks body) ≡ Some kind.UserAgent)
     → is_agent (line_of body) ≡ false
-other_line body other = elim (agent_or_other _ _ (kind_is body)) [ inl is ↦ absurd (other is) | inr none ↦ none ]
+other_line body other =
+    elim (agent_or_other _ _ (kind_is body)) [ inl is ↦ absurd (other is) | inr none ↦ none ]
 
 pub delay_or_other : (found : Option Kind) (line : LineValue) → IsKindOf found line
     → (found ≡ Some kind.CrawlDelay) ⊎ (delay_in line ≡ None)

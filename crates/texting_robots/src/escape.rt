@@ -4,7 +4,9 @@ ghost use Rattle.std.specs.Prelude.{string_bytes, true};
 ghost use Rattle.std.specs.{Cow.cow_str_bytes, Fmt.digit_glyph, List.list_any};
 ghost use Rattle.texting_robots.specs.Escape.{escape_byte, escaped, is_escaped};
 
-use percent_encoding::{AsciiSet, CONTROLS, ascii_set, percent_encode, utf8_percent_encode};
+use percent_encoding::{
+    AsciiSet, CONTROLS, ascii_set, percent_encode, percent_encode_byte, utf8_percent_encode,
+};
 use std::alloc::{AllocError, Global};
 use std::borrow::CowStr;
 use std::simd::prelude::*;
@@ -143,9 +145,7 @@ fn push_byte(out: &mut String, byte: u8) -> Result<(), AllocError>
     if !is_escaped(byte) {
         return out.push(char::from(byte));
     }
-    out.push('%')?;
-    out.push(hex_digit(byte >> 4))?;
-    out.push(hex_digit(byte & 15))
+    out.push_str(percent_encode_byte(byte))
 }
 
 /// Byte by byte, as a call for each escape takes longer.

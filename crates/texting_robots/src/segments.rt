@@ -6,7 +6,6 @@ ghost use Rattle.texting_robots.specs.Internal.Segments.{AddsSegments, AreSegmen
 ghost use Rattle.texting_robots.specs.Pattern.{IsOverlong, collapsed, star};
 
 use crate::lanes::{LANES, all_are, first_lane};
-use memchr::memchr2;
 use std::alloc::AllocError;
 use std::marker::Model;
 use std::simd::prelude::*;
@@ -127,6 +126,22 @@ impl<'a> Pattern<'a> {
     }
 }
 
+fn is_wildcard(byte: u8) -> bool
+    ensures { result ≡ is_wildcard byte }
+{
+    byte == STAR || byte == DOLLAR
+}
+
+#[inline(always)]
+fn wildcard_in_four(pattern: &[u8]) -> usize
+    requires { 4 ≤ length pattern.now }
+    ensures { result ≡ position_or_len is_wildcard (take 4 pattern.now) }
+{
+    let bytes = u8x4::from_slice(pattern);
+    let labels = bytes.simd_eq(u8x4::splat(STAR)) | bytes.simd_eq(u8x4::splat(DOLLAR));
+    first_lane(labels.to_bitmask(), 4)
+}
+
 #[inline(always)]
 fn wildcard_in_eight(pattern: &[u8]) -> usize
     requires { 8 ≤ length pattern.now }
@@ -147,14 +162,22 @@ fn wildcard_in_sixteen(pattern: &[u8]) -> usize
     first_lane(labels.to_bitmask(), 16)
 }
 
-/// Eight to 32 bytes are compared as two parts of equal length, which may overlap. Of more bytes the first
-/// sixteen are compared first.
-fn first_wildcard(pattern: &[u8]) -> usize
+/// Four bytes or more are compared as two parts of equal length, which may overlap.
+#[inline(always)]
+fn wildcard_in_few(pattern: &[u8]) -> usize
+    requires { length pattern.now ≤ 32 }
     ensures { result ≡ position_or_len is_wildcard pattern.now }
 {
     let len = pattern.len();
+    if len < 4 {
+        return pattern.iter().take_while(|b| !is_wildcard(**b)).count();
+    }
     if len < 8 {
-        return memchr2(STAR, DOLLAR, pattern).unwrap_or(len);
+        let first = wildcard_in_four(pattern);
+        if first < 4 {
+            return first;
+        }
+        return len - 4 + wildcard_in_four(&pattern[len - 4..]);
     }
     if len < 16 {
         let first = wildcard_in_eight(pattern);
@@ -167,11 +190,22 @@ fn first_wildcard(pattern: &[u8]) -> usize
     if first < 16 {
         return first;
     }
-    if len > 32 {
-        let rest = pattern.split_at(16).1;
-        return 16 + memchr2(STAR, DOLLAR, rest).unwrap_or(rest.len());
-    }
     len - 16 + wildcard_in_sixteen(&pattern[len - 16..])
+}
+
+/// More than 32 bytes are compared sixteen at a time.
+fn first_wildcard(pattern: &[u8]) -> usize
+    ensures { result ≡ position_or_len is_wildcard pattern.now }
+{
+    let mut rest = pattern;
+    while rest.len() > 32 {
+        let first = wildcard_in_sixteen(rest);
+        if first < 16 {
+            return pattern.len() - rest.len() + first;
+        }
+        rest = rest.split_at(16).1;
+    }
+    pattern.len() - rest.len() + wildcard_in_few(rest)
 }
 
 #[tactic(auto, using(crate::proofs::SegmentLemmas::cut_at_first))]
@@ -204,7 +238,7 @@ fn stars_len(pattern: &[u8]) -> usize
 fn only_wildcards(pattern: &[u8]) -> bool
     ensures { result ≡ list_all is_wildcard pattern.now }
 {
-    pattern.iter().all(|b| *b == STAR || *b == DOLLAR)
+    pattern.iter().all(|b| is_wildcard(*b))
 }
 
 fn closes(pattern: &[u8]) -> bool
@@ -251,7 +285,8 @@ fn push_borders(borders: &mut Vec<u32>, segment: &[u8]) -> Result<(), AllocError
         return Ok(());
     }
     let table = borders.len();
-    borders.push(0)?;
+    borders.reserve(segment.len() - 1)?;
+    borders.push_reserved(0);
     let mut position = 1;
     let mut matched = 0;
     while position < segment.len() - 1 {
@@ -262,7 +297,7 @@ fn push_borders(borders: &mut Vec<u32>, segment: &[u8]) -> Result<(), AllocError
             continue;
         }
         position += 1;
-        borders.push(narrow(matched)?)?;
+        borders.push_reserved(narrow(matched)?);
     }
     Ok(())
 }

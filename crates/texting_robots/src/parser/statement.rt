@@ -1,14 +1,15 @@
 //! Directives. A directive consists of a field name, a separator, and a tail, which is a raw value and
 //! possibly a comment.
-ghost use Rattle.std.specs.Prelude.{◌≡◌, ◌==◌, bytes_eq, IfSome, MatchOption, Some, None, map, true, false, drop, length};
+ghost use Rattle.std.specs.Prelude.{◌≡◌, ◌==◌, ◌++◌, ◌∷◌, bytes_eq, IfSome, MatchOption, Some, None, map, true, false, drop, length};
 ghost use Rattle.std.specs.List.{list_any};
-ghost use Rattle.std.specs.Str.{str_to_ascii_lowercase};
+ghost use Rattle.std.specs.Str.{byte, str_to_ascii_lowercase};
 ghost use Rattle.texting_robots.specs.Statement.{field_names};
 ghost use Rattle.texting_robots.specs.Internal.Statement.{hash};
 ghost use Rattle.texting_robots.specs.Internal.Statement.{skip_blanks, kind_by, begins, after_any, tail_of, tail_as, region_of, trimmed, value_of};
 
 use bstr::ByteSlice;
 use memchr::memchr;
+use std::simd::prelude::*;
 
 /// The kind of a directive, which its field name determines.
 #[derive(Clone, Copy, PartialEq, Eq)]
@@ -104,36 +105,48 @@ fn tail_of<'a>(rest: &'a [u8]) -> Option<&'a [u8]>
     }
 }
 
+#[inline(always)]
+fn strip_eight<'a>(text: &'a [u8], name: &[u8]) -> Option<&'a [u8]>
+    requires { length name.now ≡ 8 }
+    ensures { IfSome result (λ rest. text.now ≡ name.now ++ rest.now) }
+{
+    let (front, rest) = text.split_at_checked(8)?;
+    if u8x8::from_slice(front)
+        .simd_eq(u8x8::from_slice(name))
+        .all()
+    {
+        Some(rest)
+    } else {
+        None
+    }
+}
+
+#[inline(always)]
+fn strip_agent<'a>(text: &'a [u8], name: &[u8]) -> Option<&'a [u8]>
+    requires { length name.now ≡ 8 }
+    ensures { IfSome result (λ rest. text.now ≡ name.now ++ (byte "n" ∷ byte "t" ∷ rest.now)) }
+{
+    match strip_eight(text, name)? {
+        [b'n', b't', rest @ ..] => Some(rest),
+        _ => None,
+    }
+}
+
 /// If the field name is the usual one in its usual case. Others are left to [`after_any`].
 #[inline(always)]
 fn after_usual<'a>(kind: Kind, text: &'a [u8]) -> Option<&'a [u8]>
     ensures { IfSome result (λ rest. after_any (field_names kind) text.now ≡ Some rest.now) }
 {
     match kind {
-        Kind::UserAgent => match text {
-            [
-                b'U',
-                b's',
-                b'e',
-                b'r',
-                b'-',
-                b'a',
-                b'g',
-                b'e',
-                b'n',
-                b't',
-                rest @ ..,
-            ] => Some(rest),
-            _ => None,
+        Kind::UserAgent => match strip_agent(text, b"User-age") {
+            Some(rest) => Some(rest),
+            None => strip_agent(text, b"User-Age"),
         },
         Kind::Allow => match text {
             [b'A', b'l', b'l', b'o', b'w', rest @ ..] => Some(rest),
             _ => None,
         },
-        Kind::Disallow => match text {
-            [b'D', b'i', b's', b'a', b'l', b'l', b'o', b'w', rest @ ..] => Some(rest),
-            _ => None,
-        },
+        Kind::Disallow => strip_eight(text, b"Disallow"),
         Kind::Sitemap => match text {
             [b'S', b'i', b't', b'e', b'm', b'a', b'p', rest @ ..] => Some(rest),
             _ => None,

@@ -24,6 +24,7 @@ loop-position-preserved-then-matched-gt0 c =
       within = i.within;
       first = open_back i.first (omega arith) (omega arith) c.if-segment-position.false longest;
       adds = i.adds;
+      room = i.room;
     }
 
 pub loop-position-preserved : goal.loop-position-preserved
@@ -43,6 +44,7 @@ loop-position-preserved c =
       table = i.table;
       within = omega arith;
       first = open_farther first (position + 1 + 1) (omega arith);
-      adds = rw (c.in_ok-push-2.ensures.items, c.in_ok-narrow.ensures)
+      adds = rw (c.push_reserved-in-loop-position.ensures.items, c.in_ok-narrow.ensures)
           (adds_more i.adds (longest_border first));
+      room = omega arith;
     }

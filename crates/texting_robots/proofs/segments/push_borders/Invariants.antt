@@ -1,4 +1,4 @@
-use Rattle.std.proofs.Common.{◌≡◌, ◌+◌, ◌-◌, ◌*◌, ◌≤◌, length}
+use Rattle.std.proofs.Common.{◌≡◌, ◌+◌, ◌-◌, ◌*◌, ◌≤◌, length, vec_capacity, vec_len}
 use Rattle.texting_robots.proofs.SearchLemmas.{AddsBorders, IsFirstOpen}
 use Rattle.texting_robots.proofs.segments.push_borders.Given as goal
 
@@ -10,6 +10,7 @@ invariant-loop-position l =
       within : l.position + 1 ≤ length l.segment;
       first : IsFirstOpen l.segment l.segment 1 (l.position + 1) l.position l.matched;
       adds : AddsBorders l.segment l.fn.borders.items l.borders.items l.position;
+      room : vec_len l.borders + length l.segment ≤ vec_capacity l.borders + l.position + 1;
     }
 
 abbrev pub decreases-loop-position : goal.decreases-loop-position

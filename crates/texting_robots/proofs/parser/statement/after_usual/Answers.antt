@@ -3,52 +3,6 @@ use Rattle.std.proofs.lemmas.List.{take_rest}
 use Rattle.texting_robots.proofs.StatementLemmas.{usual_is}
 use Rattle.texting_robots.proofs.parser.statement.after_usual.Goals as goal
 
-pub returns-in-85 : goal.returns-in-85
-returns-in-85 c =
-    rw (c.in-UserAgent.is, take_rest) (usual_is c.args.text.now (codes "User-agent") (codes "user-agent")
-    (codes "user agent" ∷ codes "useragent" ∷ []) (omega arith) (
-      omega arith,
-      (
-        omega arith,
-        (
-          omega arith,
-          (
-            omega arith,
-            (
-              omega arith,
-              (
-                omega arith,
-                (omega arith, (omega arith, (omega arith, (omega arith, tt)))),
-              ),
-            ),
-          ),
-        ),
-      ),
-    ) refl refl)
-
-pub returns-in-68 : goal.returns-in-68
-returns-in-68 c =
-    rw (c.in-Disallow.is, take_rest) (usual_is c.args.text.now (codes "Disallow") (codes "disallow")
-    (codes "dissallow" ∷ codes "dissalow" ∷ codes "disalow" ∷ codes "diasllow" ∷ codes "disallaw" ∷ []) (omega arith) (
-      omega arith,
-      (
-        omega arith,
-        (
-          omega arith,
-          (
-            omega arith,
-            (
-              omega arith,
-              (
-                omega arith,
-                (omega arith, (omega arith, tt)),
-              ),
-            ),
-          ),
-        ),
-      ),
-    ) refl refl)
-
 pub returns-in-83 : goal.returns-in-83
 returns-in-83 c =
     rw (c.in-Sitemap.is, take_rest) (usual_is c.args.text.now (codes "Sitemap") (codes "sitemap")

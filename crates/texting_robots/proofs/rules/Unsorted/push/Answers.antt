@@ -32,8 +32,10 @@ returns-clause-known c =
     (c.new.ensures ∙ same) c.of-prefilter.ensures in
     let segments = ap length added.put_segments in
     let as_many = ap length reserved.entries in
+    let pushed = c.push_reserved.ensures in
+    let room = c.reserve.ensures in
     record {
-      known = rw (c.in_ok-push.ensures.items, reserved.entries, text, added.put_segments, added.put_tables)
+      known = rw (pushed.items, room.items, reserved.entries, text, added.put_segments, added.put_tables)
           (entries_pushed old_text more old.segments.items added.segments old.borders.items added.tables
           old.entries.items _ c.requires.entries.known
           (rw (← added.put_tables) (entry_new old_text more old.segments.items added.segments _ _ (record {
@@ -42,7 +44,7 @@ returns-clause-known c =
             is_cut = cut;
             needed = needed;
           }))));
-      masks = omega (arith, c.requires.entries.masks, c.in_ok-push.ensures.lower_bound, as_many);
+      masks = omega (arith, c.requires.entries.masks, pushed.len, room.len, as_many);
     }
 
 pub returns-clause-added : goal.returns-clause-added
@@ -54,6 +56,12 @@ returns-clause-added c =
     let more = escaped c.args.value.now in
     let size = ap length text in
     let before = ap length reserved.text in
-    rw (c.in_ok-push.ensures.items, reserved.entries, text, ← c.in_ok-narrow.ensures)
-    (rules_pushed old_text more old.segments.items old.borders.items old.entries.items _ c.requires.entries.known
-    (rw c.in_ok-between.ensures (record { start = omega arith; end = omega arith })))
+    rw (
+      c.push_reserved.ensures.items,
+      c.reserve.ensures.items,
+      reserved.entries,
+      text,
+      ← c.in_ok-narrow.ensures,
+    )
+    (rules_pushed old_text more old.segments.items old.borders.items old.entries.items _
+    c.requires.entries.known (rw c.in_ok-between.ensures (record { start = omega arith; end = omega arith })))
