@@ -84,7 +84,8 @@ fault_printable NotUtf8 = written_printable (fault_line NotUtf8 ∷ [])
 fault_printable (UnknownWarning name near) =
     written_printable (fault_line (UnknownWarning name near) ∷ [])
 fault_printable (File name) = written_printable (fault_line (File name) ∷ [])
-fault_printable (Malformed file lines) = written_printable (map (malformed_line (string_bytes file)) lines.items)
+fault_printable (Malformed file lines) =
+    written_printable (map (malformed_line (string_bytes file)) lines.items)
 fault_printable Format = written_printable (fault_line Format ∷ [])
 fault_printable (Argument text which) = written_printable (fault_line (Argument text which) ∷ [])
 fault_printable (Empty file entry) = written_printable (fault_line (Empty file entry) ∷ [])

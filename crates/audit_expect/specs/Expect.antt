@@ -72,7 +72,8 @@ malformed_from entry number [] = []
 malformed_from entry number (line ∷ others) =
     malformed_at (entry number line) ++ malformed_from entry (suc number) others
 
-abbrev pub unless_malformed : {X : Type 0} → List X → List MalformedLine → Result (List X) (List MalformedLine)
+abbrev pub unless_malformed : {X : Type 0} → List X → List MalformedLine
+    → Result (List X) (List MalformedLine)
 unless_malformed entries [] = Ok entries
 unless_malformed entries (malformed ∷ others) = Err (malformed ∷ others)
 
@@ -88,7 +89,8 @@ IsLineFault name found (Malformed file malformed) =
 IsLineFault name found fault = fault ≡ Memory
 
 -- the same, or the file has no such entries
-abbrev pub IsEntryFault : {X : Type 0} → List ℕ → Entry → Result (List X) (List MalformedLine) → Fault → Type 0
+abbrev pub IsEntryFault : {X : Type 0} → List ℕ → Entry → Result (List X) (List MalformedLine) → Fault
+    → Type 0
 IsEntryFault name entry found (Empty file other) =
     (string_bytes file ≡ name) × (found ≡ Ok []) × (other ≡ entry)
 IsEntryFault name entry found fault = IsLineFault name found fault

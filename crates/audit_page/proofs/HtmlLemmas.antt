@@ -23,7 +23,8 @@ is_kept char plain = grind (arith, nat_tests)
 printable_text : (bytes : List ℕ) → IsPrintable bytes → IsText bytes
 printable_text bytes is =
     let plain = AllPass-from_list_all (is_printable true) (chars bytes) is.all in
-    let are = list_all-from_AllPass is_character (chars bytes) (λ k d below. is_kept (get_or (chars bytes) k d) (plain k d below)) in
+    let are = list_all-from_AllPass is_character (chars bytes)
+    (λ k d below. is_kept (get_or (chars bytes) k d) (plain k d below)) in
     subst IsText (encodes-chars bytes is.utf8)
     (chars_pass is_character (λ byte high. grind (arith, nat_tests)) (chars bytes) are)
 

@@ -232,7 +232,8 @@ named_printable : (label name : List ℕ) → is_plain label ≡ true → (row :
 named_printable label name plain row is =
     if_printable (bytes_eq row.0 name) _ (ended_printable label row.1 plain is)
 
-texts_printable : (name : List ℕ) → IsPrintable (flat_map (text_if_named (codes "given: ") name) all_conditions
+texts_printable : (name : List ℕ)
+    → IsPrintable (flat_map (text_if_named (codes "given: ") name) all_conditions
     ++ flat_map (text_if_named (codes "proved: ") name) all_theorems)
 unfolding all_conditions all_theorems
 texts_printable name =

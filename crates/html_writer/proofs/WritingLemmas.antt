@@ -275,7 +275,8 @@ module _ (opened : List Opened) where
       last
   unfolding html.tag_open attribute_bytes
   tag_read content name attributes byte bytes last has named are isnt end =
-      read_on (name_read (reading content) (60 ∷ []) (λ done. reader (tag_name done) opened content) name named
+      read_on (name_read (reading content) (60 ∷ [])
+      (λ done. reader (tag_name done) opened content) name named
       (λ byte is. record { leads = λ more. rw (is, has) })
       (λ done next is. record { leads = λ more. rw (is, run) }))
       (completed attributes (read_on (attributes_read content name [] attributes are) end))

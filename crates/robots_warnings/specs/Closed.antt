@@ -94,8 +94,8 @@ is_exempt lines pattern = list_any (is_literally pattern) (opened_paths lines)
 
 -- ---- `closes-everything`
 
--- the line of the first rule that closes the site to the crawler; none if its vendor applies another group, or
--- if a line has its name and another one is probably meant: the group may be of no crawler
+-- the line of the first rule that closes the site to the crawler; none if its vendor applies another group,
+-- or if a line has its name and another one is probably meant: the group may be of no crawler
 abbrev pub line_closing : List LineValue → List ℕ → Option ℕ
 line_closing lines agent =
     if is_some (other_group lines agent) || (is_named agent lines && is_some (meant agent)) then None

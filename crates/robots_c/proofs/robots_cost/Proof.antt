@@ -65,7 +65,8 @@ robots_cost_spec 𝓤 𝓛 𝓜 𝓡 wired =
           sets ! (addr ! (through ! refl (stop !))) refl (tt, tt) $
           sets ! (addr ! (through ! refl (stop !))) refl (tt, tt) $
           hands_on 𝓛 𝓜 𝓡 ! given (and_then ! (get ! refl) (and_then ! (get ! refl) (and_then ! (get ! refl)
-          (no_more !)))) (λ v r good. lands_as ! refl refl good $ returns ! (look_at ! 0 refl) $ free_all ! refl $ done !)),
+          (no_more !)))) (λ v r good. lands_as ! refl refl good
+          $ returns ! (look_at ! 0 refl) $ free_all ! refl $ done !)),
     ))
     (λ b o. met 𝓤 𝓛 𝓜 𝓡 (code.calls-robots_c::handle::cost 𝓡.env wired)
     ((κs, (q, z.0.1), tt, given_at b o, z.0.4), tt))))

@@ -9,8 +9,9 @@ loop-rule-preserved c =
     let i = c.loop-rule.rule-index in
     let rule = c.rule-item.result in
     let before = take i c.args.rules.now in
-    let taken : take (i + 1) c.args.rules.now ≡ before ++ rule ∷ [] =
-    take_more c.args.rules.now i rule c.loop-rule-test.true ∙ ap (λ r. before ++ r ∷ []) (sym c.rule-item.is) in
+    let taken : take (i + 1) c.args.rules.now ≡ before ++ rule ∷ []
+    = take_more c.args.rules.now i rule c.loop-rule-test.true
+    ∙ ap (λ r. before ++ r ∷ []) (sym c.rule-item.is) in
     let new = c.insert.new.self in
     let more : HasAll new c.loop-rule.numbers = search rules in
     let here : Has new rule.line = search rules in
