@@ -284,6 +284,7 @@ fn push_borders(borders: &mut Vec<u32>, segment: &[u8]) -> Result<(), AllocError
     if segment.len() < 2 {
         return Ok(());
     }
+    narrow(segment.len())?;
     let table = borders.len();
     borders.reserve(segment.len() - 1)?;
     borders.push_reserved(0);
@@ -297,7 +298,7 @@ fn push_borders(borders: &mut Vec<u32>, segment: &[u8]) -> Result<(), AllocError
             continue;
         }
         position += 1;
-        borders.push_reserved(narrow(matched)?);
+        borders.push_reserved(matched as u32);
     }
     Ok(())
 }

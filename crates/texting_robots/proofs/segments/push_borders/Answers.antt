@@ -44,7 +44,7 @@ loop-position-preserved c =
       table = i.table;
       within = omega arith;
       first = open_farther first (position + 1 + 1) (omega arith);
-      adds = rw (c.push_reserved-in-loop-position.ensures.items, c.in_ok-narrow.ensures)
+      adds = rw (c.push_reserved-in-loop-position.ensures.items)
           (adds_more i.adds (longest_border first));
       room = omega arith;
     }
