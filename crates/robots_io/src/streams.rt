@@ -1,5 +1,6 @@
 //! Input and output: reading a complete input, and writing a complete report.
-ghost use Rattle.std.specs.Prelude.{◌≡◌, ◌≢◌, ◌+◌, [], IfErr, IfOk, IfSome, IsErrOf, OnOk};
+ghost use Rattle.std.specs.Prelude.{◌≡◌, ◌≢◌, ◌↔◌, ◌+◌, [], IfErr, IfOk, IfSome, IsErrOf, OnOk};
+ghost use Rattle.std.specs.IoError.{error_kind};
 ghost use Rattle.std.specs.Io.{ReadsAtMost, KnownBytes.Appends, KnownBytes.ReadConsumes};
 ghost use Rattle.robots_io.specs.Streams.{AppendsBeginning};
 
@@ -27,7 +28,9 @@ pub enum WriteFault {
     Write,
 }
 
-fn write_fault(error: Error) -> WriteFault {
+fn write_fault(error: Error) -> WriteFault
+    ensures { (result ≡ WriteFault.Closed) ↔ (error_kind error ≡ ErrorKind.BrokenPipe) }
+{
     match error.kind() {
         ErrorKind::BrokenPipe => WriteFault::Closed,
         _ => WriteFault::Write,
