@@ -1,7 +1,7 @@
 //! Percent-encoding of patterns and match targets.
-ghost use Rattle.std.specs.Prelude.{◌≡◌, ◌<◌, ◌++◌, All, IsOk, OnErr, OnOk, IfOk, false, length};
+ghost use Rattle.std.specs.Prelude.{◌≡◌, ◌++◌, All, IsOk, OnErr, OnOk, IfOk, false, length};
 ghost use Rattle.std.specs.Prelude.{string_bytes, true};
-ghost use Rattle.std.specs.{Cow.cow_str_bytes, Fmt.digit_glyph, List.list_any};
+ghost use Rattle.std.specs.{Cow.cow_str_bytes, List.list_any};
 ghost use Rattle.texting_robots.specs.Escape.{escape_byte, escaped, is_escaped};
 
 use percent_encoding::{
@@ -124,18 +124,6 @@ pub(crate) fn holds_escaped(bytes: &[u8]) -> bool
         rest = rest.split_at(16).1;
     }
     few_hold_escaped(rest)
-}
-
-fn hex_digit(digit: u8) -> char
-    requires { digit < 16 }
-    ensures value { result ≡ digit_glyph true digit }
-    ensures ascii { result < 128 }
-{
-    char::from(if digit < 10 {
-        b'0' + digit
-    } else {
-        b'A' - 10 + digit
-    })
 }
 
 #[inline(always)]

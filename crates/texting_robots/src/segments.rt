@@ -284,6 +284,7 @@ fn push_borders(borders: &mut Vec<u32>, segment: &[u8]) -> Result<(), AllocError
     if segment.len() < 2 {
         return Ok(());
     }
+    // each border is shorter than the segment
     narrow(segment.len())?;
     let table = borders.len();
     borders.reserve(segment.len() - 1)?;

@@ -105,6 +105,7 @@ fn tail_of<'a>(rest: &'a [u8]) -> Option<&'a [u8]>
     }
 }
 
+/// The eight bytes of the name are compared at once.
 #[inline(always)]
 fn strip_eight<'a>(text: &'a [u8], name: &[u8]) -> Option<&'a [u8]>
     requires { length name.now ≡ 8 }
