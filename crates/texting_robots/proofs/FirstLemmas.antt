@@ -116,7 +116,7 @@ no_pairs (b ∷ c ∷ rest) short = absurd (omega arith)
 abbrev pub segment_pairs : List ℕ → Ending → List Segment → ℕ
 segment_pairs pattern ending [] = ending_pairs pattern ending
 segment_pairs pattern ending (segment ∷ segments) =
-    bit_or (pair_set (part_of pattern segment.span)) (segment_pairs pattern ending segments)
+    bit_or (pair_set (take 64 (part_of pattern segment.span))) (segment_pairs pattern ending segments)
 
 ending_within : (pattern : List ℕ) (ending : Ending) (t : List ℕ) → EndsAs pattern ending t
     → AreWithin (ending_pairs pattern ending) (pair_set t)
@@ -131,11 +131,16 @@ left_within pattern ending [] left are t m = ending_within pattern ending t ((ar
 left_within pattern ending (segment ∷ segments) left (rest, is, more) t m =
     let (after, (front, e), n) = (is.decides t).0 m in
     let part = part_of pattern segment.span in
+    let few = take 64 part in
+    let fewer : AreWithin (pair_set few) (pair_set part) =
+    subst (λ p. AreWithin (pair_set few) (pair_set p)) (take-append-drop 64 part) (front_within few (drop 64 part)) in
+    let here = within_through (pair_set few) (pair_set part) (pair_set (part ++ after)) fewer
+    (front_within part after) in
     let pairs = segment_pairs pattern ending (segment ∷ segments) in
     let later = segment_pairs pattern ending segments in
     let following = within_through later (pair_set after) (pair_set (part ++ after))
     (left_within pattern ending segments rest more after n) (end_within part after) in
-    let both = within_both _ later (pair_set (part ++ after)) (front_within part after) following in
+    let both = within_both _ later (pair_set (part ++ after)) here following in
     rw e (within_through pairs (pair_set (part ++ after)) _ both (end_within front (part ++ after)))
 
 pub are_prefilter : {pattern : List ℕ} {ends : Ends} {segments : List Segment} {borders : List ℕ}

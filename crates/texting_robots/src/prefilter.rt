@@ -1,5 +1,5 @@
 //! The prefilter: conditions on a text without which a pattern can't match it. Most rules are skipped by them.
-ghost use Rattle.std.specs.Prelude.{◌≡◌, ◌+◌, ◌≤◌, length, max, true};
+ghost use Rattle.std.specs.Prelude.{◌≡◌, ◌+◌, ◌≤◌, length, max, take, true};
 ghost use Rattle.texting_robots.specs.Internal.Segments.{AreApart, ArePrefilter, ending_pairs, IsEnding};
 
 pub(crate) mod bigrams;
@@ -23,13 +23,23 @@ impl Prefilter {
         let head = Head::of(pattern.bytes, pattern.ends.first_len as usize);
         let mut pairs = BigramSet::none();
         for segment in pattern.segments {
-            pairs = pairs.and(BigramSet::of(segment.span.part(pattern.bytes)));
+            pairs = pairs.and(BigramSet::of(front_of(segment.span.part(pattern.bytes))));
         }
         Prefilter {
             head,
             pairs: pairs.and(ending_pairs(pattern.bytes, pattern.ends.ending)),
         }
     }
+}
+
+/// More bytes would rarely add a bigram that isn't in the set yet.
+fn front_of(segment: &[u8]) -> &[u8]
+    ensures { result.now ≡ take 64 segment.now }
+{
+    if segment.len() <= 64 {
+        return segment;
+    }
+    &segment[..64]
 }
 
 fn ending_pairs(pattern: &[u8], ending: Ending) -> BigramSet
