@@ -2,7 +2,7 @@
 use Rattle.std.proofs.Common.{◌≡◌, ℕ, ◌*◌, ◌^◌, ◌%◌, ◌<◌, ◌≤◌, List, [], ◌∷◌, ◌++◌, length, min, get_or, drop}
 use Rattle.std.proofs.Common.{take, sym, refl, ap, ◌∙◌, append_assoc, take-append-drop, arith, ◌+◌, ◌-◌, ◌==◌}
 use Rattle.std.proofs.Common.{cond, leb, string_bytes, suc, ◌≢◌, inl, inr, zero, count_by, Bool, true, All}
-use Rattle.std.proofs.Common.{AllPairs, subst}
+use Rattle.std.proofs.Common.{AllPairs, nat_lt, subst}
 use Rattle.std.specs.Int.{RustNames.bit_and, RustNames.bit_or, Bits.or_self, Bits.or_zero_l}
 use Rattle.std.proofs.lemmas.List.{get_or_default, Sums.sum_by-take-le, Sums.sum_by_more, Sums.sum_by-cons}
 use Rattle.std.proofs.lemmas.List.{take-take, get_or-map, length-map, get_or_read, length-drop, length-take}
@@ -11,7 +11,7 @@ use Rattle.std.proofs.lemmas.Nat.{and_mask, or_comm, Bits.bit_at_or, Bits.same_f
 use Rattle.texting_robots.specs.declared.prefilter.{Prefilter.Prefilter, head.Head.Head}
 use Rattle.texting_robots.specs.declared.segments.Ending.{Ending, TheVariants.Last}
 use Rattle.texting_robots.specs.declared.segments.{Ends.Ends, Segment.Segment, Span.Span}
-use Rattle.texting_robots.specs.Internal.Segments.{ArePrefilter, AreWithin, IsHeadOf, ending_pairs, pair_bit}
+use Rattle.texting_robots.specs.Internal.Segments.{ArePrefilter, AreWithin, IsHeadOf, end_pairs, ending_pairs, pair_bit}
 use Rattle.texting_robots.specs.Internal.Segments.{front_bit, first_eight, ones_below, pair_set, AreApart}
 use Rattle.texting_robots.specs.Internal.Segments.{AreLeft, AreSegments, IsUnsearched, Fits, EndsAs, part_of}
 use Rattle.texting_robots.specs.Internal.Segments.{IsSpan, pattern_of, placed_at, rules_in, AreEntries}
@@ -20,7 +20,7 @@ use Rattle.texting_robots.specs.Internal.Segments.{NoneMatches, no_entry, rank_i
 use Rattle.texting_robots.specs.{Pattern.Matches, Cost.cost_of, Cost.looks_of, Pattern.star, Rules.PlacedRule}
 use Rattle.texting_robots.specs.{Verdict.IsVerdict, Verdict.robots_file, Rules.unplaced}
 use Rattle.texting_robots.specs.View.{LooksAtMost, ViewValue}
-use Rattle.std.proofs.lemmas.Bool.{cond_both, eqb-false, leb-true, cases_lt, cases_order, le-leb}
+use Rattle.std.proofs.lemmas.Bool.{cases_Bool, cond_both, eqb-false, leb-true, cases_lt, cases_order, le-leb}
 use Rattle.texting_robots.specs.declared.rules.{Entry.Entry, Unsorted.Unsorted}
 use Rattle.std.proofs.Math.{Nat.mul-le-mul_left}
 use Rattle.texting_robots.specs.Decision.{IsDecidingRule, IsLongestMatch, LooksForRules, as_long_as}
@@ -113,10 +113,25 @@ no_pairs [] short = refl
 no_pairs (b ∷ []) short = refl
 no_pairs (b ∷ c ∷ rest) short = absurd (omega arith)
 
+ends_within : (segment : List ℕ) → AreWithin (end_pairs segment) (pair_set segment)
+ends_within segment =
+    let is_within = λ (few : ℕ). AreWithin few (pair_set segment) in
+    let from = length segment - 32 in
+    let first : is_within (pair_set (take 32 segment)) =
+    subst (λ s. AreWithin (pair_set (take 32 segment)) (pair_set s)) (take-append-drop 32 segment)
+    (front_within (take 32 segment) (drop 32 segment)) in
+    let last : is_within (pair_set (drop from segment)) =
+    subst (λ s. AreWithin (pair_set (drop from segment)) (pair_set s)) (take-append-drop from segment)
+    (end_within (take from segment) (drop from segment)) in
+    elim (cases_Bool (nat_lt 64 (length segment))) [
+      | inl long ↦ rw long (within_both (pair_set (take 32 segment)) (pair_set (drop from segment)) _ first last)
+      | inr short ↦ rw short (or_self (pair_set segment))
+    ]
+
 abbrev pub segment_pairs : List ℕ → Ending → List Segment → ℕ
 segment_pairs pattern ending [] = ending_pairs pattern ending
 segment_pairs pattern ending (segment ∷ segments) =
-    bit_or (pair_set (part_of pattern segment.span)) (segment_pairs pattern ending segments)
+    bit_or (end_pairs (part_of pattern segment.span)) (segment_pairs pattern ending segments)
 
 ending_within : (pattern : List ℕ) (ending : Ending) (t : List ℕ) → EndsAs pattern ending t
     → AreWithin (ending_pairs pattern ending) (pair_set t)
@@ -131,11 +146,13 @@ left_within pattern ending [] left are t m = ending_within pattern ending t ((ar
 left_within pattern ending (segment ∷ segments) left (rest, is, more) t m =
     let (after, (front, e), n) = (is.decides t).0 m in
     let part = part_of pattern segment.span in
+    let here = within_through (end_pairs part) (pair_set part) (pair_set (part ++ after)) (ends_within part)
+    (front_within part after) in
     let pairs = segment_pairs pattern ending (segment ∷ segments) in
     let later = segment_pairs pattern ending segments in
     let following = within_through later (pair_set after) (pair_set (part ++ after))
     (left_within pattern ending segments rest more after n) (end_within part after) in
-    let both = within_both _ later (pair_set (part ++ after)) (front_within part after) following in
+    let both = within_both _ later (pair_set (part ++ after)) here following in
     rw e (within_through pairs (pair_set (part ++ after)) _ both (end_within front (part ++ after)))
 
 pub are_prefilter : {pattern : List ℕ} {ends : Ends} {segments : List Segment} {borders : List ℕ}

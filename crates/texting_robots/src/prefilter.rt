@@ -1,6 +1,6 @@
 //! The prefilter: conditions on a text without which a pattern can't match it. Most rules are skipped by them.
 ghost use Rattle.std.specs.Prelude.{◌≡◌, ◌+◌, ◌≤◌, length, max, true};
-ghost use Rattle.texting_robots.specs.Internal.Segments.{AreApart, ArePrefilter, ending_pairs, IsEnding};
+ghost use Rattle.texting_robots.specs.Internal.Segments.{AreApart, ArePrefilter, end_pairs, ending_pairs, IsEnding};
 
 pub(crate) mod bigrams;
 pub(crate) mod head;
@@ -23,13 +23,24 @@ impl Prefilter {
         let head = Head::of(pattern.bytes, pattern.ends.first_len as usize);
         let mut pairs = BigramSet::none();
         for segment in pattern.segments {
-            pairs = pairs.and(BigramSet::of(segment.span.part(pattern.bytes)));
+            pairs = pairs.and(end_pairs(segment.span.part(pattern.bytes)));
         }
         Prefilter {
             head,
             pairs: pairs.and(ending_pairs(pattern.bytes, pattern.ends.ending)),
         }
     }
+}
+
+/// Of a long segment only both ends count, as more bytes would rarely add a bigram that isn't in the set yet.
+fn end_pairs(segment: &[u8]) -> BigramSet
+    ensures { result.bits ≡ end_pairs segment.now }
+{
+    let len = segment.len();
+    if len > 64 {
+        return BigramSet::of(&segment[..32]).and(BigramSet::of(&segment[len - 32..]));
+    }
+    BigramSet::of(segment)
 }
 
 fn ending_pairs(pattern: &[u8], ending: Ending) -> BigramSet
