@@ -1,5 +1,6 @@
 -- Pairs of adjacent bytes show where no user-agent line can begin, so that the code may skip those bytes.
-use Rattle.std.proofs.Common.{◌≡◌, ◌⊎◌, ℕ, zero, suc, ◌+◌, ◌<◌, ◌≤◌, Bool, true, false, List, [], ◌∷◌, length, map}
+use Rattle.std.proofs.Common.{◌≡◌, ◌⊎◌, ℕ, zero, suc, ◌+◌, ◌<◌, ◌≤◌, Bool, true, false, List, [], ◌∷◌, length}
+use Rattle.std.proofs.Common.{map}
 use Rattle.std.proofs.Common.{slice_index, take, drop, sym, refl, ap, ◌∙◌, arith, Some, ◌==◌, ◌||◌, inl, inr}
 use Rattle.std.specs.{List.list_any, Char.to_ascii_lowercase}
 use Rattle.std.proofs.lemmas.{Grind.common_steps, Bool.cases_Bool, Bool.eqb-true, Bool.ne_eqb}

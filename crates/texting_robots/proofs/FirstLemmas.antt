@@ -11,7 +11,8 @@ use Rattle.std.proofs.lemmas.Nat.{and_mask, or_comm, Bits.bit_at_or, Bits.same_f
 use Rattle.texting_robots.specs.declared.prefilter.{Prefilter.Prefilter, head.Head.Head}
 use Rattle.texting_robots.specs.declared.segments.Ending.{Ending, TheVariants.Last}
 use Rattle.texting_robots.specs.declared.segments.{Ends.Ends, Segment.Segment, Span.Span}
-use Rattle.texting_robots.specs.Internal.Segments.{ArePrefilter, AreWithin, IsHeadOf, end_pairs, ending_pairs, pair_bit}
+use Rattle.texting_robots.specs.Internal.Segments.{ArePrefilter, AreWithin, IsHeadOf, end_pairs, ending_pairs}
+use Rattle.texting_robots.specs.Internal.Segments.{pair_bit}
 use Rattle.texting_robots.specs.Internal.Segments.{front_bit, first_eight, ones_below, pair_set, AreApart}
 use Rattle.texting_robots.specs.Internal.Segments.{AreLeft, AreSegments, IsUnsearched, Fits, EndsAs, part_of}
 use Rattle.texting_robots.specs.Internal.Segments.{IsSpan, pattern_of, placed_at, rules_in, AreEntries}
@@ -124,7 +125,8 @@ ends_within segment =
     subst (λ s. AreWithin (pair_set (drop from segment)) (pair_set s)) (take-append-drop from segment)
     (end_within (take from segment) (drop from segment)) in
     elim (cases_Bool (nat_lt 64 (length segment))) [
-      | inl long ↦ rw long (within_both (pair_set (take 32 segment)) (pair_set (drop from segment)) _ first last)
+      | inl long ↦ rw long
+          (within_both (pair_set (take 32 segment)) (pair_set (drop from segment)) _ first last)
       | inr short ↦ rw short (or_self (pair_set segment))
     ]
 

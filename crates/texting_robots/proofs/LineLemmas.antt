@@ -1,5 +1,6 @@
 -- The computed lines are those of the text, and their values are ranges of it.
-use Rattle.std.proofs.Common.{◌≡◌, ◌⊎◌, ℕ, false, true, inl, inr, List, [], ◌∷◌, ◌++◌, map, sym, refl, ap, ◌∙◌, ◌≢◌}
+use Rattle.std.proofs.Common.{◌≡◌, ◌⊎◌, ℕ, false, true, inl, inr, List, [], ◌∷◌, ◌++◌, map, sym, refl, ap}
+use Rattle.std.proofs.Common.{◌∙◌, ◌≢◌}
 use Rattle.std.proofs.Common.{bytes_eq, append_assoc, append-nil, Option, Some, None, ◌==◌, arith, subst, ◌↔◌}
 use Rattle.std.specs.{List.AllZip, Str.str_to_ascii_lowercase}
 use Rattle.std.proofs.lemmas.Bool.{cases_Bool, cond-true, cond-false, ne_eqb, Decides.eqb_tells}

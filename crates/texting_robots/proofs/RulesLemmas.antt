@@ -1,5 +1,6 @@
 -- What the loops of the code preserve.
-use Rattle.std.proofs.Common.{◌≡◌, ◌⊎◌, ℕ, Bool, true, false, not, cond, List, [], ◌∷◌, ◌++◌, Option, Some, None}
+use Rattle.std.proofs.Common.{◌≡◌, ◌⊎◌, ℕ, Bool, true, false, not, cond, List, [], ◌∷◌, ◌++◌, Option, Some}
+use Rattle.std.proofs.Common.{None}
 use Rattle.std.proofs.Common.{length, append_assoc, length-append, subst, sym, refl, ap, ◌∙◌, arith, inl, inr}
 use Rattle.std.proofs.{Common.slice_get, lemmas.Bool.cases_Bool, lemmas.List.Elements.All-push}
 use Rattle.std.specs.List.{All, Any, before_first, cons_option, filter_map, last_or, list_any}

@@ -1,7 +1,8 @@
 -- `trimmed` computes the trim of a raw value, and the trim is unique.
 use Rattle.std.proofs.Common.{◌≡◌, ℕ, zero, suc, ◌+◌, ◌≤◌, ◌<◌, ◌-◌, Bool, true, false, cond, inl, inr, List}
 use Rattle.std.proofs.Common.{[], ◌∷◌, ◌++◌, length, take, drop, sym, refl, ap, ap₂, subst, ◌∙◌, append_assoc}
-use Rattle.std.proofs.Common.{◌==◌, not, append-nil, arith, bytes_eq, IsTrue, Option, Some, None, length-append, slice_get, get_or}
+use Rattle.std.proofs.Common.{◌==◌, not, append-nil, arith, bytes_eq, IsTrue, Option, Some, None}
+use Rattle.std.proofs.Common.{length-append, slice_get, get_or}
 use Rattle.std.proofs.Math.{Seq.drop-nil, Utf8.scalars}
 use Rattle.std.specs.{List.AllByRecursion as Each, List.prefix_len, Str.str_to_ascii_lowercase}
 use Rattle.std.specs.{Str.IsUtf8, Str.encode_utf8_all}

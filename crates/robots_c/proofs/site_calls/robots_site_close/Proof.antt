@@ -33,7 +33,9 @@ use Rattle.robots_c.proofs.Borrowing.{
   lent_place,
   𝓣,
 }
-use Rattle.robots_c.proofs.Keeping.{lit<, id⊢, at_ret, by, bin, lit, unit_lit, first, branches, skips, exec, returns_within, env, block_ptr, null_ptr, tests_null, after, and_tt, closes_unless_null, handle_word, null_place, returns_unit}
+use Rattle.robots_c.proofs.Keeping.{lit<, id⊢, at_ret, by, bin, lit, unit_lit, first, branches, skips, exec}
+use Rattle.robots_c.proofs.Keeping.{returns_within, env, block_ptr, null_ptr, tests_null, after, and_tt}
+use Rattle.robots_c.proofs.Keeping.{closes_unless_null, handle_word, null_place, returns_unit}
 use Rattle.robots_c.specs.Kept.{Sites, owned_or_null}
 use Rattle.robots_c.specs.contracts.site.close as callee
 use Rattle.robots_c.proofs.site.close.Met.{met}

@@ -8,7 +8,8 @@ loop-segment-preserved c =
     let next =
     drop_more c.pattern.inside.segments.now c.loop-segment.segment-index no_segment
     c.loop-segment-test.true in
-    rw (c.and-pairs.ensures, c.end_pairs.ensures, c.part.ensures, or_assoc) (rw next at c.loop-segment.invariant)
+    rw (c.and-pairs.ensures, c.end_pairs.ensures, c.part.ensures, or_assoc)
+    (rw next at c.loop-segment.invariant)
 
 pub returns : goal.returns
 returns c =
