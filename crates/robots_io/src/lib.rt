@@ -1,5 +1,4 @@
-//! Reading a complete input, and writing a complete report; streams for tests.
+//! Reading a complete input, and writing a complete report.
 #![tactic(auto)]
 
-pub mod fakes;
 pub mod streams;

@@ -9,5 +9,3 @@ pub mod lines;
 pub mod needless;
 mod plain;
 mod rule;
-#[cfg(test)]
-mod tests;

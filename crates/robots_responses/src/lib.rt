@@ -8,8 +8,6 @@
 pub mod laws;
 pub mod response;
 pub mod site;
-#[cfg(test)]
-mod tests;
 
 pub use response::{LIFETIME, Meaning, REDIRECT_LIMIT, Response};
 pub use site::{allow_all, deny_all};

@@ -12,8 +12,6 @@ mod header;
 mod laws;
 mod program;
 mod report;
-#[cfg(test)]
-mod tests;
 mod verdicts;
 
 use ending::exit_of;

@@ -1,7 +1,7 @@
-//! Tests of the public functions of the library `texting_robots`: worked examples, the cases of the original crate's
-//! tests, and every small input. Each case is data, with a name that is printed if it fails. The program
-//! `robots_verdict` prints what a file means for a crawler (its verdicts, delay and sitemaps, or an error), so such
-//! cases are golden tests of that program.
+//! Tests of the public functions of the libraries: worked examples, the cases of the original crate's tests, and every
+//! small input. Each case is data, with a name that is printed if it fails. The program `robots_verdict` prints what a
+//! file means for a crawler (its verdicts, delay and sitemaps, or an error), so such cases are golden tests of that
+//! program. Tests in a library's own crate would have it proved a second time.
 //!
 //! The program makes calls of which neither another program nor the C library shows what happens while allocations
 //! fail, and prints for each whether its result is right. `tests/test_allocation_failures.py` makes the allocations
@@ -14,7 +14,11 @@ mod example;
 #[cfg(test)]
 mod files;
 #[cfg(test)]
+mod flush;
+#[cfg(test)]
 mod helpers;
+#[cfg(test)]
+mod html;
 #[cfg(test)]
 mod labels;
 #[cfg(test)]
@@ -22,9 +26,13 @@ mod lines;
 #[cfg(test)]
 mod looks;
 #[cfg(test)]
+mod needless;
+#[cfg(test)]
 mod patterns;
 #[cfg(test)]
 mod printed;
+#[cfg(test)]
+mod responses;
 #[cfg(test)]
 mod sites;
 #[cfg(test)]

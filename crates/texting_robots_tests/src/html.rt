@@ -4,7 +4,7 @@
 ghost use Rattle.std.specs.Prelude.{◌≡◌, ◌++◌, ◌∷◌, [], OnOk, codes};
 ghost use Rattle.html_writer.specs.Html.{attribute, style, tag, text, void, written, ◌⊕◌};
 
-use crate::write::{
+use html_writer::write::{
     push_attribute, push_close, push_doctype, push_element, push_end, push_open, push_start,
     push_style, push_text, push_void_close,
 };
@@ -15,7 +15,7 @@ const CSS: &str =
 
 const NOTE: &str = "Each row is a rule of the file & the number of addresses that it decides.";
 
-#[tactic(auto, using(crate::proofs::WritingLemmas::joined))]
+#[tactic(auto, using(html_writer::proofs::WritingLemmas::joined))]
 fn push_row(out: &mut Vec<u8>, number: &[u8], value: &[u8]) -> Result<(), AllocError>
     ensures { OnOk result (out.new.items ≡ out.old.items ++ written
         (tag (codes "tr") []
@@ -32,7 +32,7 @@ fn push_row(out: &mut Vec<u8>, number: &[u8], value: &[u8]) -> Result<(), AllocE
     push_end(out, "tr")
 }
 
-#[tactic(auto, using(crate::proofs::WritingLemmas::joined))]
+#[tactic(auto, using(html_writer::proofs::WritingLemmas::joined))]
 fn push_head(out: &mut Vec<u8>, title: &[u8]) -> Result<(), AllocError>
     ensures { OnOk result (out.new.items ≡ out.old.items ++ written
         (tag (codes "head") []
@@ -48,7 +48,7 @@ fn push_head(out: &mut Vec<u8>, title: &[u8]) -> Result<(), AllocError>
     push_end(out, "head")
 }
 
-#[tactic(auto, using(crate::proofs::WritingLemmas::joined))]
+#[tactic(auto, using(html_writer::proofs::WritingLemmas::joined))]
 fn push_table(out: &mut Vec<u8>, number: &[u8], value: &[u8]) -> Result<(), AllocError>
     ensures { OnOk result (out.new.items ≡ out.old.items ++ written
         (tag (codes "p") [] (text NOTE.now)

@@ -1,6 +1,6 @@
 //! Files, and which of their lines are needless.
-use crate::lines::needless_lines;
-use crate::needless::Reason;
+use robots_needless::lines::needless_lines;
+use robots_needless::needless::Reason;
 use std::process::Abort;
 use texting_robots::Site;
 

@@ -1,7 +1,6 @@
 //! Responses, each with what RFC 9309, 2.3.1 says about it, and what the two sites decide.
-use crate::response::Meaning::{AllowAll, DenyAll, Follow, Parse};
-use crate::response::{Meaning, Response};
-use crate::site::{allow_all, deny_all};
+use robots_responses::Meaning::{AllowAll, DenyAll, Follow, Parse};
+use robots_responses::{Meaning, Response, allow_all, deny_all};
 use std::process::Abort;
 use texting_robots::Site;
 

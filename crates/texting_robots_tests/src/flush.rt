@@ -1,0 +1,38 @@
+//! A writer of which only the flush fails, as no output of a process does.
+use robots_io::streams::{WriteFault, write_out};
+use std::io::{self, ErrorKind, Write};
+
+#[derive(Drop)]
+struct Sink {
+    held: Vec<u8>,
+    flush_fails_with: ErrorKind,
+}
+
+impl Write for Sink {
+    fn write(&mut self, buf: &[u8]) -> io::Result<usize> {
+        self.held.extend_from_slice(buf)?;
+        Ok(buf.len())
+    }
+
+    fn flush(&mut self) -> io::Result<()> {
+        Err(io::Error::from(self.flush_fails_with))
+    }
+}
+
+const FAULTS: &[(ErrorKind, WriteFault)] = &[
+    (ErrorKind::BrokenPipe, WriteFault::Closed),
+    (ErrorKind::WriteZero, WriteFault::Write),
+];
+
+#[test]
+fn a_failed_flush_is_a_fault(rt: HostRuntime) {
+    for (kind, fault) in FAULTS {
+        let mut sink = Sink {
+            held: Vec::new(rt.alloc()),
+            flush_fails_with: *kind,
+        };
+        let answer = write_out(&mut sink, b"delay -\n");
+        assert!(rt; answer.as_ref().err() == Some(fault));
+        assert!(rt; sink.held.as_slice() == b"delay -\n".as_slice());
+    }
+}
