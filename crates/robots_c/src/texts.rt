@@ -11,22 +11,12 @@ use std::alloc::{AllocError, Global};
 use texting_robots::{Site, get_robots_url};
 use url::ParseError;
 
-fn lines_of(alloc: Global, texts: &[String]) -> Result<String, AllocError>
-    ensures { IfOk result (λ lines. string_bytes lines ≡ ended (map string_bytes texts.now)) }
+fn lines_of(alloc: Global, texts: &[&str]) -> Result<String, AllocError>
+    ensures { IfOk result (λ lines. string_bytes lines ≡ ended (map (λ text. text.now) texts.now)) }
 {
     let mut lines = String::new(alloc);
     for text in texts {
         push_line(&mut lines, text, "")?;
-    }
-    Ok(lines)
-}
-
-fn lines_of_names(alloc: Global, names: &[&str]) -> Result<String, AllocError>
-    ensures { IfOk result (λ lines. string_bytes lines ≡ ended (map (λ name. name.now) names.now)) }
-{
-    let mut lines = String::new(alloc);
-    for name in names {
-        push_line(&mut lines, name, "")?;
     }
     Ok(lines)
 }
@@ -49,7 +39,7 @@ pub(crate) fn agents_in(alloc: Global, site: &Site) -> Result<String, AllocError
     ensures { IfOk result (λ text. AreAgents site.now (string_bytes text)) }
 {
     let agents = site.agents(alloc)?;
-    lines_of_names(alloc, &agents)
+    lines_of(alloc, &agents)
 }
 
 pub(crate) fn agents_of(alloc: Global, file: &[u8]) -> Result<String, AllocError>

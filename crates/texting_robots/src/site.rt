@@ -56,15 +56,25 @@ impl Model for Site {
     ghost invariant = { λ s. IsIndexOf s.text.items s.lines.items s.names s.sitemaps.items s.early };
 }
 
-fn push_name<'a>(names: &mut Vec<&'a str>, name: &'a [u8]) -> Result<(), AllocError>
-    ensures { OnOk result (map (λ name. name.now) names.new.items
-        ≡ map (λ name. name.now) names.old.items ++ option_to_list (text_from name.now)) }
+fn push_if_text<'a>(texts: &mut Vec<&'a str>, bytes: &'a [u8]) -> Result<(), AllocError>
+    ensures { OnOk result (map (λ text. text.now) texts.new.items
+        ≡ map (λ text. text.now) texts.old.items ++ option_to_list (text_from bytes.now)) }
 {
-    let Some(text) = as_text(name) else {
+    let Some(text) = as_text(bytes) else {
         return Ok(());
     };
-    names.push(text)?;
+    texts.push(text)?;
     Ok(())
+}
+
+fn push_if_sitemap<'a>(sitemaps: &mut Vec<&'a str>, line: Line<'a>) -> Result<(), AllocError>
+    ensures { OnOk result (map (λ text. text.now) sitemaps.new.items
+        ≡ map (λ text. text.now) sitemaps.old.items ++ option_to_list (sitemap_in (by_value line.entry))) }
+{
+    match line {
+        Line::Sitemap(value) => push_if_text(sitemaps, value),
+        _ => Ok(()),
+    }
 }
 
 fn push_sitemap(alloc: Global, sitemaps: &mut Vec<String>, line: Line<'_>) -> Result<(), AllocError>
@@ -160,7 +170,7 @@ impl Site {
             if self.names.first(&line.name) != position {
                 continue;
             }
-            push_name(&mut agents, &line.name)?;
+            push_if_text(&mut agents, &line.name)?;
         }
         Ok(agents)
     }
@@ -273,10 +283,14 @@ impl Site {
     }
 
     /// The sitemaps that the file lists, in file order, the same for every crawler.
-    pub fn sitemaps(&self, alloc: Global) -> Result<Vec<String>, AllocError>
-        ensures { IfOk result (λ sitemaps. HasLines self.now (λ lines. AreSitemapsOf lines (map string_bytes sitemaps.items))) }
+    pub fn sitemaps(&self, alloc: Global) -> Result<Vec<&str>, AllocError>
+        ensures { IfOk result (λ sitemaps. HasLines self.now
+            (λ lines. AreSitemapsOf lines (map (λ text. text.now) sitemaps.items))) }
     {
-        let sitemaps = self.all_sitemaps(alloc)?;
-        Ok(sitemaps)
+        let mut all = Vec::new(alloc);
+        for span in &self.sitemaps {
+            push_if_sitemap(&mut all, span.line_in(&self.text))?;
+        }
+        Ok(all)
     }
 }

@@ -177,7 +177,7 @@ fn each_crawler_gets_its_own_groups(rt: HostRuntime) {
         check_equal(&rt, "agents", &agents.as_slice(), &case.agents);
         check_equal(&rt, "agents", &site.has_agents(), &!case.agents.is_empty());
         let sitemaps = site.sitemaps(rt.alloc()).expect(&rt, "sitemaps");
-        check_sitemaps(&rt, "sitemaps", &sitemaps, case.sitemaps);
+        check_equal(&rt, "sitemaps", &sitemaps.as_slice(), &case.sitemaps);
         for crawler in case.crawlers {
             check_lines(&rt, &site, crawler);
             check_robot(&rt, &site, crawler, case.sitemaps);
@@ -218,7 +218,7 @@ fn a_rule_that_is_too_long_is_its_own_crawlers(rt: HostRuntime) {
     let robot = site.robot(rt.alloc(), "B").expect(&rt, "robot");
     check(&rt, "rule", !robot.decision_prepared("/b").allowed);
     let sitemaps = site.sitemaps(rt.alloc()).expect(&rt, "sitemaps");
-    check_sitemaps(&rt, "sitemaps", &sitemaps, &["/s"]);
+    check_equal(&rt, "sitemaps", &sitemaps.as_slice(), &["/s"].as_slice());
 }
 
 /// Each rule is an entry of 64 bytes, a mask of 8, and its pattern. A site has 32 bytes for each group line, of which it

@@ -4,4 +4,4 @@ use Rattle.robots_c.proofs.texts.lines_of.Given as goal
 
 abbrev pub invariant-loop-text : goal.invariant-loop-text
 invariant-loop-text l =
-    string_bytes l.lines ≡ ended (map string_bytes (take l.text-index l.texts))
+    string_bytes l.lines ≡ ended (map (λ text. text.now) (take l.text-index l.texts))

@@ -25,7 +25,7 @@ loop-position-preserved c =
     let at = agent_at c.lines-line-items.result.now _ position _ c.lines-line-items.ensures
     c.loop-position-test.true c.line-item.is in
     let first = rw c.deref.ensures.value at c.first.ensures in
-    given_more _ _ _ _ (rw c.deref-in-loop-position.ensures.value at c.in_ok-push_name.ensures)
+    given_more _ _ _ _ (rw c.deref-in-loop-position.ensures.value at c.in_ok-push_if_text.ensures)
     ∙ ap (λ left. map (λ agent. agent.now) c.loop-position.agents.items ++ left)
     (sym (left_first c.self.inside.names position _ at (sym first ∙ c.if-first-position.false)))
     ∙ c.loop-position.invariant

@@ -1,10 +1,24 @@
-use Rattle.std.proofs.Common.{map, string_bytes}
-use Rattle.texting_robots.specs.{Executable.file_lines, Rules.AreSitemapsOf}
+use Rattle.std.proofs.Common.{ap, arith, map, sym, ◌∙◌}
+use Rattle.std.proofs.lemmas.List.{take_all}
+use Rattle.std.specs.List.{filter_map}
+use Rattle.texting_robots.specs.{Executable.file_lines, Internal.Site.listed, Rules.AreSitemapsOf}
 use Rattle.texting_robots.proofs.{GivenLemmas.sitemaps_are_computed, MainTheoremLemmas.has_lines}
+use Rattle.texting_robots.proofs.SiteOwnLemmas.{listed_more}
 use Rattle.texting_robots.proofs.site.Site.sitemaps.Goals as goal
+
+pub loop-span-preserved : goal.loop-span-preserved
+loop-span-preserved c =
+    let here = rw (c.deref.ensures.value, c.self.view_is) at c.line_in.ensures in
+    rw (c.in_ok-push_if_sitemap.ensures, here, c.loop-span.invariant)
+    (sym (listed_more c.args.self.now c.deref-span-items.result.now c.loop-span.span-index _
+    c.loop-span-test.true))
 
 pub returns : goal.returns
 returns c =
-    let all = map string_bytes c.in_ok-sitemaps.sitemaps.items in
-    has_lines c.args.self.now (λ lines. AreSitemapsOf lines all)
-    ((sitemaps_are_computed (file_lines c.args.self.now) all).1 c.in_ok-sitemaps.ensures.sitemaps)
+    let file = c.args.self.now in
+    let all = map (λ text. text.now) c.loop-span.all.items in
+    let listed_are = rw (← c.deref-span-items.ensures.value, c.self.view_is) at c.self.invariant.sitemaps_are in
+    let whole = take_all c.loop-span.span-index c.deref-span-items.result.now (omega (arith, c.loop-span-test.false)) in
+    has_lines file (λ lines. AreSitemapsOf lines all)
+    ((sitemaps_are_computed (file_lines file) all).1
+    (c.loop-span.invariant ∙ ap (filter_map (listed file)) whole ∙ listed_are))
