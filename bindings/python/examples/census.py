@@ -13,6 +13,9 @@ of them, from its start, and a record ends where its length says, so that nothin
 of a folder, that can't be understood is listed as damaged. A source that can't be read on, or of which a worker dies, is listed as unread,
 with the place of the last record that was read. The others are counted.
 
+WARC files are read by FastWARC, or by warcio, if one can be imported, and else by this program, which notices more damage between records.
+For warcio, each record has to be compressed alone.
+
 The rows of each JSONL or WARC file, and of each --batch files of a folder, are a part. Parts are written to files, which are then merged,
 so that no process needs more memory for more sites. With --parts FOLDER, which all workers have to see, a run that was ended goes on: a
 part is used again if it is whole, and this program, the agents and paths, and the names, sizes and times of its sources are the same.
