@@ -266,10 +266,19 @@ class RobotsMiddleware:
         robots = self.robots_request(fetch.address, request)
         for name, value in fetch.headers.items():
             robots.headers.setdefault(name, value)
+        from twisted.internet import reactor  # installed by now
+
+        later: Any = reactor
+        # a server that takes long isn't asked at once again
+        timer = later.callLater(self._timeout / 2, robots.meta.__setitem__, "dont_retry", True)
         engine = self._crawler.engine
-        if hasattr(engine, "download_async"):  # newer versions of Scrapy
-            return await engine.download_async(robots)
-        return await maybe_deferred_to_future(engine.download(robots))
+        try:
+            if hasattr(engine, "download_async"):  # newer versions of Scrapy
+                return await engine.download_async(robots)
+            return await maybe_deferred_to_future(engine.download(robots))
+        finally:
+            if timer.active():
+                timer.cancel()
 
     def _settle(self, known: dict[str, Site]) -> None:
         """Lets requests go on that wait for these sites."""
@@ -309,14 +318,13 @@ class RobotsMiddleware:
                 raise StopDownload(fail=False)
 
     def _response_downloaded(self, response: Any, request: Any) -> None:
-        """Keeps other middlewares from unpacking a file, and from asking again before the server wants it."""
+        """Keeps other middlewares from unpacking a file, and from asking again at once where there was an answer."""
         if _MARK in request.meta:
             encodings = response.headers.getlist("Content-Encoding")
             if encodings:
                 response.headers[_ENCODING] = b",".join(encodings)
                 del response.headers["Content-Encoding"]
-            if "Retry-After" in response.headers:
-                request.meta["dont_retry"] = True
+            request.meta["dont_retry"] = True
 
     def _spider_closed(self) -> None:
         self._cache.close()
