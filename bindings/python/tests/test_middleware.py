@@ -1,11 +1,13 @@
 """Crawls by Scrapy with the middleware, of sites on 127.0.0.1 that answer in many ways: what is fetched, what isn't, and when."""
 
 import ast
+import gzip
 import itertools
 import random
 import re
 import time
 import types
+import zlib
 
 import package
 import pytest
@@ -33,6 +35,7 @@ MIDDLEWARE["TEXTING_ROBOTS_PARKED"] = 0  # the requests of an outage wait in tes
 TOLERANCE = 0.1  # seconds, as a process on a busy machine may stop at any point
 
 
+GZIP = {"Content-Encoding": "gzip"}
 FAILS, HALF = answers(500, b""), answers(200, RULES, length=2 * len(RULES))
 LONG = RULES + b"# filler\n" * 60_000 + b"Disallow: /public/\n"
 WITH_SITEMAPS = RULES + "".join(f"Sitemap: {it}\n" for it in SITEMAPS).encode()
@@ -59,6 +62,12 @@ MEANINGS = {
     "no answer": (never, []),
     "half a body": (HALF, []),
     "half a body for Scrapy": (HALF, []),
+    "gzip": (answers(200, gzip.compress(RULES), **GZIP), PUBLIC),
+    "gzip, said but isn't": (answers(200, **GZIP), PUBLIC),
+    "gzip, cut": (answers(200, gzip.compress(RULES + random.Random(1).randbytes(5000))[:-60], **GZIP), PUBLIC),
+    "gzip of 50 MB": (answers(200, gzip.compress(RULES + bytes(50_000_000)), **GZIP), PUBLIC),
+    "deflate, cut": (answers(200, zlib.compress(RULES + b"# x\n" * 99)[:-9], **{"Content-Encoding": "deflate"}), PUBLIC),
+    "brotli": (answers(200, **{"Content-Encoding": "br"}), []),
 }
 SETTINGS = {
     "200 with more than 512,000 bytes": {"DOWNLOAD_MAXSIZE": 100_000},

@@ -10,7 +10,7 @@ from urllib.parse import urljoin
 from . import FILE_LIMIT, robots_url
 
 _STEP: Final = 64  # an error in a packed body loses no more of it
-_CONTROLS: Final = bytes({*range(32)} - {*b"\t\n\v\f\r"})
+_CONTROLS: Final = bytes({*range(32)} - {*b"\t\n\r"})
 
 
 def unpacked(body: bytes, encodings: str) -> bytes | None:
@@ -28,23 +28,25 @@ def unpacked(body: bytes, encodings: str) -> bytes | None:
     return result
 
 
-def _inflated(body: bytes) -> bytes | None:
+def _inflated(body: bytes, step: int = _STEP) -> bytes | None:
     """A body of gzip or zlib, unpacked as far as it goes; a text as it is; or else a body of deflate, which has to be complete."""
     decoder, parts, room, position = zlib.decompressobj(zlib.MAX_WBITS | 32), [], FILE_LIMIT, 0
     has_ended = not body
     while position < len(body) and room > 0:
         try:
-            parts.append(decoder.decompress(body[position : position + _STEP], room))
+            parts.append(decoder.decompress(body[position : position + step], room))
         except zlib.error:
             break
         room -= len(parts[-1])
-        position += _STEP
+        position += step
         if decoder.eof:  # another one may follow
             has_ended = True
             position -= len(decoder.unused_data)
             decoder = zlib.decompressobj(zlib.MAX_WBITS | 16)
     if room < FILE_LIMIT or has_ended:
         return b"".join(parts)
+    if step > 1:
+        return _inflated(body, 1)
     if not any(byte in _CONTROLS for byte in body[:1000]):
         return body
     return _deflated(body)

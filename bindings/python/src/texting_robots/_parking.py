@@ -45,21 +45,17 @@ class Parking:
     async def wait(self, address: str, request: Any, refresh: float) -> bool:
         """Waits for the site, and says whether the request is to be scheduled again, now or, if the spider is being closed, for the next
         start. Otherwise it has waited for as long as it may."""
-        active = self._crawler.engine.downloader.active
         parked = _Parked(request, time.time() + self._seconds)
         self._parked.setdefault(address, []).append(parked)
         self._count += 1
         self._set_timer(address, refresh)
         self._watch()
-        active.discard(request)
+        self._crawler.engine.downloader.active.discard(request)
         slot = _engine_slot(self._crawler.engine)
         if slot:
             slot.nextcall.schedule()  # there is room for another one
-        try:
-            is_to_go_on: bool = await maybe_deferred_to_future(parked.waiter)
-            return is_to_go_on
-        finally:
-            active.add(request)  # the downloader takes it out
+        is_to_go_on: bool = await maybe_deferred_to_future(parked.waiter)
+        return is_to_go_on
 
     def known(self, address: str, is_reachable: bool, refresh: float) -> None:
         """The file was asked for: its requests go on, or wait until it is asked for again, if they may wait that long."""
@@ -81,6 +77,7 @@ class Parking:
         kept = {id(it) for it in left}
         for parked in waiting:
             if id(parked) not in kept:
+                self._crawler.engine.downloader.active.add(parked.request)  # which it takes out again, and until then isn't idle
                 parked.waiter.callback(is_to_go_on)
 
     def _set_timer(self, address: str, refresh: float) -> None:

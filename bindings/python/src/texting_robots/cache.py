@@ -370,7 +370,7 @@ class RobotsCache:
         site = self._sites.get(address) or self._read(address)
         if site:
             # a clock that was wrong makes no file count for longer
-            latest = self._clock() + self._lifetime
+            latest = self._clock() + max(self._lifetime, self._retry)
             site.expires, site.refresh = min(site.expires, latest), min(site.refresh, latest)
             if address in self._sites:
                 self._sites.move_to_end(address)
