@@ -368,6 +368,12 @@ def test_what_is_not_several(wrong):
                 call()
 
 
+def test_the_place_of_what_is_no_text():
+    for call, place in [(lambda: Robots(SHOP).verdicts(["/", b"/"], "FerrisBot"), r"urls\[1\]"), (lambda: Robots(SHOP).matrix(["/"], [b"*"]), r"agents\[0\]")]:
+        with pytest.raises(TypeError, match=f"^{place} has the type bytes"):
+            call()
+
+
 def test_an_error_of_an_iterator_is_its_own():
     def failing():
         yield "/"

@@ -98,6 +98,7 @@ def test_the_tests_of_urllib(monkeypatch):
         ("Mozilla/5.0 (compatible; SlowBot/2.1)", ["/private/a"], 2.5),
         ("Tea House", ["/private/a", "/a"], 60.0),
         ("Tea House/2.1 (http://tea.example)", ["/private/a", "/a"], 60.0),
+        (" Tea House /2.1", ["/private/a", "/a"], 60.0),
         ("Tea Rooms", ["/private/a"], 2.5),
     ],
 )
@@ -192,7 +193,7 @@ def test_values_of_visit_time():
 @pytest.mark.parametrize(
     "file, rates",
     [
-        (FILE, {"FerrisBot": (10, 60), "SlowBot": (1, 30), "Tea House/1.0": (1, 30)}),
+        (FILE, {FERRIS: (10, 60), "SlowBot 2.1": (1, 30), "Tea House/1.0": (1, 30)}),
         ("User-agent: a\nRequest-rate: 1/5\nUser-agent: b\nDisallow: /", {"a": (1, 5), "b": None, "c": None}),
         ("User-agent: a\nCrawl-delay: 7\nUser-agent: b\nRequest-rate: 1/5\nDisallow: /", {"a": None, "b": (1, 5)}),
         ("User-agent: a\nRequest-rate: fast\nRequest-rate: 1/5\nRequest-rate: 1/6\n", {"A/1": (1, 5), "b": None}),
@@ -232,6 +233,12 @@ def test_protego_takes_bytes(kind):
     assert (parser.preferred_host, parser.request_rate(FERRIS)[:2]) == ("b.example", (1, 5))
 
 
+def test_the_limit_holds_for_all_lines():
+    filler = "User-agent: *\n".ljust(512_000, "#")
+    parser = Protego.parse(filler + "\nHost: a\nRequest-rate: 1/5\nVisit-time: 0600-0845")
+    assert [parser.preferred_host, parser.request_rate(FERRIS), parser.visit_time(FERRIS)] == [None] * 3
+
+
 def test_protego_takes_no_list():
     with pytest.raises(TypeError, match="^body has the type list: it has to be bytes or another buffer, or"):
         Protego.parse(["User-agent: *"])
@@ -257,14 +264,15 @@ def test_before_a_file_is_parsed_everything_is_denied():
     assert parser.mtime() == 7e8 and parser.can_fetch(FERRIS, "/")
 
 
-@pytest.mark.parametrize("flag, allowed", [("allow_all", True), ("disallow_all", False)])
-def test_flags(flag, allowed):
+@pytest.mark.parametrize("flags, allowed", [(["allow_all"], True), (["disallow_all"], False), (["allow_all", "disallow_all"], False)])
+def test_flags(flags, allowed):
     parser = by_urllib("User-agent: *\nDisallow: /a")
-    setattr(parser, flag, True)
+    for flag in flags:
+        setattr(parser, flag, True)
     assert [parser.can_fetch(FERRIS, url) for url in ("/a", "/b")] == [allowed] * 2
 
 
-LINES = ["User-agent: *", "Disallow: /a # \udcff", "", "Disallow: /b"]
+LINES = ["User-agent: *", "Disallow: /a # \udcff", "", "Disallow: /b", "Disallow: /c\udcff"]
 
 
 @pytest.mark.parametrize("end", ["", "\n", "\r\n", "\r"])
@@ -272,7 +280,7 @@ LINES = ["User-agent: *", "Disallow: /a # \udcff", "", "Disallow: /b"]
 def test_lines(kind, end):
     parser = RobotFileParser()
     parser.parse(kind(line + end) for line in LINES)
-    assert [url for url in ("/a", "/b", "/c") if not parser.can_fetch(FERRIS, url)] == ["/a", "/b"] and parser.mtime() > 0
+    assert [url for url in ("/a", "/b", "/c?", "/c\ufffd") if not parser.can_fetch(FERRIS, url)] == ["/a", "/b"] and parser.mtime() > 0
     parser.parse([])
     assert parser.can_fetch(FERRIS, "/a")
 

@@ -96,7 +96,7 @@ class File:
     def allowed(self, url: str, user_agent: str) -> bool:
         """Whether the crawler may fetch the URL: not if the file can't be used for it."""
         try:
-            return self.robots.allowed("/" if url == "" else url, self._name(user_agent))
+            return self.robots.allowed(url, self._name(user_agent))
         except OverlongRuleError:
             return False
 

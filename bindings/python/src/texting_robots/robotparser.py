@@ -77,11 +77,11 @@ class RobotFileParser(UrllibParser):
 
     def crawl_delay(self, useragent: str) -> float | None:  # type: ignore[override]  # for typeshed it is a str
         """How many seconds the crawler waits between two requests, or None."""
-        return self._file.delay(useragent) if self.mtime() else None
+        return self._file.delay(useragent)
 
     def request_rate(self, useragent: str) -> RequestRate | None:
         """The first Request-rate for the crawler, such as ``1/5`` or ``10/1m``, or None. A time of day after it doesn't count."""
-        rate = self._file.request_rate(useragent) if self.mtime() else None
+        rate = self._file.request_rate(useragent)
         return RequestRate(rate.requests, rate.seconds) if rate else None
 
     def __str__(self) -> str:
