@@ -2,7 +2,7 @@
 use Rattle.std.proofs.Common.{◌≡◌, ℕ, ◌*◌, ◌^◌, ◌%◌, ◌<◌, ◌≤◌, List, [], ◌∷◌, ◌++◌, length, min, get_or, drop}
 use Rattle.std.proofs.Common.{take, sym, refl, ap, ◌∙◌, append_assoc, take-append-drop, arith, ◌+◌, ◌-◌, ◌==◌}
 use Rattle.std.proofs.Common.{cond, leb, string_bytes, suc, ◌≢◌, inl, inr, zero, count_by, Bool, true, All}
-use Rattle.std.proofs.Common.{AllPairs, nat_lt, subst}
+use Rattle.std.proofs.Common.{AllPairs, subst}
 use Rattle.std.specs.Int.{RustNames.bit_and, RustNames.bit_or, Bits.or_self, Bits.or_zero_l}
 use Rattle.std.proofs.lemmas.List.{get_or_default, Sums.sum_by-take-le, Sums.sum_by_more, Sums.sum_by-cons}
 use Rattle.std.proofs.lemmas.List.{take-take, get_or-map, length-map, get_or_read, length-drop, length-take}
@@ -11,7 +11,7 @@ use Rattle.std.proofs.lemmas.Nat.{and_mask, or_comm, Bits.bit_at_or, Bits.same_f
 use Rattle.texting_robots.specs.declared.prefilter.{Prefilter.Prefilter, head.Head.Head}
 use Rattle.texting_robots.specs.declared.segments.Ending.{Ending, TheVariants.Last}
 use Rattle.texting_robots.specs.declared.segments.{Ends.Ends, Segment.Segment, Span.Span}
-use Rattle.texting_robots.specs.Internal.Segments.{ArePrefilter, AreWithin, IsHeadOf, end_pairs, ending_pairs}
+use Rattle.texting_robots.specs.Internal.Segments.{ArePrefilter, AreWithin, IsHeadOf, ending_pairs}
 use Rattle.texting_robots.specs.Internal.Segments.{pair_bit}
 use Rattle.texting_robots.specs.Internal.Segments.{front_bit, first_eight, ones_below, pair_set, AreApart}
 use Rattle.texting_robots.specs.Internal.Segments.{AreLeft, AreSegments, IsUnsearched, Fits, EndsAs, part_of}
@@ -66,7 +66,7 @@ pub within_both : (one other many : ℕ) → AreWithin one many → AreWithin ot
     → AreWithin (bit_or one other) many
 within_both one other many h k = rw (or_assoc, k) h
 
-within_through : (few some many : ℕ) → AreWithin few some → AreWithin some many → AreWithin few many
+pub within_through : (few some many : ℕ) → AreWithin few some → AreWithin some many → AreWithin few many
 within_through few some many h k =
     ap (bit_or few) (sym k) ∙ sym (or_assoc few some many) ∙ ap (λ x. bit_or x many) h ∙ k
 
@@ -87,6 +87,18 @@ end_within [] rest = or_self (pair_set rest)
 end_within (b ∷ front) rest =
     let more = front ++ rest in
     within_later (pair_set rest) (front_bit b more) (pair_set more) (end_within front rest)
+
+-- loop step: some of the bigrams that are left are moved to those so far
+pub within_moved : (bits few some left all : ℕ) → AreWithin few some
+    → AreWithin (bit_or bits (bit_or some left)) all → AreWithin (bit_or (bit_or bits few) left) all
+within_moved bits few some left all h k =
+    let more : AreWithin (bit_or (bit_or bits few) left) (bit_or bits (bit_or some left)) =
+    within_both (bit_or bits few) left (bit_or bits (bit_or some left))
+    (within_both bits few (bit_or bits (bit_or some left))
+    (sym (or_assoc bits bits _) ∙ ap (λ x. bit_or x (bit_or some left)) (or_self bits))
+    (within_later few bits _ (sym (or_assoc few some left) ∙ ap (λ x. bit_or x left) h)))
+    (within_later left bits _ (within_later left some left (or_self left))) in
+    within_through _ _ all more k
 
 -- loop step: the first bigram is moved to the bits so far
 pub pairs_step : (bits bit whole : ℕ) (rest : List ℕ) → 2 ≤ length rest
@@ -114,26 +126,19 @@ no_pairs [] short = refl
 no_pairs (b ∷ []) short = refl
 no_pairs (b ∷ c ∷ rest) short = absurd (omega arith)
 
-ends_within : (segment : List ℕ) → AreWithin (end_pairs segment) (pair_set segment)
-ends_within segment =
-    let is_within = λ (few : ℕ). AreWithin few (pair_set segment) in
-    let from = length segment - 32 in
-    let first : is_within (pair_set (take 32 segment)) =
-    subst (λ s. AreWithin (pair_set (take 32 segment)) (pair_set s)) (take-append-drop 32 segment)
-    (front_within (take 32 segment) (drop 32 segment)) in
-    let last : is_within (pair_set (drop from segment)) =
-    subst (λ s. AreWithin (pair_set (drop from segment)) (pair_set s)) (take-append-drop from segment)
-    (end_within (take from segment) (drop from segment)) in
-    elim (cases_Bool (nat_lt 64 (length segment))) [
-      | inl long ↦ rw long
-          (within_both (pair_set (take 32 segment)) (pair_set (drop from segment)) _ first last)
-      | inr short ↦ rw short (or_self (pair_set segment))
-    ]
+-- the bigrams of both ends of a text are some of the text's
+pub ends_within : (text : List ℕ) (len from : ℕ)
+    → AreWithin (bit_or (pair_set (take len text)) (pair_set (drop from text))) (pair_set text)
+ends_within text len from = within_both _ _ (pair_set text)
+    (subst (λ s. AreWithin (pair_set (take len text)) (pair_set s)) (take-append-drop len text)
+    (front_within (take len text) (drop len text)))
+    (subst (λ s. AreWithin (pair_set (drop from text)) (pair_set s)) (take-append-drop from text)
+    (end_within (take from text) (drop from text)))
 
 abbrev pub segment_pairs : List ℕ → Ending → List Segment → ℕ
 segment_pairs pattern ending [] = ending_pairs pattern ending
 segment_pairs pattern ending (segment ∷ segments) =
-    bit_or (end_pairs (part_of pattern segment.span)) (segment_pairs pattern ending segments)
+    bit_or (pair_set (part_of pattern segment.span)) (segment_pairs pattern ending segments)
 
 ending_within : (pattern : List ℕ) (ending : Ending) (t : List ℕ) → EndsAs pattern ending t
     → AreWithin (ending_pairs pattern ending) (pair_set t)
@@ -148,26 +153,26 @@ left_within pattern ending [] left are t m = ending_within pattern ending t ((ar
 left_within pattern ending (segment ∷ segments) left (rest, is, more) t m =
     let (after, (front, e), n) = (is.decides t).0 m in
     let part = part_of pattern segment.span in
-    let here = within_through (end_pairs part) (pair_set part) (pair_set (part ++ after)) (ends_within part)
-    (front_within part after) in
+    let here = front_within part after in
     let pairs = segment_pairs pattern ending (segment ∷ segments) in
     let later = segment_pairs pattern ending segments in
     let following = within_through later (pair_set after) (pair_set (part ++ after))
     (left_within pattern ending segments rest more after n) (end_within part after) in
-    let both = within_both _ later (pair_set (part ++ after)) here following in
+    let both = within_both (pair_set part) later (pair_set (part ++ after)) here following in
     rw e (within_through pairs (pair_set (part ++ after)) _ both (end_within front (part ++ after)))
 
 pub are_prefilter : {pattern : List ℕ} {ends : Ends} {segments : List Segment} {borders : List ℕ}
     (prefilter : Prefilter)
     → AreSegments pattern ends segments borders → IsHeadOf (take ends.first_len pattern) prefilter.head
-    → prefilter.pairs.bits ≡ segment_pairs pattern ends.ending segments → ArePrefilter pattern prefilter
+    → AreWithin prefilter.pairs.bits (segment_pairs pattern ends.ending segments)
+    → ArePrefilter pattern prefilter
 are_prefilter {pattern} {ends} {segments} prefilter are head pairs text m =
     let first = take ends.first_len pattern in
     let (rest, e, n) = (are.decides text).0 m in
-    let pairs_of = segment_pairs pattern ends.ending segments in
-    let within = within_through pairs_of (pair_set rest) (pair_set (first ++ rest))
-    (left_within pattern ends.ending segments are.rest are.left rest n) (end_within first rest) in
-    rw (e, pairs) (record { head = beginning_fits first rest prefilter.head head; pairs = within })
+    let within = within_through _ _ (pair_set (first ++ rest)) pairs
+    (within_through _ (pair_set rest) (pair_set (first ++ rest))
+    (left_within pattern ends.ending segments are.rest are.left rest n) (end_within first rest)) in
+    rw e (record { head = beginning_fits first rest prefilter.head head; pairs = within })
 
 pub beginning_within : (pattern rest text : List ℕ) (few first : ℕ) → few ≤ first
     → text ≡ take first pattern ++ rest → AreWithin (pair_set (take few pattern)) (pair_set text)

@@ -3,7 +3,7 @@ use Rattle.std.proofs.Common.{◌≡◌, ℕ, ◌+◌, ◌-◌, ◌≤◌, Bool,
 use Rattle.std.proofs.Common.{drop, sym, ◌∙◌, Option, Some, None, is_some, true, not, inl, inr, [], ◌∷◌, cond}
 use Rattle.std.proofs.Common.{slice_get, map, refl, add-one, ◌⊎◌, zero, suc, ◌<◌, ◌↔◌, ◌&&◌, length-drop}
 use Rattle.std.proofs.Common.{slice_index_or, subst}
-use Rattle.std.specs.List.{list_any, position_or_len, before_first, enumerate_from, filter_map}
+use Rattle.std.specs.List.{AllZip, list_any, position_or_len, before_first, enumerate_from, filter_map}
 use Rattle.std.proofs.lemmas.Bool.{false_from_ne_true, false≢true, or_parts, cases_Bool, cases_lt}
 use Rattle.std.proofs.lemmas.Bool.{cases_order, Decides.Decides-and, Decides.Decides-at, Decides.Decides-like}
 use Rattle.std.proofs.lemmas.Bool.{Decides.Decides-or, Decides.not_from_Decides}
@@ -17,8 +17,9 @@ use Rattle.std.proofs.{Math.Nat.add-zero, lemmas.Option.slice_get-get_or, Math.N
 use Rattle.texting_robots.specs.{declared.groups.GroupTracker.GroupTracker, Rules.Rule}
 use Rattle.texting_robots.specs.{Internal.Captured.is_captured, declared.labels.Membership.Membership}
 use Rattle.texting_robots.specs.Group.{group_name, is_agent, is_group, IsCaptured, is_agent_named, passes_at}
-use Rattle.texting_robots.specs.Line.{Allow, Disallow, LineValue, Raw, UserAgent}
-use Rattle.texting_robots.specs.Labels.{is_own, label_at, labels_of, AreLabelsOf, AreOneRun, IsInGroup, Label}
+use Rattle.texting_robots.specs.Line.{Allow, Disallow, IsLineOf, LineValue, Raw, UserAgent}
+use Rattle.texting_robots.specs.Internal.Line.{line_of}
+use Rattle.texting_robots.specs.Labels.{is_own, label_at, labels_of, AreLabelsOf, AreOneRun, IsInGroup, Label, bodies_in, lines_in}
 use Rattle.texting_robots.specs.Labels.{IsInOwnGroup, HasMembership, next_group, membership_of}
 use Rattle.texting_robots.specs.declared.labels.Membership.TheVariants.{Own, Other, Ungrouped}
 use Rattle.texting_robots.specs.Executable.{placed_in, placed_rules, rule_in}
@@ -26,7 +27,7 @@ use Rattle.texting_robots.specs.Internal.Group.{captured_ahead, from_captured, i
 use Rattle.texting_robots.specs.Internal.Group.{own_rule_at, placed, membership_by, start_of}
 use Rattle.texting_robots.proofs.CapturedLemmas.{IsWalkAt, any_next, at_front, captured_walked, cond_same}
 use Rattle.texting_robots.proofs.CapturedLemmas.{occurs_first, occurs_next, is_captured_decides, itself}
-use Rattle.texting_robots.proofs.CapturedLemmas.{taken_decides, within}
+use Rattle.texting_robots.proofs.{CapturedLemmas.taken_decides, CapturedLemmas.within, LineLemmas.only_lines}
 
 -- ---- The first byte that passes a test, as `memchr` finds it.
 
@@ -131,21 +132,24 @@ begun_next all position line at =
     (or_comm (is_agent line) (list_any is_agent (take position all)))
 
 labels_left : (name : List ℕ) (all : List LineValue) (tracker : GroupTracker) (position : ℕ)
-    (lines : List LineValue)
-    → IsWalkAt name all position tracker → drop position all ≡ lines
-    → map (label_at name all) (enumerate_from position lines)
-    ≡ labels_from name tracker (list_any is_agent (take position all)) position lines
+    (bodies : List (List ℕ))
+    → IsWalkAt name all position tracker → drop position all ≡ map line_of bodies
+    → map (label_at name all) (enumerate_from position bodies)
+    ≡ labels_from name tracker (list_any is_agent (take position all)) position bodies
 labels_left name all tracker position [] splits left = refl
-labels_left name all tracker position (line ∷ lines) splits left =
-    let (at, next) = at_front all position line lines left in
-    let captured = ahead_is name all tracker position (line ∷ lines) splits left in
-    let later = labels_left name all (step name tracker line) (position + 1) lines
+labels_left name all tracker position (body ∷ bodies) splits left =
+    let line = line_of body in
+    let (at, next) = at_front all position line (map line_of bodies) left in
+    let captured = ahead_is name all tracker position (map line_of (body ∷ bodies)) splits left in
+    let later = labels_left name all (step name tracker line) (position + 1) bodies
     (occurs_next name all position tracker line at splits) next in
     rw (later, left, begun_next all position line at, captured) refl
 
-pub labels_are : (name : List ℕ) (lines : List LineValue)
-    → labels_of name lines ≡ labels_from name (start_of lines) false 0 lines
-labels_are name lines = labels_left name lines (start_of lines) 0 lines (occurs_first name lines) refl
+pub labels_are : (name : List ℕ) (bodies : List (List ℕ))
+    → labels_of name bodies ≡ labels_from name (start_of (map line_of bodies)) false 0 bodies
+labels_are name bodies =
+    let lines = map line_of bodies in
+    labels_left name lines (start_of lines) 0 bodies (occurs_first name lines) refl
 
 own_if : (number : ℕ) (captured begun : Bool) (found : Option Rule)
     → cond captured (placed number found) None
@@ -154,13 +158,17 @@ own_if number true begun found = refl
 own_if number false true found = refl
 own_if number false false found = refl
 
-own_left : (name : List ℕ) (tracker : GroupTracker) (before : Bool) (position : ℕ) (lines : List LineValue)
-    → from_captured placed_in name tracker position lines
-    ≡ filter_map own_rule_at (labels_from name tracker before position lines)
+own_left : (name : List ℕ) (tracker : GroupTracker) (before : Bool) (position : ℕ) (bodies : List (List ℕ))
+    → from_captured placed_in name tracker position (map line_of bodies)
+    ≡ filter_map own_rule_at (labels_from name tracker before position bodies)
 own_left name tracker before position [] = refl
-own_left name tracker before position (line ∷ lines) =
-    rw (own_left name (step name tracker line) (before || is_agent line) (position + 1) lines, at line) refl
+own_left name tracker before position (body ∷ bodies) =
+    let line = line_of body in
+    rw (own_left name (step name tracker line) (before || is_agent line) (position + 1) bodies, at line) refl
   where
+    lines : List LineValue
+    lines = map line_of bodies
+
     at : (line : LineValue) → if_captured tracker (placed_in (position, line))
         ≡ placed (position + 1) (cond (is_own (membership_by (captured_ahead name tracker (line ∷ lines))
         (before || is_agent line) line)) (rule_in line) None)
@@ -168,12 +176,13 @@ own_left name tracker before position (line ∷ lines) =
     at (Disallow value) = own_if (position + 1) tracker.captured (before || false) (rule_in (Disallow value))
     at _ = simp cond_same
 
-pub own_rules : (agent : List ℕ) (lines : List LineValue)
-    → placed_rules agent lines ≡ filter_map own_rule_at (labels_of (group_name agent lines) lines)
-own_rules agent lines =
+pub own_rules : (agent : List ℕ) (bodies : List (List ℕ)) → (let lines = map line_of bodies in
+    placed_rules agent lines ≡ filter_map own_rule_at (labels_of (group_name agent lines) bodies))
+own_rules agent bodies =
+    let lines = map line_of bodies in
     let name = group_name agent lines in
-    captured_walked placed_in name lines ∙ own_left name (start_of lines) false 0 lines
-    ∙ ap (filter_map own_rule_at) (sym (labels_are name lines))
+    captured_walked placed_in name lines ∙ own_left name (start_of lines) false 0 bodies
+    ∙ ap (filter_map own_rule_at) (sym (labels_are name bodies))
 
 -- ---- Each line has the membership that the specification states by indices of lines.
 
@@ -366,52 +375,73 @@ IsLabelAt name lines position label = (label.number ≡ position + 1)
     × HasMembership name lines position label.membership
 
 module _ (name : List ℕ) (all : List LineValue) where
-  abbrev left_from : ℕ → List LineValue → List Label
-  left_from position lines = map (label_at name all) (enumerate_from position lines)
+  abbrev left_from : ℕ → List (List ℕ) → List Label
+  left_from position bodies = map (label_at name all) (enumerate_from position bodies)
 
-  left_lines : (position : ℕ) (lines : List LineValue)
-      → map (λ (label : Label). label.line) (left_from position lines) ≡ lines
-  left_lines position [] = refl
-  left_lines position (line ∷ lines) =
-      ap (λ (rest : List LineValue). line ∷ rest) (left_lines (position + 1) lines)
+  left_lines : (position : ℕ) (bodies : List (List ℕ))
+      → (lines_in (left_from position bodies) ≡ map line_of bodies)
+      × (bodies_in (left_from position bodies) ≡ bodies)
+  left_lines position [] = (refl, refl)
+  left_lines position (body ∷ bodies) =
+      let (lines, same) = left_lines (position + 1) bodies in
+      (ap (λ (rest : List LineValue). line_of body ∷ rest) lines, ap (λ rest. body ∷ rest) same)
 
-  left_each : (position : ℕ) (lines : List LineValue) → drop position all ≡ lines → (k : ℕ) (label : Label)
-      → slice_get (left_from position lines) k ≡ Some label → IsLabelAt name all (position + k) label
+  left_each : (position : ℕ) (bodies : List (List ℕ)) → drop position all ≡ map line_of bodies
+      → (k : ℕ) (label : Label)
+      → slice_get (left_from position bodies) k ≡ Some label → IsLabelAt name all (position + k) label
   left_each position [] left k label at = cc
-  left_each position (line ∷ lines) left zero label at =
-      let same : label_at name all (position, line) ≡ label = cc in
-      let (splits, next) = at_front all position line lines left in
-      rw (add-zero, sym same) (refl, occurs_so name all position line splits)
-  left_each position (line ∷ lines) left (suc k) label at =
-      let (splits, next) = at_front all position line lines left in
+  left_each position (body ∷ bodies) left zero label at =
+      let same : label_at name all (position, body) ≡ label = cc in
+      let (splits, next) = at_front all position (line_of body) (map line_of bodies) left in
+      rw (add-zero, sym same) (refl, occurs_so name all position (line_of body) splits)
+  left_each position (body ∷ bodies) left (suc k) label at =
+      let (splits, next) = at_front all position (line_of body) (map line_of bodies) left in
       let further : position + suc k ≡ (position + 1) + k = omega arith in
-      rw further (left_each (position + 1) lines next k label at)
+      rw further (left_each (position + 1) bodies next k label at)
 
-  left_only : (position : ℕ) (lines : List LineValue) (labels : List Label) → drop position all ≡ lines
-      → map (λ (label : Label). label.line) labels ≡ lines
+  left_only : (position : ℕ) (bodies : List (List ℕ)) (labels : List Label)
+      → drop position all ≡ map line_of bodies
+      → lines_in labels ≡ map line_of bodies → bodies_in labels ≡ bodies
       → ((k : ℕ) (label : Label) → slice_get labels k ≡ Some label → IsLabelAt name all (position + k) label)
-      → labels ≡ left_from position lines
-  left_only position [] [] left are each = refl
-  left_only position [] (label ∷ labels) left are each = cc
-  left_only position (line ∷ lines) [] left are each = cc
-  left_only position (line ∷ lines) (label ∷ labels) left are each =
-      let (splits, next) = at_front all position line lines left in
+      → labels ≡ left_from position bodies
+  left_only position [] [] left are same each = refl
+  left_only position [] (label ∷ labels) left are same each = cc
+  left_only position (body ∷ bodies) [] left are same each = cc
+  left_only position (body ∷ bodies) (label ∷ labels) left are same each =
+      let (splits, next) = at_front all position (line_of body) (map line_of bodies) left in
       let here = rw add-zero at (each 0 label refl) in
-      let same = occurs_only name all position line splits label.membership here.1 in
-      let later = left_only (position + 1) lines labels next (cc) (λ k other at.
+      let belongs = occurs_only name all position (line_of body) splits label.membership here.1 in
+      let later = left_only (position + 1) bodies labels next (cc) (cc) (λ k other at.
       let further : (position + 1) + k ≡ position + suc k = omega arith in rw further
       (each (suc k) other at)) in
-      let line_is : line ≡ label.line = cc in
-      let first : label ≡ label_at name all (position, line) = rw (sym same, sym here.0, line_is) refl in
+      let line_is : line_of body ≡ label.line = cc in
+      let body_is : body ≡ label.body = cc in
+      let first : label ≡ label_at name all (position, body) =
+      rw (sym belongs, sym here.0, line_is, body_is) refl in
       rw (first, later) refl
 
-pub each_line_has_its_label : (name : List ℕ) (lines : List LineValue) (labels : List Label)
-    → AreLabelsOf name lines labels ↔ (labels ≡ labels_of name lines)
-each_line_has_its_label name lines labels = (
-  λ are. left_only name lines 0 lines labels refl are.lines_are
-      (λ k label at. rw zero-add (are.each k label at)),
-  λ same. rw same (record {
-    lines_are = left_lines name lines 0 lines;
-    each = λ position label at. rw zero-add at (left_each name lines 0 lines refl position label at);
-  }),
-)
+pub labels_hold : (name : List ℕ) (bodies : List (List ℕ))
+    → (lines_in (labels_of name bodies) ≡ map line_of bodies) × (bodies_in (labels_of name bodies) ≡ bodies)
+labels_hold name bodies = left_lines name (map line_of bodies) 0 bodies
+
+of_bodies : (name : List ℕ) (bodies : List (List ℕ)) (labels : List Label)
+    → (AreLabelsOf name (map line_of bodies) labels × (bodies_in labels ≡ bodies))
+    ↔ (labels ≡ labels_of name bodies)
+of_bodies name bodies labels =
+    let lines = map line_of bodies in (
+      λ (are, same). left_only name lines 0 bodies labels refl are.lines_are same
+          (λ k label at. rw zero-add (are.each k label at)),
+      λ same. rw same (
+        record {
+          lines_are = (labels_hold name bodies).0;
+          each = λ position label at. rw zero-add at (left_each name lines 0 bodies refl position label at);
+        },
+        (labels_hold name bodies).1,
+      ),
+    )
+
+pub each_line_has_its_label : (name : List ℕ) (lines : List LineValue) (bodies : List (List ℕ))
+    (labels : List Label) → AllZip IsLineOf lines bodies
+    → (AreLabelsOf name lines labels × (bodies_in labels ≡ bodies)) ↔ (labels ≡ labels_of name bodies)
+each_line_has_its_label name lines bodies labels are =
+    rw (only_lines lines bodies are) (of_bodies name bodies labels)

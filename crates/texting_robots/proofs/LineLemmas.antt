@@ -72,7 +72,7 @@ are_lines : (bodies : List (List ℕ)) → AllZip IsLineOf (map line_of bodies) 
 are_lines [] = tt
 are_lines (body ∷ bodies) = (is_line body (statement_of body) refl, are_lines bodies)
 
-only_lines : (lines : List LineValue) (bodies : List (List ℕ)) → AllZip IsLineOf lines bodies
+pub only_lines : (lines : List LineValue) (bodies : List (List ℕ)) → AllZip IsLineOf lines bodies
     → lines ≡ map line_of bodies
 only_lines [] [] all = refl
 only_lines [] (body ∷ bodies) all = absurd all

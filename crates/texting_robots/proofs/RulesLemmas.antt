@@ -11,7 +11,6 @@ use Rattle.texting_robots.specs.{Error.IsMemoryErrorOr, Group.is_agent, Group.is
 use Rattle.texting_robots.specs.Line.{LineValue, Raw, Sitemap, UserAgent, delay_in, is_raw, is_sitemap}
 use Rattle.texting_robots.specs.{Pattern.IsOverlong}
 use Rattle.texting_robots.specs.Rules.{IsFirstOverlong, PlacedRule, Rule, unplaced}
-use Rattle.texting_robots.specs.Internal.Robot.{IsRejectionOf, rejection_at}
 use Rattle.texting_robots.proofs.{BestLemmas.placed_of}
 use Rattle.texting_robots.specs.declared.error.Error.TheVariants as mine
 
@@ -131,13 +130,3 @@ some_overlong rules number is =
       rw is.whole (get_or_at is.front is.placed is.back is.placed (length is.front) refl),
       is.overlong,
     )
-
-pub rejected_at : (number : ℕ) (captured : Bool) (rule : Option Rule) (taken left all : List PlacedRule)
-    → (e : Error) → taken ++ cons_option (cond captured (placed number rule) None) left ≡ all
-    → All (λ (other : PlacedRule). ¬ IsOverlong other.rule.0) taken
-    → IsMemoryErrorOr (IsSomeAnd (cond captured (placed number rule) None)
-    (λ (here : PlacedRule). IsOverlong here.rule.0)) e
-    → IsRejectionOf all (rejection_at number e)
-rejected_at number captured rule taken left all mine.InvalidRule whole accepted is =
-    first_overlong number captured rule taken left all whole accepted is
-rejected_at number captured rule taken left all other whole accepted is = tt

@@ -3,12 +3,14 @@ use Rattle.std.specs.Prelude.{filter}
 use Rattle.std.proofs.Common.{◌≡◌, inl, inr, ℕ, zero, suc, ◌+◌, ◌<◌, ◌≤◌, ◌==◌, Bool, true, false, ◌||◌, not}
 use Rattle.std.proofs.Common.{◌&&◌, List, [], ◌∷◌, ◌++◌, Option, Some, None, length, drop, refl, ap, sym, ◌∙◌}
 use Rattle.std.proofs.Common.{arith, cond, get_or, slice_get, take, IsPermutation, subst, ltb}
-use Rattle.std.specs.List.{Any, cons_option, filter_map, list_any}
+use Rattle.std.specs.List.{All, Any, cons_option, filter_map, list_any}
 use Rattle.std.specs.Option.{option_or, option_to_list}
 use Rattle.std.proofs.lemmas.Bool.{eq-eqb, ne_eqb, cases_Bool, le-ltb, lt-ltb, ltb-false, ltb-true}
 use Rattle.std.proofs.{lemmas.Bool.Decides.eqb_tells, Math.Bool.and-false}
 use Rattle.std.proofs.lemmas.List.{Elements.filter_agree, take_more, append-nil, drop-drop}
-use Rattle.texting_robots.specs.Rules.{IsRejected, PlacedRule, Rule, unplaced}
+use Rattle.texting_robots.specs.Rules.{IsFirstOverlong, IsRejected, PlacedRule, Rule, unplaced}
+use Rattle.texting_robots.specs.{declared.error.Error.Error, Error.IsMemoryErrorOr, Executable.IsRejectionOf}
+use Rattle.texting_robots.specs.declared.error.Error.TheVariants as error
 use Rattle.texting_robots.specs.Group.{group_name, is_agent, is_group}
 use Rattle.texting_robots.specs.{Pattern.IsOverlong, Internal.Group.from_captured}
 use Rattle.texting_robots.specs.{declared.site.lines.Span.Span, declared.site.own.Position.Position}
@@ -17,11 +19,12 @@ use Rattle.texting_robots.specs.Executable.{captured_delays, captured_lines, fil
 use Rattle.texting_robots.specs.Executable.{placed_rules, delay_before_agents}
 use Rattle.texting_robots.proofs.{CapturedLemmas.captured_walked, GivenLemmas.delay_is_computed}
 use Rattle.texting_robots.proofs.{RulesLemmas.any_unplaced, SiteNameLemmas.drop_is}
-use Rattle.texting_robots.proofs.MainTheoremLemmas.{has_lines, rejection_is_computed, rules_are_computed}
+use Rattle.texting_robots.proofs.MainTheoremLemmas.{has_lines, rejected_of, rejection_is_computed, rules_are_computed}
 use Rattle.texting_robots.proofs.SiteLemmas.{delay_of_group, given_push, rule_of_group, none_later}
 use Rattle.texting_robots.specs.Line.{LineValue, UserAgent, delay_in}
 use Rattle.texting_robots.specs.Internal.Site.{Named, Tagged, delay_of, in_front, is_run_of, named, listed}
-use Rattle.texting_robots.specs.Internal.Site.{own_tagged, rule_of, tagged, tagged_from, first_named, own_at}
+use Rattle.texting_robots.specs.Internal.Site.{own_tagged, rejection_at, rule_of, tagged, tagged_from}
+use Rattle.texting_robots.specs.Internal.Site.{first_named, own_at}
 use Rattle.texting_robots.specs.Internal.Site.{AreOfFile, IsWholeWalk, is_later, own_from, has_name}
 use Rattle.texting_robots.proofs.SiteNameLemmas.{first_here, here, later_at, past_end, runs_from_first}
 use Rattle.texting_robots.proofs.SiteRunLemmas.{Ascends, names_ascend, no_names, none_above, of_run, starts}
@@ -302,6 +305,24 @@ pub listed_more : (text : List ℕ) (sitemaps : List Span) (i : ℕ) (d : Span) 
 listed_more text sitemaps i d within =
     ap (filter_map (listed text)) (take_more sitemaps i d within) ∙ given_push (listed text) (take i sitemaps)
     (get_or sitemaps i d)
+
+-- the rule of this line is the first that is too long, or memory ran out
+pub rejected_at : (agent file : List ℕ) (rule : PlacedRule) (taken left : List PlacedRule) (e : Error)
+    → taken ++ rule ∷ left ≡ placed_rules agent (file_lines file)
+    → All (λ (other : PlacedRule). ¬ IsOverlong other.rule.0) taken → IsMemoryErrorOr (IsOverlong rule.rule.0) e
+    → IsRejectionOf agent file (rejection_at rule.line e)
+rejected_at agent file rule taken left error.InvalidRule whole accepted is =
+    let first : IsFirstOverlong (placed_rules agent (file_lines file)) rule.line = record {
+      front = taken;
+      placed = rule;
+      back = left;
+      whole = sym whole;
+      accepted = accepted;
+      overlong = is;
+      line = refl;
+    } in
+    (rejected_of agent file rule.line first, first)
+rejected_at agent file rule taken left other whole accepted is = tt
 
 pub file_rejected : (agent file : List ℕ)
     → Any (λ (placed : PlacedRule). IsOverlong placed.rule.0) (placed_rules agent (file_lines file))

@@ -1,12 +1,14 @@
 -- The relations as functions, for contracts that are equations. Theorems state that both agree, such as
 -- `each_text_has_one_cut`. No contract of a robot depends on these functions.
-use Rattle.std.specs.Prelude.{ℕ, ◌+◌, Bool, true, false, List, Option, Some, None, filter, map, slice_get}
+use Rattle.std.specs.Prelude.{⊤, ℕ, ◌+◌, Bool, true, false, List, Option, Some, None, filter, map, slice_get}
 use Rattle.std.specs.Prelude.{take, if◌then◌else◌}
 use Rattle.std.specs.List.{before_first, enumerate_from, filter_map, last_or, list_any}
 use Rattle.std.specs.{Option.option_or, Str.is_utf8}
-use Rattle.texting_robots.specs.{Group.group_name, Group.is_agent, Escape.escaped, Robot.file_limit}
+use Rattle.texting_robots.specs.{Group.group_name, Group.is_agent, Escape.escaped, Robot.IsFileRejected}
+use Rattle.texting_robots.specs.{Robot.file_limit, declared.error.Rejection.Rejection}
+use Rattle.texting_robots.specs.declared.error.Rejection.TheVariants.{Memory, Overlong}
 use Rattle.texting_robots.specs.Line.{LineValue, Allow, Disallow, Sitemap, delay_in, nul_as_lf, without_front}
-use Rattle.texting_robots.specs.Rules.{PlacedRule, Rule, placed, unplaced}
+use Rattle.texting_robots.specs.Rules.{IsFirstOverlong, PlacedRule, Rule, placed, unplaced}
 use Rattle.texting_robots.specs.Internal.{Captured.is_captured, Cut.bodies_of, Line.lines_of}
 pub use Rattle.texting_robots.specs.Internal.{Cut.cut, Delay.delay_of, Captured.is_captured}
 
@@ -69,3 +71,9 @@ sitemap_in _ = None
 
 abbrev pub sitemaps_in : List LineValue → List (List ℕ)
 sitemaps_in lines = filter_map sitemap_in lines
+
+-- why there is no robot for this crawler and this file; an allocation can fail at any time
+abbrev pub IsRejectionOf : List ℕ → List ℕ → Rejection → Type 0
+IsRejectionOf agent file (Overlong line) =
+    IsFileRejected agent file × IsFirstOverlong (placed_rules agent (file_lines file)) line
+IsRejectionOf agent file Memory = ⊤

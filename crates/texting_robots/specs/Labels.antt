@@ -3,15 +3,22 @@ use Rattle.std.specs.Prelude.{◌≡◌, ◌⊎◌, ℕ, ◌+◌, ◌<◌, Bool,
 use Rattle.std.specs.Prelude.{if◌then◌else◌, map, slice_get, take}
 use Rattle.std.specs.{List.enumerate_from, List.list_any, List.position_or_len, Str.str_to_ascii_lowercase}
 use Rattle.texting_robots.specs.{declared.labels.LabeledLine.LabeledLine, Line.LineValue, Line.by_value}
-use Rattle.texting_robots.specs.{declared.labels.Membership.Membership, Internal.Captured.is_captured}
+use Rattle.texting_robots.specs.{declared.labels.Membership.Membership, Internal.Captured.is_captured, Internal.Line.line_of}
 use Rattle.texting_robots.specs.declared.labels.Membership.TheVariants.{Own, Other, Ungrouped}
 use Rattle.texting_robots.specs.Group.{IsCaptured, is_agent, is_agent_named, is_group, passes_at}
 
--- a line with its number, counted from 1, and its membership
+-- a line with its number, counted from 1, its membership and its content
 pub record Label : Type 0 where
   pub number : ℕ
   pub membership : Membership
   pub line : LineValue
+  pub body : List ℕ
+
+abbrev pub lines_in : List Label → List LineValue
+lines_in labels = map (λ (label : Label). label.line) labels
+
+abbrev pub bodies_in : List Label → List (List ℕ)
+bodies_in labels = map (λ (label : Label). label.body) labels
 
 -- each group line (an Allow, a Disallow or a Crawl-delay) is above both positions, or below both
 abbrev pub AreOneRun : List LineValue → ℕ → ℕ → Type 0
@@ -41,7 +48,7 @@ HasMembership name lines position Ungrouped = (¬ IsInOwnGroup name lines positi
 
 -- the labels of these lines, in order, with their numbers, counted from 1, and their memberships
 pub record AreLabelsOf (name : List ℕ) (lines : List LineValue) (labels : List Label) : Type 0 where
-  pub lines_are : map (λ (label : Label). label.line) labels ≡ lines
+  pub lines_are : lines_in labels ≡ lines
   pub each : (position : ℕ) (label : Label) → slice_get labels position ≡ Some label
       → (label.number ≡ position + 1) × HasMembership name lines position label.membership
 
@@ -59,16 +66,27 @@ membership_of name lines p =
     else if list_any is_agent (take (p.0 + 1) lines) then Other
     else Ungrouped
 
-abbrev pub label_at : List ℕ → List LineValue → ℕ × LineValue → Label
-label_at name lines p = record { number = p.0 + 1; membership = membership_of name lines p; line = p.1 }
+-- the label of the line with this content, among these lines
+abbrev pub label_at : List ℕ → List LineValue → ℕ × List ℕ → Label
+label_at name lines p = record {
+  number = p.0 + 1;
+  membership = membership_of name lines (p.0, line_of p.1);
+  line = line_of p.1;
+  body = p.1;
+}
 
-abbrev pub labels_of : List ℕ → List LineValue → List Label
-labels_of name lines = map (label_at name lines) (enumerate_from 0 lines)
+-- the labels of the lines with these contents
+abbrev pub labels_of : List ℕ → List (List ℕ) → List Label
+labels_of name bodies = map (label_at name (map line_of bodies)) (enumerate_from 0 bodies)
 
 -- a labeled line by value, wherever its bytes are in memory
 abbrev pub label_by_value : LabeledLine → Label
-label_by_value labeled =
-    record { number = labeled.number; membership = labeled.membership; line = by_value labeled.line }
+label_by_value labeled = record {
+  number = labeled.number;
+  membership = labeled.membership;
+  line = by_value labeled.line;
+  body = labeled.body.now;
+}
 
 abbrev pub is_own : Membership → Bool
 is_own Own = true

@@ -16,6 +16,15 @@ pub enum Error {
     Memory,
 }
 
+/// Why a site has no robot for a crawler.
+#[derive(Debug, Drop)]
+pub enum Rejection {
+    /// `Error::InvalidRule`: the crawler's first rule that is too long is in the line with this number.
+    Overlong(usize),
+    /// `Error::Memory`.
+    Memory,
+}
+
 /// A query gave up, since it might have taken more looks than its budget.
 #[derive(Debug, Drop, Error)]
 #[error("Query is too costly")]
@@ -40,5 +49,30 @@ impl<T: Drop> From<AllocFailed<T>> for Error {
 
     fn from(_: AllocFailed<T>) -> Error {
         Error::Memory
+    }
+}
+
+impl From<Rejection> for Error {
+    ghost use Rattle.std.specs.Prelude.{◌≡◌};
+    ghost use Rattle.texting_robots.specs.{Error.error_of};
+
+    ghost from_gives = { λ rejection e. e ≡ error_of rejection };
+
+    fn from(rejection: Rejection) -> Error {
+        match rejection {
+            Rejection::Overlong(_) => Error::InvalidRule,
+            Rejection::Memory => Error::Memory,
+        }
+    }
+}
+
+impl From<AllocError> for Rejection {
+    ghost use Rattle.std.specs.Prelude.{◌≡◌};
+    ghost use Rattle.texting_robots.specs.declared.error.Rejection.TheVariants.{Memory};
+
+    ghost from_gives = { λ _ rejection. rejection ≡ Memory };
+
+    fn from(_: AllocError) -> Rejection {
+        Rejection::Memory
     }
 }

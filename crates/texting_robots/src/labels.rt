@@ -1,16 +1,13 @@
 //! The lines of a file with their membership in a crawler's group, for programs that show a site owner what
 //! each line does. A group line is an Allow, a Disallow or a Crawl-delay.
-ghost use Rattle.std.specs.Prelude.{◌≡◌, ◌≤◌, IfOk, IsOk, MatchOption, length};
+ghost use Rattle.std.specs.Prelude.{◌≡◌, ◌≤◌, length};
 ghost use Rattle.std.specs.Iterator.{YieldsFirstBy, item_count};
-ghost use Rattle.texting_robots.specs.{Group.group_name, Line.HasLines, Line.by_value, Executable.file_lines};
-ghost use Rattle.texting_robots.specs.{Executable.placed_rules, Internal.Group.membership_by};
+ghost use Rattle.texting_robots.specs.{Group.group_name, Line.by_value, Internal.Group.membership_by};
+ghost use Rattle.texting_robots.specs.Executable.{file_bodies, file_lines};
 ghost use Rattle.texting_robots.specs.Labels.{is_named, label_by_value, labels_of};
-ghost use Rattle.texting_robots.specs.Rules.{HasNoRulesOrSitemaps, IsFirstOverlong, IsRejected};
 
 use crate::groups::{GroupTracker, group_for};
-use crate::parser::{LazyLines, Line, lazy_file_lines};
-use crate::reading::{Rejection, read_file};
-use std::alloc::{AllocError, Global};
+use crate::parser::{BodyIter, LazyLine, LazyLines, Line, file_bodies, lazy_file_lines};
 use std::marker::Model;
 
 /// Whether a line belongs to a crawler's group.
@@ -26,20 +23,22 @@ pub enum Membership {
     Ungrouped,
 }
 
-/// A line of a file with its number and its membership.
+/// A line of a file with its number, its membership and its content.
 #[derive(Clone, Copy, PartialEq, Eq, Debug)]
 pub struct LabeledLine<'a> {
     /// Counted from 1 among all lines of the file, as in `Decision`.
     pub number: usize,
     pub membership: Membership,
     pub line: Line<'a>,
+    /// The whole content of the line, including its field name and its comment.
+    pub body: &'a [u8],
 }
 
 /// An iterator over the labeled lines of a file. It doesn't allocate.
 #[derive(Drop)]
 pub struct LabeledLineIter<'n, 'a> {
     name: &'n [u8],
-    lines: LazyLines<'a>,
+    bodies: BodyIter<'a>,
     position: usize,
     tracker: GroupTracker,
     /// Whether a user-agent line was returned.
@@ -49,17 +48,18 @@ pub struct LabeledLineIter<'n, 'a> {
 }
 
 impl<'n, 'a> Model for LabeledLineIter<'n, 'a> {
-    ghost use Rattle.std.specs.Prelude.{◌≡◌, ◌+◌, ◌<◌, ◌^◌, List, length};
+    ghost use Rattle.std.specs.Prelude.{◌≡◌, ◌+◌, ◌<◌, ◌^◌, List, length, map};
     ghost use Rattle.std.specs.{Option.IfSome, Str.str_to_ascii_lowercase};
-    ghost use Rattle.texting_robots.specs.{Labels.Label};
+    ghost use Rattle.texting_robots.specs.{Labels.Label, Internal.Line.line_of};
     ghost use Rattle.texting_robots.specs.Internal.Group.{captured_ahead, labels_from};
 
     ghost Value = { List Label };
 
-    ghost view = { λ s. labels_from (str_to_ascii_lowercase s.name.now) s.tracker s.begun s.position s.lines };
+    ghost view = { λ s. labels_from (str_to_ascii_lowercase s.name.now) s.tracker s.begun s.position s.bodies };
 
-    ghost invariant = { λ s. (s.position + length s.lines < 2 ^ 64)
-        × IfSome s.ahead (λ known. captured_ahead (str_to_ascii_lowercase s.name.now) s.tracker s.lines ≡ known) };
+    ghost invariant = { λ s. (s.position + length s.bodies < 2 ^ 64)
+        × IfSome s.ahead (λ known. captured_ahead (str_to_ascii_lowercase s.name.now) s.tracker (map line_of s.bodies)
+        ≡ known) };
 }
 
 fn membership_of(captured: bool, begun: bool, line: Line<'_>) -> Membership
@@ -85,9 +85,10 @@ impl<'n, 'a> Iterator for LabeledLineIter<'n, 'a> {
     fn next(&mut self) -> Option<LabeledLine<'a>> {
         let captured = match self.ahead {
             Some(known) => known,
-            None => self.tracker.ahead(self.name, self.lines.again()),
+            None => self.tracker.ahead(self.name, LazyLines::of(&self.bodies)),
         };
-        let line = self.lines.next()?.read();
+        let body = self.bodies.next()?;
+        let line = LazyLine::new(body).read();
         self.position += 1;
         self.tracker.step(self.name, line);
         self.begun = self.begun || matches!(line, Line::UserAgent(_));
@@ -96,6 +97,7 @@ impl<'n, 'a> Iterator for LabeledLineIter<'n, 'a> {
             number: self.position,
             membership: membership_of(captured, self.begun, line),
             line,
+            body,
         })
     }
 }
@@ -106,13 +108,13 @@ impl<'n, 'a> Iterator for LabeledLineIter<'n, 'a> {
 /// All bytes are read, while a robot reads the first [`FILE_LIMIT`](crate::robot::FILE_LIMIT). To compare these lines
 /// with the rules or decisions of a robot, pass the same first bytes of the file.
 pub fn labeled_lines<'n, 'a>(agent: &'n str, txt: &'a [u8]) -> LabeledLineIter<'n, 'a>
-    ensures labels { result ≡ labels_of (group_name agent.now (file_lines txt.now)) (file_lines txt.now) }
+    ensures labels { result ≡ labels_of (group_name agent.now (file_lines txt.now)) (file_bodies txt.now) }
     ensures count { length result ≤ length txt.now }
 {
     let group = group_for(agent.as_bytes(), lazy_file_lines(txt));
     LabeledLineIter {
         name: group.name,
-        lines: lazy_file_lines(txt),
+        bodies: file_bodies(txt),
         position: 0,
         tracker: group.start,
         begun: false,
@@ -126,22 +128,4 @@ pub fn is_named(agent: &str, txt: &[u8]) -> bool
     ensures { result ≡ is_named agent.now (file_lines txt.now) }
 {
     group_for(agent.as_bytes(), lazy_file_lines(txt)).is_named
-}
-
-/// The number of the first line with a rule that is too long for this crawler, because of which `Robot::new`
-/// rejects the file. All bytes are read, as by [`labeled_lines`].
-pub fn first_overlong_line(
-    alloc: Global,
-    agent: &str,
-    txt: &[u8],
-) -> Result<Option<usize>, AllocError>
-    ensures line { IfOk result (λ line. MatchOption line (¬ IsRejected agent.now (file_lines txt.now))
-        (IsFirstOverlong (placed_rules agent.now (file_lines txt.now)))) }
-    ensures without_memory { HasLines txt.now (HasNoRulesOrSitemaps agent.now) → IsOk result }
-{
-    match read_file(alloc, agent, txt) {
-        Ok(_) => Ok(None),
-        Err(Rejection::Overlong(line)) => Ok(Some(line)),
-        Err(Rejection::Memory) => Err(AllocError),
-    }
 }

@@ -4,7 +4,7 @@ ghost use Rattle.std.specs.Prelude.{◌≡◌, ◌≢◌, ◌<◌, ◌↔◌, �
 ghost use Rattle.std.specs.Prelude.{Any, ◌+◌, Option, Some, None, IsTrue, IsPermutation, Contains};
 ghost use Rattle.std.specs.Prelude.{filter, length, slice_get};
 ghost use Rattle.std.specs.declared.cmp.Ordering.TheVariants.{Less, Equal};
-ghost use Rattle.std.specs.{List.filter_map, List.list_any, Str.str_to_ascii_lowercase};
+ghost use Rattle.std.specs.{List.AllZip, List.filter_map, List.list_any, Str.str_to_ascii_lowercase};
 ghost use Rattle.texting_robots.specs.{declared.parser.statement.Kind.Kind, Decision.IsDecidingRule};
 ghost use Rattle.texting_robots.specs.{Decision.IsDecidingLine, Statement.IsStatement, Verdict.robots_file};
 ghost use Rattle.texting_robots.specs.{Delay.IsDelay, Groups.lines_for, Order.pattern_cmp, Verdict.IsVerdict};
@@ -12,8 +12,8 @@ ghost use Rattle.texting_robots.specs.{Cut.IsCut, Cut.Pair, Groups.groups, Order
 ghost use Rattle.texting_robots.specs.Group.{IsCaptured, group_name, is_agent, is_group};
 ghost use Rattle.texting_robots.specs.Laws.{IsSameKind, Same, SameButSitemaps, crlf_to_lf};
 ghost use Rattle.texting_robots.specs.Line.{AreFileLinesOf, AreLinesOf, HoldRangesOf, LineValue, delay_in};
-ghost use Rattle.texting_robots.specs.Line.{is_raw, is_sitemap};
-ghost use Rattle.texting_robots.specs.Labels.{AreLabelsOf, Label, labels_of};
+ghost use Rattle.texting_robots.specs.Line.{IsLineOf, is_raw, is_sitemap};
+ghost use Rattle.texting_robots.specs.Labels.{AreLabelsOf, Label, bodies_in, labels_of};
 ghost use Rattle.texting_robots.specs.Executable.{captured_delays, delay_for, file_lines, parsed, placed_in};
 ghost use Rattle.texting_robots.specs.Executable.{placed_rules, cut, delay_of, is_captured, rules_for};
 ghost use Rattle.texting_robots.specs.Executable.{sitemaps_in};
@@ -136,10 +136,11 @@ pub fn captured_agrees()
         → IsTrue (is_captured name lines i) ↔ IsCaptured name lines i }
 {}
 
-/// Each line has exactly one label, which `labels_of` computes.
+/// Each line has exactly one label, which `labels_of` computes from the lines' contents.
 pub fn each_line_has_its_label()
-    ensures { (name : List ℕ) (lines : List LineValue) (labels : List Label)
-        → AreLabelsOf name lines labels ↔ labels ≡ labels_of name lines }
+    ensures { (name : List ℕ) (lines : List LineValue) (bodies : List (List ℕ)) (labels : List Label)
+        → AllZip IsLineOf lines bodies
+        → (AreLabelsOf name lines labels × (bodies_in labels ≡ bodies)) ↔ (labels ≡ labels_of name bodies) }
 {}
 
 /// The comparison of patterns by `cmp` and `partial_cmp` agrees with `IsBefore` and with equality.

@@ -53,7 +53,7 @@ pub mod site;
 pub mod view;
 
 pub use address::{get_robots_url, robots_url_of};
-pub use error::{Error, TooCostly};
+pub use error::{Error, Rejection, TooCostly};
 pub use escape::push_escaped_bytes;
 pub use one_agent::allowed_in_file;
 pub use robot::{Decision, Robot};

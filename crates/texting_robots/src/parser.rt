@@ -231,10 +231,10 @@ impl<'a> LazyLines<'a> {
         false
     }
 
-    pub(crate) fn again(&self) -> Self
-        ensures { result ≡ self.now }
+    /// The lines with the contents that are left.
+    pub(crate) fn of(bodies: &BodyIter<'a>) -> Self
+        ensures { result ≡ map line_of bodies.now }
     {
-        let bodies = &self.bodies;
         LazyLines {
             bodies: BodyIter {
                 rest: bodies.rest,

@@ -1,6 +1,6 @@
 //! The prefilter: conditions on a text without which a pattern can't match it. Most rules are skipped by them.
 ghost use Rattle.std.specs.Prelude.{◌≡◌, ◌+◌, ◌≤◌, length, max, true};
-ghost use Rattle.texting_robots.specs.Internal.Segments.{AreApart, ArePrefilter, end_pairs, ending_pairs, IsEnding};
+ghost use Rattle.texting_robots.specs.Internal.Segments.{AreApart, ArePrefilter, AreWithin, ending_pairs, IsEnding, pair_set};
 
 pub(crate) mod bigrams;
 pub(crate) mod head;
@@ -34,7 +34,7 @@ impl Prefilter {
 
 /// Of a long segment only both ends count, as more bytes would rarely add a bigram that isn't in the set yet.
 fn end_pairs(segment: &[u8]) -> BigramSet
-    ensures { result.bits ≡ end_pairs segment.now }
+    ensures { AreWithin result.bits (pair_set segment.now) }
 {
     let len = segment.len();
     if len > 64 {

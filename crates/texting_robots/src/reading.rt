@@ -8,7 +8,7 @@ ghost use Rattle.texting_robots.specs.{Error.IsMemoryErrorOr, Escape.is_escaped,
 ghost use Rattle.texting_robots.specs.{Executable.file_lines, Line.delay_in};
 ghost use Rattle.texting_robots.specs.Executable.{placed_rules, rule_in, rule_with, sitemap_in, sitemaps_in};
 ghost use Rattle.texting_robots.specs.Internal.Group.{if_captured, placed, step, text_from};
-ghost use Rattle.texting_robots.specs.Internal.Robot.{IsComputedRobot, IsRejectionOf, rejection_at};
+ghost use Rattle.texting_robots.specs.{Internal.Robot.IsComputedRobot, Robot.IsFileRejected};
 
 use crate::error::Error;
 use crate::escape::holds_escaped;
@@ -33,23 +33,6 @@ impl Model for Parts {
     ghost Value = { RobotValue };
 
     ghost view = { λ p. record { delay = p.delay; sitemaps = map string_bytes p.sitemaps.items; rules = p.rules } };
-}
-
-/// Why there is no robot for a file.
-#[derive(Drop)]
-pub(crate) enum Rejection {
-    /// The crawler's first rule that is too long is in the line with this number.
-    Overlong(usize),
-    Memory,
-}
-
-fn rejection_at(number: usize, error: Error) -> Rejection
-    ensures { result ≡ rejection_at number error }
-{
-    match error {
-        Error::InvalidRule => Rejection::Overlong(number),
-        Error::InvalidRobots | Error::Memory => Rejection::Memory,
-    }
 }
 
 #[derive(Drop)]
@@ -191,18 +174,17 @@ impl RobotBuilder {
 }
 
 /// Reads a whole file in two passes. The first finds the crawler's group name, the second what applies to it.
-pub(crate) fn read_file(alloc: Global, agent: &str, txt: &[u8]) -> Result<Parts, Rejection>
+pub(crate) fn read_file(alloc: Global, agent: &str, txt: &[u8]) -> Result<Parts, Error>
     ensures robot { IfOk result (IsComputedRobot agent.now (file_lines txt.now)) }
-    ensures rejected { IfErr result (IsRejectionOf (placed_rules agent.now (file_lines txt.now))) }
+    ensures rejected { IfErr result (IsMemoryErrorOr (IsFileRejected agent.now txt.now)) }
     ensures without_memory { placed_rules agent.now (file_lines txt.now) ≡ []
         → sitemaps_in (file_lines txt.now) ≡ [] → IsOk result }
 {
     let group = group_for(agent.as_bytes(), lazy_file_lines(txt));
     let mut reading = RobotBuilder::new(alloc, group.start);
     for (position, line) in lazy_file_lines(txt).enumerate() {
-        let number = position + 1;
-        if let Err(error) = reading.take(alloc, group.name, number, &line) {
-            return Err(rejection_at(number, error));
+        if let Err(error) = reading.take(alloc, group.name, position + 1, &line) {
+            return Err(error);
         }
     }
     Ok(Parts {

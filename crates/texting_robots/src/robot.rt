@@ -11,7 +11,7 @@ ghost use Rattle.texting_robots.specs.Rules.{HasNoRulesOrSitemaps, unplaced};
 pub use crate::decision::Decision;
 use crate::error::{Error, TooCostly};
 use crate::prepared::{prepare, target};
-use crate::reading::{Rejection, read_file};
+use crate::reading::read_file;
 use crate::rules::Rules;
 use crate::view::View;
 use std::alloc::Global;
@@ -79,8 +79,7 @@ impl Robot {
                 sitemaps: parts.sitemaps,
                 rules: parts.rules,
             }),
-            Err(Rejection::Overlong(_)) => Err(Error::InvalidRule),
-            Err(Rejection::Memory) => Err(Error::Memory),
+            Err(error) => Err(error),
         }
     }
 
@@ -116,9 +115,10 @@ impl Robot {
     }
 
     /// Whether the crawler may fetch a URL, or a path alone. Any other string is matched as described at
-    /// [`Robot::prepare_url`]. The call doesn't allocate for a path of which nothing is escaped. Nor does it
-    /// for an absolute `http` or `https` URL that has a host name and no user, and that `url` would leave
-    /// unchanged, or to which it would only add a missing slash at the end.
+    /// [`Robot::prepare_url`]. The call doesn't allocate for a path of which nothing is escaped. Nor does it for
+    /// an absolute `http` or `https` URL with a host name, the last label of which begins with a letter, and
+    /// without a user, that `url` would leave unchanged, or to which it would only add a missing slash at the
+    /// end.
     ///
     /// # Errors
     ///

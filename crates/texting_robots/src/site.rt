@@ -1,16 +1,16 @@
 //! A site.
-ghost use Rattle.std.specs.Prelude.{◌≡◌, ◌≤◌, ◌++◌, [], All, Any, IfErr, IfOk, IsOk, None, OnOk, length, map};
+ghost use Rattle.std.specs.Prelude.{◌≡◌, ◌≤◌, ◌++◌, [], All, IfErr, IfOk, IsOk, None, OnOk, length, map};
 ghost use Rattle.std.specs.Prelude.{slice_get, string_bytes, take};
 ghost use Rattle.std.specs.List.{filter_map, list_any};
 ghost use Rattle.std.specs.{Option.option_to_list, Str.str_to_ascii_lowercase};
-ghost use Rattle.texting_robots.specs.{Agents.agents_in, Error.IsMemoryErrorOr, Line.HasLines, Line.by_value};
-ghost use Rattle.texting_robots.specs.{Labels.is_named, Pattern.IsOverlong, Robot.IsFileRejected};
+ghost use Rattle.texting_robots.specs.{Agents.agents_in, Line.HasLines, Line.by_value};
+ghost use Rattle.texting_robots.specs.{Labels.is_named, Pattern.IsOverlong};
 ghost use Rattle.texting_robots.specs.{Robot.IsRobotOfFile, Robot.IsRobotWithoutSitemaps, Robot.file_limit};
 ghost use Rattle.texting_robots.specs.Executable.{captured_delays, file_lines, placed_rules, sitemap_in};
-ghost use Rattle.texting_robots.specs.Executable.{sitemaps_in};
+ghost use Rattle.texting_robots.specs.Executable.{IsRejectionOf, sitemaps_in};
 ghost use Rattle.texting_robots.specs.Group.{group_name, is_agent};
 ghost use Rattle.texting_robots.specs.Rules.{AreRulesFor, AreSitemapsOf, HasNoRulesOrSitemaps, IsDelayFor};
-ghost use Rattle.texting_robots.specs.Internal.{Segments.AreEntries, Segments.rules_in, Group.text_from};
+ghost use Rattle.texting_robots.specs.Internal.{Segments.AreEntries, Segments.rules_in, Group.text_from, Site.rejection_at};
 ghost use Rattle.texting_robots.specs.OwnLines.{delay_of, rule_of};
 
 mod lines;
@@ -18,7 +18,7 @@ mod names;
 mod own;
 mod rules;
 
-use crate::error::Error;
+use crate::error::{Error, Rejection};
 use crate::escape::holds_escaped;
 use crate::parser::Line;
 use crate::reading::{as_text, push_text};
@@ -85,6 +85,15 @@ fn push_sitemap(alloc: Global, sitemaps: &mut Vec<String>, line: Line<'_>) -> Re
     match line {
         Line::Sitemap(value) => push_text(alloc, sitemaps, value),
         _ => Ok(()),
+    }
+}
+
+fn rejection_at(line: usize, error: Error) -> Rejection
+    ensures { result ≡ rejection_at line error }
+{
+    match error {
+        Error::InvalidRule => Rejection::Overlong(line),
+        Error::InvalidRobots | Error::Memory => Rejection::Memory,
     }
 }
 
@@ -192,12 +201,11 @@ impl Site {
         }
     }
 
-    fn own_rules(&self, alloc: Global, agent: &str) -> Result<Unsorted, Error>
+    fn own_rules(&self, alloc: Global, agent: &str) -> Result<Unsorted, Rejection>
         ensures known { IfOk result AreEntries }
         ensures rules { IfOk result (λ own. rules_in own ≡ placed_rules agent.now (file_lines self.now)) }
         ensures accepted { IfOk result (λ own. All (λ placed. ¬ IsOverlong placed.rule.0) (rules_in own)) }
-        ensures rejected { IfErr result (IsMemoryErrorOr (Any (λ placed. IsOverlong placed.rule.0)
-            (placed_rules agent.now (file_lines self.now)))) }
+        ensures rejected { IfErr result (IsRejectionOf agent.now self.now) }
         ensures without_memory { placed_rules agent.now (file_lines self.now) ≡ [] → IsOk result }
     {
         let mut own = Unsorted::new(alloc);
@@ -208,17 +216,17 @@ impl Site {
                 rule.is_allow,
                 rule.line,
             ) {
-                return Err(error);
+                return Err(rejection_at(rule.line, error));
             }
         }
         Ok(own)
     }
 
-    /// The robot of [`Robot::new`] for the crawler with the product token `agent`, with its errors, but
-    /// without sitemaps. Only group lines that apply to this crawler are parsed. Only rules are allocated.
-    pub fn robot_without_sitemaps(&self, alloc: Global, agent: &str) -> Result<Robot, Error>
+    /// The robot of [`Robot::new`] for the crawler with the product token `agent`, but without sitemaps, or the
+    /// reason why there is none. Only group lines that apply to this crawler are parsed. Only rules are allocated.
+    pub fn robot_without_sitemaps(&self, alloc: Global, agent: &str) -> Result<Robot, Rejection>
         ensures robot { IfOk result (IsRobotWithoutSitemaps agent.now self.now) }
-        ensures rejected { IfErr result (IsMemoryErrorOr (IsFileRejected agent.now self.now)) }
+        ensures rejected { IfErr result (IsRejectionOf agent.now self.now) }
         ensures without_memory { HasLines self.now (λ lines. AreRulesFor agent.now lines []) → IsOk result }
     {
         let rules = match self.own_rules(alloc, agent) {
@@ -232,10 +240,10 @@ impl Site {
         })
     }
 
-    /// The robot of [`Robot::new`] for the crawler with the product token `agent`, with its errors.
-    pub fn robot(&self, alloc: Global, agent: &str) -> Result<Robot, Error>
+    /// The robot of [`Robot::new`] for the crawler with the product token `agent`, or the reason why there is none.
+    pub fn robot(&self, alloc: Global, agent: &str) -> Result<Robot, Rejection>
         ensures robot { IfOk result (IsRobotOfFile agent.now self.now) }
-        ensures rejected { IfErr result (IsMemoryErrorOr (IsFileRejected agent.now self.now)) }
+        ensures rejected { IfErr result (IsRejectionOf agent.now self.now) }
         ensures without_memory { HasLines self.now (HasNoRulesOrSitemaps agent.now) → IsOk result }
     {
         let robot = match self.robot_without_sitemaps(alloc, agent) {
@@ -244,7 +252,7 @@ impl Site {
         };
         match self.all_sitemaps(alloc) {
             Ok(sitemaps) => Ok(Robot { sitemaps, ..robot }),
-            Err(AllocError) => Err(Error::Memory),
+            Err(AllocError) => Err(Rejection::Memory),
         }
     }
 

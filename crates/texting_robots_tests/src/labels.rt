@@ -2,7 +2,7 @@
 use crate::helpers::{check, check_equal};
 use std::process::Abort;
 use texting_robots::labels::{Membership, is_named, labeled_lines};
-use texting_robots::parser::file_lines;
+use texting_robots::parser::{file_bodies, file_lines};
 
 /// A rule before the first user-agent line, a group of two crawlers, and a group of another one.
 const FILE: &[u8] =
@@ -105,6 +105,7 @@ const ENDS: &[MaskCase] = &[
 fn check_labels(rt: &impl Abort, agent: &str, file: &[u8], masks: &[u8]) {
     check_equal(rt, agent, &file_lines(file).count(), &masks.len());
     let mut labeled = labeled_lines(agent, file);
+    let mut bodies = file_bodies(file);
     for (position, (line, mask)) in file_lines(file).zip(masks).enumerate() {
         let found = labeled.next().expect(rt, agent);
         check_equal(
@@ -113,6 +114,8 @@ fn check_labels(rt: &impl Abort, agent: &str, file: &[u8], masks: &[u8]) {
             &(found.number, found.line),
             &(position + 1, line),
         );
+        let body = bodies.next().expect(rt, agent);
+        check_equal(rt, agent, &found.body, &body);
         let membership = match *mask {
             b'+' => Membership::Own,
             b'-' => Membership::Other,

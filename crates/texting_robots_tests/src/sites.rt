@@ -1,8 +1,7 @@
 //! A file that is read once for all crawlers, and what it means for each crawler.
 use crate::helpers::{Verdicts, check, check_equal, check_sitemaps, check_url, long_text, shown};
 use std::process::Abort;
-use texting_robots::labels::first_overlong_line;
-use texting_robots::{Error, Robot, Site};
+use texting_robots::{Error, Rejection, Robot, Site};
 
 /// A file that is read up to a limit, the crawlers that it names, its sitemaps, and what it means for some crawlers.
 struct SiteCase {
@@ -194,6 +193,13 @@ const OVERLONG: &[(&str, Option<usize>, Option<u64>)] = &[
     ("B", None, None),
 ];
 
+fn rejecting_line(answer: Result<Robot, Rejection>) -> Option<usize> {
+    match answer {
+        Err(Rejection::Overlong(line)) => Some(line),
+        _ => None,
+    }
+}
+
 /// A rule that is too long is an error only for the crawler that it applies to, and only when its robot is made. That of
 /// line 4 has 4,096 bytes with the slash, and then `$`.
 #[test]
@@ -206,13 +212,13 @@ fn a_rule_that_is_too_long_is_its_own_crawlers(rt: HostRuntime) {
     let file = long_text(&rt, "file", &parts);
     let site = Site::new(rt.alloc(), file.as_bytes()).expect(&rt, "site");
     for (agent, want, delay) in OVERLONG {
-        let line = first_overlong_line(rt.alloc(), agent, file.as_bytes()).expect(&rt, agent);
-        check_equal(&rt, agent, &line, want);
         check_equal(&rt, agent, &site.delay(agent), delay);
-        let is_error = matches!(site.robot(rt.alloc(), agent), Err(Error::InvalidRule));
-        check_equal(&rt, agent, &is_error, &want.is_some());
-        let lean = site.robot_without_sitemaps(rt.alloc(), agent);
-        let is_error = matches!(lean, Err(Error::InvalidRule));
+        let line = rejecting_line(site.robot(rt.alloc(), agent));
+        check_equal(&rt, agent, &line, want);
+        let line = rejecting_line(site.robot_without_sitemaps(rt.alloc(), agent));
+        check_equal(&rt, agent, &line, want);
+        let answer = Robot::new(rt.alloc(), agent, file.as_bytes());
+        let is_error = matches!(answer, Err(Error::InvalidRule));
         check_equal(&rt, agent, &is_error, &want.is_some());
     }
     let robot = site.robot(rt.alloc(), "B").expect(&rt, "robot");

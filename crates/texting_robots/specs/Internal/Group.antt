@@ -1,9 +1,9 @@
 -- The state that the code updates line by line (`GroupTracker`), and what it finds in the lines.
 use Rattle.std.specs.Prelude.{ℕ, ◌+◌, Bool, false, not, ◌&&◌, ◌||◌, List, [], ◌∷◌, Option, Some, None}
-use Rattle.std.specs.Prelude.{if◌then◌else◌}
+use Rattle.std.specs.Prelude.{if◌then◌else◌, map}
 use Rattle.std.specs.{List.cons_option, List.list_any, Str.is_utf8}
 use Rattle.texting_robots.specs.{declared.groups.GroupTracker.GroupTracker, Group.is_agent, Group.is_group}
-use Rattle.texting_robots.specs.{Group.is_agent_named, Line.LineValue, declared.labels.Membership.Membership}
+use Rattle.texting_robots.specs.{Group.is_agent_named, Internal.Line.line_of, Line.LineValue, declared.labels.Membership.Membership}
 use Rattle.texting_robots.specs.{Labels.Label, Labels.is_own, Executable.rule_in, Rules.PlacedRule}
 use Rattle.texting_robots.specs.declared.labels.Membership.TheVariants.{Own, Other, Ungrouped}
 pub use Rattle.texting_robots.specs.Rules.{placed}
@@ -43,14 +43,15 @@ membership_by captured begun line =
     if not (is_agent line || is_group line) then Ungrouped
     else if captured then Own else if begun then Other else Ungrouped
 
--- the labels of the lines that are left; `before`: a user-agent line is above them
-abbrev pub labels_from : List ℕ → GroupTracker → Bool → ℕ → List LineValue → List Label
+-- the labels of the lines with the contents that are left; `before`: a user-agent line is above them
+abbrev pub labels_from : List ℕ → GroupTracker → Bool → ℕ → List (List ℕ) → List Label
 labels_from name tracker before position [] = []
-labels_from name tracker before position (line ∷ lines) =
+labels_from name tracker before position (body ∷ bodies) =
+    let line = line_of body in
     let begun = before || is_agent line in
-    let membership = membership_by (captured_ahead name tracker (line ∷ lines)) begun line in
-    record { number = position + 1; membership = membership; line = line }
-    ∷ labels_from name (step name tracker line) begun (position + 1) lines
+    let membership = membership_by (captured_ahead name tracker (line ∷ map line_of bodies)) begun line in
+    record { number = position + 1; membership = membership; line = line; body = body }
+    ∷ labels_from name (step name tracker line) begun (position + 1) bodies
 
 -- the rule in a labeled line of the crawler's own group
 abbrev pub own_rule_at : Label → Option PlacedRule

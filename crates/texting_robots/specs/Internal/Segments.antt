@@ -2,7 +2,7 @@
 use Rattle.std.specs.Prelude.{◌≡◌, ◌+◌, ◌*◌, ◌≤◌, ℕ, List, length, ◌≢◌, Option, Some, None, All, [], ◌∷◌, ◌-◌}
 use Rattle.std.specs.Prelude.{◌++◌, ◌<◌, slice_index, ◌↔◌, ◌==◌, true, false, drop, slice_range, take, ◌%◌}
 use Rattle.std.specs.Prelude.{◌^◌, IfSome, bit_and, bit_or, min, Bool, EachIndex, map, slice_index_or}
-use Rattle.std.specs.Prelude.{string_bytes, if◌then◌else◌, nat_lt}
+use Rattle.std.specs.Prelude.{string_bytes, if◌then◌else◌}
 use Rattle.texting_robots.specs.{View.ViewValue, declared.prefilter.Prefilter.Prefilter, Rules.PlacedRule}
 use Rattle.std.specs.{Borrow.Bor, List.position_or_len, List.prefix_len, Int.w64, Int.from_le_bytes}
 use Rattle.texting_robots.specs.Pattern.{IsSuffix, star, dollar, Matches}
@@ -209,13 +209,6 @@ AreWithin few many = bit_or few many ≡ many
 -- the bigrams are those of the text, if they are known
 abbrev pub ArePairsOf : List ℕ → Option BigramSet → Type 0
 ArePairsOf text pairs = IfSome pairs (λ known. known.bits ≡ pair_set text)
-
--- some bigrams of a segment: of a long one those of its first and its last 32 bytes
-abbrev pub end_pairs : List ℕ → ℕ
-end_pairs segment =
-    if nat_lt 64 (length segment)
-    then bit_or (pair_set (take 32 segment)) (pair_set (drop (length segment - 32) segment))
-    else pair_set segment
 
 -- the bigrams of the bytes that a text has to end with
 abbrev pub ending_pairs : List ℕ → Ending → ℕ

@@ -4,7 +4,8 @@ use Rattle.texting_robots.specs.Executable.{delay_before_agents, file_lines, pla
 use Rattle.texting_robots.specs.{Group.group_name, Line.delay_in, Pattern.IsOverlong}
 use Rattle.texting_robots.{specs.Rules.PlacedRule, specs.Rules.Rule, proofs.CapturedLemmas.captured_walked}
 use Rattle.texting_robots.proofs.RulesLemmas.{all_added, first_more, given_more, given_none, none_unplaced}
-use Rattle.texting_robots.proofs.RulesLemmas.{option_or_none, rejected_at}
+use Rattle.texting_robots.proofs.RulesLemmas.{first_overlong, option_or_none, rejected_wider}
+use Rattle.texting_robots.proofs.MainTheoremLemmas.{rejected_of}
 use Rattle.texting_robots.proofs.reading.read_file.Goals as goal
 
 pub loop-position-preserved : goal.loop-position-preserved
@@ -52,9 +53,9 @@ pub returns-in-Err-clause-rejected : goal.returns-in-Err-clause-rejected
 returns-in-Err-clause-rejected c =
     let (next, here, _, _) = c.in-Some.ensures.steps in
     let so_far = c.loop-position.invariant in
-    rw (c.rejection_at.ensures, here)
-    (rejected_at _ c.loop-position.reading.tracker.captured (rule_in c.in-Some.line) _ _ _ c.in-Err.error
-    (rw next at so_far.rules) so_far.accepted (rw here at c.in-Err.ensures.rejected))
+    rejected_wider _ _ c.in-Err.error (λ is. rejected_of c.args.agent.now c.args.txt.now _ (first_overlong _
+    c.loop-position.reading.tracker.captured (rule_in c.in-Some.line) _ _ _ (rw next at so_far.rules)
+    so_far.accepted is)) (rw here at c.in-Err.ensures.rejected)
 
 -- a line that fails gives a rule or a sitemap, so no line fails if the file gives neither
 pub returns-in-Err-clause-without_memory : goal.returns-in-Err-clause-without_memory

@@ -1,15 +1,20 @@
-use Rattle.std.proofs.{Common.◌≡◌, lemmas.List.drop_all, lemmas.List.drop_more}
-use Rattle.texting_robots.specs.Internal.{Segments.no_segment}
-use Rattle.texting_robots.proofs.FirstLemmas.{are_prefilter, or_assoc, segment_pairs}
+use Rattle.std.proofs.Common.{refl}
+use Rattle.std.specs.Int.{Bits.or_self, Bits.or_zero_l}
+use Rattle.std.proofs.lemmas.List.{drop_all, drop_more}
+use Rattle.texting_robots.specs.Internal.Segments.{AreWithin, no_segment}
+use Rattle.texting_robots.proofs.FirstLemmas.{are_prefilter, segment_pairs, within_moved}
 use Rattle.texting_robots.proofs.prefilter.Prefilter.of.Goals as goal
+
+pub loop-segment-init : goal.loop-segment-init
+loop-segment-init c = simp (c.none-pairs.ensures, or_zero_l, or_self)
 
 pub loop-segment-preserved : goal.loop-segment-preserved
 loop-segment-preserved c =
     let next =
     drop_more c.pattern.inside.segments.now c.loop-segment.segment-index no_segment
     c.loop-segment-test.true in
-    rw (c.and-pairs.ensures, c.end_pairs.ensures, c.part.ensures, or_assoc)
-    (rw next at c.loop-segment.invariant)
+    rw c.and-pairs.ensures (within_moved c.loop-segment.pairs.bits _ _ _ _ (rw c.part.ensures at c.end_pairs.ensures)
+    (rw next at c.loop-segment.invariant))
 
 pub returns : goal.returns
 returns c =
@@ -17,6 +22,6 @@ returns c =
     let segments = c.pattern.inside.segments.now in
     let ending = c.pattern.inside.ends.ending in
     let none = drop_all c.loop-segment.segment-index segments c.loop-segment-test.false in
-    let all : c.and.result.bits ≡ segment_pairs pattern ending segments =
+    let all : AreWithin c.and.result.bits (segment_pairs pattern ending segments) =
     rw (c.and.ensures, c.ending_pairs.ensures) (rw none at c.loop-segment.invariant) in
     rw (← c.pattern.view_is) (are_prefilter _ c.pattern.invariant c.of-head.ensures all)

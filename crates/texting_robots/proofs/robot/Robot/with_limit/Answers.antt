@@ -1,6 +1,6 @@
 use Rattle.std.proofs.Common.{◌≡◌, ℕ, List, ap, length, min, take, ◌∙◌}
 use Rattle.std.proofs.lemmas.List.{take_min}
-use Rattle.texting_robots.proofs.MainTheoremLemmas.{nothing_of, rejected_of, robot_of}
+use Rattle.texting_robots.proofs.MainTheoremLemmas.{nothing_of, robot_of}
 use Rattle.texting_robots.proofs.robot.Robot.with_limit.Goals as goal
 
 read : (limit n : ℕ) (txt : List ℕ) → n ≡ min limit (length txt) → take n txt ≡ take limit txt
@@ -10,17 +10,10 @@ pub returns-in-Ok-clause-robot : goal.returns-in-Ok-clause-robot
 returns-in-Ok-clause-robot c =
     robot_of _ _ _ (rw (read _ _ _ c.min.ensures, ← c.parts.view_is) at c.in-Ok.ensures.robot)
 
-pub returns-in-Err-Overlong-clause-rejected : goal.returns-in-Err-Overlong-clause-rejected
-returns-in-Err-Overlong-clause-rejected c =
-    rejected_of _ _ c.in-Err-Overlong.field-0-0
-    (rw (read _ _ _ c.min.ensures, c.in-Err-Overlong.field-0-is) at c.in-Err-Overlong.ensures.rejected)
+pub returns-in-Err-clause-rejected : goal.returns-in-Err-clause-rejected
+returns-in-Err-clause-rejected c = rw (read _ _ _ c.min.ensures) at c.in-Err.ensures.rejected
 
-pub returns-in-Err-Overlong-clause-without_memory : goal.returns-in-Err-Overlong-clause-without_memory
-returns-in-Err-Overlong-clause-without_memory c = λ nothing.
+pub returns-in-Err-clause-without_memory : goal.returns-in-Err-clause-without_memory
+returns-in-Err-clause-without_memory c = λ nothing.
     let (rules, sitemaps) = nothing_of c.args.agent.now _ nothing in
-    (rw (read _ _ _ c.min.ensures) at c.in-Err-Overlong.ensures.without_memory) rules sitemaps
-
-pub returns-in-Err-Memory-clause-without_memory : goal.returns-in-Err-Memory-clause-without_memory
-returns-in-Err-Memory-clause-without_memory c = λ nothing.
-    let (rules, sitemaps) = nothing_of c.args.agent.now _ nothing in
-    (rw (read _ _ _ c.min.ensures) at c.in-Err-Memory.ensures.without_memory) rules sitemaps
+    (rw (read _ _ _ c.min.ensures) at c.in-Err.ensures.without_memory) rules sitemaps

@@ -1,7 +1,7 @@
 use Rattle.std.proofs.{Common.Some, Common.append_assoc, Common.◌∙◌, lemmas.List.Elements.All-push}
 use Rattle.texting_robots.specs.{Pattern.IsOverlong, Rules.PlacedRule}
-use Rattle.texting_robots.proofs.RulesLemmas.{given_none, rejected_wider}
-use Rattle.texting_robots.proofs.{SiteOwnLemmas.any_between}
+use Rattle.texting_robots.proofs.RulesLemmas.{given_none}
+use Rattle.texting_robots.proofs.{SiteOwnLemmas.rejected_at}
 use Rattle.texting_robots.proofs.site.Site.own_rules.Goals as goal
 
 pub loop-rule-preserved : goal.loop-rule-preserved
@@ -19,11 +19,9 @@ loop-rule-preserved c =
 
 pub returns-in-Err-clause-rejected : goal.returns-in-Err-clause-rejected
 returns-in-Err-clause-rejected c =
-    let next = c.in-Some.ensures.steps in
-    rejected_wider _ _ c.in-Err.error
-    (λ is. any_between (λ (placed : PlacedRule). IsOverlong placed.rule.0) _ _ _ _
-    (rw (next, ← c.rule.view_is) at c.loop-rule.invariant.rules) is)
-    c.in-Err.ensures.rejected
+    rw c.rejection_at.ensures (rejected_at _ _ _ _ _ c.in-Err.error
+    (rw (c.in-Some.ensures.steps, ← c.rule.view_is) at c.loop-rule.invariant.rules)
+    c.loop-rule.invariant.accepted c.in-Err.ensures.rejected)
 
 pub returns-in-Err-clause-without_memory : goal.returns-in-Err-clause-without_memory
 returns-in-Err-clause-without_memory c = λ none.

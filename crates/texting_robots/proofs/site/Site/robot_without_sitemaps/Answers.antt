@@ -2,14 +2,8 @@ use Rattle.std.proofs.Common.{List, IsPermutation, refl, rules, subst}
 use Rattle.texting_robots.specs.Executable.{file_lines, sitemaps_in}
 use Rattle.texting_robots.specs.{Pattern.IsOverlong, Rules.PlacedRule, Rules.Rule}
 use Rattle.texting_robots.proofs.MainTheoremLemmas.{no_rules_of, read_delay, robot_of}
-use Rattle.texting_robots.proofs.RulesLemmas.{none_unplaced, rejected_wider}
-use Rattle.texting_robots.proofs.{SiteOwnLemmas.file_rejected}
+use Rattle.texting_robots.proofs.RulesLemmas.{none_unplaced}
 use Rattle.texting_robots.proofs.site.Site.robot_without_sitemaps.Goals as goal
-
-pub returns-in-Err-clause-rejected : goal.returns-in-Err-clause-rejected
-returns-in-Err-clause-rejected c =
-    rejected_wider _ _ c.in-Err.error (file_rejected c.args.agent.now c.args.self.now)
-    c.in-Err.ensures.rejected
 
 pub returns-clause-robot : goal.returns-clause-robot
 returns-clause-robot c =
