@@ -153,7 +153,8 @@ def records_by_warcio(file):
     records = ArchiveIterator(file, no_record_parse=True)
     for record in records:
         fields = {name.lower(): value for name, value in record.rec_headers.headers}
-        yield records.get_record_offset(), fields, content_of(record.raw_stream, fields)
+        content = content_of(record.raw_stream, fields)
+        yield records.get_record_offset(), fields, content  # to count, it reads to the record's end
 
 
 def records_here(file):

@@ -206,6 +206,7 @@ def records_like(module):
             self.stream = gzip.open(file) if file.peek(2).startswith(census.GZIP) else file
 
         def get_record_offset(self):
+            self.content.seek(0, io.SEEK_END)
             return self.place
 
         def __iter__(self):
@@ -214,7 +215,7 @@ def records_like(module):
                 if not version.startswith(b"WARC/"):
                     return
                 fields = {name.title(): value for name, value in census.fields_of(self.stream).items()}
-                content = Limited(self.stream.read(int(fields["Content-Length"])))
+                self.content = content = Limited(self.stream.read(int(fields["Content-Length"])))
                 headers = types.SimpleNamespace(headers=list(fields.items()))
                 yield types.SimpleNamespace(headers=fields, rec_headers=headers, reader=content, raw_stream=content, stream_pos=self.place)
 

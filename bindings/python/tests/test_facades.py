@@ -6,6 +6,7 @@ import datetime
 import gzip
 import http.client
 import pickle
+import sys
 import threading
 import unittest
 import urllib.error
@@ -69,8 +70,9 @@ OTHERWISE = {
 }
 
 
+@pytest.mark.skipif(sys.version_info[:2] != (3, 11), reason="the list is that of Python 3.11")
 def test_the_tests_of_urllib(monkeypatch):
-    """As they are in Python 3.11, without a network."""
+    """Without a network, which one class of them needs."""
     theirs = pytest.importorskip("test.test_robotparser", reason="Python's own tests are missing: apt-get install libpython3-testsuite")
     monkeypatch.setattr(theirs.support, "use_resources", [])
     monkeypatch.setattr(urllib.robotparser, "RobotFileParser", RobotFileParser)
@@ -200,7 +202,8 @@ def test_values_of_visit_time():
         ("User-agent: *\r\n  REQUEST RATE 1/5\r\nUser-agent: b\r\nAllow: /", {"a": (1, 5), "b": None}),
         ("User-agent: *\n# Request-rate: 1/5\nDisallow: /Request-rate: 1/6\nX-Request-rate: 1/7", {"a": None}),
         ("User-agent: a\rRequest-rate: 1/5\0User-agent: b\rRequest-rate: 1/6", {"a": (1, 5), "b": (1, 6)}),
-        ("User-agent: *\nDisallow: /", {"a": None}),
+        ("\ufeffCrawl-delay: 7\nUser-agent: *\nDisallow: /", {"a": None}),
+        ("\ufeffRequest-rate: 1/5\nDisallow: /", {"a": (1, 5)}),
     ],
 )
 @pytest.mark.parametrize("parse", [Protego.parse, lambda text: by_urllib(text.replace("\0", "\n"))])

@@ -13,7 +13,7 @@ T = TypeVar("T")
 _NAMES_KEPT: Final = 1000
 
 _URL: Final = re.compile(r"\s*(?:/|[A-Za-z][A-Za-z0-9+.-]*://)")
-_LINE: Final = rb"(?i)(?<![^\r\n\0])[ \t]*(crawl[- ]?delay|%s)[ \t]*[: \t]([^#\r\n\0]*)"
+_LINE: Final = rb"(?i)(?:\A\xef?\xbb?\xbf?|(?<=[\r\n\0]))[ \t]*(crawl[- ]?delay|%s)[ \t]*[: \t]([^#\r\n\0]*)"
 _RATE: Final = re.compile(r"([1-9][0-9]{0,8})\s*/\s*([1-9][0-9]{0,8})\s*([smhd]?)(?:\s+(\S.*))?", re.I)
 _SECONDS: Final = {"": 1, "s": 1, "m": 60, "h": 3_600, "d": 86_400}
 _PERIOD: Final = re.compile(r"([0-9]{2}):?([0-9]{2})(?:\s*-\s*|\s+)([0-9]{2}):?([0-9]{2})")

@@ -51,7 +51,7 @@ class RobotFileParser(UrllibParser):
         with response:
             body = response.read(FILE_LIMIT)
             missing = getattr(response, "length", 0) if len(body) < FILE_LIMIT else 0
-            encoding = response.headers.get("Content-Encoding", "identity")
+            encoding = response.headers.get("Content-Encoding") or "identity"
         if missing:
             raise http.client.IncompleteRead(body, missing)
         if encoding.lower() != "identity":
