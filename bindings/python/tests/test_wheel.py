@@ -1,6 +1,7 @@
 """The wheel: it installs into a virtual environment, and there the lines of the README print what they say. The README itself."""
 
 import email
+import importlib.util
 import re
 import runpy
 import shutil
@@ -49,8 +50,8 @@ def test_the_readme_prints_what_it_says(installed_python, tmp_path):
 def test_the_wheel_is_for_every_cpython_and_exports_nothing():
     assert WHEEL.name.endswith("-cp39-abi3-linux_x86_64.whl")
     assert sorted(it.name for it in (package.SITE / "texting_robots").iterdir() if it.suffix) == [
-        "__init__.py", "_facade.py", "_native.abi3.so", "_native.pyi", "_pacing.py", "_responses.py", "_robots.py", "middleware.py", "protego.py",
-        "py.typed", "robotparser.py", "scrapy.py",
+        "__init__.py", "_contents.py", "_disk.py", "_facade.py", "_native.abi3.so", "_native.pyi", "_pacing.py", "_parking.py", "_responses.py",
+        "_robots.py", "_rules.py", "cache.py", "middleware.py", "protego.py", "py.typed", "robotparser.py", "scrapy.py",
     ]  # fmt: skip
     assert sorted(it.name for it in package.SITE.glob("*.dist-info/**/LICENSE-*")) == ["LICENSE-APACHE", "LICENSE-MIT"]
     names = subprocess.run(["nm", "-D", "--defined-only", package.SITE / "texting_robots/_native.abi3.so"], capture_output=True, text=True)
@@ -132,7 +133,8 @@ def test_mypy_is_strict(tmp_path):
     caller = tmp_path / "caller.py"
     caller.write_text(CALLER)
     words = [sys.executable, "-m", "mypy", "--config-file", package.PACKAGE / "pyproject.toml", "--cache-dir", tmp_path / "cache"]
-    for target in [["-p", "texting_robots"], [caller]]:
+    examples = [package.PACKAGE / "examples/crawl.py"] if importlib.util.find_spec("aiohttp") else []
+    for target in [["-p", "texting_robots"], [caller, *examples]]:
         ended = subprocess.run([*words, *target], env=package.WITH_PACKAGE | {"MYPYPATH": str(package.PACKAGE / "src")}, capture_output=True, text=True)
         assert ended.returncode == 0, ended.stdout + ended.stderr
 

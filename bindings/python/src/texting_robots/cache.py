@@ -29,7 +29,7 @@ __all__ = ["Action", "Decision", "Fetch", "Look", "RobotsCache", "Site", "State"
 
 _AN_HOUR: Final = 3600
 _ETAG_LIMIT: Final = 200
-_SITE_BYTES: Final = 1000  # of a site without its file
+_SITE_BYTES: Final = 700  # of a site without its file; measured, with what is lost between objects
 _CLOSED: Final = Robots.deny_all()
 
 
@@ -81,7 +81,7 @@ class Site:
     @property
     def memory(self) -> int:
         """How many bytes of memory it takes without the rules."""
-        return _SITE_BYTES + len(self.packed) + len(self.etag) + len(self.source)
+        return _SITE_BYTES + len(self.packed) + len(self.etag) + (0 if self.source is self.address else len(self.source))
 
     def record(self) -> Record:
         """What is kept of it on disk."""
@@ -140,9 +140,9 @@ class RobotsCache:
     half of a shorter lifetime. If the server fails then, it counts on; if it fails at first, nothing may be fetched. In both cases the file
     is asked for again after ``retry`` seconds, or when the server said (at most after the lifetime).
 
-    It takes about ``budget`` bytes of memory. Where they don't suffice, the parsed files that weren't used for the longest time go first,
-    then the compressed ones: such a file is fetched again, unless ``database`` names a sqlite3 file, in which all of them are kept, also for
-    the next start. A verdict takes at most ``cost_limit`` comparisons.
+    It takes about ``budget`` bytes of memory: a quarter for the parsed files that were used last, and the rest for all files, compressed.
+    Where that doesn't suffice, the file that wasn't used for the longest time goes, and is fetched again; unless ``database`` names a sqlite3
+    file, in which all of them are kept, also for the next start. A verdict takes at most ``cost_limit`` comparisons.
 
     ``count`` is called with the name of an event: ``parsed`` again from compressed bytes, ``evicted`` from memory, ``read`` from the
     database, ``stale`` for a file that counts on, ``not_modified``. ``found`` is called with an address and its sitemaps, once a file has
@@ -311,7 +311,7 @@ class RobotsCache:
 
     def _with_file(self, flight: _Flight, address: str, packed: bytes, source: str, etag: str) -> Site:
         site, before = self._new(address, State.FILE), flight.before[address]
-        site.packed, site.source = packed, source
+        site.packed, site.source = packed, address if source == address else source
         site.etag = etag if len(etag) <= _ETAG_LIMIT and etag.isascii() and etag.isprintable() else ""
         site.rules = Rules(zlib.decompress(packed), self._cost_limit)
         self._settled(flight, site)
@@ -343,7 +343,8 @@ class RobotsCache:
     def _copy(self, address: str, before: Site) -> Site:
         """What is known of a site, for this address. Its rules stay what they are."""
         site = Site(address, before.state, before.expires, before.refresh)
-        site.packed, site.source, site.etag, site.is_failing = before.packed, before.source, before.etag, before.is_failing
+        site.source = address if before.source == address else before.source
+        site.packed, site.etag, site.is_failing = before.packed, before.etag, before.is_failing
         if address == before.address:
             site.rules, site.size, site.longest_delay = before.rules, before.size, before.longest_delay
         return site
@@ -381,7 +382,8 @@ class RobotsCache:
         if not record:
             return None
         site = Site(address, State(record.state), record.expires, record.refresh)
-        site.is_failing, site.source, site.etag, site.packed = bool(record.is_failing), record.source, record.etag, record.packed
+        site.source = address if record.source == address else record.source
+        site.is_failing, site.etag, site.packed = bool(record.is_failing), record.etag, record.packed
         self._count("read")
         self._keep(site)
         if site.state is State.FILE:
@@ -432,14 +434,11 @@ class RobotsCache:
             self._parsed_size -= parsed.size
 
     def _make_room(self) -> None:
-        """Parsed files go until they take a quarter of the budget, and then sites. The last one of each stays."""
-        while self.size > self._budget:
-            if len(self._parsed) > 1 and self._parsed_size > self._budget // 4:
-                _, site = self._parsed.popitem(last=False)
-                self._parsed_size -= site.size
-                site.rules, site.size = None, 0
-            elif len(self._sites) > 1:
-                self._count("evicted")
-                self._forget(next(iter(self._sites)))
-            else:
-                break
+        """Parsed files take at most a quarter of the budget, as parsing one again takes microseconds. The last one of each kind stays."""
+        while len(self._parsed) > 1 and self._parsed_size > self._budget // 4:
+            _, site = self._parsed.popitem(last=False)
+            self._parsed_size -= site.size
+            site.rules, site.size = None, 0
+        while len(self._sites) > 1 and self.size > self._budget:
+            self._count("evicted")
+            self._forget(next(iter(self._sites)))

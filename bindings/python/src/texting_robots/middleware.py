@@ -91,8 +91,8 @@ class RobotsMiddleware:
     - ``TEXTING_ROBOTS_TIMEOUT = 30``: for so many seconds an answer is waited for, or as long as ``DOWNLOAD_TIMEOUT`` says if that is shorter.
     - ``TEXTING_ROBOTS_LIFETIME = 86400``: for so many seconds a file counts. In the last hour of them it is fetched again while it still
       counts. The HTTP cache of Scrapy never has it.
-    - ``TEXTING_ROBOTS_BUDGET = 100_000_000``: so much memory in bytes is taken for files. Those that weren't used for the longest time are
-      kept compressed (some 1,500 bytes for a usual file), and if there is no room for that either, they are fetched again.
+    - ``TEXTING_ROBOTS_BUDGET = 100_000_000``: so much memory in bytes is taken for files, which are kept compressed (some 1,000 bytes for a
+      usual file), and a quarter of it for those that are parsed. A file for which there is no room is fetched again.
     - ``TEXTING_ROBOTS_DATABASE = ""``: the path of a sqlite3 file, in which all files are kept, also for the next start.
     - ``TEXTING_ROBOTS_COST = 20_000_000``: a file that could take more comparisons for a URL of 2,000 bytes gets a budget of so many, and a
       URL that might need more is denied, with a warning.
