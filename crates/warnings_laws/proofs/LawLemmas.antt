@@ -4,7 +4,7 @@ use Rattle.std.specs.Prelude.{flat_map, is_some, zip, ◌||◌}
 use Rattle.std.proofs.{lemmas.Grind.common_steps, Common.rules}
 use Rattle.std.proofs.Common.{false, true, ◌++◌, ap, None, Option, Some, if◌then◌else◌, is_none, ◌≡◌, ◌≢◌, ℕ}
 use Rattle.std.proofs.Common.{◌≤◌, ◌↔◌, Any, Bool, inl, inr, List, [], ◌∷◌, Contains, IsUtf8, arith, codes, length}
-use Rattle.std.proofs.Common.{ltb-false, refl, subst, subst₂, sym, take, take_all, ◌⊎◌, suc, map, not, zero, ◌==◌}
+use Rattle.std.proofs.Common.{◌∙◌, ltb-false, refl, subst, subst₂, sym, take, take_all, ◌⊎◌, suc, map, not, zero, ◌==◌}
 use Rattle.std.proofs.lemmas.Bool.{false_from_ne_true, false≢true, ne_eqb, not-false, or_parts}
 use Rattle.texting_robots.specs.Callers.{IsVerdict, Label, LineValue, PlacedRule, agents_in, placed_rules}
 use Rattle.texting_robots.specs.Callers.{file_limit, rules_for, IsFirstOverlong, IsOverlong, IsRejected, Rule}
@@ -294,7 +294,8 @@ stated false syntax is = refl
 
 no_names : (names : List (List ℕ)) → not (length names == 0) ≡ false → names ≡ []
 no_names [] none = refl
-no_names (name ∷ names) none = absurd (false≢true (sym none))
+no_names (name ∷ names) none =
+    absurd (false≢true (sym none ∙ ap not (ne_eqb (length (name ∷ names)) 0 (λ e. omega arith))))
 
 none_passes : {X : Type 0} (test : X → Bool) (xs : List X) → list_any test xs ≡ false
     → Each (λ x. test x ≡ false) xs
