@@ -3,22 +3,28 @@ use Rattle.std.proofs.Common.{◌≡◌, ℕ, ◌+◌, ◌*◌, ◌<◌, ◌≤�
 use Rattle.std.proofs.Common.{[], ◌∷◌, ◌++◌, ap, ap₂, not, arith, codes, drop, length, refl, subst, suc, sym}
 use Rattle.std.proofs.Common.{◌∙◌, nat_eq}
 use Rattle.std.specs.Char.{digit_value, is_ascii_hexdigit, to_ascii_uppercase}
-use Rattle.std.specs.List.{list_any, list_all, position_or_len, starts_with}
-use Rattle.std.proofs.lemmas.{Bool.Decides.nat_tests}
+use Rattle.std.specs.List.{list_any, position_or_len, starts_with}
+use Rattle.std.proofs.lemmas.{Bool.Decides.nat_tests, Slice.Eq.bytes_eq-Decides}
 use Rattle.std.proofs.lemmas.Bool.{agree_below_at, and_parts, and_right, cases_Bool, cases_lt, eqb-true}
-use Rattle.std.proofs.lemmas.Bool.{le-ltb, or_from, or_parts, and_from, not-false, not-true}
+use Rattle.std.proofs.lemmas.Bool.{le-ltb, or_from, or_parts, not-false}
 use Rattle.std.proofs.lemmas.List.{Concat.flat_map-append, Folds.list_any-append}
 use Rattle.texting_robots.specs.Escape.{escape_byte, escaped, is_escaped}
 use Rattle.texting_robots.proofs.{NormalizedLemmas.plain_stays}
-use Rattle.rfc9309_laws.specs.Matching.{is_kept, all_stay, has_dollar, in_rule, is_ended, is_unreserved}
+use Rattle.percent_encoding.specs.{AsciiSet.should_percent_encode}
+use Rattle.percent_encoding.specs.Percent.{encode_byte, percent_encode, percent_encode_byte}
+use Rattle.rfc9309_laws.specs.Matching.{is_kept, all_stay, has_dollar, in_rule, in_uri, is_ended}
+use Rattle.rfc9309_laws.specs.Matching.{is_unreserved}
 use Rattle.rfc9309_laws.specs.Matching.{normal_escape, normal_from, normal_octet, without_end, normal_uri}
-use Rattle.rfc9309_laws.specs.Comparable.{IsComparedAs, has_odd_escape, is_uri_octet}
+use Rattle.rfc9309_laws.specs.Comparable.{IsComparedAs, has_odd_escape}
 use Rattle.rfc9309_laws.proofs.NormalLemmas.{begins_escape, by_escapes, escape_first, escape_odd, escape_same}
-use Rattle.rfc9309_laws.proofs.NormalLemmas.{hex_not, normal_uris, octet_first}
-use Rattle.robots_warnings.specs.Targets.{asked_target, has_odd_target, is_normal_byte}
+use Rattle.rfc9309_laws.proofs.NormalLemmas.{hex_not, octet_first}
+use Rattle.robots_warnings.specs.Targets.{asked_target, has_dot_segment, has_odd_target, normal_target}
+use Rattle.robots_warnings.specs.Targets.{written_target}
+use Rattle.robots_warnings.specs.{declared.targets.TheConstants.IN_TARGETS}
 use Rattle.robots_warnings.specs.{Urls.begins_as_url, Urls.is_unparsable, Spellings.spelled}
 use Rattle.robots_warnings.specs.declared.spellings.Spelling.{TheVariants.Standard}
-use Rattle.robots_warnings.specs.Rules.{after_byte, before_byte, begins_odd_escape, has, somewhere}
+use Rattle.robots_warnings.specs.Rules.{after_byte, before_byte, begins_lone_percent, begins_odd_escape, has}
+use Rattle.robots_warnings.specs.Rules.{somewhere}
 use Rattle.warnings_laws.proofs.ColonLemmas.{after_is, before_all, before_is}
 use Rattle.warnings_laws.proofs.{FormLemmas.split}
 
@@ -224,12 +230,72 @@ compared_as path odds end =
     let (normal, ended, dollar) = same_from false path odds (ends_there path end) in
     record { normal = normal; ended = ended; dollar = dollar }
 
-octets : (text : List ℕ) → list_all is_normal_byte text ≡ true → list_all is_uri_octet text ≡ true
-octets [] all = refl
-octets (b ∷ text) all = grind (arith, and_parts, and_from, nat_tests, octets text)
+-- ---- What is computed as a normal form is that of the standard.
 
+unreserved_kept : (b : ℕ) → is_unreserved b ≡ true → should_percent_encode IN_TARGETS b ≡ false
+unfolding should_percent_encode
+unreserved_kept b is =
+    let low : b < 128 = grind (arith, nat_tests) in
+    rw is at (agree_below_at (λ c. is_unreserved c && should_percent_encode IN_TARGETS c) (λ c. false) 128 b
+    refl low)
+
+encoded : (in_query : Bool) (b : ℕ) → encode_byte IN_TARGETS b ≡ normal_octet (in_uri all_stay) in_query b
+unfolding should_percent_encode percent_encode_byte
+encoded in_query b = elim (cases_lt b 128) [
+  | inl low ↦
+      let e = agree_below_at (is_kept (in_uri all_stay) in_query)
+      (λ c. not (should_percent_encode IN_TARGETS c)) 128 b refl low in
+      elim (cases_Bool (should_percent_encode IN_TARGETS b)) [
+        | inl is ↦ rw (e, is) refl
+        | inr isnt ↦ rw (e, isnt) refl
+      ]
+  | inr high ↦ rw (le-ltb b 128 high) refl
+]
+
+percent_kept : should_percent_encode IN_TARGETS 37 ≡ false
+unfolding should_percent_encode
+percent_kept = refl
+
+digit_kept : (b : ℕ) → is_ascii_hexdigit b ≡ true
+    → should_percent_encode IN_TARGETS (to_ascii_uppercase b) ≡ false
+unfolding should_percent_encode
+digit_kept b is = hex_not (λ c. should_percent_encode IN_TARGETS (to_ascii_uppercase c)) b refl is
+
+escape_kept : (high low : ℕ) → is_ascii_hexdigit high ≡ true → is_ascii_hexdigit low ≡ true
+    → percent_encode IN_TARGETS (normal_escape high low) ≡ normal_escape high low
+unfolding percent_encode
+escape_kept high low one two =
+    elim (cases_Bool (is_unreserved (digit_value high * 16 + digit_value low))) [
+      | inl is ↦ rw (is, unreserved_kept (digit_value high * 16 + digit_value low) is)
+      | inr isnt ↦ rw (isnt, percent_kept, digit_kept high one, digit_kept low two)
+    ]
+
+normal_so : (in_query : Bool) (text : List ℕ)
+    → normal_target text ≡ normal_from (in_uri all_stay) in_query text
+unfolding normal_from percent_encode spelled
+normal_so =
+    by_escapes (λ in_query text. normal_target text ≡ normal_from (in_uri all_stay) in_query text)
+    (λ in_query. refl)
+    (λ in_query b text isnt later.
+    ap (percent_encode IN_TARGETS) (octet_spelled b text isnt)
+    ∙ ap₂ (λ x y. x ++ y) (encoded in_query b) later
+    ∙ sym (octet_first (in_uri all_stay) in_query b text isnt))
+    (λ in_query high low text one two later.
+    ap (percent_encode IN_TARGETS) (escape_spelled high low text one two)
+    ∙ flat_map-append (encode_byte IN_TARGETS) (normal_escape high low) (spelled Standard text)
+    ∙ ap₂ (λ x y. x ++ y) (escape_kept high low one two) later
+    ∙ sym (escape_first high low text one two (in_uri all_stay) in_query))
+
+-- a target without `url-not-normal` is in normal form, and that of what is written
 pub target_normal : (text : List ℕ)
     → (starts_with nat_eq text (codes "/") || (begins_as_url text && not (is_unparsable text))) ≡ true
-    → has_odd_target text ≡ false → normal_uri all_stay (asked_target text) ≡ asked_target text
+    → has_odd_target text ≡ false
+    → (normal_uri all_stay (asked_target text) ≡ asked_target text)
+    × (normal_uri all_stay (written_target text) ≡ asked_target text)
 target_normal text asked quiet =
-    grind (arith, not-false, and_parts, or_parts, not-true, normal_uris, and_from, octets, odd_escapes)
+    let (same, _) = and_parts _ (not (has_dot_segment (asked_target text)
+    || somewhere begins_lone_percent (asked_target text))) (not-false _ (rw asked at quiet)) in
+    let (written, normal) = and_parts _ _ same in (
+      sym (normal_so false _) ∙ sym ((bytes_eq-Decides _ _).0 normal),
+      sym (normal_so false _) ∙ sym ((bytes_eq-Decides _ _).0 written),
+    )

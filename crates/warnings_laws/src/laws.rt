@@ -21,7 +21,7 @@ ghost use Rattle.robots_warnings.specs.Conflicts.{overruled_for, IsEmptyDisallow
 ghost use Rattle.robots_warnings.specs.Closed.{line_closing, opened_paths, reach_of, replacing, star_count};
 ghost use Rattle.robots_warnings.specs.declared.closed.Reach.TheVariants.{Everything, Nothing};
 ghost use Rattle.robots_warnings.specs.{Contents.is_cut_to_root, Crawlers.names_past_limit};
-ghost use Rattle.robots_warnings.specs.{Positions.is_above_agents, Repeated.repeated, Targets.has_odd_target};
+ghost use Rattle.robots_warnings.specs.{Positions.is_above_agents, Repeated.repeated, Targets.has_odd_target, Targets.written_target};
 ghost use Rattle.robots_warnings.specs.{Urls.is_unparsable, Urls.begins_as_url, Warnings.position_warnings};
 ghost use Rattle.robots_warnings.specs.{Warnings.warned_at, declared.table.Cause.TheVariants.TwoDelays};
 ghost use Rattle.robots_warnings.specs.Rules.{begins_oddly, has_dollar_inside};
@@ -239,10 +239,12 @@ pub fn missing_slash()
     ensures { (value text : List ℕ) → begins_oddly value ≡ true → ¬ Matches (escaped value) (byte "/" ∷ text) }
 {}
 
-/// The match target of a path, or of an http(s) URL that can be parsed, is in normal form if there is no
-/// `url-not-normal`. So `verdicts_are_those_of_the_standard` applies to it.
+/// If there is no `url-not-normal`, the match target of a path, or of an http(s) URL that can be parsed, is in
+/// normal form, and is that of the path and the query as they are written. So
+/// `verdicts_are_those_of_the_standard` applies to it.
 pub fn url_not_normal()
     ensures { (text : List ℕ)
         → (starts_with nat_eq text (codes "/") || (begins_as_url text && not (is_unparsable text))) ≡ true
-        → has_odd_target text ≡ false → normal_uri all_stay (asked_target text) ≡ asked_target text }
+        → has_odd_target text ≡ false → (normal_uri all_stay (asked_target text) ≡ asked_target text)
+        × (normal_uri all_stay (written_target text) ≡ asked_target text) }
 {}
