@@ -46,20 +46,24 @@ pub(crate) const CALLS: &[(&str, Call)] = &[
 
 pub(crate) fn answer(alloc: Global, call: &Call) -> Result<bool, Error> {
     match call {
-        Call::ParseLines => Ok(robots_txt_parse(alloc, PAGE)?.as_slice() == PAGE_LINES),
-        Call::Pattern | Call::Matches => Ok(is_right_pattern(&MinRegex::new(alloc, PATTERN)?)),
-        Call::Clone => clones_pattern(alloc, &MinRegex::new(alloc, PATTERN)?),
-        Call::Robot | Call::Allowed | Call::Verdicts | Call::RobotAndUrl | Call::VerdictOnUrl => {
-            asks_robot(alloc, &Robot::new(alloc, "FerrisCrawler", FILE)?, call)
-        }
+        Call::ParseLines => parses_page(alloc),
+        Call::Pattern | Call::Clone | Call::Matches => asks_pattern(alloc, call),
         Call::OneAgent => queries_file(alloc),
-        Call::PreparePath => Ok(Robot::prepare_url(alloc, "/á")?.as_str() == "/%C3%A1"),
-        Call::PrepareUrl => {
-            let target = Robot::prepare_url(alloc, "http://www.example.com/a/b?c=d&e=f#fragment")?;
-            Ok(target.as_str() == "/a/b?c=d&e=f#fragment")
-        }
+        Call::PreparePath => prepares(alloc, "/á", "/%C3%A1"),
+        Call::PrepareUrl => prepares(alloc, URL, "/a/b?c=d&e=f#fragment"),
         Call::LineEnds => reads_line_ends(alloc),
+        _ => asks_robot(alloc, &Robot::new(alloc, "FerrisCrawler", FILE)?, call),
     }
+}
+
+const URL: &str = "http://www.example.com/a/b?c=d&e=f#fragment";
+
+fn prepares(alloc: Global, url: &str, want: &str) -> Result<bool, Error> {
+    Ok(Robot::prepare_url(alloc, url)?.as_str() == want)
+}
+
+fn parses_page(alloc: Global) -> Result<bool, Error> {
+    Ok(robots_txt_parse(alloc, PAGE)?.as_slice() == PAGE_LINES)
 }
 
 pub(crate) const PAGE: &[u8] =
@@ -74,6 +78,14 @@ pub(crate) const PAGE_LINES: &[Line<'static>] = &[
     Line::Raw(b""),
     Line::Sitemap(b"https://example.com/sitemap.xml"),
 ];
+
+fn asks_pattern(alloc: Global, call: &Call) -> Result<bool, Error> {
+    let pattern = MinRegex::new(alloc, PATTERN)?;
+    match call {
+        Call::Clone => clones_pattern(alloc, &pattern),
+        _ => Ok(is_right_pattern(&pattern)),
+    }
+}
 
 /// The pattern is unchanged if no clone can be made.
 fn clones_pattern(alloc: Global, pattern: &MinRegex) -> Result<bool, Error> {

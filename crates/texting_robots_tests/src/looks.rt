@@ -1,6 +1,8 @@
 //! How many bytes verdicts and patterns compare (looks).
 use crate::helpers::{TextParts, check_equal, long_text, robot_of};
 use crate::patterns::regex_of;
+use std::process::Abort;
+use texting_robots::Robot;
 use texting_robots::view::View;
 
 /// A file and a match target, whether it may be fetched, and the least and the greatest number of looks.
@@ -49,21 +51,23 @@ const CASES: &[LookCase] = &[
     ),
 ];
 
+fn check_looks(rt: &impl Abort, robot: &Robot, text: &str, allowed: bool, least: u64, most: u64) {
+    let (mut view, mut other) = (View::new(text), View::new(text));
+    check_equal(rt, "view", &robot.allowed_view(&mut view), &allowed);
+    let decision = robot.decision(&mut other);
+    check_equal(rt, "decision", &decision, &robot.decision_prepared(text));
+    check_equal(rt, "decision", &decision.allowed, &allowed);
+    check_equal(rt, "looks", &other.seen(), &view.seen());
+    let seen = view.seen();
+    assert!(rt; least <= seen && seen <= most, "{text:.60}: {seen} looks");
+}
+
 #[test]
 fn looks_of_robots_are_counted(rt: HostRuntime) {
     for (file, text, allowed, (least, most)) in CASES {
         let text = long_text(&rt, text);
         let robot = robot_of(&rt, &long_text(&rt, file));
-        let (mut view, mut other) = (View::new(&text), View::new(&text));
-        let answers = [
-            robot.allowed_view(&mut view),
-            robot.decision(&mut other).allowed,
-            robot.allowed_prepared(&text),
-        ];
-        check_equal(&rt, "answers", &answers, &[*allowed; 3]);
-        check_equal(&rt, "looks", &other.seen(), &view.seen());
-        let seen = view.seen();
-        assert!(rt; *least <= seen && seen <= *most, "{text:.60}: {seen} looks");
+        check_looks(&rt, &robot, &text, *allowed, *least, *most);
     }
 }
 
