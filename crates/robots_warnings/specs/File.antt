@@ -1,6 +1,6 @@
 -- The lines within the size limit of a file.
 use Rattle.std.specs.Prelude.{ℕ, ◌==◌, Bool, true, ◌||◌, ◌&&◌, List, [], ◌∷◌, if◌then◌else◌, map}
-use Rattle.texting_robots.specs.Callers.{LineValue, Label, group_name, is_own, labels_of}
+use Rattle.texting_robots.specs.Callers.{LineValue, Label, bodies_read, group_name, is_own, labels_of, lines_read}
 use Rattle.texting_robots.specs.{declared.labels.Membership.Membership}
 
 abbrev pub space : ℕ
@@ -17,9 +17,9 @@ abbrev pub is_blank : List ℕ → Bool
 is_blank [] = true
 is_blank (byte ∷ body) = byte == hash || ((byte == space || byte == tab) && is_blank body)
 
--- the lines, labeled for a crawler
-abbrev pub labels_for : List ℕ → List LineValue → List Label
-labels_for agent lines = labels_of (group_name agent lines) lines
+-- the file's lines, labeled for a crawler
+abbrev pub labels_for : List ℕ → List ℕ → List Label
+labels_for agent file = labels_of (group_name agent (lines_read file)) (bodies_read file)
 
 -- the rules that are checked: all if `everywhere`, else those of the crawler's group
 abbrev pub is_in_scope_of : Bool → Membership → Bool
