@@ -17,3 +17,7 @@ pub mod FileLemmas
 pub mod RobotLemmas
 pub mod NormalLemmas
 pub mod VerdictLemmas
+pub mod ConformanceLemmas
+pub mod DecidedLemmas
+pub mod PlainLemmas
+pub mod ApartLemmas
