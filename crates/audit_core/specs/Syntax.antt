@@ -1,5 +1,5 @@
--- What a report says of a file by RFC 9309: whether it is in the grammar, whether verdicts are the standard's,
--- and if not, because of which line.
+-- What a report says of a file by RFC 9309: whether it is in the grammar, whether verdicts are the
+-- standard's, and if not, because of which line.
 use Rattle.std.specs.Prelude.{ℕ, List, [], ◌∷◌, codes}
 use Rattle.std.proofs.{Common.refl}
 use Rattle.printable_text.specs.Text.{Number, Part, PartValue, ReportLine, label, line_from, only}

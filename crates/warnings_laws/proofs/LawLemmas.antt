@@ -289,7 +289,8 @@ module _ (requested : RequestValue) (file : List ℕ) (audit : AuditValue) (is :
     robot_of_the_standard standard agent robot of =
         let (short, (groups, written)) = file_of_the_standard.0 standard in
         let (forms, are) = file_has_forms file groups written in
-        forms_robot agent file forms robot (subst (AreForms forms) (sym (take_all file_limit file short)) are) of
+        forms_robot agent file forms robot
+        (subst (AreForms forms) (sym (take_all file_limit file short)) are) of
 
     module _ (standard : has_verdicts audit.syntax ≡ true) (agent : List ℕ) (groups : List Group)
         (token : IsProductToken agent) (written : IsFile groups file) where
@@ -305,11 +306,12 @@ module _ (requested : RequestValue) (file : List ℕ) (audit : AuditValue) (is :
       verdicts_of_the_standard uri robot answer normal of =
           let (whole, near) = none_apart file stated in
           let (name, listed, same) = star_or_named agent (lines_read file) utf8 in
-          verdict_is (take file_limit file) near groups (subst (IsFile groups) (sym whole) written) agent name listed
-          same file uri robot answer refl normal of
+          verdict_is (take file_limit file) near groups (subst (IsFile groups) (sym whole) written) agent name
+          listed same file uri robot answer refl normal of
 
       pub accepted_by_the_standard : ¬ IsFileRejected agent (take file_limit file)
       accepted_by_the_standard =
           let (whole, near) = none_apart file stated in
           let (name, listed, same) = star_or_named agent (lines_read file) utf8 in
-          accepted (take file_limit file) near groups (subst (IsFile groups) (sym whole) written) agent name listed same
+          accepted (take file_limit file) near groups (subst (IsFile groups) (sym whole) written) agent name
+          listed same

@@ -14,6 +14,7 @@ ghost use Rattle.robots_needless.specs.Blocks.{HaveSameRobot, IsLeftOf};
 ghost use Rattle.robots_needless.specs.Needless.{lines_without, numbers_of};
 ghost use Rattle.rfc9309_laws.specs.Rfc9309.{Group, IsFile, IsProductToken};
 ghost use Rattle.rfc9309_laws.specs.Matching.{all_stay, normal_uri};
+ghost use Rattle.warnings_laws.specs.Examples as example;
 ghost use Rattle.warnings_laws.specs.{Syntax.IsRobotStated, Verdict.IsStandardVerdict};
 ghost use Rattle.robots_warnings.specs.Conflicts.{IsConflict, IsOverruled, conflict, overruled, is_empty_at};
 ghost use Rattle.robots_warnings.specs.Conflicts.{overruled_for, IsEmptyDisallow, stated_rules};
@@ -66,9 +67,9 @@ pub fn needless_lines_can_be_deleted()
         → IsUtf8 agent → HaveSameRobot agent (take file_limit file) (take file_limit left) }
 {}
 
-/// A report says that the file has RFC 9309 syntax exactly if it has at most 512,000 bytes, all of which follow
-/// the standard's grammar with the extensions of `rfc9309_laws` (`syntax`). Then each crawler for which it isn't
-/// rejected gets the rules, the delay and the sitemaps that it states (`robot`).
+/// A report says that the file has RFC 9309 syntax exactly if it has at most 512,000 bytes, all of which
+/// follow the standard's grammar with the extensions of `rfc9309_laws` (`syntax`). Then each crawler for
+/// which it isn't rejected gets the rules, the delay and the sitemaps that it states (`robot`).
 pub fn syntax_is_that_of_the_standard()
     ensures syntax { (requested : RequestValue) (file : List ℕ) (audit : AuditValue) → IsAuditOf requested file audit
         → (has_syntax audit.syntax ≡ true)
@@ -83,13 +84,21 @@ pub fn syntax_is_that_of_the_standard()
 /// (`accepted`).
 pub fn verdicts_are_those_of_the_standard()
     ensures verdicts { (requested : RequestValue) (file : List ℕ) (audit : AuditValue) (agent uri : List ℕ) (groups : List Group)
-        (robot : RobotValue) (answer : Bool) → IsAuditOf requested file audit → has_verdicts audit.syntax ≡ true
-        → IsProductToken agent → IsFile groups file → normal_uri all_stay uri ≡ uri
-        → IsRobotOfFile agent (take file_limit file) robot
+        (robot : RobotValue) (answer : Bool) → IsAuditOf requested file audit
+        → has_verdicts audit.syntax ≡ true → IsProductToken agent → IsFile groups file
+        → normal_uri all_stay uri ≡ uri → IsRobotOfFile agent (take file_limit file) robot
         → IsVerdict (unplaced robot.rules) uri answer ↔ IsStandardVerdict groups agent uri answer }
     ensures accepted { (requested : RequestValue) (file : List ℕ) (audit : AuditValue) (agent : List ℕ)
         (groups : List Group) → IsAuditOf requested file audit → has_verdicts audit.syntax ≡ true
         → IsProductToken agent → IsFile groups file → ¬ IsFileRejected agent (take file_limit file) }
+{}
+
+/// A file with the verdicts of the standard, one in which a line is in the way of that, and one that isn't in
+/// the grammar because of a line.
+pub fn examples_of_syntax()
+    ensures verdicts { example.verdicts }
+    ensures apart { example.apart }
+    ensures other { example.other }
 {}
 
 /// `allowed-and-disallowed` is given for a line exactly if it has a Disallow that applies to one of the
