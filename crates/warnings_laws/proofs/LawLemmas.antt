@@ -3,8 +3,9 @@
 use Rattle.std.specs.Prelude.{flat_map, is_some, zip, ◌||◌}
 use Rattle.std.proofs.{lemmas.Grind.common_steps, Common.rules}
 use Rattle.std.proofs.Common.{false, true, ◌++◌, ap, None, Option, Some, if◌then◌else◌, is_none, ◌≡◌, ◌≢◌, ℕ}
-use Rattle.std.proofs.Common.{◌≤◌, ◌↔◌, Any, Bool, inl, inr, List, [], ◌∷◌, Contains, IsUtf8, arith, codes, length}
-use Rattle.std.proofs.Common.{◌∙◌, ltb-false, refl, subst, subst₂, sym, take, take_all, ◌⊎◌, suc, map, not, zero, ◌==◌}
+use Rattle.std.proofs.Common.{◌≤◌, ◌↔◌, Any, Bool, inl, inr, List, [], ◌∷◌, Contains, IsUtf8, arith, codes}
+use Rattle.std.proofs.Common.{◌∙◌, length, ltb-false, refl, subst, subst₂, sym, take, take_all, ◌⊎◌, suc}
+use Rattle.std.proofs.Common.{map, not, zero, ◌==◌}
 use Rattle.std.proofs.lemmas.Bool.{false_from_ne_true, false≢true, ne_eqb, not-false, or_parts}
 use Rattle.texting_robots.specs.Callers.{IsVerdict, Label, LineValue, PlacedRule, agents_in, placed_rules}
 use Rattle.texting_robots.specs.Callers.{file_limit, rules_for, IsFirstOverlong, IsOverlong, IsRejected, Rule}
@@ -434,6 +435,7 @@ module _ (requested : RequestValue) (file : List ℕ) (audit : AuditValue) (is :
           token = token;
           reported =
               subst (λ names. IsAsOneOf (agents_requested names (lines_read file)) file agent)
-              (sym (for_all (verdicts_stated_too audit.syntax standard)).0) (everyone_reported file agent token);
+              (sym (for_all (verdicts_stated_too audit.syntax standard)).0)
+              (everyone_reported file agent token);
           normal = normal;
         })

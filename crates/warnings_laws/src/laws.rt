@@ -6,7 +6,8 @@ ghost use Rattle.std.specs.List.{count_by, list_any, starts_with};
 ghost use Rattle.std.specs.Str.{byte, is_utf8, IsUtf8, str_to_ascii_lowercase};
 ghost use Rattle.texting_robots.specs.Callers.{Allow, AreLabelsOf, AreRulesFor, Disallow, escaped, HoldsRule};
 ghost use Rattle.texting_robots.specs.Callers.{file_limit, file_lines, is_named, IsDecidingLine, IsDenied};
-ghost use Rattle.texting_robots.specs.Callers.{IsFileRejected, IsRobotOfFile, IsVerdict, Label, LineValue, Matches, Rule};
+ghost use Rattle.texting_robots.specs.Callers.{IsFileRejected, IsRobotOfFile, IsVerdict, Label};
+ghost use Rattle.texting_robots.specs.Callers.{LineValue, Matches, Rule};
 ghost use Rattle.texting_robots.specs.Callers.{PlacedRule, RobotValue, agents_in, lines_read, bodies_read};
 ghost use Rattle.texting_robots.specs.Callers.{delay_for, rules_for, unplaced, UserAgent};
 ghost use Rattle.texting_robots.specs.{Labels.IsInOwnGroup, Verdict.robots_file};
@@ -78,9 +79,9 @@ pub fn syntax_is_that_of_the_standard()
         → IsRobotOfFile agent (take file_limit file) robot → IsRobotStated agent file robot }
 {}
 
-/// If a report says that verdicts are those of RFC 9309, whichever warnings it leaves out, the verdict of each
-/// crawler with a product token, on each path and query in normal form, is the standard's (`verdicts`), and
-/// the file isn't rejected for it (`accepted`).
+/// If a report says that verdicts are those of RFC 9309, whichever warnings it leaves out, the verdict of
+/// each crawler with a product token, on each path and query in normal form, is the standard's (`verdicts`),
+/// and the file isn't rejected for it (`accepted`).
 pub fn verdicts_are_those_of_the_standard()
     ensures verdicts { (requested : RequestValue) (file : List ℕ) (audit : AuditValue) (agent uri : List ℕ) (groups : List Group)
         (robot : RobotValue) (answer : Bool) → IsAuditOf requested file audit
