@@ -59,7 +59,10 @@ fn push_syntax(text: &mut String, syntax: Conformance) -> Result<(), AllocError>
 {
     match syntax {
         Conformance::OtherFile => Ok(()),
-        Conformance::OtherLine(line) => push_line_of(text, &[Part(OTHER_LINE, Value::Number(line))]),
+        Conformance::OtherLine(line) => push_line_of(
+            text,
+            &[Part(OTHER_LINE, Value::Number(line))],
+        ),
         Conformance::Syntax(line) => {
             push_line(text, SYNTAX_SENTENCE, "")?;
             push_line_of(text, &[Part(LINE_APART, Value::Number(line))])
