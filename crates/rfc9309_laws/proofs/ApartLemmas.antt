@@ -99,9 +99,11 @@ module _ (body : List ℕ) (bytes : Each IsBodyByte body) where
   no_rule shape.Rule is other = absurd (other refl)
   no_rule Delay (rfc.Delay number, is) other =
       let read = delay_line (rfc.Delay number) (body ++ lf ∷ []) is in
-      none_by Delay (read.source ∷ []) read.is_line
-      (delay_source number read.source
-      (ap (λ (parts : Parts). parts.ungrouped) (read.written (parts_of [] []))), tt)
+      none_by Delay (read.source ∷ []) read.is_line (
+        delay_source number read.source
+            (ap (λ (parts : Parts). parts.ungrouped) (read.written (parts_of [] []))),
+        tt,
+      )
   no_rule Delay (rfc.Allow pattern, is) other = absurd is
   no_rule Delay (rfc.Disallow pattern, is) other = absurd is
   no_rule shape.Sitemap (address, is) other = none_by shape.Sitemap _ (sitemap_line address _ is) (tt, tt)

@@ -85,4 +85,3 @@ plain_compared path plain =
       ended = refl;
       dollar = subst (λ front. has_dollar front ≡ false) same (not-true _ dollar);
     }
-
