@@ -62,7 +62,8 @@ fn decided_on(
     ensures ok { IfOk result (IsJudgmentOn file.now agent.now url.now) }
     ensures fault { IfErr result (λ fault. fault ≡ Fault.Memory) }
 {
-    let Some(target) = written_form(alloc, url)? else {
+    let form = written_form(alloc, url)?;
+    let Some(target) = form else {
         return Ok(Judgment::Rewritten);
     };
     let decision = decision_on(alloc, robot, url)?;
