@@ -2,6 +2,8 @@
 shops and encyclopedias have them, and hostile ones. This program writes them, so that everyone compares the same bytes:
 
     python3 bench/corpus.py FOLDER
+
+With `--audit` it writes two files instead, on which a report about all crawlers takes long.
 """
 
 import sys
@@ -98,6 +100,17 @@ def cases():
     yield case("NULs end lines", group(STAR, plain(10000)).replace("\n", "\0"), differs=nuls)
 
 
+def audited(folder):
+    """Writes 126 kB of mixed rules in 60 groups, and 500 kB of Disallows in one group."""
+    folder.mkdir(parents=True, exist_ok=True)
+    count = 3780
+    mixed = [rule for pair in zip(plain(count), starred(count)) for rule in pair][:count]
+    in_groups = "".join(group([bot], mixed[number::60]) for number, bot in enumerate(BOTS[:60]))
+    in_one = group(STAR, [f"Disallow: /{words(number)}" for number in range(20000)])
+    for name, text, size in (("groups", in_groups, 126_000), ("plain", in_one, 500_000)):
+        (folder / f"{name}.robots.txt").write_text(text[: text.rindex("\n", 0, size) + 1])
+
+
 def written(folder):
     """Writes `NUMBER.robots.txt` and `NUMBER.urls.txt` for each case, and `index.tsv` with number, crawler and name."""
     folder.mkdir(parents=True, exist_ok=True)
@@ -110,4 +123,5 @@ def written(folder):
 
 
 if __name__ == "__main__":
-    written(Path(sys.argv[1]))
+    audit, folder = "--audit" in sys.argv, Path(sys.argv[-1])
+    audited(folder) if audit else written(folder)

@@ -10,11 +10,13 @@ use Rattle.std.proofs.lemmas.List.{length-replicate, map_push}
 use Rattle.texting_robots.specs.Callers.{HasLines, IsDecidingLine, IsRobotWithoutSitemaps, IsVerdict}
 use Rattle.texting_robots.specs.Callers.{LineValue, PlacedRule, RobotValue, file_limit, file_lines, nul_as_lf}
 use Rattle.texting_robots.specs.Callers.{lines_read, unplaced, IsCaptured, IsRejected, IsRobotOf, group_name}
-use Rattle.texting_robots.specs.Callers.{is_agent_named, is_named, prepared}
+use Rattle.texting_robots.specs.Callers.{IsRejectionOf, is_agent_named, is_named, prepared}
+use Rattle.texting_robots.specs.declared.error.Rejection.{Rejection, TheVariants as rejection}
 use Rattle.texting_robots.proofs.{MainTheoremLemmas.deciding_line_holds_its_rule, CountLemmas.lines_within}
 use Rattle.texting_robots.proofs.{LineLemmas.each_text_has_its_lines, SiteOwnLemmas.same_robot}
 use Rattle.texting_robots.proofs.MainTheoremLemmas.{no_line_allows, of_lines, read_robot, has_lines}
 use Rattle.robots_c.specs.{File.IsRobotOfSomeFile, File.IsSiteOfSomeFile, Status.IsWhyNoResult, Results.IsRow}
+use Rattle.robots_c.specs.Status.{IsWhyNoRobot, fault_of}
 use Rattle.robots_c.specs.Results.{IsResultOn, LinesFit, number_of, HasResult, AreRows, items_in, no_result}
 use Rattle.std.proofs.lemmas.List.Elements.{All-cons, All-head, All-tail}
 use Rattle.robots_c.specs.Batch.{Ascend, pieces}
@@ -39,6 +41,11 @@ one_more R xs at x ys y (below, here) are is =
 pub by_lines : (site : List ℕ) (P : List LineValue → Type 0) → HasLines site P → P (file_lines site)
 by_lines site P is =
     of_lines site P is (file_lines site) ((each_text_has_its_lines (map nul_as_lf site) _).1 refl)
+
+pub why_rejected : (agent site : List ℕ) (why : Rejection) → IsUtf8 agent → IsRejectionOf agent site why
+    → IsWhyNoRobot agent site (fault_of why)
+why_rejected agent site (rejection.Overlong line) utf8 is = (utf8, is.1)
+why_rejected agent site rejection.Memory utf8 is = utf8
 
 lines_counted : (text : List ℕ) → length (file_lines text) ≤ length text
 lines_counted text = omega (arith, lines_within (map nul_as_lf text), length-map text nul_as_lf)

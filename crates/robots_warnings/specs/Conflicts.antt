@@ -28,12 +28,11 @@ abbrev pub is_empty_disallow : LineValue → List ℕ → Bool
 is_empty_disallow (Allow value) body = begins_with_d (without_front body)
 is_empty_disallow _ body = false
 
--- the line with this number is one; the lines are given with their contents
-abbrev pub is_empty_at : List (List ℕ) → List Label → ℕ → Bool
-is_empty_at [] labels number = false
-is_empty_at (body ∷ bodies) [] number = false
-is_empty_at (body ∷ bodies) (label ∷ labels) number =
-    (is_empty_disallow label.line body && label.number == number) || is_empty_at bodies labels number
+-- the line with this number is one
+abbrev pub is_empty_at : List Label → ℕ → Bool
+is_empty_at [] number = false
+is_empty_at (label ∷ labels) number =
+    (is_empty_disallow label.line label.body && label.number == number) || is_empty_at labels number
 
 -- `/` in place of `*`, which matches the same paths and is as long, so that an Allow of one wins over a
 -- Disallow of the other

@@ -1,6 +1,6 @@
 -- The lines within the size limit of a file.
 use Rattle.std.specs.Prelude.{ℕ, ◌==◌, Bool, true, ◌||◌, ◌&&◌, List, [], ◌∷◌, map}
-use Rattle.texting_robots.specs.Callers.{LineValue, Label, group_name, labels_of}
+use Rattle.texting_robots.specs.Callers.{LineValue, Label, bodies_read, group_name, labels_of, lines_read}
 
 abbrev pub space : ℕ
 space = 32
@@ -16,9 +16,9 @@ abbrev pub is_blank : List ℕ → Bool
 is_blank [] = true
 is_blank (byte ∷ body) = byte == hash || ((byte == space || byte == tab) && is_blank body)
 
--- the lines, labeled for a crawler
-abbrev pub labels_for : List ℕ → List LineValue → List Label
-labels_for agent lines = labels_of (group_name agent lines) lines
+-- the file's lines, labeled for a crawler
+abbrev pub labels_for : List ℕ → List ℕ → List Label
+labels_for agent file = labels_of (group_name agent (lines_read file)) (bodies_read file)
 
 abbrev pub lines_of : List Label → List LineValue
 lines_of labels = map (λ (label : Label). label.line) labels

@@ -1,7 +1,7 @@
 -- All warnings about a file and a request, in the order of output.
 use Rattle.std.specs.Prelude.{ℕ, ◌==◌, Bool, true, List, [], ◌∷◌, ◌++◌, ◌&&◌, Option, Some, None, map}
 use Rattle.std.specs.Prelude.{flat_map, if◌then◌else◌, length, not, ◌||◌, ◌+◌, filter, slice_get}
-use Rattle.texting_robots.specs.Callers.{LineValue, Label, bodies_read, is_named}
+use Rattle.texting_robots.specs.Callers.{LineValue, Label, is_named}
 use Rattle.robots_warnings.specs.{declared.facts.FileFacts.FileFacts, Facts.suppresses_line_warnings}
 use Rattle.robots_warnings.specs.{File.lines_of, Repeated.repeated, Spellings.unpaired, Message.WarningValue}
 use Rattle.robots_warnings.specs.declared.positions.Preceding.{Preceding, TheVariants.Other}
@@ -48,23 +48,21 @@ abbrev pub url_warnings : List ℕ → List WarningValue
 url_warnings url = warned None (Some url) (url_checks url)
 
 -- if the size limit cuts a line, only that is reported
-abbrev pub line_warnings : (is_cut everywhere : Bool) → Label → List ℕ → List WarningValue
-line_warnings is_cut everywhere label body =
+abbrev pub line_warnings : (is_cut everywhere : Bool) → Label → List WarningValue
+line_warnings is_cut everywhere label =
     warned (Some label.number) None (if is_cut then (CutLine, true) ∷ []
-    else line_checks (is_in_scope_of everywhere label.membership) label.line body)
+    else line_checks (is_in_scope_of everywhere label.membership) label.line label.body)
 
 -- if `cuts_last`, the size limit cuts the last line
-abbrev pub lines_warnings : (cuts_last everywhere : Bool) → List (List ℕ) → List Label → List WarningValue
-lines_warnings cuts_last everywhere [] labels = []
-lines_warnings cuts_last everywhere (body ∷ bodies) [] = []
-lines_warnings cuts_last everywhere (body ∷ bodies) (label ∷ labels) =
-    line_warnings (cuts_last && length labels == 0) everywhere label body
-    ++ lines_warnings cuts_last everywhere bodies labels
+abbrev pub lines_warnings : (cuts_last everywhere : Bool) → List Label → List WarningValue
+lines_warnings cuts_last everywhere [] = []
+lines_warnings cuts_last everywhere (label ∷ labels) =
+    line_warnings (cuts_last && length labels == 0) everywhere label
+    ++ lines_warnings cuts_last everywhere labels
 
-abbrev pub file_lines_warnings : FileFacts → Bool → List Label → List (List ℕ) → List WarningValue
-file_lines_warnings facts everywhere labels bodies =
-    if suppresses_line_warnings facts then []
-    else lines_warnings facts.has_cut_line everywhere bodies labels
+abbrev pub file_lines_warnings : FileFacts → Bool → List Label → List WarningValue
+file_lines_warnings facts everywhere labels =
+    if suppresses_line_warnings facts then [] else lines_warnings facts.has_cut_line everywhere labels
 
 -- `last` is the number of the last rule or delay, `preceding` is what precedes the first of these lines, and
 -- `above` and `delay` are the only name and the first delay of the group above it
@@ -166,12 +164,11 @@ vendor_warnings everywhere agents lines number (row ∷ rows) =
     ++ vendor_warnings everywhere agents lines (number + 1) rows
 
 -- about the rules of a group or of a crawler as a whole
-abbrev pub group_warnings : Bool → List (List ℕ) → (bodies : List (List ℕ)) → List LineValue → List Label
-    → List WarningValue
-group_warnings everywhere agents bodies lines labels =
+abbrev pub group_warnings : Bool → List (List ℕ) → List LineValue → List Label → List WarningValue
+group_warnings everywhere agents lines labels =
     warned_at NonstandardEscape None (unpaired Standard everywhere labels)
     ++ (warned_at EscapedDelimiter None (unpaired Plain everywhere labels)
-    ++ (crawler_warnings (is_empty_at bodies labels) agents lines labels
+    ++ (crawler_warnings (is_empty_at labels) agents lines labels
     ++ (warned_at ReplacesStar (Some (Rules (star_count lines))) (replacing agents lines labels)
     ++ (warned_at RepeatedRule None (repeated everywhere labels)
     ++ ((name_warnings labels ++ agent_warnings lines agents)
@@ -189,7 +186,7 @@ abbrev pub warnings : (everywhere : Bool) → (agents urls : List (List ℕ)) �
     → List Label → List LineValue → List WarningValue
 warnings everywhere agents urls file facts labels lines =
     general_warnings facts agents urls lines labels
-    ++ (file_lines_warnings facts everywhere labels (bodies_read file)
+    ++ (file_lines_warnings facts everywhere labels
     ++ (position_warnings labels
     ++ (past_limit_warnings facts file labels
-    ++ group_warnings everywhere agents (bodies_read file) lines labels)))
+    ++ group_warnings everywhere agents lines labels)))

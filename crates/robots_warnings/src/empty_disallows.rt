@@ -1,16 +1,15 @@
 //! Empty Disallows, which are read as an Allow of `/`.
 ghost use Rattle.std.specs.Prelude.{◌≡◌, ℕ, IfOk, map};
 ghost use Rattle.std.specs.{BTreeSet.contains, Ordering.nat_cmp};
-ghost use Rattle.texting_robots.specs.Callers.{bodies_read, by_value, label_by_value};
+ghost use Rattle.texting_robots.specs.Callers.{by_value, label_by_value};
 ghost use Rattle.robots_warnings.specs.Conflicts.{is_empty_at, is_empty_disallow};
 
 use crate::field_names::without_front;
-use crate::file::counted;
 use crate::numbers::{Numbers, insert_if};
 use std::alloc::{AllocError, Global};
 use std::collections::BTreeSet;
 use texting_robots::labels::LabeledLine;
-use texting_robots::parser::{Line, file_bodies};
+use texting_robots::parser::Line;
 
 /// Whether this is an empty Disallow.
 pub fn is_empty_disallow(line: Line<'_>, body: &[u8]) -> bool
@@ -25,18 +24,14 @@ pub fn is_empty_disallow(line: Line<'_>, body: &[u8]) -> bool
 pub(crate) fn empty_disallows(
     alloc: Global,
     labels: &[LabeledLine<'_>],
-    file: &[u8],
 ) -> Result<Numbers, AllocError>
     ensures { IfOk result (λ numbers. (number : ℕ) → contains nat_cmp numbers number
-        ≡ is_empty_at (bodies_read file.now) (map label_by_value labels.now) number) }
+        ≡ is_empty_at (map label_by_value labels.now) number) }
 {
     let mut numbers = BTreeSet::new(alloc);
     let mut rest = labels;
-    for body in file_bodies(counted(file)) {
-        let [labeled, after @ ..] = rest else {
-            return Ok(numbers);
-        };
-        let is = is_empty_disallow(labeled.line, body);
+    while let [labeled, after @ ..] = rest {
+        let is = is_empty_disallow(labeled.line, labeled.body);
         insert_if(&mut numbers, is, labeled.number)?;
         rest = after;
     }

@@ -1,6 +1,6 @@
 //! The lines within the size limit of a file.
 ghost use Rattle.std.specs.Prelude.{◌≡◌, IfOk, map, take};
-ghost use Rattle.texting_robots.specs.Callers.{file_limit, lines_read, label_by_value};
+ghost use Rattle.texting_robots.specs.Callers.{file_limit, label_by_value};
 ghost use Rattle.robots_warnings.specs.File.{is_blank, labels_for};
 
 use std::alloc::{AllocError, Global};
@@ -26,7 +26,7 @@ pub fn labels_for<'a>(
     agent: &str,
     file: &'a [u8],
 ) -> Result<Vec<LabeledLine<'a>>, AllocError>
-    ensures { IfOk result (λ labels. map label_by_value labels.items ≡ labels_for agent.now (lines_read file.now)) }
+    ensures { IfOk result (λ labels. map label_by_value labels.items ≡ labels_for agent.now file.now) }
 {
     labeled_lines(agent, counted(file)).collect(alloc)
 }

@@ -1,6 +1,6 @@
 //! All warnings about a file and a request.
 ghost use Rattle.std.specs.Prelude.{◌≡◌, [], IfOk, OnOk, flat_map, if◌then◌else◌, map, option_map};
-ghost use Rattle.texting_robots.specs.Callers.{bodies_read, by_value, file_lines, label_by_value};
+ghost use Rattle.texting_robots.specs.Callers.{by_value, file_lines, label_by_value};
 ghost use Rattle.robots_warnings.specs.{Checks.directive_checks, Contents.comment_of, Contents.tail_of};
 ghost use Rattle.robots_warnings.specs.{Conflicts.is_empty_at, Spellings.unpaired, Warnings.crawler_warnings};
 ghost use Rattle.robots_warnings.specs.Checks.{is_directive, raw_checks, rule_checks, value_checks};
@@ -20,7 +20,7 @@ use crate::crawlers::{crawlers, warn_of_all_names, warn_of_vendors};
 use crate::empty_disallows::empty_disallows;
 use crate::facts::{FileFacts, suppresses_line_warnings};
 use crate::field_names::{is_without_colon, meant_by};
-use crate::file::{counted, is_blank};
+use crate::file::is_blank;
 use crate::names_past_limit::names_past_limit;
 use crate::positions::{Preceding, first_delay, last_group, preceding_with, sole_name};
 use crate::repeated::repeated;
@@ -30,7 +30,7 @@ use crate::table::Cause;
 use crate::warning::{Detail, Found, Warning};
 use std::alloc::{AllocError, Global};
 use texting_robots::labels::LabeledLine;
-use texting_robots::parser::{Line, file_bodies};
+use texting_robots::parser::Line;
 use texting_robots::site::Site;
 
 /// Microseconds per day.
@@ -185,21 +185,25 @@ fn warn_of_content(
     found: &mut Found<'_>,
     is_in_scope: bool,
     labeled: &LabeledLine<'_>,
-    body: &[u8],
     parts: (&[u8], &[u8]),
 ) -> Result<(), AllocError>
-    requires text { parts.0.now ≡ tail_of body.now }
-    requires comment { parts.1.now ≡ comment_of body.now }
+    requires text { parts.0.now ≡ tail_of labeled.now.body.now }
+    requires comment { parts.1.now ≡ comment_of labeled.now.body.now }
     ensures { OnOk result (Adds found.old.items found.new.items (warned (Some labeled.now.number) None
         (if is_directive (by_value labeled.now.line)
-        then directive_checks is_in_scope (by_value labeled.now.line) body.now else []))) }
+        then directive_checks is_in_scope (by_value labeled.now.line) labeled.now.body.now else []))) }
 {
     let number = labeled.number;
     if let Line::Raw(_) = labeled.line {
         return Ok(());
     }
-    let lacks_colon = is_without_colon(body);
-    warn(found, Some(number), None, &field_checks(body, lacks_colon))?;
+    let lacks_colon = is_without_colon(labeled.body);
+    warn(
+        found,
+        Some(number),
+        None,
+        &field_checks(labeled.body, lacks_colon),
+    )?;
     if lacks_colon {
         return Ok(());
     }
@@ -213,17 +217,16 @@ fn warn_of_line(
     is_cut: bool,
     everywhere: bool,
     labeled: &LabeledLine<'_>,
-    body: &[u8],
 ) -> Result<(), AllocError>
     ensures { OnOk result (Adds found.old.items found.new.items
-        (line_warnings is_cut everywhere (label_by_value labeled.now) body.now)) }
+        (line_warnings is_cut everywhere (label_by_value labeled.now))) }
 {
     if is_cut {
         return warn(found, Some(labeled.number), None, &[(Cause::CutLine, true)]);
     }
     let is_in_scope = is_in_scope_of(everywhere, labeled.membership);
-    let (tail, comment) = split_content(body);
-    warn_of_content(found, is_in_scope, labeled, body, (tail, comment))?;
+    let (tail, comment) = split_content(labeled.body);
+    warn_of_content(found, is_in_scope, labeled, (tail, comment))?;
     warn_of_value(alloc, found, is_in_scope, labeled.number, labeled.line)?;
     let checks = text_checks(tail, comment);
     warn(found, Some(labeled.number), None, &checks)
@@ -236,19 +239,15 @@ fn warn_of_lines(
     read: &FileRead<'_, '_>,
 ) -> Result<(), AllocError>
     ensures { OnOk result (Adds found.old.items found.new.items
-        (file_lines_warnings read.now.facts everywhere (map label_by_value read.now.labels.now)
-        (bodies_read read.now.bytes.now))) }
+        (file_lines_warnings read.now.facts everywhere (map label_by_value read.now.labels.now))) }
 {
     if suppresses_line_warnings(read.facts) {
         return Ok(());
     }
     let mut rest = read.labels;
-    for body in file_bodies(counted(read.bytes)) {
-        let [labeled, after @ ..] = rest else {
-            return Ok(());
-        };
+    while let [labeled, after @ ..] = rest {
         let is_cut = read.facts.has_cut_line && after.is_empty();
-        warn_of_line(alloc, found, is_cut, everywhere, labeled, body)?;
+        warn_of_line(alloc, found, is_cut, everywhere, labeled)?;
         rest = after;
     }
     Ok(())
@@ -338,10 +337,10 @@ fn warn_of_crawlers(
     read: &FileRead<'_, '_>,
 ) -> Result<(), AllocError>
     ensures { OnOk result (Adds found.old.items found.new.items
-        (crawler_warnings (is_empty_at (bodies_read read.now.bytes.now) (map label_by_value read.now.labels.now))
+        (crawler_warnings (is_empty_at (map label_by_value read.now.labels.now))
         (map (λ agent. agent.now) agents.now) (file_lines read.now.site.now) (map label_by_value read.now.labels.now))) }
 {
-    let empty = empty_disallows(alloc, read.labels, read.bytes)?;
+    let empty = empty_disallows(alloc, read.labels)?;
     let lines = rule_lines(alloc, read.site, agents, &empty)?;
     warn_of_numbers(found, read.labels, &lines)
 }
@@ -369,7 +368,7 @@ fn warn_of_groups<'a>(
     read: &FileRead<'_, '_>,
 ) -> Result<(), AllocError>
     ensures { OnOk result (Adds found.old.items found.new.items (group_warnings everywhere
-        (map (λ agent. agent.now) agents.now) (bodies_read read.now.bytes.now) (file_lines read.now.site.now)
+        (map (λ agent. agent.now) agents.now) (file_lines read.now.site.now)
         (map label_by_value read.now.labels.now))) }
 {
     let (labels, site) = (read.labels, read.site);

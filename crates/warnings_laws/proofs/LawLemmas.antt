@@ -301,7 +301,7 @@ kept false (warning ∷ warnings) is = grind (arith, passing, ne_eqb)
 -- all warnings but those about needless rules and sitemaps, as `warnings_found` has them
 abbrev warnings_for : Option (List ℕ) → (agents urls : List (List ℕ)) → List ℕ → List WarningValue
 warnings_for agent agents urls file =
-    let labels = labels_for (labeling_agent agent) (lines_read file) in
+    let labels = labels_for (labeling_agent agent) file in
     warnings (is_none agent) agents urls file (facts_of file labels) labels (lines_read file)
 
 -- if the request isn't about a single crawler, the warnings are those of all groups

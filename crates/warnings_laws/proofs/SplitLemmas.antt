@@ -11,7 +11,7 @@ use Rattle.std.proofs.lemmas.Bool.{and_from, and_parts, not-false, not-true}
 use Rattle.texting_robots.specs.Callers.{Allow, CrawlDelay, Disallow, Label, LineValue, Raw, Sitemap}
 use Rattle.texting_robots.specs.Callers.{UserAgent, file_bodies, file_limit, group_name, lines_read}
 use Rattle.texting_robots.specs.{Group.is_agent}
-use Rattle.texting_robots.proofs.{LabelLemmas.each_line_has_its_label}
+use Rattle.texting_robots.proofs.{LabelLemmas.labels_hold}
 use Rattle.rfc9309_laws.specs.Rfc9309.{Group, IsFile, has_token, is_rule, is_token, merged, put_before}
 use Rattle.rfc9309_laws.specs.Rfc9309.{rules_for, standard_rules}
 use Rattle.rfc9309_laws.proofs.DelayLemmas.{has_rule, is_unsplit, left_above, rules_unsplit}
@@ -180,14 +180,14 @@ pub rules_not_split : (file agent : List ℕ) (groups : List Group) → IsFile g
 rules_not_split file agent groups is quiet =
     let text = take file_limit file in
     let lines = lines_read file in
-    let labels : List Label = labels_for (codes "*") lines in
+    let labels : List Label = labels_for (codes "*") file in
     let sources : List Source = map source_of (file_bodies text) in
     let (numbers, read) = file_read text groups is in
     let made : (parts_in sources).groups ≡ merged groups =
     ap (λ (parts : Parts). parts.groups) (sym (raw_parts sources))
     ∙ groups_written text numbers groups read in
     let same : lines_of labels ≡ lines_in sources =
-    ((each_line_has_its_label (group_name (codes "*") lines) lines labels).1 refl).lines_are
+    (labels_hold (group_name (codes "*") lines) (file_bodies text)).0
     ∙ sym (map-map (λ (source : Source). source.0) source_of (file_bodies text)) in
     let are = lines_unsplit (last_group labels) Other None None labels quiet in
     rules_unsplit agent groups

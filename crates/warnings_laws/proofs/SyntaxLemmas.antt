@@ -18,13 +18,14 @@ use Rattle.robots_warnings.specs.Warnings.{file_lines_warnings}
 use Rattle.robots_warnings.specs.Warnings.{group_warnings, past_limit_warnings, position_warnings, warnings}
 use Rattle.texting_robots.specs.Callers.{Label, LineValue, UserAgent, IsLineOf, lines_read}
 use Rattle.texting_robots.specs.Callers.{IsRobotOfFile, RobotValue, file_bodies, file_limit, group_name}
-use Rattle.texting_robots.specs.{Group.is_agent, Line.without_front, Labels.AreLabelsOf}
+use Rattle.texting_robots.specs.{Group.is_agent, Line.without_front, Labels.AreLabelsOf, Labels.bodies_in}
 use Rattle.rfc9309_laws.specs.LineForms.{AreRulesBelowAgents, Form, HasForm, AreForms}
 use Rattle.warnings_laws.specs.Syntax.{form_of, AreQuiet, IsNotAboutSyntax, IsQuietLine, HasSyntax}
 use Rattle.warnings_laws.specs.Syntax.{IsRobotStated, IsSilentOn, warnings_of}
 use Rattle.warnings_laws.proofs.QuietLemmas.{each_back, second}
 use Rattle.warnings_laws.proofs.{WarningLemmas.below_agent, FormLemmas.line_form}
-use Rattle.texting_robots.proofs.{LabelLemmas.each_line_has_its_label, CapturedLemmas.some_passes}
+use Rattle.texting_robots.proofs.{LabelLemmas.each_line_has_its_label, LabelLemmas.labels_hold}
+use Rattle.texting_robots.proofs.{CapturedLemmas.some_passes}
 use Rattle.texting_robots.proofs.{LineLemmas.lines_of_file_bodies}
 use Rattle.rfc9309_laws.proofs.{LineFormLemmas.forms_make_file, RobotLemmas.forms_robot}
 use Rattle.rfc9309_laws.proofs.SyntaxLemmas.{each_front, each_weaker}
@@ -146,12 +147,13 @@ module _ (test : Cause → Bool) where
   whole is_cut checks fails all = grind arith
 
   pub lines_quiet : (cuts : Bool) (bodies : List (List ℕ)) (labels : List Label) → test CutLine ≡ false
-      → lines_of labels ≡ map line_of bodies → ArePassed test (lines_warnings cuts true bodies labels)
+      → lines_of labels ≡ map line_of bodies → bodies_in labels ≡ bodies
+      → ArePassed test (lines_warnings cuts true labels)
       → Each (λ body. AreQuietBy test (line_checks true (line_of body) body)) bodies
-  lines_quiet cuts [] labels fails same all = tt
-  lines_quiet cuts (body ∷ bodies) [] fails same all = absurd cc
-  lines_quiet cuts (body ∷ bodies) (label ∷ labels) fails same all =
-      grind (arith, whole, warned_quiet, each_front, each_back, lines_quiet cuts bodies labels fails (cc))
+  lines_quiet cuts [] labels fails same hold all = tt
+  lines_quiet cuts (body ∷ bodies) [] fails same hold all = absurd cc
+  lines_quiet cuts (body ∷ bodies) (label ∷ labels) fails same hold all =
+      grind (arith, whole, warned_quiet, each_front, each_back, lines_quiet cuts bodies labels fails (cc) (cc))
 
   pub shown : (hidden : Bool) (warnings : List WarningValue) → hidden ≡ false
       → ArePassed test (if hidden then [] else warnings) → ArePassed test warnings
@@ -203,16 +205,19 @@ module _ (file : List ℕ) where
   name = group_name (codes "*") (lines_read file)
 
   abbrev pub labels : List Label
-  labels = labels_for (codes "*") (lines_read file)
+  labels = labels_for (codes "*") file
 
   abbrev pub facts : FileFacts
   facts = facts_of file labels
 
-  pub labels_are : AreLabelsOf name (lines_read file) labels
-  labels_are = (each_line_has_its_label name (lines_read file) labels).1 refl
-
   pub reads : AllZip IsLineOf (lines_read file) bodies
   reads = search (rules, lines_of_file_bodies)
+
+  pub labels_are : AreLabelsOf name (lines_read file) labels
+  labels_are = ((each_line_has_its_label name (lines_read file) bodies labels reads).1 refl).0
+
+  pub bodies_are : bodies_in labels ≡ bodies
+  bodies_are = (labels_hold name bodies).1
 
   module _ (test : Cause → Bool) (agents urls : List (List ℕ))
       (all : ArePassed test (warnings_of agents urls file)) where
@@ -220,7 +225,7 @@ module _ (file : List ℕ) where
     Passes warning = test warning.cause ≡ true
 
     abbrev of_lines : List WarningValue
-    of_lines = file_lines_warnings facts true labels bodies
+    of_lines = file_lines_warnings facts true labels
 
     abbrev of_positions : List WarningValue
     of_positions = position_warnings labels
@@ -229,7 +234,7 @@ module _ (file : List ℕ) where
     past_limit = past_limit_warnings facts file labels
 
     abbrev of_groups : List WarningValue
-    of_groups = group_warnings true agents bodies (lines_read file) labels
+    of_groups = group_warnings true agents (lines_read file) labels
 
     passed_later : Each Passes (of_lines ++ (of_positions ++ (past_limit ++ of_groups)))
     passed_later = grind (arith, each_back)
@@ -244,7 +249,7 @@ module _ (file : List ℕ) where
 
     pub bodies_quiet : test CutLine ≡ false → suppresses_line_warnings facts ≡ false
         → Each (λ body. AreQuietBy test (line_checks true (line_of body) body)) bodies
-    bodies_quiet fails are_shown = grind (arith, lines_quiet, labels_are, shown, each_front, passed_later)
+    bodies_quiet fails are_shown = grind (arith, lines_quiet, labels_are, bodies_are, shown, each_front, passed_later)
 
     pub passed_positions : ArePassed test of_positions
     passed_positions = grind (arith, each_front, passed_after)

@@ -123,17 +123,17 @@ module _ (agents urls : List (List ℕ)) (file : List ℕ)
       kept_lines (bodies file) (reads file)
       (bodies_quiet file keeps_verdicts agents urls kept cut_matters (quiets agents urls file silent).shown)
 
-  kept_groups : Each KeepsVerdicts (group_warnings true agents (bodies file) lines (labels file))
+  kept_groups : Each KeepsVerdicts (group_warnings true agents lines (labels file))
   kept_groups = passed_groups file keeps_verdicts agents urls kept
 
   no_escapes : Each (λ number. ⊥) (unpaired Standard true (labels file))
   no_escapes = grind (arith, none_at, labels, each_front, kept_groups)
 
   abbrev is_empty : ℕ → Bool
-  is_empty = is_empty_at (bodies file) (labels file)
+  is_empty = is_empty_at (labels file)
 
   empty_is : (number : ℕ) → (is_empty number ≡ true) ↔ IsEmptyDisallow (bodies file) number
-  empty_is number = empty_disallows (name file) file (labels file) number (labels_are file)
+  empty_is number = empty_disallows (name file) file (labels file) number (labels_are file) (bodies_are file)
 
   abbrev about : Label → List WarningValue
   about label =

@@ -21,7 +21,7 @@ IsNotAboutSyntax warning = is_not_about_syntax warning.cause ≡ true
 abbrev pub warnings_of : (agents urls : List (List ℕ)) → List ℕ → List WarningValue
 warnings_of agents urls file =
     let lines = lines_read file in
-    let labels = labels_for (codes "*") lines in
+    let labels = labels_for (codes "*") file in
     warnings true agents urls file (facts_of file labels) labels lines
 
 -- none of these warnings is about the syntax of the file
@@ -64,4 +64,4 @@ IsNoSplit warning = (warning.cause ≢ DelaySplitsGroup) × (warning.cause ≢ D
 
 -- no warning about the position of a line of the file is about a delay that splits a group
 abbrev pub AreGroupsWhole : List ℕ → Type 0
-AreGroupsWhole file = Each IsNoSplit (position_warnings (labels_for (codes "*") (lines_read file)))
+AreGroupsWhole file = Each IsNoSplit (position_warnings (labels_for (codes "*") file))

@@ -1,6 +1,6 @@
 use Rattle.std.proofs.Common.{◌≡◌, OnOk, ap, flat_map, map, subst, ◌∙◌}
 use Rattle.std.specs.{BTreeSet.contains, Ordering.nat_cmp}
-use Rattle.texting_robots.specs.Callers.{bodies_read, file_lines, label_by_value}
+use Rattle.texting_robots.specs.Callers.{file_lines, label_by_value}
 use Rattle.robots_warnings.specs.Conflicts.{conflict, overruled, is_empty_at}
 use Rattle.robots_warnings.specs.Internal.{Adds, Rules.warnings_at}
 use Rattle.robots_warnings.specs.Warnings.{crawler_warnings, rule_warnings}
@@ -11,7 +11,7 @@ returns c =
     let labels = map label_by_value c.args.read.now.labels.now in
     let agents = map (λ agent. agent.now) c.args.agents.now in
     let lines = file_lines c.args.read.now.site.now in
-    let is_empty = is_empty_at (bodies_read c.args.read.now.bytes.now) labels in
+    let is_empty = is_empty_at labels in
     let empty : contains nat_cmp c.in_ok-empty.empty ≡ is_empty = λ i n. c.in_ok-empty.ensures n i in
     let are = c.in_ok-lines.ensures in
     let same : flat_map (λ label. warnings_at c.in_ok-lines.lines label.number) labels
