@@ -210,7 +210,11 @@ static void try_responses(void) {
         {301, 4, true, false, ROBOTS_FOLLOW},    {301, 5, true, true, ROBOTS_ALLOW_ALL},  {304, 0, true, true, ROBOTS_DENY_ALL},
         {399, 0, true, true, ROBOTS_FOLLOW},     {400, 0, true, false, ROBOTS_ALLOW_ALL}, {403, 0, false, true, ROBOTS_ALLOW_ALL},
         {429, 0, false, true, ROBOTS_DENY_ALL},  {499, 0, false, true, ROBOTS_ALLOW_ALL}, {500, 0, true, true, ROBOTS_DENY_ALL},
-        {65736, 0, false, true, ROBOTS_DENY_ALL}};
+        {205, 0, false, true, ROBOTS_PARSE},     {206, 0, false, false, ROBOTS_DENY_ALL}, {207, 5, true, true, ROBOTS_PARSE},
+        {303, 4, true, true, ROBOTS_FOLLOW},     {303, 0, false, true, ROBOTS_DENY_ALL},  {305, 5, true, true, ROBOTS_ALLOW_ALL},
+        {304, 5, true, true, ROBOTS_DENY_ALL},   {399, 5, true, true, ROBOTS_ALLOW_ALL},  {399, 0, false, true, ROBOTS_DENY_ALL},
+        {428, 5, true, true, ROBOTS_ALLOW_ALL},  {429, 5, true, true, ROBOTS_DENY_ALL},   {430, 0, true, true, ROBOTS_ALLOW_ALL},
+        {65535, 0, false, true, ROBOTS_DENY_ALL}, {65736, 0, false, true, ROBOTS_DENY_ALL}};
     for (size_t i = 0; i < sizeof cases / sizeof *cases; i++)
         tell("a response", robots_response_meaning(cases[i].status, cases[i].redirects, cases[i].has_location, cases[i].is_complete)
             == cases[i].meaning);
@@ -250,6 +254,35 @@ static void try_batch(void) {
     robots_close(robot);
 }
 
+/* One for each rule, and for each that isn't too long one look at each byte before its first star or dollar, or two at each byte of the
+ * target if that is a star. */
+static void try_costs(void) {
+    static const char three[] = "Allow: /ocean\nDisallow: /rust\nDisallow: /forest*.py";
+    static const struct {
+        const char *file;
+        size_t length;
+        uint64_t cost;
+    } cases[] = {
+        {three, 0, 3},
+        {three, 5, 3 + 5},
+        {three, 6, 3 + 5 + 6},
+        {three, 7, 3 + 5 + 6 + 2 * 7},
+        {three, 10, 3 + 5 + 6 + 2 * 10},
+        {"Disallow: /a$", 1, 1},
+        {"Disallow: /a$", 2, 1 + 2},
+        {"Disallow: /a$*", 100, 1 + 2},
+        {"Disallow: *", 100, 1 + 2 * 100},
+        {"Disallow: *\nDisallow: *", SIZE_MAX, UINT64_MAX},
+        {"User-agent: other\nDisallow: /b", 10, 0},
+    };
+    for (size_t i = 0; i < sizeof cases / sizeof *cases; i++) {
+        robots *robot = NULL;
+        bool opened = robots_open("Bot", 3, ROBOTS_STRING(cases[i].file), &robot, NULL) == ROBOTS_OK;
+        tell("a cost by the rules", opened && robots_cost(robot, cases[i].length) == cases[i].cost);
+        robots_close(robot);
+    }
+}
+
 /* The file has the rules "/a*b" in line 1 and "/c$" in line 2, which are tried in this order. */
 static void try_budgets(void) {
     static const struct {
@@ -282,6 +315,7 @@ static void try_budgets(void) {
     for (size_t i = 0; i < sizeof costs / sizeof *costs; i++)
         tell("a cost", opened && robots_cost(robot, costs[i].length) == costs[i].cost);
     robots_close(robot);
+    try_costs();
 }
 
 /* Opens a robot, queries it, and closes it. What needs no memory is never reported as out of memory. */

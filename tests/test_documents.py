@@ -174,7 +174,7 @@ def test_documents_name_warnings_and_options_that_exist(name):
 
 
 def test_documents_are_short():
-    assert len(README.encode()) <= 7_000 and sum(len(text.encode()) for text in PAGES.values()) <= 92_000
+    assert len(README.encode()) <= 7_000 and sum(len(text.encode()) for text in PAGES.values()) <= 100_000
 
 
 @pytest.mark.parametrize("name", DOCUMENTS)
@@ -226,15 +226,12 @@ def test_guide_runs_its_program():
     assert (result.status, result.err) == (0, "") and words[-1] in result.out
 
 
-def test_readme_shows_what_the_first_command_prints():
-    """Some lines of the output, in its order. The same file has another name in the folder of a release."""
-    words = shlex.split(re.search(r"^    \(cd crates/robots_audit && rt try -- (.*)\)$", README, re.M)[1])
-    result = run("robots_audit", words, cwd=CRATES / "robots_audit")
-    assert result.status == 1
-    lines = iter((result.out + result.err.replace("../../examples/", "share/doc/robots_audit/")).splitlines())
-    examples = shown(section(README, "Audit a file").split("It prints")[1].split("`+` marks")[0]).splitlines()
-    assert len(examples) > 5
-    assert [line for line in examples if line not in lines] == []
+def test_readme_shows_what_its_first_command_prints():
+    """The command as it is there, which compiles the program anew."""
+    command, report = section(README, "Try it").split("prints:")
+    ended = subprocess.run(["bash", "-c", shown(command)], cwd=ROOT, stdin=subprocess.DEVNULL, capture_output=True, text=True)
+    warnings = [line for line in ended.stderr.splitlines() if line.startswith("robots.txt:")]
+    assert (ended.returncode, [*ended.stdout.splitlines(), *warnings]) == (1, shown(report.split("`+` marks")[0]).splitlines())
 
 
 @pytest.mark.parametrize("command", [line for line in (shown(README) + shown(PROGRAMS)).splitlines() if re.match("(robots_audit|curl) ", line)])

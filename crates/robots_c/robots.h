@@ -132,9 +132,9 @@ ROBOTS_CHECK int32_t robots_open(const char *agent, size_t agent_len, const void
 /* Writes the result for one URL. It doesn't allocate for the empty text, a path in which nothing has to be escaped, and most URLs. */
 ROBOTS_CHECK int32_t robots_query(const robots *robot, const char *url, size_t url_len, int64_t *result) ROBOTS_NONNULL(1, 4);
 
-/* robots_query for a robot whose file may be hostile: it takes no more time than the budget allows. Each rule that is tried costs one, and
- * each comparison of a byte of the URL one. Before a rule that might cost more than is left, it gives up: the status is ROBOTS_TOO_COSTLY,
- * and there is no result. Otherwise the result is that of robots_query. It allocates. */
+/* robots_query for a robot whose file may be hostile. Each rule that is tried costs one, and each comparison of a byte of the URL one, and
+ * no more is spent than the budget. Before a rule that might cost more than is left, it gives up: the status is ROBOTS_TOO_COSTLY, and
+ * there is no result. Otherwise the result is that of robots_query. Parsing the URL isn't counted. It allocates. */
 ROBOTS_CHECK int32_t robots_query_within(const robots *robot, const char *url, size_t url_len, uint64_t budget,
                                          int64_t *result) ROBOTS_NONNULL(1, 5);
 

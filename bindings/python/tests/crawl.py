@@ -51,7 +51,7 @@ class Stamped(HTTP11DownloadHandler):
 
 
 class Spider(scrapy.Spider):
-    """Follows all links, and if a setting says so, with a slot of its own for each request."""
+    """Follows all links, and if a setting says so, with a slot of its own for each request, or with one for all."""
 
     name = "small_site"
     numbers = itertools.count()
@@ -59,6 +59,7 @@ class Spider(scrapy.Spider):
     def parse(self, response):
         for link in response.css("a"):
             slot = {"download_slot": f"slot {next(self.numbers)}"} if self.settings.getbool("SLOTS_APART") else {}
+            slot |= {"download_slot": self.settings["ONE_SLOT"]} if self.settings["ONE_SLOT"] else {}
             yield response.follow(link, self.parse, meta=slot)
 
     def log_sitemaps(self, sitemaps, robots_url, spider):

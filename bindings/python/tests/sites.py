@@ -21,14 +21,14 @@ class Site(ThreadingHTTPServer):
 
     daemon_threads = True
 
-    def __init__(self, *answers, settings, links=dict.fromkeys(PAGES, PAGES)):
-        super().__init__(("127.0.0.1", 0), Handler)
+    def __init__(self, *answers, settings, links=dict.fromkeys(PAGES, PAGES), host="127.0.0.1"):
+        super().__init__((host, 0), Handler)
         self.answers, self.settings, self.links = list(answers), settings, links
         self.got, self.closing, self.peer = [], threading.Event(), self
 
     @property
     def address(self):
-        return f"http://127.0.0.1:{self.server_address[1]}"
+        return "http://%s:%d" % self.server_address
 
     def paths(self):
         """What was fetched, in this order."""

@@ -102,7 +102,7 @@ def test_denials():
     assert matrix.denials(OVERLONG) == [("LongBot", "/", None), ("LongBot", "/search", None), ("LongBot", "/search/help", None)]
     assert matrix.denials(b"") == matrix.denials(b"#" * (FILE_LIMIT - 1) + b"\nUser-agent: *\nDisallow: /") == []
     for wrong in ["User-agent: *", None, [SHOP], texting_robots._native.ffi.new("char[]", 10)]:
-        with pytest.raises(TypeError, match="a bytes-like object is required, not "):
+        with pytest.raises(TypeError, match="^body has the type .*: it has to be bytes or another buffer"):
             matrix.denials(wrong)
     for urls, agents in [([], ["a"]), (["/"], []), (["/a\nb"], ["a"]), (["/"], ["a\nb"]), (["/"], ["a/1"]), (["/\ud800"], ["a"])]:
         with pytest.raises(ValueError):
@@ -260,8 +260,9 @@ def test_bodies_of_text():
     with pytest.raises(ValueError):
         Robots("Disallow: /\ud800")
     for body in [None, 3, ["User-agent: *"]]:
-        with pytest.raises(TypeError):
-            Robots(body)
+        for call in [Robots, Robots.parse, Matrix(["/"], ["FerrisBot"]).denials]:
+            with pytest.raises(TypeError, match=f"^body has the type {type(body).__name__}: it has to be bytes or another buffer"):
+                call(body)
 
 
 @pytest.mark.parametrize(
@@ -335,25 +336,51 @@ def test_an_agent_with_a_slash(agent, error):
             call()
 
 
-@pytest.mark.parametrize("wrong", [None, 3, b"FerrisBot", ["/"]])
+class URL:
+    """As of yarl and httpx: no str, but str() of it is one."""
+
+    def __str__(self):
+        return "https://example.com/"
+
+
+@pytest.mark.parametrize("wrong", [None, 3, b"FerrisBot", ["/"], URL()])
 def test_what_is_no_text(wrong):
+    """The error has the argument, its type, and what it may be."""
+    robots, kind = Robots(SHOP), type(wrong).__name__
+    of_agents = [*calls_with(robots, "/", wrong), lambda: robots.delay(wrong), lambda: robots.is_named(wrong), lambda: robots.cost(1, wrong)]
+    of_agents += [lambda: Matrix(["/"], [wrong])]
+    of_urls = [*calls_with(robots, wrong, "FerrisBot"), lambda: robots.verdict_within(wrong, "FerrisBot", 9), lambda: robots_url(wrong)]
+    of_urls += [lambda: Matrix([wrong], ["FerrisBot"])]
+    for calls, argument, example in [(of_agents, "agent", "FerrisBot"), (of_urls, "url", "https://example.com/a"), ([lambda: product_token(wrong)], "user_agent", "FerrisBot/1.0")]:
+        for call in calls:
+            with pytest.raises(TypeError, match=rf"^{argument}(s\[[01]\])? has the type {kind}: it has to be a str, such as '{example}'$"):
+                call()
+
+
+@pytest.mark.parametrize("wrong", ["/search", b"/search", None, 3])
+def test_what_is_not_several(wrong):
     robots = Robots(SHOP)
-    calls = [*calls_with(robots, "/", wrong), *calls_with(robots, wrong, "FerrisBot"), lambda: robots.delay(wrong)]
-    for call in [*calls, lambda: robots.is_named(wrong), lambda: robots_url(wrong), lambda: product_token(wrong)]:
-        with pytest.raises(TypeError):
+    of_urls = [lambda: robots.verdicts(wrong, "FerrisBot"), lambda: robots.matrix(wrong, ["FerrisBot"]), lambda: Matrix(wrong, ["FerrisBot"])]
+    of_agents = [lambda: robots.matrix(["/search"], wrong), lambda: Matrix(["/search"], wrong)]
+    for calls, argument in [(of_urls, "urls"), (of_agents, "agents")]:
+        for call in calls:
+            with pytest.raises(TypeError, match=f"^{argument} has the type {type(wrong).__name__}: it has to be several str"):
+                call()
+
+
+def test_the_place_of_what_is_no_text():
+    for call, place in [(lambda: Robots(SHOP).verdicts(["/", b"/"], "FerrisBot"), r"urls\[1\]"), (lambda: Robots(SHOP).matrix(["/"], [b"*"]), r"agents\[0\]")]:
+        with pytest.raises(TypeError, match=f"^{place} has the type bytes"):
             call()
 
 
-def test_one_text_in_place_of_several():
-    robots = Robots(SHOP)
-    for call in [
-        lambda: robots.verdicts("/search", "FerrisBot"),
-        lambda: robots.verdicts("FerrisBot", ["/search"]),
-        lambda: robots.matrix("/search", ["FerrisBot"]),
-        lambda: robots.matrix(["/search"], "FerrisBot"),
-    ]:
-        with pytest.raises(TypeError, match="several"):
-            call()
+def test_an_error_of_an_iterator_is_its_own():
+    def failing():
+        yield "/"
+        raise TypeError("of the iterator")
+
+    with pytest.raises(TypeError, match="^of the iterator$"):
+        Robots(SHOP).verdicts(failing(), "FerrisBot")
 
 
 def test_what_is_not_utf8():

@@ -5,6 +5,7 @@ import contextlib
 import csv
 import functools
 import gzip
+import importlib.util
 import io
 import itertools
 import json
@@ -17,6 +18,7 @@ import sys
 import tempfile
 import time
 import tracemalloc
+import types
 import xml.dom.minidom
 from collections import Counter
 from itertools import count
@@ -95,6 +97,12 @@ def warc_records():
             yield response(site, b"User-agent: *\nDisallow: /", f"HTTP/1.1 {NO_FILE[number // 50]}")
         sent, more = chunked(body) if number % 3 == 0 else (body, b"")
         yield response(site, sent, more=more)
+
+
+@pytest.fixture(autouse=True)
+def read_here(monkeypatch):
+    """No test reads WARC files by FastWARC or warcio but those that say so."""
+    monkeypatch.setattr(census, "RECORDS", {})
 
 
 @pytest.fixture(scope="module")
@@ -180,6 +188,93 @@ def test_a_cut_file_has_the_records_before(tmp_path):
         sites, _, errors = counted_in(path)
         at_least = 1 + (length >= len(packed[0] + packed[1]))
         assert sites[:at_least] == ["site0", "site1"][:at_least] and (errors or length in (len(packed[0]), len(packed[0] + packed[1])))
+
+
+class Limited(io.BytesIO):
+    """A stream that gives less than it is asked for, as that of warcio does."""
+
+    def read(self, length):
+        return super().read(min(length, 999))
+
+
+def records_like(module):
+    """What census.py uses of an ArchiveIterator of FastWARC or warcio. Where a record is cut, so is its stream."""
+
+    class Records:
+        def __init__(self, file, **options):
+            assert options == ({"parse_http": False} if module == "fastwarc.warc" else {"no_record_parse": True})
+            self.stream = gzip.open(file) if file.peek(2).startswith(census.GZIP) else file
+
+        def get_record_offset(self):
+            self.content.seek(0, io.SEEK_END)
+            return self.place
+
+        def __iter__(self):
+            while True:
+                self.place, version = census.next_record(self.stream)
+                if not version.startswith(b"WARC/"):
+                    return
+                fields = {name.title(): value for name, value in census.fields_of(self.stream).items()}
+                self.content = content = Limited(self.stream.read(int(fields["Content-Length"])))
+                headers = types.SimpleNamespace(headers=list(fields.items()))
+                yield types.SimpleNamespace(headers=fields, rec_headers=headers, reader=content, raw_stream=content, stream_pos=self.place)
+
+    return types.SimpleNamespace(ArchiveIterator=Records)
+
+
+BY_LIBRARIES = {"fastwarc.warc": census.records_by_fastwarc, "warcio.archiveiterator": census.records_by_warcio}
+
+
+@pytest.fixture(params=[*BY_LIBRARIES, *(f"real {module}" for module in BY_LIBRARIES if importlib.util.find_spec(module.split(".")[0]))])
+def library(request, monkeypatch):
+    """The name of a module that reads WARC files: one like that of a library, or the real one if it is there."""
+    kind, _, module = request.param.rpartition(" ")
+    if kind != "real":
+        monkeypatch.setitem(sys.modules, module.split(".")[0], types.ModuleType(module.split(".")[0]))
+        monkeypatch.setitem(sys.modules, module, records_like(module))
+    monkeypatch.setattr(census, "RECORDS", {"missing.module": None, module: BY_LIBRARIES[module]})
+    return module
+
+
+@pytest.mark.parametrize("name", ["a.warc", "a.warc.gz"])
+def test_a_library_that_can_be_imported_reads_warc_files(library, tmp_path, name):
+    """With the same result. Each record is compressed alone, as warcio needs it."""
+    assert census.warc_module() == library
+    records = [*warc_records(), VIDEO, response("large.example", b"#\n" * 300_000)]
+    (tmp_path / name).write_bytes(b"".join(map(gzip.compress, records) if name.endswith("gz") else records))
+    found = counted([("warc", str(tmp_path / name))])
+    assert (len(found[0]), found[1], found[2:]) == (len(SITES) + 1, STATUSES + Counter({"other records": 1}), (COUNTS, ROWS, []))
+
+
+@pytest.mark.parametrize(
+    "data, error",
+    [
+        (b"WARC/1.0\r\nWARC-Type: response\r\nContent-Length: 999\r\n\r\nHTTP/1.1 200 OK", "the record is cut"),
+        (b"WARC/1.0\r\nWARC-Type: response\r\nContent-Length: -1\r\n\r\nHTTP/1.1 200 OK", "a record has no length"),
+    ],
+)
+def test_a_library_cuts_no_record_unnoticed(library, tmp_path, data, error):
+    (tmp_path / "a.warc").write_bytes(SOUND + data)
+    assert counted_in(tmp_path / "a.warc") == (["sound"], {}, [f"unread: ValueError: {error}"])
+
+
+def test_fastwarc_that_ends_early(monkeypatch, tmp_path):
+    """It does so, without an error, where no record begins."""
+    monkeypatch.setitem(sys.modules, "fastwarc", types.ModuleType("fastwarc"))
+    monkeypatch.setitem(sys.modules, "fastwarc.warc", records_like("fastwarc.warc"))
+    monkeypatch.setattr(census, "RECORDS", {"fastwarc.warc": census.records_by_fastwarc})
+    (tmp_path / "a.warc").write_bytes(SOUND + b"garbage\n" + SOUND)
+    assert counted_in(tmp_path / "a.warc") == (["sound"], {}, ["unread: ValueError: FastWARC ends before the file does"])
+
+
+def test_parts_are_made_by_one_reader(tmp_path, monkeypatch):
+    (tmp_path / "a.warc").write_bytes(SOUND)
+    (tmp_path / "parts").mkdir()
+    batches = [("warc", f"{tmp_path}/a.warc")]
+    counted(batches, parts=tmp_path / "parts")
+    monkeypatch.setattr(census, "warc_module", lambda: "another")
+    counted(batches, parts=tmp_path / "parts")
+    assert len(parts_in(tmp_path)) == 4
 
 
 def content(record):

@@ -1,10 +1,13 @@
 """Crawls by Scrapy with the middleware, of sites on 127.0.0.1 that answer in many ways: what is fetched, what isn't, and when."""
 
 import ast
+import gzip
 import itertools
+import random
 import re
 import time
 import types
+import zlib
 
 import package
 import pytest
@@ -28,9 +31,11 @@ SITEMAPS = [f"https://example.com/{number}.xml" for number in range(2)]
 README = (package.PACKAGE / "README.md").read_text()
 DOWNLOADER_MIDDLEWARES = ast.literal_eval(re.search(r"^    DOWNLOADER_MIDDLEWARES = (\{.*?\})$", README, re.M | re.S)[1])
 MIDDLEWARE = {"USER_AGENT": "FerrisBot/1.0 (+https://example.com/bot)", "DOWNLOADER_MIDDLEWARES": DOWNLOADER_MIDDLEWARES}
+MIDDLEWARE["TEXTING_ROBOTS_PARKED"] = 0  # the requests of an outage wait in test_outage.py
 TOLERANCE = 0.1  # seconds, as a process on a busy machine may stop at any point
 
 
+GZIP = {"Content-Encoding": "gzip"}
 FAILS, HALF = answers(500, b""), answers(200, RULES, length=2 * len(RULES))
 LONG = RULES + b"# filler\n" * 60_000 + b"Disallow: /public/\n"
 WITH_SITEMAPS = RULES + "".join(f"Sitemap: {it}\n" for it in SITEMAPS).encode()
@@ -57,6 +62,12 @@ MEANINGS = {
     "no answer": (never, []),
     "half a body": (HALF, []),
     "half a body for Scrapy": (HALF, []),
+    "gzip": (answers(200, gzip.compress(RULES), **GZIP), PUBLIC),
+    "gzip, said but isn't": (answers(200, **GZIP), PUBLIC),
+    "gzip, cut": (answers(200, gzip.compress(RULES + random.Random(1).randbytes(5000))[:-60], **GZIP), PUBLIC),
+    "gzip of 50 MB": (answers(200, gzip.compress(RULES + bytes(50_000_000)), **GZIP), PUBLIC),
+    "deflate, cut": (answers(200, zlib.compress(RULES + b"# x\n" * 99)[:-9], **{"Content-Encoding": "deflate"}), PUBLIC),
+    "brotli": (answers(200, **{"Content-Encoding": "br"}), []),
 }
 SETTINGS = {
     "200 with more than 512,000 bytes": {"DOWNLOAD_MAXSIZE": 100_000},
@@ -218,7 +229,7 @@ class Engine:
 
 def ours(answer, **settings):
     """A middleware whose engine answers this, with its crawler."""
-    crawler = get_crawler(settings_dict={"ROBOTSTXT_OBEY": True, "USER_AGENT": "FerrisBot/1.0"} | settings)
+    crawler = get_crawler(settings_dict={"ROBOTSTXT_OBEY": True, "USER_AGENT": "FerrisBot/1.0", "TEXTING_ROBOTS_PARKED": 0} | settings)
     crawler.engine = Engine(answer)
     return middleware.RobotsMiddleware.from_crawler(crawler), crawler
 
@@ -258,8 +269,8 @@ def test_a_site_is_a_scheme_with_a_host_and_a_port():
 
 def test_lifetime(monkeypatch):
     now = [0.0]
-    monkeypatch.setattr(middleware.time, "monotonic", lambda: now[0])
     robots, crawler = ours(file())
+    monkeypatch.setattr(robots._cache, "_clock", lambda: now[0])
 
     def after(seconds, answer):
         now[0], crawler.engine.answer, before = now[0] + seconds, answer, len(crawler.engine.requests)
@@ -268,28 +279,29 @@ def test_lifetime(monkeypatch):
     assert after(0, file(status=500)) == (False, False, 1)
     assert after(299, file()) == (False, False, 0)
     assert after(2, file()) == (True, False, 1)
-    assert after(86_399, file(CLOSED)) == (True, False, 0)
+    assert after(82_799, file(CLOSED)) == (True, False, 0)
     assert after(2, file(status=500)) == (True, False, 1)
     assert after(299, file(CLOSED)) == (True, False, 0)
     assert after(2, file(status=404)) == (True, True, 1)
-    assert after(86_399, file(CLOSED)) == (True, True, 0)
-    assert after(2, file(CLOSED)) == (False, False, 1)
-    assert robots._size == sum(it.size for it in robots._sites.values())
+    assert after(82_799, file(CLOSED)) == (True, True, 0)
+    assert after(3602, file(CLOSED)) == (False, False, 1)
+    assert robots._cache.size == sum(it.memory + it.size for it in robots._cache._sites.values())
 
 
 def test_the_file_that_was_not_used_for_longest_goes_first():
-    filler = b"#" * 9000
-    robots, crawler = ours(file(filler), TEXTING_ROBOTS_BUDGET=50_000)
+    """The bytes are random, so that none is kept compressed."""
+    filler = b"#" + random.Random(1).randbytes(9000).replace(b"\n", b"#")
+    robots, crawler = ours(file(filler), TEXTING_ROBOTS_BUDGET=45_000)
     for name, fetched in [("a", 1), ("b", 1), ("a", 0), ("c", 1), ("a", 0), ("c", 0), ("b", 1), ("a", 1)]:
         before = len(crawler.engine.requests)
         assert allowed(robots, f"http://{name}.example/") and len(crawler.engine.requests) - before == fetched, name
-    assert robots._size == sum(site.size for site in robots._sites.values()) <= 50_000
+    assert robots._cache.size == sum(site.memory + site.size for site in robots._cache._sites.values()) <= 45_000
 
 
 def test_a_file_that_is_larger_than_the_budget_is_kept_alone():
     robots, crawler = ours(file(b"#" * 9000), TEXTING_ROBOTS_BUDGET=1)
     assert [allowed(robots, url) for url in ("http://a.example/", "http://a.example/x", "http://b.example/")] == [True] * 3
-    assert len(crawler.engine.requests) == 2 and list(robots._sites) == ["http://b.example/robots.txt"]
+    assert len(crawler.engine.requests) == 2 and list(robots._cache._sites) == ["http://b.example/robots.txt"]
 
 
 def fails(error):
@@ -304,8 +316,9 @@ def test_stats(caplog):
     for host, error in [("c", OSError("broken")), ("d", IgnoreRequest("refused")), ("e", MemoryError())]:
         crawler.engine.answer = fails(error)
         assert not allowed(robots, f"http://{host}.example/")
-    names = {"forbidden": 5, "request_count": 5, "response_count": 2, "response_status_count/200": 1, "response_status_count/503": 1}
+    names = {"forbidden": 1, "unreachable": 4, "request_count": 5, "response_count": 2, "response_status_count/200": 1, "response_status_count/503": 1}
     names |= {"exception_count/<class 'OSError'>": 1, "exception_count/<class 'MemoryError'>": 1}
+    names |= {"sites_max": 5, "bytes_max": robots._cache.size}
     assert {name: count for name, count in crawler.stats.get_stats().items() if name.startswith("robotstxt/")} == {f"robotstxt/{name}": count for name, count in names.items()}
     messages = [f"http://{host}.example/robots.txt can't be fetched: " for host in "bcde"]
     assert [record.getMessage() for record in caplog.records if record.name == middleware.__name__ and record.levelname != "DEBUG"] == [
@@ -354,8 +367,8 @@ def test_the_longest_delay_and_the_memory_of_several_crawlers_count():
     robots, _ = ours(file(b"User-agent: A\nCrawl-delay: 3\n\nUser-agent: B\nCrawl-delay: 2\n"))
     for name in "AB":
         assert allowed(robots, "http://a.example/", headers={"User-Agent": name})
-        (kept,) = robots._sites.values()
-        assert kept.pace._delay == 3 and robots._size == middleware._SITE_BYTES + kept.parser.size
+        (kept,) = robots._cache._sites.values()
+        assert kept.longest_delay == 3 and robots._cache.size == kept.memory + kept.rules.size
 
 
 def test_other_sitemaps_of_a_later_file_come_too():
@@ -402,6 +415,7 @@ def test_downloads_end_after_what_counts():
 
 def test_a_slot_waits_for_all_its_sites():
     slot, other, pace, longer = Slot(8, 0.1, False), Slot(8, 0.1, False), Pace(), Pace()
+    slot.active.add("a request")
     pace.enter(slot)
     assert slot.download_delay() == 0.1
     pace.keep(2)
@@ -414,7 +428,7 @@ def test_a_slot_waits_for_all_its_sites():
     slot.delay = 4
     assert slot.download_delay() == 4
     slot.lastseen, other.lastseen = 1_000_000_000, 999_999_999
-    slot.active.add("a request")
+    other.active.add("a request")
     pace.enter(other)
     assert other.download_delay() == 2 + 1 and slot.download_delay() == 4
     pace.keep(0)
@@ -423,6 +437,7 @@ def test_a_slot_waits_for_all_its_sites():
 
 def test_a_delay_at_random_is_never_shorter():
     slot, pace = Slot(8, 1, True), Pace()
+    slot.active.add("a request")
     pace.enter(slot)
     pace.keep(1)
     delays = [slot.download_delay() for _ in range(1000)]
@@ -436,4 +451,4 @@ def test_slots_that_no_longer_matter_are_forgotten():
     slots[2].lastseen = time.time()
     for slot in slots:
         pace.enter(slot)
-    assert pace._slots == [slots[8], slots[2], slots[1]]
+    assert list(pace._stays) == [slots[1], slots[2], slots[8]]

@@ -10,6 +10,7 @@ from support import tables
 package.needs("scrapy")
 
 import scrapy  # noqa: E402
+from scrapy.utils.test import get_crawler  # noqa: E402
 
 from texting_robots.scrapy import RobotParser  # noqa: E402
 
@@ -158,3 +159,16 @@ def test_the_parser_takes_what_scrapy_gives():
     assert not parser.allowed("https://example.com/private/", "FerrisBot (+https://example.com)")
     assert parser.allowed("https://example.com/private/", "Mozilla/5.0 (compatible; FerrisBot/1.0)")
     assert parser.allowed("https://example.com/private/", b"\xff/")
+
+
+def test_a_file_that_takes_too_long(caplog):
+    """10,000 rules with a star: where they might take more than the setting says, a URL is denied, with one warning."""
+    body = b"User-agent: *\n" + b"".join(b"Disallow: *a%db\n" % number for number in range(10_000))
+    long = "https://example.com/" + "a" * 2000
+    parser = RobotParser.from_crawler(None, body)
+    assert parser.allowed("https://example.com/short", "FerrisBot") and not parser.allowed("https://example.com/a7b", "FerrisBot")
+    assert not parser.allowed(long, "FerrisBot") and not parser.allowed(long, "FerrisBot")
+    assert [record.getMessage() for record in caplog.records] == [
+        f"robots.txt for {long}: FerrisBot, a verdict may take too long: nothing is fetched"
+    ]
+    assert RobotParser.from_crawler(get_crawler(settings_dict={"TEXTING_ROBOTS_COST": 10**9}), body).allowed(long, "FerrisBot")

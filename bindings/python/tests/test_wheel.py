@@ -1,6 +1,7 @@
 """The wheel: it installs into a virtual environment, and there the lines of the README print what they say. The README itself."""
 
 import email
+import importlib.util
 import re
 import runpy
 import shutil
@@ -49,7 +50,8 @@ def test_the_readme_prints_what_it_says(installed_python, tmp_path):
 def test_the_wheel_is_for_every_cpython_and_exports_nothing():
     assert WHEEL.name.endswith("-cp39-abi3-linux_x86_64.whl")
     assert sorted(it.name for it in (package.SITE / "texting_robots").iterdir() if it.suffix) == [
-        "__init__.py", "_native.abi3.so", "_native.pyi", "_pacing.py", "_responses.py", "_robots.py", "middleware.py", "py.typed", "scrapy.py",
+        "__init__.py", "_contents.py", "_disk.py", "_facade.py", "_native.abi3.so", "_native.pyi", "_pacing.py", "_parking.py", "_responses.py",
+        "_robots.py", "_rules.py", "cache.py", "middleware.py", "protego.py", "py.typed", "robotparser.py", "scrapy.py",
     ]  # fmt: skip
     assert sorted(it.name for it in package.SITE.glob("*.dist-info/**/LICENSE-*")) == ["LICENSE-APACHE", "LICENSE-MIT"]
     names = subprocess.run(["nm", "-D", "--defined-only", package.SITE / "texting_robots/_native.abi3.so"], capture_output=True, text=True)
@@ -131,7 +133,8 @@ def test_mypy_is_strict(tmp_path):
     caller = tmp_path / "caller.py"
     caller.write_text(CALLER)
     words = [sys.executable, "-m", "mypy", "--config-file", package.PACKAGE / "pyproject.toml", "--cache-dir", tmp_path / "cache"]
-    for target in [["-p", "texting_robots"], [caller]]:
+    examples = [package.PACKAGE / "examples/crawl.py"] if importlib.util.find_spec("aiohttp") else []
+    for target in [["-p", "texting_robots"], [caller, *examples]]:
         ended = subprocess.run([*words, *target], env=package.WITH_PACKAGE | {"MYPYPATH": str(package.PACKAGE / "src")}, capture_output=True, text=True)
         assert ended.returncode == 0, ended.stdout + ended.stderr
 
@@ -139,9 +142,11 @@ def test_mypy_is_strict(tmp_path):
 CALLER = """
 from array import array
 from mmap import mmap
-from typing import List, Optional, Tuple, Type
+from typing import Iterator, List, Optional, Tuple, Type
+from urllib.robotparser import RequestRate, RobotFileParser
 from texting_robots import LIFETIME, REDIRECT_LIMIT, AgentError, Matrix, Meaning, OverlongRuleError, Robots, RobotsError, TooCostlyError, UrlError
 from texting_robots import Verdict, meaning, product_token, robots_url
+from texting_robots import protego, robotparser
 
 class Own(Robots):
     pass
@@ -160,6 +165,14 @@ size: int = own.size
 within: Verdict = own.verdict_within("/", "a", own.cost(1, "a"))
 meant: Meaning = meaning(None, redirects=REDIRECT_LIMIT, has_location=Own.deny_all().allowed("/", "a"))
 seconds: int = LIFETIME
+parser: RobotFileParser = robotparser.RobotFileParser(url="https://example.com/robots.txt")
+parser.parse(["User-agent: *", "Disallow: /"])
+rate: Optional[RequestRate] = parser.request_rate("a/1.0")
+robotparser.RobotFileParser().parse(b"User-agent: *".splitlines())
+seconds_between: Optional[float] = robotparser.RobotFileParser().crawl_delay("a/1.0")
+protego_file: protego.Protego = protego.Protego.parse("")
+sitemaps: Iterator[str] = protego_file.sitemaps
+visit: Optional[protego.VisitTime] = protego_file.visit_time("a/1.0")
 errors: List[Type[RobotsError]] = [AgentError, OverlongRuleError, TooCostlyError, UrlError]
 Robots(bytearray()), Robots(memoryview(b"")), Robots.parse(mmap(-1, 1)), Matrix({"/"}, ["a"]).denials(array("b"))
 """

@@ -163,7 +163,8 @@ pub record IsAuditOf (requested : RequestValue) (file : List ℕ) (audit : Audit
       (agents_requested requested.agents (lines_read file)) audit.agents
   pub warnings_are : audit.warnings ≡ warnings_requested requested file (labels_requested requested file)
       needless sitemaps
-  pub syntax_is : audit.syntax ≡ syntax_of requested.agent (is_too_large file) (rejects_some audit.agents)
+  pub syntax_is : audit.syntax
+      ≡ syntax_of requested.agent requested.agents (is_too_large file) (rejects_some audit.agents)
       (warnings_found requested file (labels_requested requested file) needless sitemaps)
 
 abbrev pub is_allowed : VerdictValue → Bool

@@ -21,12 +21,14 @@ abbrev pub keep_verdicts : List WarningValue → Bool
 keep_verdicts warnings = list_all (λ (warning : WarningValue). keeps_verdicts warning.cause) warnings
 
 -- what all warnings about a file, reported or not, mean for its syntax and its verdicts; nothing is stated
--- for a single crawler, since the rules of other groups aren't checked; nor if the file is larger than the
+-- for chosen crawlers, since the rules of other groups aren't checked; nor if the file is larger than the
 -- size limit, since the rest isn't read; nor if it is rejected for a crawler, as that would look like a file
 -- without faults; nor if a warning is about syntax
-abbrev pub syntax_of : Option (List ℕ) → (is_too_large is_rejected : Bool) → List WarningValue → Syntax
-syntax_of agent is_too_large is_rejected warnings =
-    if ((is_some agent || is_too_large) || is_rejected) || has_syntax_warning warnings then Unstated
+abbrev pub syntax_of : Option (List ℕ) → List (List ℕ) → (is_too_large is_rejected : Bool) → List WarningValue
+    → Syntax
+syntax_of agent agents is_too_large is_rejected warnings =
+    if (((is_some agent || not (length agents == 0)) || is_too_large) || is_rejected)
+    || has_syntax_warning warnings then Unstated
     else if length warnings == 0 then StandardWithoutWarnings
     else if keep_verdicts warnings then StandardVerdicts else Standard
 

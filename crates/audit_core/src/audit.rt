@@ -284,7 +284,13 @@ pub fn audit_of<'a>(
         alloc, request, &names, file, facts, &labels, &site, &needless,
     )?;
     let is_rejected = rejects_some(&agents);
-    let syntax = syntax_of(request.agent, facts.is_too_large, is_rejected, &warnings);
+    let syntax = syntax_of(
+        request.agent,
+        &request.agents,
+        facts.is_too_large,
+        is_rejected,
+        &warnings,
+    );
     choose(&request.only, &request.ignored, &mut warnings);
     Ok(Audit {
         labels,

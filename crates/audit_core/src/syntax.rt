@@ -1,5 +1,5 @@
 //! What the warnings tell about the syntax of a file, and about its verdicts.
-ghost use Rattle.std.specs.Prelude.{◌≡◌, option_map};
+ghost use Rattle.std.specs.Prelude.{◌≡◌, map, option_map};
 ghost use Rattle.audit_core.specs.Syntax.{has_standard_verdicts, has_syntax_warning, is_standard, keep_verdicts, sentence, syntax_of};
 
 use robots_warnings::warning::Warning;
@@ -12,7 +12,8 @@ pub const VERDICTS_SENTENCE: &str =
 /// standard's syntax is the theorem `syntax_is_that_of_the_standard` of `warnings_laws`.
 #[derive(Clone, Copy, PartialEq, Eq)]
 pub enum Syntax {
-    /// A warning is about syntax, not all of the file is checked, or it is rejected for a crawler.
+    /// A warning is about syntax, not all of the file is read, it is rejected for a crawler, or the report is
+    /// about chosen crawlers.
     Unstated,
     /// The syntax is that of RFC 9309, as no warning is about syntax.
     Standard,
@@ -71,18 +72,24 @@ fn keep_verdicts(warnings: &[Warning<'_>]) -> bool
         .all(|warning| warning.cause.keeps_verdicts())
 }
 
-/// The warnings are all about a file and a request, reported or not; `is_rejected`: for a crawler of the
-/// report.
+/// The warnings are all about a file and a request, reported or not; `agents` are the crawlers that the
+/// request names, and `is_rejected`: the file is rejected for a crawler of the report.
 pub(crate) fn syntax_of(
     agent: Option<&str>,
+    agents: &[&str],
     is_too_large: bool,
     is_rejected: bool,
     warnings: &[Warning<'_>],
 ) -> Syntax
-    ensures { result ≡ syntax_of (option_map (λ agent. agent.now) agent.entry) is_too_large is_rejected
-        warnings.now }
+    ensures { result ≡ syntax_of (option_map (λ agent. agent.now) agent.entry)
+        (map (λ agent. agent.now) agents.now) is_too_large is_rejected warnings.now }
 {
-    if agent.is_some() || is_too_large || is_rejected || has_syntax_warning(warnings) {
+    if agent.is_some()
+        || !agents.is_empty()
+        || is_too_large
+        || is_rejected
+        || has_syntax_warning(warnings)
+    {
         Syntax::Unstated
     } else if warnings.is_empty() {
         Syntax::StandardWithoutWarnings

@@ -17,3 +17,4 @@ pub mod FileLemmas
 pub mod RobotLemmas
 pub mod NormalLemmas
 pub mod VerdictLemmas
+pub mod EditLemmas

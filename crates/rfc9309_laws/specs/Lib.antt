@@ -6,3 +6,4 @@ pub mod HasForm
 pub mod Matching
 pub mod Comparable
 pub mod Examples
+pub mod Edits

@@ -2,6 +2,7 @@
 //! about the specification, each written as the contract of an empty function.
 #![tactic(auto)]
 
+pub mod edits;
 pub mod verdict;
 
 ghost use Rattle.std.specs.Prelude.{◌≡◌, ℕ, All, true, List, codes, take};

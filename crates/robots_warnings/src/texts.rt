@@ -143,7 +143,7 @@ pub(crate) static MESSAGES: [(Cause, &str); 85] = [
     (Cause::DelaySplitsGroup,
         "only a Crawl-delay ends the group above; crawlers that ignore it, such as Google's, apply the rules below to that group too; add to that group the rules meant for it, or move the Crawl-delay down to join the two"),
     (Cause::JoinedGroups,
-        "the next User-agent line belongs to the same group, since no rule or delay is between the two, and the rules below it are for both names; if that isn't meant, add rules here, or an empty Disallow; if it is, delete what is between"),
+        "the next User-agent line belongs to the same group, since no rule or delay is between the two; rules below it, if any, are for both lines; if that isn't meant, add rules here, or an empty Disallow; if it is, move one line directly below the other"),
     (Cause::GroupPastSizeLimit,
         "this name isn't in the first 512,000 bytes, so its group is ignored; move the group up or shorten the file"),
     (Cause::AllowedAndDisallowed,
@@ -167,13 +167,13 @@ pub(crate) static MESSAGES: [(Cause, &str); 85] = [
     (Cause::GoogleIgnoresStar,
         "the crawler has no group of its own, and its vendor doesn't apply the group of * to it, so it may fetch everything; add a group for it"),
     (Cause::NeverDecides,
-        "this rule never decides, since another one matches everything that it matches and takes precedence; correct it if it should decide, or delete it together with all other needless rules"),
+        "another rule matches everything that this one matches and takes precedence, so this one never decides for a crawler that gets both, and no other crawler needs it; correct it if it should decide, or delete it together with all other needless rules"),
     (Cause::MatchesNothing,
         "this rule matches nothing, except perhaps /robots.txt, which is always allowed; correct it, or delete it together with all other needless rules"),
     (Cause::AllowedAnyway,
         "this rule isn't needed: if all needless rules are deleted, what it allows stays allowed; delete it together with the others, or correct it"),
     (Cause::NotNeeded,
-        "this rule isn't needed: if all needless rules are deleted, the verdicts stay the same, since another one of its kind matches everything that it matches; delete it together with the others, or correct it"),
+        "this rule isn't needed: if all needless rules are deleted, the verdicts stay the same; at least one crawler also gets another one of its kind, which matches everything that it matches; delete it together with the others, or correct it"),
 ];
 
 /// In this order, too: a file that triggers the warning in a report on all crawlers, or as robots.txt in the

@@ -3,8 +3,8 @@
 use Rattle.std.specs.Prelude.{flat_map, is_some, zip, ◌||◌}
 use Rattle.std.proofs.{lemmas.Grind.common_steps, Common.rules}
 use Rattle.std.proofs.Common.{false, true, ◌++◌, ap, None, Option, Some, if◌then◌else◌, is_none, ◌≡◌, ◌≢◌, ℕ}
-use Rattle.std.proofs.Common.{◌≤◌, ◌↔◌, Bool, inl, inr, List, [], ◌∷◌, Contains, IsUtf8, arith, codes, length}
-use Rattle.std.proofs.Common.{ltb-false, refl, subst, subst₂, sym, take, take_all, ◌⊎◌, suc, map, ◌==◌}
+use Rattle.std.proofs.Common.{◌≤◌, ◌↔◌, Any, Bool, inl, inr, List, [], ◌∷◌, Contains, IsUtf8, arith, codes, length}
+use Rattle.std.proofs.Common.{◌∙◌, ltb-false, refl, subst, subst₂, sym, take, take_all, ◌⊎◌, suc, map, not, zero, ◌==◌}
 use Rattle.std.proofs.lemmas.Bool.{false_from_ne_true, false≢true, ne_eqb, not-false, or_parts}
 use Rattle.texting_robots.specs.Callers.{IsVerdict, Label, LineValue, PlacedRule, agents_in, placed_rules}
 use Rattle.texting_robots.specs.Callers.{file_limit, rules_for, IsFirstOverlong, IsOverlong, IsRejected, Rule}
@@ -37,7 +37,14 @@ use Rattle.audit_core.specs.declared.syntax.Syntax.TheVariants.{Standard, Standa
 use Rattle.warnings_laws.proofs.SyntaxLemmas.{ArePassed, robot_stated, silence}
 use Rattle.warnings_laws.proofs.{VerdictLemmas.verdicts_stated}
 use Rattle.warnings_laws.specs.Syntax.{IsNotAboutSyntax, IsRobotStated, IsSilentOn, warnings_of}
-use Rattle.warnings_laws.specs.Verdict.{IsAsked, IsStandardVerdict}
+use Rattle.warnings_laws.specs.Verdict.{AreVerdictsKept, IsAsOneOf, IsStandardVerdict}
+use Rattle.warnings_laws.proofs.{QuietLemmas.everyone_reported}
+use Rattle.rfc9309_laws.specs.{Matching.all_stay, Matching.normal_uri, Rfc9309.IsProductToken}
+use Rattle.rfc9309_laws.proofs.{VerdictLemmas.each_contains}
+use Rattle.texting_robots.specs.Callers.{IsFileRejected, group_name}
+use Rattle.texting_robots.specs.Executable.{captured_lines, placed_in}
+use Rattle.texting_robots.proofs.{LineLemmas.each_text_has_its_lines, MainTheoremLemmas.of_lines}
+use Rattle.std.specs.List.{filter_map, list_any}
 
 abbrev DecidesAlike : List LineValue → List NeedlessRule → List ℕ → Type 0
 DecidesAlike lines found agent = (text : List ℕ) (answer : Bool)
@@ -255,7 +262,7 @@ some_audit requested file =
         agents = agents;
         warnings = warnings_requested requested file labels [] sitemaps;
         syntax =
-            syntax_of requested.agent (is_too_large file) (rejects_some agents)
+            syntax_of requested.agent requested.agents (is_too_large file) (rejects_some agents)
             (warnings_found requested file labels [] sitemaps);
       },
       record {
@@ -285,7 +292,44 @@ stated : (unstated : Bool) (syntax : Syntax) → is_standard (if unstated then U
 stated true syntax is = cc
 stated false syntax is = refl
 
-verdicts_stated_too : (syntax : Syntax) → has_standard_verdicts syntax ≡ true → is_standard syntax ≡ true
+no_names : (names : List (List ℕ)) → not (length names == 0) ≡ false → names ≡ []
+no_names [] none = refl
+no_names (name ∷ names) none =
+    absurd (false≢true (sym none ∙ ap not (ne_eqb (length (name ∷ names)) 0 (λ e. omega arith))))
+
+none_passes : {X : Type 0} (test : X → Bool) (xs : List X) → list_any test xs ≡ false
+    → Each (λ x. test x ≡ false) xs
+none_passes test [] none = tt
+none_passes test (x ∷ xs) none =
+    let (here, later) = or_parts (test x) (list_any test xs) none in (here, none_passes test xs later)
+
+zip_left : {A B : Type 0} (R : A → B → Type 0) (xs : List A) (ys : List B) (x : A) → AllZip R xs ys
+    → Contains xs x → (y : B) × Contains ys y × R x y
+zip_left R [] ys x zip (k, below, at) = absurd (omega arith)
+zip_left R (z ∷ xs) [] x zip has = absurd zip
+zip_left R (z ∷ xs) (y ∷ ys) x (is, zip) (zero, below, at) =
+    (y, (0, omega arith, refl), subst (λ z. R z y) at is)
+zip_left R (z ∷ xs) (y ∷ ys) x (is, zip) (suc k, below, at) =
+    let (other, (j, low, here), also) = zip_left R xs ys x zip (k, omega arith, at) in
+    (other, (suc j, omega arith, here), also)
+
+not_rejected : (urls : List (List ℕ)) (lines : List LineValue) (agent : List ℕ) (rejected : Option ℕ)
+    (verdicts : List VerdictValue) → IsRuling urls lines agent rejected verdicts → is_some rejected ≡ false
+    → ¬ IsRejected agent lines
+not_rejected urls lines agent None verdicts (accepted, are) none = accepted
+not_rejected urls lines agent (Some line) verdicts ruling none = absurd (false≢true (sym none))
+
+-- a file is rejected for each of the crawlers that have the same group
+same_rejected : (lines : List LineValue) (agent other : List ℕ)
+    → group_name agent lines ≡ group_name other lines → IsRejected agent lines → IsRejected other lines
+same_rejected lines agent other same is =
+    let rules : rules_for agent lines ≡ rules_for other lines =
+    ap (λ name. unplaced (filter_map placed_in (captured_lines name lines))) same in
+    (rejection_is_computed other lines).1
+    (subst (λ rules. Any (λ (rule : Rule). IsOverlong rule.0) rules) rules
+    ((rejection_is_computed agent lines).0 is))
+
+pub verdicts_stated_too : (syntax : Syntax) → has_standard_verdicts syntax ≡ true → is_standard syntax ≡ true
 verdicts_stated_too Unstated is = is
 verdicts_stated_too _ is = refl
 
@@ -320,14 +364,40 @@ module _ (requested : RequestValue) (file : List ℕ) (audit : AuditValue) (is :
     agents = agents_requested requested.agents (lines_read file)
 
     abbrev unstated : Bool
-    unstated = ((is_some requested.agent || is_too_large file) || rejects_some audit.agents)
-        || has_syntax_warning found
+    unstated = (((is_some requested.agent || not (length requested.agents == 0)) || is_too_large file)
+        || rejects_some audit.agents) || has_syntax_warning found
 
     module _ (standard : is_standard audit.syntax ≡ true) where
       -- all groups are checked, the whole file is read, and no warning is about syntax
       known : ((is_some requested.agent ≡ false) × (is_too_large file ≡ false))
           × (has_syntax_warning found ≡ false)
       known = grind (arith, or_parts, stated)
+
+      -- the report is about all crawlers, and the file is rejected for none
+      for_all : (requested.agents ≡ []) × (rejects_some audit.agents ≡ false)
+      for_all =
+          let (checked, quiet) = or_parts _ (has_syntax_warning found) (stated unstated _
+          (subst (λ s. is_standard s ≡ true) is.syntax_is standard)) in
+          let (read, accepted) = or_parts _ (rejects_some audit.agents) checked in
+          let (one, whole) = or_parts _ (is_too_large file) read in
+          (no_names requested.agents (or_parts (is_some requested.agent) _ one).1, accepted)
+
+      pub accepted_by_the_standard : (agent : List ℕ) → IsProductToken agent
+          → ¬ IsFileRejected agent (take file_limit file)
+      accepted_by_the_standard agent token rejected =
+          let lines = lines_read file in
+          let (k, other, below, at, same) = everyone_reported file agent token in
+          let reported : Contains agents other =
+          subst (λ names. Contains (agents_requested names lines) other) (sym for_all.0) (k, below, at) in
+          let (value, has, audited) = zip_left (IsAgentAudit requested.urls lines) agents audit.agents other
+          is.agents_are reported in
+          let is_rejected : IsRejected agent lines =
+          of_lines (take file_limit file) (λ lines. IsRejected agent lines) rejected lines
+          ((each_text_has_its_lines _ _).1 refl) in
+          not_rejected requested.urls lines other value.rejected value.verdicts audited.ruling
+          (each_contains (λ (agent : AgentValue). is_some agent.rejected ≡ false) audit.agents value
+          (none_passes (λ (agent : AgentValue). is_some agent.rejected) audit.agents for_all.1) has)
+          (same_rejected lines agent other same is_rejected)
 
       audited : (test : Cause → Bool) → ArePassed test found
           → ArePassed test (warnings_of agents requested.urls file)
@@ -348,11 +418,22 @@ module _ (requested : RequestValue) (file : List ℕ) (audit : AuditValue) (is :
           → IsRobotOfFile agent (take file_limit file) robot → IsRobotStated agent file robot
       robot_of_the_standard agent robot of = search (rules, robot_stated, silent)
 
+    kept_verdicts : has_standard_verdicts audit.syntax ≡ true → AreVerdictsKept agents requested.urls file
+    kept_verdicts standard =
+        audited (verdicts_stated_too audit.syntax standard) keeps_verdicts (kept unstated found
+        (subst (λ s. has_standard_verdicts s ≡ true) is.syntax_is standard))
+
     pub verdicts_of_the_standard : has_standard_verdicts audit.syntax ≡ true → (agent uri : List ℕ)
-        (groups : List Group) (robot : RobotValue) (answer : Bool) → IsAsked agents file agent uri
-        → IsFile groups file → IsRobotOfFile agent (take file_limit file) robot
+        (groups : List Group) (robot : RobotValue) (answer : Bool) → IsProductToken agent
+        → normal_uri all_stay uri ≡ uri → IsFile groups file
+        → IsRobotOfFile agent (take file_limit file) robot
         → IsVerdict (unplaced robot.rules) uri answer ↔ IsStandardVerdict groups agent uri answer
-    verdicts_of_the_standard standard agent uri groups robot answer =
+    verdicts_of_the_standard standard agent uri groups robot answer token normal =
         verdicts_stated agents requested.urls file agent uri groups robot answer
-        (audited (verdicts_stated_too audit.syntax standard) keeps_verdicts (kept unstated found
-        (subst (λ s. has_standard_verdicts s ≡ true) is.syntax_is standard)))
+        (kept_verdicts standard) (record {
+          token = token;
+          reported =
+              subst (λ names. IsAsOneOf (agents_requested names (lines_read file)) file agent)
+              (sym (for_all (verdicts_stated_too audit.syntax standard)).0) (everyone_reported file agent token);
+          normal = normal;
+        })

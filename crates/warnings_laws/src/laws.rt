@@ -6,7 +6,7 @@ ghost use Rattle.std.specs.List.{count_by, list_any, starts_with};
 ghost use Rattle.std.specs.Str.{byte, is_utf8, IsUtf8, str_to_ascii_lowercase};
 ghost use Rattle.texting_robots.specs.Callers.{Allow, AreLabelsOf, AreRulesFor, Disallow, escaped, HoldsRule};
 ghost use Rattle.texting_robots.specs.Callers.{file_limit, file_lines, is_named, IsDecidingLine, IsDenied};
-ghost use Rattle.texting_robots.specs.Callers.{IsRobotOfFile, IsVerdict, Label, LineValue, Matches, Rule};
+ghost use Rattle.texting_robots.specs.Callers.{IsFileRejected, IsRobotOfFile, IsVerdict, Label, LineValue, Matches, Rule};
 ghost use Rattle.texting_robots.specs.Callers.{PlacedRule, RobotValue, agents_in, bodies_in, lines_read, bodies_read};
 ghost use Rattle.texting_robots.specs.Callers.{delay_for, rules_for, unplaced, UserAgent};
 ghost use Rattle.texting_robots.specs.{Labels.IsInOwnGroup, Verdict.robots_file};
@@ -15,7 +15,7 @@ ghost use Rattle.robots_needless.specs.Needless.{lines_without, numbers_of};
 ghost use Rattle.rfc9309_laws.specs.Rfc9309.{Group, IsFile, IsProductToken};
 ghost use Rattle.rfc9309_laws.specs.Matching.{all_stay, normal_uri};
 ghost use Rattle.warnings_laws.specs.{Syntax.IsRobotStated};
-ghost use Rattle.warnings_laws.specs.Verdict.{IsAsOneOf, IsAsked, IsStandardVerdict};
+ghost use Rattle.warnings_laws.specs.Verdict.{IsStandardVerdict};
 ghost use Rattle.robots_warnings.specs.Conflicts.{IsConflict, IsOverruled, conflict, overruled, is_empty_at};
 ghost use Rattle.robots_warnings.specs.Conflicts.{overruled_for, IsEmptyDisallow, stated_rules};
 ghost use Rattle.robots_warnings.specs.Closed.{line_closing, opened_paths, reach_of, replacing, star_count};
@@ -25,7 +25,7 @@ ghost use Rattle.robots_warnings.specs.{Positions.is_above_agents, Repeated.repe
 ghost use Rattle.robots_warnings.specs.{Urls.is_unparsable, Urls.begins_as_url, Warnings.position_warnings};
 ghost use Rattle.robots_warnings.specs.{Warnings.warned_at, declared.table.Cause.TheVariants.TwoDelays};
 ghost use Rattle.robots_warnings.specs.Rules.{begins_oddly, has_dollar_inside};
-ghost use Rattle.audit_core.specs.Audit.{AuditValue, IsAuditOf, agents_requested};
+ghost use Rattle.audit_core.specs.Audit.{AuditValue, IsAuditOf};
 ghost use Rattle.audit_core.specs.{Asked.asked_target, Request.RequestValue};
 ghost use Rattle.audit_core.specs.Syntax.{has_standard_verdicts, is_standard};
 
@@ -78,18 +78,18 @@ pub fn syntax_is_that_of_the_standard()
         → IsRobotOfFile agent (take file_limit file) robot → IsRobotStated agent file robot }
 {}
 
-/// If a report says that verdicts are those of RFC 9309, whichever warnings it leaves out, the verdict of a
-/// crawler for which the file isn't rejected, on each path and query in normal form, is the standard's
-/// (`verdicts`). The crawler may be any with a product token if the request names none (`everyone`).
+/// If a report says that verdicts are those of RFC 9309, whichever warnings it leaves out, the verdict of each
+/// crawler with a product token, on each path and query in normal form, is the standard's (`verdicts`), and
+/// the file isn't rejected for it (`accepted`).
 pub fn verdicts_are_those_of_the_standard()
     ensures verdicts { (requested : RequestValue) (file : List ℕ) (audit : AuditValue) (agent uri : List ℕ) (groups : List Group)
         (robot : RobotValue) (answer : Bool) → IsAuditOf requested file audit
-        → has_standard_verdicts audit.syntax ≡ true
-        → IsAsked (agents_requested requested.agents (lines_read file)) file agent uri → IsFile groups file
-        → IsRobotOfFile agent (take file_limit file) robot
+        → has_standard_verdicts audit.syntax ≡ true → IsProductToken agent → normal_uri all_stay uri ≡ uri
+        → IsFile groups file → IsRobotOfFile agent (take file_limit file) robot
         → IsVerdict (unplaced robot.rules) uri answer ↔ IsStandardVerdict groups agent uri answer }
-    ensures everyone { (file agent : List ℕ) → IsProductToken agent
-        → IsAsOneOf (agents_requested [] (lines_read file)) file agent }
+    ensures accepted { (requested : RequestValue) (file : List ℕ) (audit : AuditValue) (agent : List ℕ)
+        → IsAuditOf requested file audit → has_standard_verdicts audit.syntax ≡ true → IsProductToken agent
+        → ¬ IsFileRejected agent (take file_limit file) }
 {}
 
 /// `allowed-and-disallowed` is given for a line exactly if it has a Disallow that applies to one of the

@@ -25,6 +25,15 @@ _AGENTS_KEPT: Final = 1000
 
 _Body = Union["ReadableBuffer", str]
 _FRONT: Final = re.compile(r"\s*([^\s/(),;:]+)")
+_MAY_BE: Final = {
+    "url": "a str, such as 'https://example.com/a'",
+    "agent": "a str, such as 'FerrisBot'",
+    "user_agent": "a str, such as 'FerrisBot/1.0'",
+    "urls": "several str, for example in a list",
+    "agents": "several str, for example in a list",
+    "body": "bytes or another buffer, or for a Robots a str",
+}
+"""What an argument may be, for the error about another type."""
 _query: Final = lib.robot_query
 _NO_RESULT: Final = lib.NO_RESULT
 _LAST_FAILURE: Final = _NO_RESULT - lib.ROBOTS_OVERLONG_RULE
@@ -81,13 +90,16 @@ def product_token(user_agent: str) -> str:
 
     The front of a User-Agent like a browser's is ``Mozilla``. Such a crawler gives its name itself.
     """
-    front = _FRONT.match(user_agent)
+    try:
+        front = _FRONT.match(user_agent)
+    except TypeError:
+        raise _wrong("user_agent", user_agent) from None
     return front[1] if front else "*"
 
 
 def robots_url(url: str) -> str:
     """The address of the robots.txt file for a URL of http or https. Any other text is a `UrlError`."""
-    text = str.encode(url)
+    text = _encoded(url, "url")
     return _written(lambda *out: lib.robots_address(text, len(text), *out), 256, url)
 
 
@@ -139,7 +151,7 @@ class Robots:
         """The verdict for a URL, for a file that may be hostile. Each rule that is tried costs one, and each comparison of a byte of the URL
         one; before a rule that might cost more than is left of the budget, from 0 to 2**64 - 1, it raises `TooCostlyError`."""
         robot = self._site.robot(agent)
-        text, result = str.encode(url), ffi.new("int64_t *")
+        text, result = _encoded(url, "url"), ffi.new("int64_t *")
         _check(lib.robot_query_within(robot, text, len(text), budget, result), robot)
         return _verdict(result[0])
 
@@ -153,9 +165,9 @@ class Robots:
 
     def verdicts(self, urls: Iterable[str], agent: str) -> list[Verdict]:
         """The verdict for each URL, in their order: faster than one by one."""
-        urls = _several(urls, "URLs")
+        urls = _several(urls, "urls")
         robot = self._site.robot(agent)
-        text = _joined(urls)
+        text = _joined(urls, "urls")
         if text is None:
             return [self.verdict(url, agent) for url in urls]
         results = ffi.new("int64_t[]", len(urls))
@@ -167,8 +179,8 @@ class Robots:
     def matrix(self, urls: Iterable[str], agents: Iterable[str]) -> list[list[Verdict | None]]:
         """The verdicts of many crawlers: for each agent a list with the verdict for each URL, or with None, which doesn't allow either,
         if the file can't be used for the agent. Agents that the file doesn't name cost little."""
-        urls, agents = _several(urls, "URLs"), _several(agents, "agents")
-        urls_text, agents_text = _joined(urls), _joined(agents)
+        urls, agents = _several(urls, "urls"), _several(agents, "agents")
+        urls_text, agents_text = _joined(urls, "urls"), _joined(agents, "agents")
         for agent in agents if agents_text is None or b"/" in agents_text else ():
             _name(agent)
         if urls_text is None or agents_text is None:
@@ -222,7 +234,10 @@ class Robots:
     def _result(self, url: str, agent: str) -> int:
         """0 or the line that allows the URL, or minus the line that denies it."""
         robot = self._site.robot(agent)
-        text = str.encode(url)
+        try:
+            text = str.encode(url)
+        except TypeError:
+            raise _wrong("url", url) from None
         result = _query(robot, text, len(text))
         if result <= _LAST_FAILURE:
             _check(_NO_RESULT - result, robot)
@@ -278,10 +293,10 @@ class Matrix:
     __slots__ = ("_agents", "_pairs", "_urls")
 
     def __init__(self, urls: Iterable[str], agents: Iterable[str]) -> None:
-        urls, agents = _several(urls, "URLs"), _several(agents, "agents")
+        urls, agents = _several(urls, "urls"), _several(agents, "agents")
         for agent in agents:
             _name(agent)
-        urls_text, agents_text = _joined(urls), _joined(agents)
+        urls_text, agents_text = _joined(urls, "urls"), _joined(agents, "agents")
         if urls_text is None or agents_text is None:
             raise ValueError("there has to be a URL and an agent, and no line feed in one")
         self._urls, self._agents = urls_text, agents_text
@@ -309,24 +324,47 @@ def _file(body: ReadableBuffer) -> bytes:
     """The bytes of a file that count, however they lie in memory; copied, since another thread may write to a buffer."""
     if type(body) is bytes:
         return body[:FILE_LIMIT]
-    with memoryview(body) as view:
+    try:
+        opened = memoryview(body)
+    except TypeError:
+        raise _wrong("body", body) from None
+    with opened as view:
         return (view[:FILE_LIMIT] if view.ndim == 1 else view).tobytes()[:FILE_LIMIT]
 
 
-def _several(texts: Iterable[str], what: str) -> list[str]:
-    if isinstance(texts, str):
-        raise TypeError(f"the {what} are several str, for example in a list, and not one")
-    return list(texts)
+def _encoded(text: str, argument: str) -> bytes:
+    try:
+        return str.encode(text)
+    except TypeError:
+        raise _wrong(argument, text) from None
 
 
-def _joined(texts: list[str]) -> bytes | None:
+def _several(texts: Iterable[str], argument: str) -> list[str]:
+    if isinstance(texts, (str, bytes)):
+        raise _wrong(argument, texts)
+    try:
+        several = iter(texts)
+    except TypeError:
+        raise _wrong(argument, texts) from None
+    return list(several)
+
+
+def _joined(texts: list[str], argument: str) -> bytes | None:
     """The texts with a line feed between them, or None if one contains a line feed or there is none."""
-    text = "\n".join(texts).encode()
+    try:
+        text = "\n".join(texts).encode()
+    except TypeError:
+        place = next(place for place, text in enumerate(texts) if not issubclass(type(text), str))
+        raise _wrong(argument[:-1], texts[place], f"{argument}[{place}]") from None
     return text if texts and text.count(b"\n") == len(texts) - 1 else None
 
 
+def _wrong(argument: str, value: object, name: str = "") -> TypeError:
+    return TypeError(f"{name or argument} has the type {type(value).__name__}: it has to be {_MAY_BE[argument]}")
+
+
 def _name(agent: str) -> bytes:
-    name = str.encode(agent)
+    name = _encoded(agent, "agent")
     if b"/" in name:
         raise AgentError(f"{agent!r} is no product token: the URL comes first, and product_token() makes one of a User-Agent")
     return name

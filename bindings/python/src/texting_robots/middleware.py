@@ -11,22 +11,23 @@ from __future__ import annotations
 
 import logging
 import time
-from collections import OrderedDict
 from typing import Any, Final
-from urllib.parse import urljoin, urlsplit
+from urllib.parse import urlsplit
 from weakref import WeakKeyDictionary, WeakValueDictionary
 
 from scrapy import signals
 from scrapy.exceptions import IgnoreRequest, NotConfigured, StopDownload
 from scrapy.http import Request
 from scrapy.http.request import NO_CALLBACK
-from scrapy.utils.defer import maybe_deferred_to_future
+from scrapy.utils.defer import deferred_from_coro, maybe_deferred_to_future
 from twisted.internet.defer import Deferred
 
-from . import FILE_LIMIT, UrlError, robots_url
-from ._pacing import Pace
-from ._responses import LIFETIME, Meaning, meaning
-from .scrapy import RobotParser
+from . import FILE_LIMIT, LIFETIME, UrlError, robots_url
+from ._pacing import Pace, leave_shared_slot, return_to_slot
+from ._parking import Parking
+from ._rules import COST_LIMIT
+from .cache import Decision, Fetch, RobotsCache, Site, State, Step
+from .scrapy import warn_of_browser
 
 logger = logging.getLogger(__name__)
 
@@ -35,7 +36,6 @@ sitemaps_found: Final = object()
 arguments are ``sitemaps``, a list of URLs as the file has them, ``robots_url``, the file's address, and ``spider``."""
 
 _BROKEN_OFF: Final = frozenset({"dataloss", "download_stopped"})
-_SITE_BYTES: Final = 1000
 
 # For a file: no other middleware answers, follows or refuses the request, no other file is asked about it, and a large one is cut.
 _MARK: Final = "texting_robots"
@@ -45,19 +45,29 @@ _META: Final = {
     "dont_redirect": True,
     "dont_cache": True,
     "allow_offsite": True,
-    "download_maxsize": 1 << 30,
+    "download_maxsize": 1 << 25,
 }
+_WAY_OUT: Final = ("proxy", "_auth_proxy", "bindaddress")  # in the meta of a request: the way that its file's request takes, too
+_ENCODING: Final = "Robots-Content-Encoding"  # of a body that Scrapy mustn't unpack, as it would do so without a limit
+_FIELDS: Final = ("Location", "ETag", "Retry-After")
+_WARNINGS_KEPT: Final = 10_000
 
 
-class _Site:
-    """What the crawler knows of a site, until it asks again."""
+class Forbidden(IgnoreRequest):
+    """The robots.txt file with this ``address`` forbids the request, by the line with this number, if ``line`` isn't None."""
 
-    __slots__ = ("delay", "expires", "is_file", "pace", "parser", "size")
+    def __init__(self, address: str, line: int | None, problem: str = "") -> None:
+        super().__init__(f"Forbidden by robots.txt: {f'line {line} of {address}' if line else f'{address}: {problem}'}")
+        self.address, self.line = address, line
 
-    def __init__(self, parser: RobotParser, pace: Pace, expires: float, is_file: bool) -> None:
-        self.parser, self.pace, self.expires, self.is_file = parser, pace, expires, is_file
-        self.delay = 0.0
-        self.size = 0
+
+class Unreachable(IgnoreRequest):
+    """The robots.txt file with this ``address`` can't be fetched, and until it can, nothing is. It is asked for again in ``seconds``: nothing
+    forbids the request itself."""
+
+    def __init__(self, address: str, seconds: float) -> None:
+        super().__init__(f"{address} can't be fetched: it is asked for again in {seconds:.0f} seconds")
+        self.address, self.seconds = address, seconds
 
 
 class RobotsMiddleware:
@@ -65,19 +75,33 @@ class RobotsMiddleware:
 
     A site is a scheme with a host and a port. Its robots.txt file is fetched before anything else, by one request for all that wait for
     it. What the answer means is in RFC 9309: without a file (400 to 499, or a sixth redirect) everything is allowed; if the server fails
-    (429, 500 to 599, half a file, no answer) the file that it gave before counts, or without one nothing is allowed.
+    (429, 500 to 599, half a file, no answer) the file that it gave before counts, or without one nothing may be fetched. Scrapy's own
+    middleware then fetches everything.
+
+    So in an outage requests to the site wait, and go on when its file can be fetched. The spider stays open meanwhile; when it is closed,
+    they are in the queue of the next start, if there is a JOBDIR. A request that can't wait ends in `Unreachable`: if too many wait, or too
+    long, or if other code than the spider's waits for it, as for images. One that is denied ends in `Forbidden`, which has the line.
 
     As with Scrapy's own middleware, there are the settings ``ROBOTSTXT_OBEY`` and ``ROBOTSTXT_USER_AGENT``, ``dont_obey_robotstxt`` in the
     meta of a request, and the stats. ``ROBOTSTXT_PARSER`` isn't used. Settings of its own, with their defaults:
 
-    - ``TEXTING_ROBOTS_LIFETIME = 86400``: after so many seconds a file is fetched again. The HTTP cache of Scrapy never has it.
-    - ``TEXTING_ROBOTS_RETRY = 300``: so many seconds after the server failed, the file is asked for again.
+    - ``TEXTING_ROBOTS_PARKED = 10_000``: so many requests wait for sites whose files can't be fetched. 0 lets none wait.
+    - ``TEXTING_ROBOTS_PARKED_SECONDS = 3600``: each waits for at most so many seconds.
+    - ``TEXTING_ROBOTS_RETRY = 300``: so many seconds after the server failed, the file is asked for again, unless it says when (Retry-After).
+    - ``TEXTING_ROBOTS_TIMEOUT = 30``: for so many seconds an answer is waited for, or as long as ``DOWNLOAD_TIMEOUT`` says if that is shorter.
+    - ``TEXTING_ROBOTS_LIFETIME = 86400``: for so many seconds a file counts. In the last hour of them it is fetched again while it still
+      counts. The HTTP cache of Scrapy never has it.
+    - ``TEXTING_ROBOTS_BUDGET = 100_000_000``: so much memory in bytes is taken for files, which are kept compressed (some 1,000 bytes for a
+      usual file), and a quarter of it for those that are parsed. A file for which there is no room is fetched again.
+    - ``TEXTING_ROBOTS_DATABASE = ""``: the path of a sqlite3 file, in which all files are kept, also for the next start.
+    - ``TEXTING_ROBOTS_COST = 20_000_000``: a file that could take more comparisons for a URL of 2,000 bytes gets a budget of so many, and a
+      URL that might need more is denied, with a warning.
     - ``TEXTING_ROBOTS_MAX_DELAY = 60``: a longer delay is cut to so many seconds. 0 keeps no delays.
-    - ``TEXTING_ROBOTS_BUDGET = 100_000_000``: so much memory in bytes is taken for files, with 1,000 more for each site. The first to go is
-      what wasn't used for the longest time.
 
     The delay holds in the downloader's slots, whatever ``DOWNLOAD_DELAY``, ``download_slot`` and AutoThrottle say, which may only make it
-    longer. In a slot with several sites, the largest delay counts. Sitemaps come by the signal `sitemaps_found`.
+    longer. A site with a delay gets a slot of its own where its slot is a spider's, or that of an IP address. In the slot of a host, the
+    largest delay of its sites counts. Sitemaps come by the signal `sitemaps_found`. A subclass can change the request for a file:
+    `robots_request`.
     """
 
     def __init__(self, crawler: Any) -> None:
@@ -87,127 +111,204 @@ class RobotsMiddleware:
         self._crawler = crawler
         self._user_agent = settings.get("ROBOTSTXT_USER_AGENT")
         self._default_user_agent = settings.get("USER_AGENT", "Scrapy")
-        self._lifetime = settings.getfloat("TEXTING_ROBOTS_LIFETIME", LIFETIME)
-        self._retry = settings.getfloat("TEXTING_ROBOTS_RETRY", 300)
         self._max_delay = settings.getfloat("TEXTING_ROBOTS_MAX_DELAY", 60)
-        self._budget = settings.getint("TEXTING_ROBOTS_BUDGET", 100_000_000)
-        self._sites: OrderedDict[str, _Site] = OrderedDict()  # the one that was used last is at the end
-        self._size = 0
-        self._waiting: dict[str, list[Deferred[_Site]]] = {}  # for a file that is being fetched
+        shorter = min(30.0, settings.getfloat("DOWNLOAD_TIMEOUT") or 30.0)
+        self._timeout = settings.getfloat("TEXTING_ROBOTS_TIMEOUT", shorter)
+        self._is_by_ip = settings.getint("CONCURRENT_REQUESTS_PER_IP") > 0
+        self._slots = frozenset(settings.getdict("DOWNLOAD_SLOTS"))
+        self._cache = RobotsCache(
+            lifetime=settings.getfloat("TEXTING_ROBOTS_LIFETIME", LIFETIME),
+            retry=settings.getfloat("TEXTING_ROBOTS_RETRY", 300),
+            budget=settings.getint("TEXTING_ROBOTS_BUDGET", 100_000_000),
+            database=settings.get("TEXTING_ROBOTS_DATABASE") or "",
+            cost_limit=settings.getint("TEXTING_ROBOTS_COST", COST_LIMIT),
+            count=self._count,
+            found=self._found,
+        )
+        most, seconds = settings.getint("TEXTING_ROBOTS_PARKED", 10_000), settings.getfloat("TEXTING_ROBOTS_PARKED_SECONDS", 3600)
+        self._parking = Parking(crawler, most, seconds, self._ask)
+        self._waiting: dict[str, list[Deferred[Site]]] = {}  # for a file that is being fetched
         self._paces: WeakValueDictionary[str, Pace] = WeakValueDictionary()
+        self._pace_of: WeakKeyDictionary[Any, Pace] = WeakKeyDictionary()
         self._received: WeakKeyDictionary[Any, int] = WeakKeyDictionary()
-        self._open, self._closed = RobotParser(b""), RobotParser(b"User-agent: *\nDisallow: *")
+        self._warned: set[tuple[str, str]] = set()
         crawler.signals.connect(self._reached_downloader, signals.request_reached_downloader)
+        crawler.signals.connect(self._left_downloader, signals.request_left_downloader)
         crawler.signals.connect(self._bytes_received, signals.bytes_received)
+        crawler.signals.connect(self._response_downloaded, signals.response_downloaded)
+        crawler.signals.connect(self._spider_closed, signals.spider_closed)
 
     @classmethod
     def from_crawler(cls, crawler: Any) -> RobotsMiddleware:
         return cls(crawler)
 
-    async def process_request(self, request: Any, spider: Any = None) -> None:
-        """Raises IgnoreRequest if the site's file denies the request."""
+    def robots_request(self, address: str, request: Any) -> Any:
+        """The request for the file with this address, which a request to its site needs. A subclass may change it: here it goes through the
+        same proxy and from the same local address."""
+        meta = _META | {"download_timeout": self._timeout} | {key: request.meta[key] for key in _WAY_OUT if key in request.meta}
+        headers = {key: request.headers[key] for key in ("Proxy-Authorization",) if key in request.headers}
+        return Request(address, NO_CALLBACK, headers=headers, priority=1000, dont_filter=True, meta=meta)
+
+    async def process_request(self, request: Any, spider: Any = None) -> Any:
+        """Raises IgnoreRequest if the site's file denies the request. Returns it to Scrapy's scheduler once it has waited for the file."""
         if request.meta.get("dont_obey_robotstxt") or request.url.startswith(("data:", "file:")):
-            return
-        _leave_slot(request)
+            return None
+        return_to_slot(request)
         address = _address(request)
-        site = await self._site(address)
+        pace = self._paces.setdefault(address, Pace())
+        site = await self._site(address, request)
         spider = self._crawler.spider
         default = getattr(spider, "user_agent", None) or self._default_user_agent
-        user_agent = self._user_agent or request.headers.get("User-Agent") or default
-        site.delay = max(site.delay, min(site.parser.delay(user_agent), self._max_delay))
-        site.pace.keep(site.delay)
-        is_allowed = site.parser.allowed(request.url, user_agent)
-        if self._sites.get(address) is site:
-            self._keep(address, site)
-        if not is_allowed:
-            logger.debug("Forbidden by robots.txt: %s", request, extra={"spider": spider})
-            self._crawler.stats.inc_value("robotstxt/forbidden")
-            raise IgnoreRequest("Forbidden by robots.txt")
+        user_agent = _text(self._user_agent or request.headers.get("User-Agent") or default)
+        warn_of_browser(user_agent, spider)
+        decision = self._cache.decide(site, request.url, user_agent)
+        if not decision.allowed and site.state is State.UNREACHABLE:
+            return await self._after_outage(address, request, site)
+        delay = self._cache.delay(site, user_agent)
+        if delay > self._max_delay > 0:
+            self._count("delay_cut")
+        delay = min(delay, self._max_delay)
+        pace.keep(delay)
+        self._pace_of[request] = pace
+        if not decision.allowed:
+            self._forbid(address, request, user_agent, decision)
+        if delay:
+            leave_shared_slot(request, address.removesuffix("/robots.txt"), self._is_by_ip, self._slots)
+        return None
 
-    async def _site(self, address: str) -> _Site:
+    def _forbid(self, address: str, request: Any, user_agent: str, decision: Decision) -> None:
+        extra = {"spider": self._crawler.spider}
+        error = Forbidden(address, decision.line, decision.problem)
+        if decision.problem and (address, decision.problem) not in self._warned:
+            if len(self._warned) >= _WARNINGS_KEPT:
+                self._warned.clear()
+            self._warned.add((address, decision.problem))
+            logger.warning("%s for %s: %s: it isn't fetched", address, user_agent, decision.problem, extra=extra)
+        logger.debug("%s: %s", error, request, extra=extra)
+        self._count("forbidden")
+        raise error
+
+    async def _after_outage(self, address: str, request: Any, site: Site) -> Any:
+        """The request, to be scheduled again, once its site's file can be fetched or the spider is closed."""
+        if request.callback is not NO_CALLBACK and self._parking.has_place(site.refresh):
+            self._count("parked")
+            if await self._parking.wait(address, request, site.refresh):
+                self._count("resumed")
+                again = request.copy()
+                again.dont_filter = True
+                return again
+            site = self._cache.at(address).site or site
+        self._count("unreachable")
+        error = Unreachable(address, max(0.0, site.refresh - time.time()))
+        logger.debug("%s: %s", error, request, extra={"spider": self._crawler.spider})
+        raise error
+
+    # ---- files
+
+    async def _site(self, address: str, request: Any) -> Site:
         """The site whose file has this address. One request fetches the file, and others wait for it."""
-        site = self._sites.get(address)
-        if site and time.monotonic() < site.expires:
-            self._sites.move_to_end(address)
-            return site
-        if address in self._waiting:
-            waiter: Deferred[_Site] = Deferred()
-            self._waiting[address].append(waiter)
-            awaited: _Site = await maybe_deferred_to_future(waiter)
+        look = self._cache.at(address)
+        waiter: Deferred[Site] | None = None
+        if not look.site:
+            waiter = Deferred()
+            self._waiting.setdefault(address, []).append(waiter)
+        if look.fetch:
+            deferred_from_coro(self._fetched(look.fetch, request))
+        if waiter:
+            awaited: Site = await maybe_deferred_to_future(waiter)
             return awaited
-        self._waiting[address] = []
-        pace = site.pace if site else self._paces.setdefault(address, Pace())
-        fetched = _Site(self._closed, pace, 0, False)
-        try:
-            fetched = await self._fetched(address, pace, site)
-            self._keep(address, fetched)
-        finally:
-            for waiter in self._waiting.pop(address):
-                waiter.callback(fetched)
-        return fetched
+        assert look.site
+        return look.site
 
-    def _keep(self, address: str, site: _Site) -> None:
-        """Keeps what is known of a site, whose memory grows with each new crawler, and within the budget what was used last."""
-        before = self._sites.pop(address, None)
-        self._size -= before.size if before else 0
-        site.size = _SITE_BYTES + (site.parser.size if site.is_file else 0)
-        self._sites[address] = site
-        self._size += site.size
-        while self._size > self._budget and len(self._sites) > 1:
-            self._size -= self._sites.popitem(last=False)[1].size
+    def _ask(self, address: str, request: Any) -> None:
+        """Asks for a file again, for which requests wait: this one and others."""
+        look = self._cache.at(address)
+        if look.fetch:
+            deferred_from_coro(self._fetched(look.fetch, request))
+        elif look.site:
+            self._settle({address: look.site})
 
-    async def _fetched(self, address: str, pace: Pace, before: _Site | None) -> _Site:
-        """What the server's answer says of a site, of which this was known before."""
-        expires = time.monotonic() + self._lifetime
-        stats, extra = self._crawler.stats, {"spider": self._crawler.spider}
-        stats.inc_value("robotstxt/request_count")
+    async def _fetched(self, fetch: Fetch, request: Any) -> None:
+        """Makes a request that the cache asks for, and those that follow from it."""
+        self._count("request_count")
+        next_one: Fetch | None = fetch
+        while next_one:
+            step = await self._answered(next_one, request)
+            self._settle(step.known)
+            next_one = step.fetch
+
+    async def _answered(self, fetch: Fetch, request: Any) -> Step:
+        extra = {"spider": self._crawler.spider}
         try:
-            what, response = await self._answer(address)
-            stats.inc_value("robotstxt/response_count")
-            stats.inc_value(f"robotstxt/response_status_count/{response.status}")
-            if what is Meaning.PARSE:
-                return self._parsed(response.body, address, pace, expires, before)
-            if what is Meaning.ALLOW_ALL:
-                return _Site(self._open, pace, expires, False)
-            logger.warning("%s can't be fetched: status %s", address, response.status, extra=extra)
+            response = await self._download(fetch, request)
+            fields = {name: _text(response.headers[name]) for name in _FIELDS if name in response.headers}
+            encodings = response.headers.getlist(_ENCODING) or response.headers.getlist("Content-Encoding")
+            fields["Content-Encoding"] = _text(b",".join(encodings))
+            step = self._cache.received(fetch, response.status, fields, response.body, _BROKEN_OFF.isdisjoint(response.flags))
+            if not step.fetch:
+                self._count("response_count")
+                self._count(f"response_status_count/{response.status}")
+            reason: object = f"status {response.status}"
         except IgnoreRequest as refusal:
-            logger.warning("%s can't be fetched: %s", address, refusal, extra=extra)
+            step, reason = self._cache.failed(fetch), refusal
         except Exception as error:
-            stats.inc_value(f"robotstxt/exception_count/{type(error)}")
-            logger.error("%s can't be fetched: %s", address, error, exc_info=True, extra=extra)
-        is_file = before is not None and before.is_file
-        return _Site(before.parser if before and is_file else self._closed, pace, time.monotonic() + self._retry, is_file)
+            step, reason = self._cache.failed(fetch), error
+            self._count(f"exception_count/{type(error)}")
+            if not _is_of_network(error):
+                logger.error("%s can't be fetched: %s", fetch.address, error, exc_info=True, extra=extra)
+                return step
+        for address, site in step.known.items():
+            if site.state is State.UNREACHABLE or site.is_failing:
+                logger.warning("%s can't be fetched: %s", address, reason, extra=extra)
+        return step
 
-    def _parsed(self, body: bytes, address: str, pace: Pace, expires: float, before: _Site | None) -> _Site:
-        parser = RobotParser.from_crawler(self._crawler, body)
-        sitemaps = parser.sitemaps
-        if sitemaps and not (before and before.parser.sitemaps == sitemaps):
-            words = {"sitemaps": sitemaps, "robots_url": address, "spider": self._crawler.spider}
-            self._crawler.signals.send_catch_log(sitemaps_found, **words)
-        return _Site(parser, pace, expires, True)
+    async def _download(self, fetch: Fetch, request: Any) -> Any:
+        robots = self.robots_request(fetch.address, request)
+        for name, value in fetch.headers.items():
+            robots.headers.setdefault(name, value)
+        from twisted.internet import reactor  # installed by now
 
-    async def _answer(self, address: str) -> tuple[Meaning, Any]:
-        """The last response after the redirects, and what it means."""
-        redirects = 0
-        while True:
-            response = await self._download(Request(address, NO_CALLBACK, priority=1000, dont_filter=True, meta=dict(_META)))
-            target = _target(response)
-            is_complete = len(response.body) >= FILE_LIMIT or _BROKEN_OFF.isdisjoint(response.flags)
-            what = meaning(response.status, redirects=redirects, has_location=target != "", is_complete=is_complete)
-            if what is not Meaning.FOLLOW:
-                return what, response
-            address, redirects = target, redirects + 1
-
-    async def _download(self, request: Any) -> Any:
+        later: Any = reactor
+        # a server that takes long isn't asked at once again
+        timer = later.callLater(self._timeout / 2, robots.meta.__setitem__, "dont_retry", True)
         engine = self._crawler.engine
-        if hasattr(engine, "download_async"):  # newer versions of Scrapy
-            return await engine.download_async(request)
-        return await maybe_deferred_to_future(engine.download(request))
+        try:
+            if hasattr(engine, "download_async"):  # newer versions of Scrapy
+                return await engine.download_async(robots)
+            return await maybe_deferred_to_future(engine.download(robots))
+        finally:
+            if timer.active():
+                timer.cancel()
+
+    def _settle(self, known: dict[str, Site]) -> None:
+        """Lets requests go on that wait for these sites."""
+        for address, site in known.items():
+            self._parking.known(address, site.state is not State.UNREACHABLE, site.refresh)
+            for waiter in self._waiting.pop(address, []):
+                waiter.callback(site)
+        if known:
+            self._crawler.stats.max_value("robotstxt/sites_max", len(self._cache))
+            self._crawler.stats.max_value("robotstxt/bytes_max", self._cache.size)
+
+    def _found(self, address: str, sitemaps: list[str]) -> None:
+        words = {"sitemaps": sitemaps, "robots_url": address, "spider": self._crawler.spider}
+        self._crawler.signals.send_catch_log(sitemaps_found, **words)
+
+    def _count(self, name: str) -> None:
+        self._crawler.stats.inc_value(f"robotstxt/{name}")
+
+    # ---- signals of Scrapy
 
     def _reached_downloader(self, request: Any) -> None:
-        pace = self._paces.get(_address(request))
+        pace = self._pace_of.get(request) or self._paces.get(_address(request))
         if pace:
+            self._pace_of[request] = pace
             pace.enter(self._crawler.engine.downloader.slots[request.meta["download_slot"]])
+
+    def _left_downloader(self, request: Any) -> None:
+        pace, slots = self._pace_of.get(request), self._crawler.engine.downloader.slots
+        if pace and request.meta.get("download_slot") in slots:
+            pace.leave(slots[request.meta["download_slot"]])
 
     def _bytes_received(self, data: bytes, request: Any) -> None:
         """Ends the download of a file that is longer than what counts. Compressed, it might have grown a little."""
@@ -215,6 +316,18 @@ class RobotsMiddleware:
             self._received[request] = self._received.get(request, 0) + len(data)
             if self._received[request] > 2 * FILE_LIMIT:
                 raise StopDownload(fail=False)
+
+    def _response_downloaded(self, response: Any, request: Any) -> None:
+        """Keeps other middlewares from unpacking a file, and from asking again at once where there was an answer."""
+        if _MARK in request.meta:
+            encodings = response.headers.getlist("Content-Encoding")
+            if encodings:
+                response.headers[_ENCODING] = b",".join(encodings)
+                del response.headers["Content-Encoding"]
+            request.meta["dont_retry"] = True
+
+    def _spider_closed(self) -> None:
+        self._cache.close()
 
 
 def _address(request: Any) -> str:
@@ -226,17 +339,10 @@ def _address(request: Any) -> str:
         return f"{parts.scheme}://{parts.netloc}/robots.txt"
 
 
-def _leave_slot(request: Any) -> None:
-    """Takes a redirected request out of the slot of the site that it comes from, which would then keep the delays of both."""
-    urls = request.meta.get("redirect_urls")
-    if urls and request.meta.get("download_slot") == urlsplit(urls[-1]).hostname:
-        del request.meta["download_slot"]
+def _text(text: str | bytes) -> str:
+    return text if isinstance(text, str) else text.decode("utf-8", "replace")
 
 
-def _target(response: Any) -> str:
-    """Where a redirect leads, or nothing if that isn't a URL of http or https."""
-    try:
-        target: str = urljoin(response.url, response.headers.get("Location", b"").decode("utf-8", "replace").strip())
-        return target if "Location" in response.headers and robots_url(target) else ""
-    except ValueError:
-        return ""
+def _is_of_network(error: Exception) -> bool:
+    """Whether this is an error of a server or the network, of which a line is enough."""
+    return isinstance(error, OSError) or type(error).__module__.startswith(("twisted.", "scrapy."))

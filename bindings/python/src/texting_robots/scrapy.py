@@ -7,7 +7,8 @@ from typing import Any, ClassVar
 
 from scrapy.robotstxt import RobotParser as ScrapyRobotParser
 
-from . import OverlongRuleError, Robots, product_token
+from . import product_token
+from ._rules import COST_LIMIT, OUT_OF_MEMORY, Rules
 
 logger = logging.getLogger(__name__)
 
@@ -16,7 +17,7 @@ NO_TOKEN = "User-Agent %r: the group of this crawler isn't found in a robots.txt
 
 class RobotParser(ScrapyRobotParser):
     """Parses the file's bytes as received, so that damaged files keep their rules. If a file can't be used, nothing is fetched, nor if an
-    allocation fails.
+    allocation fails, or if a verdict might take more than ``TEXTING_ROBOTS_COST`` comparisons.
 
     The crawler goes by the product token at the front of its User-Agent. One that begins with ``Mozilla/5.0`` sets
     ``ROBOTSTXT_USER_AGENT`` to its own; otherwise it gets the rules for ``*``, and a warning.
@@ -24,8 +25,8 @@ class RobotParser(ScrapyRobotParser):
 
     _has_warned: ClassVar[bool] = False
 
-    def __init__(self, robotstxt_body: bytes, spider: Any = None) -> None:
-        self._robots = Robots(robotstxt_body)
+    def __init__(self, robotstxt_body: bytes, spider: Any = None, cost_limit: int = COST_LIMIT) -> None:
+        self._rules = Rules(robotstxt_body, cost_limit)
         self._spider = spider
         self._warned: set[str] = set()
 
@@ -34,7 +35,8 @@ class RobotParser(ScrapyRobotParser):
         """The parser of a file. After an error here Scrapy would fetch everything from the site."""
         spider = crawler.spider if crawler else None
         try:
-            return cls(robotstxt_body, spider)
+            cost_limit = crawler.settings.getint("TEXTING_ROBOTS_COST", COST_LIMIT) if crawler else COST_LIMIT
+            return cls(robotstxt_body, spider, cost_limit)
         except MemoryError:
             _warn(spider, "a robots.txt file can't be parsed, out of memory: nothing is fetched from its site")
             return _CLOSED
@@ -49,30 +51,28 @@ class RobotParser(ScrapyRobotParser):
 
     def delay(self, user_agent: str | bytes) -> float:
         """How many seconds the crawler waits between two requests, or 0 if the file doesn't say."""
-        return self._robots.delay(product_token(_text(user_agent))) or 0.0
+        return self._rules.delay(product_token(_text(user_agent)))
 
     @property
     def sitemaps(self) -> list[str]:
         """The sitemaps, as the file has them."""
-        return self._robots.sitemaps
+        return self._rules.sitemaps
 
     @property
     def size(self) -> int:
         """How many bytes of memory the file takes."""
-        return self._robots.size
+        return self._rules.size
 
     def _allowed(self, url: str, user_agent: str) -> bool:
-        if user_agent.lstrip().startswith("Mozilla/") and not RobotParser._has_warned:
-            RobotParser._has_warned = True
-            _warn(self._spider, NO_TOKEN, user_agent)
+        warn_of_browser(user_agent, self._spider)
         token = product_token(user_agent)
-        try:
-            return self._robots.allowed(url, token)
-        except OverlongRuleError as error:
-            if token not in self._warned:
-                self._warned.add(token)
-                _warn(self._spider, "robots.txt for %s: %s, %s: nothing is fetched", url, token, error)
-            return False
+        decision = self._rules.decide(url, token)
+        if decision is OUT_OF_MEMORY:
+            raise MemoryError
+        if decision.problem and token not in self._warned:
+            self._warned.add(token)
+            _warn(self._spider, "robots.txt for %s: %s, %s: nothing is fetched", url, token, decision.problem)
+        return decision.allowed
 
 
 class _Closed(RobotParser):
@@ -86,6 +86,13 @@ class _Closed(RobotParser):
 
 
 _CLOSED = _Closed()  # made in advance, as it can't be made without memory
+
+
+def warn_of_browser(user_agent: str, spider: Any) -> None:
+    """Warns once of a User-Agent like a browser's, in which there is no product token."""
+    if user_agent.lstrip().startswith("Mozilla/") and not RobotParser._has_warned:
+        RobotParser._has_warned = True
+        _warn(spider, NO_TOKEN, user_agent)
 
 
 def _text(text: str | bytes) -> str:

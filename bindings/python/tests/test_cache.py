@@ -1,0 +1,396 @@
+"""The cache of robots.txt files, which makes no requests: what it asks for after each response, what counts when, and what it keeps."""
+
+import doctest
+import gzip
+import random
+import sqlite3
+import zlib
+from collections import Counter
+
+import package  # noqa: F401 (puts the package on the path)
+import pytest
+
+from texting_robots import FILE_LIMIT, UrlError
+from texting_robots import cache as module
+from texting_robots.cache import Action, RobotsCache, State
+
+RULES, CLOSED = b"User-agent: *\nDisallow: /private/\n", b"User-agent: *\nDisallow: /\n"
+A, HTTP, HTTPS = "http://a.example/robots.txt", "http://h.example/robots.txt", "https://h.example/robots.txt"
+HOUR, DAY = 3600, 86_400
+BUSY = (503, {}, b"")
+
+
+class Clock:
+    def __init__(self):
+        self.now = 1_000_000_000.0
+
+    def __call__(self):
+        return self.now
+
+
+class Caches:
+    """Makes caches that share a clock, and counts what happens in them."""
+
+    def __init__(self):
+        self.clock, self.events, self.sitemaps = Clock(), Counter(), []
+
+    def __call__(self, **words):
+        return RobotsCache(clock=self.clock, count=lambda name: self.events.update([name]), found=lambda *found: self.sitemaps.append(found), **words)
+
+
+@pytest.fixture
+def caches():
+    return Caches()
+
+
+def fetched(cache, url, *responses):
+    """What is known of a URL's site after these responses to the requests that are asked for, and the addresses of those."""
+    look, asked, known = cache.look(url), [], {}
+    fetch, responses = look.fetch, list(responses)
+    while fetch and responses:
+        asked.append(fetch.address)
+        response = responses.pop(0)
+        step = cache.received(fetch, *response) if response else cache.failed(fetch)
+        known, fetch = known | step.known, step.fetch
+    assert not fetch and not responses
+    return known[look.address], asked
+
+
+def file(body=RULES, **fields):
+    return 200, {name.replace("_", "-"): value for name, value in fields.items()}, body
+
+
+def moved(address):
+    return 301, {"Location": address}, b""
+
+
+def test_what_to_do_for_a_url(caches):
+    """One request for all that want the file, and none before it is time."""
+    cache = caches()
+    look = cache.look("http://a.example/x")
+    assert (look.action, look.address, look.fetch.address, look.fetch.headers) == (Action.FETCH, A, A, {"Accept-Encoding": "identity"})
+    assert cache.look("http://a.example/y")[0] is Action.WAIT and cache.look("https://a.example/")[0] is Action.FETCH
+    site = cache.received(look.fetch, *file()).known[A]
+    assert cache.look("http://a.example/x") == (Action.USE, A, site, None)
+    assert (site.state, site.expires, site.refresh) == (State.FILE, caches.clock.now + DAY, caches.clock.now + 23 * HOUR)
+    assert cache.decide(site, "http://a.example/private/", "FerrisBot/1.0") == (False, 2, "")
+    assert cache.decide(site, "http://a.example/", "FerrisBot/1.0") == (True, None, "")
+    with pytest.raises(UrlError):
+        cache.look("ftp://a.example/")
+
+
+def test_an_older_file_counts_while_a_newer_one_is_fetched_in_time(caches):
+    cache = caches()
+    old, _ = fetched(cache, A, file())
+    caches.clock.now += 23 * HOUR
+    look = cache.look(A)
+    assert (look.action, look.site) == (Action.REFRESH, old) and cache.look(A) == (Action.USE, A, old, None)
+    caches.clock.now += 2 * HOUR
+    assert cache.look(A) == (Action.USE, A, old, None)
+    new = cache.received(look.fetch, *file(CLOSED)).known[A]
+    assert cache.look(A) == (Action.USE, A, new, None) and new.expires == caches.clock.now + DAY
+
+
+def test_no_file_counts_for_longer_unless_its_server_fails(caches):
+    cache = caches()
+    fetched(cache, A, file())
+    caches.clock.now += DAY
+    look = cache.look(A)
+    assert look[0] is Action.FETCH and cache.look(A)[0] is Action.WAIT
+    site = cache.received(look.fetch, *BUSY).known[A]
+    for _ in range(3):
+        assert site.state is State.FILE and site.is_failing and cache.look(A) == (Action.USE, A, site, None)
+        caches.clock.now += 300
+        look = cache.look(A)
+        assert look[:3] == (Action.REFRESH, A, site) and cache.look(A) == (Action.USE, A, site, None)
+        site = cache.failed(look.fetch).known[A]
+    assert not cache.decide(site, "http://a.example/private/", "x").allowed and caches.events == {"stale": 4}
+    caches.clock.now += 300
+    site, _ = fetched(cache, A, (404, {}, CLOSED))
+    assert (site.state, site.is_failing) == (State.NO_FILE, False) and cache.decide(site, "http://a.example/private/", "x").allowed
+    caches.clock.now += DAY - 200
+    assert fetched(cache, A, BUSY)[0].state is State.UNREACHABLE
+
+
+@pytest.mark.parametrize(
+    "seconds, fields",
+    [
+        (300, {}),
+        (120, {"Retry-After": "120"}),
+        (1, {"Retry-After": "0"}),
+        (DAY, {"retry-after": "9" * 400}),
+        (60, {"Retry-After": "Sun, 09 Sep 2001 01:47:40 GMT"}),
+        (1, {"Retry-After": "Sun, 09 Sep 2001 00:00:00 GMT"}),
+        (300, {"Retry-After": "soon"}),
+        (300, {"Retry-After": ""}),
+    ],
+)
+def test_when_a_server_that_fails_is_asked_again(caches, seconds, fields):
+    cache = caches()
+    site, _ = fetched(cache, A, (503, fields, b""))
+    assert (site.state, site.refresh) == (State.UNREACHABLE, caches.clock.now + seconds)
+    assert cache.decide(site, "http://a.example/", "x") == (False, None, "unreachable") and cache.decide(site, A, "x").allowed
+    caches.clock.now += seconds - 0.5
+    assert cache.look(A) == (Action.USE, A, site, None)
+    caches.clock.now += 0.5
+    assert cache.look(A)[0] is Action.FETCH
+
+
+def test_a_file_that_has_not_changed(caches):
+    """It is asked for by its version, at the address where it was."""
+    cache = caches()
+    fetched(cache, HTTP, moved("http://cdn.example/r"), file(ETag='"1"'))
+    for allowed, (status, fields, body) in [(True, (304, {}, b"")), (True, (304, {}, b"")), (False, (200, {}, CLOSED))]:
+        caches.clock.now += 23 * HOUR
+        first = cache.look(HTTP).fetch
+        assert "If-None-Match" not in first.headers
+        second = cache.received(first, *moved("http://cdn.example/r")).fetch
+        assert second.headers == {"Accept-Encoding": "identity", "If-None-Match": '"1"'}
+        site = cache.received(second, status, fields, body).known[HTTP]
+        assert site.expires == caches.clock.now + DAY
+        assert cache.decide(site, "http://h.example/", "x").allowed is allowed and not cache.decide(site, "http://h.example/private/", "x").allowed
+    assert caches.events["not_modified"] == 2
+    assert fetched(cache, A, (304, {}, b""))[0].state is State.UNREACHABLE
+    for number, etag in enumerate(['"' + "x" * 200 + '"', '"\u00e9"', '"\n"']):
+        fetched(cache, f"http://{number}.example", file(ETag=etag))
+        caches.clock.now += 23 * HOUR
+        assert "If-None-Match" not in cache.look(f"http://{number}.example").fetch.headers
+
+
+def test_http_and_https_of_one_chain_are_fetched_once(caches):
+    cache = caches()
+    look = cache.look(HTTP)
+    step = cache.received(look.fetch, *moved(HTTPS))
+    assert (step.known, step.fetch.address) == ({}, HTTPS) and cache.look(HTTPS)[0] is Action.WAIT
+    assert set(cache.received(step.fetch, *file()).known) == {HTTP, HTTPS}
+    assert cache.look(HTTPS)[0] is cache.look(HTTP)[0] is Action.USE
+
+
+def test_a_redirect_to_a_file_that_is_known_or_on_its_way(caches):
+    cache = caches()
+    known, _ = fetched(cache, HTTPS, file())
+    site, asked = fetched(cache, HTTP, moved(HTTPS))
+    assert asked == [HTTP] and (site.packed, site.expires, site.address) == (known.packed, known.expires, HTTP)
+    cache = caches()
+    one, other = cache.look(HTTP).fetch, cache.look(HTTPS).fetch
+    assert cache.received(one, *moved(HTTPS)) == ({}, None)
+    assert set(cache.received(other, *file()).known) == {HTTP, HTTPS}
+    cache = caches()
+    one, other = cache.look(HTTP).fetch, cache.look(HTTPS).fetch
+    assert cache.received(one, *moved(HTTPS)) == ({}, None) and cache.received(other, *moved(HTTP)).fetch.address == HTTP
+
+
+def test_a_redirect_to_a_file_that_can_not_be_reached(caches):
+    """Then it isn't asked for either, and an older file counts on."""
+    cache = caches()
+    fetched(cache, HTTP, file())
+    caches.clock.now += DAY
+    fetched(cache, HTTPS, BUSY)
+    site, asked = fetched(cache, HTTP, moved(HTTPS))
+    assert asked == [HTTP] and (site.state, site.is_failing) == (State.FILE, True)
+    site, asked = fetched(cache, "http://b.example", moved(HTTPS))
+    assert asked == ["http://b.example/robots.txt"] and site.state is State.UNREACHABLE
+
+
+def test_redirects_are_counted_for_each_site(caches):
+    """The sixth in a row is a missing file, but not for a site that is asked later in the row."""
+    steps = [moved(f"http://a.example/{number}") for number in range(4)]
+    cache = caches()
+    site, asked = fetched(cache, A, *steps, moved(A), file())
+    assert site.state is State.FILE and len(asked) == 6
+    assert fetched(caches(), A, *steps, moved(A), moved(A))[0].state is State.NO_FILE
+    cache = caches()
+    fetch = cache.look(HTTP).fetch
+    for response in [moved(HTTPS), *steps]:
+        fetch = cache.received(fetch, *response).fetch
+    step = cache.received(fetch, *moved("http://a.example/9"))
+    assert {address: site.state for address, site in step.known.items()} == {HTTP: State.NO_FILE}
+    assert {address: site.state for address, site in cache.received(step.fetch, *file()).known.items()} == {HTTPS: State.FILE}
+
+
+@pytest.mark.parametrize("location", ["ftp://a.example/", "data:,", "http://[/", "http://a.example/\udce9"])
+def test_a_redirect_that_leads_nowhere(caches, location):
+    assert fetched(caches(), A, moved(location))[0].state is State.UNREACHABLE
+
+
+def raw(body):
+    return zlib.compress(body)[2:-4]
+
+
+CUT = gzip.compress(RULES + random.Random(1).randbytes(5000))[:-60]
+BOMB = gzip.compress(RULES + b"#" * 50_000_000)
+
+
+@pytest.mark.parametrize(
+    "encoding, body, kept",
+    [
+        ("", RULES, RULES),
+        ("identity", RULES, RULES),
+        ("gzip", gzip.compress(RULES), RULES),
+        ("GZIP, x-gzip", gzip.compress(gzip.compress(RULES)), RULES),
+        ("gzip", gzip.compress(RULES) + gzip.compress(b"Disallow: /x\n"), RULES + b"Disallow: /x\n"),
+        ("gzip", gzip.compress(b""), b""),
+        ("gzip", b"", b""),
+        ("gzip", RULES, RULES),
+        ("gzip", b"# " + RULES, b"# " + RULES),
+        ("gzip", gzip.compress(RULES)[:-8] + b"12345678", RULES),
+        ("deflate", zlib.compress(RULES), RULES),
+        ("deflate", raw(RULES), RULES),
+        ("deflate", RULES, RULES),
+    ],
+)
+def test_a_compressed_body(caches, encoding, body, kept):
+    site, _ = fetched(caches(), A, (200, {"Content-Encoding": encoding}, body))
+    assert zlib.decompress(site.packed) == kept
+
+
+@pytest.mark.parametrize("encoding, body", [("gzip", CUT), ("gzip", BOMB), ("deflate", zlib.compress(RULES + b"#" * 999)[:-9])])
+def test_the_part_of_a_compressed_body_that_is_there_or_counts(caches, encoding, body):
+    site, _ = fetched(caches(), A, (200, {"Content-Encoding": encoding}, body))
+    found = zlib.decompress(site.packed)
+    assert found.startswith(RULES) and len(found) <= FILE_LIMIT
+
+
+@pytest.mark.parametrize("encoding, body", [("gzip", b"\x1f\x8b\x08" + bytes(7)), ("gzip", b"\0\1\2"), ("deflate", raw(RULES)[:-5]), ("br", RULES)])
+def test_a_body_that_can_not_be_unpacked(caches, encoding, body):
+    """It's no file without rules, but one that can't be had."""
+    assert fetched(caches(), A, (200, {"Content-Encoding": encoding}, body))[0].state is State.UNREACHABLE
+
+
+def test_a_body_that_does_not_come_to_its_end(caches):
+    assert fetched(caches(), A, (200, {}, RULES, False))[0].state is State.UNREACHABLE
+    assert fetched(caches(), A, (200, {}, RULES.ljust(FILE_LIMIT, b"#"), False))[0].state is State.FILE
+
+
+def test_parsed_files_go_first_and_are_fetched_again_last(caches):
+    """In the order in which they were used."""
+    cache, filler = caches(budget=100_000), b"#" * 3000
+    for number in range(60):
+        fetched(cache, f"http://{number}.example", file(RULES + filler))
+        assert cache.size <= 100_000
+    assert len(cache) == 60 and not caches.events["evicted"]
+    for number in range(60):
+        look = cache.look(f"http://{number}.example")
+        assert look[0] is Action.USE and cache.decide(look.site, f"http://{number}.example/private/", "x").line == 2 and cache.size <= 100_000
+    assert caches.events["parsed"] >= 50
+    for number in range(60, 200):
+        fetched(cache, f"http://{number}.example", file(RULES + filler))
+    kept = [number for number in range(200) if cache.look(f"http://{number}.example")[0] is Action.USE]
+    assert kept[-1] == 199 and kept == list(range(200 - len(kept), 200)) and 60 < len(kept) < 100
+    assert caches.events["evicted"] == 200 - len(kept)
+
+
+def test_the_memory_of_each_crawler_counts(caches):
+    cache = caches()
+    site, _ = fetched(cache, A, file(b"".join(b"User-agent: b%d\nDisallow: /%d\n\n" % (number, number) for number in range(50))))
+    before = cache.size
+    for number in range(50):
+        cache.decide(site, "http://a.example/", f"b{number}")
+    assert cache.size == site.memory + site.rules.size > before + 50 * 100
+
+
+def test_a_database_keeps_what_a_server_answered(caches, tmp_path):
+    path = str(tmp_path / "robots.sqlite3")
+    cache = caches(database=path)
+    fetched(cache, A, file(RULES + b"Sitemap: /s.xml\n", ETag='"1"'))
+    fetched(cache, "http://b.example", (404, {}, b""))
+    fetched(cache, "http://c.example", (503, {"Retry-After": "900"}, b""))
+    fetched(cache, "http://d.example", None)
+    assert caches.sitemaps == [(A, ["/s.xml"])]
+    cache.close()
+    caches.clock.now += 600
+    cache = caches(database=path)
+    states = {look.address[7]: look.site.state for look in map(cache.look, ("http://a.example", "http://b.example", "http://c.example"))}
+    assert states == {"a": State.FILE, "b": State.NO_FILE, "c": State.UNREACHABLE} and cache.look("http://d.example")[0] is Action.FETCH
+    assert cache.decide(cache.look(A).site, "http://a.example/private/", "x") == (False, 2, "")
+    assert caches.sitemaps == [(A, ["/s.xml"])] * 2 and caches.events["read"] == 3
+    caches.clock.now += 23 * HOUR
+    assert cache.look(A).fetch.headers["If-None-Match"] == '"1"'
+    caches.clock.now += 40 * DAY
+    caches(database=path)
+    assert sqlite3.connect(path).execute("SELECT COUNT(*) FROM sites").fetchone() == (0,)
+
+
+def test_a_clock_that_was_wrong(caches, tmp_path):
+    """What was fetched in the future counts no longer than anything else."""
+    path = str(tmp_path / "robots.sqlite3")
+    caches.clock.now += 400 * DAY
+    cache = caches(database=path)
+    fetched(cache, A, file())
+    caches.clock.now -= 400 * DAY
+    for it in (cache, caches(database=path)):
+        assert it.look(A).site.expires == caches.clock.now + DAY
+
+
+def test_a_database_that_fails(caches, tmp_path, caplog):
+    """It is a warning, and what it doesn't keep is fetched again; but a file that isn't a database is an error at the start."""
+    path = tmp_path / "robots.sqlite3"
+    cache = caches(database=str(path), budget=1)
+    fetched(cache, A, file())
+    connection = sqlite3.connect(path, isolation_level=None)
+    connection.execute("DROP TABLE sites")
+    fetched(cache, "http://b.example", file())
+    assert cache.look(A)[0] is Action.FETCH and len(caplog.records) == 1 and "fails, and is used no more" in caplog.text
+    connection.execute("PRAGMA user_version = 9")
+    with pytest.raises(sqlite3.DatabaseError, match="another version: 9"):
+        caches(database=str(path))
+    path.write_bytes(b"#" * 9000)
+    with pytest.raises(sqlite3.DatabaseError):
+        caches(database=str(path))
+
+
+def test_with_a_database_nothing_is_fetched_again(caches, tmp_path):
+    cache = caches(database=str(tmp_path / "robots.sqlite3"), budget=20_000)
+    for number in range(100):
+        fetched(cache, f"http://{number}.example", file())
+    assert len(cache) < 20 and cache.size <= 20_000
+    assert {cache.look(f"http://{number}.example")[0] for number in range(100)} == {Action.USE}
+
+
+def test_sitemaps_are_told_once(caches):
+    cache = caches(lifetime=0)
+    for names in ["a", "a", "ab", "", "ab"]:
+        fetched(cache, A, file(RULES + b"".join(b"Sitemap: /%c\n" % it for it in names.encode())))
+    assert caches.sitemaps == [(A, ["/a"]), (A, ["/a", "/b"]), (A, ["/a", "/b"])]
+
+
+def test_a_file_that_takes_too_long(caches):
+    """10,000 rules with a star: each may be compared with all of a long URL."""
+    body = b"User-agent: *\n" + b"".join(b"Disallow: *a%db\n" % number for number in range(10_000))
+    cache = caches()
+    site, _ = fetched(cache, A, file(body))
+    assert cache.decide(site, "http://a.example/short", "x").allowed
+    assert cache.decide(site, "http://a.example/a7b", "x") == (False, 9, "")
+    assert cache.decide(site, "http://a.example/" + "a" * 2000, "x") == (False, None, "a verdict may take too long")
+    cache = caches(cost_limit=10**9)
+    assert cache.decide(fetched(cache, A, file(body))[0], "http://a.example/" + "a" * 2000, "x").allowed
+
+
+def test_without_memory(caches, monkeypatch):
+    """A file that can't be parsed can't be reached, and what can't be decided is denied."""
+    cache = caches()
+
+    def no_memory(*words):
+        raise MemoryError
+
+    site, _ = fetched(cache, A, file())
+    with monkeypatch.context() as changed:
+        changed.setattr(module.Rules, "decide", no_memory)
+        assert cache.decide(site, "http://a.example/", "x") == (False, None, "out of memory")
+    monkeypatch.setattr(module, "Rules", no_memory)
+    assert fetched(cache, "http://b.example", file())[0].state is State.UNREACHABLE
+    site.rules = None
+    assert not cache.decide(site, "http://a.example/", "x").allowed and cache.delay(site, "x") == 0
+
+
+def test_a_delay(caches):
+    """The longest of those that were asked for."""
+    cache = caches()
+    site, _ = fetched(cache, A, file(b"User-agent: A\nCrawl-delay: 3\n\nUser-agent: B\nCrawl-delay: 2\n"))
+    assert [cache.delay(site, name) for name in ("C", "B/1.0", "A", "B")] == [0, 2, 3, 3]
+    assert cache.delay(fetched(cache, "http://b.example", (404, {}, b""))[0], "A") == 0
+
+
+def test_the_lines_of_the_docstring():
+    failed, tried = doctest.testmod(module)
+    assert (failed, tried) == (0, 7)

@@ -1,0 +1,269 @@
+"""Crawls by Scrapy with the middleware in which robots.txt files can't be fetched for a time: no request is lost, and none waits for long."""
+
+import re
+import time
+import types
+
+import package
+import pytest
+from sites import PUBLIC, RULES, Site, answers, closes, crawled, never, served
+from test_middleware import CLOSED, FAILS, HALF, MIDDLEWARE, PAGES, TOLERANCE, Engine, file, gaps, ours
+
+package.needs("scrapy")
+
+from scrapy.exceptions import DontCloseSpider, IgnoreRequest  # noqa: E402
+from scrapy.http import Request, Response  # noqa: E402
+from scrapy.http.request import NO_CALLBACK  # noqa: E402
+from twisted.internet.defer import ensureDeferred  # noqa: E402
+
+from texting_robots.middleware import Forbidden, Unreachable  # noqa: E402
+
+WAITS = {name: value for name, value in MIDDLEWARE.items() if name != "TEXTING_ROBOTS_PARKED"} | {"TEXTING_ROBOTS_RETRY": 0.3}
+BUSY = answers(503, b"", **{"Retry-After": "1"})
+HANGS = WAITS | {"TEXTING_ROBOTS_TIMEOUT": 1}
+
+# the answers for robots.txt, how often it is fetched, and which pages are
+OUTAGES = {
+    "500": ([FAILS, FAILS, answers(200)], WAITS, 3, PUBLIC),
+    "503 with a time": ([BUSY, answers(200)], WAITS, 2, PUBLIC),
+    "closed": ([closes, closes, answers(200)], WAITS, 3, PUBLIC),
+    "half a body": ([HALF, answers(200)], WAITS, 2, PUBLIC),
+    "no answer": ([never, answers(200)], HANGS, 2, PUBLIC),
+    "then no file": ([FAILS, answers(404)], WAITS, 2, PAGES),
+    "then all is denied": ([FAILS, answers(200, CLOSED)], WAITS, 2, []),
+    "with retries by Scrapy": ([FAILS, answers(200)], WAITS | {"RETRY_ENABLED": True}, 2, PUBLIC),
+    "for longer than requests may wait": ([FAILS], WAITS | {"TEXTING_ROBOTS_RETRY": 1, "TEXTING_ROBOTS_PARKED_SECONDS": 2.6}, 3, []),
+    "for longer, by the server": ([answers(503, b"", **{"Retry-After": "9"})], WAITS | {"TEXTING_ROBOTS_PARKED_SECONDS": 5}, 1, []),
+    "with asyncio": ([FAILS, answers(200)], WAITS | {"TWISTED_REACTOR": "twisted.internet.asyncioreactor.AsyncioSelectorReactor"}, 2, PUBLIC),
+}
+MANY = [f"/public/{number}" for number in range(25)]
+SHORT_LIFE = HANGS | {"TEXTING_ROBOTS_LIFETIME": 1, "TEXTING_ROBOTS_RETRY": 30, "DOWNLOAD_DELAY": 0.1, "CONCURRENT_REQUESTS": 2}
+
+
+@pytest.fixture(scope="module")
+def crawls(tmp_path_factory):
+    """The sites after the crawls, by name, and the log."""
+    by_reactor = [{}, {}]
+    for name, (several, settings, _, _) in OUTAGES.items():
+        by_reactor["TWISTED_REACTOR" in settings][name] = Site(*several, settings=settings)
+    sites = by_reactor[0]
+    sites["many of a site"] = Site(FAILS, FAILS, answers(200), settings=WAITS | {"CONCURRENT_REQUESTS": 2}, links={"/": MANY})
+    sites["a refresh"] = Site(answers(200), never, settings=SHORT_LIFE, links={"/": MANY})
+    # a site whose file can't be fetched, and one that can, and then still is crawled
+    sites["busy"] = Site(FAILS, FAILS, FAILS, FAILS, answers(200), settings=WAITS)
+    links = {"/": [sites["busy"].address + f"/public/{number}" for number in range(20)] + ["/public/a"], "/public/a": ["/public/b"]}
+    sites["beside it"] = Site(answers(200), settings=WAITS | {"CONCURRENT_REQUESTS": 2}, links=links)
+    sites["dead"] = Site(answers(200), settings=WAITS | {"TEXTING_ROBOTS_PARKED": 0}, links={"/": ["http://127.0.0.1:1/x"]})
+    sites["slow"] = Site(answers(200, RULES + b"Crawl-delay: 3\n"), settings=WAITS, host="127.0.0.2", links={})
+    fast = {f"fast {number}": Site(answers(200), settings=WAITS, host=f"127.0.0.{number}", links={}) for number in range(3, 10)}
+    all_of_them = [it.address + path for path in ("/public/a", "/public/b") for it in (sites["slow"], *fast.values())]
+    sites["a slot"] = Site(answers(200), settings=WAITS | {"ONE_SLOT": "proxy"}, links={"/": all_of_them})
+    kept = WAITS | {"TEXTING_ROBOTS_DATABASE": str(tmp_path_factory.mktemp("kept") / "robots.sqlite3")}
+    sites["a database"] = Site(answers(200), settings=kept)
+    begun = [it for name, it in sites.items() if name not in ("busy", "slow")]
+    with served([*sites.values(), *by_reactor[1].values(), *fast.values()]):
+        log = crawled(begun) + crawled(by_reactor[1].values()) + crawled([sites["a database"]])
+    return sites | by_reactor[1] | fast, log
+
+
+@pytest.mark.parametrize("name", OUTAGES)
+def test_no_request_is_lost_in_an_outage(crawls, name):
+    _, _, fetches, pages = OUTAGES[name]
+    assert (crawls[0][name].paths().count("/robots.txt"), crawls[0][name].pages()) == (fetches, pages)
+
+
+def test_a_server_that_fails_is_asked_again_when_it_says(crawls):
+    moments = [moment for moment, path in crawls[0]["503 with a time"].got if path == "/robots.txt"]
+    assert gaps(moments)[0] >= 1 - TOLERANCE
+
+
+def test_requests_that_wait_hold_no_others_up(crawls):
+    """Of the other site all is fetched before the file of this one can be."""
+    busy, other = crawls[0]["busy"], crawls[0]["beside it"]
+    assert set(other.paths()) == {"/robots.txt", "/", "/public/a", "/public/b"} and len(busy.got) == 25
+    assert other.got[-1][0] < busy.got[4][0] and [path for _, path in busy.got[:5]] == ["/robots.txt"] * 5
+    assert sorted(crawls[0]["many of a site"].paths()) == sorted(["/", *MANY] + ["/robots.txt"] * 3)
+
+
+def test_no_page_waits_while_a_file_is_fetched_again(crawls):
+    """The server hangs for longer than the file's lifetime."""
+    crawl = crawls[0]["a refresh"]
+    pages = [moment for moment, path in crawl.got if path != "/robots.txt"]
+    assert len(pages) == 26 and crawl.paths().count("/robots.txt") == 2 and max(gaps(pages)) < 0.9
+
+
+def test_a_site_with_a_delay_slows_down_no_other_in_its_slot(crawls):
+    slow = crawls[0]["slow"].got
+    assert sorted(path for _, path in slow) == ["/public/a", "/public/b", "/robots.txt"]
+    assert min(gaps([moment for moment, _ in slow])) >= 3 - TOLERANCE
+    fast = [moment for name, site in crawls[0].items() if name.startswith("fast") for moment, _ in site.got]
+    assert len(fast) == 21 and max(fast) < slow[1][0]
+
+
+def test_another_crawl_with_the_database_fetches_no_file(crawls):
+    assert crawls[0]["a database"].paths().count("/robots.txt") == 1 and crawls[0]["a database"].paths().count("/public/a") == 2
+
+
+def test_a_dead_host_takes_a_line_of_the_log(crawls):
+    assert len(re.findall(r"WARNING: http://127.0.0.1:1/robots.txt can't be fetched: Connection was refused", crawls[1])) == 1
+    assert "Traceback" not in crawls[1] and "Unhandled" not in crawls[1]
+
+
+def test_with_a_job_folder_requests_wait_for_the_next_start(tmp_path):
+    """The link is found in the first crawl, and not again, since Scrapy has seen it."""
+    busy = Site(FAILS, settings=WAITS, links={})
+    ends = {"JOBDIR": str(tmp_path / "job"), "CLOSESPIDER_TIMEOUT": 2}
+    first = Site(answers(200), settings=WAITS | ends, links={"/": [busy.address + "/public/a", busy.address + "/private/x"]})
+    with served([busy, first]):
+        crawled([first])
+        assert set(busy.paths()) == {"/robots.txt"}
+        busy.answers, first.settings = [answers(200)], WAITS | {"JOBDIR": ends["JOBDIR"]}
+        crawled([first])
+    assert busy.pages() == ["/public/a"]
+
+
+# ---- without a crawl
+
+
+def outcome(robots, request):
+    """What comes of a request: None, a request for the scheduler, an exception, or nothing yet."""
+    results = []
+    ensureDeferred(robots.process_request(request)).addCallbacks(results.append, lambda failure: results.append(failure.value))
+    return results
+
+
+def test_what_can_not_wait_says_when_to_come_again():
+    robots, crawler = ours(file(status=503))
+    for request in [Request("http://a.example/"), Request("http://a.example/x", NO_CALLBACK)]:
+        (error,) = outcome(robots, request)
+        assert isinstance(error, Unreachable) and isinstance(error, IgnoreRequest)
+        assert error.address == "http://a.example/robots.txt" and 299 < error.seconds <= 300
+        assert str(error) == "http://a.example/robots.txt can't be fetched: it is asked for again in 300 seconds"
+    assert crawler.stats.get_value("robotstxt/unreachable") == 2 and crawler.stats.get_value("robotstxt/parked") is None
+
+
+def test_an_exception_names_the_line_and_the_address():
+    robots, crawler = ours(file(RULES + b"Disallow: /a/*" + b"a" * 5000 + b"$\n", ETag="1"))
+    crawler.engine.answer = file(RULES)
+    (error,) = outcome(robots, Request("http://a.example/private/"))
+    assert isinstance(error, Forbidden) and (error.line, error.address) == (2, "http://a.example/robots.txt")
+    assert str(error) == "Forbidden by robots.txt: line 2 of http://a.example/robots.txt"
+
+
+def test_a_file_that_can_not_be_used_is_a_warning(caplog):
+    robots, _ = ours(file(RULES + b"Disallow: /a/*" + b"a" * 5000 + b"$\n"))
+    for path in "abc":
+        (error,) = outcome(robots, Request(f"http://a.example/{path}"))
+        assert error.line == 3
+    (warning,) = [it.getMessage() for it in caplog.records if it.levelname == "WARNING"]
+    assert warning == (
+        "http://a.example/robots.txt for FerrisBot/1.0: the rule in line 3 is too long: the file can't be used for this crawler: it isn't fetched"
+    )
+
+
+class Slots(Engine):
+    """An engine with the parts that requests wait in."""
+
+    def __init__(self, answer):
+        super().__init__(answer)
+        self.downloader.active = set()
+        self.slot = types.SimpleNamespace(closing=None, nextcall=types.SimpleNamespace(schedule=lambda: None))
+
+
+def waiting(number, **settings):
+    """A middleware with so many requests, their outcomes, and its crawler."""
+    robots, crawler = ours(file(status=503), **{"TEXTING_ROBOTS_PARKED": 3} | settings)
+    crawler.engine = Slots(file(status=503))
+    requests = [Request(f"http://a.example/{it}") for it in range(number)]
+    crawler.engine.downloader.active.update(requests)
+    outcomes = [outcome(robots, request) for request in requests]
+    return robots, crawler, requests, outcomes
+
+
+def test_requests_wait_outside_of_the_limit_of_the_downloader():
+    robots, crawler, requests, outcomes = waiting(5)
+    active = crawler.engine.downloader.active
+    assert outcomes[:3] == [[]] * 3 and [type(it[0]) for it in outcomes[3:]] == [Unreachable] * 2 and active == set(requests[3:])
+    with pytest.raises(DontCloseSpider):
+        robots._parking._spider_idle()
+    robots._cache._clock, crawler.engine.answer = lambda: time.time() + 301, file(RULES)
+    robots._parking._ask_again("http://a.example/robots.txt")
+    assert active == set(requests) and robots._parking._spider_idle() is None
+    for request, (again,) in zip(requests, outcomes[:3]):
+        assert again is not request and again.dont_filter and again.url == request.url
+    assert {name: crawler.stats.get_value(f"robotstxt/{name}") for name in ("parked", "resumed", "unreachable")} == {"parked": 3, "resumed": 3, "unreachable": 2}
+    robots._parking._end_of_spider()
+
+
+def test_requests_go_back_when_the_spider_is_closed():
+    robots, crawler, _, outcomes = waiting(2)
+    robots._parking._end_of_spider()
+    assert outcomes == [[], []]
+    crawler.engine.slot.closing = object()
+    robots._parking._end_of_spider()
+    assert [it[0].dont_filter for it in outcomes] == [True, True] and not robots._parking._timers
+
+
+def test_requests_that_have_waited_for_too_long():
+    robots, crawler, _, outcomes = waiting(2, TEXTING_ROBOTS_PARKED_SECONDS=400)
+    robots._cache._clock = lambda: time.time() + 301
+    robots._parking._ask_again("http://a.example/robots.txt")
+    assert [type(it[0]) for it in outcomes] == [Unreachable] * 2 and crawler.stats.get_value("robotstxt/unreachable") == 2
+
+
+def test_the_request_for_a_file_goes_the_way_of_the_request_to_the_site():
+    """And asks for no compressed body, has a limit and a time, and takes no credentials of the site along."""
+    robots, crawler = ours(file(), TEXTING_ROBOTS_TIMEOUT=7)
+    meta = {"proxy": "http://127.0.0.1:8080", "bindaddress": ("127.0.0.2", 0), "_auth_proxy": "http://127.0.0.1:8080", "other": 1}
+    headers = {"Proxy-Authorization": "Basic x", "Authorization": "Basic y", "Cookie": "z=1"}
+    assert outcome(robots, Request("http://a.example/", meta=dict(meta), headers=headers)) == [None]
+    (request,) = crawler.engine.requests
+    assert {key: request.meta.get(key) for key in meta} == meta | {"other": None}
+    assert dict(request.headers.to_unicode_dict()) == {"proxy-authorization": "Basic x", "accept-encoding": "identity"}
+    assert (request.meta["download_timeout"], request.meta["download_maxsize"]) == (7, 1 << 25)
+
+
+@pytest.mark.parametrize("settings, seconds", [({}, 30), ({"DOWNLOAD_TIMEOUT": 5}, 5), ({"DOWNLOAD_TIMEOUT": 5, "TEXTING_ROBOTS_TIMEOUT": 9}, 9)])
+def test_the_time_for_an_answer(settings, seconds):
+    assert ours(file(), **settings)[0]._timeout == seconds
+
+
+def test_no_other_middleware_unpacks_a_file_or_asks_again_at_once():
+    robots, _ = ours(file())
+    request, response = Request("http://a.example/robots.txt", meta={"texting_robots": True}), Response("http://a.example/robots.txt", headers={"Content-Encoding": "gzip"})
+    robots._response_downloaded(response, request)
+    assert "Content-Encoding" not in response.headers and request.meta["dont_retry"]
+    page = Response("http://a.example/", headers={"Content-Encoding": "gzip"})
+    robots._response_downloaded(page, Request("http://a.example/"))
+    assert "Content-Encoding" in page.headers
+
+
+@pytest.mark.parametrize(
+    "slot, settings, given",
+    [
+        (None, {}, None),
+        ("a.example", {}, "a.example"),
+        ("proxy", {}, "proxy http://a.example"),
+        (None, {"CONCURRENT_REQUESTS_PER_IP": 1}, "http://a.example"),
+        ("proxy", {"DOWNLOAD_SLOTS": {"proxy": {"delay": 9}}}, "proxy"),
+    ],
+)
+def test_a_site_with_a_delay_gets_a_slot_of_its_own(slot, settings, given):
+    """Where its slot may be that of other hosts. When the request comes again, it is in the slot that it was meant for first."""
+    robots, crawler = ours(file(RULES + b"Crawl-delay: 1\n"), **settings)
+    request = Request("http://a.example/", meta={} if slot is None else {"download_slot": slot})
+    assert outcome(robots, request) == [None] and request.meta.get("download_slot") == given
+    again = request.replace(url="http://b.example/")
+    crawler.engine.answer = file(RULES)
+    assert outcome(robots, again) == [None] and again.meta.get("download_slot") == slot
+
+
+def test_http_and_https_of_a_site_take_one_file():
+    def answer(request):
+        if request.url.startswith("https:"):
+            return Response(request.url, 200, body=RULES)
+        return Response(request.url, 301, {"Location": request.url.replace("http:", "https:")})
+
+    robots, crawler = ours(answer)
+    assert outcome(robots, Request("http://a.example/")) == outcome(robots, Request("https://a.example/")) == [None]
+    assert crawler.engine.urls() == ["http://a.example/robots.txt", "https://a.example/robots.txt"]
