@@ -1,101 +1,142 @@
 -- How a report is built, and that an input has at most one.
-use Rattle.std.proofs.Common.{◌≡◌, ◌≢◌, ℕ, List, [], ◌∷◌, ◌++◌, Option, Some, None, Result, Ok, Err, IfSome}
-use Rattle.std.proofs.Common.{map, sym, refl, ap, subst, take, ◌∙◌}
+use Rattle.std.proofs.Common.{◌≡◌, ◌≢◌, ◌⊎◌, ℕ, Bool, true, false, List, [], ◌∷◌, ◌++◌, Option, Some, None}
+use Rattle.std.proofs.Common.{IfErr, IfSome, MatchBool, Result, Ok, Err, ap, inl, inr, map, refl, subst, sym, ◌∙◌}
+use Rattle.std.proofs.lemmas.Bool.{cases_Bool, false≢true}
 use Rattle.std.specs.{Result.IsErrAnd}
-use Rattle.texting_robots.specs.Callers.{IsFileRejected, IsRobotOf, RobotValue, delay_for, file_limit}
-use Rattle.texting_robots.specs.Callers.{lines_read, placed_rules, sitemaps_in}
+use Rattle.texting_robots.specs.Callers.{IsMemoryErrorOr, IsRobotOf, RobotValue, delay_for, lines_read}
+use Rattle.texting_robots.specs.Callers.{placed_rules, rules_for, sitemaps_in}
+use Rattle.texting_robots.specs.declared.error.Error.{Error}
+use Rattle.texting_robots.specs.declared.error.Error.TheVariants as error
+use Rattle.texting_robots.proofs.{BestLemmas.Either, ExampleLemmas.any_overlong_decides}
 use Rattle.texting_robots.proofs.GivenLemmas.{delay_is_computed, sitemaps_are_computed}
-use Rattle.texting_robots.proofs.{MainTheoremLemmas.answers_computed}
+use Rattle.texting_robots.proofs.MainTheoremLemmas.{answers_computed, lines_are_read, read_rejected}
+use Rattle.texting_robots.proofs.MainTheoremLemmas.{rejection_is_computed}
 use Rattle.robots_io.specs.{declared.streams.ReadFault.ReadFault}
-use Rattle.robots_verdict.specs.{declared.fault.Fault.Fault, Report.HasFault, Fault.fault_of_read}
+use Rattle.robots_verdict.specs.{declared.fault.Fault.Fault, Fault.fault_of, Fault.fault_of_read}
 use Rattle.robots_verdict.specs.declared.fault.Fault.TheVariants.{HeaderNotUtf8, InvalidRule, Memory, Read}
-use Rattle.robots_verdict.specs.declared.fault.Fault.TheVariants.{NoEmptyLine, Write}
-use Rattle.robots_verdict.specs.Input.{AreUtf8, HoldNotUtf8, IsInput}
-use Rattle.robots_verdict.specs.Report.{IsReport, IsReportText, delay_line, sitemap_line, AddsVerdicts}
+use Rattle.robots_verdict.specs.declared.fault.Fault.TheVariants.{NoEmptyLine}
+use Rattle.robots_verdict.specs.Input.{Input, are_utf8, split}
+use Rattle.robots_verdict.specs.Report.{AddsVerdicts, IsRejected, IsReport, IsReportOn, IsReportText}
+use Rattle.robots_verdict.specs.Report.{IsReportOnUtf8}
+use Rattle.robots_verdict.specs.Report.{delay_line, sitemap_line}
 use Rattle.printable_text.specs.{Lines.ended}
 use Rattle.printable_text.proofs.SanitizeLemmas.{ended-append, lines_added}
-use Rattle.robots_verdict.proofs.VerdictsLemmas.{lines_like, lines_once}
-use Rattle.robots_verdict.proofs.InputLemmas.{not_both, one_split}
+use Rattle.robots_verdict.proofs.VerdictsLemmas.{lines_like, lines_once, some_lines}
 use Rattle.robots_io.specs.declared.streams.ReadFault.TheVariants as reading
 
-pub text_made : (agent : List ℕ) (urls : List (List ℕ)) (file one two text : List ℕ)
-    (robot : RobotValue)
-    → IsRobotOf agent (lines_read file) robot → one ≡ ended (delay_line robot.delay ∷ [])
+pub text_made : (input : Input) (one two text : List ℕ) (robot : RobotValue)
+    → IsRobotOf input.agent (lines_read input.file) robot → one ≡ ended (delay_line robot.delay ∷ [])
     → two ≡ one ++ ended (map sitemap_line robot.sitemaps)
-    → AddsVerdicts robot.rules urls two text → IsReportText agent urls file text
-text_made agent urls file one two text robot is first second last =
-    let lines = lines_read file in
-    let delay : List (List ℕ) = delay_line (delay_for agent lines) ∷ [] in
+    → AddsVerdicts robot.rules input.urls two text → IsReportText input text
+text_made input one two text robot is first second last =
+    let lines = lines_read input.file in
+    let delay : List (List ℕ) = delay_line (delay_for input.agent lines) ∷ [] in
     let sitemaps : List (List ℕ) = map sitemap_line (sitemaps_in lines) in
-    let delayed = (delay_is_computed agent lines robot.delay).0 is.delay in
+    let delayed = (delay_is_computed input.agent lines robot.delay).0 is.delay in
     let listed = (sitemaps_are_computed lines robot.sitemaps).0 is.sitemaps in
     record {
       verdict_lines = last.lines;
-      verdicts = lines_like robot.rules (placed_rules agent lines)
-          (answers_computed agent lines robot.rules is.rules) urls last.lines last.verdicts;
+      verdicts = lines_like robot.rules (placed_rules input.agent lines)
+          (answers_computed input.agent lines robot.rules is.rules) input.urls last.lines last.verdicts;
       whole = lines_added one two text sitemaps last.lines (rw listed at second) last.whole
           ∙ ap (λ t. t ++ ended (sitemaps ++ last.lines)) (rw delayed at first)
           ∙ sym (ended-append delay (sitemaps ++ last.lines));
     }
 
-text_once : (agent : List ℕ) (urls : List (List ℕ)) (file text other : List ℕ)
-    → IsReportText agent urls file text
-    → IsReportText agent urls file other → text ≡ other
-text_once agent urls file text other one two =
-    let lines = lines_read file in
+-- ---- An input has exactly one report.
+
+text_once : (input : Input) (text other : List ℕ) → IsReportText input text → IsReportText input other
+    → text ≡ other
+text_once input text other one two =
+    let lines = lines_read input.file in
     one.whole
     ∙ ap (λ verdicts.
-    ended (delay_line (delay_for agent lines) ∷ (map sitemap_line (sitemaps_in lines) ++ verdicts)))
-    (lines_once (placed_rules agent lines) urls one.verdict_lines two.verdict_lines one.verdicts
+    ended (delay_line (delay_for input.agent lines) ∷ (map sitemap_line (sitemaps_in lines) ++ verdicts)))
+    (lines_once (placed_rules input.agent lines) input.urls one.verdict_lines two.verdict_lines one.verdicts
     two.verdicts)
     ∙ sym two.whole
 
-same_split : {input agent other : List ℕ} {urls others : List (List ℕ)} {file rest : List ℕ}
-    (P : List ℕ → List (List ℕ) → List ℕ → Type 0) → IsInput input agent urls file
-    → IsInput input other others rest → P other others rest → P agent urls file
-same_split P one two is =
-    let same = one_split _ _ _ _ _ _ _ one two in
-    rw (same.0, same.1, same.2) is
+match_once : {X : Type 0} (b : Bool) (P Q : X → Type 0) → ((x y : X) → P x → P y → x ≡ y)
+    → ((x y : X) → Q x → Q y → x ≡ y) → (x y : X) → MatchBool b (P x) (Q x) → MatchBool b (P y) (Q y) → x ≡ y
+match_once true P Q p q x y one two = p x y one two
+match_once false P Q p q x y one two = q x y one two
 
-no_fault : (input : List ℕ) (text : List ℕ) (fault : Fault) → IsReport input (Ok text)
-    → HasFault input fault → ⊥
-no_fault input text NoEmptyLine report has = has report.0 report.1 report.2 report.3
-no_fault input text HeaderNotUtf8 report has =
-    not_both report.0 report.1 report.4
-    (same_split (λ agent urls file. HoldNotUtf8 agent urls) report.3 has.3 has.4)
-no_fault input text InvalidRule report has =
-    report.5
-    (same_split (λ agent urls file. IsFileRejected agent (take file_limit file)) report.3 has.3 has.5)
-no_fault input text fault report has = has
+read_once : (input : Input) (report other : Result (List ℕ) Fault) → IsReportOnUtf8 input report
+    → IsReportOnUtf8 input other → report ≡ other
+read_once input report other (inl one) (inl two) = one.1 ∙ sym two.1
+read_once input report other (inl one) (inr two) = absurd (two.0 one.0)
+read_once input report other (inr one) (inl two) = absurd (one.0 two.0)
+read_once input report other (inr (_, text, made, is)) (inr (_, again, too, was)) =
+    is ∙ ap (λ t. Ok t) (text_once input text again made too) ∙ sym was
 
-not_rejected : (input : List ℕ) → HasFault input HeaderNotUtf8 → HasFault input InvalidRule → ⊥
-not_rejected input one two =
-    not_both one.0 one.1 (same_split (λ agent urls file. AreUtf8 agent urls) one.3 two.3 two.4) one.4
-
-same_fault : (input : List ℕ) (fault other : Fault) → HasFault input fault → HasFault input other
-    → fault ≡ other
-same_fault input Read other one two = absurd one
-same_fault input Write other one two = absurd one
-same_fault input Memory other one two = absurd one
-same_fault input fault Read one two = absurd two
-same_fault input fault Write one two = absurd two
-same_fault input fault Memory one two = absurd two
-same_fault input NoEmptyLine NoEmptyLine one two = refl
-same_fault input NoEmptyLine other one two = absurd (one two.0 two.1 two.2 two.3)
-same_fault input fault NoEmptyLine one two = absurd (two one.0 one.1 one.2 one.3)
-same_fault input HeaderNotUtf8 HeaderNotUtf8 one two = refl
-same_fault input HeaderNotUtf8 InvalidRule one two = absurd (not_rejected input one two)
-same_fault input InvalidRule HeaderNotUtf8 one two = absurd (not_rejected input two one)
-same_fault input InvalidRule InvalidRule one two = refl
+report_once : (parts : Option Input) (report other : Result (List ℕ) Fault) → IsReportOn parts report
+    → IsReportOn parts other → report ≡ other
+report_once None report other one two = one ∙ sym two
+report_once (Some input) report other one two =
+    match_once (are_utf8 input) (IsReportOnUtf8 input) (λ (report : Result (List ℕ) Fault). report ≡ Err HeaderNotUtf8)
+    (read_once input) (λ x y p q. p ∙ sym q) report other one two
 
 pub one_report : (input : List ℕ) (report other : Result (List ℕ) Fault) → IsReport input report
     → IsReport input other → report ≡ other
-one_report input (Ok text) (Ok other) one two =
-    ap (λ t. Ok t) (text_once one.0 one.1 one.2 text other one.6
-    (same_split (λ agent urls file. IsReportText agent urls file other) one.3 two.3 two.6))
-one_report input (Ok text) (Err fault) one two = absurd (no_fault input text fault one two)
-one_report input (Err fault) (Ok text) one two = absurd (no_fault input text fault two one)
-one_report input (Err fault) (Err other) one two = ap (λ f. Err f) (same_fault input fault other one two)
+one_report input = report_once (split input)
+
+rejected_or_not : (input : Input) → Either (IsRejected input)
+rejected_or_not input =
+    let lines = lines_read input.file in
+    let is = rejection_is_computed input.agent lines in
+    let decides = any_overlong_decides (rules_for input.agent lines) in
+    elim (cases_Bool _) [
+      | inl some ↦ inl (lines, lines_are_read input.file, is.1 (decides.0 some))
+      | inr none ↦ inr (λ rejected. false≢true (sym none ∙ decides.1 (is.0
+          (read_rejected input.agent input.file rejected))))
+    ]
+
+text_of_report : (input : Input) → (text : List ℕ) × IsReportText input text
+text_of_report input =
+    let lines = lines_read input.file in
+    let (verdict_lines, are) = some_lines (placed_rules input.agent lines) input.urls in (
+      ended (delay_line (delay_for input.agent lines)
+          ∷ (map sitemap_line (sitemaps_in lines) ++ verdict_lines)),
+      record { verdict_lines = verdict_lines; verdicts = are; whole = refl },
+    )
+
+report_on : (parts : Option Input) → (report : Result (List ℕ) Fault) × IsReportOn parts report
+report_on None = (Err NoEmptyLine, refl)
+report_on (Some input) = elim (cases_Bool (are_utf8 input)) [
+  | inr isnt ↦ (Err HeaderNotUtf8, rw isnt refl)
+  | inl are ↦ elim (rejected_or_not input) [
+    | inl rejected ↦ (Err InvalidRule, rw are (inl (rejected, refl)))
+    | inr accepted ↦
+        let (text, made) = text_of_report input in (Ok text, rw are (inr (accepted, text, made, refl)))
+  ]
+]
+
+pub some_report : (input : List ℕ) → (report : Result (List ℕ) Fault) × IsReport input report
+some_report input = report_on (split input)
+
+-- ---- The report that the code makes, or its error.
+
+pub no_parts : (input : List ℕ) → split input ≡ None → IsReport input (Err NoEmptyLine)
+no_parts input none = subst (λ parts. IsReportOn parts (Err NoEmptyLine)) (sym none) refl
+
+pub header_fault : {X : Type 0} (r : Result X Fault) (fault : Fault) (input : List ℕ) {parts : Input}
+    → IsErrAnd r (λ other. other ≡ fault) → split input ≡ Some parts
+    → (fault ≢ Memory → (fault ≡ HeaderNotUtf8) × (are_utf8 parts ≡ false))
+    → IfErr r (λ fault. fault ≢ Memory → IsReport input (Err fault))
+header_fault (Ok x) fault input is same not = absurd is
+header_fault (Err e) fault input is same not = λ known.
+    let (wrong, utf8) = not (λ memory. known (is ∙ memory)) in
+    subst (λ of. IsReportOn of (Err e)) (sym same) (rw (utf8, is, wrong) refl)
+
+pub robot_fault : {X : Type 0} (r : Result X Fault) (error : Error) (input : List ℕ) {parts : Input}
+    → IsErrAnd r (λ fault. fault ≡ fault_of error) → split input ≡ Some parts → are_utf8 parts ≡ true
+    → IsMemoryErrorOr (IsRejected parts) error
+    → IfErr r (λ fault. fault ≢ Memory → IsReport input (Err fault))
+robot_fault (Ok x) error input is same are rejected = absurd is
+robot_fault (Err fault) error.InvalidRule input is same are rejected =
+    λ _. subst (λ of. IsReportOn of (Err fault)) (sym same) (rw (are, is) (inl (rejected, refl)))
+robot_fault (Err fault) error.InvalidRobots input is same are rejected = absurd rejected
+robot_fault (Err fault) error.Memory input is same are rejected = λ known. absurd (known is)
 
 of_input : (left : Option (List ℕ)) (P : List ℕ → Type 0) (items bytes : List ℕ)
     → IfSome left (λ input. items ≡ input) → bytes ≡ items → P bytes → IfSome left P
@@ -112,12 +153,12 @@ run_wrote left W items bytes text written read same report whole wrote =
 
 pub run_fault : {X : Type 0} (left : Option (List ℕ)) (items bytes : List ℕ) (r : Result X Fault)
     (fault wanted : Fault) → IfSome left (λ input. items ≡ input) → bytes ≡ items
-    → (fault ≢ Memory → HasFault bytes fault) → IsErrAnd r (λ other. other ≡ fault)
+    → (fault ≢ Memory → IsReport bytes (Err fault)) → IsErrAnd r (λ other. other ≡ fault)
     → wanted ≢ Memory → r ≡ Err wanted → IfSome left (λ input. IsReport input (Err wanted))
 run_fault left items bytes r fault wanted read same has is known answer =
     let found : wanted ≡ fault = rw answer at is in
-    of_input left (λ input. HasFault input wanted) items bytes read same
-    (subst (HasFault bytes) (sym found) (has (λ memory. known (found ∙ memory))))
+    of_input left (λ input. IsReport input (Err wanted)) items bytes read same
+    (subst (λ fault. IsReport bytes (Err fault)) (sym found) (has (λ memory. known (found ∙ memory))))
 
 pub run_memory : {X : Type 0} (left : Option (List ℕ)) (items bytes : List ℕ) (r : Result X Fault)
     (fault : Fault) → IfSome left (λ input. items ≡ input) → bytes ≡ items → (fault ≡ Memory → bytes ≢ [])

@@ -1,43 +1,46 @@
 -- The parts of an input.
-use Rattle.std.specs.Prelude.{◌≡◌, ◌≢◌, ◌⊎◌, ℕ, ◌<◌, List, [], ◌∷◌, ◌++◌, Any, length, slice_index, IsUtf8}
-use Rattle.std.specs.{List.AllByRecursion as Each, Io.BufRead.strip_last}
+use Rattle.std.specs.Prelude.{ℕ, ◌==◌, ◌&&◌, Bool, List, [], ◌∷◌, ◌++◌, Option, Some, None, length, option_map}
+use Rattle.std.specs.Prelude.{if◌then◌else◌}
+use Rattle.std.specs.{List.list_all, Io.BufRead.strip_last, Str.is_utf8}
 use Rattle.printable_text.specs.{Lines.lf}
 
 abbrev pub cr : ℕ
 cr = 13
 
-abbrev pub IsOneLine : List ℕ → Type 0
-IsOneLine line = Each (λ byte. byte ≢ lf) line
+-- the first line without its LF and a CR before that, and what follows; `line` is what precedes this input
+abbrev pub line_from : List ℕ → List ℕ → Option (List ℕ × List ℕ)
+line_from line [] = None
+line_from line (byte ∷ input) =
+    if byte == lf then Some (strip_last cr line, input) else line_from (line ++ byte ∷ []) input
 
-pub record IsFirstLf (input : List ℕ) (place : ℕ) : Type 0 where
-  pub within : place < length input
-  pub feed : slice_index input place ≡ lf
-  pub before : (k : ℕ) → k < place → slice_index input k ≢ lf
+abbrev pub with_url : List ℕ → List (List ℕ) × List ℕ → List (List ℕ) × List ℕ
+with_url url found = (url ∷ found.0, found.1)
 
--- a line, its LF and the rest; `text` is the content of the line, without a CR at its end
-pub record BeginsWithLine (input text rest : List ℕ) : Type 0 where
-  pub line : List ℕ
-  pub whole : input ≡ line ++ lf ∷ rest
-  pub one : IsOneLine line
-  pub text_of : text ≡ strip_last cr line
+-- the lines before the first empty one, which are URLs, and what follows that, the file
+abbrev pub urls_from : List ℕ → List ℕ → Option (List (List ℕ) × List ℕ)
+urls_from line [] = None
+urls_from line (byte ∷ input) =
+    if byte == lf
+    then (if length (strip_last cr line) == 0 then Some ([], input)
+    else option_map (with_url (strip_last cr line)) (urls_from [] input))
+    else urls_from (line ++ byte ∷ []) input
 
--- a line for each URL, none of them empty, then an empty line, and the file
-abbrev pub AreUrlLines : List ℕ → List (List ℕ) → List ℕ → Type 0
-AreUrlLines input [] file = BeginsWithLine input [] file
-AreUrlLines input (url ∷ urls) file =
-    (rest : List ℕ) × BeginsWithLine input url rest × (url ≢ []) × AreUrlLines rest urls file
+pub record Input : Type 0 where
+  pub agent : List ℕ
+  pub urls : List (List ℕ)
+  pub file : List ℕ
 
--- the line with the crawler's name, and then the lines of the URLs and the file
-pub record IsInput (input agent : List ℕ) (urls : List (List ℕ)) (file : List ℕ) : Type 0 where
-  pub rest : List ℕ
-  pub agent_line : BeginsWithLine input agent rest
-  pub url_lines : AreUrlLines rest urls file
+abbrev pub input_of : List ℕ → List (List ℕ) × List ℕ → Input
+input_of agent found = record { agent = agent; urls = found.0; file = found.1 }
 
-abbrev pub HasNoUrl : List ℕ → Type 0
-HasNoUrl input = (agent : List ℕ) × (file : List ℕ) × IsInput input agent [] file
+abbrev pub after_agent : Option (List ℕ × List ℕ) → Option Input
+after_agent None = None
+after_agent (Some (agent, rest)) = option_map (input_of agent) (urls_from [] rest)
 
-abbrev pub AreUtf8 : List ℕ → List (List ℕ) → Type 0
-AreUtf8 agent urls = IsUtf8 agent × Each IsUtf8 urls
+-- the line with the crawler's name, the lines with URLs, and after an empty line the file; `None` if no line
+-- after the first is empty
+abbrev pub split : List ℕ → Option Input
+split input = after_agent (line_from [] input)
 
-abbrev pub HoldNotUtf8 : List ℕ → List (List ℕ) → Type 0
-HoldNotUtf8 agent urls = (¬ IsUtf8 agent) ⊎ Any (λ url. ¬ IsUtf8 url) urls
+abbrev pub are_utf8 : Input → Bool
+are_utf8 input = is_utf8 input.agent && list_all is_utf8 input.urls

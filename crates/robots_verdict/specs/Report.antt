@@ -1,15 +1,14 @@
 -- The report on an input, and its verdict lines.
-use Rattle.std.specs.Prelude.{◌≡◌, ℕ, Bool, true, false, List, [], ◌∷◌, ◌++◌, Option, Some, None, codes, Ok}
-use Rattle.std.specs.Prelude.{decimal, Result, Err, map, take}
+use Rattle.std.specs.Prelude.{◌≡◌, ◌⊎◌, ℕ, Bool, true, false, List, [], ◌∷◌, ◌++◌, Option, Some, None, codes}
+use Rattle.std.specs.Prelude.{decimal, MatchBool, Result, Ok, Err, map, take}
 use Rattle.std.specs.{List.AllZip, Io.KnownBytes.Appends}
 use Rattle.texting_robots.specs.Callers.{PlacedRule, prepared, IsFileRejected, delay_for, file_limit}
 use Rattle.texting_robots.specs.Callers.{lines_read, placed_rules, sitemaps_in}
 use Rattle.texting_robots.specs.{Decision.IsDecisionOn, declared.decision.Decision.Decision}
 use Rattle.printable_text.specs.{Lines.ended}
 use Rattle.robots_io.specs.{Streams.AppendsBeginning}
-use Rattle.robots_verdict.specs.{Input.AreUtf8, Input.HoldNotUtf8, Input.IsInput, declared.fault.Fault.Fault}
-use Rattle.robots_verdict.specs.declared.fault.Fault.TheVariants.{HeaderNotUtf8, InvalidRule, Memory, Read}
-use Rattle.robots_verdict.specs.declared.fault.Fault.TheVariants.{NoEmptyLine, Write}
+use Rattle.robots_verdict.specs.{Input.Input, Input.are_utf8, Input.split, declared.fault.Fault.Fault}
+use Rattle.robots_verdict.specs.declared.fault.Fault.TheVariants.{HeaderNotUtf8, InvalidRule, NoEmptyLine}
 
 abbrev pub verdict_word : Bool → List ℕ
 verdict_word true = codes "allow "
@@ -48,32 +47,32 @@ abbrev pub sitemap_line : List ℕ → List ℕ
 sitemap_line sitemap = codes "sitemap " ++ sitemap
 
 -- a line with the crawler's delay, one for each sitemap of the file, and one with the verdict on each URL
-pub record IsReportText (agent : List ℕ) (urls : List (List ℕ)) (file text : List ℕ) : Type 0 where
+pub record IsReportText (input : Input) (text : List ℕ) : Type 0 where
   pub verdict_lines : List (List ℕ)
-  pub verdicts : AllZip (IsVerdictLine (placed_rules agent (lines_read file))) urls verdict_lines
-  pub whole : text ≡ ended (delay_line (delay_for agent (lines_read file))
-      ∷ (map sitemap_line (sitemaps_in (lines_read file)) ++ verdict_lines))
+  pub verdicts : AllZip (IsVerdictLine (placed_rules input.agent (lines_read input.file))) input.urls
+      verdict_lines
+  pub whole : text ≡ ended (delay_line (delay_for input.agent (lines_read input.file))
+      ∷ (map sitemap_line (sitemaps_in (lines_read input.file)) ++ verdict_lines))
 
--- the input is the cause of this error
-abbrev pub HasFault : List ℕ → Fault → Type 0
-HasFault input Read = ⊥
-HasFault input Write = ⊥
-HasFault input NoEmptyLine = (agent : List ℕ) (urls : List (List ℕ)) (file : List ℕ)
-    → ¬ IsInput input agent urls file
-HasFault input HeaderNotUtf8 = (agent : List ℕ) × (urls : List (List ℕ)) × (file : List ℕ)
-    × IsInput input agent urls file × HoldNotUtf8 agent urls
-HasFault input InvalidRule =
-    (agent : List ℕ) × (urls : List (List ℕ)) × (file : List ℕ) × IsInput input agent urls file
-    × AreUtf8 agent urls × IsFileRejected agent (take file_limit file)
-HasFault input Memory = ⊥
+-- some rule for the crawler is too long
+abbrev pub IsRejected : Input → Type 0
+IsRejected input = IsFileRejected input.agent (take file_limit input.file)
 
--- the report, or the error that the input causes
+-- the report on an input whose header is UTF-8, or its error
+abbrev pub IsReportOnUtf8 : Input → Result (List ℕ) Fault → Type 0
+IsReportOnUtf8 input report =
+    (IsRejected input × (report ≡ Err InvalidRule))
+    ⊎ ((¬ IsRejected input) × (text : List ℕ) × IsReportText input text × (report ≡ Ok text))
+
+-- the report on an input with these parts, or its error
+abbrev pub IsReportOn : Option Input → Result (List ℕ) Fault → Type 0
+IsReportOn None report = report ≡ Err NoEmptyLine
+IsReportOn (Some input) report =
+    MatchBool (are_utf8 input) (IsReportOnUtf8 input report) (report ≡ Err HeaderNotUtf8)
+
+-- the report on an input, or the error that the input causes
 abbrev pub IsReport : List ℕ → Result (List ℕ) Fault → Type 0
-IsReport input (Ok text) =
-    (agent : List ℕ) × (urls : List (List ℕ)) × (file : List ℕ)
-    × IsInput input agent urls file × AreUtf8 agent urls × (¬ IsFileRejected agent (take file_limit file))
-    × IsReportText agent urls file text
-IsReport input (Err fault) = HasFault input fault
+IsReport input report = IsReportOn (split input) report
 
 -- the writer contains its previous content and then the report on the input
 abbrev pub AppendsReport : Option (List ℕ) → Option (List ℕ) → List ℕ → Type 0

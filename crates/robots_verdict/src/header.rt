@@ -1,9 +1,8 @@
 //! The header of an input: the crawler's name and the URLs.
-ghost use Rattle.std.specs.Prelude.{◌≡◌, ◌≢◌, [], Any, IfErr, IfOk, IsUtf8, MatchOption, map};
-ghost use Rattle.std.specs.Io.BufRead.{strip_last};
-ghost use Rattle.std.specs.List.{AllByRecursion as Each};
-ghost use Rattle.robots_verdict.specs.Input.{AreUtf8, BeginsWithLine, HasNoUrl, IsFirstLf, IsInput, IsOneLine, cr};
-ghost use Rattle.robots_verdict.specs.Report.{HasFault};
+ghost use Rattle.std.specs.Prelude.{◌≡◌, ◌≢◌, ◌<◌, [], Err, IfErr, IfOk, IfSome, MatchOption, Some, false, length, map, true};
+ghost use Rattle.std.specs.{Io.BufRead.strip_last, List.list_all, Option.IsSomeAnd, Option.option_map, Str.is_utf8};
+ghost use Rattle.robots_verdict.specs.Input.{are_utf8, cr, line_from, split};
+ghost use Rattle.robots_verdict.specs.{Internal.IsFirstLf, Internal.IsOneLine, Internal.value_of, Report.IsReport};
 
 use crate::fault::Fault;
 use std::alloc::Global;
@@ -39,19 +38,25 @@ fn find_lf(input: &[u8]) -> Option<usize>
 }
 
 fn first_line<'a>(input: &'a [u8]) -> Option<(&'a [u8], &'a [u8])>
-    ensures { MatchOption result (IsOneLine input.now)
-        (λ found. BeginsWithLine input.now found.0.now found.1.now) }
+    ensures line { option_map (λ found. (found.0.now, found.1.now)) result ≡ line_from [] input.now }
+    ensures shorter { IfSome result (λ found. length found.1.now < length input.now) }
 {
-    let end = find_lf(input)?;
-    Some((without_cr(&input[..end]), &input[end + 1..]))
+    match find_lf(input) {
+        Some(end) => Some((without_cr(&input[..end]), &input[end + 1..])),
+        None => None,
+    }
 }
 
 /// Splits an input at its first empty line after the line with the crawler's name.
 fn split<'a>(alloc: Global, input: &'a [u8]) -> Result<RawInput<'a>, Fault>
-    ensures ok { IfOk result (λ parts. IsInput input.now parts.agent.now
-        (map (λ url. url.now) parts.urls.items) parts.file.now) }
-    ensures fault { IfErr result (λ fault. fault ≢ Fault.Memory → HasFault input.now fault) }
-    ensures memory { IfErr result (λ fault. fault ≡ Fault.Memory → (input.now ≢ []) × ¬ HasNoUrl input.now) }
+    ensures ok { IfOk result (λ parts. split input.now ≡ Some (record {
+      agent = parts.agent.now;
+      urls = map (λ url. url.now) parts.urls.items;
+      file = parts.file.now;
+    })) }
+    ensures fault { IfErr result (λ fault. fault ≢ Fault.Memory → IsReport input.now (Err fault)) }
+    ensures memory { IfErr result (λ fault. fault ≡ Fault.Memory
+        → (input.now ≢ []) × ¬ IsSomeAnd (split input.now) (λ parts. parts.urls ≡ [])) }
 {
     let Some((agent, mut rest)) = first_line(input) else {
         return Err(Fault::NoEmptyLine);
@@ -72,8 +77,8 @@ fn split<'a>(alloc: Global, input: &'a [u8]) -> Result<RawInput<'a>, Fault>
 }
 
 fn text_of<'a>(bytes: &'a [u8]) -> Result<&'a str, Fault>
-    ensures ok { IfOk result (λ text. (text.now ≡ bytes.now) × IsUtf8 bytes.now) }
-    ensures fault { IfErr result (λ fault. (fault ≡ Fault.HeaderNotUtf8) × ¬ IsUtf8 bytes.now) }
+    ensures ok { IfOk result (λ text. (text.now ≡ bytes.now) × (is_utf8 bytes.now ≡ true)) }
+    ensures fault { IfErr result (λ fault. (fault ≡ Fault.HeaderNotUtf8) × (is_utf8 bytes.now ≡ false)) }
 {
     match std::str::from_utf8(bytes) {
         Ok(text) => Ok(text),
@@ -83,9 +88,9 @@ fn text_of<'a>(bytes: &'a [u8]) -> Result<&'a str, Fault>
 
 fn texts_of<'a>(alloc: Global, urls: &[&'a [u8]]) -> Result<Vec<&'a str>, Fault>
     ensures ok { IfOk result (λ texts. (map (λ url. url.now) texts.items ≡ map (λ url. url.now) urls.now)
-        × Each IsUtf8 (map (λ url. url.now) urls.now)) }
+        × (list_all is_utf8 (map (λ url. url.now) urls.now) ≡ true)) }
     ensures fault { IfErr result (λ fault. fault ≢ Fault.Memory → (fault ≡ Fault.HeaderNotUtf8)
-        × Any (λ url. ¬ IsUtf8 url) (map (λ url. url.now) urls.now)) }
+        × (list_all is_utf8 (map (λ url. url.now) urls.now) ≡ false)) }
     ensures memory { IfErr result (λ fault. fault ≡ Fault.Memory → urls.now ≢ []) }
 {
     let mut texts = Vec::new(alloc);
@@ -97,17 +102,18 @@ fn texts_of<'a>(alloc: Global, urls: &[&'a [u8]]) -> Result<Vec<&'a str>, Fault>
 
 /// If both errors apply, the error is `NoEmptyLine`. Only URLs need allocations.
 pub(crate) fn read_header<'a>(alloc: Global, input: &'a [u8]) -> Result<Header<'a>, Fault>
-    ensures input { IfOk result (λ header. IsInput input.now header.agent.now
-        (map (λ url. url.now) header.urls.items) header.file.now) }
-    ensures texts { IfOk result (λ header. AreUtf8 header.agent.now
-        (map (λ url. url.now) header.urls.items)) }
-    ensures fault { IfErr result (λ fault. fault ≢ Fault.Memory → HasFault input.now fault) }
-    ensures memory { IfErr result (λ fault. fault ≡ Fault.Memory → (input.now ≢ []) × ¬ HasNoUrl input.now) }
+    ensures input { IfOk result (λ header. split input.now ≡ Some (value_of header)) }
+    ensures texts { IfOk result (λ header. are_utf8 (value_of header) ≡ true) }
+    ensures fault { IfErr result (λ fault. fault ≢ Fault.Memory → IsReport input.now (Err fault)) }
+    ensures memory { IfErr result (λ fault. fault ≡ Fault.Memory
+        → (input.now ≢ []) × ¬ IsSomeAnd (split input.now) (λ parts. parts.urls ≡ [])) }
 {
     let parts = split(alloc, input)?;
+    let agent = text_of(parts.agent)?;
+    let urls = texts_of(alloc, &parts.urls)?;
     Ok(Header {
-        agent: text_of(parts.agent)?,
-        urls: texts_of(alloc, &parts.urls)?,
+        agent,
+        urls,
         file: parts.file,
     })
 }

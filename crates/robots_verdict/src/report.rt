@@ -1,8 +1,8 @@
 //! The report on an input.
-ghost use Rattle.std.specs.Prelude.{◌≡◌, ◌≢◌, ◌++◌, ◌∷◌, [], IfErr, IfOk, OnOk, Ok, map, string_bytes};
+ghost use Rattle.std.specs.Prelude.{◌≡◌, ◌≢◌, ◌++◌, ◌∷◌, [], Err, IfErr, IfOk, OnOk, Ok, map, string_bytes};
 ghost use Rattle.printable_text.specs.Lines.{ended};
 ghost use Rattle.robots_verdict.specs.Report.{AddsVerdict, AddsVerdicts};
-ghost use Rattle.robots_verdict.specs.Report.{HasFault, IsReport, delay_line, sitemap_line};
+ghost use Rattle.robots_verdict.specs.Report.{IsReport, delay_line, sitemap_line};
 
 use crate::fault::Fault;
 use crate::header::read_header;
@@ -59,7 +59,7 @@ fn push_verdicts(
 
 pub(crate) fn report_of(alloc: Global, input: &[u8]) -> Result<String, Fault>
     ensures ok { IfOk result (λ text. IsReport input.now (Ok (string_bytes text))) }
-    ensures fault { IfErr result (λ fault. fault ≢ Fault.Memory → HasFault input.now fault) }
+    ensures fault { IfErr result (λ fault. fault ≢ Fault.Memory → IsReport input.now (Err fault)) }
     ensures memory { IfErr result (λ fault. fault ≡ Fault.Memory → input.now ≢ []) }
 {
     let header = read_header(alloc, input)?;

@@ -1,8 +1,25 @@
-use Rattle.std.proofs.{Common.◌+◌, Common.arith, lemmas.List.length-drop, lemmas.List.take_all}
-use Rattle.robots_verdict.proofs.{InputLemmas.line_before}
+use Rattle.std.proofs.Common.{◌+◌, ◌-◌, ◌≡◌, add-one, arith, drop, length, sym, take}
+use Rattle.std.proofs.lemmas.List.{length-drop, take_all}
+use Rattle.robots_verdict.specs.Internal.{IsFirstLf}
+use Rattle.robots_verdict.proofs.InputLemmas.{line_found, line_none}
 use Rattle.robots_verdict.proofs.header.first_line.Goals as goal
 
-pub returns : goal.returns
-returns c =
-    let short = length-drop (c.in_ok-end.end + 1) c.args.input.now in
-    line_before _ _ _ _ c.in_ok-end.ensures c.without_cr.ensures (take_all _ _ (omega (arith, short)))
+pub returns-in-Some-clause-line : goal.returns-in-Some-clause-line
+returns-in-Some-clause-line c =
+    let input = c.args.input.now in
+    let from = c.in-Some.end + 1 in
+    let all : take (length input - from) (drop from input) ≡ drop from input =
+    take_all (length input - from) (drop from input) (omega (arith, length-drop from input)) in
+    rw (c.without_cr.ensures, all, add-one) (sym (line_found _ input c.in-Some.end c.in-Some.ensures))
+
+pub returns-in-Some-clause-shorter : goal.returns-in-Some-clause-shorter
+returns-in-Some-clause-shorter c =
+    let input = c.args.input.now in
+    let from = c.in-Some.end + 1 in
+    let first : IsFirstLf input c.in-Some.end = c.in-Some.ensures in
+    let all : take (length input - from) (drop from input) ≡ drop from input =
+    take_all (length input - from) (drop from input) (omega (arith, length-drop from input)) in
+    rw all (omega (arith, length-drop from input, first.within))
+
+pub returns-in-None-clause-line : goal.returns-in-None-clause-line
+returns-in-None-clause-line c = line_none _ c.args.input.now c.in-None.ensures

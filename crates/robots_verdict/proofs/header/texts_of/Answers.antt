@@ -1,7 +1,22 @@
-use Rattle.robots_verdict.proofs.InputLemmas.{first_not_utf8}
+use Rattle.std.proofs.{Common.arith, Common.ap, Common.◌∙◌, lemmas.Grind.common_steps, lemmas.List.drop_all}
+use Rattle.robots_verdict.proofs.InputLemmas.{all_utf8, first_not_utf8, utf8_next}
 use Rattle.robots_verdict.proofs.header.texts_of.Goals as goal
+
+pub loop-url-preserved : goal.loop-url-preserved
+loop-url-preserved c = record {
+  same = grind (arith, common_steps);
+  are_utf8 = utf8_next c.args.urls.now c.loop-url.url-index _ c.loop-url.invariant.are_utf8
+      c.loop-url-test.true c.in_ok-text_of.ensures.ok.1;
+}
+
+pub returns-clause-ok : goal.returns-clause-ok
+returns-clause-ok c = (
+  grind (arith, common_steps),
+  c.loop-url.invariant.are_utf8
+      ∙ ap all_utf8 (drop_all c.loop-url.url-index c.args.urls.now c.loop-url-test.false),
+)
 
 pub returns-in_err-text_of-clause-fault : goal.returns-in_err-text_of-clause-fault
 returns-in_err-text_of-clause-fault c = first_not_utf8 c.from_residual.result c.in_err-text_of.field-0.0
-    c.args.urls.now c.loop-url.url-index _ c.from_residual.ensures.1 c.loop-url-test.true
-    c.in_err-text_of.ensures.fault
+    c.args.urls.now c.loop-url.url-index _ c.from_residual.ensures.1 c.loop-url.invariant.are_utf8
+    c.loop-url-test.true c.in_err-text_of.ensures.fault

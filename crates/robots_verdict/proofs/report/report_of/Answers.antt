@@ -1,9 +1,10 @@
-use Rattle.std.proofs.Common.{◌≡◌, ◌++◌, ◌∷◌, [], ℕ, List, ap, map, string_bytes, take, ◌∙◌}
+use Rattle.std.proofs.Common.{◌≡◌, ◌++◌, ◌∷◌, [], ℕ, List, ap, inr, map, refl, string_bytes, take, ◌∙◌}
 use Rattle.texting_robots.specs.Robot.{RobotValue, file_limit}
 use Rattle.texting_robots.proofs.MainTheoremLemmas.{not_rejected, read_robot}
 use Rattle.printable_text.specs.Lines.{ended}
 use Rattle.robots_verdict.specs.Report.{delay_line, sitemap_line}
-use Rattle.robots_verdict.proofs.{InputLemmas.some_input, ReportLemmas.text_made}
+use Rattle.robots_verdict.specs.Internal.{value_of}
+use Rattle.robots_verdict.proofs.{InputLemmas.some_input, ReportLemmas.robot_fault, ReportLemmas.text_made}
 use Rattle.robots_verdict.proofs.report.report_of.Goals as goal
 
 pub returns-clause-ok : goal.returns-clause-ok
@@ -20,25 +21,27 @@ returns-clause-ok c =
     ∙ ap (λ (t : List (List ℕ)). string_bytes c.push_delay.new.text ++ ended (map sitemap_line t))
     (ap (map string_bytes) c.deref.ensures.value ∙ ap (λ (r : RobotValue). r.sitemaps) c.robot.view_is) in
     let is = read_robot header.agent.now header.file.now robot c.in_ok-robot.ensures.robot in
-    let judged = rw c.deref-2.ensures.value at c.in_ok-push_verdicts.ensures.ok in (
-      header.agent.now,
-      map (λ url. url.now) header.urls.items,
-      header.file.now,
-      c.in_ok-header.ensures.input,
-      c.in_ok-header.ensures.texts,
+    let judged = rw c.deref-2.ensures.value at c.in_ok-push_verdicts.ensures.ok in
+    rw (c.in_ok-header.ensures.input, c.in_ok-header.ensures.texts) (inr (
       not_rejected header.agent.now (take file_limit header.file.now) robot c.in_ok-robot.ensures.robot,
-      text_made header.agent.now (map (λ url. url.now) header.urls.items) header.file.now _ _ _ robot is
-          delayed listed judged,
-    )
+      string_bytes c.push_verdicts.new.text,
+      text_made (value_of header) _ _ _ robot is delayed listed judged,
+      refl,
+    ))
+
+pub returns-in_err-robot-clause-fault : goal.returns-in_err-robot-clause-fault
+returns-in_err-robot-clause-fault c = robot_fault c.from_residual-in_err-robot.result c.in_err-robot.field-0.0
+    c.args.input.now c.from_residual-in_err-robot.ensures.1 c.in_ok-header.ensures.input
+    c.in_ok-header.ensures.texts c.in_err-robot.ensures.rejected
 
 pub returns-in_err-push_delay-clause-memory : goal.returns-in_err-push_delay-clause-memory
 returns-in_err-push_delay-clause-memory c =
-    some_input c.from_residual-in_err-push_delay.result _ _ _ _ c.in_ok-header.ensures.input
+    some_input c.from_residual-in_err-push_delay.result _ c.in_ok-header.ensures.input
 
 pub returns-in_err-push_sitemaps-clause-memory : goal.returns-in_err-push_sitemaps-clause-memory
 returns-in_err-push_sitemaps-clause-memory c =
-    some_input c.from_residual-in_err-push_sitemaps.result _ _ _ _ c.in_ok-header.ensures.input
+    some_input c.from_residual-in_err-push_sitemaps.result _ c.in_ok-header.ensures.input
 
 pub returns-in_err-push_verdicts-clause-memory : goal.returns-in_err-push_verdicts-clause-memory
 returns-in_err-push_verdicts-clause-memory c =
-    some_input c.from_residual-in_err-push_verdicts.result _ _ _ _ c.in_ok-header.ensures.input
+    some_input c.from_residual-in_err-push_verdicts.result _ c.in_ok-header.ensures.input
