@@ -179,7 +179,8 @@ def warning_lines(warnings, file="robots.txt"):
     return "".join(shown + more + total)
 
 
-KEYS = set("like args agent robots file from pieces room out more warn err status indented".split())
+VERDICTS = "verdicts are those of RFC 9309 for URLs in normal form (reserved characters as in RFC 3986, octets counted in normal form)"
+KEYS = set("like args agent robots file from pieces room out more rfc warn err status indented".split())
 
 
 def cases_of(text):
@@ -226,8 +227,25 @@ def with_texts(out):
     return name.sub(with_text, out)
 
 
+def standard_lines(words):
+    """What a text report says of a file by RFC 9309; `words` are those of the key `rfc`."""
+    kind, _, line = words.partition(" ")
+    if kind == "line":
+        return f"not RFC 9309 syntax: line {line}"
+    last = f"verdicts may not be those of RFC 9309: line {line}" if kind == "syntax" else VERDICTS
+    return f"the file has RFC 9309 syntax\n{last}"
+
+
+def with_standard(out, words):
+    """The lines, with these before the numbers of allowed and denied URLs."""
+    numbers = re.search(r"^\d+ allowed, \d+ denied\Z", out, re.M)
+    at = numbers.start() if numbers else len(out) + 1
+    return "\n".join(part for part in (out[: at - 1], standard_lines(words), out[at:]) if part)
+
+
 def wanted_of(case):
-    out = lines(case.get("out", ""))
+    out = case.get("out", "")
+    out = lines(with_standard(out, case["rfc"]) if case.get("rfc") else out)
     if out.startswith(b"{"):
         out = with_texts(out.decode()).encode()
     if "room" in case:

@@ -268,10 +268,10 @@ def test_example_triggers_its_warning(number, name, args, file, tmp_path):
 
 def test_warnings_are_those_of_the_table():
     source = CRATES / "robots_warnings/src"
-    rows = re.findall(r'\(Cause::(\w+), Level::(\w+), Topic::(\w+), "([a-z0-9-]+)"\)', (source / "table.rt").read_text())
+    rows = re.findall(r'\(Cause::(\w+), Level::(\w+), "([a-z0-9-]+)"\)', (source / "table.rt").read_text())
     messages = dict(re.findall(r'\(Cause::(\w+),\n +"((?:[^"\\]|\\.)*)"\)', (source / "texts.rt").read_text()))
-    stated = [(name, level.lower(), topic, messages[cause].replace('\\"', '"').replace("\\\\", "\\")) for cause, level, topic, name in rows]
-    assert stated == [(row["name"], row["level"], row["topic"], row["text"]) for row in ALL_WARNINGS]
+    stated = [(name, level.lower(), messages[cause].replace('\\"', '"').replace("\\\\", "\\")) for cause, level, name in rows]
+    assert stated == [(row["name"], row["level"], row["text"]) for row in ALL_WARNINGS]
 
 
 def test_documented_warnings_are_those_of_the_table():

@@ -137,6 +137,29 @@ NORMAL_FORMS = {
     "a rule that is longer in normal form": (b"Disallow: /" + b"|" * 1_364 + b"/ab$", b"allow Ferris /" + b"%7C" * 1_364 + b"/ab", None),
 }
 
+REWRITTEN = "crawlers may ask for another path or query:"
+
+# Rules, an expectation, and what is reported on it. The path and the query are compared as they are written, and a parsed URL may have others.
+WRITTEN = {
+    "an apostrophe in a query": (b"Disallow: /?q=it's", b"allow * https://example.com/?q=it's", f"* must be allowed https://example.com/?q=it's, but {REWRITTEN} /?q=it%27s"),
+    "which is denied": (b"Disallow: /?q=it's", b"deny * https://example.com/?q=it's", f"* must be denied https://example.com/?q=it's, but {REWRITTEN} /?q=it%27s"),
+    "of a path": (b"Disallow: /?q=it's", b"deny * /?q=it's", None),
+    "its escape": (b"Disallow: /?q=it's", b"allow * https://example.com/?q=it%27s", None),
+    "a backslash": (b"Disallow: /a\\b", b"allow * https://example.com/a\\b", f"* must be allowed https://example.com/a\\b, but {REWRITTEN} /a/b"),
+    "one after the host": (b"", b"allow * https://example.com\\b", f"* must be allowed https://example.com\\b, but {REWRITTEN} /b"),
+    "a .. segment": (b"", b"allow * https://example.com/a/../b?c#d", f"* must be allowed https://example.com/a/../b?c#d, but {REWRITTEN} /b?c"),
+    "an escaped one": (b"", b"allow * https://example.com/a/%2e%2E/b", f"* must be allowed https://example.com/a/%2e%2E/b, but {REWRITTEN} /b"),
+    "a . segment": (b"", b"allow * HTTP://example.com/.", f"* must be allowed HTTP://example.com/., but {REWRITTEN} /"),
+    "a third slash": (b"", b"allow * https:///example.com/b", f"* must be allowed https:///example.com/b, but {REWRITTEN} /b"),
+    "a control character at the end": (b"", b"allow * https://example.com/b\x01", f"* must be allowed https://example.com/b%01, but {REWRITTEN} /b"),
+    "quotation marks": (b'Disallow: /a"b', b"deny * https://h.com/a%22b", None),
+    "written as such": (b'Disallow: /a%22b', b'deny * https://h.com/a"b', None),
+    "braces": (b"Disallow: /{", b"allow * https://h.com/{", f"* must be allowed https://h.com/{{, but {NORMALLY} line 2 denies it"),
+    "a query without a path": (b"Disallow: /?", b"deny * https://u@h.com:80?/a#?b", None),
+    "no path": (b"Disallow: /$", b"deny * HTTPS://h.com#/a", None),
+    "robots.txt": (b"Disallow: /", b"allow * https://h.com/%72obots.txt", f"* must be allowed https://h.com/%72obots.txt, but line 2 denies it"),
+}
+
 # a URL is asked without its fragment
 FRAGMENT = {
     "allowed": (b"allow FerrisBot https://example.com/a#b", "FerrisBot must be allowed https://example.com/a#b, but line 2 denies it"),
@@ -174,6 +197,7 @@ MALFORMED = {
     "a .. at the end": (b"deny Googlebot /private/tea/..", 1, PATH),
     "a . at the end": (b"deny Googlebot /private/.", 1, PATH),
     "a . before a query": (b"deny Googlebot /private/.?tea", 1, PATH),
+    "an escaped .. segment": (b"deny Googlebot /tea/%2e%2E/private/tea", 1, PATH),
     "a fragment": (b"deny Googlebot /private/tea#top", 1, PATH),
     "a path without a slash": (b"allow Googlebot products/tea", 1, URL),
     "a host without a scheme": (b"allow Googlebot example.com/tea", 1, URL),
@@ -205,9 +229,8 @@ def test_one_expectation(tmp_path, agent):
     assert outcome(check(tmp_path, b"allow " + agent + b" /tea")) == (0, "1 expectation holds\n", "")
 
 
-@pytest.mark.parametrize("url", [b"/.tea/..tea/tea../...", b"/tea?a=/../private/", b"https://e.example/private/../tea#top"])
+@pytest.mark.parametrize("url", [b"/.tea/..tea/tea../...", b"/tea?a=/../private/", b"https://e.example/it's#top", b"https://e.example"])
 def test_urls_in_the_form_that_crawlers_ask_for(tmp_path, url):
-    """Here an http(s) URL is resolved as crawlers do it."""
     assert outcome(check(tmp_path, b"allow Googlebot " + url)) == (0, "1 expectation holds\n", "")
 
 
@@ -237,7 +260,7 @@ def test_other_reading_of_an_empty_disallow(tmp_path, robots, text, line):
     assert outcome(check(tmp_path, text, robots=robots)) == expected
 
 
-@pytest.mark.parametrize("rules, text, line", NORMAL_FORMS.values(), ids=NORMAL_FORMS)
+@pytest.mark.parametrize("rules, text, line", (NORMAL_FORMS | WRITTEN).values(), ids=NORMAL_FORMS | WRITTEN)
 def test_normal_forms(tmp_path, rules, text, line):
     expected = (1, f"expect.txt:1: {line}\n", "") if line else (0, "1 expectation holds\n", "")
     assert outcome(check(tmp_path, text, robots=b"User-agent: *\n" + rules)) == expected

@@ -7,12 +7,7 @@ import shlex
 import pytest
 from support import ALL_WARNINGS, CRATES, WARNINGS, run, spelled
 
-ABOUT = {
-    "Syntax": "the syntax of the file, by RFC 9309",
-    "Verdict": "what the file means; a verdict may not be that of RFC 9309",
-    "Meaning": "what the file or the request means",
-}
-PART = r"(\S.*)\nabout: (.*)\nfor example:\n((?:    .*\n)+)(?:instead:\n((?:    .*\n)+))?"
+PART = r"(\S.*)\nfor example:\n((?:    .*\n)+)(?:instead:\n((?:    .*\n)+))?"
 
 
 def listed():
@@ -22,7 +17,7 @@ def listed():
 
 
 def explained(name):
-    """What an explanation has for each message: its line, what it is about, an example and a corrected one; and the lines below."""
+    """What an explanation has for each message: its line, an example and a corrected one; and the lines below."""
     result = run("robots_audit", ["--explain", name])
     assert (result.status, result.err) == (0, "")
     parts = re.findall(PART, result.out)
@@ -52,9 +47,8 @@ def test_list():
 @pytest.mark.parametrize("name", WARNINGS)
 def test_explanation(name, tmp_path):
     parts, below = explained(name)
-    wanted = [(line, ABOUT[row["topic"]]) for row, line in listed() if row["name"] == name]
-    assert [part[:2] for part in parts] == wanted
-    for line, _, example, corrected in parts:
+    assert [part[0] for part in parts] == [line for row, line in listed() if row["name"] == name]
+    for line, example, corrected in parts:
         level, message = line.split()[0], line.split(": ", 1)[1]
         shown = re.sub(r"(?:URL|crawler) '.*?': | \([^)]*\)(?= \[)", "", given(example, tmp_path))
         assert f"{level}: {message} [{name}]" in shown
@@ -65,7 +59,7 @@ def test_explanation(name, tmp_path):
 def test_examples_are_those_of_the_data():
     for name in WARNINGS:
         shown = []
-        for _, _, example, _ in explained(name)[0]:
+        for _, example, _ in explained(name)[0]:
             file, args = file_of(example)
             shown.append((args, re.sub(rb"\A(?:# )?robots_audit .+(?:\n|\Z)", b"", file)))
         rows = [row for row in ALL_WARNINGS if row["name"] == name]

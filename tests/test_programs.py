@@ -27,6 +27,7 @@ status = 1
 | `out`, `err` | the lines of standard output and standard error; none if left out |
 | `warn` | instead of `err`, for each warning, also if the program counts it only, a line `[LINE] NAME [DETAIL]`; the detail is its URL, the name of one of several crawlers in quotes, or the directive that may be meant. Messages come from tests/warnings.toml |
 | `status` | the exit status, if it isn't 0 |
+| `rfc` | what the report says of the file by RFC 9309: `verdicts`, `syntax LINE` or `line LINE` |
 | `like`, `more` | a case above, whose keys apply here too; more lines of standard output. Keys above all cases apply to each |
 | `pieces`, `room` | how many bytes are read at a time; how many standard output accepts, or `'closed'` |
 | `indented` | also runs the case with each line of `robots` indented |
@@ -195,7 +196,7 @@ def test_many_agents():
         verdicts += "".join(f"{f'deny {2 * n}' if m == n else 'allow -'} {name} {url}\n" for m, url in enumerate(urls, 1))
     for n in range(1, 101, 2):
         text += f"User-agent: {'A' * n}_\nAllow: /none/{n}\n"
-    out += verdicts + "no warnings: the file has RFC 9309 syntax\n"
+    out += verdicts + "the file has RFC 9309 syntax\n"
     out += "verdicts are those of RFC 9309 for URLs in normal form (reserved characters as in RFC 3986, octets counted in normal form)\n"
     assert run("robots_audit", ["-", *urls], text.encode()) == Result(1, out, "")
 

@@ -8,8 +8,9 @@ use Rattle.texting_robots.specs.Callers.{UserAgent, delay_for, file_limit, group
 use Rattle.texting_robots.specs.Callers.{is_named, lines_read, placed_rules}
 use Rattle.texting_robots.specs.{Agents.is_among, Group.is_agent, Decision.IsDecisionOn}
 use Rattle.texting_robots.specs.{declared.decision.Decision.Decision}
-use Rattle.audit_core.specs.{declared.group.Group.Group, Request.RequestValue, declared.syntax.Syntax.Syntax}
-use Rattle.audit_core.specs.{Needless.needless_warning, Asked.asked_target, Chosen.chosen, Syntax.syntax_of}
+use Rattle.audit_core.specs.{declared.group.Group.Group, Request.RequestValue}
+use Rattle.audit_core.specs.{Needless.needless_warning, Asked.asked_target, Chosen.chosen}
+use Rattle.rfc9309_laws.specs.{Conformance.conformance_of, declared.conformance.Conformance.Conformance}
 use Rattle.audit_core.specs.declared.group.Group.TheVariants.{Everyone, Named, Nobody, Star}
 use Rattle.robots_needless.specs.{Blocks.AreFoundIn, declared.needless.NeedlessRule.NeedlessRule}
 use Rattle.robots_warnings.specs.{declared.closed.Reach.Reach, declared.table.Cause.TheVariants.SitemapDenied}
@@ -121,7 +122,7 @@ pub record AuditValue : Type 0 where
   pub labels : List Label
   pub agents : List AgentValue
   pub warnings : List WarningValue
-  pub syntax : Syntax
+  pub syntax : Conformance
 
 -- `*` if there is no single crawler
 abbrev pub labeling_agent : Option (List ℕ) → List ℕ
@@ -163,9 +164,7 @@ pub record IsAuditOf (requested : RequestValue) (file : List ℕ) (audit : Audit
       (agents_requested requested.agents (lines_read file)) audit.agents
   pub warnings_are : audit.warnings ≡ warnings_requested requested file (labels_requested requested file)
       needless sitemaps
-  pub syntax_is : audit.syntax
-      ≡ syntax_of requested.agent requested.agents (is_too_large file) (rejects_some audit.agents)
-      (warnings_found requested file (labels_requested requested file) needless sitemaps)
+  pub syntax_is : audit.syntax ≡ conformance_of file
 
 abbrev pub is_allowed : VerdictValue → Bool
 is_allowed verdict = verdict.decision.allowed

@@ -18,7 +18,7 @@ use crate::group::{Group, group_of, naming_line};
 use crate::needless::{add_needless, needless_rules};
 use crate::request::Request;
 use crate::sitemaps::warn_of_sitemaps;
-use crate::syntax::{Syntax, syntax_of};
+use rfc9309_laws::conformance::{Conformance, conformance_of};
 use robots_needless::needless::NeedlessRule;
 use robots_warnings::closed::{Reach, reach_of};
 use robots_warnings::facts::{FileFacts, facts_of};
@@ -80,7 +80,7 @@ pub struct Audit<'a> {
     pub labels: Vec<LabeledLine<'a>>,
     pub agents: Vec<AgentAudit<'a>>,
     pub warnings: Vec<Warning<'a>>,
-    pub syntax: Syntax,
+    pub syntax: Conformance,
 }
 
 impl<'a> Model for Audit<'a> {
@@ -283,14 +283,7 @@ pub fn audit_of<'a>(
     let mut warnings = all_warnings(
         alloc, request, &names, file, facts, &labels, &site, &needless,
     )?;
-    let is_rejected = rejects_some(&agents);
-    let syntax = syntax_of(
-        request.agent,
-        &request.agents,
-        facts.is_too_large,
-        is_rejected,
-        &warnings,
-    );
+    let syntax = conformance_of(alloc, file, &site)?;
     choose(&request.only, &request.ignored, &mut warnings);
     Ok(Audit {
         labels,

@@ -23,7 +23,7 @@ use Rattle.texting_robots.proofs.MainTheoremLemmas.{rejection_is_computed, no_li
 use Rattle.robots_needless.proofs.TogetherLemmas.{in_filter, to_filter}
 use Rattle.robots_warnings.specs.Conflicts.{IsEmptyDisallow, begins_with_d, is_empty_disallow}
 use Rattle.robots_warnings.specs.FieldNames.{is_space_or_tab, without_front}
-use Rattle.audit_expect.specs.OtherReading.{IsNormalDecision, normal_pattern, normal_rule, normal_target}
+use Rattle.audit_expect.specs.OtherReading.{IsNormalDecision, normal_pattern, normal_rule}
 use Rattle.audit_expect.specs.OtherReading.{AreOthers, IsOtherDecision}
 use Rattle.audit_expect.specs.Internal.Expectations.{IsDecidedBy, IsPreferred, decision_with, is_empty}
 use Rattle.audit_expect.specs.Internal.Expectations.{is_marked, marks_of, others_of}
@@ -180,7 +180,7 @@ module _ (bodies : List (List ℕ)) (rules : List PlacedRule) (text : List ℕ) 
   pub decided_otherwise : IsDecisionOn others text decision → IsOtherDecision bodies rules text decision
   decided_otherwise is = record { others = others; are = others_are bodies rules; decided = is }
 
-  pub decided_normally : IsDecisionOn (map normal_rule others) (normal_target text) decision
+  pub decided_normally : IsDecisionOn (map normal_rule others) text decision
       → IsNormalDecision bodies rules text decision
   decided_normally is = record { others = others; are = others_are bodies rules; decided = is }
 

@@ -3,7 +3,9 @@ use Rattle.std.specs.Prelude.{◌≡◌, ℕ, nat_eq, suc, ◌==◌, Bool, false
 use Rattle.std.specs.Prelude.{Option, Some, None, Result, Ok, Err, bytes_eq, codes, filter, if◌then◌else◌}
 use Rattle.std.specs.Prelude.{length, string_bytes}
 use Rattle.std.specs.{List.list_any, List.starts_with, Option.option_to_list, Str.byte, Str.is_utf8}
-use Rattle.robots_warnings.specs.Rules.{after_byte, before_byte, has, somewhere}
+use Rattle.robots_warnings.specs.Rules.{after_byte, before_byte, has}
+use Rattle.robots_warnings.specs.{Spellings.spelled, Targets.has_dot_segment}
+use Rattle.robots_warnings.specs.declared.spellings.Spelling.{TheVariants.Standard}
 use Rattle.robots_warnings.specs.{Facts.mark, Facts.without_start, Urls.is_absolute_url}
 use Rattle.audit_core.specs.declared.fault.{Entry.Entry, Fault.Fault}
 use Rattle.audit_core.specs.declared.fault.Fault.TheVariants.{Empty, Malformed, Memory}
@@ -113,16 +115,10 @@ is_path word = starts_with nat_eq word (codes "/")
 abbrev pub is_path_or_url : List ℕ → Bool
 is_path_or_url word = is_path word || is_absolute_url word
 
--- a path segment `.` or `..`, which a slash or the end of the path follows
-abbrev pub begins_dot_segment : List ℕ → Bool
-begins_dot_segment text =
-    (starts_with nat_eq text (codes "/./") || starts_with nat_eq text (codes "/../"))
-    || (bytes_eq text (codes "/.") || bytes_eq text (codes "/.."))
-
--- crawlers resolve such segments in a path, and drop a fragment; in an http(s) URL this parser does so too
+-- crawlers resolve dot segments of a path, also with escaped dots, and drop a fragment
 abbrev pub is_asked_otherwise : List ℕ → Bool
 is_asked_otherwise word =
-    is_path word && (has (byte "#") word || somewhere begins_dot_segment (before_byte (byte "?") word))
+    is_path word && (has (byte "#") word || has_dot_segment (spelled Standard word))
 
 -- the first word is `allow` or `deny`; what no crawler calls itself or asks for, such as a name with a
 -- version or a path without a slash at its start, could be allowed whatever the file says about the crawler

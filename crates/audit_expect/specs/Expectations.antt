@@ -9,25 +9,34 @@ use Rattle.texting_robots.specs.{Decision.IsDecisionOn, declared.decision.Decisi
 use Rattle.printable_text.specs.{Lines.ended, Sanitize.sanitized, declared.level.Level.TheVariants.Error}
 use Rattle.printable_text.specs.Text.{Count, Label, Number, Part, PartValue, ReportLine, Untrusted, label}
 use Rattle.printable_text.specs.Text.{line_from, line_text, only}
-use Rattle.robots_warnings.specs.{Crawlers.other_group}
+use Rattle.robots_warnings.specs.{Crawlers.other_group, Targets.normal_target, Targets.written_target}
 use Rattle.audit_expect.specs.declared.checks.AtVendor.{AtVendor}
 use Rattle.audit_expect.specs.declared.checks.Judgment.{Judgment, TheVariants.Decided, TheVariants.Rejected}
+use Rattle.audit_expect.specs.declared.checks.Judgment.{TheVariants.Rewritten}
 use Rattle.audit_expect.specs.declared.checks.AtVendor.TheVariants.{Group, Nobody, Same}
 use Rattle.audit_core.specs.Findings.{After, FindingValue, Found, found_value}
 use Rattle.audit_core.specs.{Asked.asked_target, Texts.rejected_front, Texts.rejected_line_part}
 use Rattle.audit_expect.specs.Expect.{ExpectationValue, expectations_in}
 use Rattle.audit_expect.specs.OtherReading.{IsNormalDecision, IsOtherDecision}
 
--- the file is rejected for the crawler, and this is the line of its first overlong rule; or these are the
--- decisions on the URL: where an empty Disallow is an Allow of `/`, as here; where it is no rule; and where
--- it is no rule and normal forms are compared
+-- What is written and what is compared here have the same normal form. They don't if `url` changes what RFC
+-- 9309 compares, such as dot segments, a backslash, or an apostrophe in a query.
+abbrev pub IsAskedAsWritten : List ℕ → Type 0
+IsAskedAsWritten url = normal_target (asked_target url) ≡ normal_target (written_target url)
+
+-- the file is rejected for the crawler, and this is the line of its first overlong rule; or `url` changes the
+-- URL; or these are the decisions: on what is compared here, where an empty Disallow is an Allow of `/`, as
+-- here, and where it is no rule; and on what is written, where it is no rule and normal forms are compared
 abbrev pub IsJudgmentOn : List ℕ → List ℕ → List ℕ → Judgment → Type 0
 IsJudgmentOn file agent url (Rejected line) = IsFirstOverlong (placed_rules agent (lines_read file)) line
+IsJudgmentOn file agent url Rewritten =
+    (¬ IsRejected agent (lines_read file)) × ¬ IsAskedAsWritten url
 IsJudgmentOn file agent url (Decided decision other normal) =
     let rules = placed_rules agent (lines_read file) in
     (¬ IsRejected agent (lines_read file)) × IsDecisionOn rules (asked_target url) decision
     × IsOtherDecision (bodies_read file) rules (asked_target url) other
-    × IsNormalDecision (bodies_read file) rules (asked_target url) normal
+    × IsNormalDecision (bodies_read file) rules (normal_target (written_target url)) normal
+    × IsAskedAsWritten url
 
 -- the vendor of the crawler applies the group that applies here; or the one with this name, for which this is
 -- the judgment, as names are compared here; or none, so everything is allowed
@@ -51,9 +60,11 @@ pub record IsChecked (file : List ℕ) (checked : CheckedValue) : Type 0 where
 abbrev pub is_unexpected : Bool → Decision → Bool
 is_unexpected allowed decision = if allowed then not decision.allowed else decision.allowed
 
--- the file is rejected for the crawler, or the decision isn't the expected one in one of the readings
+-- the file is rejected for the crawler, `url` changes the URL, or the decision isn't the expected one in one
+-- of the readings
 abbrev pub fails_at : Bool → Judgment → Bool
 fails_at allowed (Rejected line) = true
+fails_at allowed Rewritten = true
 fails_at allowed (Decided decision other normal) =
     is_unexpected allowed decision || (is_unexpected allowed other || is_unexpected allowed normal)
 
@@ -103,9 +114,15 @@ abbrev pub rejected_parts : List ℕ → ℕ → List PartValue
 rejected_parts agent line =
     only (codes "the file is ") refl ∷ rejected_front agent ∷ rejected_line_part line ∷ []
 
+-- what is compared here, and isn't what is written
+abbrev pub rewritten_parts : List ℕ → List PartValue
+rewritten_parts target =
+    Part (label (codes "crawlers may ask for another path or query: ") refl) (Untrusted target) ∷ []
+
 -- why the decision isn't the expected one
 abbrev pub judgment_parts : List ℕ → List ℕ → Bool → Judgment → List PartValue
 judgment_parts agent url allowed (Rejected line) = rejected_parts agent line
+judgment_parts agent url allowed Rewritten = rewritten_parts (asked_target url)
 judgment_parts agent url allowed (Decided decision other normal) =
     if is_unexpected allowed decision then decision_parts url decision.allowed decision.line
     else if is_unexpected allowed other then other_front ∷ decision_parts url other.allowed other.line

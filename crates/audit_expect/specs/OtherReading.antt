@@ -3,11 +3,9 @@ use Rattle.std.specs.Prelude.{◌↔◌, ℕ, List, Contains, ◌-◌, ◌++◌,
 use Rattle.std.specs.Prelude.{nat_le, take}
 use Rattle.texting_robots.specs.{Callers.PlacedRule, Decision.IsDecisionOn, Pattern.longest_with_dollar}
 use Rattle.texting_robots.specs.declared.decision.{Decision.Decision}
-use Rattle.robots_warnings.specs.{Conflicts.IsEmptyDisallow, Spellings.spelled}
+use Rattle.robots_warnings.specs.{Conflicts.IsEmptyDisallow, Targets.normal_text}
 use Rattle.std.specs.{List.ends_with}
-use Rattle.percent_encoding.specs.{Percent.percent_encode, declared.ascii_set.AsciiSet.AsciiSet}
-use Rattle.robots_warnings.specs.declared.spellings.Spelling.{TheVariants.Standard}
-use Rattle.audit_expect.specs.declared.normal_form.TheConstants.{IN_RULES, IN_TARGETS}
+use Rattle.audit_expect.specs.declared.normal_form.TheConstants.{IN_RULES}
 
 -- ---- An empty Disallow is an Allow of `/` here. For RFC 9309 and Google it is no rule, and only ends the
 -- list of user-agent lines above it, as here.
@@ -27,15 +25,6 @@ pub record IsOtherDecision (bodies : List (List ℕ)) (rules : List PlacedRule) 
 -- ---- The reading of RFC 9309, which compares rules and URLs in their normal forms, and for which an empty
 -- Disallow is no rule. As by RFC 3986, a reserved character and its escape differ.
 
--- without escapes of bytes that need none, with the others in uppercase, and with each byte of the set
--- escaped
-abbrev pub normal_text : AsciiSet → List ℕ → List ℕ
-normal_text set text = percent_encode set (spelled Standard text)
-
--- nothing in a match target is special, so stars and dollars are escaped
-abbrev pub normal_target : List ℕ → List ℕ
-normal_target target = normal_text IN_TARGETS target
-
 -- a star and a dollar at the end are special
 abbrev pub normal_pattern : List ℕ → List ℕ
 normal_pattern pattern =
@@ -50,9 +39,9 @@ normal_rule placed =
     let pattern = if nat_le (length normal) longest_with_dollar then normal else placed.rule.0 in
     record { rule = (pattern, placed.rule.1); line = placed.line }
 
--- the decision of the rules but those of empty Disallows, where normal forms are compared
+-- the decision of the rules but those of empty Disallows, in normal form, on a target in normal form
 pub record IsNormalDecision (bodies : List (List ℕ)) (rules : List PlacedRule) (target : List ℕ)
     (decision : Decision) : Type 0 where
   pub others : List PlacedRule
   pub are : AreOthers bodies rules others
-  pub decided : IsDecisionOn (map normal_rule others) (normal_target target) decision
+  pub decided : IsDecisionOn (map normal_rule others) target decision

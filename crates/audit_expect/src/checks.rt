@@ -7,6 +7,7 @@ ghost use Rattle.audit_core.specs.Internal.{IsReading};
 ghost use Rattle.audit_expect.specs.Internal.Expectations.{checked_value, marks_of};
 
 use crate::expect::Expectation;
+use crate::normal_form::written_form;
 use crate::other_reading::{normal_decision, other_decision};
 use audit_core::asked::decision_on;
 use audit_core::audit::{Reading, read_for};
@@ -21,6 +22,8 @@ use texting_robots::{Robot, Site};
 pub(crate) enum Judgment {
     /// The file is rejected because of the rule in this line.
     Rejected(usize),
+    /// `url` changes what RFC 9309 compares.
+    Rewritten,
     /// The decision, the one where an empty Disallow is no rule, and the same of normal forms.
     Decided(Decision, Decision, Decision),
 }
@@ -59,9 +62,13 @@ fn decided_on(
     ensures ok { IfOk result (IsJudgmentOn file.now agent.now url.now) }
     ensures fault { IfErr result (λ fault. fault ≡ Fault.Memory) }
 {
+    let form = written_form(alloc, url)?;
+    let Some(target) = form else {
+        return Ok(Judgment::Rewritten);
+    };
     let decision = decision_on(alloc, robot, url)?;
     let other = other_decision(alloc, agent, url, &decision, site, marks)?;
-    let normal = normal_decision(alloc, agent, url, site, marks)?;
+    let normal = normal_decision(alloc, agent, &target, site, marks)?;
     Ok(Judgment::Decided(decision, other, normal))
 }
 
@@ -147,7 +154,7 @@ fn fails_at(allowed: bool, judgment: &Judgment) -> bool
     ensures { result ≡ fails_at allowed judgment.now }
 {
     match judgment {
-        Judgment::Rejected(_) => true,
+        Judgment::Rejected(_) | Judgment::Rewritten => true,
         Judgment::Decided(decision, other, normal) => {
             is_unexpected(allowed, decision)
                 || is_unexpected(allowed, other)

@@ -1,7 +1,7 @@
 //! The expectations in the file of `--expect`, one per line, and how a text is cut into parts.
 ghost use Rattle.std.specs.Prelude.{◌≡◌, ◌≢◌, ◌<◌, ◌∷◌, ◌++◌, [], IfErr, IfOk, MatchOption, Ok, OnOk};
 ghost use Rattle.std.specs.Prelude.{if◌then◌else◌, length, map};
-ghost use Rattle.audit_expect.specs.Expect.{IsLineFault, begins_dot_segment, entries_at, entries_of, expectation_in};
+ghost use Rattle.audit_expect.specs.Expect.{IsLineFault, entries_at, entries_of, expectation_in};
 ghost use Rattle.audit_expect.specs.Expect.{expectations_in, expects, is_asked_otherwise, is_comment, is_in};
 ghost use Rattle.audit_expect.specs.Expect.{is_path, is_path_or_url, lines, malformed_at, parts, words};
 ghost use Rattle.audit_expect.specs.Expect.{words_with_name};
@@ -13,7 +13,9 @@ use crate::entries::{Line, check_lines};
 use audit_core::crawler::is_crawler_name;
 use audit_core::fault::{Fault, Flaw, MalformedLine};
 use robots_warnings::facts::without_mark;
-use robots_warnings::rules::{after_byte, before_byte, has, somewhere};
+use robots_warnings::rules::{after_byte, before_byte, has};
+use robots_warnings::spellings::{Spelling, spelled};
+use robots_warnings::targets::has_dot_segment;
 use robots_warnings::urls::{as_text, is_absolute_url};
 use std::alloc::{AllocError, Global};
 
@@ -121,17 +123,14 @@ pub(crate) fn is_path_or_url(alloc: Global, word: &[u8]) -> Result<bool, AllocEr
     is_absolute_url(alloc, word)
 }
 
-fn begins_dot_segment(text: &[u8]) -> bool
-    ensures { result ≡ begins_dot_segment text.now }
+fn is_asked_otherwise(alloc: Global, word: &[u8]) -> Result<bool, AllocError>
+    ensures { IfOk result (λ answer. answer ≡ is_asked_otherwise word.now) }
 {
-    (text.starts_with(b"/./") || text.starts_with(b"/../"))
-        || (text == b"/.".as_slice() || text == b"/..".as_slice())
-}
-
-fn is_asked_otherwise(word: &[u8]) -> bool
-    ensures { result ≡ is_asked_otherwise word.now }
-{
-    is_path(word) && (has(b'#', word) || somewhere(before_byte(b'?', word), begins_dot_segment))
+    if !is_path(word) {
+        return Ok(false);
+    }
+    let plain = spelled(alloc, Spelling::Standard, word)?;
+    Ok(has(b'#', word) || has_dot_segment(&plain))
 }
 
 fn expects<'a>(
@@ -156,7 +155,7 @@ fn expects<'a>(
     if !is_path_or_url(alloc, url.as_bytes())? {
         return Ok(Err((number, Flaw::Url)));
     }
-    if is_asked_otherwise(url.as_bytes()) {
+    if is_asked_otherwise(alloc, url.as_bytes())? {
         return Ok(Err((number, Flaw::Path)));
     }
     Ok(Ok(Some(Expectation {

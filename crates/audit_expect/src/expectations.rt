@@ -11,7 +11,7 @@ ghost use Rattle.audit_expect.specs.Expect.{IsEntryFault, expectations_in as spe
 ghost use Rattle.audit_expect.specs.Expectations.{IsReport, decision_parts, demand, demand_parts, failure};
 ghost use Rattle.audit_expect.specs.Expectations.{failures, group_parts, holding, judgment_parts, place};
 ghost use Rattle.audit_expect.specs.Expectations.{nobody_parts, placed, reason_parts, rejected_parts};
-ghost use Rattle.audit_expect.specs.Expectations.{result_lines, unmatched, vendor_parts};
+ghost use Rattle.audit_expect.specs.Expectations.{result_lines, rewritten_parts, unmatched, vendor_parts};
 ghost use Rattle.audit_expect.specs.Internal.Expectations.{expectation_value, AreFailuresOn, IsReadFor};
 ghost use Rattle.audit_expect.specs.Internal.Expectations.{checked_value};
 ghost use Rattle.audit_core.specs.declared.fault.Entry.TheVariants as entry;
@@ -153,6 +153,17 @@ fn rejected_parts<'a>(agent: &'a str, line: usize) -> [Part<'a>; 2]
     ]
 }
 
+fn push_rewritten(alloc: Global, text: &mut String, url: &str) -> Result<(), Fault>
+    ensures ok { OnOk result (string_bytes text.new ≡ string_bytes text.old
+        ++ parts_text (rewritten_parts (asked_target url.now))) }
+    ensures fault { IfErr result (λ fault. fault ≡ Fault.Memory) }
+{
+    let target = asked_target(alloc, url)?;
+    let front = "crawlers may ask for another path or query: ";
+    let target = Value::Untrusted(target.as_bytes());
+    Ok(push_parts(text, &[Part(front, target)])?)
+}
+
 fn push_judgment(
     alloc: Global,
     text: &mut String,
@@ -167,6 +178,7 @@ fn push_judgment(
 {
     match judgment {
         Judgment::Rejected(line) => Ok(push_parts(text, &rejected_parts(agent, *line))?),
+        Judgment::Rewritten => push_rewritten(alloc, text, url),
         Judgment::Decided(decision, other, normal) => {
             push_decisions(alloc, text, url, allowed, decision, other, normal)
         }

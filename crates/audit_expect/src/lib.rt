@@ -5,6 +5,7 @@ mod checks;
 mod entries;
 mod expect;
 pub mod expectations;
+pub mod laws;
 mod normal_form;
 mod other_reading;
 pub mod url_list;

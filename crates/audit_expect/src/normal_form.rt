@@ -1,54 +1,32 @@
-//! Normal forms of rules and of match targets, in which RFC 9309 compares them.
-ghost use Rattle.std.specs.Prelude.{◌≡◌, IfOk, map, string_bytes};
-ghost use Rattle.audit_expect.specs.OtherReading.{normal_pattern, normal_rule, normal_target, normal_text};
+//! Normal forms of rules and of what is written for a URL, in which RFC 9309 compares them.
+ghost use Rattle.std.specs.Prelude.{◌≡◌, IfErr, IfOk, MatchOption, map, string_bytes};
+ghost use Rattle.robots_warnings.specs.Targets.{normal_target, normal_text, written_target};
+ghost use Rattle.audit_expect.specs.{Expectations.IsAskedAsWritten, OtherReading.normal_pattern, OtherReading.normal_rule};
 
+use audit_core::asked::asked_target;
+use audit_core::fault::Fault;
 use audit_core::rules::Rule;
-use percent_encoding::{AsciiSet, NON_ALPHANUMERIC, ascii_set, percent_encode};
-use robots_warnings::spellings::{Spelling, spelled};
+use percent_encoding::{AsciiSet, ascii_set};
+use robots_warnings::targets::{IN_TARGETS, normal_target, normal_text, written_target};
 use std::alloc::{AllocError, Global};
 
-/// All ASCII bytes but unreserved and reserved ones and `%` are escaped in a match target. Of the reserved
-/// ones, `*` and `$` are escaped, as they would be special in a rule, and `#`, which isn't part of a path or
-/// a query.
-const IN_TARGETS: AsciiSet = ascii_set!(
-    NON_ALPHANUMERIC
-        .remove(b'-')
-        .remove(b'.')
-        .remove(b'_')
-        .remove(b'~')
-        .remove(b'%')
-        .remove(b':')
-        .remove(b'/')
-        .remove(b'?')
-        .remove(b'[')
-        .remove(b']')
-        .remove(b'@')
-        .remove(b'!')
-        .remove(b'&')
-        .remove(b'\'')
-        .remove(b'(')
-        .remove(b')')
-        .remove(b'+')
-        .remove(b',')
-        .remove(b';')
-        .remove(b'=')
-);
-
-/// The same in a rule before a `$` at its end, where a star is special.
+/// What is escaped in a rule before a `$` at its end, where a star is special.
 const IN_RULES: AsciiSet = ascii_set!(IN_TARGETS.remove(b'*'));
 
-fn normal_text(alloc: Global, set: AsciiSet, text: &[u8]) -> Result<String, AllocError>
-    ensures { IfOk result (λ normal. string_bytes normal ≡ normal_text set text.now) }
+/// The normal form of what is written, if that of what is asked for is the same.
+pub(crate) fn written_form(alloc: Global, url: &str) -> Result<Option<String>, Fault>
+    ensures ok { IfOk result (λ found. MatchOption found (¬ IsAskedAsWritten url.now)
+        (λ form. (string_bytes form ≡ normal_target (written_target url.now)) × IsAskedAsWritten url.now)) }
+    ensures fault { IfErr result (λ fault. fault ≡ Fault.Memory) }
 {
-    let mut normal = String::new(alloc);
-    percent_encode(&spelled(alloc, Spelling::Standard, text)?, set).append_to(&mut normal)?;
-    Ok(normal)
-}
-
-pub(crate) fn normal_target(alloc: Global, target: &str) -> Result<String, AllocError>
-    ensures { IfOk result (λ normal. string_bytes normal ≡ normal_target target.now) }
-{
-    normal_text(alloc, IN_TARGETS, target.as_bytes())
+    let asked = asked_target(alloc, url)?;
+    let asked = normal_target(alloc, asked.as_bytes())?;
+    let written = normal_target(alloc, &written_target(alloc, url)?)?;
+    if asked == written {
+        Ok(Some(written))
+    } else {
+        Ok(None)
+    }
 }
 
 fn normal_pattern(alloc: Global, pattern: &[u8]) -> Result<String, AllocError>

@@ -9,7 +9,7 @@ ghost use Rattle.audit_expect.specs.OtherReading.{IsNormalDecision, IsOtherDecis
 ghost use Rattle.audit_expect.specs.Internal.Expectations.{IsDecidedBy, IsPreferred, decision_with, marks_of};
 ghost use Rattle.audit_expect.specs.Internal.Expectations.{is_marked, others_of};
 
-use crate::normal_form::{normal_rules, normal_target};
+use crate::normal_form::normal_rules;
 use audit_core::asked::asked_target;
 use audit_core::fault::Fault;
 use audit_core::rules::{Rule, rules_for};
@@ -173,24 +173,22 @@ pub(crate) fn other_decision(
     Ok(other)
 }
 
-/// An empty Disallow is no rule, and normal forms are compared.
+/// An empty Disallow is no rule, and normal forms are compared; the target is one.
 pub(crate) fn normal_decision(
     alloc: Global,
     agent: &str,
-    url: &str,
+    target: &str,
     site: &Site,
     marks: &[bool],
 ) -> Result<Decision, Fault>
     requires marks { marks.now ≡ marks_of (file_bodies site.now) }
     requires accepted { ¬ IsRejected agent.now (file_lines site.now) }
     ensures ok { IfOk result (IsNormalDecision (file_bodies site.now) (placed_rules agent.now (file_lines site.now))
-        (asked_target url.now)) }
+        target.now) }
     ensures fault { IfErr result (λ fault. fault ≡ Fault.Memory) }
 {
-    let target = asked_target(alloc, url)?;
-    let target = normal_target(alloc, &target)?;
     let rules = other_rules(alloc, site, agent, marks)?;
     let rules = normal_rules(alloc, &rules)?;
-    let decision = decision_of(alloc, &rules, &target)?;
+    let decision = decision_of(alloc, &rules, target)?;
     Ok(decision)
 }

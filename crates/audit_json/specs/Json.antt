@@ -6,7 +6,8 @@ use Rattle.serde_json.specs.Data.{array, boolean, member, no_members, null, numb
 use Rattle.texting_robots.specs.Callers.{CrawlDelay, LineValue, Label, sitemaps_in}
 use Rattle.printable_text.specs.{Lines.lf, Text.level_word, Sanitize.sanitized}
 use Rattle.audit_core.specs.{declared.group.Group.Group, Audit.AgentValue, Audit.AuditValue, Texts.may_fetch}
-use Rattle.audit_core.specs.{Audit.VerdictValue, Syntax.has_standard_verdicts, Syntax.is_standard}
+use Rattle.audit_core.specs.{Audit.VerdictValue}
+use Rattle.rfc9309_laws.specs.{Conformance.has_syntax, Conformance.has_verdicts}
 use Rattle.audit_core.specs.declared.group.Group.TheVariants.{Everyone, Named, Nobody, Star}
 use Rattle.audit_core.specs.Rows.{comment_of, has_value, kind_text, line_value_text, membership_word}
 use Rattle.audit_core.specs.Findings.{FindingValue, found_value, warning_finding}
@@ -97,8 +98,8 @@ known_json is_known = if is_known then boolean true else null
 abbrev pub audit_json : Bool → AuditValue → Data
 audit_json has_rows audit = object
     (member (codes "agents") (list_json agent_json audit.agents)
-    (member (codes "has_rfc_9309_syntax") (known_json (is_standard audit.syntax))
-    (member (codes "has_rfc_9309_verdicts") (known_json (has_standard_verdicts audit.syntax))
+    (member (codes "has_rfc_9309_syntax") (known_json (has_syntax audit.syntax))
+    (member (codes "has_rfc_9309_verdicts") (known_json (has_verdicts audit.syntax))
     (member (codes "lines") (rows_json has_rows audit.labels)
     (member (codes "sitemaps") (list_json sanitized_json (sitemaps_in (lines_of audit.labels)))
     (member (codes "warnings") (list_json warning_json audit.warnings) no_members))))))

@@ -248,8 +248,8 @@ fn known_json(is_known: bool) -> Value
 fn audit_json(alloc: Global, has_rows: bool, audit: &Audit<'_>) -> Result<Value, AllocError>
     ensures { IfOk result (λ value. view value ≡ audit_json has_rows audit.now) }
 {
-    let syntax = known_json(audit.syntax.is_standard());
-    let verdicts = known_json(audit.syntax.has_standard_verdicts());
+    let syntax = known_json(audit.syntax.has_syntax());
+    let verdicts = known_json(audit.syntax.has_verdicts());
     json!(in alloc; {
         "agents": agents_json(alloc, &audit.agents)?,
         "has_rfc_9309_syntax": syntax,

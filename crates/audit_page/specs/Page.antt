@@ -14,13 +14,13 @@ use Rattle.printable_text.specs.declared.level.Level.TheVariants.{Error, Note, W
 use Rattle.robots_warnings.specs.{Message.reported_parts, declared.closed.Reach.Reach, File.lines_of}
 use Rattle.robots_warnings.specs.{Table.level_of, Message.WarningValue, declared.table.Cause.Cause}
 use Rattle.audit_core.specs.Audit.{AgentValue, AuditValue, VerdictValue, labeling_agent}
-use Rattle.audit_core.specs.{Request.RequestValue, declared.syntax.Syntax.TheVariants.StandardVerdicts}
-use Rattle.audit_core.specs.{declared.syntax.Syntax.Syntax, declared.syntax.TheConstants.VERDICTS_SENTENCE}
+use Rattle.audit_core.specs.{Request.RequestValue}
+use Rattle.audit_core.specs.declared.syntax.TheConstants.{SYNTAX_SENTENCE, VERDICTS_SENTENCE}
+use Rattle.rfc9309_laws.specs.{Conformance.has_syntax, Conformance.has_verdicts}
+use Rattle.rfc9309_laws.specs.declared.conformance.Conformance.{Conformance}
 use Rattle.audit_core.specs.{Counts.count_parts, Request.shown_name, declared.version.TheConstants.VERSION}
 use Rattle.audit_core.specs.Rows.{comment_of, kind_of, line_value, membership_value}
 use Rattle.audit_core.specs.Texts.{delay_value, group_end, group_reason, group_value, may_fetch}
-use Rattle.audit_core.specs.Syntax.{has_standard_verdicts, is_standard, sentence}
-use Rattle.audit_core.specs.declared.syntax.Syntax.TheVariants.{Standard, StandardWithoutWarnings, Unstated}
 use Rattle.audit_page.specs.{declared.page.style.TheConstants.CRAWLERS, Html.html_of}
 use Rattle.audit_page.specs.declared.page.style.TheConstants.{CSS, POLICY, REJECTED, SITEMAPS, VERDICTS}
 use Rattle.audit_page.specs.Tree.{Field, Tree, Words, each, field, fixed, is_ascii, labelled, message, opened}
@@ -399,19 +399,12 @@ abbrev pub crawler_entries : Option (List ℕ) → List AgentValue → Tree
 crawler_entries None agents = nothing
 crawler_entries (Some agent) agents = each agent_entries agents
 
-pub sentence_safe : (syntax : Syntax) → is_ascii (sentence syntax) ≡ true
-sentence_safe Unstated = refl
-sentence_safe Standard = refl
-sentence_safe StandardVerdicts = refl
-sentence_safe StandardWithoutWarnings = refl
-
--- what the warnings mean for the syntax of the file and its verdicts, if that is known
-unfoldable pub syntax_entry : Syntax → Tree
+-- whether the file is in the grammar of RFC 9309, and verdicts are the standard's
+unfoldable pub syntax_entry : Conformance → Tree
 syntax_entry syntax =
-    (if is_standard syntax
-    then entry (fixed (codes "Syntax") refl) (text (fixed (sentence syntax) (sentence_safe syntax)))
-    else nothing)
-    ⊕ (if has_standard_verdicts syntax
+    (if has_syntax syntax
+    then entry (fixed (codes "Syntax") refl) (text (fixed SYNTAX_SENTENCE.now refl)) else nothing)
+    ⊕ (if has_verdicts syntax
     then entry (fixed VERDICTS.now refl) (text (fixed VERDICTS_SENTENCE.now refl)) else nothing)
 
 unfoldable pub file_entry : List ℕ → Tree

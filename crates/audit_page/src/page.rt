@@ -19,11 +19,12 @@ mod warnings;
 
 use audit_core::audit::Audit;
 use audit_core::request::Request;
-use audit_core::syntax::{Syntax, VERDICTS_SENTENCE};
+use audit_core::syntax::{SYNTAX_SENTENCE, VERDICTS_SENTENCE};
 use file::{push_file_table, push_sitemap_entry};
 use html_writer::write::{push_doctype, push_element, push_end, push_start};
 use parts::{Page, push, push_start_with};
 use pieces::{cell_name, head_start, page_end, page_heading, some_date, title};
+use rfc9309_laws::conformance::Conformance;
 use std::alloc::{AllocError, Global};
 use style::VERDICTS;
 use texting_robots::labels::LabeledLine;
@@ -44,14 +45,14 @@ fn push_head(page: &mut Page, agent: Option<&str>) -> Result<(), AllocError>
 }
 
 #[tactic(auto, using(crate::proofs::TreeLemmas::joined), unfolding(crate::specs::Page::syntax_entry))]
-fn push_syntax_entry(page: &mut Page, syntax: Syntax) -> Result<(), AllocError>
+fn push_syntax_entry(page: &mut Page, syntax: Conformance) -> Result<(), AllocError>
     ensures { OnOk result (page.new.out.items ≡ page.old.out.items ++ written (syntax_entry syntax)) }
 {
-    if syntax.is_standard() {
+    if syntax.has_syntax() {
         push_element(&mut page.out, "dt", b"Syntax")?;
-        push_element(&mut page.out, "dd", syntax.sentence().as_bytes())?;
+        push_element(&mut page.out, "dd", SYNTAX_SENTENCE.as_bytes())?;
     }
-    if syntax.has_standard_verdicts() {
+    if syntax.has_verdicts() {
         push_element(&mut page.out, "dt", VERDICTS.as_bytes())?;
         push_element(&mut page.out, "dd", VERDICTS_SENTENCE.as_bytes())?;
     }

@@ -19,15 +19,15 @@ use Rattle.audit_text.specs.Joined.{also_parts, is_first, is_joined, is_joined_a
 use Rattle.audit_text.specs.Listed.{listed, more, count_like, count_of, is_like, more_of, most}
 use Rattle.std.proofs.lemmas.List.Sums.{count_by-le-length, sum_by_push}
 use Rattle.audit_text.specs.Internal.Listed.{AreCounts, Counts, counted}
-use Rattle.robots_warnings.specs.Table.{level_of, name_of, number_of, all_causes, example_of, keeps_verdicts}
-use Rattle.robots_warnings.specs.{Table.is_not_about_syntax, declared.table.Cause.Cause}
+use Rattle.robots_warnings.specs.Table.{level_of, name_of, number_of, all_causes, example_of}
+use Rattle.robots_warnings.specs.{declared.table.Cause.Cause}
 use Rattle.robots_warnings.proofs.ClosedLemmas.{any_last, example_printable}
 use Rattle.audit_core.specs.Audit.{AgentValue, with_denied}
 use Rattle.std.proofs.{lemmas.Bool.Decides.nat_tests, lemmas.Bool.and_parts}
 use Rattle.printable_text.proofs.SanitizeLemmas.{append_printable, ascii_printable, flat_printable}
 use Rattle.printable_text.proofs.SanitizeLemmas.{nil_printable}
 use Rattle.audit_core.proofs.{FindingLemmas.escaped_printable}
-use Rattle.audit_text.specs.Explain.{about_line, all_conditions, all_corrections, all_theorems, example_lines}
+use Rattle.audit_text.specs.Explain.{all_conditions, all_corrections, all_theorems, example_lines}
 use Rattle.audit_text.specs.Explain.{correction_if_own, corrections_of, explained, explained_if_named}
 use Rattle.audit_text.specs.Explain.{explanation, heading, indented, indented_byte, list_line, text_if_named}
 
@@ -248,23 +248,11 @@ corrections_printable cause =
     (λ row is. if_printable (number_of row.0 == number_of cause) _
     (examples_printable (codes "instead:\n") row.1 refl is)) all_corrections refl
 
-about_printable : (cause : Cause) → IsPrintable (about_line cause)
-about_printable cause = by (is_not_about_syntax cause) (keeps_verdicts cause)
-  where
-    by : (other keeps : Bool) → IsPrintable
-        (if not other then codes "about: the syntax of the file, by RFC 9309\n"
-        else if keeps then codes "about: what the file or the request means\n"
-        else codes "about: what the file means; a verdict may not be that of RFC 9309\n")
-    by false keeps = ascii_printable true _ refl
-    by true true = ascii_printable true _ refl
-    by true false = ascii_printable true _ refl
-
 explained_printable : (cause : Cause) → IsPrintable (explained cause)
 unfolding heading
 explained_printable cause =
     append_printable true (heading cause) _
-    (append_printable true (written (list_line cause ∷ [])) (about_line cause)
-    (written_printable (list_line cause ∷ [])) (about_printable cause))
+    (written_printable (list_line cause ∷ []))
     (append_printable true _ (corrections_of cause)
     (examples_printable (codes "for example:\n") (example_of cause) refl (example_printable cause))
     (corrections_printable cause))

@@ -8,7 +8,7 @@ use Rattle.printable_text.specs.Text.{level_word, starts}
 use Rattle.printable_text.specs.{Lines.lf, declared.level.Level.Level}
 use Rattle.printable_text.specs.declared.level.Level.TheVariants.{Error, Note, Warning}
 use Rattle.robots_warnings.specs.{declared.table.Cause.Cause, Message.fixed_name, Message.fixed_text}
-use Rattle.robots_warnings.specs.Table.{all_causes, example_of, is_name, is_not_about_syntax, keeps_verdicts}
+use Rattle.robots_warnings.specs.Table.{all_causes, example_of, is_name}
 use Rattle.robots_warnings.specs.Table.{level_of, name_of, number_of}
 use Rattle.audit_text.specs.declared.conditions.TheConstants.{CONDITIONS, CORRECTIONS, THEOREMS}
 use Rattle.audit_core.specs.{Answer.IsText, Fault.IsUnknown, declared.answer.Answer.Answer}
@@ -38,13 +38,6 @@ indented text = codes "    " ++ flat_map indented_byte text
 abbrev pub example_lines : (label lines : List ℕ) → List ℕ
 example_lines label lines = label ++ (indented lines ++ lf ∷ [])
 
--- what the warning is about
-abbrev pub about_line : Cause → List ℕ
-about_line cause =
-    if not (is_not_about_syntax cause) then codes "about: the syntax of the file, by RFC 9309\n"
-    else if keeps_verdicts cause then codes "about: what the file or the request means\n"
-    else codes "about: what the file means; a verdict may not be that of RFC 9309\n"
-
 abbrev pub named_value : Bor (List ℕ) × Bor (List ℕ) → List ℕ × List ℕ
 named_value row = (row.0.now, row.1.now)
 
@@ -72,7 +65,7 @@ unfoldable pub corrections_of : Cause → List ℕ
 corrections_of cause = flat_map (correction_if_own cause) all_corrections
 
 unfoldable pub heading : Cause → List ℕ
-heading cause = written (list_line cause ∷ []) ++ about_line cause
+heading cause = written (list_line cause ∷ [])
 
 -- with an example, and a corrected one
 abbrev pub explained : Cause → List ℕ

@@ -3,7 +3,7 @@ ghost use Rattle.std.specs.Prelude.{◌≡◌, ◌==◌, ◌++◌, IfErr, IfOk, 
 ghost use Rattle.audit_core.specs.Answer.{IsText};
 ghost use Rattle.printable_text.specs.{Raw.raw_line, Text.line_text};
 ghost use Rattle.robots_warnings.specs.Table.{is_name, number_of};
-ghost use Rattle.audit_text.specs.Explain.{IsUnexplained, MayAnswer, about_line, correction_if_own, correction_value};
+ghost use Rattle.audit_text.specs.Explain.{IsUnexplained, MayAnswer, correction_if_own, correction_value};
 ghost use Rattle.audit_text.specs.Explain.{corrections_of, example_lines, explained, explained_if_named, explanation};
 ghost use Rattle.audit_text.specs.Explain.{heading, indented, indented_byte, list_line, list_text, named_value, text_if_named};
 
@@ -64,18 +64,6 @@ fn push_example(text: &mut Vec<u8>, label: &str, lines: &str) -> Result<(), Allo
     text.extend_from_slice(b"\n")
 }
 
-fn about_line(cause: Cause) -> &'static str
-    ensures { result.now ≡ about_line cause }
-{
-    if !cause.is_not_about_syntax() {
-        "about: the syntax of the file, by RFC 9309\n"
-    } else if cause.keeps_verdicts() {
-        "about: what the file or the request means\n"
-    } else {
-        "about: what the file means; a verdict may not be that of RFC 9309\n"
-    }
-}
-
 fn is_own(cause: Cause, row: &(Cause, &'static str)) -> bool
     ensures { result ≡ (number_of row.now.0 == number_of cause) }
 {
@@ -111,8 +99,7 @@ fn push_heading(alloc: Global, text: &mut Vec<u8>, cause: Cause) -> Result<(), A
 {
     let mut line = String::new(alloc);
     push_line_of(&mut line, &list_line(cause))?;
-    text.extend_from_slice(line.as_bytes())?;
-    text.extend_from_slice(about_line(cause).as_bytes())
+    text.extend_from_slice(line.as_bytes())
 }
 
 fn push_explained(alloc: Global, text: &mut Vec<u8>, cause: Cause) -> Result<(), AllocError>

@@ -16,11 +16,12 @@ use crate::verdicts::push_verdicts;
 use audit_core::audit::{AgentAudit, Audit};
 use audit_core::request::Request;
 use audit_core::rows::push_rows;
-use audit_core::syntax::{Syntax, VERDICTS_SENTENCE};
+use audit_core::syntax::{LINE_APART, OTHER_LINE, SYNTAX_SENTENCE, VERDICTS_SENTENCE};
 use audit_core::texts::{delay_value, push_group, push_rejected};
 use printable_text::level::shown_word;
 use printable_text::lines::{push_line, push_number};
 use printable_text::parts::{Part, Value, push_line_of, push_parts};
+use rfc9309_laws::conformance::Conformance;
 use robots_warnings::table::Cause;
 use robots_warnings::warning::{Warning, push_warning_text};
 use std::alloc::{AllocError, Global};
@@ -53,16 +54,24 @@ fn push_agents(
     Ok(())
 }
 
-fn push_syntax(text: &mut String, syntax: Syntax) -> Result<(), AllocError>
+fn push_syntax(text: &mut String, syntax: Conformance) -> Result<(), AllocError>
     ensures { OnOk result (string_bytes text.new ≡ string_bytes text.old ++ written (syntax_lines syntax)) }
 {
-    if syntax.is_standard() {
-        push_line(text, syntax.sentence(), "")?;
+    match syntax {
+        Conformance::OtherFile => Ok(()),
+        Conformance::OtherLine(line) => push_line_of(
+            text,
+            &[Part(OTHER_LINE, Value::Number(line))],
+        ),
+        Conformance::Syntax(line) => {
+            push_line(text, SYNTAX_SENTENCE, "")?;
+            push_line_of(text, &[Part(LINE_APART, Value::Number(line))])
+        }
+        Conformance::Verdicts => {
+            push_line(text, SYNTAX_SENTENCE, "")?;
+            push_line(text, VERDICTS_SENTENCE, "")
+        }
     }
-    if syntax.has_standard_verdicts() {
-        push_line(text, VERDICTS_SENTENCE, "")?;
-    }
-    Ok(())
 }
 
 /// The requested report on an audit.

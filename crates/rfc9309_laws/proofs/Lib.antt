@@ -18,3 +18,7 @@ pub mod RobotLemmas
 pub mod NormalLemmas
 pub mod VerdictLemmas
 pub mod EditLemmas
+pub mod ConformanceLemmas
+pub mod DecidedLemmas
+pub mod PlainLemmas
+pub mod ApartLemmas

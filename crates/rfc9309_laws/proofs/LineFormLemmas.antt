@@ -88,6 +88,14 @@ completed : (text : List ℕ) → IsCompleted (bodies_of text) text
 completed [] = rw bodies_nil ([], inl refl, refl)
 completed (b ∷ text) = rw (step b _) (after_step b _ text (completed _))
 
+ended_bytes : (bodies : List (List ℕ)) (text : List ℕ) → AreEnded bodies text → Each (Each IsBodyByte) bodies
+ended_bytes [] text are = tt
+ended_bytes (body ∷ bodies) text (bytes, (end, ends, rest, whole, is_end, are_ends, are)) =
+    (bytes, ended_bytes bodies rest are)
+
+pub bodies_bytes : (text : List ℕ) → Each (Each IsBodyByte) (bodies_of text)
+bodies_bytes text = let (nl, last, are) = completed text in ended_bytes (bodies_of text) (text ++ nl) are
+
 past : (form : Form) (above : List Form) → form ≢ Agent → Contains (form ∷ above) Agent → Contains above Agent
 past form above isnt (zero, within, is) = absurd (isnt is)
 past form above isnt (suc k, within, is) = (k, omega arith, is)
@@ -97,7 +105,7 @@ later : (form : Form) (forms : List Form) → form ≢ Agent → AreRulesBelowAg
 later form forms isnt are above below e =
     past form above isnt (are (form ∷ above) below (ap (λ more. form ∷ more) e))
 
-are_free : (forms : List Form) → AreRulesBelowAgents forms → AreFree forms
+pub are_free : (forms : List Form) → AreRulesBelowAgents forms → AreFree forms
 are_free [] are = tt
 are_free (Agent ∷ forms) are = tt
 are_free (Rule ∷ forms) are = let (k, within, is) = are [] forms refl in absurd (omega arith)
@@ -326,7 +334,7 @@ without_last (form ∷ forms) (body ∷ bodies) (is, each) =
 contains_next : (form : Form) (above : List Form) → Contains above Agent → Contains (form ∷ above) Agent
 contains_next form above (k, within, is) = (suc k, omega arith, is)
 
-free_below : (forms above below : List Form) → AreFree forms → forms ≡ above ++ Rule ∷ below
+pub free_below : (forms above below : List Form) → AreFree forms → forms ≡ above ++ Rule ∷ below
     → Contains above Agent
 free_below forms [] below free e = absurd (rw e at free)
 free_below forms (Agent ∷ above) below free e = (zero, omega arith, refl)

@@ -204,7 +204,7 @@ line_of Delay text (member, is) = (_, (delay_line member text is).is_line)
 line_of Sitemap text (address, is) = (_, sitemap_line address text is)
 line_of Other text is = ([], other_line text is)
 
-before_end : (body front nl : List ℕ) → Each IsBodyByte body → rfc.IsNl nl
+pub before_end : (body front nl : List ℕ) → Each IsBodyByte body → rfc.IsNl nl
     → body ++ lf ∷ [] ≡ front ++ nl → front ≡ body
 before_end body front nl bytes is e =
     let no_cr = each_append (λ b. b ≢ cr) body (lf ∷ [])

@@ -24,7 +24,7 @@ zip_swap R [] (y ∷ ys) zip = zip
 zip_swap R (x ∷ xs) [] zip = zip
 zip_swap R (x ∷ xs) (y ∷ ys) zip = (zip.0, zip_swap R xs ys zip.1)
 
-zip_has : {A B : Type 0} (R : A → B → Type 0) (xs : List A) (ys : List B) (y : B) → AllZip R xs ys
+pub zip_has : {A B : Type 0} (R : A → B → Type 0) (xs : List A) (ys : List B) (y : B) → AllZip R xs ys
     → Contains ys y → (x : A) × Contains xs x × R x y
 zip_has R [] [] y zip (k, below, at) = absurd (omega arith)
 zip_has R [] (z ∷ ys) y zip has = absurd zip

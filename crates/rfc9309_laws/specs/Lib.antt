@@ -3,6 +3,7 @@ pub mod Sample
 pub mod StandardRobot
 pub mod LineForms
 pub mod HasForm
+pub mod Conformance
 pub mod Matching
 pub mod Comparable
 pub mod Examples

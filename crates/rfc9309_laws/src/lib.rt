@@ -2,7 +2,9 @@
 //! about the specification, each written as the contract of an empty function.
 #![tactic(auto)]
 
+pub mod conformance;
 pub mod edits;
+mod grammar;
 pub mod verdict;
 
 ghost use Rattle.std.specs.Prelude.{◌≡◌, ℕ, All, true, List, codes, take};

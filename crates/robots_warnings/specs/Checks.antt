@@ -2,8 +2,8 @@
 use Rattle.std.specs.Prelude.{ℕ, Bool, true, false, List, [], ◌∷◌, ◌++◌, ◌||◌, Option, None, Some, nat_lt}
 use Rattle.std.specs.Prelude.{if◌then◌else◌, not, ◌&&◌, codes, nat_eq}
 use Rattle.std.specs.{Str.byte, Str.is_utf8, List.starts_with}
-use Rattle.texting_robots.specs.Callers.{Allow, Disallow, LineValue, Label, Raw, Sitemap, UserAgent, is_own}
-use Rattle.texting_robots.specs.{Callers.CrawlDelay, declared.labels.Membership.Membership}
+use Rattle.texting_robots.specs.Callers.{Allow, Disallow, LineValue, Label, Raw, Sitemap, UserAgent}
+use Rattle.texting_robots.specs.{Callers.CrawlDelay}
 use Rattle.robots_warnings.specs.{declared.facts.FileFacts.FileFacts, declared.positions.Preceding.Preceding}
 use Rattle.robots_warnings.specs.{declared.table.Cause.Cause, Targets.has_odd_target, File.is_blank}
 use Rattle.robots_warnings.specs.Contents.{comment_of, has_odd_comment, has_odd_delay, has_odd_space, tail_of}
@@ -131,10 +131,6 @@ position_checks last preceding above delay label lines =
 abbrev pub is_directive : LineValue → Bool
 is_directive (Raw body) = false
 is_directive _ = true
-
--- the rules that are checked: all if `everywhere`, else those of the crawler's group
-abbrev pub is_in_scope_of : Bool → Membership → Bool
-is_in_scope_of everywhere membership = if everywhere then true else is_own membership
 
 -- the value of a line, and what an ignored line probably means; rules are only checked if `is_in_scope`
 abbrev pub value_checks : Bool → LineValue → List Check

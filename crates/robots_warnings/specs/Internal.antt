@@ -8,7 +8,7 @@ use Rattle.std.specs.{Borrow.Bor}
 use Rattle.texting_robots.specs.{Callers.LineValue, Group.is_agent}
 use Rattle.robots_warnings.specs.declared.facts.{LineKinds.LineKinds}
 use Rattle.printable_text.specs.declared.level.{Level.Level}
-use Rattle.robots_warnings.specs.declared.table.{Cause.Cause, Topic.Topic}
+use Rattle.robots_warnings.specs.declared.table.{Cause.Cause}
 use Rattle.robots_warnings.specs.{Facts.has_text, Facts.is_extra, Facts.is_rule, Message.WarningValue}
 
 abbrev pub Adds : (old found more : List WarningValue) → Type 0
@@ -28,7 +28,7 @@ name_value row = (row.0.now, row.1)
 
 -- a row of the table of warnings
 abbrev pub Row : Type 0
-Row = Cause × Level × Topic × Bor (List ℕ)
+Row = Cause × Level × Bor (List ℕ)
 
 -- a row of the table of messages, or of examples
 abbrev pub Text : Type 0

@@ -3,7 +3,7 @@ use Rattle.std.specs.Prelude.{ℕ, Bool, true, false, not, ◌&&◌, List, [], �
 use Rattle.std.specs.{List.list_any}
 use Rattle.texting_robots.specs.Callers.{Allow, Disallow, LineValue, Label}
 use Rattle.texting_robots.specs.{Group.is_agent, declared.labels.Membership.Membership}
-use Rattle.robots_warnings.specs.{Checks.is_in_scope_of, Positions.is_outside, Spellings.is_rule_with}
+use Rattle.robots_warnings.specs.{File.is_in_scope_of, Positions.is_outside, Spellings.is_rule_with}
 
 -- one of the lines above it in its group is a rule of the same kind with the same value
 abbrev pub is_repeated : List LineValue → LineValue → Bool

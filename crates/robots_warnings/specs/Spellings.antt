@@ -5,7 +5,7 @@ use Rattle.std.specs.Char.{digit_value, is_ascii_hexdigit, to_ascii_uppercase}
 use Rattle.std.specs.{List.list_any, List.slice_split, Str.byte}
 use Rattle.texting_robots.specs.Callers.{Allow, Disallow, LineValue, Label}
 use Rattle.texting_robots.specs.{Group.is_agent}
-use Rattle.robots_warnings.specs.{declared.spellings.Spelling.Spelling, Checks.is_in_scope_of, File.lines_of}
+use Rattle.robots_warnings.specs.{declared.spellings.Spelling.Spelling, File.is_in_scope_of, File.lines_of}
 use Rattle.robots_warnings.specs.declared.spellings.Spelling.TheVariants.{Plain, Standard}
 use Rattle.robots_warnings.specs.Rules.{begins_delimiter, begins_odd_escape, is_delimiter, needs_no_escape}
 use Rattle.robots_warnings.specs.Rules.{somewhere}

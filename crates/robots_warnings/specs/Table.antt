@@ -1,12 +1,11 @@
 -- Every warning, as in the table of src/table.rt.
-use Rattle.std.specs.Prelude.{ℕ, Bool, true, false, List, [], bytes_eq, map, not, slice_index_or}
+use Rattle.std.specs.Prelude.{ℕ, Bool, List, [], bytes_eq, map, slice_index_or}
 use Rattle.std.specs.List.{list_any}
 use denote.Enum.Declared.{tag_of}
 use Rattle.robots_warnings.specs.contracts.table.{Cause.the_type}
 use Rattle.printable_text.specs.declared.level.{Level.Level}
 use Rattle.robots_warnings.specs.declared.table.{TheConstants.WARNINGS, Cause.Cause}
 use Rattle.robots_warnings.specs.declared.texts.TheConstants.{EXAMPLES, MESSAGES}
-use Rattle.robots_warnings.specs.declared.table.Topic.{Topic, TheVariants.Meaning, TheVariants.Syntax}
 use Rattle.printable_text.specs.declared.level.Level.TheVariants as level
 
 -- the index of a warning in the table
@@ -16,15 +15,12 @@ number_of cause = tag_of the_type cause
 unfoldable pub all_causes : List Cause
 all_causes = map (λ row. row.0) WARNINGS
 
--- their levels, topics, names, as in `[..]`, messages, and examples
+-- their levels, names, as in `[..]`, messages, and examples
 abbrev pub all_levels : List Level
 all_levels = map (λ row. row.1) WARNINGS
 
-abbrev pub all_topics : List Topic
-all_topics = map (λ row. row.2) WARNINGS
-
 abbrev pub all_names : List (List ℕ)
-all_names = map (λ row. row.3.now) WARNINGS
+all_names = map (λ row. row.2.now) WARNINGS
 
 abbrev pub all_texts : List (List ℕ)
 all_texts = map (λ row. row.1.now) MESSAGES
@@ -43,25 +39,6 @@ text_of cause = slice_index_or all_texts (number_of cause) []
 
 unfoldable pub example_of : Cause → List ℕ
 example_of cause = slice_index_or all_examples (number_of cause) []
-
-unfoldable pub topic_of : Cause → Topic
-topic_of cause = slice_index_or all_topics (number_of cause) Syntax
-
-abbrev pub is_syntax : Topic → Bool
-is_syntax Syntax = true
-is_syntax _ = false
-
-abbrev pub is_meaning : Topic → Bool
-is_meaning Meaning = true
-is_meaning _ = false
-
--- the warning is about the request, or about what a file of the standard's grammar means
-abbrev pub is_not_about_syntax : Cause → Bool
-is_not_about_syntax cause = not (is_syntax (topic_of cause))
-
--- the warning leaves open that verdicts are those of the standard
-abbrev pub keeps_verdicts : Cause → Bool
-keeps_verdicts cause = is_meaning (topic_of cause)
 
 unfoldable pub is_name : List ℕ → Bool
 is_name name = list_any (λ other. bytes_eq other name) all_names

@@ -3,7 +3,7 @@ use Rattle.std.specs.Prelude.{ℕ, ◌==◌, Bool, true, List, [], ◌∷◌, �
 use Rattle.std.specs.Prelude.{flat_map, if◌then◌else◌, length, not, ◌||◌, ◌+◌, filter, slice_get}
 use Rattle.texting_robots.specs.Callers.{LineValue, Label, is_named}
 use Rattle.robots_warnings.specs.{declared.facts.FileFacts.FileFacts, Facts.suppresses_line_warnings}
-use Rattle.robots_warnings.specs.{File.lines_of, Repeated.repeated, Spellings.unpaired, Message.WarningValue}
+use Rattle.robots_warnings.specs.{File.is_in_scope_of, File.lines_of, Repeated.repeated, Spellings.unpaired}
 use Rattle.robots_warnings.specs.declared.positions.Preceding.{Preceding, TheVariants.Other}
 use Rattle.robots_warnings.specs.declared.table.Cause.{Cause, TheVariants.AllowedAndDisallowed}
 use Rattle.robots_warnings.specs.declared.table.Cause.TheVariants.{ClosesEverything, CutLine, EmptyDisallow}
@@ -15,8 +15,8 @@ use Rattle.robots_warnings.specs.declared.warning.Detail.{Detail}
 use Rattle.robots_warnings.specs.declared.warning.Detail.TheVariants.{Group, Line, Meant, Others, Rules}
 use Rattle.robots_warnings.specs.Crawlers.{Row, crawlers, gets_other, is_given, meant, meant_in}
 use Rattle.robots_warnings.specs.Crawlers.{names_past_limit}
-use Rattle.robots_warnings.specs.Checks.{Check, file_checks, line_checks, position_checks, is_in_scope_of}
-use Rattle.robots_warnings.specs.Checks.{url_checks}
+use Rattle.robots_warnings.specs.Checks.{Check, file_checks, line_checks, position_checks, url_checks}
+use Rattle.robots_warnings.specs.Message.{WarningValue}
 use Rattle.robots_warnings.specs.Positions.{first_delay, last_group, preceding_with, sole_name}
 use Rattle.robots_warnings.specs.Closed.{replacing, star_count, closed_at, is_major}
 use Rattle.robots_warnings.specs.Conflicts.{conflict, overruled, is_empty_at}

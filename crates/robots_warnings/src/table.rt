@@ -1,12 +1,12 @@
-//! Every warning: its level, its topic, its name, which is shown in `[..]` and is the `name` in JSON, and its
+//! Every warning: its level, its name, which is shown in `[..]` and is the `name` in JSON, and its
 //! message. The conditions are in `checks` and, of warnings that compare lines or look at all of a crawler's
 //! rules, in the functions that `warnings` calls. Only `robots_audit` gives those about sitemaps that are
 //! denied, and about rules that can be deleted, which `robots_needless` finds.
 ghost use Rattle.std.specs.Prelude.{◌≡◌, ◌<◌, IfOk, bytes_eq, length, map};
 ghost use Rattle.std.specs.List.{list_any};
 ghost use Rattle.robots_warnings.specs.Internal.{IsAt, IsRowAt};
-ghost use Rattle.robots_warnings.specs.Table.{all_causes, all_levels, all_names, all_topics};
-ghost use Rattle.robots_warnings.specs.Table.{example_of, is_not_about_syntax, is_name, keeps_verdicts, level_of, name_of, text_of, topic_of};
+ghost use Rattle.robots_warnings.specs.Table.{all_causes, all_levels, all_names};
+ghost use Rattle.robots_warnings.specs.Table.{example_of, is_name, level_of, name_of, text_of};
 ghost use Rattle.robots_warnings.specs.declared.table.TheConstants.{WARNINGS};
 
 use crate::texts::{EXAMPLES, MESSAGES};
@@ -117,108 +117,97 @@ pub enum Cause {
     NotNeeded,
 }
 
-/// What a warning is about.
-#[derive(Clone, Copy)]
-pub enum Topic {
-    /// The syntax of the file.
-    Syntax,
-    /// What a file of the standard's grammar means for a URL: the verdict may not be that of the standard.
-    Verdict,
-    /// Anything else: the request, or what else a file of the standard's grammar means.
-    Meaning,
-}
-
-/// The warnings with their levels, topics and names.
+/// The warnings with their levels and names.
 #[rattlefmt::skip]
-pub static WARNINGS: [(Cause, Level, Topic, &str); 85] = [
-    (Cause::LooksLikeHtml, Level::Error, Topic::Syntax, "looks-like-html"),
-    (Cause::LooksLikeUtf16, Level::Error, Topic::Syntax, "looks-like-utf-16"),
-    (Cause::NoDirectives, Level::Error, Topic::Syntax, "no-directives"),
-    (Cause::EmptyFile, Level::Warning, Topic::Meaning, "empty-file"),
-    (Cause::FileTooLarge, Level::Warning, Topic::Verdict, "file-too-large"),
-    (Cause::NoUserAgent, Level::Warning, Topic::Syntax, "no-user-agent"),
-    (Cause::DamagedByteOrderMark, Level::Warning, Topic::Syntax, "damaged-byte-order-mark"),
-    (Cause::NulEndsLine, Level::Warning, Topic::Syntax, "nul-ends-line"),
-    (Cause::UrlNotNormal, Level::Note, Topic::Meaning, "url-not-normal"),
-    (Cause::InvalidDelay, Level::Warning, Topic::Syntax, "invalid-delay"),
-    (Cause::NoindexLine, Level::Warning, Topic::Syntax, "noindex-line"),
-    (Cause::NofollowLine, Level::Warning, Topic::Syntax, "nofollow-line"),
-    (Cause::HostName, Level::Note, Topic::Syntax, "host-line"),
-    (Cause::HostLine, Level::Warning, Topic::Syntax, "host-line"),
-    (Cause::RequestRateLine, Level::Warning, Topic::Syntax, "request-rate-line"),
-    (Cause::VisitTimeLine, Level::Warning, Topic::Syntax, "visit-time-line"),
-    (Cause::CleanParamLine, Level::Note, Topic::Syntax, "clean-param-line"),
-    (Cause::ContentSignalLine, Level::Note, Topic::Syntax, "content-signal-line"),
-    (Cause::ContentUsageLine, Level::Note, Topic::Syntax, "content-usage-line"),
-    (Cause::RobotVersionLine, Level::Warning, Topic::Syntax, "robot-version-line"),
-    (Cause::CommentLine, Level::Warning, Topic::Syntax, "comment-line"),
-    (Cause::LikeUserAgent, Level::Warning, Topic::Syntax, "unrecognized-line"),
-    (Cause::LikeAllow, Level::Warning, Topic::Syntax, "unrecognized-line"),
-    (Cause::LikeDisallow, Level::Warning, Topic::Syntax, "unrecognized-line"),
-    (Cause::LikeSitemap, Level::Warning, Topic::Syntax, "unrecognized-line"),
-    (Cause::LikeCrawlDelay, Level::Warning, Topic::Syntax, "unrecognized-line"),
-    (Cause::UnseenInName, Level::Warning, Topic::Syntax, "unrecognized-line"),
-    (Cause::EqualsSign, Level::Warning, Topic::Syntax, "unrecognized-line"),
-    (Cause::UnrecognizedLine, Level::Warning, Topic::Syntax, "unrecognized-line"),
-    (Cause::NonstandardField, Level::Warning, Topic::Syntax, "nonstandard-field"),
-    (Cause::MissingColon, Level::Warning, Topic::Syntax, "missing-colon"),
-    (Cause::SpaceAroundValue, Level::Warning, Topic::Syntax, "space-around-value"),
-    (Cause::InvalidProductToken, Level::Warning, Topic::Syntax, "invalid-product-token"),
-    (Cause::UnusualProductToken, Level::Note, Topic::Syntax, "unusual-product-token"),
-    (Cause::HashLeavesRoot, Level::Error, Topic::Meaning, "hash-cuts-rule"),
-    (Cause::HashCutsRule, Level::Warning, Topic::Meaning, "hash-cuts-rule"),
-    (Cause::RuleNotUtf8, Level::Warning, Topic::Syntax, "rule-not-utf-8"),
-    (Cause::EqualsInRule, Level::Error, Topic::Syntax, "missing-slash"),
-    (Cause::MissingSlash, Level::Error, Topic::Syntax, "missing-slash"),
-    (Cause::UrlInPath, Level::Warning, Topic::Meaning, "url-as-rule"),
-    (Cause::UrlAsRule, Level::Error, Topic::Syntax, "url-as-rule"),
-    (Cause::OddCharacter, Level::Note, Topic::Verdict, "unencoded-character"),
-    (Cause::UnencodedCharacter, Level::Warning, Topic::Verdict, "unencoded-character"),
-    (Cause::QuoteAtEnd, Level::Warning, Topic::Meaning, "quoted-rule"),
-    (Cause::QuotedRule, Level::Error, Topic::Syntax, "quoted-rule"),
-    (Cause::RegexWithoutSlash, Level::Error, Topic::Syntax, "regex-syntax"),
-    (Cause::RegexSyntax, Level::Warning, Topic::Meaning, "regex-syntax"),
-    (Cause::StarAfterDollar, Level::Warning, Topic::Verdict, "dollar-not-at-end"),
-    (Cause::DollarNotAtEnd, Level::Warning, Topic::Verdict, "dollar-not-at-end"),
-    (Cause::NonstandardEscape, Level::Warning, Topic::Verdict, "nonstandard-escape"),
-    (Cause::EscapedWildcard, Level::Warning, Topic::Verdict, "escaped-wildcard"),
-    (Cause::EscapedDelimiter, Level::Note, Topic::Meaning, "escaped-delimiter"),
-    (Cause::DotSegment, Level::Error, Topic::Meaning, "dot-segment"),
-    (Cause::SpaceInValue, Level::Warning, Topic::Syntax, "several-values"),
-    (Cause::CommaInValue, Level::Warning, Topic::Syntax, "several-values"),
-    (Cause::TagInValue, Level::Warning, Topic::Syntax, "several-values"),
-    (Cause::UnseenInValue, Level::Warning, Topic::Syntax, "several-values"),
-    (Cause::DelayNotation, Level::Warning, Topic::Syntax, "delay-notation"),
-    (Cause::DelayOverADay, Level::Warning, Topic::Meaning, "delay-over-a-day"),
-    (Cause::SitemapNotAbsolute, Level::Warning, Topic::Syntax, "sitemap-not-absolute"),
-    (Cause::SitemapHost, Level::Warning, Topic::Meaning, "sitemap-host"),
-    (Cause::SitemapDenied, Level::Note, Topic::Meaning, "sitemap-denied"),
-    (Cause::OneLine, Level::Error, Topic::Meaning, "one-line"),
-    (Cause::ControlInComment, Level::Note, Topic::Syntax, "control-in-comment"),
-    (Cause::CutLine, Level::Warning, Topic::Syntax, "cut-line"),
-    (Cause::RuleBeforeUserAgent, Level::Error, Topic::Syntax, "rule-before-user-agent"),
-    (Cause::EmptyGroup, Level::Warning, Topic::Meaning, "empty-group"),
-    (Cause::DelayAboveStar, Level::Note, Topic::Verdict, "delay-splits-group"),
-    (Cause::DelaySplitsGroup, Level::Warning, Topic::Verdict, "delay-splits-group"),
-    (Cause::JoinedGroups, Level::Warning, Topic::Meaning, "joined-groups"),
-    (Cause::GroupPastSizeLimit, Level::Warning, Topic::Meaning, "group-past-size-limit"),
-    (Cause::AllowedAndDisallowed, Level::Warning, Topic::Verdict, "allowed-and-disallowed"),
-    (Cause::EmptyDisallow, Level::Warning, Topic::Verdict, "empty-disallow"),
-    (Cause::TwoDelays, Level::Warning, Topic::Meaning, "two-delays"),
-    (Cause::ClosesSite, Level::Warning, Topic::Meaning, "closes-everything"),
-    (Cause::ClosesEverything, Level::Note, Topic::Meaning, "closes-everything"),
-    (Cause::ReplacesStar, Level::Note, Topic::Meaning, "replaces-star"),
-    (Cause::RepeatedRule, Level::Note, Topic::Meaning, "repeated-rule"),
-    (Cause::MisspelledName, Level::Note, Topic::Meaning, "misspelled-name"),
-    (Cause::GooglebotGroup, Level::Note, Topic::Meaning, "googlebot-group"),
-    (Cause::GoogleIgnoresStar, Level::Note, Topic::Meaning, "google-ignores-star"),
-    (Cause::NeverDecides, Level::Note, Topic::Meaning, "needless-rule"),
-    (Cause::MatchesNothing, Level::Note, Topic::Meaning, "needless-rule"),
-    (Cause::AllowedAnyway, Level::Note, Topic::Meaning, "needless-rule"),
-    (Cause::NotNeeded, Level::Note, Topic::Meaning, "needless-rule"),
+pub static WARNINGS: [(Cause, Level, &str); 85] = [
+    (Cause::LooksLikeHtml, Level::Error, "looks-like-html"),
+    (Cause::LooksLikeUtf16, Level::Error, "looks-like-utf-16"),
+    (Cause::NoDirectives, Level::Error, "no-directives"),
+    (Cause::EmptyFile, Level::Warning, "empty-file"),
+    (Cause::FileTooLarge, Level::Warning, "file-too-large"),
+    (Cause::NoUserAgent, Level::Warning, "no-user-agent"),
+    (Cause::DamagedByteOrderMark, Level::Warning, "damaged-byte-order-mark"),
+    (Cause::NulEndsLine, Level::Warning, "nul-ends-line"),
+    (Cause::UrlNotNormal, Level::Note, "url-not-normal"),
+    (Cause::InvalidDelay, Level::Warning, "invalid-delay"),
+    (Cause::NoindexLine, Level::Warning, "noindex-line"),
+    (Cause::NofollowLine, Level::Warning, "nofollow-line"),
+    (Cause::HostName, Level::Note, "host-line"),
+    (Cause::HostLine, Level::Warning, "host-line"),
+    (Cause::RequestRateLine, Level::Warning, "request-rate-line"),
+    (Cause::VisitTimeLine, Level::Warning, "visit-time-line"),
+    (Cause::CleanParamLine, Level::Note, "clean-param-line"),
+    (Cause::ContentSignalLine, Level::Note, "content-signal-line"),
+    (Cause::ContentUsageLine, Level::Note, "content-usage-line"),
+    (Cause::RobotVersionLine, Level::Warning, "robot-version-line"),
+    (Cause::CommentLine, Level::Warning, "comment-line"),
+    (Cause::LikeUserAgent, Level::Warning, "unrecognized-line"),
+    (Cause::LikeAllow, Level::Warning, "unrecognized-line"),
+    (Cause::LikeDisallow, Level::Warning, "unrecognized-line"),
+    (Cause::LikeSitemap, Level::Warning, "unrecognized-line"),
+    (Cause::LikeCrawlDelay, Level::Warning, "unrecognized-line"),
+    (Cause::UnseenInName, Level::Warning, "unrecognized-line"),
+    (Cause::EqualsSign, Level::Warning, "unrecognized-line"),
+    (Cause::UnrecognizedLine, Level::Warning, "unrecognized-line"),
+    (Cause::NonstandardField, Level::Warning, "nonstandard-field"),
+    (Cause::MissingColon, Level::Warning, "missing-colon"),
+    (Cause::SpaceAroundValue, Level::Warning, "space-around-value"),
+    (Cause::InvalidProductToken, Level::Warning, "invalid-product-token"),
+    (Cause::UnusualProductToken, Level::Note, "unusual-product-token"),
+    (Cause::HashLeavesRoot, Level::Error, "hash-cuts-rule"),
+    (Cause::HashCutsRule, Level::Warning, "hash-cuts-rule"),
+    (Cause::RuleNotUtf8, Level::Warning, "rule-not-utf-8"),
+    (Cause::EqualsInRule, Level::Error, "missing-slash"),
+    (Cause::MissingSlash, Level::Error, "missing-slash"),
+    (Cause::UrlInPath, Level::Warning, "url-as-rule"),
+    (Cause::UrlAsRule, Level::Error, "url-as-rule"),
+    (Cause::OddCharacter, Level::Note, "unencoded-character"),
+    (Cause::UnencodedCharacter, Level::Warning, "unencoded-character"),
+    (Cause::QuoteAtEnd, Level::Warning, "quoted-rule"),
+    (Cause::QuotedRule, Level::Error, "quoted-rule"),
+    (Cause::RegexWithoutSlash, Level::Error, "regex-syntax"),
+    (Cause::RegexSyntax, Level::Warning, "regex-syntax"),
+    (Cause::StarAfterDollar, Level::Warning, "dollar-not-at-end"),
+    (Cause::DollarNotAtEnd, Level::Warning, "dollar-not-at-end"),
+    (Cause::NonstandardEscape, Level::Warning, "nonstandard-escape"),
+    (Cause::EscapedWildcard, Level::Warning, "escaped-wildcard"),
+    (Cause::EscapedDelimiter, Level::Note, "escaped-delimiter"),
+    (Cause::DotSegment, Level::Error, "dot-segment"),
+    (Cause::SpaceInValue, Level::Warning, "several-values"),
+    (Cause::CommaInValue, Level::Warning, "several-values"),
+    (Cause::TagInValue, Level::Warning, "several-values"),
+    (Cause::UnseenInValue, Level::Warning, "several-values"),
+    (Cause::DelayNotation, Level::Warning, "delay-notation"),
+    (Cause::DelayOverADay, Level::Warning, "delay-over-a-day"),
+    (Cause::SitemapNotAbsolute, Level::Warning, "sitemap-not-absolute"),
+    (Cause::SitemapHost, Level::Warning, "sitemap-host"),
+    (Cause::SitemapDenied, Level::Note, "sitemap-denied"),
+    (Cause::OneLine, Level::Error, "one-line"),
+    (Cause::ControlInComment, Level::Note, "control-in-comment"),
+    (Cause::CutLine, Level::Warning, "cut-line"),
+    (Cause::RuleBeforeUserAgent, Level::Error, "rule-before-user-agent"),
+    (Cause::EmptyGroup, Level::Warning, "empty-group"),
+    (Cause::DelayAboveStar, Level::Note, "delay-splits-group"),
+    (Cause::DelaySplitsGroup, Level::Warning, "delay-splits-group"),
+    (Cause::JoinedGroups, Level::Warning, "joined-groups"),
+    (Cause::GroupPastSizeLimit, Level::Warning, "group-past-size-limit"),
+    (Cause::AllowedAndDisallowed, Level::Warning, "allowed-and-disallowed"),
+    (Cause::EmptyDisallow, Level::Warning, "empty-disallow"),
+    (Cause::TwoDelays, Level::Warning, "two-delays"),
+    (Cause::ClosesSite, Level::Warning, "closes-everything"),
+    (Cause::ClosesEverything, Level::Note, "closes-everything"),
+    (Cause::ReplacesStar, Level::Note, "replaces-star"),
+    (Cause::RepeatedRule, Level::Note, "repeated-rule"),
+    (Cause::MisspelledName, Level::Note, "misspelled-name"),
+    (Cause::GooglebotGroup, Level::Note, "googlebot-group"),
+    (Cause::GoogleIgnoresStar, Level::Note, "google-ignores-star"),
+    (Cause::NeverDecides, Level::Note, "needless-rule"),
+    (Cause::MatchesNothing, Level::Note, "needless-rule"),
+    (Cause::AllowedAnyway, Level::Note, "needless-rule"),
+    (Cause::NotNeeded, Level::Note, "needless-rule"),
 ];
 
-type Row = (Cause, Level, Topic, &'static str);
+type Row = (Cause, Level, &'static str);
 
 /// Each function that names this long table takes a minute to prove, so no other does.
 #[tactic(auto, unfolding(crate::specs::Table::all_causes))]
@@ -226,8 +215,7 @@ fn rows() -> &'static [Row]
     ensures length { length result.now ≡ length WARNINGS }
     ensures causes { map (λ row. row.0) result.now ≡ all_causes }
     ensures levels { map (λ row. row.1) result.now ≡ all_levels }
-    ensures topics { map (λ row. row.2) result.now ≡ all_topics }
-    ensures names { map (λ row. row.3.now) result.now ≡ all_names }
+    ensures names { map (λ row. row.2.now) result.now ≡ all_names }
 {
     &WARNINGS
 }
@@ -247,9 +235,9 @@ fn text_at(rows: &'static [(Cause, &'static str)], number: usize) -> &'static (C
 }
 
 fn has_name(rows: &'static [Row], name: &str) -> bool
-    ensures { result ≡ list_any (λ row. bytes_eq row.3.now name.now) rows.now }
+    ensures { result ≡ list_any (λ row. bytes_eq row.2.now name.now) rows.now }
 {
-    rows.iter().any(|row| row.3 == name)
+    rows.iter().any(|row| row.2 == name)
 }
 
 pub fn is_name(name: &str) -> bool
@@ -280,8 +268,7 @@ impl Cause {
     fn row(self) -> &'static Row
         ensures own { result.now.0 ≡ self }
         ensures level { result.now.1 ≡ level_of self }
-        ensures topic { result.now.2 ≡ topic_of self }
-        ensures name { result.now.3.now ≡ name_of self }
+        ensures name { result.now.2.now ≡ name_of self }
     {
         row_at(rows(), self as usize)
     }
@@ -295,27 +282,7 @@ impl Cause {
     pub fn name(self) -> &'static str
         ensures { result.now ≡ name_of self }
     {
-        self.row().3
-    }
-
-    /// Whether the warning isn't about the syntax of a file.
-    pub fn is_not_about_syntax(self) -> bool
-        ensures { result ≡ is_not_about_syntax self }
-    {
-        match self.row().2 {
-            Topic::Syntax => false,
-            Topic::Verdict | Topic::Meaning => true,
-        }
-    }
-
-    /// Whether the warning leaves open that verdicts are those of RFC 9309.
-    pub fn keeps_verdicts(self) -> bool
-        ensures { result ≡ keeps_verdicts self }
-    {
-        match self.row().2 {
-            Topic::Syntax | Topic::Verdict => false,
-            Topic::Meaning => true,
-        }
+        self.row().2
     }
 
     fn message_row(self) -> &'static (Cause, &'static str)

@@ -21,7 +21,7 @@ pub(crate) static MESSAGES: [(Cause, &str); 85] = [
     (Cause::NulEndsLine,
         "the file contains a NUL byte, which ends a line here, but may not in other crawlers; put a line end in its place, or delete it at the end of a line"),
     (Cause::UrlNotNormal,
-        "its path and query aren't in normal form (only needed escapes, in uppercase; * $ ^ { } and others escaped), which RFC 9309 compares, so crawlers may decide otherwise; check that form too"),
+        "its path and query aren't what RFC 9309 compares (only needed escapes, in uppercase; * $ ^ { } and others escaped), or crawlers change them (they resolve the segments . and .., and write / for \\ and %27 for ' in a query), so they may decide otherwise; check these forms too"),
     (Cause::InvalidDelay,
         "the delay is ignored: its value is missing, negative or not a number of seconds; write, for example: Crawl-delay: 1.5"),
     (Cause::NoindexLine,

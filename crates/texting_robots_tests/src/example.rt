@@ -35,7 +35,7 @@ const FILE: &[u8] = b"User-agent: FerrisBot\nDisallow: /forest\nCrawl-delay: 2.5
 /// A file, a page, and what the crawler does about it.
 const PLANS: &[(&[u8], &str, Plan)] = &[
     (FILE, PAGE, Plan::Fetch(2_500_000)),
-    (FILE, "https://example.com/forest/tree", Plan::Leave),
+    (FILE, "/forest/tree", Plan::Leave),
     (b"Crawl-delay: inf", PAGE, Plan::Fetch(60_000_000)),
     (b"", PAGE, Plan::Fetch(1_000_000)),
 ];

@@ -8,18 +8,18 @@ use texting_robots::parser::{file_bodies, file_lines};
 const FILE: &[u8] =
     b"Disallow: /x\nUser-agent: a\nUser-agent: B\nDisallow: /y\nUser-agent: c\nAllow: /z";
 
+/// A delay ends a run of user-agent lines. The last run has no rule.
+const DELAYED: &[u8] = b"User-agent: a\nCrawl-delay: 1\nUser-agent: b\nAllow: /\nUser-agent: a\n";
+
 /// A crawler, a file, whether it names the crawler, and a character for each line: `+` in the crawler's
 /// group, `-` in another, a space in none.
-type MaskCase = (&'static str, &'static [u8], bool, &'static [u8]);
-
-const GROUPS: &[MaskCase] = &[
-    // a group of several crawlers, for each of its names and for others
-    ("a", FILE, true, b" +++--"),
-    ("A", FILE, true, b" +++--"),
-    ("b", FILE, true, b" +++--"),
+const MASKS: &[(&str, &[u8], bool, &[u8])] = &[
+    ("B", FILE, true, b" +++--"),
     ("c", FILE, true, b" ---++"),
     ("d", FILE, false, b" -----"),
     ("*", FILE, false, b" -----"),
+    ("a", DELAYED, true, b"++--+"),
+    ("b", DELAYED, true, b"--++-"),
     // the group of `*` applies to every crawler that no line names
     (
         "d",
@@ -40,58 +40,6 @@ const GROUPS: &[MaskCase] = &[
         true,
         b" +  + + +",
     ),
-];
-
-const DELAYS: &[MaskCase] = &[
-    // a delay ends a run of user-agent lines, as a rule does
-    (
-        "a",
-        b"User-agent: a\nCrawl-delay: 1\nUser-agent: b\nAllow: /",
-        true,
-        b"++--",
-    ),
-    (
-        "b",
-        b"User-agent: a\nCrawl-delay: 1\nUser-agent: b\nAllow: /",
-        true,
-        b"--++",
-    ),
-    // a crawler can have several groups
-    (
-        "a",
-        b"User-agent: a\nAllow: /x\nUser-agent: b\nAllow: /y\nUser-agent: b\nUser-agent: a\nAllow: /z",
-        true,
-        b"++--+++",
-    ),
-];
-
-const ENDS: &[MaskCase] = &[
-    // user-agent lines at the end, with no rule after them
-    (
-        "a",
-        b"User-agent: b\nAllow: /\nUser-agent: c\nUser-agent: a\n",
-        true,
-        b"--++",
-    ),
-    (
-        "c",
-        b"User-agent: a\nAllow: /\nUser-agent: c\n\nUser-agent: d\n#",
-        true,
-        b"--+ + ",
-    ),
-    (
-        "d",
-        b"User-agent: a\nAllow: /\nUser-agent: b\n",
-        false,
-        b"---",
-    ),
-    // a delay or a rule before the first user-agent line
-    (
-        "a",
-        b"Crawl-delay: 1\nAllow: /\nUser-agent: a\nAllow: /",
-        true,
-        b"  ++",
-    ),
     // without a user-agent line all lines apply to every crawler
     (
         "a",
@@ -99,23 +47,16 @@ const ENDS: &[MaskCase] = &[
         false,
         b"+ + +",
     ),
-    ("a", b"", false, b""),
 ];
 
 fn check_labels(rt: &impl Abort, agent: &str, file: &[u8], masks: &[u8]) {
-    check_equal(rt, agent, &file_lines(file).count(), &masks.len());
-    let mut labeled = labeled_lines(agent, file);
+    let (mut lines, mut labeled) = (file_lines(file), labeled_lines(agent, file));
     let mut bodies = file_bodies(file);
-    for (position, (line, mask)) in file_lines(file).zip(masks).enumerate() {
+    for (position, mask) in masks.iter().enumerate() {
         let found = labeled.next().expect(rt, agent);
-        check_equal(
-            rt,
-            agent,
-            &(found.number, found.line),
-            &(position + 1, line),
-        );
-        let body = bodies.next().expect(rt, agent);
-        check_equal(rt, agent, &found.body, &body);
+        check_equal(rt, agent, &Some(found.line), &lines.next());
+        check_equal(rt, agent, &Some(found.body), &bodies.next());
+        check_equal(rt, agent, &found.number, &(position + 1));
         let membership = match *mask {
             b'+' => Membership::Own,
             b'-' => Membership::Other,
@@ -128,10 +69,8 @@ fn check_labels(rt: &impl Abort, agent: &str, file: &[u8], masks: &[u8]) {
 
 #[test]
 fn each_line_has_its_group(rt: HostRuntime) {
-    for cases in [GROUPS, DELAYS, ENDS] {
-        for (agent, file, named, masks) in cases {
-            check_equal(&rt, agent, &is_named(agent, file), named);
-            check_labels(&rt, agent, file, masks);
-        }
+    for (agent, file, named, masks) in MASKS {
+        check_equal(&rt, agent, &is_named(agent, file), named);
+        check_labels(&rt, agent, file, masks);
     }
 }

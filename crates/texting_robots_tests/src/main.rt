@@ -1,11 +1,10 @@
-//! Tests of the public functions of the libraries: worked examples, the cases of the original crate's tests, and every
-//! small input. Each case is data, with a name that is printed if it fails. The program `robots_verdict` prints what a
-//! file means for a crawler (its verdicts, delay and sitemaps, or an error), so such cases are golden tests of that
-//! program. Tests in a library's own crate would have it proved a second time.
+//! Tests of public functions that neither a program nor the C library calls, and of inputs that neither can have: the
+//! other functions have golden cases (`tests/golden`) and tests in C (`tests/host.c`). Each case is data. Tests in a
+//! library's own crate would have it proved a second time.
 //!
-//! The program makes calls of which neither another program nor the C library shows what happens while allocations
-//! fail, and prints for each whether its result is right. `tests/test_allocation_failures.py` makes the allocations
-//! fail; then a call that allocates can also print `out of memory`. A name on standard input chooses one call.
+//! The program makes calls that the C library lacks, and prints for each whether its result is right.
+//! `tests/test_allocation_failures.py` makes the allocations fail; then a call that allocates can also print
+//! `out of memory`. A name on standard input chooses one call.
 #![tactic(auto)]
 
 mod calls;
@@ -26,13 +25,9 @@ mod lines;
 #[cfg(test)]
 mod looks;
 #[cfg(test)]
-mod needless;
-#[cfg(test)]
 mod patterns;
 #[cfg(test)]
 mod printed;
-#[cfg(test)]
-mod responses;
 #[cfg(test)]
 mod sites;
 #[cfg(test)]

@@ -1,5 +1,5 @@
 //! What a pattern matches, with how many looks; how patterns are ordered; and which are too long.
-use crate::helpers::{check, check_equal, long_text};
+use crate::helpers::{TextParts, check, check_equal, long_text};
 use std::cmp::Ordering;
 use std::process::Abort;
 use texting_robots::Error;
@@ -47,8 +47,6 @@ const COLLAPSED: &[(&str, &str)] = &[
     ("**", "*"),
     ("/a**$", "/a*$"),
     ("/a", "/a"),
-    ("/a**", "/a*"),
-    ("/a*", "/a*"),
 ];
 
 /// A pattern, another one, and how the first compares with it: by its length with all stars, and then by its bytes.
@@ -81,6 +79,8 @@ pub fn check_match(rt: &impl Abort, regex: &MinRegex, text: &str, want: bool) {
     check(rt, regex.as_str(), view.seen() <= most);
 }
 
+const LONG: TextParts = &[("/", 1), ("a", 500), ("b", 1), ("a", 500), ("b", 1)];
+
 /// Each text is matched with the pattern and with a copy of it.
 #[test]
 fn patterns_match_with_few_looks(rt: HostRuntime) {
@@ -89,22 +89,16 @@ fn patterns_match_with_few_looks(rt: HostRuntime) {
         check_match(&rt, &regex, text, *want);
         check_match(&rt, &copy_of(&rt, &regex), text, *want);
     }
-    let parts = &[("/", 1), ("a", 500), ("b", 1), ("a", 500), ("b", 1)];
-    let text = long_text(&rt, "text", parts);
+    let text = long_text(&rt, LONG);
     check_match(&rt, &regex_of(&rt, "/*aab*aab$"), &text, true);
 }
 
 #[test]
-fn dollar_is_an_ordinary_byte_for_stars(rt: HostRuntime) {
-    let regex = regex_of(&rt, "");
+fn stars_match_and_show_as_one(rt: HostRuntime) {
     for (pattern, text, want) in STARS {
-        let answer = regex.match_stars(pattern, text);
+        let answer = regex_of(&rt, "").match_stars(pattern, text);
         check_equal(&rt, "stars", &(*text, answer), &(*text, *want));
     }
-}
-
-#[test]
-fn each_run_of_stars_shows_as_one(rt: HostRuntime) {
     for (pattern, want) in COLLAPSED {
         let copy = copy_of(&rt, &regex_of(&rt, pattern));
         check_equal(&rt, pattern, &copy.as_str(), want);
@@ -122,11 +116,15 @@ fn longer_patterns_come_first_and_then_bytes_decide(rt: HostRuntime) {
     }
 }
 
+const OVERLONG: TextParts = &[("/", 1), ("a", 4095), ("$", 1)];
+
+const STARRED: TextParts = &[("$", 1), ("*", 4096)];
+
 #[test]
 fn overlong_patterns_are_rejected(rt: HostRuntime) {
-    let pattern = long_text(&rt, "letters", &[("/", 1), ("a", 4095), ("$", 1)]);
+    let pattern = long_text(&rt, OVERLONG);
     let answer = MinRegex::new(rt.alloc(), &pattern);
     check(&rt, "letters", matches!(answer, Err(Error::InvalidRule)));
-    let pattern = long_text(&rt, "stars", &[("$", 1), ("*", 4096)]);
+    let pattern = long_text(&rt, STARRED);
     check_equal(&rt, "stars", &regex_of(&rt, &pattern).as_str(), &"$*");
 }

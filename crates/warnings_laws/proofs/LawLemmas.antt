@@ -2,25 +2,26 @@
 -- report tells about the syntax of a file and its verdicts is so.
 use Rattle.std.specs.Prelude.{flat_map, is_some, zip, ◌||◌}
 use Rattle.std.proofs.{lemmas.Grind.common_steps, Common.rules}
-use Rattle.std.proofs.Common.{false, true, ◌++◌, ap, None, Option, Some, if◌then◌else◌, is_none, ◌≡◌, ◌≢◌, ℕ}
-use Rattle.std.proofs.Common.{◌≤◌, ◌↔◌, Any, Bool, inl, inr, List, [], ◌∷◌, Contains, IsUtf8, arith, codes, length}
-use Rattle.std.proofs.Common.{◌∙◌, ltb-false, refl, subst, subst₂, sym, take, take_all, ◌⊎◌, suc, map, not, zero, ◌==◌}
+use Rattle.std.proofs.Common.{false, true, ◌++◌, ap, None, Option, Some, if◌then◌else◌, is_none, ◌≡◌, ◌≢◌}
+use Rattle.std.proofs.Common.{ℕ}
+use Rattle.std.proofs.Common.{◌≤◌, ◌↔◌, Bool, inl, inr, List, [], ◌∷◌, Contains, IsUtf8, arith, codes}
+use Rattle.std.proofs.Common.{length}
+use Rattle.std.proofs.Common.{ltb-false, refl, subst, subst₂, sym, take, take_all, ◌⊎◌, suc, map, ◌==◌}
 use Rattle.std.proofs.lemmas.Bool.{false_from_ne_true, false≢true, ne_eqb, not-false, or_parts}
 use Rattle.texting_robots.specs.Callers.{IsVerdict, Label, LineValue, PlacedRule, agents_in, placed_rules}
-use Rattle.texting_robots.specs.Callers.{file_limit, rules_for, IsFirstOverlong, IsOverlong, IsRejected, Rule}
+use Rattle.texting_robots.specs.Callers.{file_limit, rules_for, IsFirstOverlong, IsOverlong, IsRejected}
+use Rattle.texting_robots.specs.Callers.{Rule}
 use Rattle.texting_robots.specs.Callers.{delay_for, lines_read, unplaced, IsRobotOfFile, RobotValue}
 use Rattle.texting_robots.specs.{Decision.IsDecisionOn, declared.decision.Decision.Decision}
 use Rattle.robots_needless.specs.Blocks.{AreFoundIn, HaveSameRobot, IsLeftOf}
 use Rattle.robots_needless.specs.Needless.{AreFound, AreNeedless, lines_without, numbers_of}
-use Rattle.robots_needless.proofs.{LeftLemmas.left_within, LeftLemmas.same_robot, SettledLemmas.nothing_found}
+use Rattle.robots_needless.proofs.{LeftLemmas.left_within, LeftLemmas.same_robot}
+use Rattle.robots_needless.proofs.{SettledLemmas.nothing_found}
 use Rattle.audit_core.specs.Audit.{AgentValue, AreOfSitemaps, AuditValue, IsAgentAudit, IsAuditOf, IsRuling}
 use Rattle.audit_core.specs.Audit.{IsVerdictOn, VerdictValue, agents_requested, group_of, labeling_agent}
 use Rattle.audit_core.specs.Audit.{labels_requested, naming_line, rejects_some, sitemap_warning}
 use Rattle.audit_core.specs.Audit.{sitemaps_asked, warnings_found, warnings_requested}
-use Rattle.audit_core.specs.{declared.syntax.Syntax.TheVariants.StandardVerdicts}
-use Rattle.audit_core.specs.{Request.RequestValue, Asked.asked_target, declared.syntax.Syntax.Syntax}
-use Rattle.audit_core.specs.Syntax.{syntax_of, has_standard_verdicts, has_syntax_warning, is_about_syntax}
-use Rattle.audit_core.specs.Syntax.{is_standard, keep_verdicts}
+use Rattle.audit_core.specs.{Request.RequestValue, Asked.asked_target}
 use Rattle.std.specs.{List.All, List.AllByRecursion as Each, List.AllZip, Bool.Decides}
 use Rattle.std.proofs.lemmas.List.Elements.{All-cons, All-nil, recursion_from_All}
 use Rattle.texting_robots.proofs.RulesLemmas.{none_unplaced, some_overlong}
@@ -29,22 +30,17 @@ use Rattle.texting_robots.proofs.{MainTheoremLemmas.rejection_is_computed, BestL
 use Rattle.texting_robots.proofs.{ExampleLemmas.overlong_decides}
 use Rattle.robots_needless.specs.{declared.needless.NeedlessRule.NeedlessRule}
 use Rattle.robots_warnings.specs.{Closed.reach_of, File.labels_for, Warnings.warnings, Message.WarningValue}
-use Rattle.robots_warnings.specs.{Table.is_not_about_syntax, Table.keeps_verdicts, declared.table.Cause.Cause}
 use Rattle.robots_warnings.specs.Facts.{is_too_large, facts_of}
-use Rattle.rfc9309_laws.specs.Rfc9309.{Group, IsFile}
-use Rattle.rfc9309_laws.proofs.SyntaxLemmas.{each_front, passing}
-use Rattle.audit_core.specs.declared.syntax.Syntax.TheVariants.{Standard, StandardWithoutWarnings, Unstated}
-use Rattle.warnings_laws.proofs.SyntaxLemmas.{ArePassed, robot_stated, silence}
-use Rattle.warnings_laws.proofs.{VerdictLemmas.verdicts_stated}
-use Rattle.warnings_laws.specs.Syntax.{IsNotAboutSyntax, IsRobotStated, IsSilentOn, warnings_of}
-use Rattle.warnings_laws.specs.Verdict.{AreVerdictsKept, IsAsOneOf, IsStandardVerdict}
-use Rattle.warnings_laws.proofs.{QuietLemmas.everyone_reported}
-use Rattle.rfc9309_laws.specs.{Matching.all_stay, Matching.normal_uri, Rfc9309.IsProductToken}
-use Rattle.rfc9309_laws.proofs.{VerdictLemmas.each_contains}
-use Rattle.texting_robots.specs.Callers.{IsFileRejected, group_name}
-use Rattle.texting_robots.specs.Executable.{captured_lines, placed_in}
-use Rattle.texting_robots.proofs.{LineLemmas.each_text_has_its_lines, MainTheoremLemmas.of_lines}
-use Rattle.std.specs.List.{filter_map, list_any}
+use Rattle.rfc9309_laws.specs.{LineForms.AreForms, Matching.all_stay, Matching.normal_uri}
+use Rattle.rfc9309_laws.specs.Conformance.{conformance_of, has_syntax, has_verdicts}
+use Rattle.rfc9309_laws.specs.Rfc9309.{Group, IsFile, IsProductToken}
+use Rattle.rfc9309_laws.proofs.{ApartLemmas.accepted, ApartLemmas.verdict_is, DecidedLemmas.files_decided}
+use Rattle.rfc9309_laws.proofs.{DecidedLemmas.none_apart, LineFormLemmas.file_has_forms}
+use Rattle.rfc9309_laws.proofs.{RobotLemmas.forms_robot}
+use Rattle.rfc9309_laws.proofs.MemberLemmas.{plain_text, token_plain}
+use Rattle.robots_needless.proofs.{CrawlerLemmas.star_or_named}
+use Rattle.texting_robots.specs.Callers.{IsFileRejected}
+use Rattle.warnings_laws.specs.{Syntax.IsRobotStated, Verdict.IsStandardVerdict}
 
 abbrev DecidesAlike : List LineValue → List NeedlessRule → List ℕ → Type 0
 DecidesAlike lines found agent = (text : List ℕ) (answer : Bool)
@@ -261,9 +257,7 @@ some_audit requested file =
         labels = labels;
         agents = agents;
         warnings = warnings_requested requested file labels [] sitemaps;
-        syntax =
-            syntax_of requested.agent requested.agents (is_too_large file) (rejects_some agents)
-            (warnings_found requested file labels [] sitemaps);
+        syntax = conformance_of file;
       },
       record {
         needless = [];
@@ -281,159 +275,43 @@ some_audit requested file =
       },
     )
 
-each_not : (warnings : List WarningValue) → has_syntax_warning warnings ≡ false
-    → Each IsNotAboutSyntax warnings
-unfolding is_about_syntax
-each_not [] none = tt
-each_not (warning ∷ warnings) none = grind (arith, or_parts, not-false, each_not warnings)
-
-stated : (unstated : Bool) (syntax : Syntax) → is_standard (if unstated then Unstated else syntax) ≡ true
-    → unstated ≡ false
-stated true syntax is = cc
-stated false syntax is = refl
-
-no_names : (names : List (List ℕ)) → not (length names == 0) ≡ false → names ≡ []
-no_names [] none = refl
-no_names (name ∷ names) none =
-    absurd (false≢true (sym none ∙ ap not (ne_eqb (length (name ∷ names)) 0 (λ e. omega arith))))
-
-none_passes : {X : Type 0} (test : X → Bool) (xs : List X) → list_any test xs ≡ false
-    → Each (λ x. test x ≡ false) xs
-none_passes test [] none = tt
-none_passes test (x ∷ xs) none =
-    let (here, later) = or_parts (test x) (list_any test xs) none in (here, none_passes test xs later)
-
-zip_left : {A B : Type 0} (R : A → B → Type 0) (xs : List A) (ys : List B) (x : A) → AllZip R xs ys
-    → Contains xs x → (y : B) × Contains ys y × R x y
-zip_left R [] ys x zip (k, below, at) = absurd (omega arith)
-zip_left R (z ∷ xs) [] x zip has = absurd zip
-zip_left R (z ∷ xs) (y ∷ ys) x (is, zip) (zero, below, at) =
-    (y, (0, omega arith, refl), subst (λ z. R z y) at is)
-zip_left R (z ∷ xs) (y ∷ ys) x (is, zip) (suc k, below, at) =
-    let (other, (j, low, here), also) = zip_left R xs ys x zip (k, omega arith, at) in
-    (other, (suc j, omega arith, here), also)
-
-not_rejected : (urls : List (List ℕ)) (lines : List LineValue) (agent : List ℕ) (rejected : Option ℕ)
-    (verdicts : List VerdictValue) → IsRuling urls lines agent rejected verdicts → is_some rejected ≡ false
-    → ¬ IsRejected agent lines
-not_rejected urls lines agent None verdicts (accepted, are) none = accepted
-not_rejected urls lines agent (Some line) verdicts ruling none = absurd (false≢true (sym none))
-
--- a file is rejected for each of the crawlers that have the same group
-same_rejected : (lines : List LineValue) (agent other : List ℕ)
-    → group_name agent lines ≡ group_name other lines → IsRejected agent lines → IsRejected other lines
-same_rejected lines agent other same is =
-    let rules : rules_for agent lines ≡ rules_for other lines =
-    ap (λ name. unplaced (filter_map placed_in (captured_lines name lines))) same in
-    (rejection_is_computed other lines).1
-    (subst (λ rules. Any (λ (rule : Rule). IsOverlong rule.0) rules) rules
-    ((rejection_is_computed agent lines).0 is))
-
-pub verdicts_stated_too : (syntax : Syntax) → has_standard_verdicts syntax ≡ true → is_standard syntax ≡ true
-verdicts_stated_too Unstated is = is
-verdicts_stated_too _ is = refl
-
-kept : (unstated : Bool) (warnings : List WarningValue)
-    → has_standard_verdicts (if unstated then Unstated
-    else (if length warnings == 0 then StandardWithoutWarnings
-    else (if keep_verdicts warnings then StandardVerdicts else Standard))) ≡ true
-    → ArePassed keeps_verdicts warnings
-kept true warnings is = grind arith
-kept false [] is = tt
-kept false (warning ∷ warnings) is = grind (arith, passing, ne_eqb)
-
--- all warnings but those about needless rules and sitemaps, as `warnings_found` has them
-abbrev warnings_for : Option (List ℕ) → (agents urls : List (List ℕ)) → List ℕ → List WarningValue
-warnings_for agent agents urls file =
-    let labels = labels_for (labeling_agent agent) file in
-    warnings (is_none agent) agents urls file (facts_of file labels) labels (lines_read file)
-
--- if the request isn't about a single crawler, the warnings are those of all groups
-passed_on : (test : Cause → Bool) (agent : Option (List ℕ)) (agents urls : List (List ℕ))
-    (file : List ℕ) → is_some agent ≡ false → ArePassed test (warnings_for agent agents urls file)
-    → ArePassed test (warnings_of agents urls file)
-passed_on test None agents urls file everyone all = all
-passed_on test (Some agent) agents urls file everyone all = absurd cc
-
 module _ (requested : RequestValue) (file : List ℕ) (audit : AuditValue) (is : IsAuditOf requested file audit)
   where
-    abbrev found : List WarningValue
-    found = warnings_found requested file (labels_requested requested file) is.needless is.sitemaps
+    pub file_of_the_standard : (has_syntax audit.syntax ≡ true)
+        ↔ ((length file ≤ file_limit) × ((groups : List Group) × IsFile groups file))
+    file_of_the_standard =
+        subst (λ syntax. (has_syntax syntax ≡ true)
+        ↔ ((length file ≤ file_limit) × ((groups : List Group) × IsFile groups file))) (sym is.syntax_is)
+        (files_decided file)
 
-    abbrev agents : List (List ℕ)
-    agents = agents_requested requested.agents (lines_read file)
+    pub robot_of_the_standard : has_syntax audit.syntax ≡ true → (agent : List ℕ) (robot : RobotValue)
+        → IsRobotOfFile agent (take file_limit file) robot → IsRobotStated agent file robot
+    robot_of_the_standard standard agent robot of =
+        let (short, (groups, written)) = file_of_the_standard.0 standard in
+        let (forms, are) = file_has_forms file groups written in
+        forms_robot agent file forms robot
+        (subst (AreForms forms) (sym (take_all file_limit file short)) are) of
 
-    abbrev unstated : Bool
-    unstated = (((is_some requested.agent || not (length requested.agents == 0)) || is_too_large file)
-        || rejects_some audit.agents) || has_syntax_warning found
+    module _ (standard : has_verdicts audit.syntax ≡ true) (agent : List ℕ) (groups : List Group)
+        (token : IsProductToken agent) (written : IsFile groups file) where
+      stated : has_verdicts (conformance_of file) ≡ true
+      stated = subst (λ syntax. has_verdicts syntax ≡ true) is.syntax_is standard
 
-    module _ (standard : is_standard audit.syntax ≡ true) where
-      -- all groups are checked, the whole file is read, and no warning is about syntax
-      known : ((is_some requested.agent ≡ false) × (is_too_large file ≡ false))
-          × (has_syntax_warning found ≡ false)
-      known = grind (arith, or_parts, stated)
+      utf8 : IsUtf8 agent
+      utf8 = (plain_text agent (token_plain agent token)).0.utf8
 
-      -- the report is about all crawlers, and the file is rejected for none
-      for_all : (requested.agents ≡ []) × (rejects_some audit.agents ≡ false)
-      for_all =
-          let (checked, quiet) = or_parts _ (has_syntax_warning found) (stated unstated _
-          (subst (λ s. is_standard s ≡ true) is.syntax_is standard)) in
-          let (read, accepted) = or_parts _ (rejects_some audit.agents) checked in
-          let (one, whole) = or_parts _ (is_too_large file) read in
-          (no_names requested.agents (or_parts (is_some requested.agent) _ one).1, accepted)
+      pub verdicts_of_the_standard : (uri : List ℕ) (robot : RobotValue) (answer : Bool)
+          → normal_uri all_stay uri ≡ uri → IsRobotOfFile agent (take file_limit file) robot
+          → IsVerdict (unplaced robot.rules) uri answer ↔ IsStandardVerdict groups agent uri answer
+      verdicts_of_the_standard uri robot answer normal of =
+          let (whole, near) = none_apart file stated in
+          let (name, listed, same) = star_or_named agent (lines_read file) utf8 in
+          verdict_is (take file_limit file) near groups (subst (IsFile groups) (sym whole) written) agent name
+          listed same file uri robot answer refl normal of
 
-      pub accepted_by_the_standard : (agent : List ℕ) → IsProductToken agent
-          → ¬ IsFileRejected agent (take file_limit file)
-      accepted_by_the_standard agent token rejected =
-          let lines = lines_read file in
-          let (k, other, below, at, same) = everyone_reported file agent token in
-          let reported : Contains agents other =
-          subst (λ names. Contains (agents_requested names lines) other) (sym for_all.0) (k, below, at) in
-          let (value, has, audited) = zip_left (IsAgentAudit requested.urls lines) agents audit.agents other
-          is.agents_are reported in
-          let is_rejected : IsRejected agent lines =
-          of_lines (take file_limit file) (λ lines. IsRejected agent lines) rejected lines
-          ((each_text_has_its_lines _ _).1 refl) in
-          not_rejected requested.urls lines other value.rejected value.verdicts audited.ruling
-          (each_contains (λ (agent : AgentValue). is_some agent.rejected ≡ false) audit.agents value
-          (none_passes (λ (agent : AgentValue). is_some agent.rejected) audit.agents for_all.1) has)
-          (same_rejected lines agent other same is_rejected)
-
-      audited : (test : Cause → Bool) → ArePassed test found
-          → ArePassed test (warnings_of agents requested.urls file)
-      audited test passed =
-          passed_on test requested.agent agents requested.urls file known.0.0
-          (grind (arith, each_front))
-
-      silent : IsSilentOn agents requested.urls file
-      silent = audited is_not_about_syntax (each_not found known.1)
-
-      pub file_of_the_standard : (groups : List Group) × IsFile groups file
-      file_of_the_standard =
-          let whole = take_all file_limit file (ltb-false file_limit (length file) known.0.1) in
-          let (groups, is) = silence agents requested.urls file silent in
-          (groups, subst (IsFile groups) whole is)
-
-      pub robot_of_the_standard : (agent : List ℕ) (robot : RobotValue)
-          → IsRobotOfFile agent (take file_limit file) robot → IsRobotStated agent file robot
-      robot_of_the_standard agent robot of = search (rules, robot_stated, silent)
-
-    kept_verdicts : has_standard_verdicts audit.syntax ≡ true → AreVerdictsKept agents requested.urls file
-    kept_verdicts standard =
-        audited (verdicts_stated_too audit.syntax standard) keeps_verdicts (kept unstated found
-        (subst (λ s. has_standard_verdicts s ≡ true) is.syntax_is standard))
-
-    pub verdicts_of_the_standard : has_standard_verdicts audit.syntax ≡ true → (agent uri : List ℕ)
-        (groups : List Group) (robot : RobotValue) (answer : Bool) → IsProductToken agent
-        → normal_uri all_stay uri ≡ uri → IsFile groups file
-        → IsRobotOfFile agent (take file_limit file) robot
-        → IsVerdict (unplaced robot.rules) uri answer ↔ IsStandardVerdict groups agent uri answer
-    verdicts_of_the_standard standard agent uri groups robot answer token normal =
-        verdicts_stated agents requested.urls file agent uri groups robot answer
-        (kept_verdicts standard) (record {
-          token = token;
-          reported =
-              subst (λ names. IsAsOneOf (agents_requested names (lines_read file)) file agent)
-              (sym (for_all (verdicts_stated_too audit.syntax standard)).0) (everyone_reported file agent token);
-          normal = normal;
-        })
+      pub accepted_by_the_standard : ¬ IsFileRejected agent (take file_limit file)
+      accepted_by_the_standard =
+          let (whole, near) = none_apart file stated in
+          let (name, listed, same) = star_or_named agent (lines_read file) utf8 in
+          accepted (take file_limit file) near groups (subst (IsFile groups) (sym whole) written) agent name
+          listed same

@@ -1,7 +1,7 @@
 //! Theorems about the specification, each written as the contract of an empty function.
 ghost use Rattle.std.specs.Prelude.{◌&&◌, ◌||◌, [], All, Any, Bool, codes, Contains, false, if◌then◌else◌, ℕ};
 ghost use Rattle.std.specs.Prelude.{IsSome, IsTrue, List, nat_eq, not, slice_get, Some, take, true, ◌+◌, ◌↔◌};
-ghost use Rattle.std.specs.Prelude.{◌∷◌, ◌≡◌, ◌≢◌};
+ghost use Rattle.std.specs.Prelude.{◌∷◌, ◌≡◌, ◌≢◌, ◌≤◌, length};
 ghost use Rattle.std.specs.List.{count_by, list_any, starts_with};
 ghost use Rattle.std.specs.Str.{byte, is_utf8, IsUtf8, str_to_ascii_lowercase};
 ghost use Rattle.texting_robots.specs.Callers.{Allow, AreLabelsOf, AreRulesFor, Disallow, escaped, HoldsRule};
@@ -14,20 +14,20 @@ ghost use Rattle.robots_needless.specs.Blocks.{HaveSameRobot, IsLeftOf};
 ghost use Rattle.robots_needless.specs.Needless.{lines_without, numbers_of};
 ghost use Rattle.rfc9309_laws.specs.Rfc9309.{Group, IsFile, IsProductToken};
 ghost use Rattle.rfc9309_laws.specs.Matching.{all_stay, normal_uri};
-ghost use Rattle.warnings_laws.specs.{Syntax.IsRobotStated};
-ghost use Rattle.warnings_laws.specs.Verdict.{IsStandardVerdict};
+ghost use Rattle.warnings_laws.specs.Examples as example;
+ghost use Rattle.warnings_laws.specs.{Syntax.IsRobotStated, Verdict.IsStandardVerdict};
 ghost use Rattle.robots_warnings.specs.Conflicts.{IsConflict, IsOverruled, conflict, overruled, is_empty_at};
 ghost use Rattle.robots_warnings.specs.Conflicts.{overruled_for, IsEmptyDisallow, stated_rules};
 ghost use Rattle.robots_warnings.specs.Closed.{line_closing, opened_paths, reach_of, replacing, star_count};
 ghost use Rattle.robots_warnings.specs.declared.closed.Reach.TheVariants.{Everything, Nothing};
 ghost use Rattle.robots_warnings.specs.{Contents.is_cut_to_root, Crawlers.names_past_limit};
-ghost use Rattle.robots_warnings.specs.{Positions.is_above_agents, Repeated.repeated, Targets.has_odd_target};
+ghost use Rattle.robots_warnings.specs.{Positions.is_above_agents, Repeated.repeated, Targets.has_odd_target, Targets.written_target};
 ghost use Rattle.robots_warnings.specs.{Urls.is_unparsable, Urls.begins_as_url, Warnings.position_warnings};
 ghost use Rattle.robots_warnings.specs.{Warnings.warned_at, declared.table.Cause.TheVariants.TwoDelays};
 ghost use Rattle.robots_warnings.specs.Rules.{begins_oddly, has_dollar_inside};
 ghost use Rattle.audit_core.specs.Audit.{AuditValue, IsAuditOf};
 ghost use Rattle.audit_core.specs.{Asked.asked_target, Request.RequestValue};
-ghost use Rattle.audit_core.specs.Syntax.{has_standard_verdicts, is_standard};
+ghost use Rattle.rfc9309_laws.specs.Conformance.{has_syntax, has_verdicts};
 
 /// Without `--needless`, a request and a file have at most one audit; with it, one for each list of needless
 /// rules.
@@ -67,29 +67,38 @@ pub fn needless_lines_can_be_deleted()
         → IsUtf8 agent → HaveSameRobot agent (take file_limit file) (take file_limit left) }
 {}
 
-/// If a report says that the file has RFC 9309 syntax, whichever warnings it leaves out, the whole file
-/// follows the standard's grammar with the extensions of `rfc9309_laws`, and each crawler for which it isn't
-/// rejected gets the rules, the delay and the sitemaps that it states.
+/// A report says that the file has RFC 9309 syntax exactly if it has at most 512,000 bytes, all of which
+/// follow the standard's grammar with the extensions of `rfc9309_laws` (`syntax`). Then each crawler for
+/// which it isn't rejected gets the rules, the delay and the sitemaps that it states (`robot`).
 pub fn syntax_is_that_of_the_standard()
     ensures syntax { (requested : RequestValue) (file : List ℕ) (audit : AuditValue) → IsAuditOf requested file audit
-        → is_standard audit.syntax ≡ true → (groups : List Group) × IsFile groups file }
+        → (has_syntax audit.syntax ≡ true)
+        ↔ ((length file ≤ file_limit) × ((groups : List Group) × IsFile groups file)) }
     ensures robot { (requested : RequestValue) (file : List ℕ) (audit : AuditValue) (agent : List ℕ) (robot : RobotValue)
-        → IsAuditOf requested file audit → is_standard audit.syntax ≡ true
+        → IsAuditOf requested file audit → has_syntax audit.syntax ≡ true
         → IsRobotOfFile agent (take file_limit file) robot → IsRobotStated agent file robot }
 {}
 
-/// If a report says that verdicts are those of RFC 9309, whichever warnings it leaves out, the verdict of each
-/// crawler with a product token, on each path and query in normal form, is the standard's (`verdicts`), and
-/// the file isn't rejected for it (`accepted`).
+/// If a report says that verdicts are those of RFC 9309, the verdict of each crawler with a product token, on
+/// each path and query in normal form, is the standard's (`verdicts`), and the file isn't rejected for it
+/// (`accepted`).
 pub fn verdicts_are_those_of_the_standard()
     ensures verdicts { (requested : RequestValue) (file : List ℕ) (audit : AuditValue) (agent uri : List ℕ) (groups : List Group)
         (robot : RobotValue) (answer : Bool) → IsAuditOf requested file audit
-        → has_standard_verdicts audit.syntax ≡ true → IsProductToken agent → normal_uri all_stay uri ≡ uri
-        → IsFile groups file → IsRobotOfFile agent (take file_limit file) robot
+        → has_verdicts audit.syntax ≡ true → IsProductToken agent → IsFile groups file
+        → normal_uri all_stay uri ≡ uri → IsRobotOfFile agent (take file_limit file) robot
         → IsVerdict (unplaced robot.rules) uri answer ↔ IsStandardVerdict groups agent uri answer }
     ensures accepted { (requested : RequestValue) (file : List ℕ) (audit : AuditValue) (agent : List ℕ)
-        → IsAuditOf requested file audit → has_standard_verdicts audit.syntax ≡ true → IsProductToken agent
-        → ¬ IsFileRejected agent (take file_limit file) }
+        (groups : List Group) → IsAuditOf requested file audit → has_verdicts audit.syntax ≡ true
+        → IsProductToken agent → IsFile groups file → ¬ IsFileRejected agent (take file_limit file) }
+{}
+
+/// A file with the verdicts of the standard, one in which a line is in the way of that, and one that isn't in
+/// the grammar because of a line.
+pub fn examples_of_syntax()
+    ensures verdicts { example.verdicts }
+    ensures apart { example.apart }
+    ensures other { example.other }
 {}
 
 /// `allowed-and-disallowed` is given for a line exactly if it has a Disallow that applies to one of the
@@ -240,10 +249,12 @@ pub fn missing_slash()
     ensures { (value text : List ℕ) → begins_oddly value ≡ true → ¬ Matches (escaped value) (byte "/" ∷ text) }
 {}
 
-/// The match target of a path, or of an http(s) URL that can be parsed, is in normal form if there is no
-/// `url-not-normal`. So `verdicts_are_those_of_the_standard` applies to it.
+/// If there is no `url-not-normal`, the match target of a path, or of an http(s) URL that can be parsed, is in
+/// normal form, and is that of the path and the query as they are written. So
+/// `verdicts_are_those_of_the_standard` applies to it.
 pub fn url_not_normal()
     ensures { (text : List ℕ)
         → (starts_with nat_eq text (codes "/") || (begins_as_url text && not (is_unparsable text))) ≡ true
-        → has_odd_target text ≡ false → normal_uri all_stay (asked_target text) ≡ asked_target text }
+        → has_odd_target text ≡ false → (normal_uri all_stay (asked_target text) ≡ asked_target text)
+        × (normal_uri all_stay (written_target text) ≡ asked_target text) }
 {}

@@ -40,13 +40,6 @@ returns-clause-ok c =
       sitemaps_are = rw (c.deref-8.ensures.value, c.in_ok-labels.ensures, c.labeling_agent.ensures) at are;
       labels_are = rw c.labeling_agent.ensures at c.in_ok-labels.ensures;
       agents_are = rw (c.deref-4.ensures.value, names, c.deref-6.ensures.value) at c.in_ok-agents.ensures.ok;
-      warnings_are = rw (c.deref-13.ensures.value, c.deref-14.ensures.value, all) at c.choose.ensures;
-      syntax_is = rw (
-        c.rejects_some-is_rejected.ensures,
-        c.deref-10.ensures.value,
-        c.deref-11.ensures.value,
-        c.deref-12.ensures.value,
-        all,
-        c.facts_of-facts.ensures,
-      ) at c.syntax_of-syntax.ensures;
+      warnings_are = rw (c.deref-10.ensures.value, c.deref-11.ensures.value, all) at c.choose.ensures;
+      syntax_is = c.in_ok-syntax.ensures;
     }

@@ -1,5 +1,14 @@
+use Rattle.std.proofs.Common.{◌≡◌, string_bytes}
+use Rattle.texting_robots.proofs.MainTheoremLemmas.{read_robot}
+use Rattle.robots_warnings.specs.Targets.{normal_target, written_target}
 use Rattle.audit_expect.proofs.ExpectationsLemmas.{robot_found}
 use Rattle.audit_expect.proofs.checks.decided_on.Goals as goal
+
+pub returns-in_default-clause-ok : goal.returns-in_default-clause-ok
+returns-in_default-clause-ok c = (
+  (read_robot _ c.args.file.now _ c.requires.robot).accepted,
+  rw c.in_default.is at c.in_ok-form.ensures.ok,
+)
 
 pub other_decision-requires-clause-accepted : goal.other_decision-requires-clause-accepted
 other_decision-requires-clause-accepted c =
@@ -18,9 +27,12 @@ normal_decision-requires-clause-accepted c =
 
 pub returns-clause-ok : goal.returns-clause-ok
 returns-clause-ok c =
-    let found = robot_found _ c.args.file.now _ _ _ c.requires.robot c.in_ok-decision.ensures.ok in (
+    let found = robot_found _ c.args.file.now _ _ _ c.requires.robot c.in_ok-decision.ensures.ok in
+    let form : string_bytes c.in-Some.target ≡ normal_target (written_target c.args.url.now) =
+    (rw c.in-Some.is at c.in_ok-form.ensures.ok).0 in (
       found.0,
       found.1,
       rw c.requires.site at c.in_ok-other.ensures.ok,
-      rw c.requires.site at c.in_ok-normal.ensures.ok,
+      rw (c.requires.site, c.deref.ensures, form) at c.in_ok-normal.ensures.ok,
+      (rw c.in-Some.is at c.in_ok-form.ensures.ok).1,
     )

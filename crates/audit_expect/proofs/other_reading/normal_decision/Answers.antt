@@ -4,7 +4,7 @@ use Rattle.audit_expect.proofs.other_reading.normal_decision.Goals as goal
 
 pub decision_of-requires : goal.decision_of-requires
 decision_of-requires c =
-    rw (c.deref-3.ensures.value, c.in_ok-rules-2.ensures, c.deref-2.ensures.value, c.in_ok-rules.ensures)
+    rw (c.deref-2.ensures.value, c.in_ok-rules-2.ensures, c.deref.ensures.value, c.in_ok-rules.ensures)
     (normal_accepted _ (others_accepted (file_bodies c.args.site.now) c.args.agent.now
     (file_lines c.args.site.now) c.requires.accepted))
 
@@ -13,12 +13,8 @@ returns-clause-ok c =
     decided_normally (file_bodies c.args.site.now)
     (placed_rules c.args.agent.now (file_lines c.args.site.now)) _ c.in_ok-decision.decision
     (rw (
-      c.deref-3.ensures.value,
-      c.in_ok-rules-2.ensures,
       c.deref-2.ensures.value,
+      c.in_ok-rules-2.ensures,
+      c.deref.ensures.value,
       c.in_ok-rules.ensures,
-      c.deref-4.ensures,
-      c.in_ok-target-2.ensures,
-      c.deref.ensures,
-      c.in_ok-target.ensures.ok,
     ) at c.in_ok-decision.ensures.ok)

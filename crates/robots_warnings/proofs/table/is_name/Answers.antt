@@ -8,5 +8,5 @@ pub returns : goal.returns
 unfolding is_name
 returns c =
     let is_same = λ (other : List ℕ). bytes_eq other c.args.name.now in
-    c.has_name.ensures ∙ sym (any_part is_same (λ (row : Row). row.3.now) c.rows.result.now)
+    c.has_name.ensures ∙ sym (any_part is_same (λ (row : Row). row.2.now) c.rows.result.now)
     ∙ ap (list_any is_same) c.rows.ensures.names

@@ -1,6 +1,6 @@
 use Rattle.std.proofs.{Common.[]}
-use Rattle.robots_warnings.specs.{Internal.Row, declared.table.Topic.TheVariants.Syntax}
-use Rattle.robots_warnings.specs.Table.{level_of, name_of, topic_of}
+use Rattle.robots_warnings.specs.{Internal.Row}
+use Rattle.robots_warnings.specs.Table.{level_of, name_of}
 use Rattle.robots_warnings.proofs.ClosedLemmas.{own_row, part_in}
 use Rattle.printable_text.specs.declared.level.Level.TheVariants as level
 use Rattle.robots_warnings.proofs.table.Cause.row.Goals as goal
@@ -12,10 +12,6 @@ pub returns-clause-level : goal.returns-clause-level
 unfolding level_of
 returns-clause-level c = part_in (λ (row : Row). row.1) level.Warning c.row_at.ensures c.rows.ensures.levels
 
-pub returns-clause-topic : goal.returns-clause-topic
-unfolding topic_of
-returns-clause-topic c = part_in (λ (row : Row). row.2) Syntax c.row_at.ensures c.rows.ensures.topics
-
 pub returns-clause-name : goal.returns-clause-name
 unfolding name_of
-returns-clause-name c = part_in (λ (row : Row). row.3.now) [] c.row_at.ensures c.rows.ensures.names
+returns-clause-name c = part_in (λ (row : Row). row.2.now) [] c.row_at.ensures c.rows.ensures.names

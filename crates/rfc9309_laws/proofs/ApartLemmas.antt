@@ -1,0 +1,537 @@
+-- If no line is apart (`line_apart`), each verdict is that of the standard.
+use Rattle.std.proofs.Common.{◌≡◌, ◌≢◌, ◌≤◌, ◌<◌, ◌↔◌, ◌⊎◌, ℕ, ◌+◌, ◌-◌, ◌*◌, ◌==◌, ◌&&◌, ◌||◌, Bool}
+use Rattle.std.proofs.Common.{true, false, not, inl, inr, List, [], ◌∷◌, ◌++◌, Any, Contains, Option}
+use Rattle.std.proofs.Common.{None, Some, ap, arith, codes, bytes_eq, filter, flat_map, if◌then◌else◌}
+use Rattle.std.proofs.Common.{length, map, nat_eq, nat_le, refl, suc, subst, sym, take, zero, ◌∙◌}
+use Rattle.std.specs.{List.AllByRecursion as Each, List.AllZip, List.ends_with, List.list_all}
+use Rattle.std.specs.{List.list_any, List.position_from, Option.option_or, Fmt.digit_glyph}
+use Rattle.std.proofs.lemmas.Bool.{and_parts, both_ways, cases_Bool, eqb-true, Decides.nat_tests}
+use Rattle.std.proofs.lemmas.Bool.{false≢true, not-false, not-true, leb-true, or_cases}
+use Rattle.std.proofs.lemmas.{Grind.common_steps, Simd.map-map, Slice.Eq.bytes_eq-Decides}
+use Rattle.texting_robots.specs.Callers.{IsRobotOfFile, IsVerdict, PlacedRule, RobotValue, Rule, escaped}
+use Rattle.texting_robots.specs.Callers.{IsFileRejected, IsOverlong, agents_in, file_limit, placed_rules}
+use Rattle.texting_robots.specs.Callers.{unplaced}
+use Rattle.texting_robots.specs.{Trim.IsTrimOf, Cut.IsBodyByte, Cut.lf}
+use Rattle.texting_robots.specs.Executable.{file_bodies, file_lines, rules_for}
+use Rattle.texting_robots.specs.Internal.{Line.line_of, Statement.trimmed}
+use Rattle.texting_robots.proofs.{BestLemmas.placed_of, TrimLemmas.each_append, TrimLemmas.is_trimmed}
+use Rattle.texting_robots.proofs.{TrimLemmas.trimmed_is_trim, CollapseLemmas.length_within}
+use Rattle.rfc9309_laws.specs.{Comparable.AreComparable, Comparable.IsFit, Comparable.has_odd_escape}
+use Rattle.rfc9309_laws.specs.Conformance.{allows_all, denies_all, first_denying, first_mixed}
+use Rattle.rfc9309_laws.specs.Conformance.{first_mixed_for, first_split, front_of, is_all, is_apart}
+use Rattle.rfc9309_laws.specs.Conformance.{is_odd_octet, is_plain_path, is_read_as_written, line_apart}
+use Rattle.rfc9309_laws.specs.HasForm.{has_form, is_pattern, value_in}
+use Rattle.rfc9309_laws.specs.LineForms.{Form, HasForm, Agent, Delay, Empty, Other}
+use Rattle.rfc9309_laws.specs.Matching.{IsRfcVerdict, all_stay, has_dollar, normal_from, normal_uri}
+use Rattle.rfc9309_laws.specs.Matching.{octets}
+use Rattle.rfc9309_laws.specs.StandardRobot.{IsFileWith, IsReadAs}
+use Rattle.rfc9309_laws.proofs.{DelayLemmas.has_rule, DelayLemmas.is_unsplit, DelayLemmas.rules_unsplit}
+use Rattle.rfc9309_laws.proofs.{PlainLemmas.plain_compared, ReadLemmas.lines_in, RobotLemmas.rejected_as}
+use Rattle.rfc9309_laws.proofs.{RobotLemmas.rules_read}
+use Rattle.rfc9309_laws.proofs.FileLemmas.{FileRead, file_with, groups_written, has_delays}
+use Rattle.rfc9309_laws.proofs.KeyedLemmas.{IsLineOf}
+use Rattle.rfc9309_laws.proofs.LineFormLemmas.{bodies_bytes, file_has_forms}
+use Rattle.rfc9309_laws.proofs.MemberLemmas.{delay_line, sitemap_line, token_line}
+use Rattle.rfc9309_laws.proofs.OtherLemmas.{before_end, empty_line, form_tested, other_line}
+use Rattle.rfc9309_laws.proofs.Sources.{Parts, Source, allowed_in, is_not_raw, member_in, parts_in}
+use Rattle.rfc9309_laws.proofs.Sources.{parts_of, put_both, source_of, with_source, written}
+use Rattle.rfc9309_laws.proofs.VerdictLemmas.{each_contains, octets_are, robot_agrees, zip_has, zip_right}
+use Rattle.texting_robots.specs.Line.{Allow, CrawlDelay, Disallow, LineValue, Raw, Sitemap, UserAgent}
+use Rattle.texting_robots.specs.Line.{nul_as_lf, without_front}
+use Rattle.rfc9309_laws.specs.declared.conformance.Above.{Above}
+use Rattle.rfc9309_laws.specs.declared.conformance.Above.TheVariants as over
+use Rattle.rfc9309_laws.specs.LineForms as shape
+use Rattle.rfc9309_laws.specs.Rfc9309 as rfc
+
+-- ---- the rules of a file are those of its rule lines
+
+pub record IsFine (path : List ℕ) : Type 0 where
+  pub plain : is_plain_path path ≡ true
+  pub written : is_read_as_written path ≡ true
+  pub is_pattern : is_pattern path ≡ true
+
+fine_trim : (path : List ℕ) → IsFine path → IsTrimOf path path
+fine_trim path fine =
+    let (same, short) = and_parts (bytes_eq (trimmed path) path) _ fine.written in
+    subst (λ value. IsTrimOf value path) ((bytes_eq-Decides (trimmed path) path).0 same)
+    (trimmed_is_trim path)
+
+abbrev IsFineMember : rfc.Member → Type 0
+IsFineMember (rfc.Allow path) = IsFine path
+IsFineMember (rfc.Disallow path) = IsFine path
+IsFineMember (rfc.Delay number) = Unit {0}
+
+abbrev IsNoRule : LineValue → Type 0
+IsNoRule (Allow value) = ⊥
+IsNoRule (Disallow value) = ⊥
+IsNoRule _ = Unit {0}
+
+abbrev HasNone : List Source → Type 0
+HasNone sources = Each (λ source. IsNoRule source.0) sources
+
+none_kept : (line : LineValue) (text : List ℕ) (sources : List Source)
+    → filter is_not_raw ((line, text) ∷ []) ≡ sources → HasNone sources → IsNoRule line
+none_kept (Allow value) text sources same none = (subst HasNone (sym same) none).0
+none_kept (Disallow value) text sources same none = (subst HasNone (sym same) none).0
+none_kept line text sources same none = tt
+
+delay_source : (number : List ℕ) (source : Source)
+    → (with_source source (parts_of [] [])).ungrouped ≡ rfc.Delay number ∷ [] → IsNoRule source.0
+delay_source number (Allow value, text) same = allowed text value same
+  where
+    allowed : (text value : List ℕ) → allowed_in text value ∷ [] ≡ rfc.Delay number ∷ [] → ⊥
+    allowed [] [] same = cc
+    allowed [] (b ∷ value) same = cc
+    allowed (b ∷ text) value same = cc
+delay_source number (Disallow value, text) same = cc
+delay_source number (line, text) same = tt
+
+module _ (body : List ℕ) (bytes : Each IsBodyByte body) where
+  none_by : (form : Form) (sources : List Source) → IsLineOf form sources (body ++ lf ∷ []) → HasNone sources
+      → IsNoRule (line_of body)
+  none_by form sources line none =
+      subst (λ body. IsNoRule (line_of body)) (before_end body line.body line.nl bytes line.is_nl line.whole)
+      (none_kept (line_of line.body) (written line.body) sources line.sourced none)
+
+  no_rule : (form : Form) → HasForm form body → form ≢ shape.Rule → IsNoRule (line_of body)
+  no_rule Empty is other = none_by Empty [] (empty_line _ is) tt
+  no_rule Agent (token, is) other = none_by Agent _ (token_line token _ is) (tt, tt)
+  no_rule shape.Rule is other = absurd (other refl)
+  no_rule Delay (rfc.Delay number, is) other =
+      let read = delay_line (rfc.Delay number) (body ++ lf ∷ []) is in
+      none_by Delay (read.source ∷ []) read.is_line (
+        delay_source number read.source
+            (ap (λ (parts : Parts). parts.ungrouped) (read.written (parts_of [] []))),
+        tt,
+      )
+  no_rule Delay (rfc.Allow pattern, is) other = absurd is
+  no_rule Delay (rfc.Disallow pattern, is) other = absurd is
+  no_rule shape.Sitemap (address, is) other = none_by shape.Sitemap _ (sitemap_line address _ is) (tt, tt)
+  no_rule Other is other = none_by Other [] (other_line _ is) tt
+
+allowed_fine : (text value : List ℕ) → IsFine text → IsFineMember (allowed_in text value)
+allowed_fine [] [] fine = fine
+allowed_fine [] (b ∷ value) fine = fine
+allowed_fine (b ∷ text) value fine = fine
+
+rule_fine : (line : LineValue) (text : List ℕ) → IsFine text → IsFineMember (member_in line text)
+rule_fine (Allow value) text fine = allowed_fine text value fine
+rule_fine (Disallow value) text fine = fine
+rule_fine _ text fine = tt
+
+other_fine : (line : LineValue) (text : List ℕ) → IsNoRule line → IsFineMember (member_in line text)
+other_fine (Allow value) text none = absurd none
+other_fine (Disallow value) text none = absurd none
+other_fine _ text none = tt
+
+source_fine : (form : Form) (body : List ℕ) → Each IsBodyByte body → HasForm form body → is_apart body ≡ false
+    → IsFineMember (member_in (line_of body) (written body))
+unfolding written
+source_fine form body bytes is near = elim (cases_Bool (has_form shape.Rule body)) [
+  | inl rule ↦
+      let fine = and_parts (is_plain_path (value_in body)) _ (not-false _ (rw rule at near)) in
+      rule_fine (line_of body) (value_in body) (record {
+        plain = fine.0;
+        written = fine.1;
+        is_pattern = (and_parts _ (is_pattern (value_in body)) rule).1;
+      })
+  | inr isnt ↦
+      other_fine (line_of body) (value_in body) (no_rule body bytes form is
+      (λ e. both_ways (has_form shape.Rule body) isnt
+      (subst (λ f. has_form f body ≡ true) e (form_tested body bytes form is))))
+]
+
+abbrev IsFineSource : Source → Type 0
+IsFineSource source = IsFineMember (member_in source.0 source.1)
+
+sources_fine : (forms : List Form) (bodies : List (List ℕ)) (number : ℕ) → Each (Each IsBodyByte) bodies
+    → AllZip HasForm forms bodies → position_from is_apart number bodies ≡ None
+    → Each IsFineSource (map source_of bodies)
+sources_fine [] [] number bytes each near = tt
+sources_fine [] (body ∷ bodies) number bytes each near = absurd each
+sources_fine (form ∷ forms) [] number bytes each near = absurd each
+sources_fine (form ∷ forms) (body ∷ bodies) number (here, bytes) (is, each) near =
+    let (test, later) = first (is_apart body) (position_from is_apart (number + 1) bodies) near in
+    (source_fine form body here is test, sources_fine forms bodies (number + 1) bytes each later)
+  where
+    first : (test : Bool) (later : Option ℕ) → (if test then Some number else later) ≡ None
+        → (test ≡ false) × (later ≡ None)
+    first false later none = (refl, none)
+    first true later none = absurd cc
+
+abbrev HaveFine : List rfc.Group → Type 0
+HaveFine groups = Each (λ (group : rfc.Group). Each IsFineMember group.members) groups
+
+put_fine : (tokens : List (List ℕ)) (members : List rfc.Member) (groups : List rfc.Group)
+    → Each IsFineMember members → HaveFine groups → HaveFine (rfc.put_before tokens members groups)
+put_fine tokens [] [] above below = (tt, tt)
+put_fine tokens [] (next ∷ later) above below = below
+put_fine tokens (member ∷ members) groups above below = (above, below)
+
+parts_fine : (sources : List Source) → Each IsFineSource sources
+    → Each IsFineMember (parts_in sources).ungrouped × HaveFine (parts_in sources).groups
+parts_fine [] all = (tt, tt)
+parts_fine ((UserAgent token, text) ∷ sources) (here, all) =
+    let (above, below) = parts_fine sources all in (tt, put_fine (token ∷ []) _ _ above below)
+parts_fine ((Allow value, text) ∷ sources) (here, all) =
+    let (above, below) = parts_fine sources all in ((here, above), below)
+parts_fine ((Disallow value, text) ∷ sources) (here, all) =
+    let (above, below) = parts_fine sources all in ((here, above), below)
+parts_fine ((CrawlDelay delay, text) ∷ sources) (here, all) =
+    let (above, below) = parts_fine sources all in ((here, above), below)
+parts_fine ((_, text) ∷ sources) (here, all) = parts_fine sources all
+
+each_filter : {X : Type 0} (P : X → Type 0) (test : X → Bool) (xs : List X) → Each P xs
+    → Each P (filter test xs)
+each_filter P test [] all = tt
+each_filter P test (x ∷ xs) all = grind (arith, each_filter P test xs all.1)
+
+members_fine : (groups : List rfc.Group) → HaveFine groups
+    → Each IsFineMember (flat_map (λ group. group.members) groups)
+members_fine [] all = tt
+members_fine (group ∷ groups) (here, all) =
+    each_append IsFineMember group.members _ here (members_fine groups all)
+
+rules_fine : (agent : List ℕ) (groups : List rfc.Group) → HaveFine groups
+    → Each IsFineMember (rfc.rules_for agent groups)
+rules_fine agent groups all =
+    each_filter IsFineMember rfc.is_rule _ (members_fine (rfc.groups_for agent groups)
+    (by (list_any (rfc.has_token agent) groups)))
+  where
+    by : (named : Bool) → HaveFine (if named then filter (rfc.has_token agent) groups
+        else filter (rfc.has_token (codes "*")) groups)
+    by true = each_filter _ (rfc.has_token agent) groups all
+    by false = each_filter _ (rfc.has_token (codes "*")) groups all
+
+raw_parts : (sources : List Source) → parts_in (filter is_not_raw sources) ≡ parts_in sources
+raw_parts [] = refl
+raw_parts ((Raw body, text) ∷ sources) = raw_parts sources
+raw_parts ((line, text) ∷ sources) = ap (with_source (line, text)) (raw_parts sources)
+
+-- ---- delays
+
+abbrev below : List (List ℕ) → List Source → List rfc.Group
+below tokens sources = rfc.put_before tokens (parts_in sources).ungrouped (parts_in sources).groups
+
+below_token : (tokens : List (List ℕ)) (token text : List ℕ) (sources : List Source)
+    → below tokens ((UserAgent token, text) ∷ sources) ≡ below (tokens ++ token ∷ []) sources
+below_token tokens token text sources = put_both tokens (token ∷ []) _ _
+
+rule_allowed : (text value : List ℕ) → rfc.is_rule (allowed_in text value) ≡ true
+rule_allowed [] [] = refl
+rule_allowed [] (b ∷ value) = refl
+rule_allowed (b ∷ text) value = refl
+
+abbrev are_bare : List rfc.Group → Bool
+are_bare groups = list_all (λ (group : rfc.Group). not (has_rule group.members)) groups
+
+bare_unsplit : (tokens : List (List ℕ)) (groups : List rfc.Group) → are_bare groups ≡ true
+    → is_unsplit tokens groups ≡ true
+bare_unsplit tokens [] bare = refl
+bare_unsplit tokens (group ∷ groups) bare =
+    let (none, later) = and_parts (not (has_rule group.members)) (are_bare groups) bare in
+    rw (not-true _ none) (bare_unsplit (tokens ++ group.tokens) groups later)
+
+bare_after : (rule : Bool) (tokens : List (List ℕ)) (groups : List rfc.Group) → are_bare groups ≡ true
+    → ((not rule || true) && is_unsplit (if rule then [] else tokens) groups) ≡ true
+bare_after true tokens groups bare = bare_unsplit [] groups bare
+bare_after false tokens groups bare = bare_unsplit tokens groups bare
+
+bare_parts : (tokens : List (List ℕ)) (members : List rfc.Member) (groups : List rfc.Group)
+    → are_bare (rfc.put_before tokens members groups) ≡ true
+    → (has_rule members ≡ false) × (are_bare groups ≡ true)
+bare_parts tokens [] [] bare = (refl, refl)
+bare_parts tokens [] (next ∷ later) bare = (refl, bare)
+bare_parts tokens (member ∷ members) groups bare =
+    let (none, later) = and_parts (not (has_rule (member ∷ members))) (are_bare groups) bare in
+    (not-true _ none, later)
+
+-- what is so of the groups below a line, if no rule there is below groups that are split
+abbrev Holds : Above → List Source → Type 0
+Holds over.Rule sources = is_unsplit [] (parts_in sources).groups ≡ true
+Holds over.Agent sources = (tokens : List (List ℕ)) → is_unsplit [] (below tokens sources) ≡ true
+Holds over.Delay sources =
+    ((has_rule (parts_in sources).ungrouped ≡ true) × (is_unsplit [] (parts_in sources).groups ≡ true))
+    ⊎ (are_bare (parts_in sources).groups ≡ true)
+Holds over.Split sources = (tokens : List (List ℕ)) → are_bare (below tokens sources) ≡ true
+
+after_delay : (number : List ℕ) (sources : List Source) → Holds over.Delay sources → (tokens : List (List ℕ))
+    → is_unsplit [] (rfc.put_before tokens (rfc.Delay number ∷ (parts_in sources).ungrouped)
+    (parts_in sources).groups) ≡ true
+after_delay number sources (inl (rule, whole)) tokens = rw rule whole
+after_delay number sources (inr bare) tokens =
+    bare_after (has_rule (parts_in sources).ungrouped) tokens (parts_in sources).groups bare
+
+unsplit : (above : Above) (number : ℕ) (sources : List Source)
+    → first_split above number (lines_in sources) ≡ None → Holds above sources
+unsplit over.Rule number [] none = refl
+unsplit over.Agent number [] none = λ tokens. refl
+unsplit over.Delay number [] none = inr refl
+unsplit over.Split number [] none = λ tokens. refl
+unsplit over.Rule number ((UserAgent token, text) ∷ sources) none =
+    unsplit over.Agent (number + 1) sources none (token ∷ [])
+unsplit over.Agent number ((UserAgent token, text) ∷ sources) none =
+    λ tokens. subst (λ groups. is_unsplit [] groups ≡ true) (sym (below_token tokens token text sources))
+    (unsplit over.Agent (number + 1) sources none (tokens ++ token ∷ []))
+unsplit over.Delay number ((UserAgent token, text) ∷ sources) none =
+    inr (unsplit over.Split (number + 1) sources none (token ∷ []))
+unsplit over.Split number ((UserAgent token, text) ∷ sources) none =
+    λ tokens. subst (λ groups. are_bare groups ≡ true) (sym (below_token tokens token text sources))
+    (unsplit over.Split (number + 1) sources none (tokens ++ token ∷ []))
+unsplit over.Rule number ((Allow value, text) ∷ sources) none = unsplit over.Rule (number + 1) sources none
+unsplit over.Agent number ((Allow value, text) ∷ sources) none =
+    λ tokens. rw (rule_allowed text value) (unsplit over.Rule (number + 1) sources none)
+unsplit over.Delay number ((Allow value, text) ∷ sources) none =
+    inl (rw (rule_allowed text value) refl, unsplit over.Rule (number + 1) sources none)
+unsplit over.Split number ((Allow value, text) ∷ sources) none = absurd cc
+unsplit over.Rule number ((Disallow value, text) ∷ sources) none = unsplit over.Rule (number + 1) sources none
+unsplit over.Agent number ((Disallow value, text) ∷ sources) none =
+    λ tokens. unsplit over.Rule (number + 1) sources none
+unsplit over.Delay number ((Disallow value, text) ∷ sources) none =
+    inl (refl, unsplit over.Rule (number + 1) sources none)
+unsplit over.Split number ((Disallow value, text) ∷ sources) none = absurd cc
+unsplit over.Rule number ((CrawlDelay delay, text) ∷ sources) none =
+    unsplit over.Rule (number + 1) sources none
+unsplit over.Agent number ((CrawlDelay delay, text) ∷ sources) none =
+    after_delay text sources (unsplit over.Delay (number + 1) sources none)
+unsplit over.Delay number ((CrawlDelay delay, text) ∷ sources) none =
+    unsplit over.Delay (number + 1) sources none
+unsplit over.Split number ((CrawlDelay delay, text) ∷ sources) none =
+    λ tokens.
+    let (rule, bare) = bare_parts tokens (parts_in sources).ungrouped (parts_in sources).groups
+    (unsplit over.Split (number + 1) sources none tokens) in
+    rw (rule, bare) refl
+unsplit over.Rule number ((Sitemap value, text) ∷ sources) none = unsplit over.Rule (number + 1) sources none
+unsplit over.Agent number ((Sitemap value, text) ∷ sources) none =
+    unsplit over.Agent (number + 1) sources none
+unsplit over.Delay number ((Sitemap value, text) ∷ sources) none =
+    unsplit over.Delay (number + 1) sources none
+unsplit over.Split number ((Sitemap value, text) ∷ sources) none =
+    unsplit over.Split (number + 1) sources none
+unsplit over.Rule number ((Raw body, text) ∷ sources) none = unsplit over.Rule (number + 1) sources none
+unsplit over.Agent number ((Raw body, text) ∷ sources) none = unsplit over.Agent (number + 1) sources none
+unsplit over.Delay number ((Raw body, text) ∷ sources) none = unsplit over.Delay (number + 1) sources none
+unsplit over.Split number ((Raw body, text) ∷ sources) none = unsplit over.Split (number + 1) sources none
+
+-- ---- an empty Disallow
+
+any_of : {X : Type 0} (test : X → Bool) (xs : List X) (x : X) → Contains xs x → test x ≡ true
+    → list_any test xs ≡ true
+any_of test [] x (k, low, at) is = absurd (omega arith)
+any_of test (y ∷ xs) x (zero, low, at) is = rw (at, is) refl
+any_of test (y ∷ xs) x (suc k, low, at) is =
+    grind (arith, common_steps, any_of test xs x (k, omega arith, at) is)
+
+none_denied : (rules : List PlacedRule) (placed : PlacedRule) → Contains rules placed
+    → denies_all placed ≡ true → first_denying rules ≡ None → ⊥
+none_denied [] placed (k, low, at) is none = omega arith
+none_denied (rule ∷ rules) placed (zero, low, at) is none = let e = rw (at, is) at none in cc
+none_denied (rule ∷ rules) placed (suc k, low, at) is none = elim (cases_Bool (denies_all rule)) [
+  | inl denies ↦ let e = rw denies at none in cc
+  | inr other ↦ none_denied rules placed (k, omega arith, at) is (rw other at none)
+]
+
+escaped_longer : (text : List ℕ) → length text ≤ length (escaped text)
+escaped_longer [] = omega arith
+escaped_longer (b ∷ text) = grind (arith, escaped_longer text)
+
+short_escape : (path : List ℕ) → length (escaped path) ≤ 3 * length path
+short_escape [] = omega arith
+short_escape (b ∷ path) = grind (arith, short_escape path)
+
+glyph_plain : (d : ℕ) → (digit_glyph true d == 36) ≡ false
+glyph_plain d = grind (arith, nat_tests)
+
+no_dollar : (path : List ℕ) → has_dollar path ≡ false → has_dollar (escaped path) ≡ false
+no_dollar [] none = refl
+no_dollar (b ∷ path) none = grind (arith, glyph_plain, no_dollar path)
+
+-- a rule that has a `$` ends with it, and so it is short
+fits : (path : List ℕ) → IsFine path → ¬ IsOverlong (escaped path)
+fits path fine (has, long) =
+    let (odd, more) = and_parts (not (list_any is_odd_octet (front_of path))) _ fine.plain in
+    let (even, dollar) = and_parts (not (has_odd_escape (front_of path))) _ more in
+    let (same, short) = and_parts (bytes_eq (trimmed path) path) _ fine.written in
+    by (ends_with nat_eq path (codes "$")) refl (not-true _ dollar) short
+  where
+    by : (ended : Bool) → ends_with nat_eq path (codes "$") ≡ ended → has_dollar (front_of path) ≡ false
+        → (not (ends_with nat_eq path (codes "$")) || nat_le (length path) 1365) ≡ true → ⊥
+    by true is none short =
+        let size : length path ≤ 1365 = leb-true (length path) 1365 (rw is at short) in
+        omega (arith, short_escape path, length_within (escaped path), long)
+    by false is none short =
+        let all : has_dollar path ≡ false = rw is at none in
+        both_ways (has_dollar (escaped path)) (no_dollar path all)
+        (any_of (λ b. b == 36) (escaped path) 36 has refl)
+
+root_fits : ¬ IsOverlong (codes "/")
+root_fits long = false≢true (any_of (λ b. b == 36) (codes "/") 36 long.0 refl)
+
+pattern_fits : (path value : List ℕ) (rule : Rule) → IsFine path → IsTrimOf value path
+    → rule.0 ≡ escaped value → ¬ IsOverlong rule.0
+pattern_fits path value rule fine trim same long =
+    let value_is : value ≡ path =
+    sym (is_trimmed path value trim) ∙ is_trimmed path path (fine_trim path fine) in
+    fits path fine (subst IsOverlong (same ∙ ap escaped value_is) long)
+
+read_fits : (member : rfc.Member) (rule : Rule) → IsFineMember member → IsReadAs member rule
+    → ¬ IsOverlong rule.0
+read_fits (rfc.Allow path) rule fine (value, trim, e) long =
+    pattern_fits path value rule fine trim (ap (λ (rule : Rule). rule.0) e) long
+read_fits (rfc.Disallow []) rule fine e long =
+    root_fits (subst IsOverlong (ap (λ (rule : Rule). rule.0) e) long)
+read_fits (rfc.Disallow (b ∷ path)) rule fine (value, trim, e) long =
+    pattern_fits (b ∷ path) value rule fine trim (ap (λ (rule : Rule). rule.0) e) long
+read_fits (rfc.Delay number) rule fine e long = absurd e
+
+none_long : (members : List rfc.Member) (rules : List Rule)
+    → ((member : rfc.Member) → Contains members member → IsFineMember member) → AllZip IsReadAs members rules
+    → ¬ Any (λ (rule : Rule). IsOverlong rule.0) rules
+none_long members rules fine zip (k, rule, below, at, long) =
+    let (member, has, as_read) = zip_has IsReadAs members rules rule zip (k, below, at) in
+    read_fits member rule (fine member has) as_read long
+
+both_none : (one other : Option ℕ) → option_or one other ≡ None → (one ≡ None) × (other ≡ None)
+both_none None other none = (refl, none)
+both_none (Some line) other none = absurd cc
+
+mixed_none : (agents : List (List ℕ)) (lines : List LineValue) → first_mixed_for agents lines ≡ None
+    → Each (λ agent. first_mixed (placed_rules agent lines) ≡ None) agents
+mixed_none [] lines none = tt
+mixed_none (agent ∷ agents) lines none =
+    let (here, later) =
+    both_none (first_mixed (placed_rules agent lines)) (first_mixed_for agents lines) none in
+    (here, mixed_none agents lines later)
+
+not_mixed : (rules : List PlacedRule) → first_mixed rules ≡ None → list_any allows_all rules ≡ true
+    → first_denying rules ≡ None
+not_mixed rules none is = rw is at none
+
+module _ (text : List ℕ) (near : line_apart text ≡ None) (groups : List rfc.Group)
+    (is : rfc.IsFile groups text) where
+  abbrev lines : List LineValue
+  lines = file_lines text
+
+  abbrev sources : List Source
+  sources = map source_of (file_bodies text)
+
+  reasons : (position_from is_apart 1 (file_bodies text) ≡ None) × (first_split over.Rule 1 lines ≡ None)
+      × (first_mixed_for (codes "*" ∷ agents_in lines) lines ≡ None)
+  unfolding line_apart
+  reasons =
+      let (apart, more) = both_none (position_from is_apart 1 (file_bodies text)) _ near in
+      let (split, mixed) = both_none (first_split over.Rule 1 lines) _ more in
+      (apart, split, mixed)
+
+  abbrev numbers : List (List ℕ)
+  numbers = (has_delays text groups is).0
+
+  abbrev read : FileRead numbers groups text
+  read = file_with text numbers groups (has_delays text groups is).1
+
+  groups_are : (parts_in sources).groups ≡ rfc.merged groups
+  groups_are =
+      ap (λ (parts : Parts). parts.groups) (sym (raw_parts sources)) ∙ groups_written text numbers groups read
+
+  abbrev members : List ℕ → List rfc.Member
+  members agent = rfc.rules_for agent (rfc.merged groups)
+
+  fine : (agent : List ℕ) (member : rfc.Member) → Contains (members agent) member → IsFineMember member
+  fine agent member has =
+      let (forms, are) = file_has_forms text groups is in
+      let all = sources_fine forms (file_bodies text) 1 (bodies_bytes (without_front (map nul_as_lf text)))
+      are.each reasons.0 in
+      each_contains IsFineMember (members agent) member
+      (rules_fine agent (rfc.merged groups) (subst HaveFine groups_are (parts_fine sources all).1)) has
+
+  lines_same : lines_in sources ≡ lines
+  lines_same = map-map (λ (source : Source). source.0) source_of (file_bodies text)
+
+  whole_groups : (agent : List ℕ) → members agent ≡ rfc.standard_rules agent groups
+  whole_groups agent =
+      rules_unsplit agent groups (subst (λ groups. is_unsplit [] groups ≡ true) groups_are
+      (unsplit over.Rule 1 sources (subst (λ lines. first_split over.Rule 1 lines ≡ None) (sym lines_same)
+      reasons.1)))
+
+  module _ (agent name : List ℕ) (listed : Contains (codes "*" ∷ agents_in lines) name)
+      (same : placed_rules agent lines ≡ placed_rules name lines) where
+    abbrev rules : List Rule
+    rules = rules_for agent lines
+
+    zip : AllZip IsReadAs (members agent) rules
+    zip = rules_read text agent numbers groups read
+
+    unmixed : first_mixed (placed_rules agent lines) ≡ None
+    unmixed =
+        subst (λ rules. first_mixed rules ≡ None) (sym same)
+        (each_contains (λ agent. first_mixed (placed_rules agent lines) ≡ None) (codes "*" ∷ agents_in lines)
+        name (mixed_none (codes "*" ∷ agents_in lines) lines reasons.2) listed)
+
+    -- no rule of this pattern is beside an Allow of everything
+    alone : (pattern : List ℕ) → Contains rules (codes "/", true) → Contains rules (pattern, false)
+        → is_all pattern ≡ true → ⊥
+    alone pattern has_allow has_deny all =
+        let (allow, there, one) = placed_of (placed_rules agent lines) (codes "/", true) has_allow in
+        let (deny, own, two) = placed_of (placed_rules agent lines) (pattern, false) has_deny in
+        none_denied (placed_rules agent lines) deny own (rw two all)
+        (not_mixed (placed_rules agent lines) unmixed
+        (any_of allows_all (placed_rules agent lines) allow there (rw one refl)))
+
+    empty_beside : Contains (members agent) (rfc.Disallow []) → (path : List ℕ)
+        → Contains (members agent) (rfc.Disallow path) → path ≢ [] → 1 < octets all_stay path
+    empty_beside empty [] listed some = absurd (some refl)
+    empty_beside empty (b ∷ c ∷ path) listed some =
+        let path_fine = fine agent (rfc.Disallow (b ∷ c ∷ path)) listed in
+        let size = octets_are all_stay (b ∷ c ∷ path) (b ∷ c ∷ path) (plain_compared _ path_fine.plain) in
+        let longer = escaped_longer (b ∷ c ∷ path) in
+        omega arith
+    empty_beside empty (b ∷ []) listed some =
+        let path_fine = fine agent (rfc.Disallow (b ∷ [])) listed in
+        let (allow, there, one) = zip_right (members agent) rules (rfc.Disallow []) zip empty in
+        let (deny, own, (value, trim, two)) =
+        zip_right (members agent) rules (rfc.Disallow (b ∷ [])) zip listed in
+        let value_is : value ≡ b ∷ [] =
+        sym (is_trimmed (b ∷ []) value trim) ∙ is_trimmed (b ∷ []) (b ∷ []) (fine_trim _ path_fine) in
+        absurd (alone (escaped (b ∷ [])) (subst (Contains rules) one there)
+        (subst (Contains rules) (two ∙ ap (λ v. (escaped v, false)) value_is) own)
+        (all_of b path_fine.is_pattern))
+      where
+        all_of : (b : ℕ) → is_pattern (b ∷ []) ≡ true → is_all (escaped (b ∷ [])) ≡ true
+        all_of b is = elim (or_cases (b == 47) (b == 42) (and_parts (b == 47 || b == 42) _ is).0) [
+          | inl slash ↦ rw (eqb-true b 47 slash) refl
+          | inr star ↦ rw (eqb-true b 42 star) refl
+        ]
+
+    pub verdict_is : (file uri : List ℕ) (robot : RobotValue) (answer : Bool) → take file_limit file ≡ text
+        → normal_uri all_stay uri ≡ uri → IsRobotOfFile agent text robot
+        → IsVerdict (unplaced robot.rules) uri answer
+        ↔ IsRfcVerdict all_stay (octets all_stay) (rfc.standard_rules agent groups) uri answer
+    unfolding normal_from
+    verdict_is file uri robot answer whole normal of =
+        let comparable : AreComparable all_stay (octets all_stay) (members agent) uri = record {
+          normal = normal;
+          robots = refl;
+          trimmed = λ path listed. elim listed [
+            | inl has ↦ fine_trim path (fine agent (rfc.Allow path) has)
+            | inr has ↦ fine_trim path (fine agent (rfc.Disallow path) has)
+          ];
+          fit = fit_by;
+          counted = λ path listed. refl;
+          empty = empty_beside;
+        } in
+        subst (λ rules. IsVerdict (unplaced robot.rules) uri answer
+        ↔ IsRfcVerdict all_stay (octets all_stay) rules uri answer) (whole_groups agent)
+        (robot_agrees all_stay (octets all_stay) agent file uri groups numbers robot answer
+        (subst (λ text. IsFileWith numbers groups text) (sym whole) (has_delays text groups is).1)
+        (subst (λ text. IsRobotOfFile agent text robot) (sym whole) of) comparable)
+      where
+        fit_by : (member : rfc.Member) → Contains (members agent) member
+            → IsFit all_stay (members agent) member
+        fit_by (rfc.Allow path) has = inl (plain_compared path (fine agent (rfc.Allow path) has).plain)
+        fit_by (rfc.Disallow path) has = inl (plain_compared path (fine agent (rfc.Disallow path) has).plain)
+        fit_by (rfc.Delay number) has = tt
+
+    pub accepted : ¬ IsFileRejected agent text
+    accepted rejected =
+        let (found, zipped, long) = rejected_as agent text groups is rejected in
+        none_long (members agent) found (fine agent) zipped long

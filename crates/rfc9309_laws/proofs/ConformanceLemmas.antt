@@ -1,0 +1,76 @@
+-- The tests of lines, as the code makes them.
+use Rattle.std.proofs.Common.{◌≡◌, ℕ, ◌+◌, ◌-◌, ◌==◌, ◌||◌, Bool, true, false, inl, inr, List, [], ◌∷◌}
+use Rattle.std.proofs.Common.{◌++◌, ap}
+use Rattle.std.proofs.Common.{arith, bytes_eq, drop, length, refl, reverse, suc, subst, sym, take, ◌∙◌}
+use Rattle.std.specs.{List.position_or_len}
+use Rattle.std.proofs.lemmas.{Bool.Decides.nat_tests, Bool.cases_Bool, List.length-drop}
+use Rattle.std.proofs.lemmas.{List.reverse-append}
+use Rattle.std.proofs.{lemmas.List.take_all}
+use Rattle.texting_robots.specs.Escape.{escaped, is_escaped}
+use Rattle.rfc9309_laws.specs.HasForm.{is_blank, kept_before, text_before, text_from, without_leading}
+use Rattle.rfc9309_laws.specs.HasForm.{without_trailing}
+use Rattle.rfc9309_laws.specs.Conformance.{is_all}
+
+module _ (stop : ℕ) where
+  abbrev place : List ℕ → ℕ
+  place text = position_or_len (λ b. b == stop) text
+
+  next_place : (text : List ℕ) → 1 + place text ≡ suc (place text)
+  next_place text = omega arith
+
+  pub before_place : (text : List ℕ) → text_before stop text ≡ take (place text) text
+  before_place [] = refl
+  before_place (b ∷ text) = elim (cases_Bool (b == stop)) [
+    | inl is ↦ rw is refl
+    | inr other ↦ rw (other, next_place text) (ap (λ t. b ∷ t) (before_place text))
+  ]
+
+  pub from_place : (text : List ℕ) → text_from stop text ≡ drop (place text) text
+  from_place [] = refl
+  from_place (b ∷ text) = elim (cases_Bool (b == stop)) [
+    | inl is ↦ rw is refl
+    | inr other ↦ rw (other, next_place text) (from_place text)
+  ]
+
+  pub from_whole : (text : List ℕ)
+      → take (length text - place text) (drop (place text) text) ≡ text_from stop text
+  from_whole text =
+      take_all (length text - place text) (drop (place text) text)
+      (omega (arith, length-drop (place text) text)) ∙ sym (from_place text)
+
+kept_some : (b c : ℕ) (text : List ℕ) → kept_before b (text ++ c ∷ []) ≡ b ∷ (text ++ c ∷ [])
+kept_some b c [] = refl
+kept_some b c (d ∷ text) = refl
+
+leading_last : (b : ℕ) (text : List ℕ)
+    → reverse (without_leading (text ++ b ∷ [])) ≡ kept_before b (reverse (without_leading text))
+leading_last b [] = grind arith
+leading_last b (c ∷ text) = elim (cases_Bool (is_blank c)) [
+  | inl is ↦ rw is (leading_last b text)
+  | inr other ↦
+      rw other (reverse-append (c ∷ text) (b ∷ []) ∙ sym (subst (λ t. kept_before b t ≡ b ∷ t)
+      (sym (reverse-append (c ∷ []) text)) (kept_some b c (reverse text))))
+]
+
+pub trailing_reversed : (text : List ℕ) → without_trailing text ≡ reverse (without_leading (reverse text))
+trailing_reversed [] = refl
+trailing_reversed (b ∷ text) =
+    ap (kept_before b) (trailing_reversed text) ∙ sym (leading_last b (reverse text))
+    ∙ ap (λ t. reverse (without_leading t)) (sym (reverse-append (b ∷ []) text))
+
+none_escaped : (text : List ℕ) → bytes_eq (escaped text) [] ≡ bytes_eq text []
+none_escaped [] = refl
+none_escaped (b ∷ text) = elim (cases_Bool (is_escaped b)) [
+  | inl is ↦ rw is refl
+  | inr other ↦ rw other refl
+]
+
+not_all : (b : ℕ) → is_escaped b ≡ true → ((b == 47) ≡ false) × ((b == 42) ≡ false)
+not_all b is = grind (arith, nat_tests)
+
+pub all_escaped : (value : List ℕ) → is_all (escaped value) ≡ is_all value
+all_escaped [] = refl
+all_escaped (b ∷ value) = elim (cases_Bool (is_escaped b)) [
+  | inl is ↦ let (slash, star) = not_all b is in rw (is, slash, star) refl
+  | inr other ↦ rw (other, none_escaped value) refl
+]

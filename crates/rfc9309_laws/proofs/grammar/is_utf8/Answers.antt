@@ -1,0 +1,10 @@
+use Rattle.std.proofs.{Common.sym, lemmas.Bool.false_from_ne_true, lemmas.Str.IsUtf8-from_is_utf8}
+use Rattle.std.proofs.{lemmas.Str.is_utf8-from_IsUtf8}
+use Rattle.rfc9309_laws.proofs.grammar.is_utf8.Goals as goal
+
+pub returns-in-Ok : goal.returns-in-Ok
+returns-in-Ok c = sym (is_utf8-from_IsUtf8 c.args.text.now c.in-Ok.ensures.cases.1)
+
+pub returns-in-Err : goal.returns-in-Err
+returns-in-Err c =
+    sym (false_from_ne_true _ (λ is. c.in-Err.ensures.cases.0 (IsUtf8-from_is_utf8 c.args.text.now is)))
