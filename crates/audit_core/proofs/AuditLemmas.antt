@@ -2,16 +2,16 @@
 use Rattle.std.proofs.Common.{◌≡◌, ℕ, ◌||◌, Bool, true, false, List, [], ◌∷◌, ◌++◌, ap, bytes_eq, not, refl}
 use Rattle.std.proofs.Common.{if◌then◌else◌, subst, sym, ⊎_elim, ◌∙◌, ◌+◌, ◌<◌, ◌==◌, arith, drop, flat_map}
 use Rattle.std.proofs.Common.{length, map, slice_index_or, zip, append_assoc, replicate, None, Option, take}
-use Rattle.std.specs.{BTreeSet.BTreeSet, List.AllByRecursion as Each, List.AllZip, List.enumerate_from}
+use Rattle.std.specs.{BTreeSet.BTreeSet, List.AllByRecursion as Each, List.AllZip}
 use Rattle.std.specs.Str.{is_utf8, str_to_ascii_lowercase}
 use Rattle.std.proofs.Math.{Bool.or-false}
 use Rattle.std.proofs.lemmas.Bool.{cases_Bool, Decides.nat_tests, Decides.Decides-eqb}
 use Rattle.std.proofs.lemmas.{Slice.Eq.bytes_eq-Decides, List.Elements.filter_map-append}
 use Rattle.std.proofs.lemmas.List.{append-nil, drop_more, replicate-append-replicate, map-append, take_more}
-use Rattle.texting_robots.specs.Callers.{label_by_value, sitemaps_in, IsDelayFor, IsRobotOfFile, placed_rules}
-use Rattle.texting_robots.specs.Callers.{AnswerAlike, PlacedRule, RobotValue, file_limit, group_name}
+use Rattle.texting_robots.specs.Callers.{label_by_value, sitemaps_in, IsDelayFor, placed_rules}
+use Rattle.texting_robots.specs.Callers.{AnswerAlike, IsRobotWithoutSitemaps, PlacedRule, RobotValue, file_limit, group_name}
 use Rattle.texting_robots.specs.Callers.{UserAgent, by_value, HasLines, LineValue, delay_for, lines_read}
-use Rattle.texting_robots.specs.{Agents.is_among, Labels.label_at, Executable.sitemap_in}
+use Rattle.texting_robots.specs.{Agents.is_among, Callers.bodies_read, Executable.sitemap_in}
 use Rattle.texting_robots.specs.declared.labels.{LabeledLine.LabeledLine}
 use Rattle.robots_warnings.specs.Internal.Names.{AddsName, Key}
 use Rattle.audit_core.specs.Internal.Agents.{AddsAgent, HasAgents, has_lowered}
@@ -19,7 +19,7 @@ use Rattle.robots_warnings.proofs.{ClosedLemmas.any_last}
 use Rattle.printable_text.specs.{Lines.ended}
 use Rattle.robots_warnings.specs.File.{lines_of, space, labels_for}
 use Rattle.audit_core.specs.Audit.{sitemap_at, IsRuling, IsVerdictOn, VerdictValue, agents_requested}
-use Rattle.texting_robots.proofs.{GivenLemmas.delay_is_computed}
+use Rattle.texting_robots.proofs.{GivenLemmas.delay_is_computed, LabelLemmas.labels_hold}
 use Rattle.texting_robots.proofs.MainTheoremLemmas.{answers_computed, lines_are_read, of_lines, read_robot}
 use Rattle.audit_core.specs.{Asked.asked_target}
 
@@ -134,23 +134,18 @@ zip_next R f items place item found next below are is =
     rw (take_more items place item below, map-append)
     (zip_push R (map f (take place items)) found (f (slice_index_or items place item)) next are is)
 
-lines_from : (name : List ℕ) (all lines : List LineValue) (n : ℕ)
-    → lines_of (map (label_at name all) (enumerate_from n lines)) ≡ lines
-lines_from name all [] n = refl
-lines_from name all (line ∷ lines) n = ap (λ t. line ∷ t) (lines_from name all lines (n + 1))
-
-pub lines_labeled : (agent : List ℕ) (lines : List LineValue) → lines_of (labels_for agent lines) ≡ lines
-lines_labeled agent lines = lines_from (group_name agent lines) lines lines 0
+pub lines_labeled : (agent file : List ℕ) → lines_of (labels_for agent file) ≡ lines_read file
+lines_labeled agent file = (labels_hold (group_name agent (lines_read file)) (bodies_read file)).0
 
 -- the crawlers requested, computed from labels, are those computed from the lines
-pub names_requested : (agents : List (List ℕ)) (labeling : List ℕ) (lines : List LineValue)
+pub names_requested : (agents : List (List ℕ)) (labeling file : List ℕ)
     (labels others : List LabeledLine) (names : List (List ℕ))
     → names ≡ agents_requested agents (lines_of (map label_by_value others)) → others ≡ labels
-    → map label_by_value labels ≡ labels_for labeling lines → names ≡ agents_requested agents lines
-names_requested agents labeling lines labels others names requested same are =
+    → map label_by_value labels ≡ labels_for labeling file → names ≡ agents_requested agents (lines_read file)
+names_requested agents labeling file labels others names requested same are =
     requested ∙ ap (λ labels. agents_requested agents (lines_of (map label_by_value labels))) same
     ∙ ap (λ labels. agents_requested agents (lines_of labels)) are
-    ∙ ap (agents_requested agents) (lines_labeled labeling lines)
+    ∙ ap (agents_requested agents) (lines_labeled labeling file)
 
 verdicts_like : (rules others : List PlacedRule) → AnswerAlike rules others
     → (urls : List (List ℕ)) (verdicts : List VerdictValue) → AllZip (IsVerdictOn rules) urls verdicts
@@ -171,11 +166,11 @@ verdicts_like rules others alike (url ∷ urls) (verdict ∷ verdicts) (first, l
     )
 
 pub ruling_made : (urls : List (List ℕ)) (file agent : List ℕ) (robot : RobotValue)
-    (verdicts : List VerdictValue) → IsRobotOfFile agent (take file_limit file) robot
+    (verdicts : List VerdictValue) → IsRobotWithoutSitemaps agent (take file_limit file) robot
     → AllZip (IsVerdictOn robot.rules) urls verdicts → IsRuling urls (lines_read file) agent None verdicts
 ruling_made urls file agent robot verdicts of are =
     let lines = lines_read file in
-    let is = read_robot agent file robot of in
+    let is = read_robot agent file _ of.2 in
     let alike = answers_computed agent lines robot.rules is.rules in
     (is.accepted, verdicts_like robot.rules (placed_rules agent lines) alike urls verdicts are)
 

@@ -119,7 +119,6 @@ pub record AreOfSitemaps (lines : List LineValue) (labels : List Label) (found :
         ≡ flat_map sitemap_warning (zip (map (λ sitemap. sitemap.0) (sitemaps_asked lines labels)) verdicts)
 
 pub record AuditValue : Type 0 where
-  pub bytes : List ℕ
   pub labels : List Label
   pub agents : List AgentValue
   pub warnings : List WarningValue
@@ -131,7 +130,7 @@ labeling_agent (Some agent) = agent
 labeling_agent None = codes "*"
 
 abbrev pub labels_requested : RequestValue → List ℕ → List Label
-labels_requested requested file = labels_for (labeling_agent requested.agent) (lines_read file)
+labels_requested requested file = labels_for (labeling_agent requested.agent) file
 
 -- all warnings about the file and the request, then those about needless rules, and those about sitemaps
 abbrev pub warnings_found : RequestValue → List ℕ → List Label → List NeedlessRule → List WarningValue
@@ -160,7 +159,6 @@ pub record IsAuditOf (requested : RequestValue) (file : List ℕ) (audit : Audit
   pub too_large : is_too_large file ≡ true → needless ≡ []
   pub sitemaps : List WarningValue
   pub sitemaps_are : AreOfSitemaps (lines_read file) (labels_requested requested file) sitemaps
-  pub bytes_are : audit.bytes ≡ take file_limit file
   pub labels_are : audit.labels ≡ labels_requested requested file
   pub agents_are : AllZip (IsAgentAudit requested.urls (lines_read file))
       (agents_requested requested.agents (lines_read file)) audit.agents

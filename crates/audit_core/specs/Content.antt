@@ -1,6 +1,5 @@
 -- What can't be a robots.txt file: a side of a comparison, and what expectations are checked against.
 use Rattle.std.specs.Prelude.{◌≡◌, ◌⊎◌, ℕ, List, Option, Some, None, codes, if◌then◌else◌}
-use Rattle.texting_robots.specs.{Callers.lines_read}
 use Rattle.robots_warnings.specs.{declared.facts.FileFacts.FileFacts, Facts.facts_of, File.labels_for}
 use Rattle.audit_core.specs.declared.fault.Fault.{Fault, TheVariants.Memory}
 use Rattle.audit_core.specs.{declared.fault.Flaw.Flaw, Fault.IsArgument}
@@ -13,7 +12,7 @@ flaw_of facts =
     else if facts.is_utf_16 then Some Utf16 else if facts.is_other_text then Some NoDirectives else None
 
 abbrev pub content_flaw : List ℕ → Option Flaw
-content_flaw file = flaw_of (facts_of file (labels_for (codes "*") (lines_read file)))
+content_flaw file = flaw_of (facts_of file (labels_for (codes "*") file))
 
 -- the error shows the name of the file, and what is wrong with it, or an allocation failed
 abbrev pub IsContentFault : List ℕ → List ℕ → Fault → Type 0

@@ -1,6 +1,6 @@
 -- The rows of a report: one for each line of the file.
 use Rattle.std.specs.Prelude.{ℕ, ◌==◌, Bool, true, false, not, List, [], ◌∷◌, Some, None, codes, decimal, map}
-use Rattle.std.specs.Prelude.{if◌then◌else◌, is_some, length, zip}
+use Rattle.std.specs.Prelude.{if◌then◌else◌, is_some, length}
 use Rattle.std.proofs.{Common.refl}
 use Rattle.texting_robots.specs.{Callers.Allow, declared.labels.Membership.Membership}
 use Rattle.texting_robots.specs.Callers.{CrawlDelay, Disallow, LineValue, Label, Raw, Sitemap, UserAgent}
@@ -71,16 +71,16 @@ abbrev pub comment_part : List ℕ → PartValue
 comment_part comment =
     if length comment == 0 then Absent else Part (label (codes "  ") refl) (Untrusted comment)
 
--- the number, the mark, the directive, the value and the comment of a line with this content
-abbrev pub row : ℕ → List ℕ × Label → ReportLine
-row width (body, labeled) =
+-- the number, the mark, the directive, the value and the comment of a line
+abbrev pub row : ℕ → Label → ReportLine
+row width labeled =
     line_from (Aligned width labeled.number) refl
     (Part (label (codes " ") refl) (mark_of labeled.membership) ∷ only (codes " ") refl
-    ∷ kind_part (has_value labeled.line) labeled.line ∷ comment_part (comment_of labeled.line body) ∷ [])
+    ∷ kind_part (has_value labeled.line) labeled.line ∷ comment_part (comment_of labeled.line labeled.body) ∷ [])
 
 -- a row for each line, the numbers right-aligned
-abbrev pub rows : List (List ℕ) → List Label → List ReportLine
-rows bodies labels = map (row (length (decimal (length labels)))) (zip bodies labels)
+abbrev pub rows : List Label → List ReportLine
+rows labels = map (row (length (decimal (length labels)))) labels
 
 abbrev pub membership_value : Membership → Value
 membership_value Own = word (codes "own") refl

@@ -22,15 +22,14 @@ use rfc9309_laws::conformance::{Conformance, conformance_of};
 use robots_needless::needless::NeedlessRule;
 use robots_warnings::closed::{Reach, reach_of};
 use robots_warnings::facts::{FileFacts, facts_of};
-use robots_warnings::file::{counted, labels_for};
+use robots_warnings::file::labels_for;
 use robots_warnings::warning::Warning;
 use robots_warnings::warnings::{FileRead, warnings};
 use std::alloc::{AllocError, Global};
 use std::marker::Model;
-use texting_robots::labels::{LabeledLine, first_overlong_line};
+use texting_robots::labels::LabeledLine;
 use texting_robots::robot::Decision;
-use texting_robots::site::SiteRule;
-use texting_robots::{Error, Robot, Site};
+use texting_robots::{Rejection, Robot, Site};
 
 #[derive(Drop)]
 pub struct Verdict<'a> {
@@ -78,7 +77,6 @@ impl<'a> Model for AgentAudit<'a> {
 /// The audit of a file.
 #[derive(Drop)]
 pub struct Audit<'a> {
-    pub bytes: &'a [u8],
     pub labels: Vec<LabeledLine<'a>>,
     pub agents: Vec<AgentAudit<'a>>,
     pub warnings: Vec<Warning<'a>>,
@@ -107,13 +105,10 @@ pub fn read_for(alloc: Global, agent: &str, file: &[u8], site: &Site) -> Result<
     ensures ok { IfOk result (IsReading agent.now file.now) }
     ensures fault { IfErr result (λ fault. fault ≡ Fault.Memory) }
 {
-    match site.robot(alloc, agent) {
+    match site.robot_without_sitemaps(alloc, agent) {
         Ok(robot) => Ok(Reading::Accepted(robot)),
-        Err(Error::InvalidRule) => match first_overlong_line(alloc, agent, counted(file))? {
-            Some(line) => Ok(Reading::Rejected(line)),
-            None => unreachable!(),
-        },
-        Err(Error::Memory | Error::InvalidRobots) => Err(Fault::Memory),
+        Err(Rejection::Overlong(line)) => Ok(Reading::Rejected(line)),
+        Err(Rejection::Memory) => Err(Fault::Memory),
     }
 }
 
@@ -152,11 +147,10 @@ pub(crate) fn ruling<'a>(
     }
 }
 
-fn rule_count(alloc: Global, site: &Site, agent: &str) -> Result<usize, AllocError>
-    ensures { IfOk result (λ count. count ≡ length (placed_rules agent.now (file_lines site.now))) }
+fn rule_count(site: &Site, agent: &str) -> usize
+    ensures { result ≡ length (placed_rules agent.now (file_lines site.now)) }
 {
-    let rules: Vec<SiteRule<'_>> = site.rules(agent).collect(alloc)?;
-    Ok(rules.len())
+    site.rules(agent).count()
 }
 
 /// What the file means for one crawler. The labels are those of the file's lines.
@@ -174,7 +168,7 @@ pub fn agent_audit<'a>(
         agent.now audit) }
     ensures fault { IfErr result (λ fault. fault ≡ Fault.Memory) }
 {
-    let rules = rule_count(alloc, site, agent)?;
+    let rules = rule_count(site, agent);
     let reach = reach_of(alloc, site, agent)?;
     let (rejected, verdicts) = ruling(alloc, agent, file, site, urls)?;
     Ok(AgentAudit {
@@ -292,7 +286,6 @@ pub fn audit_of<'a>(
     let syntax = conformance_of(alloc, file, &site)?;
     choose(&request.only, &request.ignored, &mut warnings);
     Ok(Audit {
-        bytes: counted(file),
         labels,
         agents,
         warnings,

@@ -1,6 +1,6 @@
 //! The rows of a report: one for each line of the file.
 ghost use Rattle.std.specs.Prelude.{◌≡◌, ◌++◌, ◌∷◌, [], OnOk, decimal, length, map, string_bytes};
-ghost use Rattle.texting_robots.specs.Callers.{by_value, file_bodies, label_by_value};
+ghost use Rattle.texting_robots.specs.Callers.{by_value, label_by_value};
 ghost use Rattle.printable_text.specs.Raw.{raw_value};
 ghost use Rattle.printable_text.specs.Text.{Aligned, blanks, part_text, value_text, written};
 ghost use Rattle.audit_core.specs.Rows.{comment_of, comment_part, has_value, kind_part, kind_text, line_value};
@@ -14,7 +14,7 @@ use robots_warnings::contents::split_content;
 use robots_warnings::file::is_blank;
 use std::alloc::AllocError;
 use texting_robots::labels::{LabeledLine, Membership};
-use texting_robots::parser::{Line, file_bodies};
+use texting_robots::parser::Line;
 
 /// The longest directive is followed by a space.
 const WORD_WIDTH: usize = 12;
@@ -139,14 +139,9 @@ fn push_comment(text: &mut String, comment: &[u8]) -> Result<(), AllocError>
     push_parts(text, &[Part("  ", Value::Untrusted(comment))])
 }
 
-fn push_row(
-    text: &mut String,
-    width: usize,
-    labeled: &LabeledLine<'_>,
-    body: &[u8],
-) -> Result<(), AllocError>
+fn push_row(text: &mut String, width: usize, labeled: &LabeledLine<'_>) -> Result<(), AllocError>
     ensures { OnOk result (string_bytes text.new ≡ string_bytes text.old
-        ++ written (row width (body.now, label_by_value labeled.now) ∷ [])) }
+        ++ written (row width (label_by_value labeled.now) ∷ [])) }
 {
     push_aligned(text, width, labeled.number)?;
     push_parts(
@@ -157,7 +152,7 @@ fn push_row(
         ],
     )?;
     push_kind(text, labeled.line)?;
-    push_comment(text, comment_of(labeled.line, body))?;
+    push_comment(text, comment_of(labeled.line, labeled.body))?;
     text.push('\n')
 }
 
@@ -167,23 +162,14 @@ fn digits(number: usize) -> usize
     Buffer::new().format(number).len()
 }
 
-/// Appends a row for each line of the file with these bytes.
-pub fn push_rows(
-    text: &mut String,
-    bytes: &[u8],
-    labels: &[LabeledLine<'_>],
-) -> Result<(), AllocError>
+/// Appends a row for each of these lines.
+pub fn push_rows(text: &mut String, labels: &[LabeledLine<'_>]) -> Result<(), AllocError>
     ensures { OnOk result (string_bytes text.new ≡ string_bytes text.old
-        ++ written (rows (file_bodies bytes.now) (map label_by_value labels.now))) }
+        ++ written (rows (map label_by_value labels.now))) }
 {
     let width = digits(labels.len());
-    let mut rest = labels;
-    for body in file_bodies(bytes) {
-        let [labeled, after @ ..] = rest else {
-            return Ok(());
-        };
-        push_row(text, width, labeled, body)?;
-        rest = after;
+    for labeled in labels {
+        push_row(text, width, labeled)?;
     }
     Ok(())
 }

@@ -7,7 +7,7 @@ use Rattle.audit_expect.specs.Expect.{parts, with_byte, ExpectationValue, expect
 use Rattle.audit_expect.specs.Internal.Expectations.{HasNone, IsFirstSeparator, expectation_value}
 use Rattle.std.specs.{List.AllByRecursion as Each}
 use Rattle.std.proofs.lemmas.List.{length-map, map-append, take_more, Elements.filter-append}
-use Rattle.texting_robots.specs.Callers.{IsRejected, IsRobotOfFile, RobotValue, file_limit, lines_read}
+use Rattle.texting_robots.specs.Callers.{IsRejected, IsRobotWithoutSitemaps, RobotValue, file_limit, lines_read}
 use Rattle.texting_robots.specs.Callers.{placed_rules}
 use Rattle.texting_robots.specs.{Decision.IsDecisionOn, declared.decision.Decision.Decision}
 use Rattle.texting_robots.proofs.MainTheoremLemmas.{answers_computed, read_robot}
@@ -63,11 +63,11 @@ cut_nowhere separators text rest some none empty =
 -- ---- How expectations are checked, and the report on them.
 
 pub robot_found : (agent file target : List ℕ) (robot : RobotValue) (decision : Decision)
-    → IsRobotOfFile agent (take file_limit file) robot → IsDecisionOn robot.rules target decision
+    → IsRobotWithoutSitemaps agent (take file_limit file) robot → IsDecisionOn robot.rules target decision
     → (¬ IsRejected agent (lines_read file))
     × IsDecisionOn (placed_rules agent (lines_read file)) target decision
 robot_found agent file target robot decision of by =
-    let is = read_robot agent file robot of in
+    let is = read_robot agent file _ of.2 in
     let alike = answers_computed agent (lines_read file) robot.rules is.rules in (
       is.accepted,
       record {

@@ -1,6 +1,6 @@
 //! What a robots.txt file says about an expectation, here and at the crawler's vendor, and whether it fails.
 ghost use Rattle.std.specs.Prelude.{◌≡◌, IfErr, IfOk, take};
-ghost use Rattle.texting_robots.specs.Callers.{IsRobotOfFile, bodies_read, file_limit};
+ghost use Rattle.texting_robots.specs.Callers.{IsRobotWithoutSitemaps, bodies_read, file_limit};
 ghost use Rattle.audit_expect.specs.Expectations.{IsAtVendor, IsChecked, IsJudgmentOn, fails, fails_at};
 ghost use Rattle.audit_expect.specs.Expectations.{fails_at_vendor, fails_here, is_unexpected};
 ghost use Rattle.audit_core.specs.Internal.{IsReading};
@@ -56,7 +56,7 @@ fn decided_on(
     site: &Site,
     marks: &[bool],
 ) -> Result<Judgment, Fault>
-    requires robot { IsRobotOfFile agent.now (take file_limit file.now) robot.now }
+    requires robot { IsRobotWithoutSitemaps agent.now (take file_limit file.now) robot.now }
     requires site { site.now ≡ take file_limit file.now }
     requires marks { marks.now ≡ marks_of (bodies_read file.now) }
     ensures ok { IfOk result (IsJudgmentOn file.now agent.now url.now) }

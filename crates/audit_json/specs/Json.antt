@@ -3,7 +3,7 @@ use Rattle.std.specs.Prelude.{ℕ, Bool, true, List, [], ◌∷◌, ◌++◌, Op
 use Rattle.std.specs.Prelude.{◌==◌, length, map, option_map, zip}
 use Rattle.serde_json.specs.{Data.Data, View.items_of, Written.compact_text}
 use Rattle.serde_json.specs.Data.{array, boolean, member, no_members, null, number, object, string, unsigned}
-use Rattle.texting_robots.specs.Callers.{CrawlDelay, LineValue, Label, file_bodies, sitemaps_in}
+use Rattle.texting_robots.specs.Callers.{CrawlDelay, LineValue, Label, sitemaps_in}
 use Rattle.printable_text.specs.{Lines.lf, Text.level_word, Sanitize.sanitized}
 use Rattle.audit_core.specs.{declared.group.Group.Group, Audit.AgentValue, Audit.AuditValue, Texts.may_fetch}
 use Rattle.audit_core.specs.{Audit.VerdictValue}
@@ -67,16 +67,16 @@ value_json (CrawlDelay delay) = number_json delay
 value_json line = if has_value line then string (line_value_text line) else null
 
 -- the comment of a directive, its name, its membership, its number and its value
-abbrev pub line_json : List ℕ × Label → Data
-line_json (body, label) = object
-    (member (codes "comment") (text_json (comment_of label.line body))
+abbrev pub line_json : Label → Data
+line_json label = object
+    (member (codes "comment") (text_json (comment_of label.line label.body))
     (member (codes "kind") (string (kind_text label.line))
     (member (codes "membership") (string (membership_word label.membership))
     (member (codes "number") (number (unsigned label.number))
     (member (codes "value") (value_json label.line) no_members)))))
 
-abbrev pub rows_json : (has_rows : Bool) → List (List ℕ) → List Label → Data
-rows_json has_rows bodies labels = list_json line_json (if has_rows then zip bodies labels else [])
+abbrev pub rows_json : (has_rows : Bool) → List Label → Data
+rows_json has_rows labels = list_json line_json (if has_rows then labels else [])
 
 -- a finding: its level, the number of its line, its name and its message
 abbrev pub finding_json : FindingValue → Data
@@ -100,7 +100,7 @@ audit_json has_rows audit = object
     (member (codes "agents") (list_json agent_json audit.agents)
     (member (codes "has_rfc_9309_syntax") (known_json (has_syntax audit.syntax))
     (member (codes "has_rfc_9309_verdicts") (known_json (has_verdicts audit.syntax))
-    (member (codes "lines") (rows_json has_rows (file_bodies audit.bytes) audit.labels)
+    (member (codes "lines") (rows_json has_rows audit.labels)
     (member (codes "sitemaps") (list_json sanitized_json (sitemaps_in (lines_of audit.labels)))
     (member (codes "warnings") (list_json warning_json audit.warnings) no_members))))))
 

@@ -1,7 +1,7 @@
 //! The audit, or other findings, as one line of JSON.
 ghost use Rattle.std.specs.Prelude.{◌≡◌, false, IfOk, map, option_map, string_bytes};
 ghost use Rattle.serde_json.specs.{View.view, Written.has_float};
-ghost use Rattle.texting_robots.specs.Callers.{by_value, file_bodies, label_by_value, sitemaps_in};
+ghost use Rattle.texting_robots.specs.Callers.{by_value, label_by_value, sitemaps_in};
 ghost use Rattle.audit_json.specs.Json.{agent_json, audit_json, finding_json, findings_json};
 ghost use Rattle.audit_json.specs.Json.{findings_text, group_word, json_line, json_text};
 ghost use Rattle.audit_json.specs.Json.{known_json, line_json, list_json, number_json, rows_json, sanitized_json};
@@ -20,7 +20,7 @@ use robots_warnings::warning::{Warning, push_warning_text};
 use serde_json::{Value, json};
 use std::alloc::{AllocError, Global};
 use texting_robots::labels::LabeledLine;
-use texting_robots::parser::{Line, file_bodies};
+use texting_robots::parser::Line;
 
 /// A value with a JSON form.
 trait Json {
@@ -146,11 +146,11 @@ fn value_json(alloc: Global, line: Line<'_>) -> Result<Value, AllocError>
     }
 }
 
-fn line_json(alloc: Global, body: &[u8], labeled: &LabeledLine<'_>) -> Result<Value, AllocError>
-    ensures { IfOk result (λ value. view value ≡ line_json (body.now, label_by_value labeled.now)) }
+fn line_json(alloc: Global, labeled: &LabeledLine<'_>) -> Result<Value, AllocError>
+    ensures { IfOk result (λ value. view value ≡ line_json (label_by_value labeled.now)) }
 {
     json!(in alloc; {
-        "comment": text_json(alloc, comment_of(labeled.line, body))?,
+        "comment": text_json(alloc, comment_of(labeled.line, labeled.body))?,
         "kind": kind_text(labeled.line),
         "membership": membership_word(labeled.membership),
         "number": labeled.number,
@@ -222,26 +222,15 @@ fn sitemaps_json(alloc: Global, labels: &[LabeledLine<'_>]) -> Result<Value, All
     list_json(alloc, &sitemaps)
 }
 
-fn rows_json(
-    alloc: Global,
-    has_rows: bool,
-    bytes: &[u8],
-    labels: &[LabeledLine<'_>],
-) -> Result<Value, AllocError>
-    ensures { IfOk result (λ value. view value
-        ≡ rows_json has_rows (file_bodies bytes.now) (map label_by_value labels.now)) }
+fn rows_json(alloc: Global, has_rows: bool, labels: &[LabeledLine<'_>]) -> Result<Value, AllocError>
+    ensures { IfOk result (λ value. view value ≡ rows_json has_rows (map label_by_value labels.now)) }
 {
     let mut list = Vec::new(alloc);
     if !has_rows {
         return Ok(Value::Array(list));
     }
-    let mut rest = labels;
-    for body in file_bodies(bytes) {
-        let [labeled, after @ ..] = rest else {
-            return Ok(Value::Array(list));
-        };
-        list.push(line_json(alloc, body, labeled)?)?;
-        rest = after;
+    for labeled in labels {
+        list.push(line_json(alloc, labeled)?)?;
     }
     Ok(Value::Array(list))
 }
@@ -265,7 +254,7 @@ fn audit_json(alloc: Global, has_rows: bool, audit: &Audit<'_>) -> Result<Value,
         "agents": agents_json(alloc, &audit.agents)?,
         "has_rfc_9309_syntax": syntax,
         "has_rfc_9309_verdicts": verdicts,
-        "lines": rows_json(alloc, has_rows, audit.bytes, &audit.labels)?,
+        "lines": rows_json(alloc, has_rows, &audit.labels)?,
         "sitemaps": sitemaps_json(alloc, &audit.labels)?,
         "warnings": warnings_json(alloc, &audit.warnings)?,
     })

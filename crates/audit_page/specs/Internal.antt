@@ -2,14 +2,14 @@
 -- of warnings by line.
 use Rattle.std.specs.Prelude.{ℕ, List, [], ◌++◌, Option, Some, None, flat_map, slice_get}
 use Rattle.std.specs.{Global.Vec}
-use Rattle.texting_robots.specs.{Callers.label_by_value}
+use Rattle.texting_robots.specs.Callers.{Label, label_by_value}
 use Rattle.html_writer.specs.{Html.escaped}
 use Rattle.printable_text.specs.{Raw.raw_value, declared.parts.Part.Part}
 use Rattle.robots_warnings.specs.{declared.warning.Warning.Warning, Message.WarningValue}
-use Rattle.audit_page.specs.{Page.FileLineValue, declared.page.file.FileLine.TheInside.Inside}
+use Rattle.audit_page.specs.{declared.page.file.FileLine.TheInside.Inside}
 
-abbrev pub line_of : Inside → FileLineValue
-line_of line = (line.body.now, label_by_value line.label.now)
+abbrev pub line_of : Inside → Label
+line_of line = label_by_value line.label.now
 
 abbrev pub raw_part : Part → List ℕ
 raw_part part = part.0.now ++ escaped (raw_value part.1)

@@ -6,7 +6,7 @@ use Rattle.std.specs.Prelude.{◌≡◌, ℕ, zero, suc, ◌+◌, ◌-◌, ◌/�
 use Rattle.std.specs.Prelude.{[], ◌∷◌, ◌++◌, Option, Some, None, codes, drop, filter, if◌then◌else◌, length}
 use Rattle.std.specs.Prelude.{take, zip}
 use Rattle.std.proofs.{Common.refl, lemmas.Bool.and_parts}
-use Rattle.texting_robots.specs.Callers.{Label, LineValue, file_bodies, sitemaps_in}
+use Rattle.texting_robots.specs.Callers.{Label, LineValue, sitemaps_in}
 use Rattle.html_writer.specs.Html.{Html, tag_close}
 use Rattle.printable_text.specs.{Sanitize.ends_apart, Text.Untrusted, declared.level.Level.Level}
 use Rattle.printable_text.specs.Text.{Fixed, Named, Nothing, Number, Value, Word, fixed_level, is_fixed, word}
@@ -284,13 +284,6 @@ kind_value line =
     let both = and_parts (is_fixed kind.text) (ends_apart kind.text) kind.safe in
     Word (record { text = kind.text; safe = both.0 })
 
--- a line after its content
-abbrev pub FileLineValue : Type 0
-FileLineValue = List ℕ × Label
-
-abbrev pub file_lines : AuditValue → List FileLineValue
-file_lines audit = zip (file_bodies audit.bytes) audit.labels
-
 abbrev pub line_fields : Label → List Field
 line_fields label =
     field (codes "id") (labelled (codes "L") refl (Number label.number))
@@ -301,17 +294,17 @@ comment_text comment =
     if length comment == 0 then nothing else text (labelled (codes "  ") refl (Untrusted comment))
 
 -- whether the line is in the group, the name of its directive, and its value with a comment
-unfoldable pub line_cells : FileLineValue → Tree
-line_cells (body, label) =
+unfoldable pub line_cells : Label → Tree
+line_cells label =
     cell (shown (membership_value label.membership)) ⊕ cell (shown (kind_value label.line))
     ⊕ tag (codes "td") [] refl
-    (text (shown (line_value label.line)) ⊕ comment_text (comment_of label.line body))
+    (text (shown (line_value label.line)) ⊕ comment_text (comment_of label.line label.body))
 
 -- other parts link to the row; each cell is displayed from left to right, as the page is
-unfoldable pub line_row : FileLineValue → Tree
-line_row line =
-    tag (codes "tr") (line_fields line.1) refl
-    (row_name (text (shown (Number line.1.number))) ⊕ line_cells line)
+unfoldable pub line_row : Label → Tree
+line_row label =
+    tag (codes "tr") (line_fields label) refl
+    (row_name (text (shown (Number label.number))) ⊕ line_cells label)
 
 abbrev pub line_start : Label → List ℕ
 line_start label =
@@ -337,23 +330,23 @@ abbrev pub about_line : List WarningValue → ℕ → List WarningValue
 about_line warnings number = filter (λ (warning : WarningValue). is_at number warning.line) warnings
 
 -- a line and the warnings about it; `about` are those about the line with a number
-unfoldable pub line_part : (about : ℕ → List WarningValue) → FileLineValue → Tree
-line_part about line = line_row line ⊕ each warning_row (about line.1.number)
+unfoldable pub line_part : (about : ℕ → List WarningValue) → Label → Tree
+line_part about label = line_row label ⊕ each warning_row (about label.number)
 
 -- how many lines a body of the table has; a browser lays out later what isn't visible yet
 abbrev pub body_lines : ℕ
 body_lines = 500
 
 -- so many bodies, one after the other
-abbrev pub bodies_of : ℕ → List FileLineValue → List (List FileLineValue)
+abbrev pub bodies_of : ℕ → List Label → List (List Label)
 bodies_of zero lines = []
 bodies_of (suc more) lines = take body_lines lines ∷ bodies_of more (drop body_lines lines)
 
 -- the last body may have fewer lines
-abbrev pub bodies : List FileLineValue → List (List FileLineValue)
+abbrev pub bodies : List Label → List (List Label)
 bodies lines = bodies_of ((length lines + (body_lines - 1)) / body_lines) lines
 
-unfoldable pub line_body : (about : ℕ → List WarningValue) → List FileLineValue → Tree
+unfoldable pub line_body : (about : ℕ → List WarningValue) → List Label → Tree
 line_body about lines = tag (codes "tbody") [] refl (each (line_part about) lines)
 
 -- `agent` is the crawler whose group is marked
@@ -369,7 +362,7 @@ line_columns =
 unfoldable pub file_content : Option (List ℕ) → AuditValue → Tree
 file_content agent audit =
     file_caption (labeling_agent agent) ⊕ line_columns
-    ⊕ each (line_body (about_line audit.warnings)) (bodies (file_lines audit))
+    ⊕ each (line_body (about_line audit.warnings)) (bodies audit.labels)
 
 unfoldable pub file_table : Option (List ℕ) → AuditValue → Tree
 file_table agent audit =

@@ -11,7 +11,6 @@ use Rattle.audit_core.specs.{Counts.count_parts, declared.group.Group.Group, Row
 use Rattle.robots_warnings.specs.{declared.closed.Reach.Reach, declared.table.Cause.Cause, Table.level_of}
 use Rattle.audit_core.specs.Texts.{may_fetch, rejected_lines, delay_value, group_line}
 use Rattle.audit_core.specs.declared.group.Group.TheVariants.{Everyone, Named, Nobody, Star}
-use Rattle.texting_robots.specs.{Callers.file_bodies}
 use Rattle.audit_core.specs.Request.{RequestValue, has_rows}
 use Rattle.audit_text.specs.Joined.{also_parts, shared_lines}
 use Rattle.audit_text.specs.{Listed.listed, Listed.more, declared.listed.More.More}
@@ -118,7 +117,7 @@ agents_lines false agents = flat_map crawler_lines agents ++ flat_map named_verd
 -- a row for each line of the file if there are rows, the lines about each crawler, and those about syntax
 abbrev pub report_lines : RequestValue → AuditValue → List ReportLine
 report_lines requested audit =
-    (if has_rows requested then rows (file_bodies audit.bytes) audit.labels else [])
+    (if has_rows requested then rows audit.labels else [])
     ++ (agents_lines (is_some requested.agent) audit.agents ++ syntax_lines audit.syntax)
 
 abbrev pub numbers_line : (allowed denied : ℕ) → ReportLine

@@ -84,7 +84,7 @@ pub fn report_text(
 {
     let mut text = String::with_capacity(alloc, audit.labels.len())?;
     if request.has_rows() {
-        push_rows(&mut text, audit.bytes, &audit.labels)?;
+        push_rows(&mut text, &audit.labels)?;
     }
     push_agents(&mut text, request.agent.is_some(), &audit.agents)?;
     push_syntax(&mut text, audit.syntax)?;

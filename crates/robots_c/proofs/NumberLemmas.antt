@@ -2,19 +2,22 @@
 use Rattle.std.proofs.Common.{◌≡◌, ℕ, zero, suc, ◌+◌, ◌<◌, ◌≤◌, ◌^◌, Bool, true, false, List, [], ◌∷◌, ◌++◌}
 use Rattle.std.proofs.Common.{Option, Some, None, IfSome, arith, length, map, refl, slice_index_or, subst, ℤ}
 use Rattle.std.proofs.Common.{SFits, of_z, take, to_z, w64, ◌-◌, ◌∙◌, IsUtf8, ap, append-nil, drop, sym, ◌*◌}
-use Rattle.std.proofs.Common.{codes, cond, inl, inr}
-use Rattle.std.specs.{List.AllZip, List.All, List.list_any, Str.str_to_ascii_lowercase}
+use Rattle.std.proofs.Common.{Err, IfErr, Ok, Result, codes, cond, inl, inr}
+use Rattle.std.specs.{Result.IsErrAnd, List.AllZip, List.All, List.list_any, Str.str_to_ascii_lowercase}
 use Rattle.std.proofs.lemmas.{Int.to_z-of_z, Option.slice_get_within, Slice.Zip.AllZip-long}
 use Rattle.std.proofs.lemmas.List.{length-map, length-take, take_more, append_assoc, drop_more, length-append}
 use Rattle.std.proofs.lemmas.List.{length-replicate, map_push}
 use Rattle.texting_robots.specs.Callers.{HasLines, IsDecidingLine, IsRobotWithoutSitemaps, IsVerdict}
 use Rattle.texting_robots.specs.Callers.{LineValue, PlacedRule, RobotValue, file_limit, file_lines, nul_as_lf}
 use Rattle.texting_robots.specs.Callers.{lines_read, unplaced, IsCaptured, IsRejected, IsRobotOf, group_name}
-use Rattle.texting_robots.specs.Callers.{is_agent_named, is_named, prepared}
+use Rattle.texting_robots.specs.Callers.{IsRejectionOf, is_agent_named, is_named, prepared}
+use Rattle.texting_robots.specs.declared.error.Rejection.{Rejection}
+use Rattle.texting_robots.specs.declared.error.Rejection.TheVariants as rejection
 use Rattle.texting_robots.proofs.{MainTheoremLemmas.deciding_line_holds_its_rule, CountLemmas.lines_within}
 use Rattle.texting_robots.proofs.{LineLemmas.each_text_has_its_lines, SiteOwnLemmas.same_robot}
 use Rattle.texting_robots.proofs.MainTheoremLemmas.{no_line_allows, of_lines, read_robot, has_lines}
 use Rattle.robots_c.specs.{File.IsRobotOfSomeFile, File.IsSiteOfSomeFile, Status.IsWhyNoResult, Results.IsRow}
+use Rattle.robots_c.specs.Status.{IsWhyNoRobot, fault_of}
 use Rattle.robots_c.specs.Results.{IsResultOn, LinesFit, number_of, HasResult, AreRows, items_in, no_result}
 use Rattle.std.proofs.lemmas.List.Elements.{All-cons, All-head, All-tail}
 use Rattle.robots_c.specs.Batch.{Ascend, pieces}
@@ -39,6 +42,13 @@ one_more R xs at x ys y (below, here) are is =
 pub by_lines : (site : List ℕ) (P : List LineValue → Type 0) → HasLines site P → P (file_lines site)
 by_lines site P is =
     of_lines site P is (file_lines site) ((each_text_has_its_lines (map nul_as_lf site) _).1 refl)
+
+pub why_rejected : {X : Type 0} (r : Result X Fault) (agent site : List ℕ) (why : Rejection)
+    → IsErrAnd r (λ fault. fault ≡ fault_of why) → IsUtf8 agent → IsRejectionOf agent site why
+    → IfErr r (IsWhyNoRobot agent site)
+why_rejected (Ok x) agent site why same utf8 is = absurd same
+why_rejected (Err fault) agent site (rejection.Overlong line) same utf8 is = rw same (utf8, is.1)
+why_rejected (Err fault) agent site rejection.Memory same utf8 is = rw same utf8
 
 lines_counted : (text : List ℕ) → length (file_lines text) ≤ length text
 lines_counted text = omega (arith, lines_within (map nul_as_lf text), length-map text nul_as_lf)

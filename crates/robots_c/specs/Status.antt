@@ -6,7 +6,13 @@ use Rattle.texting_robots.specs.Callers.{cost_of, placed_rules, prepared, robots
 use Rattle.url.specs.declared.error.{ParseError.ParseError}
 use Rattle.robots_c.specs.{File.HasDelay, Results.items_in, declared.fault.Fault.Fault}
 use Rattle.robots_c.specs.declared.fault.Fault.TheVariants.{Memory, NoAddress, NoDelay, BufferTooSmall}
+use Rattle.texting_robots.specs.declared.error.Rejection.{Rejection}
+use Rattle.texting_robots.specs.declared.error.Rejection.TheVariants as rejection
 use Rattle.robots_c.specs.declared.fault.Fault.TheVariants.{InvalidEnds, NotUtf8, Overlong, TooCostly}
+
+abbrev pub fault_of : Rejection → Fault
+fault_of (rejection.Overlong line) = Overlong line
+fault_of rejection.Memory = Memory
 
 -- -1 to -8
 abbrev pub status_of : Fault → ℤ

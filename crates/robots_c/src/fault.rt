@@ -1,5 +1,6 @@
 //! The errors of the C functions.
 use std::alloc::{AllocError, AllocFailed};
+use texting_robots::Rejection;
 
 #[derive(Debug, PartialEq, Eq, Drop)]
 pub(crate) enum Fault {
@@ -69,5 +70,19 @@ impl<T: Drop> From<AllocFailed<T>> for Fault {
 
     fn from(_: AllocFailed<T>) -> Fault {
         Fault::Memory
+    }
+}
+
+impl From<Rejection> for Fault {
+    ghost use Rattle.std.specs.Prelude.{◌≡◌};
+    ghost use Rattle.robots_c.specs.Status.{fault_of};
+
+    ghost from_gives = { λ rejection fault. fault ≡ fault_of rejection };
+
+    fn from(rejection: Rejection) -> Fault {
+        match rejection {
+            Rejection::Overlong(line) => Fault::Overlong(line),
+            Rejection::Memory => Fault::Memory,
+        }
     }
 }

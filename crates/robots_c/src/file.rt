@@ -4,9 +4,7 @@ ghost use Rattle.robots_c.specs.File.{HasDelay, IsRobotFor, bytes_read};
 ghost use Rattle.robots_c.specs.Status.{IsWhyNoDelay, IsWhyNoDelayOf, IsWhyNoRobot};
 
 use crate::fault::Fault;
-use crate::overlong::first_overlong_line;
 use std::alloc::Global;
-use texting_robots::robot::FILE_LIMIT;
 use texting_robots::{Error, Robot, Site};
 
 pub(crate) fn text_of<'a>(bytes: &'a [u8]) -> Result<&'a str, Fault>
@@ -17,12 +15,6 @@ pub(crate) fn text_of<'a>(bytes: &'a [u8]) -> Result<&'a str, Fault>
         Ok(text) => Ok(text),
         Err(_) => Err(Fault::NotUtf8),
     }
-}
-
-fn bytes_read(file: &[u8]) -> &[u8]
-    ensures { result.now ≡ bytes_read file.now }
-{
-    &file[..FILE_LIMIT.min(file.len())]
 }
 
 /// The crawler's robot, without sitemaps.
@@ -36,11 +28,11 @@ pub(crate) fn robot_of(alloc: Global, agent: &[u8], file: &[u8]) -> Result<Robot
             robot.sitemaps = Vec::new(alloc);
             Ok(robot)
         }
-        Err(Error::InvalidRule) => Err(Fault::Overlong(first_overlong_line(
-            alloc,
-            agent,
-            bytes_read(file),
-        )?)),
+        // the robot of a site is rejected with the line
+        Err(Error::InvalidRule) => {
+            let site = Site::new(alloc, file)?;
+            Ok(site.robot_without_sitemaps(alloc, agent)?)
+        }
         Err(Error::Memory | Error::InvalidRobots) => Err(Fault::Memory),
     }
 }

@@ -24,7 +24,6 @@ mod file;
 mod handle;
 mod kept;
 mod matrix;
-mod overlong;
 mod response;
 mod shared;
 mod site;

@@ -12,7 +12,7 @@ use crate::file::text_of;
 use crate::shared::Shared;
 use crate::urls::{count_items, number_on, target_of};
 use std::alloc::{AllocError, Global};
-use texting_robots::{Error, Robot, Site};
+use texting_robots::{Rejection, Robot, Site};
 
 /// The number in the row of a crawler for which the file is rejected.
 pub(crate) const NO_RESULT: i64 = i64::MIN;
@@ -52,8 +52,8 @@ fn row_of(
             let row = results_on(alloc, &robot, targets)?;
             Ok(row)
         }
-        Err(Error::InvalidRule) => vec![in alloc; NO_RESULT; targets.len()],
-        Err(Error::Memory | Error::InvalidRobots) => Err(AllocError),
+        Err(Rejection::Overlong(_)) => vec![in alloc; NO_RESULT; targets.len()],
+        Err(Rejection::Memory) => Err(AllocError),
     }
 }
 

@@ -9,11 +9,10 @@ use crate::fault::Fault;
 use crate::file::{delay_in, text_of};
 use crate::handle::for_any_thread;
 use crate::kept::{Handle, Kept};
-use crate::overlong::first_overlong_line;
 use crate::shared::{HANDLE_BYTES, Shared};
 use crate::texts::{agents_in, put, sitemaps_in};
 use std::alloc::{AllocError, Global};
-use texting_robots::{Error, Robot, Site};
+use texting_robots::{Robot, Site};
 
 pub(crate) fn close(site: Handle<Shared<Site>>) {
     drop(site.into_box());
@@ -62,15 +61,8 @@ fn robot(alloc: Global, site: &Site, agent: &[u8]) -> Result<Box<Shared<Robot>>,
     ensures fault { IfErr result (IsWhyNoRobot agent.now site.now) }
 {
     let agent = text_of(agent)?;
-    match site.robot_without_sitemaps(alloc, agent) {
-        Ok(robot) => Ok(Shared::boxed(alloc, robot)?),
-        Err(Error::InvalidRule) => Err(Fault::Overlong(first_overlong_line(
-            alloc,
-            agent,
-            site.text(),
-        )?)),
-        Err(Error::Memory | Error::InvalidRobots) => Err(Fault::Memory),
-    }
+    let robot = site.robot_without_sitemaps(alloc, agent)?;
+    Ok(Shared::boxed(alloc, robot)?)
 }
 
 /// If that fails, the pointer is `at`, and the line of a rule that is too long is written.

@@ -8,7 +8,7 @@ use Rattle.std.proofs.Common.{suc, sym, zero, ◌∙◌, ◌<◌, Contains, Opti
 use Rattle.std.proofs.lemmas.{Grind.common_steps, Option.option_and_then_some, Option.same_Some}
 use Rattle.std.proofs.lemmas.Slice.Zip.{AllZip-left, AllZip-right}
 use Rattle.texting_robots.specs.Callers.{Allow, AreLabelsOf, Disallow, IsLineOf, Label, LineValue, lines_read}
-use Rattle.texting_robots.specs.Callers.{bodies_read, escaped, placed_rules, unplaced, AreRulesFor, IsDenied}
+use Rattle.texting_robots.specs.Callers.{bodies_in, bodies_read, escaped, placed_rules, unplaced, AreRulesFor, IsDenied}
 use Rattle.texting_robots.specs.Callers.{IsVerdict, Matches, PlacedRule, Rule}
 use Rattle.texting_robots.specs.Internal.Statement.{kind_by, kind_with, skip_blanks, statement_of, tail_as}
 use Rattle.texting_robots.proofs.StatementLemmas.{one_statement, statement_found}
@@ -100,61 +100,66 @@ left_at : {X Y : Type 0} (R : X → Y → Type 0) (xs : List X) (ys : List Y) (i
 left_at R xs ys i y all at =
     some_there (slice_get xs i) (λ x. R x y) (rw at at (AllZip-right R xs ys all i))
 
-abbrev IsFound : List Label → List (List ℕ) → ℕ → Type 0
-IsFound labels bodies number =
-    (i : ℕ) × (label : Label) × (body : List ℕ) × (slice_get labels i ≡ Some label)
-    × (slice_get bodies i ≡ Some body) × (label.number ≡ number) × (is_empty_disallow label.line body ≡ true)
+abbrev IsFound : List Label → ℕ → Type 0
+IsFound labels number = (i : ℕ) × (label : Label) × (slice_get labels i ≡ Some label)
+    × (label.number ≡ number) × (is_empty_disallow label.line label.body ≡ true)
 
-found_at : (labels : List Label) (bodies : List (List ℕ)) (number : ℕ)
-    → is_empty_at bodies labels number ≡ true → IsFound labels bodies number
-found_at labels [] number is = cc
-found_at [] (body ∷ bodies) number is = cc
-found_at (label ∷ labels) (body ∷ bodies) number is =
-    let here = is_empty_disallow label.line body && label.number == number in
-    elim (or_cases here (is_empty_at bodies labels number) is) [
+found_at : (labels : List Label) (number : ℕ) → is_empty_at labels number ≡ true → IsFound labels number
+found_at [] number is = cc
+found_at (label ∷ labels) number is =
+    let here = is_empty_disallow label.line label.body && label.number == number in
+    elim (or_cases here (is_empty_at labels number) is) [
       | inl first ↦
           let (empty, same) = and_parts _ _ first in
-          (0, label, body, refl, refl, eqb-true label.number number same, empty)
-      | inr later ↦
-          let (i, one, own, at, beside, same, empty) = found_at labels bodies number later in
-          (suc i, one, own, at, beside, same, empty)
+          (0, label, refl, eqb-true label.number number same, empty)
+      | inr later ↦ let (i, one, at, same, empty) = found_at labels number later in
+          (suc i, one, at, same, empty)
     ]
 
-at_found : (labels : List Label) (bodies : List (List ℕ)) (number i : ℕ) (label : Label) (body : List ℕ)
-    → slice_get labels i ≡ Some label → slice_get bodies i ≡ Some body → label.number ≡ number
-    → is_empty_disallow label.line body ≡ true → is_empty_at bodies labels number ≡ true
-at_found [] bodies number i label body at beside same empty = cc
-at_found (first ∷ labels) [] number i label body at beside same empty = cc
-at_found (first ∷ labels) (own ∷ bodies) number zero label body at beside same empty =
-    grind (arith, common_steps)
-at_found (first ∷ labels) (own ∷ bodies) number (suc i) label body at beside same empty =
-    grind (arith, or_right, at_found labels bodies number i label body at beside same empty)
+at_found : (labels : List Label) (number i : ℕ) (label : Label) → slice_get labels i ≡ Some label
+    → label.number ≡ number → is_empty_disallow label.line label.body ≡ true
+    → is_empty_at labels number ≡ true
+at_found [] number i label at same empty = cc
+at_found (first ∷ labels) number zero label at same empty = grind (arith, common_steps)
+at_found (first ∷ labels) number (suc i) label at same empty =
+    grind (arith, or_right, at_found labels number i label at same empty)
 
 pub zips : (file : List ℕ) → AllZip IsLineOf (lines_read file) (bodies_read file)
 zips file = search (rules, lines_of_file_bodies)
 
+body_at : (labels : List Label) (i : ℕ) (label : Label) → slice_get labels i ≡ Some label
+    → slice_get (bodies_in labels) i ≡ Some label.body
+body_at [] i label at = cc
+body_at (first ∷ labels) zero label at = cc
+body_at (first ∷ labels) (suc i) label at = body_at labels i label at
+
 pub empty_disallows : (name file : List ℕ) (labels : List Label) (number : ℕ)
-    → AreLabelsOf name (lines_read file) labels
-    → (is_empty_at (bodies_read file) labels number ≡ true) ↔ IsEmptyDisallow (bodies_read file) number
-empty_disallows name file labels number are = (
+    → AreLabelsOf name (lines_read file) labels → bodies_in labels ≡ bodies_read file
+    → (is_empty_at labels number ≡ true) ↔ IsEmptyDisallow (bodies_read file) number
+empty_disallows name file labels number are hold = (
   λ is.
-      let (i, label, body, at, beside, same, empty) = found_at labels bodies number is in
+      let (i, label, at, same, empty) = found_at labels number is in
       let (own, also, of_body) = right_at OfBody labels bodies i label pairs at in
+      let beside = there i label at in
       let one = same_Some _ _ (sym also ∙ beside) in (
         i,
-        body,
+        label.body,
         sym same ∙ (are.each i label at).0,
         beside,
-        empty_stated label.line body (subst (IsLineOf label.line) one of_body) empty,
+        empty_stated label.line label.body (subst (IsLineOf label.line) one of_body) empty,
       ),
   λ (i, body, is, beside, stated).
       let (label, at, of_body) = left_at OfBody labels bodies i body pairs beside in
-      at_found labels bodies number i label body at beside ((are.each i label at).0 ∙ sym is)
-      (empty_holds label.line body of_body stated),
+      let one = same_Some _ _ (sym beside ∙ there i label at) in
+      at_found labels number i label at ((are.each i label at).0 ∙ sym is)
+      (subst (λ body. is_empty_disallow label.line body ≡ true) one (empty_holds label.line body of_body stated)),
 )
   where
     bodies : List (List ℕ)
     bodies = bodies_read file
+
+    there : (i : ℕ) (label : Label) → slice_get labels i ≡ Some label → slice_get bodies i ≡ Some label.body
+    there i label at = ap (λ (all : List (List ℕ)). slice_get all i) (sym hold) ∙ body_at labels i label at
 
     pairs : AllZip OfBody labels bodies
     pairs =

@@ -7,7 +7,7 @@ ghost use Rattle.std.specs.Str.{byte, is_utf8, IsUtf8, str_to_ascii_lowercase};
 ghost use Rattle.texting_robots.specs.Callers.{Allow, AreLabelsOf, AreRulesFor, Disallow, escaped, HoldsRule};
 ghost use Rattle.texting_robots.specs.Callers.{file_limit, file_lines, is_named, IsDecidingLine, IsDenied};
 ghost use Rattle.texting_robots.specs.Callers.{IsFileRejected, IsRobotOfFile, IsVerdict, Label, LineValue, Matches, Rule};
-ghost use Rattle.texting_robots.specs.Callers.{PlacedRule, RobotValue, agents_in, lines_read, bodies_read};
+ghost use Rattle.texting_robots.specs.Callers.{PlacedRule, RobotValue, agents_in, bodies_in, lines_read, bodies_read};
 ghost use Rattle.texting_robots.specs.Callers.{delay_for, rules_for, unplaced, UserAgent};
 ghost use Rattle.texting_robots.specs.{Labels.IsInOwnGroup, Verdict.robots_file};
 ghost use Rattle.robots_needless.specs.Blocks.{HaveSameRobot, IsLeftOf};
@@ -127,7 +127,8 @@ pub fn allowed_and_disallowed_never_decides()
 /// The numbers of empty Disallows, as the warnings have them, are those of the Disallows without a value.
 pub fn empty_disallows()
     ensures { (name file : List ℕ) (labels : List Label) (number : ℕ) → AreLabelsOf name (lines_read file) labels
-        → IsTrue (is_empty_at (bodies_read file) labels number) ↔ IsEmptyDisallow (bodies_read file) number }
+        → bodies_in labels ≡ bodies_read file
+        → IsTrue (is_empty_at labels number) ↔ IsEmptyDisallow (bodies_read file) number }
 {}
 
 /// `empty-disallow` is given for a line exactly if it is an empty Disallow that applies to one of the

@@ -22,7 +22,6 @@ agent_of audit = record {
 
 abbrev pub audit_of : InsideAudit → AuditValue
 audit_of audit = record {
-  bytes = audit.bytes.now;
   labels = map label_by_value audit.labels.items;
   agents = audit.agents.items;
   warnings = audit.warnings.items;

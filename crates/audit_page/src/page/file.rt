@@ -1,9 +1,9 @@
 //! The file of a page, with its warnings, and its sitemaps.
 #![tactic(auto, using(crate::proofs::TreeLemmas::joined))]
 
-ghost use Rattle.std.specs.Prelude.{◌≡◌, ◌++◌, IfOk, OnOk, map, option_map, zip};
-ghost use Rattle.texting_robots.specs.Callers.{file_bodies, label_by_value};
-ghost use Rattle.audit_page.specs.Page.{about_line, bodies, file_content, file_lines, file_table};
+ghost use Rattle.std.specs.Prelude.{◌≡◌, ◌++◌, IfOk, OnOk, map, option_map};
+ghost use Rattle.texting_robots.specs.Callers.{label_by_value};
+ghost use Rattle.audit_page.specs.Page.{about_line, bodies, file_content, file_table};
 ghost use Rattle.audit_page.specs.Page.{line_body, line_part, line_row, sitemap_entry, sitemap_item, sitemap_list, warning_row};
 ghost use Rattle.audit_page.specs.{Internal.list_at, Tree.all, Tree.written};
 
@@ -20,21 +20,19 @@ use robots_warnings::warning::Warning;
 use std::alloc::{AllocError, Global};
 use std::marker::Model;
 use texting_robots::labels::LabeledLine;
-use texting_robots::parser::file_bodies;
 
 /// A browser lays out later what isn't visible yet.
 const BODY_LINES: usize = 500;
 
 #[derive(Drop)]
 pub(crate) struct FileLine<'a> {
-    pub(crate) body: &'a [u8],
     pub(crate) label: &'a LabeledLine<'a>,
 }
 
 impl<'a> Model for FileLine<'a> {
-    ghost use Rattle.audit_page.specs.Page.{FileLineValue};
+    ghost use Rattle.texting_robots.specs.{Callers.Label};
 
-    ghost Value = { FileLineValue };
+    ghost Value = { Label };
 
     ghost use Rattle.audit_page.specs.Internal.{line_of};
 
@@ -175,23 +173,15 @@ fn push_line_bodies(
     push_listed_bodies(page, &lists, lines)
 }
 
-/// The labels are those of the lines.
 fn file_lines<'a>(
     alloc: Global,
-    bytes: &'a [u8],
     labels: &'a [LabeledLine<'a>],
 ) -> Result<Vec<FileLine<'a>>, AllocError>
-    ensures { IfOk result (λ lines. lines.items
-        ≡ zip (file_bodies bytes.now) (map label_by_value labels.now)) }
+    ensures { IfOk result (λ lines. lines.items ≡ map label_by_value labels.now) }
 {
     let mut lines = Vec::with_capacity(alloc, labels.len())?;
-    let mut rest = labels;
-    for body in file_bodies(bytes) {
-        let [label, after @ ..] = rest else {
-            return Ok(lines);
-        };
-        lines.push(FileLine { body, label })?;
-        rest = after;
+    for label in labels {
+        lines.push(FileLine { label })?;
     }
     Ok(lines)
 }
@@ -208,7 +198,7 @@ fn push_file_content(
 {
     push(page, &file_caption(labeling_agent(agent).as_bytes()))?;
     push(page, &line_columns())?;
-    let lines = file_lines(alloc, audit.bytes, &audit.labels)?;
+    let lines = file_lines(alloc, &audit.labels)?;
     push_line_bodies(alloc, page, &audit.warnings, &lines)
 }
 

@@ -304,7 +304,7 @@ pub(crate) fn line_cells<'a>(line: &FileLine<'a>) -> [Part<'a>; 5]
         Part("<td>", Value::Word(membership_word(label.membership))),
         Part("</td><td>", Value::Word(kind_text(label.line))),
         Part("</td><td>", line_value(label.line)),
-        comment_part(comment_of(label.line, line.body)),
+        comment_part(comment_of(label.line, label.body)),
         Part("</td></tr>", Value::Nothing),
     ]
 }

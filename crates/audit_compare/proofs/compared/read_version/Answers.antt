@@ -7,5 +7,5 @@ use Rattle.audit_compare.proofs.compared.read_version.Goals as goal
 pub returns-clause-parts : goal.returns-clause-parts
 returns-clause-parts c = record {
   site = c.in_ok-site.ensures;
-  lines = ap lines_of c.in_ok-labels.ensures ∙ lines_labeled (codes "*") (lines_read c.args.bytes.now);
+  lines = ap lines_of c.in_ok-labels.ensures ∙ lines_labeled (codes "*") c.args.bytes.now;
 }

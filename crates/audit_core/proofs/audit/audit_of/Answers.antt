@@ -9,12 +9,12 @@ pub agent_audits-requires-clause-lines : goal.agent_audits-requires-clause-lines
 agent_audits-requires-clause-lines c =
     ap (λ labels. lines_of (map label_by_value labels)) c.deref-5.ensures.value
     ∙ ap lines_of c.in_ok-labels.ensures
-    ∙ lines_labeled c.labeling_agent.result.now (lines_read c.args.file.now)
+    ∙ lines_labeled c.labeling_agent.result.now c.args.file.now
 
 pub returns-clause-ok : goal.returns-clause-ok
 returns-clause-ok c =
     let names = names_requested (requested_by c.args.request.now).agents c.labeling_agent.result.now
-    (lines_read c.args.file.now) c.in_ok-labels.labels.items c.deref-3.result.now
+    c.args.file.now c.in_ok-labels.labels.items c.deref-3.result.now
     (map (λ name. name.now) c.in_ok-names.names.items) (rw c.deref-2.ensures.value at c.in_ok-names.ensures)
     c.deref-3.ensures.value
     c.in_ok-labels.ensures in
@@ -38,7 +38,6 @@ returns-clause-ok c =
           (ap (λ facts. facts.is_too_large) c.facts_of-facts.ensures ∙ large);
       sitemaps = sitemaps;
       sitemaps_are = rw (c.deref-8.ensures.value, c.in_ok-labels.ensures, c.labeling_agent.ensures) at are;
-      bytes_are = c.counted.ensures;
       labels_are = rw c.labeling_agent.ensures at c.in_ok-labels.ensures;
       agents_are = rw (c.deref-4.ensures.value, names, c.deref-6.ensures.value) at c.in_ok-agents.ensures.ok;
       warnings_are = rw (c.deref-10.ensures.value, c.deref-11.ensures.value, all) at c.choose.ensures;
