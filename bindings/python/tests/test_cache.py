@@ -157,6 +157,18 @@ def test_a_file_that_has_not_changed(caches):
         assert "If-None-Match" not in cache.look(f"http://{number}.example").fetch.headers
 
 
+def test_a_site_that_joins_another_gets_the_file_that_has_not_changed_there(caches):
+    """Its own file before had the same version, by accident."""
+    cache = caches()
+    fetched(cache, HTTPS, file(ETag='"1"'))
+    fetched(cache, A, file(CLOSED, ETag='"1"'))
+    caches.clock.now += 23 * HOUR
+    one, other = cache.look(HTTPS).fetch, cache.look(A).fetch
+    assert cache.received(other, *moved(HTTPS)) == ({}, None)
+    known = cache.received(one, 304, {}, b"").known
+    assert [cache.decide(known[address], "http://a.example/", "x").allowed for address in (HTTPS, A)] == [True, True]
+
+
 def test_http_and_https_of_one_chain_are_fetched_once(caches):
     cache = caches()
     look = cache.look(HTTP)
@@ -255,6 +267,15 @@ def test_the_part_of_a_compressed_body_that_is_there_or_counts(caches, encoding,
 def test_a_body_that_can_not_be_unpacked(caches, encoding, body):
     """It's no file without rules, but one that can't be had."""
     assert fetched(caches(), A, (200, {"Content-Encoding": encoding}, body))[0].state is State.UNREACHABLE
+
+
+def test_encodings_in_fields_of_their_own(caches):
+    class Fields(dict):
+        def items(self):
+            return [("Content-Encoding", "gzip")] * 2
+
+    site, _ = fetched(caches(), A, (200, Fields(), gzip.compress(gzip.compress(RULES))))
+    assert zlib.decompress(site.packed) == RULES
 
 
 def test_a_body_that_does_not_come_to_its_end(caches):
