@@ -157,6 +157,18 @@ def test_a_file_that_has_not_changed(caches):
         assert "If-None-Match" not in cache.look(f"http://{number}.example").fetch.headers
 
 
+def test_a_site_that_joins_another_gets_the_file_that_has_not_changed_there(caches):
+    """Its own file before had the same version, by accident."""
+    cache = caches()
+    fetched(cache, HTTPS, file(ETag='"1"'))
+    fetched(cache, A, file(CLOSED, ETag='"1"'))
+    caches.clock.now += 23 * HOUR
+    one, other = cache.look(HTTPS).fetch, cache.look(A).fetch
+    assert cache.received(other, *moved(HTTPS)) == ({}, None)
+    known = cache.received(one, 304, {}, b"").known
+    assert [cache.decide(known[address], "http://a.example/", "x").allowed for address in (HTTPS, A)] == [True, True]
+
+
 def test_http_and_https_of_one_chain_are_fetched_once(caches):
     cache = caches()
     look = cache.look(HTTP)
@@ -257,12 +269,21 @@ def test_a_body_that_can_not_be_unpacked(caches, encoding, body):
     assert fetched(caches(), A, (200, {"Content-Encoding": encoding}, body))[0].state is State.UNREACHABLE
 
 
+def test_encodings_in_fields_of_their_own(caches):
+    class Fields(dict):
+        def items(self):
+            return [("Content-Encoding", "gzip")] * 2
+
+    site, _ = fetched(caches(), A, (200, Fields(), gzip.compress(gzip.compress(RULES))))
+    assert zlib.decompress(site.packed) == RULES
+
+
 def test_a_body_that_does_not_come_to_its_end(caches):
     assert fetched(caches(), A, (200, {}, RULES, False))[0].state is State.UNREACHABLE
     assert fetched(caches(), A, (200, {}, RULES.ljust(FILE_LIMIT, b"#"), False))[0].state is State.FILE
 
 
-def test_parsed_files_go_first_and_are_fetched_again_last(caches):
+def test_a_file_is_parsed_again_rather_than_fetched(caches):
     """In the order in which they were used."""
     cache, filler = caches(budget=100_000), b"#" * 3000
     for number in range(60):
@@ -276,7 +297,7 @@ def test_parsed_files_go_first_and_are_fetched_again_last(caches):
     for number in range(60, 200):
         fetched(cache, f"http://{number}.example", file(RULES + filler))
     kept = [number for number in range(200) if cache.look(f"http://{number}.example")[0] is Action.USE]
-    assert kept[-1] == 199 and kept == list(range(200 - len(kept), 200)) and 60 < len(kept) < 100
+    assert kept[-1] == 199 and kept == list(range(200 - len(kept), 200)) and 75_000 // 800 < len(kept) <= 100_000 // 700
     assert caches.events["evicted"] == 200 - len(kept)
 
 
@@ -343,7 +364,7 @@ def test_with_a_database_nothing_is_fetched_again(caches, tmp_path):
     cache = caches(database=str(tmp_path / "robots.sqlite3"), budget=20_000)
     for number in range(100):
         fetched(cache, f"http://{number}.example", file())
-    assert len(cache) < 20 and cache.size <= 20_000
+    assert len(cache) <= 20_000 // 700 and cache.size <= 20_000
     assert {cache.look(f"http://{number}.example")[0] for number in range(100)} == {Action.USE}
 
 

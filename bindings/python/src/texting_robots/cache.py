@@ -111,8 +111,8 @@ class Look(NamedTuple):
 class Step(NamedTuple):
     """What a response is good for: the sites that are known now, by the addresses of their files, and the next request, if there is one.
 
-    Who waits for one of the sites can go on, also if what is known is that its file can't be reached. Sites that are neither known now
-    nor in the next request's way wait for the request of another one.
+    Who waits for one of the sites can go on, even if what is known is that its file can't be reached. A site that isn't known after the
+    last request waits for one that was given out for another site, to whose file it was redirected.
     """
 
     known: dict[str, Site]
@@ -192,13 +192,13 @@ class RobotsCache:
     def received(self, fetch: Fetch, status: int, headers: Mapping[str, str], body: bytes, is_complete: bool = True) -> Step:
         """What a response says. ``body`` is as received, also if it is compressed, or its first part if it is longer than what counts;
         ``is_complete`` is whether it came to its end."""
-        flight, fields = fetch.flight, {name.lower(): value for name, value in headers.items()}
+        flight, fields = fetch.flight, _fields(headers)
         location = target(fetch.address, fields.get("location"))
         refresh = self._clock() + self._retry_after(fields)
         known: dict[str, Site] = {}
         try:
             version = fetch.headers.get("If-None-Match") if status == 304 else None
-            same = next((it for it in flight.before.values() if version and it and it.etag == version), None)
+            same = next((it for it in flight.before.values() if it and (it.source, it.etag) == (fetch.address, version)), None)
             plain = unpacked(body, fields.get("content-encoding", ""))
             is_whole = plain is not None and (is_complete or len(plain) >= FILE_LIMIT)
             packed = zlib.compress((plain or b"")[:FILE_LIMIT], 1)
@@ -442,3 +442,12 @@ class RobotsCache:
         while len(self._sites) > 1 and self.size > self._budget:
             self._count("evicted")
             self._forget(next(iter(self._sites)))
+
+
+def _fields(headers: Mapping[str, str]) -> dict[str, str]:
+    """The fields by their names in small letters. A body may have several encodings, each in a field of its own."""
+    fields: dict[str, str] = {}
+    for name, value in headers.items():
+        name = name.lower()
+        fields[name] = f"{fields[name]},{value}" if name == "content-encoding" and name in fields else value
+    return fields
