@@ -29,6 +29,7 @@ use std::alloc::{AllocError, Global};
 use std::marker::Model;
 use texting_robots::labels::LabeledLine;
 use texting_robots::robot::Decision;
+use texting_robots::site::SiteRule;
 use texting_robots::{Rejection, Robot, Site};
 
 #[derive(Drop)]
@@ -147,10 +148,11 @@ pub(crate) fn ruling<'a>(
     }
 }
 
-fn rule_count(site: &Site, agent: &str) -> usize
-    ensures { result ≡ length (placed_rules agent.now (file_lines site.now)) }
+fn rule_count(alloc: Global, site: &Site, agent: &str) -> Result<usize, AllocError>
+    ensures { IfOk result (λ count. count ≡ length (placed_rules agent.now (file_lines site.now))) }
 {
-    site.rules(agent).count()
+    let rules: Vec<SiteRule<'_>> = site.rules(agent).collect(alloc)?;
+    Ok(rules.len())
 }
 
 /// What the file means for one crawler. The labels are those of the file's lines.
@@ -168,7 +170,7 @@ pub fn agent_audit<'a>(
         agent.now audit) }
     ensures fault { IfErr result (λ fault. fault ≡ Fault.Memory) }
 {
-    let rules = rule_count(site, agent);
+    let rules = rule_count(alloc, site, agent)?;
     let reach = reach_of(alloc, site, agent)?;
     let (rejected, verdicts) = ruling(alloc, agent, file, site, urls)?;
     Ok(AgentAudit {

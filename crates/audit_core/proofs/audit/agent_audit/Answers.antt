@@ -14,7 +14,7 @@ returns-clause-ok c =
       agent_is = refl;
       group_is = c.group_of.ensures ∙ ap (λ text. group_of agent (file_lines text)) c.requires.site;
       line_is = c.naming_line.ensures ∙ ap (λ text. naming_line agent (file_lines text)) c.requires.site;
-      rules_are = c.rule_count-rules.ensures
+      rules_are = c.in_ok-rules.ensures
           ∙ ap (λ text. length (placed_rules agent (file_lines text))) c.requires.site;
       reach_is = c.in_ok-reach.ensures ∙ ap (λ text. reach_of (file_lines text) agent) c.requires.site;
       delay_is = delay_read agent c.args.file.now _ (rw c.requires.site at c.delay.ensures);
