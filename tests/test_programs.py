@@ -5,6 +5,7 @@ A case is a table in tests/golden/PROGRAM/*.toml, named by what it shows:
 ```toml
 ["a URL is denied"]
 args = '- -q --agent Ferris /a%20b'
+rfc = 'line 2'
 file = '''
 User-agent: Ferris
 Disallow: /a b
