@@ -6,7 +6,7 @@ use Rattle.audit_expect.proofs.checks.decided_on.Goals as goal
 
 pub returns-in_default-clause-ok : goal.returns-in_default-clause-ok
 returns-in_default-clause-ok c = (
-  (read_robot _ c.args.file.now _ c.requires.robot).accepted,
+  (read_robot _ c.args.file.now _ c.requires.robot.2).accepted,
   rw c.in_default.is at c.in_ok-form.ensures.ok,
 )
 
