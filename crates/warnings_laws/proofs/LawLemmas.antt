@@ -253,7 +253,6 @@ some_audit requested file =
     let (agents, are) = zip_some (IsAgentAudit requested.urls lines) (agents_requested requested.agents lines)
     (λ agent has. some_agent requested.urls lines agent) in (
       record {
-        bytes = take file_limit file;
         labels = labels;
         agents = agents;
         warnings = warnings_requested requested file labels [] sitemaps;
@@ -267,7 +266,6 @@ some_audit requested file =
         sitemaps = sitemaps;
         sitemaps_are =
             record { overlong = overlong; verdicts = verdicts; ruling = ruling; found_are = refl };
-        bytes_are = refl;
         labels_are = refl;
         agents_are = are;
         warnings_are = refl;
