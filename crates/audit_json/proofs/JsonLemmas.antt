@@ -178,11 +178,11 @@ printed_plain false text = sanitized_printable text
 bytes_plain : (text : List ℕ) → IsPlain (text_json text)
 bytes_plain text = printed_plain (length text == 0) text
 
-line_plain : (line : List ℕ × Label) → IsPlain (line_json line)
-line_plain (body, label) =
+line_plain : (label : Label) → IsPlain (line_json label)
+line_plain label =
     let kind = line_printable (kind_of label.line).text (label_printable (kind_of label.line)) in
     assumption (
-      bytes_plain (comment_of label.line body),
+      bytes_plain (comment_of label.line label.body),
       kind,
       word_printable (membership_value label.membership),
       value_plain label.line,
