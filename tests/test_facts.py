@@ -67,7 +67,7 @@ def test_what_the_longest_file_can_hold():
     for words, most in [(r"can hold more than ([\d,]+) rules", rules), (r"a file can list more than ([\d,]+),", sitemaps)]:
         (number,) = re.findall(words, text)
         assert 0.85 * most < int(number.replace(",", "")) <= most
-    assert "URL of 2,000 bytes, escaped, a verdict takes fewer than 300 million comparisons" in text and rules * 2 * 2_000 < 300e6 < 1.1 * rules * 2 * 2_000
+    assert "fewer than 300 million for the longest file and a URL of 2,000 bytes" in text and rules * 2 * 2_000 < 300e6 < 1.1 * rules * 2 * 2_000
     assert re.findall(r"at most (\d) × the target's length", joined(PROOFS)) == re.findall(r"looks \{ .*\((\d) \* length", source("texting_robots/src/minregex.rt")) == ["2"]
 
 
