@@ -293,7 +293,7 @@ def test_no_size_is_out_of_memory(what):
         verdict = run("robots_verdict", stdin="\n".join([agent, *urls, "", file]).encode())
         assert (verdict.status, verdict.err, verdict.out.endswith("\n" + verdicts)) == (0, "", True), size
         audit = run("robots_audit", ["--agent", agent, "-", *urls], file.encode())
-        assert (audit.status, audit.out.endswith("\n" + verdicts)) == (1, True), (size, audit.err)
+        assert (audit.status, "\n" + verdicts in audit.out) == (1, True), (size, audit.err)
         as_json = run("robots_audit", ["--json", "--agent", agent, "-", *urls], file.encode())
         assert (as_json.status, len(json.loads(as_json.out)["agents"][0]["verdicts"])) == (1, len(urls)), (size, as_json.err)
 
@@ -395,7 +395,7 @@ def test_a_large_file_is_read(what, tmp_path):
     (tmp_path / "LARGE").write_bytes(beginning + LARGE)
     with (tmp_path / "LARGE").open("rb") as stdin:
         result = run("robots_audit", args, stdin, cwd=tmp_path, timeout=300)
-    assert (result.status, result.out.endswith(end)) == (1, True), result.err
+    assert (result.status, end in result.out) == (1, True), result.err
 
 
 @pytest.mark.parametrize("length", [255, 256, 1_001, 4_095])
