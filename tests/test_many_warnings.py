@@ -102,7 +102,7 @@ def test_one_of_each_level():
 def test_notes_about_another_line_stay_apart():
     """Their messages end with the line of the other rule."""
     err = audit(FRONT + "Disallow: /a/b\nDisallow: /a/c\n", "--needless", "--only", "needless-rule").err
-    assert err.count("(see line 2) [needless-rule]") == 2 and "also" not in err and err.endswith(total("2 notes"))
+    assert err.count("(see line 2) [needless-rule]") == 2 and "(also" not in err and err.endswith(total("2 notes"))
 
 
 def test_a_file_of_a_hundred_closed_groups():

@@ -3,7 +3,7 @@
 import json
 
 import pytest
-from support import run, warning_lines
+from support import run, warning_lines, with_standard
 
 ROBOTS = b"""User-agent: *
 Disallow: /private/
@@ -32,6 +32,11 @@ def outcome(result):
     return result.status, result.out, result.err
 
 
+def report(text, words="syntax 9"):
+    """The report, with the lines about RFC 9309: the rule in line 9 is too long."""
+    return with_standard(text.removesuffix("\n"), words) + "\n"
+
+
 def check(folder, text, agent, *args, robots=ROBOTS):
     """The result for a text of URLs, in a file `list.txt`."""
     (folder / "list.txt").write_bytes(text)
@@ -42,19 +47,19 @@ def check(folder, text, agent, *args, robots=ROBOTS):
 def test_each_line_is_a_url(tmp_path, text, lines):
     out = "group: * (Ferris has no group of its own)\ndelay: none\n" + lines
     err = warning_lines(["url-not-normal /tea#cup"] if b"#cup" in text else [])
-    assert outcome(check(tmp_path, text, "Ferris")) == (1 if "deny" in out else 0, out, err)
+    assert outcome(check(tmp_path, text, "Ferris")) == (1 if "deny" in out else 0, report(out), err)
 
 
 def test_a_url_is_asked_without_its_fragment(tmp_path):
     """In a path, `#` is a byte like others."""
     out = "group: * (Ferris has no group of its own)\ndelay: none\ndeny 2 https://e.com/a#b\nallow - /a#b\n1 allowed, 1 denied\n"
     result = check(tmp_path, b"https://e.com/a#b\n/a#b\n", "Ferris", robots=b"User-agent: *\nDisallow: /a$\n")
-    assert outcome(result) == (1, out, warning_lines(["url-not-normal /a#b"]))
+    assert outcome(result) == (1, report(out, "verdicts"), warning_lines(["url-not-normal /a#b"]))
 
 
 def test_urls_of_the_command_line_come_first(tmp_path):
     out = "group: * (Ferris has no group of its own)\ndelay: none\nallow - /b\nallow - /a\ndeny 2 /private/\n2 allowed, 1 denied\n"
-    assert outcome(check(tmp_path, b"/a\n/private/\n", "Ferris", "/b")) == (1, out, "")
+    assert outcome(check(tmp_path, b"/a\n/private/\n", "Ferris", "/b")) == (1, report(out), "")
 
 
 URL = "this is neither a path that starts with / nor a valid http:// or https:// URL"
@@ -97,13 +102,13 @@ def test_a_line_that_is_no_single_url(tmp_path, text, line, why):
 
 def test_urls_with_a_comma(tmp_path):
     out = "group: * (Ferris has no group of its own)\ndelay: none\nallow - /a,b\nallow - /a,/https\nallow - https://example.com/?a=b,c\n3 allowed, 0 denied\n"
-    assert outcome(check(tmp_path, b"/a,b\n/a,/https\nhttps://example.com/?a=b,c", "Ferris")) == (0, out, "")
+    assert outcome(check(tmp_path, b"/a,b\n/a,/https\nhttps://example.com/?a=b,c", "Ferris")) == (0, report(out), "")
 
 
 def test_urls_from_standard_input(tmp_path):
     (tmp_path / "robots.txt").write_bytes(ROBOTS)
     result = run("robots_audit", ["-q", "robots.txt", "--urls", "-", "--agent", "GPTBot"], b"/a\n/b\n", cwd=tmp_path)
-    assert (result.status, result.out) == (1, "group: GPTBot\ndelay: none\nallow 6 /a\ndeny 5 /b\n1 allowed, 1 denied\n")
+    assert (result.status, result.out) == (1, report("group: GPTBot\ndelay: none\nallow 6 /a\ndeny 5 /b\n1 allowed, 1 denied\n"))
 
 
 def test_standard_input_is_read_once():
@@ -147,10 +152,10 @@ def test_file_that_cannot_be_read(tmp_path, args, name, shown):
 
 def test_denied_urls_alone(tmp_path):
     out = "group: * (Ferris has no group of its own)\ndelay: none\ndeny 2 /private/\n2 allowed, 1 denied\n"
-    assert outcome(check(tmp_path, b"/a\n/private/\n/b\n", "Ferris", "--denied")) == (1, out, "")
-    assert outcome(run("robots_audit", ["-q", "--denied", "--agent=Ferris", "-", "/a", "/private/", "/b"], ROBOTS)) == (1, out, "")
+    assert outcome(check(tmp_path, b"/a\n/private/\n/b\n", "Ferris", "--denied")) == (1, report(out), "")
+    assert outcome(run("robots_audit", ["-q", "--denied", "--agent=Ferris", "-", "/a", "/private/", "/b"], ROBOTS)) == (1, report(out), "")
     out = "group: * (Ferris has no group of its own)\ndelay: none\n1 allowed, 0 denied\n"
-    assert outcome(run("robots_audit", ["-q", "--denied", "--agent=Ferris", "-", "/a"], ROBOTS)) == (0, out, "")
+    assert outcome(run("robots_audit", ["-q", "--denied", "--agent=Ferris", "-", "/a"], ROBOTS)) == (0, report(out), "")
 
 
 def test_numbers_are_those_of_all_crawlers(tmp_path):
@@ -159,7 +164,7 @@ def test_numbers_are_those_of_all_crawlers(tmp_path):
     out += "deny 2 Ferris /private/\ndeny 5 GPTBot /b\ndeny 5 GPTBot /private/\n"
     out += "3 allowed, 3 denied\n"
     result = check(tmp_path, b"/a\n/b\n/private/\n", "Ferris", "--denied", "--agent=GPTBot", "--agent=Longbot")
-    assert (result.status, result.out) == (2, out)
+    assert (result.status, result.out) == (2, report(out))
 
 
 def test_denied_urls_as_json():
@@ -171,4 +176,4 @@ def test_denied_urls_as_json():
 def test_ten_thousand_urls(tmp_path):
     text = b"".join(b"/%d\n/private/%d\n" % (n, n) for n in range(5_000))
     lines = check(tmp_path, text, "Ferris", "--denied").out.splitlines()
-    assert (len(lines), lines[-2:]) == (5_003, ["deny 2 /private/4999", "5000 allowed, 5000 denied"])
+    assert (len(lines), lines[-4], lines[-1]) == (5_005, "deny 2 /private/4999", "5000 allowed, 5000 denied")
