@@ -54,7 +54,7 @@ from itertools import product
 from pathlib import Path
 
 import pytest
-from support import ROOT, WARNINGS, Result, cases_of, input_of, program, repeated, run, spelled, wanted_of, warning_lines
+from support import ROOT, WARNINGS, Result, cases_of, input_of, program, repeated, run, spelled, wanted_of, warning_lines, with_standard
 
 def golden():
     """The arguments of test_golden for each case, that of this module's comment too."""
@@ -173,7 +173,7 @@ def report_on(rules, urls):
         n = int(url.split("/")[-2])
         line = f"{'deny' if n % 2 else 'allow'} {n + 1}" if n <= rules else "allow -"
         out.append(f"{line} {url}")
-    return "\n".join(out) + "\n"
+    return with_standard("\n".join(out), "verdicts") + "\n"
 
 
 @pytest.mark.parametrize("rules, count", [(0, 70), (5000, 1), (5000, 1001)])
