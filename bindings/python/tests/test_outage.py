@@ -52,7 +52,7 @@ def crawls(tmp_path_factory):
     # a site whose file can't be fetched, and one that can, and then still is crawled
     sites["busy"] = Site(FAILS, FAILS, FAILS, FAILS, answers(200), settings=WAITS)
     links = {"/": [sites["busy"].address + f"/public/{number}" for number in range(20)] + ["/public/a"], "/public/a": ["/public/b"]}
-    sites["beside it"] = Site(answers(200), settings=WAITS | {"TEXTING_ROBOTS_RETRY": 1, "CONCURRENT_REQUESTS": 2}, links=links)
+    sites["another"] = Site(answers(200), settings=WAITS | {"TEXTING_ROBOTS_RETRY": 1, "CONCURRENT_REQUESTS": 2}, links=links)
     sites["dead"] = Site(answers(200), settings=WAITS | {"TEXTING_ROBOTS_PARKED": 0}, links={"/": ["http://127.0.0.1:1/x"]})
     sites["slow"] = Site(answers(200, RULES + b"Crawl-delay: 5\n"), settings=WAITS, host="127.0.0.2", links={})
     fast = {f"fast {number}": Site(answers(200), settings=WAITS, host=f"127.0.0.{number}", links={}) for number in range(3, 10)}
@@ -79,7 +79,7 @@ def test_a_server_that_fails_is_asked_again_when_it_says(crawls):
 
 def test_requests_that_wait_hold_no_others_up(crawls):
     """Of the other site all is fetched before the file of this one can be."""
-    busy, other = crawls[0]["busy"], crawls[0]["beside it"]
+    busy, other = crawls[0]["busy"], crawls[0]["another"]
     assert set(other.paths()) == {"/robots.txt", "/", "/public/a", "/public/b"} and len(busy.got) == 25
     assert other.got[-1][0] < busy.got[4][0] and [path for _, path in busy.got[:5]] == ["/robots.txt"] * 5
     assert sorted(crawls[0]["many of a site"].paths()) == sorted(["/", *MANY] + ["/robots.txt"] * 3)

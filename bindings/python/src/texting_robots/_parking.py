@@ -27,7 +27,7 @@ class Parking:
     """Holds requests outside of the downloader, whose limits don't count them, and lets no spider be closed for want of others.
 
     At most ``most`` requests wait, each for at most ``seconds``. ``ask`` is called with an address and a request when it is time to ask for
-    the file again; what comes out of it is told by `known`.
+    the file again; its caller passes the outcome to ``known``.
     """
 
     def __init__(self, crawler: Any, most: int, seconds: float, ask: Callable[[str, Any], None]) -> None:
