@@ -57,8 +57,8 @@ class Browser:
         return message["result"]
 
     def value(self, expression):
-        """The value of a JavaScript expression."""
-        return self.call("Runtime.evaluate", expression=expression, returnByValue=True)["result"]["value"]
+        """The value of a JavaScript expression, or of what it promises."""
+        return self.call("Runtime.evaluate", expression=expression, returnByValue=True, awaitPromise=True)["result"].get("value")
 
     def open(self, path, width=1000, height=1000, media="", scheme="light"):
         """Opens the page in this file, in a window of this size."""
