@@ -10,9 +10,8 @@ import re
 import runpy
 import shutil
 import time
-from datetime import date
 from pathlib import Path
-from urllib.parse import quote
+from types import SimpleNamespace
 
 import pytest
 from browser import Browser
@@ -27,11 +26,14 @@ MISSING = [it for it in ("chromium", "wasm-opt") if not shutil.which(it)]
 pytestmark = pytest.mark.skipif(bool(MISSING), reason=f"{', '.join(MISSING)} is missing")
 
 
+release_page = runpy.run_path(str(ROOT / "release"))["release_page"]
+
+
 @pytest.fixture(scope="module")
 def path(tmp_path_factory):
     """The page, as `./release --all` makes it."""
     folder = tmp_path_factory.mktemp("web")
-    runpy.run_path(str(ROOT / "release"))["release_page"](folder, folder, kit())
+    release_page(folder, folder, kit())
     return folder / "robots_audit.html"
 
 
@@ -54,10 +56,7 @@ def page(browser, path):
 
 def ended(page):
     """What the page says once the audit has ended."""
-    limit = time.monotonic() + 60
-    while page.value("byId('result').ariaBusy") != "false":
-        assert time.monotonic() < limit
-        time.sleep(0.02)
+    until_true(lambda: page.value("byId('result').ariaBusy") == "false", 60)
     return page.value("status_.textContent")
 
 
@@ -80,11 +79,15 @@ def choose(page, field, *files):
     return ended(page)
 
 
-def until(page, condition):
-    limit = time.monotonic() + 10
-    while not page.value(condition):
-        assert time.monotonic() < limit, condition
+def until_true(condition, seconds=10):
+    limit = time.monotonic() + seconds
+    while not condition():
+        assert time.monotonic() < limit
         time.sleep(0.02)
+
+
+def until(page, condition):
+    until_true(lambda: page.value(condition))
 
 
 def shown(page):
@@ -97,8 +100,9 @@ def native(*args, **options):
     return run("robots_audit", args, **options).out
 
 
-def audited(file, *args, urls=URLS):
-    return native("--html", f"--date={date.today()}", *args, "--", file.name, *urls, cwd=file.parent)
+def audited(page, file, *args, urls=URLS):
+    """The report of the built program on a file, with the date of the page."""
+    return native("--html", f"--date={page.value('today()')}", *args, "--", file.name, *urls, cwd=file.parent)
 
 
 # ---- the program
@@ -146,3 +150,237 @@ def test_golden_cases(page):
     results = [Result(status, base64.b64decode(out), base64.b64decode(err)) for status, out, err in results]
     assert [(case[0], result, case[1]) for case, result in zip(cases, results, strict=True) if result != case[1]][:3] == []
     assert len(cases) > 1000
+
+
+def test_example_of_the_readme(page):
+    assert page.value("status_.textContent") == "A URL is denied to a crawler."
+    assert shown(page) == audited(page, EXAMPLE, "--agent=FerrisBot")
+    click(page, "needless")
+    ended(page)
+    assert shown(page) == audited(page, EXAMPLE, "--agent=FerrisBot", "--needless")
+
+
+@pytest.mark.parametrize("text", HOSTILE)
+def test_hostile_file(page, tmp_path, text):
+    """The bytes of a file count, and its name; neither becomes an element."""
+    path = tmp_path / "<b>&'\".txt"
+    path.write_bytes(with_text(text))
+    choose(page, "robots", path)
+    assert shown(page) == audited(page, path, "--agent=FerrisBot")
+
+
+@pytest.mark.parametrize("name", ["-", "--strict", "old"])
+def test_name_of_a_file(page, tmp_path, name):
+    """None is taken for standard input or an option."""
+    (tmp_path / name).write_bytes(b"User-agent: *\nDisallow: /search")
+    (tmp_path / "robots.txt").write_bytes((tmp_path / name).read_bytes())
+    choose(page, "robots", tmp_path / name)
+    assert shown(page) == audited(page, tmp_path / ("robots.txt" if name == "-" else name), "--agent=FerrisBot")
+
+
+def test_hostile_names_and_urls(page):
+    urls = ["/\"'onmouseover=x", "/&lt;b&gt;", "/\u202e%"]
+    fill(page, crawlers="", urls="\n".join(["", *urls, " "]))
+    assert shown(page) == audited(page, EXAMPLE, urls=urls)
+    said = fill(page, crawlers="<b>x</b>\n--strict")
+    assert said.startswith(run("robots_audit", ["--html", "--agent=<b>x</b>", "--agent=--strict", "--", "robots.txt", *urls], cwd=EXAMPLE.parent).err)
+
+
+def test_comparison(page, tmp_path):
+    (tmp_path / "old").mkdir()
+    (tmp_path / "old/robots.txt").write_bytes(b"User-agent: *\nDisallow: /<b>\xff\n")
+    shutil.copy(EXAMPLE, tmp_path)
+    page.value("document.querySelector('[value=compare]').click()")
+    assert ended(page) == "Paste or choose a file: The older robots.txt."
+    assert choose(page, "old", tmp_path / "old/robots.txt") == "Something differs."
+    args = ["--compare=old/robots.txt", "--agent=FerrisBot", "--", "robots.txt", *URLS]
+    assert shown(page) == native(*args, cwd=tmp_path) != ""
+    assert fill(page, old=EXAMPLE.read_text()) == "Nothing differs."
+
+
+def test_expectations(page, tmp_path):
+    page.value("document.querySelector('[value=expect]').click()")
+    assert fill(page, expect="deny * /search\ndeny SlowBot /\n") == "All expectations hold."
+    assert fill(page, expect="allow * /search/tea") == "An expectation fails."
+    (tmp_path / "expect").mkdir()
+    (tmp_path / "expect/expect.txt").write_text("allow * /search/tea")
+    shutil.copy(EXAMPLE, tmp_path)
+    assert shown(page) == native("--expect=expect/expect.txt", "--", "robots.txt", cwd=tmp_path) != ""
+
+
+def test_next_run_ends_the_last_one(page):
+    first = "let ended = false; run(...Object.values(given(TASKS.audit))).then(() => { ended = true; })"
+    assert page.value(f"(async () => {{ {first}; const {{ status }} = await run(...Object.values(given(TASKS.audit))); return [ended, status]; }})()") == [False, 1]
+
+
+def test_saved_report(page, tmp_path):
+    page.call("Page.setDownloadBehavior", behavior="allow", downloadPath=str(tmp_path))
+    click(page, "save")
+    until_true(lambda: [it.name for it in tmp_path.iterdir()] == ["robots-report.html"])
+    assert (tmp_path / "robots-report.html").read_bytes().decode() == shown(page)
+
+
+# ---- what is typed, and links
+
+
+def test_error_keeps_what_is_typed(page):
+    report = shown(page)
+    said = fill(page, crawlers="FerrisBot/1.0", urls="tea")
+    native_error = run("robots_audit", ["--html", "--agent=FerrisBot/1.0", "--", "robots.txt", "tea"], cwd=EXAMPLE.parent).err
+    assert said == native_error + "Below is the report before this change."
+    assert page.value("[crawlers.value, urls.value, status_.className]") == ["FerrisBot/1.0", "tea", "failed"] and shown(page) == report
+    fill(page, crawlers="", urls="/tea")
+    assert shown(page) == audited(page, EXAMPLE, urls=["/tea"])
+
+
+def test_text_of_a_file_can_be_edited(page, tmp_path):
+    """From then on, the text counts, and not the bytes."""
+    (tmp_path / "mine.txt").write_bytes(b"# \xff\r\nUser-agent: *\r\n")
+    choose(page, "robots", tmp_path / "mine.txt")
+    fill(page, robots=page.value("robots.area.value") + "Disallow: /\n")
+    (tmp_path / "robots.txt").write_bytes("# \ufffd\nUser-agent: *\nDisallow: /\n".encode())
+    assert shown(page) == audited(page, tmp_path / "robots.txt", "--agent=FerrisBot")
+    click(page, "clear")
+    assert ended(page) == "Paste or choose a file: robots.txt."
+
+
+def test_known_crawlers(page):
+    page.value("known.value = 'Googlebot-News'; byId('add').click(); byId('add').click()")
+    ended(page)
+    assert page.value("crawlers.value") == "FerrisBot\nGooglebot-News" and page.value("known.options.length") > 100
+    assert shown(page) == audited(page, EXAMPLE, "--agent=FerrisBot", "--agent=Googlebot-News")
+
+
+TEXT = "User-agent: *\nDisallow: /<script>&robots=#%41+\u00e9\n"
+
+
+def test_link_is_shown_and_not_run(page):
+    """It is read once, and its file is audited when somebody asks for it."""
+    fill(page, robots=TEXT, crawlers="", urls="/a?b=c&d")
+    report = shown(page)
+    click(page, "share")
+    link = page.value("byId('link').value")
+    page.open(SimpleNamespace(as_uri=lambda: link), 1280, 800)
+    page.events.clear()
+    fill(page, urls="/a?b=c&d")
+    time.sleep(0.5)
+    assert "came with the link" in page.value("status_.textContent")
+    assert page.value("[robots.area.value, crawlers.value, urls.value, location.hash]") == [TEXT, "", "/a?b=c&d", ""]
+    assert page.value("worker") is None and page.value("byId('page').hidden") and page.requests() == []
+    page.value("document.querySelector('.ask > button').click()")
+    ended(page)
+    assert shown(page) == report
+    page.value("location.hash = '#robots=x&task=toString'")
+    until(page, "robots.area.value === 'x'")
+    assert page.value("[location.hash, form.elements.task.value, byId('result').ariaBusy]") == ["", "audit", "false"]
+    page.open(SimpleNamespace(as_uri=lambda: link.split("#")[0]), 1280, 800)
+
+
+# ---- for everybody
+
+
+def press(page, key, code, text=""):
+    for kind in ("keyDown", "keyUp"):
+        page.call("Input.dispatchKeyEvent", type=kind, key=key, windowsVirtualKeyCode=code, text=text if kind == "keyDown" else "")
+
+
+def test_keyboard_alone(page):
+    focused = "document.activeElement.id || document.activeElement.name || document.activeElement.localName"
+    reached = ["body"]
+    while "page" not in reached:
+        press(page, "Tab", 9)
+        until_true(lambda: page.value(focused) not in ("body", reached[-1]))
+        reached.append(page.value(focused))
+        if reached[-1] == "urls":
+            page.call("Input.insertText", text="/typed\n")
+        if reached[-1] == "needless":
+            press(page, " ", 32, " ")
+        if reached[-1] == "button":
+            press(page, "Enter", 13, "\r")
+            ended(page)
+    fields = ["robots", "robots-file", "clear", "task", "crawlers", "known", "add", "urls", "needless"]
+    assert reached[1:] == [*fields, "button", "summary", "save", "share", "page"]
+    assert shown(page) == audited(page, EXAMPLE, "--agent=FerrisBot", "--needless", urls=["/typed", *URLS])
+
+
+CONTROLS = {"textbox", "checkbox", "radio", "button", "combobox", "link", "Iframe", "region"}
+
+
+@pytest.mark.parametrize("task", ["audit", "compare", "expect"])
+def test_each_control_has_a_name(page, task):
+    page.value(f"document.querySelector('[value={task}]').click()")
+    ended(page)
+    nodes = [it for it in page.call("Accessibility.getFullAXTree")["nodes"] if not it["ignored"]]
+    names = [(it["role"]["value"], it.get("name", {}).get("value", "")) for it in nodes]
+    assert [it for it in names if it[0] in CONTROLS and not it[1].strip()] == []
+    assert {"status", "main", "heading", "textbox", "radio", "button"} <= {role for role, _ in names}
+
+
+COLORS = """(() => {
+    const backs = it => !it ? "rgb(0, 0, 0)" : /, 0\\)$/.test(getComputedStyle(it).backgroundColor) ? backs(it.parentElement)
+        : getComputedStyle(it).backgroundColor;
+    const written = it => it.matches("textarea, input, select") || [...it.childNodes].some(one => one.nodeType === 3 && one.data.trim());
+    const seen = [...document.querySelectorAll("body *")].filter(it => it.checkVisibility());
+    return [
+        seen.filter(written).map(it => [it.id || it.localName, getComputedStyle(it).color, backs(it)]),
+        seen.filter(it => it.matches("textarea, select, button, .output"))
+            .map(it => [it.id || it.localName, getComputedStyle(it).borderTopColor, backs(it.parentElement)])];
+})()"""
+
+
+def in_hexadecimal(color):
+    return "#" + "".join(f"{int(it):02x}" for it in re.findall(r"\d+", color)[:3])
+
+
+@pytest.mark.parametrize("scheme", ["light", "dark"])
+def test_contrast(page, path, scheme):
+    """Texts have a contrast of at least 4.5, and borders of controls 3, also while there is an error."""
+    page.open(path, 1280, 800, scheme=scheme)
+    ended(page)
+    for text in ("FerrisBot", "/"):
+        fill(page, crawlers=text)
+        texts, borders = page.value(COLORS)
+        assert len(texts) > 20 and len(borders) > 5
+        for least, colors in ((4.5, texts), (3, borders)):
+            assert [it for it in colors if contrast(*map(in_hexadecimal, it[1:])) < least] == []
+
+
+NESTED = """(() => {
+    const scrolled = it => it.localName === "iframe" || it.scrollHeight > it.clientHeight + 1
+        && (it === document.documentElement || /auto|scroll/.test(getComputedStyle(it).overflowY));
+    const all = [...document.querySelectorAll("*")].filter(it => it.checkVisibility() && scrolled(it));
+    return all.filter(it => all.some(other => other !== it && other.contains(it))).map(it => it.id || it.localName);
+})()"""
+CUT = "[...document.querySelectorAll('.ask textarea')].filter(it => it.scrollHeight > it.clientHeight + 1).length"
+
+
+@pytest.mark.parametrize("width, height", [(360, 640), (768, 1024), (640, 360), (1280, 800)])
+def test_window(page, path, width, height):
+    """Nothing that is scrolled is in something that is scrolled, and nothing is scrolled sideways."""
+    page.open(path, width, height)
+    fill(page, robots="User-agent: *\n" + "Disallow: /a\n" * 300, urls="/search/tea\n" * 60 + "/" + "a" * 200)
+    for task in ("audit", "compare", "expect"):
+        page.value(f"document.querySelector('[value={task}]').click()")
+        fill(page, old="User-agent: *\n" * 100, expect="allow * /\n" * 99)
+        for view in ("file", "ask", "result"):
+            page.value(f"view('{view}'); fit(); 1")
+            assert page.value(NESTED) == [], (task, view)
+            assert page.value("document.documentElement.scrollWidth") <= width and page.value(CUT) == 0
+
+
+# ---- what the page is
+
+
+def test_page_is_one_small_file_without_markup_from_texts(page, path):
+    text = path.read_text()
+    assert len(text.encode()) <= 680_000 and "connect-src" not in text
+    assert all((ROOT / name).read_text().splitlines()[0] in text for name in ("LICENSE-MIT", "LICENSE-APACHE")) and "---- memchr" in text
+    scripts = "".join((ROOT / f"web/{name}.js").read_text() for name in ("page", "host"))
+    assert not re.findall(r"innerHTML|outerHTML|insertAdjacent|document\.write|\beval\b|new Function|fetch\(|XMLHttp|import\(", scripts)
+    assert page.value("byId('page').sandbox.length") == 0 and page.value("byId('page').hasAttribute('sandbox')")
+
+
+def test_page_is_left_out_without_binaryen(tmp_path, monkeypatch, capsys):
+    monkeypatch.setenv("PATH", "")
+    release_page(tmp_path, tmp_path, None)
+    assert capsys.readouterr().out == "release: binaryen is missing, so robots_audit.html isn't made\n" and not [*tmp_path.iterdir()]
