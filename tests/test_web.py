@@ -56,7 +56,7 @@ def page(browser, path):
 
 def ended(page):
     """What the page says once the audit has ended."""
-    until_true(lambda: page.value("byId('result').ariaBusy") == "false", 60)
+    until_true(lambda: page.value("byId('output').ariaBusy") == "false", 60)
     return page.value("status_.textContent")
 
 
@@ -198,6 +198,22 @@ def test_comparison(page, tmp_path):
     assert fill(page, old=EXAMPLE.read_text()) == "Nothing differs."
 
 
+DROP = """((element, name, text) => {
+    const files = new DataTransfer();
+    files.items.add(new File([text], name));
+    element.dispatchEvent(new DragEvent("drop", { dataTransfer: files, bubbles: true, cancelable: true }));
+})"""
+
+
+def test_dropped_files(page):
+    """A file belongs to the field on which it is dropped, or is the file to audit."""
+    page.value("document.querySelector('[value=compare]').click()")
+    for element, field in {"document.body": "robots", "old.area": "old"}.items():
+        page.value(f"{DROP}({element}, 'dropped.txt', 'User-agent: *')")
+        until(page, f"{field}.file?.name === 'dropped.txt' && {field}.area.value === 'User-agent: *'")
+    assert ended(page) == "Nothing differs."
+
+
 def test_expectations(page, tmp_path):
     page.value("document.querySelector('[value=expect]').click()")
     assert fill(page, expect="deny * /search\ndeny SlowBot /\n") == "All expectations hold."
@@ -220,6 +236,18 @@ def test_saved_report(page, tmp_path):
     assert (tmp_path / "robots-report.html").read_bytes().decode() == shown(page)
 
 
+NEVER_ENDS = "window.Worker = class { postMessage() {} terminate() {} }; 0"
+FAILS = "window.Worker = class { postMessage() { this.onmessage({ data: { failed: 'no memory' } }); } terminate() {} }; 0"
+
+
+def test_run_that_takes_long_or_fails(page):
+    page.value(NEVER_ENDS)
+    click(page, "needless")
+    until(page, "status_.textContent === 'The program is still running. The next change ends it.'")
+    page.value(FAILS)
+    assert fill(page, urls="/") == "The program stopped: no memory"
+
+
 # ---- what is typed, and links
 
 
@@ -240,6 +268,9 @@ def test_text_of_a_file_can_be_edited(page, tmp_path):
     fill(page, robots=page.value("robots.area.value") + "Disallow: /\n")
     (tmp_path / "robots.txt").write_bytes("# \ufffd\nUser-agent: *\nDisallow: /\n".encode())
     assert shown(page) == audited(page, tmp_path / "robots.txt", "--agent=FerrisBot")
+    choose(page, "robots", tmp_path / "mine.txt")
+    click(page, "share")
+    assert "isn't that of the file" in page.value("status_.textContent")
     click(page, "clear")
     assert ended(page) == "Paste or choose a file: robots.txt."
 
@@ -272,7 +303,7 @@ def test_link_is_shown_and_not_run(page):
     assert shown(page) == report
     page.value("location.hash = '#robots=x&task=toString'")
     until(page, "robots.area.value === 'x'")
-    assert page.value("[location.hash, form.elements.task.value, byId('result').ariaBusy]") == ["", "audit", "false"]
+    assert page.value("[location.hash, form.elements.task.value, byId('output').ariaBusy]") == ["", "audit", "false"]
     page.open(SimpleNamespace(as_uri=lambda: link.split("#")[0]), 1280, 800)
 
 
@@ -323,7 +354,7 @@ COLORS = """(() => {
     const seen = [...document.querySelectorAll("body *")].filter(it => it.checkVisibility());
     return [
         seen.filter(written).map(it => [it.id || it.localName, getComputedStyle(it).color, backs(it)]),
-        seen.filter(it => it.matches("textarea, select, button, .output"))
+        seen.filter(it => it.matches("textarea, select, button, #output > *"))
             .map(it => [it.id || it.localName, getComputedStyle(it).borderTopColor, backs(it.parentElement)])];
 })()"""
 
@@ -363,7 +394,7 @@ def test_window(page, path, width, height):
         page.value(f"document.querySelector('[value={task}]').click()")
         fill(page, old="User-agent: *\n" * 100, expect="allow * /\n" * 99)
         for view in ("file", "ask", "result"):
-            page.value(f"view('{view}'); fit(); 1")
+            page.value(f"document.querySelector('[value={view}]').click()")
             assert page.value(NESTED) == [], (task, view)
             assert page.value("document.documentElement.scrollWidth") <= width and page.value(CUT) == 0
 

@@ -27,6 +27,8 @@ class FileField {
 
   get isEmpty() { return !this.file && !this.area.value; }
 
+  get isText() { return !this.file || encoder.encode(this.area.value).join() === this.file.bytes.join(); }
+
   /** The name for the program, of which `-` would be standard input, and the bytes. */
   get given() {
     const { name, bytes } = this.file ?? { name: this.name, bytes: encoder.encode(this.area.value) };
@@ -99,15 +101,16 @@ async function audit() {
   const missing = [robots, task.other].find(it => it?.isEmpty);
   if (missing) return say(`Paste or choose a file: ${missing.area.labels[0].textContent}.`);
   const { words, files } = given(task);
-  timer = setTimeout(() => say("The audit is still running. The next change ends it."), 2000);
-  try { show(await run(words, files), task); } catch (error) { say(`The program stopped: ${error}`, true); }
+  const ran = run(words, files);
+  timer = setTimeout(() => { status_.textContent = "The program is still running. The next change ends it."; }, 2000);
+  try { show(await ran, task); } catch (error) { say(`The program stopped: ${error}`, true); }
 }
 
 function changed() {
   stop();
-  fit();
   for (const it of document.querySelectorAll("[data-tasks]")) it.hidden = !it.dataset.tasks.includes(form.elements.task.value);
-  byId("result").ariaBusy = isAsked;
+  fit();
+  byId("output").ariaBusy = isAsked;
   if (isAsked) timer = setTimeout(audit, 250);
 }
 
@@ -122,12 +125,12 @@ function fit() {
 }
 
 function say(text, isError = false) {
+  stop();
   [status_.textContent, status_.className] = [text, isError ? "failed" : ""];
-  byId("result").ariaBusy = false;
+  byId("output").ariaBusy = false;
 }
 
 function show({ status, out, err }, task) {
-  stop();
   const message = decoder.decode(err);
   if (!out.length) return say(message + (byId("actions").hidden ? "" : "Below is the report before this change."), true);
   const isPage = task === TASKS.audit, [page, text, save] = ["page", "text", "save"].map(byId);
@@ -150,6 +153,7 @@ function share() {
   link.value = `${location.href.split("#")[0]}#${fragment}`;
   link.focus();
   link.select();
+  if ([robots, old, expect].some(it => !it.isText)) say("The link has the text that is shown, which isn't that of the file byte for byte.");
 }
 
 /** Whether there was such a link. */
@@ -170,6 +174,7 @@ function read() {
 
 function view(name) { document.querySelector(`[name=view][value=${name}]`).checked = true; }
 
+byId("views").addEventListener("change", fit);
 form.addEventListener("input", changed);
 form.addEventListener("submit", event => {
   event.preventDefault();
