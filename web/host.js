@@ -1,6 +1,6 @@
 "use strict";
-// A worker that runs the program once for each message. A run has a memory of its own, so it begins as a new process does. The calls
-// are those of a C library; pointers and lengths have 64 bits, and lie in a memory of at most 4 GiB.
+// A worker that runs the program once for each message. A run has a memory of its own, so it begins as a new process
+// does. What the program calls is what it calls of a C library elsewhere. Pointers and lengths have 64 bits.
 
 const MOST = 2 ** 30; // bytes of memory
 const NO_SUCH_FILE = 2; // errno
@@ -39,7 +39,7 @@ class Heap {
     return true;
   }
 
-  /** The block with room for so many bytes, or a new one with the first `kept` bytes, or 0, and then the old block is unchanged. */
+  /** The block, if it has room for so many bytes, or a new one with the first `kept` bytes, or 0: then nothing has changed. */
   resize(block, kept, size) {
     if (size + 16 <= 2 ** this.bytes[block - 16]) return block;
     const other = this.allocate(size);
@@ -104,7 +104,7 @@ function fileCalls(run) {
   };
 }
 
-/** What a run of the program ends with and writes, for these arguments, standard input, and pairs of a name and a file, all of bytes. */
+/** What a run ends with and writes, for these arguments, standard input, and pairs of a name and a file, all of bytes. */
 async function runProgram(module, words, input, files) {
   const run = {
     words, files: new Map(files.map(([name, content]) => [name.join(), content])), errno: 0,

@@ -1,8 +1,8 @@
-"""Compiles `robots_audit` for the page: python3 web/make_module.py KIT, where KIT is the folder of the Rattle toolchain, proves the program
-over the libraries that `rt` built, and writes crates/robots_audit/out/robots_audit.wasm.
+"""Compiles `robots_audit` for the page: python3 web/make_module.py KIT, where KIT is the folder of the toolchain, proves the program over
+the libraries that `rt` built, and writes crates/robots_audit/out/robots_audit.wasm.
 
-It is the LLVM module of the proof, which `rattle build` gives to clang, for the oldest x86-64: code for a later one has instructions that
-no other processor has. As WebAssembly it has 64-bit addresses too, until binaryen, by which every browser can run it, makes them shorter.
+It is compiled from the LLVM module that `rattle build` gives to clang, for the oldest x86-64, since code for a later one has instructions
+that no other processor has. Its addresses have 64 bits; for browsers without them, binaryen makes them shorter.
 """
 
 import os
@@ -26,7 +26,7 @@ def run(*words, **options):
 
 
 def without_compiler(work, kit):
-    """A folder as that of the toolchain's compiler, with a clang that compiles nothing."""
+    """The folder of the toolchain's compilers, but with a clang that copies."""
     folder = work / "toolchain"
     (folder / "bin").mkdir(parents=True)
     (folder / "lib").symlink_to(kit / "toolchain/lib")
@@ -39,7 +39,7 @@ def without_compiler(work, kit):
 
 
 def prove(work, kit):
-    """The LLVM module of the program."""
+    """The LLVM module of the program, which is written if each of its functions is proved."""
     module, out = work / "proved.bc", CRATES / "robots_audit/out"
     below = re.search(r"^robots_audit: (.*)$", (CRATES.parent / "crates.txt").read_text(), re.M)[1].split()
     words = [kit / "bin/rattle", "build", "--crate-name", "robots_audit", "src/main.rt", "--cpu", "x86-64", "--backend", "llvm"]

@@ -1,4 +1,4 @@
-"""Puts the page into one file: python3 web/make_page.py PROGRAM FOLDER OUT, where PROGRAM is the compiled one, and FOLDER has licenses."""
+"""Puts the page into one file: python3 web/make_page.py PROGRAM FOLDER OUT, for a compiled program and a folder with licenses."""
 
 import base64
 import gzip

@@ -6,7 +6,7 @@ const [form, status_, crawlers, urls, known, needless] = ["form", "status", "cra
 const encoder = new TextEncoder(), decoder = new TextDecoder();
 const linesOf = area => area.value.split("\n").map(line => line.trim()).filter(line => line);
 
-/** A text area, for which a file can be chosen or dropped: its bytes count, which need not be text, until the text is edited. */
+/** A text area for which a file can be chosen or dropped. Its bytes count, which need not be text, until the text is edited. */
 class FileField {
   constructor(id, folder, name) {
     [this.area, this.chooser, this.folder, this.name, this.file] = [byId(id), byId(`${id}-file`), folder, name, null];
@@ -50,7 +50,10 @@ const TASKS = {
     other: old, words: name => [`--compare=${name}`],
     says: [() => "Nothing differs.", () => "Something differs.", () => "A file is rejected for a crawler."],
   },
-  expect: { other: expect, words: name => [`--expect=${name}`], says: [() => "All expectations hold.", () => "An expectation fails."] },
+  expect: {
+    other: expect, words: name => [`--expect=${name}`],
+    says: [() => "All expectations hold.", () => "An expectation fails."],
+  },
 };
 
 function today() {
@@ -148,12 +151,14 @@ const LINKED = { robots: robots.area, old: old.area, expect: expect.area, crawle
 
 function share() {
   const values = Object.entries(LINKED).map(([name, { value }]) => [name, value]);
-  const link = byId("link"), fragment = new URLSearchParams([["task", form.elements.task.value], ...values.filter(([, value]) => value)]);
+  const link = byId("link"), filled = values.filter(([, value]) => value);
+  const fragment = new URLSearchParams([["task", form.elements.task.value], ...filled]);
   byId("link-label").hidden = false;
   link.value = `${location.href.split("#")[0]}#${fragment}`;
   link.focus();
   link.select();
-  if ([robots, old, expect].some(it => !it.isText)) say("The link has the text that is shown, which isn't that of the file byte for byte.");
+  const isText = [robots, old, expect].every(it => it.isText);
+  if (!isText) say("The link has the text that is shown, which isn't that of the file byte for byte.");
 }
 
 /** Whether there was such a link. */
