@@ -303,7 +303,7 @@ def test_link_is_shown_and_not_run(page):
     assert shown(page) == report
     page.value("location.hash = '#robots=x&task=toString'")
     until(page, "robots.area.value === 'x'")
-    assert page.value("[location.hash, form.elements.task.value, byId('output').ariaBusy]") == ["", "audit", "false"]
+    assert page.value("[location.hash, form.elements.task.value, byId('page').hidden, worker]") == ["", "audit", True, None]
     page.open(SimpleNamespace(as_uri=lambda: link.split("#")[0]), 1280, 800)
 
 

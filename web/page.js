@@ -114,7 +114,7 @@ function changed() {
   for (const it of document.querySelectorAll("[data-tasks]")) it.hidden = !it.dataset.tasks.includes(form.elements.task.value);
   fit();
   byId("output").ariaBusy = isAsked;
-  if (isAsked) timer = setTimeout(audit, 250);
+  if (isAsked) timer = setTimeout(audit, 150);
 }
 
 // ---- what is shown
@@ -168,7 +168,8 @@ function read() {
   history.replaceState(null, "", location.href.split("#")[0]);
   for (const [name, area] of Object.entries(LINKED)) area.value = fragment.get(name) ?? "";
   for (const it of [robots, old, expect]) it.forget();
-  form.elements.task.value = fragment.get("task") in TASKS ? fragment.get("task") : "audit";
+  form.elements.task.value = fragment.get("task");
+  for (const name of ["page", "text", "actions"]) byId(name).hidden = true;
   isAsked = false;
   changed();
   say("This file came with the link. \u201cShow the report\u201d audits it.");
