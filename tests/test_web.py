@@ -236,8 +236,23 @@ def test_saved_report(page, tmp_path):
     assert (tmp_path / "robots-report.html").read_bytes().decode() == shown(page)
 
 
+WITH_LITTLE_MEMORY = """(async () => {
+    const source = byId("host").textContent.replace("MOST = 2 ** 30", "MOST = 9 * 2 ** 20");
+    const worker = new Worker(URL.createObjectURL(new Blob([source]))), { words } = given(TASKS.audit);
+    const ended = new Promise(resolve => { worker.onmessage = ({ data }) => resolve(data); });
+    worker.postMessage([await compiled(), words, new Uint8Array(), [[encoder.encode("robots.txt"), new Uint8Array(1e6)]]]);
+    const { status, err } = await ended;
+    return [status, decoder.decode(err)];
+})()"""
+
+
 NEVER_ENDS = "window.Worker = class { postMessage() {} terminate() {} }; 0"
 FAILS = "window.Worker = class { postMessage() { this.onmessage({ data: { failed: 'no memory' } }); } terminate() {} }; 0"
+
+
+def test_memory_is_limited(page):
+    """By `MOST` of host.js, here to less than the file takes; the stack takes 8 MiB of it."""
+    assert page.value(WITH_LITTLE_MEMORY) == [2, "robots_audit: out of memory\n"]
 
 
 def test_run_that_takes_long_or_fails(page):
@@ -332,6 +347,17 @@ def test_keyboard_alone(page):
     fields = ["robots", "robots-file", "clear", "task", "crawlers", "known", "add", "urls", "needless"]
     assert reached[1:] == [*fields, "button", "summary", "save", "share", "page"]
     assert shown(page) == audited(page, EXAMPLE, "--agent=FerrisBot", "--needless", urls=["/typed", *URLS])
+
+
+def test_keyboard_in_a_small_window(page, path):
+    """The arrow keys lead from the file to the task and the report."""
+    page.open(path, 360, 640)
+    ended(page)
+    visible = "[robots.area, crawlers, byId('page')].map(it => it.checkVisibility())"
+    press(page, "Tab", 9)
+    for at in range(3):
+        assert page.value(visible) == [it == at for it in range(3)]
+        press(page, "ArrowRight", 39)
 
 
 CONTROLS = {"textbox", "checkbox", "radio", "button", "combobox", "link", "Iframe", "region"}
