@@ -136,10 +136,10 @@ def cases_in_the_page():
     """The golden cases of the program but those about an output that is full or closed, or a file that can't be read."""
     for it in golden():
         name, case, indented = it.values
-        readable = "from" not in case or Path(ROOT, case["from"]).is_file()
-        if name == "robots_audit" and "room" not in case and readable:
+        source = Path(ROOT, case["from"]) if case.get("from") else None
+        if name == "robots_audit" and "room" not in case and not (source and source.is_dir()):
             words = [spelled(word) for word in repeated(case.get("args", "")).split()]
-            stdin = Path(ROOT, case["from"]).read_bytes() if "from" in case else input_of(case, indented)
+            stdin = source.read_bytes() if source else input_of(case, indented)
             yield it.id, wanted_of(case), words, stdin
 
 
