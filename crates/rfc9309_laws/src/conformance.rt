@@ -318,11 +318,12 @@ pub fn files_of_the_grammar_are_those()
 /// one that the file names, or of `*`, on each path and query in normal form, is the standard's (`verdicts`),
 /// and the file isn't rejected for it (`accepted`).
 pub fn verdicts_of_the_standard_are_those()
-    ensures verdicts { (file agent name uri : List ℕ) (groups : List Group) (robot : RobotValue)
-        (answer : Bool) → has_verdicts (conformance_of file) ≡ true → IsFile groups file
+    ensures verdicts { (file agent name : List ℕ) (groups : List Group)
+        → has_verdicts (conformance_of file) ≡ true → IsFile groups file
         → Contains (codes "*" ∷ agents_in (lines_read file)) name
         → placed_rules agent (lines_read file) ≡ placed_rules name (lines_read file)
-        → normal_uri all_stay uri ≡ uri → IsRobotOfFile agent (take file_limit file) robot
+        → (uri : List ℕ) (robot : RobotValue) (answer : Bool) → normal_uri all_stay uri ≡ uri
+        → IsRobotOfFile agent (take file_limit file) robot
         → IsVerdict (unplaced robot.rules) uri answer
         ↔ IsRfcVerdict all_stay (octets all_stay) (standard_rules agent groups) uri answer }
     ensures accepted { (file agent name : List ℕ) (groups : List Group)

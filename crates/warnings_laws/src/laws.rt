@@ -1,6 +1,6 @@
 //! Theorems about the specification, each written as the contract of an empty function.
 ghost use Rattle.std.specs.Prelude.{◌&&◌, ◌||◌, [], All, Any, Bool, codes, Contains, false, if◌then◌else◌, ℕ};
-ghost use Rattle.std.specs.Prelude.{IsSome, IsTrue, List, nat_eq, not, slice_get, Some, take, true, ◌+◌, ◌↔◌};
+ghost use Rattle.std.specs.Prelude.{IfOk, IsSome, IsTrue, List, nat_eq, not, slice_get, Some, take, true, ◌+◌, ◌↔◌};
 ghost use Rattle.std.specs.Prelude.{◌∷◌, ◌≡◌, ◌≢◌, ◌≤◌, length};
 ghost use Rattle.std.specs.List.{count_by, list_any, starts_with};
 ghost use Rattle.std.specs.Str.{byte, is_utf8, IsUtf8, str_to_ascii_lowercase};
@@ -27,7 +27,10 @@ ghost use Rattle.robots_warnings.specs.{Warnings.warned_at, declared.table.Cause
 ghost use Rattle.robots_warnings.specs.Rules.{begins_oddly, has_dollar_inside};
 ghost use Rattle.audit_core.specs.Audit.{AuditValue, IsAuditOf};
 ghost use Rattle.audit_core.specs.{Asked.asked_target, Request.RequestValue};
-ghost use Rattle.rfc9309_laws.specs.Conformance.{has_syntax, has_verdicts};
+ghost use Rattle.rfc9309_laws.specs.Conformance.{conformance_of, has_syntax, has_verdicts};
+
+use std::alloc::Global;
+use texting_robots::{Error, Robot};
 
 /// Without `--needless`, a request and a file have at most one audit; with it, one for each list of needless
 /// rules.
@@ -74,31 +77,47 @@ pub fn syntax_is_that_of_the_standard()
     ensures syntax { (requested : RequestValue) (file : List ℕ) (audit : AuditValue) → IsAuditOf requested file audit
         → (has_syntax audit.syntax ≡ true)
         ↔ ((length file ≤ file_limit) × ((groups : List Group) × IsFile groups file)) }
-    ensures robot { (requested : RequestValue) (file : List ℕ) (audit : AuditValue) (agent : List ℕ) (robot : RobotValue)
-        → IsAuditOf requested file audit → has_syntax audit.syntax ≡ true
-        → IsRobotOfFile agent (take file_limit file) robot → IsRobotStated agent file robot }
+    ensures robot { (requested : RequestValue) (file : List ℕ) (audit : AuditValue)
+        → IsAuditOf requested file audit → has_syntax audit.syntax ≡ true → (agent : List ℕ)
+        (robot : RobotValue) → IsRobotOfFile agent (take file_limit file) robot
+        → IsRobotStated agent file robot }
 {}
 
 /// If a report says that verdicts are those of RFC 9309, the verdict of each crawler with a product token, on
 /// each path and query in normal form, is the standard's (`verdicts`), and the file isn't rejected for it
 /// (`accepted`).
 pub fn verdicts_are_those_of_the_standard()
-    ensures verdicts { (requested : RequestValue) (file : List ℕ) (audit : AuditValue) (agent uri : List ℕ) (groups : List Group)
-        (robot : RobotValue) (answer : Bool) → IsAuditOf requested file audit
-        → has_verdicts audit.syntax ≡ true → IsProductToken agent → IsFile groups file
-        → normal_uri all_stay uri ≡ uri → IsRobotOfFile agent (take file_limit file) robot
+    ensures verdicts { (requested : RequestValue) (file : List ℕ) (audit : AuditValue)
+        → IsAuditOf requested file audit → has_verdicts audit.syntax ≡ true → (agent : List ℕ)
+        (groups : List Group) → IsProductToken agent → IsFile groups file → (uri : List ℕ)
+        (robot : RobotValue) (answer : Bool) → normal_uri all_stay uri ≡ uri
+        → IsRobotOfFile agent (take file_limit file) robot
         → IsVerdict (unplaced robot.rules) uri answer ↔ IsStandardVerdict groups agent uri answer }
-    ensures accepted { (requested : RequestValue) (file : List ℕ) (audit : AuditValue) (agent : List ℕ)
-        (groups : List Group) → IsAuditOf requested file audit → has_verdicts audit.syntax ≡ true
-        → IsProductToken agent → IsFile groups file → ¬ IsFileRejected agent (take file_limit file) }
+    ensures accepted { (requested : RequestValue) (file : List ℕ) (audit : AuditValue)
+        → IsAuditOf requested file audit → has_verdicts audit.syntax ≡ true → (agent : List ℕ)
+        (groups : List Group) → IsProductToken agent → IsFile groups file
+        → ¬ IsFileRejected agent (take file_limit file) }
 {}
 
-/// A file with the verdicts of the standard, one in which a line is in the way of that, and one that isn't in
-/// the grammar because of a line.
+/// The same of this library's answer about a file: on a path and query in normal form it is the standard's.
+pub fn allowed_by_the_standard(
+    alloc: Global,
+    agent: &str,
+    file: &[u8],
+    uri: &str,
+) -> Result<bool, Error>
+    ensures { IfOk result (λ answer. has_verdicts (conformance_of file.now) ≡ true → (groups : List Group)
+        → IsFile groups file.now → normal_uri all_stay uri.now ≡ uri.now
+        → IsStandardVerdict groups agent.now uri.now answer) }
+{
+    let robot = Robot::new(alloc, agent, file)?;
+    Ok(robot.allowed_prepared(uri))
+}
+
+/// Files with the verdicts of the standard, in which a line is in the way of that, or that aren't in the
+/// grammar.
 pub fn examples_of_syntax()
-    ensures verdicts { example.verdicts }
-    ensures apart { example.apart }
-    ensures other { example.other }
+    ensures { example.syntax }
 {}
 
 /// `allowed-and-disallowed` is given for a line exactly if it has a Disallow that applies to one of the
