@@ -5,7 +5,7 @@ use Rattle.std.proofs.Common.{filter, flat_map, inl, inr, refl, subst, sym, â—Œâ
 use Rattle.std.specs.{List.list_all, List.list_any, Str.str_to_ascii_lowercase}
 use Rattle.std.proofs.lemmas.{Bool.and_parts, Bool.cases_Bool, Slice.Eq.bytes_eq-Decides}
 use Rattle.std.proofs.lemmas.List.{Elements.filter-append, Folds.list_any-append}
-use Rattle.texting_robots.proofs.CapturedLemmas.{cond_same}
+use Rattle.texting_robots.proofs.Shared.{cond_same}
 use Rattle.rfc9309_laws.specs.Rfc9309.{Group, Member, has_token, is_rule, merged, put_before, rules_for}
 use Rattle.rfc9309_laws.specs.Rfc9309.{standard_rules, without_delays}
 use Rattle.rfc9309_laws.proofs.{GroupLemmas.has, GroupLemmas.is_named, GroupLemmas.theirs, Sources.put_both}

@@ -10,7 +10,7 @@ use Rattle.std.proofs.lemmas.Bool.{eqb-true, lt-ltb, ltb-true, not-true, or_part
 use Rattle.std.proofs.lemmas.{List.append-nil}
 use Rattle.texting_robots.specs.Escape.{escaped, escape_byte, is_escaped}
 use Rattle.texting_robots.specs.Pattern.{Consumes, IsSuffix, Matches, MatchesWith, dollar, star}
-use Rattle.texting_robots.proofs.{SegmentLemmas.suffix_trans}
+use Rattle.texting_robots.proofs.Shared.{suffix_trans}
 use Rattle.rfc9309_laws.specs.Comparable.{has_odd_escape, is_normal, is_uri_octet, IsComparedAs}
 use Rattle.rfc9309_laws.specs.Matching.{Reading, all_stay, in_uri, is_escape, is_kept, is_unreserved, IsMatch}
 use Rattle.rfc9309_laws.specs.Matching.{normal_escape, normal_from, normal_octet, normal_uri, filled}
