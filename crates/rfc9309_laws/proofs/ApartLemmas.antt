@@ -15,8 +15,7 @@ use Rattle.texting_robots.specs.Callers.{unplaced}
 use Rattle.texting_robots.specs.{Trim.IsTrimOf, Cut.IsBodyByte, Cut.lf}
 use Rattle.texting_robots.specs.Executable.{file_bodies, file_lines, rules_for}
 use Rattle.texting_robots.specs.Internal.{Line.line_of, Statement.trimmed}
-use Rattle.texting_robots.proofs.{BestLemmas.placed_of, TrimLemmas.each_append, TrimLemmas.is_trimmed}
-use Rattle.texting_robots.proofs.{TrimLemmas.trimmed_is_trim, CollapseLemmas.length_within}
+use Rattle.texting_robots.proofs.Shared.{placed_of, each_append, is_trimmed, trimmed_is_trim, length_within}
 use Rattle.rfc9309_laws.specs.Comparable.{AreComparable, IsPathOf, has_odd_escape}
 use Rattle.rfc9309_laws.specs.Conformance.{allows_all, denies_all, first_denying, first_mixed}
 use Rattle.rfc9309_laws.specs.Conformance.{first_mixed_for, first_split, front_of, is_all, is_apart}

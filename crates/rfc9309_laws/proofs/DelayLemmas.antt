@@ -5,7 +5,7 @@ use Rattle.std.proofs.Common.{ap, cond, filter, flat_map, inl, inr, refl, subst,
 use Rattle.std.specs.{List.list_all, List.list_any, Str.str_to_ascii_lowercase}
 use Rattle.std.proofs.lemmas.{Bool.and_parts, Bool.cases_Bool, Bool.not-true, Slice.Eq.bytes_eq-Decides}
 use Rattle.std.proofs.lemmas.List.{Elements.filter-append, Folds.list_any-append}
-use Rattle.texting_robots.proofs.CapturedLemmas.{cond_same}
+use Rattle.texting_robots.proofs.Shared.{cond_same}
 use Rattle.texting_robots.specs.Line.{Allow, CrawlDelay, Disallow, UserAgent}
 use Rattle.rfc9309_laws.specs.{Conformance.first_split}
 use Rattle.rfc9309_laws.specs.Rfc9309.{Delay, Group, Member, has_token, is_rule, merged, put_before, rules_for}

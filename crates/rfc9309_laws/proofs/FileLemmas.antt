@@ -18,7 +18,7 @@ use Rattle.rfc9309_laws.proofs.Sources.{with_token, with_address}
 use Rattle.rfc9309_laws.specs.LineForms.{Form, IsLine, Empty, Agent, Rule, Delay, Sitemap, Other}
 use Rattle.rfc9309_laws.specs.StandardRobot.{IsFileBelow, IsFileWith}
 use Rattle.std.proofs.lemmas.{Grind.flat_map-append}
-use Rattle.texting_robots.proofs.{CutFromFront.bodies_nil, TrimLemmas.each_append}
+use Rattle.texting_robots.proofs.Shared.{bodies_nil, each_append}
 use Rattle.rfc9309_laws.specs.Rfc9309 as rfc
 use Rattle.texting_robots.specs.Line as library
 

@@ -7,8 +7,7 @@ use Rattle.std.proofs.lemmas.List.Elements.{All-contains, All-from_recursion}
 use Rattle.texting_robots.specs.Callers.{IsDenied, IsRobotOfFile, IsVerdict, Matches, RobotValue, Rule}
 use Rattle.texting_robots.specs.Callers.{escaped, file_limit, unplaced}
 use Rattle.texting_robots.specs.{Escape.is_escaped, Trim.IsTrimOf}
-use Rattle.texting_robots.proofs.{NormalizedLemmas.plain_stays, TrimLemmas.is_trimmed}
-use Rattle.texting_robots.proofs.{VerdictLemmas.same_verdicts}
+use Rattle.texting_robots.proofs.Shared.{plain_stays, is_trimmed, same_verdicts}
 use Rattle.rfc9309_laws.specs.{StandardRobot.IsReadAs, StandardRobot.IsFileWith, Comparable.AreComparable}
 use Rattle.rfc9309_laws.specs.Comparable.{IsPathOf, IsPlainPath}
 use Rattle.rfc9309_laws.specs.Matching.{IsDisallowed, IsMatch, IsRfcVerdict, Reading, is_ended, normal_uri}

@@ -31,7 +31,7 @@ const NAMES: &[&str] = &[
     "crawldelay",
 ];
 
-#[tactic(auto, using(texting_robots::proofs::LaneLemmas::found_or_end))]
+#[tactic(auto, using(texting_robots::proofs::Shared::found_or_end))]
 fn place(stop: u8, text: &[u8]) -> usize
     ensures value { result ≡ position_or_len (λ b. b == stop) text.now }
     ensures within { result ≤ length text.now }

@@ -24,10 +24,8 @@ use Rattle.audit_core.specs.Audit.{sitemaps_asked, warnings_found, warnings_requ
 use Rattle.audit_core.specs.{Request.RequestValue, Asked.asked_target}
 use Rattle.std.specs.{List.All, List.AllByRecursion as Each, List.AllZip, Bool.Decides}
 use Rattle.std.proofs.lemmas.List.Elements.{All-cons, All-nil, recursion_from_All}
-use Rattle.texting_robots.proofs.RulesLemmas.{none_unplaced, some_overlong}
-use Rattle.texting_robots.proofs.VerdictLemmas.{one_line_decides, one_verdict}
-use Rattle.texting_robots.proofs.{MainTheoremLemmas.rejection_is_computed, BestLemmas.each_text_answered}
-use Rattle.texting_robots.proofs.{ExampleLemmas.overlong_decides}
+use Rattle.texting_robots.proofs.Shared.{none_unplaced, some_overlong, one_line_decides, one_verdict}
+use Rattle.texting_robots.proofs.Shared.{rejection_is_computed, each_text_answered, overlong_decides}
 use Rattle.robots_needless.specs.{declared.needless.NeedlessRule.NeedlessRule}
 use Rattle.robots_warnings.specs.{Closed.reach_of, File.labels_for, Warnings.warnings, Message.WarningValue}
 use Rattle.robots_warnings.specs.Facts.{is_too_large, facts_of}

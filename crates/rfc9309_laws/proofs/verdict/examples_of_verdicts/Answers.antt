@@ -5,8 +5,7 @@ use Rattle.std.specs.{Char.is_ascii_graphic, Prelude.slice_index}
 use Rattle.std.proofs.lemmas.Bool.{and_parts, eqb-false, ltb-true}
 use Rattle.texting_robots.specs.{Escape.escaped, Rules.PlacedRule, Rules.unplaced, Trim.IsTrimOf}
 use Rattle.texting_robots.specs.Verdict.{IsVerdict}
-use Rattle.texting_robots.proofs.BestLemmas.{allowed_by, answered, deciding_rule}
-use Rattle.texting_robots.proofs.TrimLemmas.{graphic_trim, trimmed_is_trim}
+use Rattle.texting_robots.proofs.Shared.{allowed_by, answered, deciding_rule, graphic_trim, trimmed_is_trim}
 use Rattle.rfc9309_laws.specs.Comparable.{AreComparable, IsPathOf, IsPlainPath}
 use Rattle.rfc9309_laws.specs.Examples.{mixed_rules, page_rules, tsu}
 use Rattle.rfc9309_laws.specs.StandardRobot.{IsReadAs}
