@@ -26,7 +26,8 @@ use Rattle.rfc9309_laws.specs.Matching.{IsRfcVerdict, all_stay, has_dollar, norm
 use Rattle.rfc9309_laws.specs.Matching.{octets}
 use Rattle.rfc9309_laws.specs.StandardRobot.{IsFileWith, IsReadAs}
 use Rattle.rfc9309_laws.proofs.DelayLemmas.{is_unsplit, rules_unsplit, unsplit}
-use Rattle.rfc9309_laws.proofs.{NormalLemmas.escaped_plain, PlainLemmas.plain_compared, ReadLemmas.lines_in, RobotLemmas.rejected_as}
+use Rattle.rfc9309_laws.proofs.{NormalLemmas.escaped_plain, PlainLemmas.plain_compared, ReadLemmas.lines_in}
+use Rattle.rfc9309_laws.proofs.{RobotLemmas.rejected_as}
 use Rattle.rfc9309_laws.proofs.{RobotLemmas.rules_read}
 use Rattle.rfc9309_laws.proofs.FileLemmas.{FileRead, file_with, groups_written, has_delays}
 use Rattle.rfc9309_laws.proofs.KeyedLemmas.{IsLineOf}

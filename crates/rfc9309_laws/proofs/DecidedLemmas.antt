@@ -266,8 +266,9 @@ files_decided file = (only, every)
         (line_apart (take file_limit file)) whole none
 
 -- the crawler has the rules of one that the file names, or of `*`
-module _ (file agent name : List ℕ) (groups : List rfc.Group) (has : has_verdicts (conformance_of file) ≡ true)
-    (is : rfc.IsFile groups file) (listed : Contains (codes "*" ∷ agents_in (lines_read file)) name)
+module _ (file agent name : List ℕ) (groups : List rfc.Group)
+    (has : has_verdicts (conformance_of file) ≡ true) (is : rfc.IsFile groups file)
+    (listed : Contains (codes "*" ∷ agents_in (lines_read file)) name)
     (same : placed_rules agent (lines_read file) ≡ placed_rules name (lines_read file)) where
   read : rfc.IsFile groups (take file_limit file)
   read = subst (rfc.IsFile groups) (sym (none_apart file has).0) is

@@ -1,16 +1,19 @@
 -- Skipping delays changes no rules if the merged groups are unsplit (`is_unsplit`): each group with rules has
 -- all tokens of the groups without rules that come directly above it.
 use Rattle.std.proofs.Common.{◌≡◌, ◌⊎◌, ℕ, ◌+◌, Bool, true, false, not, ◌||◌, ◌&&◌, List, [], ◌∷◌, ◌++◌, None}
-use Rattle.std.proofs.Common.{ap, cond, filter, flat_map, inl, inr, refl, subst, sym, ◌∙◌, if◌then◌else◌, arith}
+use Rattle.std.proofs.Common.{ap, cond, filter, flat_map, inl, inr, refl, subst, sym, ◌∙◌, if◌then◌else◌}
+use Rattle.std.proofs.Common.{arith}
 use Rattle.std.specs.{List.list_all, List.list_any, Str.str_to_ascii_lowercase}
 use Rattle.std.proofs.lemmas.{Bool.and_parts, Bool.cases_Bool, Bool.not-true, Slice.Eq.bytes_eq-Decides}
 use Rattle.std.proofs.lemmas.List.{Elements.filter-append, Folds.list_any-append}
 use Rattle.texting_robots.proofs.Shared.{cond_same}
 use Rattle.texting_robots.specs.Line.{Allow, CrawlDelay, Disallow, UserAgent}
 use Rattle.rfc9309_laws.specs.{Conformance.first_split}
-use Rattle.rfc9309_laws.specs.Rfc9309.{Delay, Group, Member, has_token, is_rule, merged, put_before, rules_for}
+use Rattle.rfc9309_laws.specs.Rfc9309.{Delay, Group, Member, has_token, is_rule, merged, put_before}
+use Rattle.rfc9309_laws.specs.Rfc9309.{rules_for}
 use Rattle.rfc9309_laws.specs.Rfc9309.{standard_rules, without_delays}
-use Rattle.rfc9309_laws.proofs.{GroupLemmas.has, GroupLemmas.is_named, GroupLemmas.theirs, ReadLemmas.lines_in}
+use Rattle.rfc9309_laws.proofs.{GroupLemmas.has, GroupLemmas.is_named, GroupLemmas.theirs}
+use Rattle.rfc9309_laws.proofs.{ReadLemmas.lines_in}
 use Rattle.rfc9309_laws.proofs.Sources.{Source, allowed_in, parts_in, put_both}
 use Rattle.rfc9309_laws.specs.declared.conformance.Above.{Above}
 use Rattle.rfc9309_laws.specs.declared.conformance.Above.TheVariants as over

@@ -123,7 +123,8 @@ fixed =
     → (list_all is_uri_octet uri ≡ true) × (has_odd_escape uri ≡ false)) (λ in_query e. (refl, refl))
     (λ in_query b text isnt later e.
     let (is, rest) =
-    octet_stays (in_uri all_stay) in_query b _ text (sym (octet_first (in_uri all_stay) in_query b text isnt) ∙ e) in
+    octet_stays (in_uri all_stay) in_query b _ text
+    (sym (octet_first (in_uri all_stay) in_query b text isnt) ∙ e) in
     let (all, even) = later rest in
     let octet = sym (kept_octets in_query b (ltb-true b 128 (and_parts (ltb b 128) _ is).0)) ∙ is in
     (rw (octet, all), rw (isnt, even)))

@@ -124,7 +124,8 @@ module _ (stays : Reading) (count : List ℕ → ℕ) (members : List rfc.Member
         is_match = (matching path (inr listed)).0 (rw written at matches);
         most = λ allowed has allows.
             let less =
-            longest (escaped allowed) (read_listed (rfc.Allow allowed) has) ((matching allowed (inl has)).1 allows) in
+            longest (escaped allowed) (read_listed (rfc.Allow allowed) has)
+            ((matching allowed (inl has)).1 allows) in
             let size = ap length written in
             let one = counts allowed (inl has) in
             let two = counts path (inr listed) in

@@ -1,13 +1,12 @@
 //! Where the verdict of this library is that of RFC 9309, sections 2.2.2 and 2.2.3. Each theorem is the
 //! contract of an empty function.
 ghost use Rattle.std.specs.Prelude.{◌≡◌, ◌↔◌, ℕ, Bool, true, false, List, length, take};
-ghost use Rattle.std.specs.List.{AllZip, list_any};
+ghost use Rattle.{std.specs.List.AllZip, std.specs.List.list_any, texting_robots.specs.Escape.is_escaped};
 ghost use Rattle.rfc9309_laws.specs.Comparable.{AreComparable, IsPlainPath, is_normal};
 ghost use Rattle.rfc9309_laws.specs.Matching.{IsMatch, IsRfcVerdict, Reading, all_stay, normal_uri, octets};
 ghost use Rattle.rfc9309_laws.specs.StandardRobot.{IsReadAs, IsFileWith};
 ghost use Rattle.texting_robots.specs.Callers.{IsRobotOfFile, IsVerdict, Matches, RobotValue, Rule, escaped};
 ghost use Rattle.texting_robots.specs.Callers.{file_limit, unplaced};
-ghost use Rattle.texting_robots.specs.Escape.{is_escaped};
 ghost use Rattle.rfc9309_laws.specs.Examples as example;
 ghost use Rattle.rfc9309_laws.specs.Rfc9309 as rfc;
 
