@@ -11,7 +11,7 @@ use Rattle.std.proofs.lemmas.List.{Folds.Any-from_list_any, drop_more}
 use Rattle.texting_robots.specs.Callers.{IsDenied, IsVerdict, LineValue, PlacedRule, Rule, placed_rules}
 use Rattle.texting_robots.specs.Callers.{rules_for, unplaced}
 use Rattle.texting_robots.specs.{Decision.IsDecisionOn, declared.decision.Decision.Decision}
-use Rattle.texting_robots.proofs.{VerdictLemmas.one_verdict}
+use Rattle.texting_robots.proofs.Shared.{one_verdict}
 use Rattle.audit_core.specs.{Asked.asked_target, Findings.FindingValue, Findings.finding_value}
 use Rattle.audit_core.specs.Audit.{IsRuling, IsVerdictOn, VerdictValue}
 use Rattle.audit_core.proofs.{AuditLemmas.none_of}

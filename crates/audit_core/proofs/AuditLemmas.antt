@@ -19,8 +19,8 @@ use Rattle.robots_warnings.proofs.{ClosedLemmas.any_last}
 use Rattle.printable_text.specs.{Lines.ended}
 use Rattle.robots_warnings.specs.File.{lines_of, space, labels_for}
 use Rattle.audit_core.specs.Audit.{sitemap_at, IsRuling, IsVerdictOn, VerdictValue, agents_requested}
-use Rattle.texting_robots.proofs.{GivenLemmas.delay_is_computed, LabelLemmas.labels_hold}
-use Rattle.texting_robots.proofs.MainTheoremLemmas.{answers_computed, lines_are_read, of_lines, read_robot}
+use Rattle.texting_robots.proofs.Shared.{delay_is_computed, labels_hold, answers_computed, lines_are_read}
+use Rattle.texting_robots.proofs.Shared.{of_lines, read_robot}
 use Rattle.audit_core.specs.{Asked.asked_target}
 
 absorbed : (names : List (List ℕ)) (name key : List ℕ) → is_among name names ≡ true

@@ -10,8 +10,7 @@ use Rattle.std.proofs.lemmas.List.{length-map, map-append, take_more, Elements.f
 use Rattle.texting_robots.specs.Callers.{IsRejected, IsRobotWithoutSitemaps, RobotValue, file_limit, lines_read}
 use Rattle.texting_robots.specs.Callers.{placed_rules}
 use Rattle.texting_robots.specs.{Decision.IsDecisionOn, declared.decision.Decision.Decision}
-use Rattle.texting_robots.proofs.MainTheoremLemmas.{answers_computed, read_robot}
-use Rattle.texting_robots.proofs.{TrimLemmas.each_append}
+use Rattle.texting_robots.proofs.Shared.{answers_computed, read_robot, each_append}
 use Rattle.printable_text.specs.{Text.NamedLine, Lines.ended, Sanitize.IsPrintable, Sanitize.has_command}
 use Rattle.printable_text.specs.Text.{Number, Part, ReportLine, Untrusted, label, line_text, named_text}
 use Rattle.printable_text.proofs.SanitizeLemmas.{ended_printable, line_printable}

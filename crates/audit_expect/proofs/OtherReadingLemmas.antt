@@ -15,11 +15,9 @@ use Rattle.texting_robots.specs.{Statement.IsStatement, declared.parser.statemen
 use Rattle.texting_robots.specs.{declared.decision.Decision.Decision, declared.parser.statement.Kind.Kind}
 use Rattle.texting_robots.specs.{Decision.IsDecisionOn, Pattern.longest_with_dollar, Internal.Line.line_of}
 use Rattle.texting_robots.specs.Internal.Statement.{kind_by, kind_with, skip_blanks, statement_of, tail_as}
-use Rattle.texting_robots.proofs.BestLemmas.{none_denies, verdict_by}
-use Rattle.texting_robots.proofs.{CollapseLemmas.length_within, LineLemmas.line_raw, LineLemmas.line_stated}
-use Rattle.texting_robots.proofs.{RulesLemmas.any_unplaced, VerdictLemmas.one_verdict}
-use Rattle.texting_robots.proofs.StatementLemmas.{found_statement, statement_found}
-use Rattle.texting_robots.proofs.MainTheoremLemmas.{rejection_is_computed, no_line_allows}
+use Rattle.texting_robots.proofs.Shared.{none_denies, verdict_by, length_within, line_raw, line_stated}
+use Rattle.texting_robots.proofs.Shared.{any_unplaced, one_verdict, found_statement, statement_found}
+use Rattle.texting_robots.proofs.Shared.{rejection_is_computed, no_line_allows}
 use Rattle.robots_needless.proofs.TogetherLemmas.{in_filter, to_filter}
 use Rattle.robots_warnings.specs.Conflicts.{IsEmptyDisallow, begins_with_d, is_empty_disallow}
 use Rattle.robots_warnings.specs.FieldNames.{is_space_or_tab, without_front}

@@ -22,7 +22,7 @@ use Rattle.printable_text.proofs.SanitizeLemmas.{ascii_printable, sanitized_in_p
 use Rattle.printable_text.proofs.SanitizeLemmas.{append_printable, blanks_printable, decimal_printable}
 use Rattle.printable_text.proofs.SanitizeLemmas.{decimal_by, ended_printable, line_printable, nil_printable}
 use Rattle.printable_text.specs.declared.level.Level.TheVariants.{Error, Note, Warning}
-use Rattle.texting_robots.proofs.{TrimLemmas.each_append}
+use Rattle.texting_robots.proofs.Shared.{each_append}
 
 -- ---- Every line that is made of parts is printable, and no workflow takes it for a command.
 

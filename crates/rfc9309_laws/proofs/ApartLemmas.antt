@@ -7,6 +7,7 @@ use Rattle.std.specs.{List.AllByRecursion as Each, List.AllZip, List.ends_with, 
 use Rattle.std.specs.{List.list_any, List.position_from, Option.option_or, Fmt.digit_glyph}
 use Rattle.std.proofs.lemmas.Bool.{and_parts, both_ways, cases_Bool, eqb-true, Decides.nat_tests}
 use Rattle.std.proofs.lemmas.Bool.{false≢true, not-false, not-true, leb-true, or_cases}
+use Rattle.std.proofs.lemmas.List.Folds.{list_any-from_Any}
 use Rattle.std.proofs.lemmas.{Grind.common_steps, Simd.map-map, Slice.Eq.bytes_eq-Decides}
 use Rattle.texting_robots.specs.Callers.{IsRobotOfFile, IsVerdict, PlacedRule, RobotValue, Rule, escaped}
 use Rattle.texting_robots.specs.Callers.{IsFileRejected, IsOverlong, agents_in, file_limit, placed_rules}
@@ -14,9 +15,8 @@ use Rattle.texting_robots.specs.Callers.{unplaced}
 use Rattle.texting_robots.specs.{Trim.IsTrimOf, Cut.IsBodyByte, Cut.lf}
 use Rattle.texting_robots.specs.Executable.{file_bodies, file_lines, rules_for}
 use Rattle.texting_robots.specs.Internal.{Line.line_of, Statement.trimmed}
-use Rattle.texting_robots.proofs.{BestLemmas.placed_of, TrimLemmas.each_append, TrimLemmas.is_trimmed}
-use Rattle.texting_robots.proofs.{TrimLemmas.trimmed_is_trim, CollapseLemmas.length_within}
-use Rattle.rfc9309_laws.specs.{Comparable.AreComparable, Comparable.IsFit, Comparable.has_odd_escape}
+use Rattle.texting_robots.proofs.Shared.{placed_of, each_append, is_trimmed, trimmed_is_trim, length_within}
+use Rattle.rfc9309_laws.specs.Comparable.{AreComparable, IsPathOf, has_odd_escape}
 use Rattle.rfc9309_laws.specs.Conformance.{allows_all, denies_all, first_denying, first_mixed}
 use Rattle.rfc9309_laws.specs.Conformance.{first_mixed_for, first_split, front_of, is_all, is_apart}
 use Rattle.rfc9309_laws.specs.Conformance.{is_odd_octet, is_plain_path, is_read_as_written, line_apart}
@@ -25,8 +25,9 @@ use Rattle.rfc9309_laws.specs.LineForms.{Form, HasForm, Agent, Delay, Empty, Oth
 use Rattle.rfc9309_laws.specs.Matching.{IsRfcVerdict, all_stay, has_dollar, normal_from, normal_uri}
 use Rattle.rfc9309_laws.specs.Matching.{octets}
 use Rattle.rfc9309_laws.specs.StandardRobot.{IsFileWith, IsReadAs}
-use Rattle.rfc9309_laws.proofs.{DelayLemmas.has_rule, DelayLemmas.is_unsplit, DelayLemmas.rules_unsplit}
-use Rattle.rfc9309_laws.proofs.{PlainLemmas.plain_compared, ReadLemmas.lines_in, RobotLemmas.rejected_as}
+use Rattle.rfc9309_laws.proofs.DelayLemmas.{is_unsplit, rules_unsplit, unsplit}
+use Rattle.rfc9309_laws.proofs.{NormalLemmas.escaped_plain, PlainLemmas.plain_compared, ReadLemmas.lines_in}
+use Rattle.rfc9309_laws.proofs.{RobotLemmas.rejected_as}
 use Rattle.rfc9309_laws.proofs.{RobotLemmas.rules_read}
 use Rattle.rfc9309_laws.proofs.FileLemmas.{FileRead, file_with, groups_written, has_delays}
 use Rattle.rfc9309_laws.proofs.KeyedLemmas.{IsLineOf}
@@ -86,29 +87,6 @@ delay_source number (Allow value, text) same = allowed text value same
 delay_source number (Disallow value, text) same = cc
 delay_source number (line, text) same = tt
 
-module _ (body : List ℕ) (bytes : Each IsBodyByte body) where
-  none_by : (form : Form) (sources : List Source) → IsLineOf form sources (body ++ lf ∷ []) → HasNone sources
-      → IsNoRule (line_of body)
-  none_by form sources line none =
-      subst (λ body. IsNoRule (line_of body)) (before_end body line.body line.nl bytes line.is_nl line.whole)
-      (none_kept (line_of line.body) (written line.body) sources line.sourced none)
-
-  no_rule : (form : Form) → HasForm form body → form ≢ shape.Rule → IsNoRule (line_of body)
-  no_rule Empty is other = none_by Empty [] (empty_line _ is) tt
-  no_rule Agent (token, is) other = none_by Agent _ (token_line token _ is) (tt, tt)
-  no_rule shape.Rule is other = absurd (other refl)
-  no_rule Delay (rfc.Delay number, is) other =
-      let read = delay_line (rfc.Delay number) (body ++ lf ∷ []) is in
-      none_by Delay (read.source ∷ []) read.is_line (
-        delay_source number read.source
-            (ap (λ (parts : Parts). parts.ungrouped) (read.written (parts_of [] []))),
-        tt,
-      )
-  no_rule Delay (rfc.Allow pattern, is) other = absurd is
-  no_rule Delay (rfc.Disallow pattern, is) other = absurd is
-  no_rule shape.Sitemap (address, is) other = none_by shape.Sitemap _ (sitemap_line address _ is) (tt, tt)
-  no_rule Other is other = none_by Other [] (other_line _ is) tt
-
 allowed_fine : (text value : List ℕ) → IsFine text → IsFineMember (allowed_in text value)
 allowed_fine [] [] fine = fine
 allowed_fine [] (b ∷ value) fine = fine
@@ -124,22 +102,41 @@ other_fine (Allow value) text none = absurd none
 other_fine (Disallow value) text none = absurd none
 other_fine _ text none = tt
 
-source_fine : (form : Form) (body : List ℕ) → Each IsBodyByte body → HasForm form body → is_apart body ≡ false
-    → IsFineMember (member_in (line_of body) (written body))
-unfolding written
-source_fine form body bytes is near = elim (cases_Bool (has_form shape.Rule body)) [
-  | inl rule ↦
+-- the line with this content is none of a rule
+module _ (body : List ℕ) (bytes : Each IsBodyByte body) where
+  abbrev IsFineLine : Type 0
+  IsFineLine = IsFineMember (member_in (line_of body) (written body))
+
+  unruled : {form : Form} {sources : List Source} → IsLineOf form sources (body ++ lf ∷ []) → HasNone sources
+      → IsFineLine
+  unruled {sources = sources} line none =
+      other_fine (line_of body) (written body) (subst (λ body. IsNoRule (line_of body))
+      (before_end body line.body line.nl bytes line.is_nl line.whole)
+      (none_kept (line_of line.body) (written line.body) sources line.sourced none))
+
+  line_fine : (form : Form) → HasForm form body → is_apart body ≡ false → IsFineLine
+  unfolding written
+  line_fine Empty is near = unruled (empty_line _ is) tt
+  line_fine Agent (token, is) near = unruled (token_line token _ is) (tt, tt)
+  line_fine shape.Rule is near =
+      let rule = form_tested body bytes shape.Rule is in
       let fine = and_parts (is_plain_path (value_in body)) _ (not-false _ (rw rule at near)) in
       rule_fine (line_of body) (value_in body) (record {
         plain = fine.0;
         written = fine.1;
         is_pattern = (and_parts _ (is_pattern (value_in body)) rule).1;
       })
-  | inr isnt ↦
-      other_fine (line_of body) (value_in body) (no_rule body bytes form is
-      (λ e. both_ways (has_form shape.Rule body) isnt
-      (subst (λ f. has_form f body ≡ true) e (form_tested body bytes form is))))
-]
+  line_fine Delay (rfc.Delay number, is) near =
+      let read = delay_line (rfc.Delay number) (body ++ lf ∷ []) is in
+      unruled read.is_line (
+        delay_source number read.source
+            (ap (λ (parts : Parts). parts.ungrouped) (read.written (parts_of [] []))),
+        tt,
+      )
+  line_fine Delay (rfc.Allow pattern, is) near = absurd is
+  line_fine Delay (rfc.Disallow pattern, is) near = absurd is
+  line_fine shape.Sitemap (address, is) near = unruled (sitemap_line address _ is) (tt, tt)
+  line_fine Other is near = unruled (other_line _ is) tt
 
 abbrev IsFineSource : Source → Type 0
 IsFineSource source = IsFineMember (member_in source.0 source.1)
@@ -152,7 +149,7 @@ sources_fine [] (body ∷ bodies) number bytes each near = absurd each
 sources_fine (form ∷ forms) [] number bytes each near = absurd each
 sources_fine (form ∷ forms) (body ∷ bodies) number (here, bytes) (is, each) near =
     let (test, later) = first (is_apart body) (position_from is_apart (number + 1) bodies) near in
-    (source_fine form body here is test, sources_fine forms bodies (number + 1) bytes each later)
+    (line_fine body here form is test, sources_fine forms bodies (number + 1) bytes each later)
   where
     first : (test : Bool) (later : Option ℕ) → (if test then Some number else later) ≡ None
         → (test ≡ false) × (later ≡ None)
@@ -208,119 +205,7 @@ raw_parts [] = refl
 raw_parts ((Raw body, text) ∷ sources) = raw_parts sources
 raw_parts ((line, text) ∷ sources) = ap (with_source (line, text)) (raw_parts sources)
 
--- ---- delays
-
-abbrev below : List (List ℕ) → List Source → List rfc.Group
-below tokens sources = rfc.put_before tokens (parts_in sources).ungrouped (parts_in sources).groups
-
-below_token : (tokens : List (List ℕ)) (token text : List ℕ) (sources : List Source)
-    → below tokens ((UserAgent token, text) ∷ sources) ≡ below (tokens ++ token ∷ []) sources
-below_token tokens token text sources = put_both tokens (token ∷ []) _ _
-
-rule_allowed : (text value : List ℕ) → rfc.is_rule (allowed_in text value) ≡ true
-rule_allowed [] [] = refl
-rule_allowed [] (b ∷ value) = refl
-rule_allowed (b ∷ text) value = refl
-
-abbrev are_bare : List rfc.Group → Bool
-are_bare groups = list_all (λ (group : rfc.Group). not (has_rule group.members)) groups
-
-bare_unsplit : (tokens : List (List ℕ)) (groups : List rfc.Group) → are_bare groups ≡ true
-    → is_unsplit tokens groups ≡ true
-bare_unsplit tokens [] bare = refl
-bare_unsplit tokens (group ∷ groups) bare =
-    let (none, later) = and_parts (not (has_rule group.members)) (are_bare groups) bare in
-    rw (not-true _ none) (bare_unsplit (tokens ++ group.tokens) groups later)
-
-bare_after : (rule : Bool) (tokens : List (List ℕ)) (groups : List rfc.Group) → are_bare groups ≡ true
-    → ((not rule || true) && is_unsplit (if rule then [] else tokens) groups) ≡ true
-bare_after true tokens groups bare = bare_unsplit [] groups bare
-bare_after false tokens groups bare = bare_unsplit tokens groups bare
-
-bare_parts : (tokens : List (List ℕ)) (members : List rfc.Member) (groups : List rfc.Group)
-    → are_bare (rfc.put_before tokens members groups) ≡ true
-    → (has_rule members ≡ false) × (are_bare groups ≡ true)
-bare_parts tokens [] [] bare = (refl, refl)
-bare_parts tokens [] (next ∷ later) bare = (refl, bare)
-bare_parts tokens (member ∷ members) groups bare =
-    let (none, later) = and_parts (not (has_rule (member ∷ members))) (are_bare groups) bare in
-    (not-true _ none, later)
-
--- what is so of the groups below a line, if no rule there is below groups that are split
-abbrev Holds : Above → List Source → Type 0
-Holds over.Rule sources = is_unsplit [] (parts_in sources).groups ≡ true
-Holds over.Agent sources = (tokens : List (List ℕ)) → is_unsplit [] (below tokens sources) ≡ true
-Holds over.Delay sources =
-    ((has_rule (parts_in sources).ungrouped ≡ true) × (is_unsplit [] (parts_in sources).groups ≡ true))
-    ⊎ (are_bare (parts_in sources).groups ≡ true)
-Holds over.Split sources = (tokens : List (List ℕ)) → are_bare (below tokens sources) ≡ true
-
-after_delay : (number : List ℕ) (sources : List Source) → Holds over.Delay sources → (tokens : List (List ℕ))
-    → is_unsplit [] (rfc.put_before tokens (rfc.Delay number ∷ (parts_in sources).ungrouped)
-    (parts_in sources).groups) ≡ true
-after_delay number sources (inl (rule, whole)) tokens = rw rule whole
-after_delay number sources (inr bare) tokens =
-    bare_after (has_rule (parts_in sources).ungrouped) tokens (parts_in sources).groups bare
-
-unsplit : (above : Above) (number : ℕ) (sources : List Source)
-    → first_split above number (lines_in sources) ≡ None → Holds above sources
-unsplit over.Rule number [] none = refl
-unsplit over.Agent number [] none = λ tokens. refl
-unsplit over.Delay number [] none = inr refl
-unsplit over.Split number [] none = λ tokens. refl
-unsplit over.Rule number ((UserAgent token, text) ∷ sources) none =
-    unsplit over.Agent (number + 1) sources none (token ∷ [])
-unsplit over.Agent number ((UserAgent token, text) ∷ sources) none =
-    λ tokens. subst (λ groups. is_unsplit [] groups ≡ true) (sym (below_token tokens token text sources))
-    (unsplit over.Agent (number + 1) sources none (tokens ++ token ∷ []))
-unsplit over.Delay number ((UserAgent token, text) ∷ sources) none =
-    inr (unsplit over.Split (number + 1) sources none (token ∷ []))
-unsplit over.Split number ((UserAgent token, text) ∷ sources) none =
-    λ tokens. subst (λ groups. are_bare groups ≡ true) (sym (below_token tokens token text sources))
-    (unsplit over.Split (number + 1) sources none (tokens ++ token ∷ []))
-unsplit over.Rule number ((Allow value, text) ∷ sources) none = unsplit over.Rule (number + 1) sources none
-unsplit over.Agent number ((Allow value, text) ∷ sources) none =
-    λ tokens. rw (rule_allowed text value) (unsplit over.Rule (number + 1) sources none)
-unsplit over.Delay number ((Allow value, text) ∷ sources) none =
-    inl (rw (rule_allowed text value) refl, unsplit over.Rule (number + 1) sources none)
-unsplit over.Split number ((Allow value, text) ∷ sources) none = absurd cc
-unsplit over.Rule number ((Disallow value, text) ∷ sources) none = unsplit over.Rule (number + 1) sources none
-unsplit over.Agent number ((Disallow value, text) ∷ sources) none =
-    λ tokens. unsplit over.Rule (number + 1) sources none
-unsplit over.Delay number ((Disallow value, text) ∷ sources) none =
-    inl (refl, unsplit over.Rule (number + 1) sources none)
-unsplit over.Split number ((Disallow value, text) ∷ sources) none = absurd cc
-unsplit over.Rule number ((CrawlDelay delay, text) ∷ sources) none =
-    unsplit over.Rule (number + 1) sources none
-unsplit over.Agent number ((CrawlDelay delay, text) ∷ sources) none =
-    after_delay text sources (unsplit over.Delay (number + 1) sources none)
-unsplit over.Delay number ((CrawlDelay delay, text) ∷ sources) none =
-    unsplit over.Delay (number + 1) sources none
-unsplit over.Split number ((CrawlDelay delay, text) ∷ sources) none =
-    λ tokens.
-    let (rule, bare) = bare_parts tokens (parts_in sources).ungrouped (parts_in sources).groups
-    (unsplit over.Split (number + 1) sources none tokens) in
-    rw (rule, bare) refl
-unsplit over.Rule number ((Sitemap value, text) ∷ sources) none = unsplit over.Rule (number + 1) sources none
-unsplit over.Agent number ((Sitemap value, text) ∷ sources) none =
-    unsplit over.Agent (number + 1) sources none
-unsplit over.Delay number ((Sitemap value, text) ∷ sources) none =
-    unsplit over.Delay (number + 1) sources none
-unsplit over.Split number ((Sitemap value, text) ∷ sources) none =
-    unsplit over.Split (number + 1) sources none
-unsplit over.Rule number ((Raw body, text) ∷ sources) none = unsplit over.Rule (number + 1) sources none
-unsplit over.Agent number ((Raw body, text) ∷ sources) none = unsplit over.Agent (number + 1) sources none
-unsplit over.Delay number ((Raw body, text) ∷ sources) none = unsplit over.Delay (number + 1) sources none
-unsplit over.Split number ((Raw body, text) ∷ sources) none = unsplit over.Split (number + 1) sources none
-
 -- ---- an empty Disallow
-
-any_of : {X : Type 0} (test : X → Bool) (xs : List X) (x : X) → Contains xs x → test x ≡ true
-    → list_any test xs ≡ true
-any_of test [] x (k, low, at) is = absurd (omega arith)
-any_of test (y ∷ xs) x (zero, low, at) is = rw (at, is) refl
-any_of test (y ∷ xs) x (suc k, low, at) is =
-    grind (arith, common_steps, any_of test xs x (k, omega arith, at) is)
 
 none_denied : (rules : List PlacedRule) (placed : PlacedRule) → Contains rules placed
     → denies_all placed ≡ true → first_denying rules ≡ None → ⊥
@@ -339,13 +224,6 @@ short_escape : (path : List ℕ) → length (escaped path) ≤ 3 * length path
 short_escape [] = omega arith
 short_escape (b ∷ path) = grind (arith, short_escape path)
 
-glyph_plain : (d : ℕ) → (digit_glyph true d == 36) ≡ false
-glyph_plain d = grind (arith, nat_tests)
-
-no_dollar : (path : List ℕ) → has_dollar path ≡ false → has_dollar (escaped path) ≡ false
-no_dollar [] none = refl
-no_dollar (b ∷ path) none = grind (arith, glyph_plain, no_dollar path)
-
 -- a rule that has a `$` ends with it, and so it is short
 fits : (path : List ℕ) → IsFine path → ¬ IsOverlong (escaped path)
 fits path fine (has, long) =
@@ -361,11 +239,11 @@ fits path fine (has, long) =
         omega (arith, short_escape path, length_within (escaped path), long)
     by false is none short =
         let all : has_dollar path ≡ false = rw is at none in
-        both_ways (has_dollar (escaped path)) (no_dollar path all)
-        (any_of (λ b. b == 36) (escaped path) 36 has refl)
+        both_ways (has_dollar (escaped path)) (escaped_plain path all)
+        (list_any-from_Any (λ b. b == 36) (escaped path) (has.0, 36, has.1, has.2, refl))
 
 root_fits : ¬ IsOverlong (codes "/")
-root_fits long = false≢true (any_of (λ b. b == 36) (codes "/") 36 long.0 refl)
+root_fits ((k, low, at), long) = grind (arith, nat_tests)
 
 pattern_fits : (path value : List ℕ) (rule : Rule) → IsFine path → IsTrimOf value path
     → rule.0 ≡ escaped value → ¬ IsOverlong rule.0
@@ -475,14 +353,14 @@ module _ (text : List ℕ) (near : line_apart text ≡ None) (groups : List rfc.
         let (deny, own, two) = placed_of (placed_rules agent lines) (pattern, false) has_deny in
         none_denied (placed_rules agent lines) deny own (rw two all)
         (not_mixed (placed_rules agent lines) unmixed
-        (any_of allows_all (placed_rules agent lines) allow there (rw one refl)))
+        (list_any-from_Any allows_all _ (there.0, allow, there.1, there.2, rw one refl)))
 
     empty_beside : Contains (members agent) (rfc.Disallow []) → (path : List ℕ)
         → Contains (members agent) (rfc.Disallow path) → path ≢ [] → 1 < octets all_stay path
     empty_beside empty [] listed some = absurd (some refl)
     empty_beside empty (b ∷ c ∷ path) listed some =
         let path_fine = fine agent (rfc.Disallow (b ∷ c ∷ path)) listed in
-        let size = octets_are all_stay (b ∷ c ∷ path) (b ∷ c ∷ path) (plain_compared _ path_fine.plain) in
+        let size = octets_are all_stay (b ∷ c ∷ path) (plain_compared _ path_fine.plain) in
         let longer = escaped_longer (b ∷ c ∷ path) in
         omega arith
     empty_beside empty (b ∷ []) listed some =
@@ -502,34 +380,28 @@ module _ (text : List ℕ) (near : line_apart text ≡ None) (groups : List rfc.
           | inr star ↦ rw (eqb-true b 42 star) refl
         ]
 
-    pub verdict_is : (file uri : List ℕ) (robot : RobotValue) (answer : Bool) → take file_limit file ≡ text
-        → normal_uri all_stay uri ≡ uri → IsRobotOfFile agent text robot
+    pub verdict_is : (uri : List ℕ) (robot : RobotValue) (answer : Bool) → normal_uri all_stay uri ≡ uri
+        → IsRobotOfFile agent text robot
         → IsVerdict (unplaced robot.rules) uri answer
         ↔ IsRfcVerdict all_stay (octets all_stay) (rfc.standard_rules agent groups) uri answer
     unfolding normal_from
-    verdict_is file uri robot answer whole normal of =
+    verdict_is uri robot answer normal of =
         let comparable : AreComparable all_stay (octets all_stay) (members agent) uri = record {
           normal = normal;
           robots = refl;
-          trimmed = λ path listed. elim listed [
-            | inl has ↦ fine_trim path (fine agent (rfc.Allow path) has)
-            | inr has ↦ fine_trim path (fine agent (rfc.Disallow path) has)
-          ];
-          fit = fit_by;
+          trimmed = λ path listed. fine_trim path (fine_path path listed);
+          plain = λ path listed. plain_compared path (fine_path path listed).plain;
           counted = λ path listed. refl;
           empty = empty_beside;
         } in
         subst (λ rules. IsVerdict (unplaced robot.rules) uri answer
         ↔ IsRfcVerdict all_stay (octets all_stay) rules uri answer) (whole_groups agent)
-        (robot_agrees all_stay (octets all_stay) agent file uri groups numbers robot answer
-        (subst (λ text. IsFileWith numbers groups text) (sym whole) (has_delays text groups is).1)
-        (subst (λ text. IsRobotOfFile agent text robot) (sym whole) of) comparable)
+        (robot_agrees all_stay (octets all_stay) agent text uri groups numbers robot answer
+        (has_delays text groups is).1 of comparable)
       where
-        fit_by : (member : rfc.Member) → Contains (members agent) member
-            → IsFit all_stay (members agent) member
-        fit_by (rfc.Allow path) has = inl (plain_compared path (fine agent (rfc.Allow path) has).plain)
-        fit_by (rfc.Disallow path) has = inl (plain_compared path (fine agent (rfc.Disallow path) has).plain)
-        fit_by (rfc.Delay number) has = tt
+        fine_path : (path : List ℕ) → IsPathOf (members agent) path → IsFine path
+        fine_path path (inl has) = fine agent (rfc.Allow path) has
+        fine_path path (inr has) = fine agent (rfc.Disallow path) has
 
     pub accepted : ¬ IsFileRejected agent text
     accepted rejected =

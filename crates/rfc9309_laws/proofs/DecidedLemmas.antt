@@ -1,20 +1,22 @@
 -- The tests of lines find the first line that isn't in the extended grammar, and only then one.
 use Rattle.std.proofs.Common.{◌≡◌, ◌≢◌, ◌≤◌, ◌↔◌, ℕ, ◌+◌, ◌==◌, ◌&&◌, ◌||◌, Bool, true, false, not, inl}
-use Rattle.std.proofs.Common.{inr}
-use Rattle.std.proofs.Common.{List, [], ◌∷◌, ◌++◌, All, Option, None, Some, ap, arith, if◌then◌else◌}
-use Rattle.std.proofs.Common.{length}
-use Rattle.std.proofs.Common.{map, nat_eq, nat_le, refl, ◌⊎◌, subst, sym, take, ◌∙◌}
+use Rattle.std.proofs.Common.{inr, List, [], ◌∷◌, ◌++◌, All, Contains, Option, None, Some, ap, arith, codes}
+use Rattle.std.proofs.Common.{if◌then◌else◌, length, map, nat_eq, nat_le, refl, ◌⊎◌, subst, sym, take, ◌∙◌}
 use Rattle.std.specs.List.{AllByRecursion as Each, AllZip, list_any, starts_with}
 use Rattle.std.proofs.lemmas.Bool.{and_from, and_parts, both_ways, cases_Bool, eqb-true, false≢true, le-leb}
 use Rattle.std.proofs.lemmas.Bool.{leb-true, not-true, or_cases, or_left, or_right}
 use Rattle.std.proofs.lemmas.{Grind.common_steps, List.Elements.recursion_from_All, List.take_all}
 use Rattle.texting_robots.specs.{Cut.IsBodyByte, Cut.lf, Executable.file_bodies, Line.nul_as_lf}
-use Rattle.texting_robots.specs.{Line.without, Line.without_front, Robot.file_limit}
+use Rattle.texting_robots.specs.{Line.without, Line.without_front}
+use Rattle.texting_robots.specs.Callers.{IsFileRejected, IsRobotOfFile, IsVerdict, RobotValue, agents_in}
+use Rattle.texting_robots.specs.Callers.{file_limit, lines_read, placed_rules, unplaced}
 use Rattle.rfc9309_laws.specs.HasForm.{has_form}
 use Rattle.rfc9309_laws.specs.LineForms.{AreForms, Form, HasForm, Agent, Delay, Empty, Other, Rule, Sitemap}
 use Rattle.rfc9309_laws.specs.Conformance.{by_lines, conformance_of, first_other, has_mark_or_none}
 use Rattle.rfc9309_laws.specs.Conformance.{has_syntax, has_verdicts}
 use Rattle.rfc9309_laws.specs.Conformance.{is_line_below, is_read_whole, line_apart, mark}
+use Rattle.rfc9309_laws.specs.Matching.{IsRfcVerdict, all_stay, normal_uri, octets}
+use Rattle.rfc9309_laws.proofs.ApartLemmas.{accepted, verdict_is}
 use Rattle.rfc9309_laws.proofs.{HasFormLemmas.form_passes, KeyedLemmas.AreFree, OtherLemmas.form_tested}
 use Rattle.rfc9309_laws.proofs.LineFormLemmas.{are_free, bodies_bytes, file_has_forms, forms_make_file}
 use Rattle.rfc9309_laws.proofs.LineFormLemmas.{free_below}
@@ -219,7 +221,7 @@ read_whole file is =
     leb-true (length file) file_limit
     (and_parts (nat_le (length file) file_limit) _ (and_parts _ (has_mark_or_none file) is).0).0
 
-pub none_apart : (file : List ℕ) → has_verdicts (conformance_of file) ≡ true
+none_apart : (file : List ℕ) → has_verdicts (conformance_of file) ≡ true
     → (take file_limit file ≡ file) × (line_apart (take file_limit file) ≡ None)
 none_apart file is =
     let (whole, near) = has_verdicts_by (is_read_whole file)
@@ -262,3 +264,19 @@ files_decided file = (only, every)
         (test_passed file are.bom) in
         by_has_syntax (is_read_whole file) (first_other false 1 (file_bodies (take file_limit file)))
         (line_apart (take file_limit file)) whole none
+
+-- the crawler has the rules of one that the file names, or of `*`
+module _ (file agent name : List ℕ) (groups : List rfc.Group)
+    (has : has_verdicts (conformance_of file) ≡ true) (is : rfc.IsFile groups file)
+    (listed : Contains (codes "*" ∷ agents_in (lines_read file)) name)
+    (same : placed_rules agent (lines_read file) ≡ placed_rules name (lines_read file)) where
+  read : rfc.IsFile groups (take file_limit file)
+  read = subst (rfc.IsFile groups) (sym (none_apart file has).0) is
+
+  pub verdicts_are : (uri : List ℕ) (robot : RobotValue) (answer : Bool) → normal_uri all_stay uri ≡ uri
+      → IsRobotOfFile agent (take file_limit file) robot → IsVerdict (unplaced robot.rules) uri answer
+      ↔ IsRfcVerdict all_stay (octets all_stay) (rfc.standard_rules agent groups) uri answer
+  verdicts_are = verdict_is _ (none_apart file has).1 groups read agent name listed same
+
+  pub accepted_file : ¬ IsFileRejected agent (take file_limit file)
+  accepted_file = accepted _ (none_apart file has).1 groups read agent name listed same

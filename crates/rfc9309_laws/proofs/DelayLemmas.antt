@@ -1,14 +1,22 @@
 -- Skipping delays changes no rules if the merged groups are unsplit (`is_unsplit`): each group with rules has
 -- all tokens of the groups without rules that come directly above it.
-use Rattle.std.proofs.Common.{◌≡◌, ℕ, Bool, true, false, not, ◌||◌, ◌&&◌, List, [], ◌∷◌, ◌++◌, ap, cond}
-use Rattle.std.proofs.Common.{filter, flat_map, inl, inr, refl, subst, sym, ◌∙◌, if◌then◌else◌, arith}
+use Rattle.std.proofs.Common.{◌≡◌, ◌⊎◌, ℕ, ◌+◌, Bool, true, false, not, ◌||◌, ◌&&◌, List, [], ◌∷◌, ◌++◌, None}
+use Rattle.std.proofs.Common.{ap, cond, filter, flat_map, inl, inr, refl, subst, sym, ◌∙◌, if◌then◌else◌}
+use Rattle.std.proofs.Common.{arith}
 use Rattle.std.specs.{List.list_all, List.list_any, Str.str_to_ascii_lowercase}
-use Rattle.std.proofs.lemmas.{Bool.and_parts, Bool.cases_Bool, Slice.Eq.bytes_eq-Decides}
+use Rattle.std.proofs.lemmas.{Bool.and_parts, Bool.cases_Bool, Bool.not-true, Slice.Eq.bytes_eq-Decides}
 use Rattle.std.proofs.lemmas.List.{Elements.filter-append, Folds.list_any-append}
-use Rattle.texting_robots.proofs.CapturedLemmas.{cond_same}
-use Rattle.rfc9309_laws.specs.Rfc9309.{Group, Member, has_token, is_rule, merged, put_before, rules_for}
+use Rattle.texting_robots.proofs.Shared.{cond_same}
+use Rattle.texting_robots.specs.Line.{Allow, CrawlDelay, Disallow, UserAgent}
+use Rattle.rfc9309_laws.specs.{Conformance.first_split}
+use Rattle.rfc9309_laws.specs.Rfc9309.{Delay, Group, Member, has_token, is_rule, merged, put_before}
+use Rattle.rfc9309_laws.specs.Rfc9309.{rules_for}
 use Rattle.rfc9309_laws.specs.Rfc9309.{standard_rules, without_delays}
-use Rattle.rfc9309_laws.proofs.{GroupLemmas.has, GroupLemmas.is_named, GroupLemmas.theirs, Sources.put_both}
+use Rattle.rfc9309_laws.proofs.{GroupLemmas.has, GroupLemmas.is_named, GroupLemmas.theirs}
+use Rattle.rfc9309_laws.proofs.{ReadLemmas.lines_in}
+use Rattle.rfc9309_laws.proofs.Sources.{Source, allowed_in, parts_in, put_both}
+use Rattle.rfc9309_laws.specs.declared.conformance.Above.{Above}
+use Rattle.rfc9309_laws.specs.declared.conformance.Above.TheVariants as over
 
 abbrev is_some : List Member → Bool
 is_some [] = false
@@ -127,3 +135,92 @@ all_bare agent groups is =
 pub rules_unsplit : (agent : List ℕ) (groups : List Group) → is_unsplit [] (merged groups) ≡ true
     → rules_for agent (merged groups) ≡ standard_rules agent groups
 rules_unsplit agent groups is = all_bare agent (merged groups) is ∙ ap (rules_for agent) (bare_merged groups)
+
+-- ---- lines: no rule is below user-agent lines with delays between them (`first_split`)
+
+abbrev below : List (List ℕ) → List Source → List Group
+below tokens sources = put_before tokens (parts_in sources).ungrouped (parts_in sources).groups
+
+below_token : (tokens : List (List ℕ)) (token text : List ℕ) (sources : List Source)
+    → below tokens ((UserAgent token, text) ∷ sources) ≡ below (tokens ++ token ∷ []) sources
+below_token tokens token text sources = put_both tokens (token ∷ []) _ _
+
+rule_allowed : (text value : List ℕ) → is_rule (allowed_in text value) ≡ true
+rule_allowed [] [] = refl
+rule_allowed [] (b ∷ value) = refl
+rule_allowed (b ∷ text) value = refl
+
+abbrev are_bare : List Group → Bool
+are_bare groups = list_all (λ (group : Group). not (has_rule group.members)) groups
+
+bare_unsplit : (tokens : List (List ℕ)) (groups : List Group) → are_bare groups ≡ true
+    → is_unsplit tokens groups ≡ true
+bare_unsplit tokens [] bare = refl
+bare_unsplit tokens (group ∷ groups) bare =
+    let (none, later) = and_parts (not (has_rule group.members)) (are_bare groups) bare in
+    rw (not-true _ none) (bare_unsplit (tokens ++ group.tokens) groups later)
+
+bare_after : (rule : Bool) (tokens : List (List ℕ)) (groups : List Group) → are_bare groups ≡ true
+    → ((not rule || true) && is_unsplit (if rule then [] else tokens) groups) ≡ true
+bare_after true tokens groups bare = bare_unsplit [] groups bare
+bare_after false tokens groups bare = bare_unsplit tokens groups bare
+
+bare_parts : (tokens : List (List ℕ)) (members : List Member) (groups : List Group)
+    → are_bare (put_before tokens members groups) ≡ true
+    → (has_rule members ≡ false) × (are_bare groups ≡ true)
+bare_parts tokens [] [] bare = (refl, refl)
+bare_parts tokens [] (next ∷ later) bare = (refl, bare)
+bare_parts tokens (member ∷ members) groups bare =
+    let (none, later) = and_parts (not (has_rule (member ∷ members))) (are_bare groups) bare in
+    (not-true _ none, later)
+
+-- what is so of the groups below a line, if no rule there is below groups that are split
+abbrev Holds : Above → List Source → Type 0
+Holds over.Rule sources = is_unsplit [] (parts_in sources).groups ≡ true
+Holds over.Agent sources = (tokens : List (List ℕ)) → is_unsplit [] (below tokens sources) ≡ true
+Holds over.Delay sources =
+    ((has_rule (parts_in sources).ungrouped ≡ true) × (is_unsplit [] (parts_in sources).groups ≡ true))
+    ⊎ (are_bare (parts_in sources).groups ≡ true)
+Holds over.Split sources = (tokens : List (List ℕ)) → are_bare (below tokens sources) ≡ true
+
+after_delay : (number : List ℕ) (sources : List Source) → Holds over.Delay sources → (tokens : List (List ℕ))
+    → is_unsplit [] (put_before tokens (Delay number ∷ (parts_in sources).ungrouped)
+    (parts_in sources).groups) ≡ true
+after_delay number sources (inl (rule, whole)) tokens = rw rule whole
+after_delay number sources (inr bare) tokens =
+    bare_after (has_rule (parts_in sources).ungrouped) tokens (parts_in sources).groups bare
+
+pub unsplit : (above : Above) (number : ℕ) (sources : List Source)
+    → first_split above number (lines_in sources) ≡ None → Holds above sources
+unsplit over.Rule number [] none = refl
+unsplit over.Agent number [] none = λ tokens. refl
+unsplit over.Delay number [] none = inr refl
+unsplit over.Split number [] none = λ tokens. refl
+unsplit over.Rule number ((UserAgent token, text) ∷ sources) none =
+    unsplit over.Agent (number + 1) sources none (token ∷ [])
+unsplit over.Agent number ((UserAgent token, text) ∷ sources) none =
+    λ tokens. subst (λ groups. is_unsplit [] groups ≡ true) (sym (below_token tokens token text sources))
+    (unsplit over.Agent (number + 1) sources none (tokens ++ token ∷ []))
+unsplit over.Delay number ((UserAgent token, text) ∷ sources) none =
+    inr (unsplit over.Split (number + 1) sources none (token ∷ []))
+unsplit over.Split number ((UserAgent token, text) ∷ sources) none =
+    λ tokens. subst (λ groups. are_bare groups ≡ true) (sym (below_token tokens token text sources))
+    (unsplit over.Split (number + 1) sources none (tokens ++ token ∷ []))
+unsplit over.Agent number ((Allow value, text) ∷ sources) none =
+    λ tokens. rw (rule_allowed text value) (unsplit over.Rule (number + 1) sources none)
+unsplit over.Delay number ((Allow value, text) ∷ sources) none =
+    inl (rw (rule_allowed text value) refl, unsplit over.Rule (number + 1) sources none)
+unsplit over.Split number ((Allow value, text) ∷ sources) none = absurd cc
+unsplit over.Agent number ((Disallow value, text) ∷ sources) none =
+    λ tokens. unsplit over.Rule (number + 1) sources none
+unsplit over.Delay number ((Disallow value, text) ∷ sources) none =
+    inl (refl, unsplit over.Rule (number + 1) sources none)
+unsplit over.Split number ((Disallow value, text) ∷ sources) none = absurd cc
+unsplit over.Agent number ((CrawlDelay delay, text) ∷ sources) none =
+    after_delay text sources (unsplit over.Delay (number + 1) sources none)
+unsplit over.Split number ((CrawlDelay delay, text) ∷ sources) none =
+    λ tokens.
+    let (rule, bare) = bare_parts tokens (parts_in sources).ungrouped (parts_in sources).groups
+    (unsplit over.Split (number + 1) sources none tokens) in
+    rw (rule, bare) refl
+unsplit above number ((_, text) ∷ sources) none = unsplit above (number + 1) sources none

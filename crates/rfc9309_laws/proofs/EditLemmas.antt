@@ -14,11 +14,10 @@ use Rattle.texting_robots.specs.Group.{is_agent, is_agent_named, is_group}
 use Rattle.texting_robots.specs.Internal.{Captured.is_captured, Group.from_captured, Group.start_of}
 use Rattle.texting_robots.specs.Internal.Group.{step}
 use Rattle.texting_robots.specs.{declared.groups.GroupTracker.GroupTracker, Line.delay_in, Robot.IsRobotOf}
-use Rattle.texting_robots.proofs.CapturedLemmas.{IsWalkAt, at_front, captured_walked, is_captured_decides}
-use Rattle.texting_robots.proofs.CapturedLemmas.{occurs_first, occurs_next}
-use Rattle.texting_robots.proofs.GivenLemmas.{delay_is_computed, sitemaps_are_computed}
-use Rattle.texting_robots.proofs.MainTheoremLemmas.{of_lines, rejection_is_computed, rules_are_computed}
-use Rattle.texting_robots.proofs.RulesLemmas.{before_agent, before_agents}
+use Rattle.texting_robots.proofs.Shared.{IsWalkAt, at_front, captured_walked, is_captured_decides}
+use Rattle.texting_robots.proofs.Shared.{occurs_first, occurs_next, delay_is_computed, sitemaps_are_computed}
+use Rattle.texting_robots.proofs.Shared.{of_lines, rejection_is_computed, rules_are_computed, before_agent}
+use Rattle.texting_robots.proofs.Shared.{before_agents}
 use Rattle.rfc9309_laws.specs.Edits.{DifferInRule, IsRule}
 
 record Facts (line : LineValue) : Type 0 where

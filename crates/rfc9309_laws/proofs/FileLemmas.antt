@@ -18,7 +18,7 @@ use Rattle.rfc9309_laws.proofs.Sources.{with_token, with_address}
 use Rattle.rfc9309_laws.specs.LineForms.{Form, IsLine, Empty, Agent, Rule, Delay, Sitemap, Other}
 use Rattle.rfc9309_laws.specs.StandardRobot.{IsFileBelow, IsFileWith}
 use Rattle.std.proofs.lemmas.{Grind.flat_map-append}
-use Rattle.texting_robots.proofs.{CutFromFront.bodies_nil, TrimLemmas.each_append}
+use Rattle.texting_robots.proofs.Shared.{bodies_nil, each_append}
 use Rattle.rfc9309_laws.specs.Rfc9309 as rfc
 use Rattle.texting_robots.specs.Line as library
 
@@ -222,27 +222,31 @@ numbered (unit ∷ units) all =
     let (numbers, rest) = numbered units all.1 in
     (first ++ numbers, repeats_both (repeats_one _ first unit one) rest)
 
+with_content : {Content Other : List ℕ → Type 0} {text : List ℕ} (file : rfc.IsFileOf Content text)
+    → Other (file.rest ++ file.nl) → rfc.IsFileOf Other text
+with_content file content = record {
+  bom = file.bom;
+  rest = file.rest;
+  nl = file.nl;
+  whole = file.whole;
+  is_bom = file.is_bom;
+  is_nl = file.is_nl;
+  is_content = content;
+}
+
 pub has_delays : (text : List ℕ) (groups : List rfc.Group) → rfc.IsFile groups text
     → (numbers : List (List ℕ)) × IsFileWith numbers groups text
 has_delays text groups file =
     let content = file.is_content in
     let (numbers, front) = numbered _ content.is_front.each in (
       numbers,
-      record {
-        bom = file.bom;
-        rest = file.rest;
-        nl = file.nl;
-        whole = file.whole;
-        is_bom = file.is_bom;
-        is_nl = file.is_nl;
-        is_content = record {
-          front = content.front;
-          rest = content.rest;
-          whole = content.whole;
-          is_front = rw content.is_front.whole front;
-          are_groups = content.are_groups;
-        };
-      },
+      with_content file (record {
+        front = content.front;
+        rest = content.rest;
+        whole = content.whole;
+        is_front = rw content.is_front.whole front;
+        are_groups = content.are_groups;
+      }),
     )
 
 no_rules : (numbers : List (List ℕ)) → filter rfc.is_rule (map rfc.Delay numbers) ≡ []
@@ -278,18 +282,8 @@ file_with text numbers groups file =
       read = subst (Each IsRead) (sym sources) (each_read all.lines);
       parts = parts;
       none = ap (λ (p : Parts). filter rfc.is_rule p.ungrouped) parts ∙ no_rules numbers;
-      lists = (
-        addresses,
-        record {
-          bom = file.bom;
-          rest = file.rest;
-          nl = file.nl;
-          whole = file.whole;
-          is_bom = file.is_bom;
-          is_nl = file.is_nl;
-          is_content = subst (rfc.Repeats IsAddressLine addresses) (sym all.whole) lists;
-        },
-      );
+      lists =
+          (addresses, with_content file (subst (rfc.Repeats IsAddressLine addresses) (sym all.whole) lists));
     }
 
 pub file_read : (text : List ℕ) (groups : List rfc.Group) → rfc.IsFile groups text

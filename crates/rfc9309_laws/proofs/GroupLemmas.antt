@@ -6,10 +6,10 @@ use Rattle.std.specs.List.{AllZip, AllByRecursion as Each, list_any, cons_option
 use Rattle.texting_robots.specs.Executable.{rule_in, rules_for, captured_delays, delay_for}
 use Rattle.texting_robots.specs.Line.{LineValue, UserAgent, Allow, CrawlDelay, Disallow, delay_in}
 use Rattle.texting_robots.specs.Group.{group_name, is_agent, is_agent_named, is_group}
-use Rattle.texting_robots.proofs.CapturedLemmas.{cond_same, given_captured, rules_are, delays_are}
+use Rattle.texting_robots.proofs.Shared.{cond_same, given_captured, rules_are, delays_are, before_agent}
+use Rattle.texting_robots.proofs.Shared.{before_agents, option_or_none}
 use Rattle.rfc9309_laws.specs.Rfc9309.{Group, Member, put_before, is_rule, has_token, groups_for}
 use Rattle.rfc9309_laws.proofs.Sources.{GivesRuleOf, IsRead, Source, allowed_in, member_in, parts_in}
-use Rattle.texting_robots.proofs.RulesLemmas.{before_agent, before_agents, option_or_none}
 use Rattle.rfc9309_laws.specs.StandardRobot.{IsDelayAs, IsDelayOf, delay_among, is_delay, IsReadAs}
 use Rattle.std.specs.{Str.str_to_ascii_lowercase, Option.option_or}
 use Rattle.std.proofs.lemmas.List.{Elements.filter-append}

@@ -17,7 +17,7 @@ use Rattle.rfc9309_laws.specs.HasForm.{is_identifier_byte, is_number, is_pattern
 use Rattle.rfc9309_laws.specs.HasForm.{kept_before, name_in, stripped, text_after, text_before, text_from}
 use Rattle.rfc9309_laws.specs.HasForm.{value_in, without_leading, without_trailing}
 use Rattle.bstr.proofs.{lemmas.SoundLemmas.SpellsChar-decoded}
-use Rattle.texting_robots.proofs.{TrimLemmas.each_append}
+use Rattle.texting_robots.proofs.Shared.{each_append}
 use Rattle.rfc9309_laws.specs.LineForms.{Form, IsLine, Empty, Agent, Rule, Delay, Sitemap, Other}
 use Rattle.rfc9309_laws.specs.Rfc9309 as rfc
 use lib.Utf8.{scalar, scalar_cases, scalars}

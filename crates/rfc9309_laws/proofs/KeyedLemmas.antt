@@ -10,8 +10,7 @@ use lib.Utf8.{low_scalar}
 use Rattle.texting_robots.specs.Statement.{IsBlank, IsStatement, field_names}
 use Rattle.texting_robots.specs.{Line.LineValue, Trim.IsTrimOf, declared.parser.statement.Kind.Kind}
 use Rattle.texting_robots.specs.{Internal.Statement.IsOptionalComment, Internal.Line.line_with}
-use Rattle.texting_robots.proofs.TrimLemmas.{each_append, blanks_skipped, same_trim}
-use Rattle.texting_robots.proofs.{LineLemmas.line_stated, StatementLemmas.statement_found}
+use Rattle.texting_robots.proofs.Shared.{each_append, blanks_skipped, same_trim, line_stated, statement_found}
 use Rattle.rfc9309_laws.proofs.HasFormLemmas.{IsCharByte, IsCharText, char_text, blank}
 use Rattle.rfc9309_laws.proofs.ValueLemmas.{blank_no_letter, identifier_bounds, blanks_after, identifier}
 use Rattle.rfc9309_laws.proofs.Sources.{IsRead, Source, is_not_raw, parts_in, source_of, written}

@@ -5,14 +5,13 @@ use Rattle.std.proofs.Common.{◌≡◌, ◌⊎◌, inl, inr, ℕ, List, [], ◌
 use Rattle.std.proofs.Common.{◌≢◌, zero, suc, arith, subst}
 use Rattle.std.specs.{List.AllByRecursion as Each, List.AllZip, Prelude.Contains, Prelude.All}
 use Rattle.texting_robots.specs.{Cut.IsBodyByte, Cut.cr, Cut.lf, Internal.Cut.bodies_of, Line.without_front}
-use Rattle.texting_robots.proofs.CrLfLemmas.{body_step, step}
+use Rattle.texting_robots.proofs.Shared.{body_step, step, bodies_nil, byte_cases, each_append}
 use Rattle.rfc9309_laws.specs.{Rfc9309.IsLastNl}
 use Rattle.rfc9309_laws.specs.LineForms.{Form, IsLine, HasForm, Empty, Agent, Rule, Delay, Sitemap, Other}
 use Rattle.rfc9309_laws.specs.LineForms.{AreForms, AreRulesBelowAgents}
 use Rattle.rfc9309_laws.proofs.SyntaxLemmas.{repeats_both, repeats_none, repeats_one}
 use Rattle.std.proofs.lemmas.{Bool.ne_eqb, List.Elements.recursion_from_All, List.Elements.All-from_recursion}
 use Rattle.texting_robots.specs.Executable.{file_bodies}
-use Rattle.texting_robots.proofs.{CutFromFront.bodies_nil, CutLemmas.byte_cases, TrimLemmas.each_append}
 use Rattle.rfc9309_laws.proofs.{HasFormLemmas.form_passes, KeyedLemmas.AreFree, KeyedLemmas.HasNoRule}
 use Rattle.rfc9309_laws.proofs.OtherLemmas.{form_tested, only_empty}
 use Rattle.rfc9309_laws.proofs.ReadLemmas.{nothing_replaced, end_more}

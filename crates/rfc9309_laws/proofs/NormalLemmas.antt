@@ -1,5 +1,4 @@
--- Normal forms of URIs, and paths with an odd escape, which match none of them. On normal forms the library's
--- matching is that of the standard.
+-- Normal forms of URIs. On them the library's matching is that of the standard.
 use Rattle.std.specs.Prelude.{slice_index}
 use Rattle.std.proofs.Common.{◌≡◌, ◌↔◌, ℕ, ◌+◌, ◌*◌, ◌<◌, ◌==◌, ◌&&◌, ◌||◌, ltb, Bool, true, false, inl, inr}
 use Rattle.std.proofs.Common.{List, [], ◌∷◌, ◌++◌, refl, sym, ap, ◌∙◌, subst, arith, append-nil, append_assoc}
@@ -9,9 +8,8 @@ use Rattle.std.proofs.lemmas.Bool.{agree_below, agree_below_at, and_parts, and_r
 use Rattle.std.proofs.lemmas.Bool.{eqb-true, lt-ltb, ltb-true, not-true, or_parts, Decides.nat_tests}
 use Rattle.std.proofs.lemmas.{List.append-nil}
 use Rattle.texting_robots.specs.Escape.{escaped, escape_byte, is_escaped}
-use Rattle.texting_robots.specs.Pattern.{Consumes, IsSuffix, Matches, MatchesWith, dollar, star}
-use Rattle.texting_robots.proofs.{SegmentLemmas.suffix_trans}
-use Rattle.rfc9309_laws.specs.Comparable.{has_odd_escape, is_normal, is_uri_octet, IsComparedAs}
+use Rattle.texting_robots.specs.Pattern.{Matches, MatchesWith, dollar, star}
+use Rattle.rfc9309_laws.specs.Comparable.{has_odd_escape, is_normal, is_uri_octet, IsPlainPath}
 use Rattle.rfc9309_laws.specs.Matching.{Reading, all_stay, in_uri, is_escape, is_kept, is_unreserved, IsMatch}
 use Rattle.rfc9309_laws.specs.Matching.{normal_escape, normal_from, normal_octet, normal_uri, filled}
 use Rattle.rfc9309_laws.specs.Matching.{first_of, has_dollar, is_ended, later_of, without_end}
@@ -19,12 +17,8 @@ use Rattle.rfc9309_laws.specs.Matching.{first_of, has_dollar, is_ended, later_of
 pub hex_low : (b : ℕ) → is_ascii_hexdigit b ≡ true → b < 128
 hex_low b is = grind (arith, nat_tests)
 
-hex_unreserved : (b : ℕ) → is_ascii_hexdigit b ≡ true → is_unreserved b ≡ true
-hex_unreserved b is = let letter : is_ascii_alphanumeric b ≡ true = grind (arith, nat_tests) in rw letter
-
-hex_kept : (stays : Reading) (in_query : Bool) (b : ℕ) → is_ascii_hexdigit b ≡ true
-    → is_kept stays in_query b ≡ true
-hex_kept stays in_query b is = rw (lt-ltb b 128 (hex_low b is), hex_unreserved b is)
+hex_octet : (b : ℕ) → is_ascii_hexdigit b ≡ true → is_uri_octet b ≡ true
+hex_octet b is = let letter : is_ascii_alphanumeric b ≡ true = grind (arith, nat_tests) in rw letter
 
 pub hex_not : (test : ℕ → Bool) (b : ℕ)
     → agree_below (λ c. is_ascii_hexdigit c && test c) (λ c. false) 128 ≡ true
@@ -112,31 +106,6 @@ escape_stays high low rest text =
           (rw (not_lowercase _ first, not_lowercase low second), (cc)))
     ]
 
-module _ (stays : Reading) (test : ℕ → Bool)
-    (kept : (in_query : Bool) (b : ℕ) → is_kept stays in_query b ≡ true → test b ≡ true) where
-  fixed : (in_query : Bool) (uri : List ℕ) → normal_from stays in_query uri ≡ uri
-      → (list_all test uri ≡ true) × (has_odd_escape uri ≡ false)
-  fixed =
-      by_escapes (λ in_query uri. normal_from stays in_query uri ≡ uri
-      → (list_all test uri ≡ true) × (has_odd_escape uri ≡ false)) (λ in_query e. (refl, refl))
-      (λ in_query b text isnt later e.
-      let (is, rest) =
-      octet_stays stays in_query b _ text (sym (octet_first stays in_query b text isnt) ∙ e) in
-      let (all, even) = later rest in
-      (rw (kept in_query b is, all), rw (isnt, even)))
-      (λ in_query high low text one two later e.
-      let (digits, rest) =
-      escape_stays high low _ text (sym (escape_first high low text one two stays in_query) ∙ e) in
-      let (all, even) = later rest in
-      let first = kept in_query high (hex_kept stays in_query high one) in
-      let second = kept in_query low (hex_kept stays in_query low two) in (
-        rw (kept in_query 37 refl, first, second, all),
-        escape_odd high low text one two ∙ rw (digits, even),
-      ))
-
-pub no_odd_escape : (stays : Reading) (uri : List ℕ) → normal_uri stays uri ≡ uri → has_odd_escape uri ≡ false
-no_odd_escape stays uri same = (fixed _ (λ _. true) (λ _ _ _. refl) _ uri same).1
-
 octet_low : (b : ℕ) → is_uri_octet b ≡ true → b < 128
 octet_low b is = grind (arith, nat_tests)
 
@@ -146,6 +115,24 @@ kept_octets in_query b low = agree_below_at (is_kept (in_uri all_stay) in_query)
 octet_same : (in_query : Bool) (b : ℕ) → is_uri_octet b ≡ true
     → normal_octet (in_uri all_stay) in_query b ≡ b ∷ []
 octet_same in_query b is = rw (kept_octets in_query b (octet_low b is) ∙ is)
+
+fixed : (in_query : Bool) (uri : List ℕ) → normal_from (in_uri all_stay) in_query uri ≡ uri
+    → (list_all is_uri_octet uri ≡ true) × (has_odd_escape uri ≡ false)
+fixed =
+    by_escapes (λ in_query uri. normal_from (in_uri all_stay) in_query uri ≡ uri
+    → (list_all is_uri_octet uri ≡ true) × (has_odd_escape uri ≡ false)) (λ in_query e. (refl, refl))
+    (λ in_query b text isnt later e.
+    let (is, rest) =
+    octet_stays (in_uri all_stay) in_query b _ text
+    (sym (octet_first (in_uri all_stay) in_query b text isnt) ∙ e) in
+    let (all, even) = later rest in
+    let octet = sym (kept_octets in_query b (ltb-true b 128 (and_parts (ltb b 128) _ is).0)) ∙ is in
+    (rw (octet, all), rw (isnt, even)))
+    (λ in_query high low text one two later e.
+    let (digits, rest) =
+    escape_stays high low _ text (sym (escape_first high low text one two (in_uri all_stay) in_query) ∙ e) in
+    let (all, even) = later rest in
+    (rw (hex_octet high one, hex_octet low two, all), escape_odd high low text one two ∙ rw (digits, even)))
 
 pub escape_same : (high low : ℕ) → has_odd_digits high low ≡ false
     → normal_escape high low ≡ 37 ∷ high ∷ low ∷ []
@@ -172,70 +159,9 @@ normal_same =
 
 pub normal_uris : (uri : List ℕ) → (normal_uri all_stay uri ≡ uri) ↔ (is_normal uri ≡ true)
 normal_uris uri = (
-  λ same.
-      let (octets, even) = fixed _ _ passes false uri same in
-      rw (octets, even),
-  λ is.
-      let (octets, even) = and_parts _ _ is in
-      normal_same false uri octets (not-true _ even),
+  λ same. let (octets, even) = fixed false uri same in rw (octets, even),
+  λ is. let (octets, even) = and_parts _ _ is in normal_same false uri octets (not-true _ even),
 )
-  where
-    passes : (in_query : Bool) (b : ℕ) → is_kept (in_uri all_stay) in_query b ≡ true → is_uri_octet b ≡ true
-    passes in_query b kept =
-        sym (kept_octets in_query b (ltb-true b 128 (and_parts (ltb b 128) _ kept).0)) ∙ kept
-
-odd_suffix : (front text : List ℕ) → has_odd_escape (front ++ text) ≡ false → has_odd_escape text ≡ false
-odd_suffix [] text even = even
-odd_suffix (b ∷ front) text even = odd_suffix front _ (or_parts _ _ even).1
-
-later_match : (part pattern text : List ℕ) → MatchesWith true (part ++ pattern) text
-    → (rest : List ℕ) × IsSuffix rest text × MatchesWith true pattern rest
-unfolding MatchesWith
-later_match [] pattern text m = (text, ([], refl), m)
-later_match (b ∷ part) pattern text (rest, consumed, m) =
-    let (last, inside, n) = later_match part pattern rest m in
-    (last, suffix_trans inside (left consumed), n)
-  where
-    left : Consumes true b text rest → IsSuffix rest text
-    left = elim (cases_Bool (b == star)) [
-      | inl is ↦ rw is (λ c. c)
-      | inr other ↦ elim (cases_Bool (b == dollar)) [
-        | inl is ↦ rw (other, is) (λ c. ([], c.0 ∙ sym c.1))
-        | inr plain ↦ rw (other, plain) (λ c. (b ∷ [], c))
-      ]
-    ]
-
-digit_match : (b : ℕ) (path text : List ℕ) → is_ascii_hexdigit b ≡ true
-    → MatchesWith true (escaped (b ∷ path)) text
-    → (rest : List ℕ) × (text ≡ b ∷ rest) × MatchesWith true (escaped path) rest
-unfolding MatchesWith
-digit_match b path text is =
-    rw (hex_not is_escaped b refl is)
-    (rw (hex_not (λ c. c == star) b refl is, hex_not (λ c. c == dollar) b refl is) (λ m. m))
-
-escape_match : (high low : ℕ) (path text : List ℕ) → is_ascii_hexdigit high ≡ true
-    → is_ascii_hexdigit low ≡ true → MatchesWith true (escaped (37 ∷ high ∷ low ∷ path)) text
-    → (rest : List ℕ) × (text ≡ 37 ∷ high ∷ low ∷ rest) × MatchesWith true (escaped path) rest
-unfolding MatchesWith
-escape_match high low path text one two (s, e, m) =
-    let (t, f, n) = digit_match _ (low ∷ path) s one m in
-    let (rest, g, last) = digit_match low path t two n in
-    (rest, e ∙ ap (λ x. 37 ∷ x) (f ∙ ap (λ x. high ∷ x) g), last)
-
-pub never_matches : (path text : List ℕ) → has_odd_escape text ≡ false → Matches (escaped path) text
-    → has_odd_escape path ≡ false
-never_matches =
-    by_escapes (λ _ path. (text : List ℕ) → has_odd_escape text ≡ false → Matches (escaped path) text
-    → has_odd_escape path ≡ false) (λ _ text even m. refl)
-    (λ _ b path isnt later text even m.
-    let (rest, (front, same), after) = later_match (escape_byte b) (escaped path) text m in
-    rw isnt (later rest (odd_suffix front rest (rw same at even)) after))
-    (λ _ high low path one two later text even m.
-    let (rest, same, after) = escape_match high low path text one two m in
-    let (digits, no_more) =
-    or_parts (has_odd_digits high low) (has_odd_escape rest)
-    (sym (escape_odd high low rest one two) ∙ ap has_odd_escape (sym same) ∙ even) in
-    escape_odd high low path one two ∙ rw digits (later rest no_more after)) false
 
 filling : (q tail t : List ℕ) → has_dollar q ≡ false → MatchesWith true (q ++ tail) t
     ↔ ((strings : List (List ℕ)) × (rest : List ℕ) × (t ≡ filled q strings ++ rest)
@@ -290,29 +216,28 @@ restricts false rest = (λ m is. cc, λ _. tt)
 glyph_plain : (d : ℕ) → (digit_glyph true d == dollar) ≡ false
 glyph_plain d = grind (arith, nat_tests)
 
-escaped_plain : (q : List ℕ) → has_dollar q ≡ false → has_dollar (escaped q) ≡ false
+pub escaped_plain : (q : List ℕ) → has_dollar q ≡ false → has_dollar (escaped q) ≡ false
 escaped_plain [] free = refl
 escaped_plain (b ∷ q) free = grind (arith, glyph_plain, escaped_plain q)
 
-pub matches_so : (stays : Reading) (path spelling uri : List ℕ) → normal_uri stays uri ≡ uri
-    → IsComparedAs stays path spelling → Matches (escaped spelling) uri ↔ IsMatch stays path uri
-matches_so stays path spelling uri same compared =
-    let ended = is_ended spelling in
-    let both = filling _ (end_of ended) uri
-    (escaped_plain (without_end spelling) compared.dollar) in
+pub matches_so : (stays : Reading) (path uri : List ℕ) → normal_uri stays uri ≡ uri
+    → IsPlainPath stays path → Matches (escaped path) uri ↔ IsMatch stays path uri
+matches_so stays path uri same plain =
+    let ended = is_ended path in
+    let both = filling _ (end_of ended) uri (escaped_plain (without_end path) plain.dollar) in
     rw (escaped_parts _) (
       λ m.
           let (strings, rest, e, n) = both.0 m in
           record {
             strings = strings;
             rest = rest;
-            whole = rw (same, compared.normal) e;
-            end = λ is. (restricts ended rest).0 n (sym compared.ended ∙ is);
+            whole = rw (same, plain.normal) e;
+            end = λ is. (restricts ended rest).0 n is;
           },
       λ is. both.1 (
         is.strings,
         is.rest,
-        rw (same, compared.normal) at is.whole,
-        (restricts ended is.rest).1 (λ end. is.end (compared.ended ∙ end)),
+        rw (same, plain.normal) at is.whole,
+        (restricts ended is.rest).1 is.end,
       ),
     )

@@ -9,8 +9,8 @@ use Rattle.std.proofs.{lemmas.Map.Views.Contains-from_any, lemmas.Slice.Eq.bytes
 use Rattle.texting_robots.specs.{Cut.IsBodyByte, Cut.cr, Cut.lf, declared.parser.statement.Kind.Kind}
 use Rattle.texting_robots.specs.Statement.{IsAfterBlanks, IsAfterColon, IsStatement}
 use Rattle.texting_robots.specs.Internal.Statement.{IsOptionalComment, kind_by, skip_blanks, statement_of}
-use Rattle.texting_robots.proofs.{LineLemmas.line_raw, LineLemmas.line_without_kind, TrimLemmas.each_append}
-use Rattle.texting_robots.proofs.StatementLemmas.{NoBlank, found_statement, kept, skip_front}
+use Rattle.texting_robots.proofs.Shared.{line_raw, line_without_kind, each_append, NoBlank, found_statement}
+use Rattle.texting_robots.proofs.Shared.{kept, skip_front}
 use Rattle.rfc9309_laws.proofs.KeyedLemmas.{IsLineOf, IsNamed, IsValueByte, blank_passes, blanks_low, named}
 use Rattle.rfc9309_laws.proofs.KeyedLemmas.{blanks_value, comment_text, identifier_name, parts_comment}
 use Rattle.rfc9309_laws.proofs.KeyedLemmas.{passes, remark, values_bare}

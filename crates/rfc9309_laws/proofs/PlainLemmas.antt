@@ -7,7 +7,7 @@ use Rattle.std.proofs.lemmas.Bool.{agree_below_at, and_parts, cases_Bool, cases_
 use Rattle.std.proofs.lemmas.Bool.{le-ltb, not-true, or_from, or_parts}
 use Rattle.texting_robots.specs.Callers.{escaped}
 use Rattle.texting_robots.specs.{Escape.escape_byte, Escape.is_escaped}
-use Rattle.rfc9309_laws.specs.{Comparable.IsComparedAs, Comparable.has_odd_escape}
+use Rattle.rfc9309_laws.specs.Comparable.{IsPlainPath, has_odd_escape}
 use Rattle.rfc9309_laws.specs.Conformance.{front_of, is_odd_octet, is_plain_path}
 use Rattle.rfc9309_laws.specs.Matching.{all_stay, has_dollar, in_rule, is_kept, normal_from, normal_octet}
 use Rattle.rfc9309_laws.specs.Matching.{without_end}
@@ -74,7 +74,7 @@ front_same [] = refl
 front_same (b ∷ []) = grind (arith, nat_tests)
 front_same (b ∷ c ∷ path) = next_front b c path ∙ ap (λ t. b ∷ t) (front_same (c ∷ path))
 
-pub plain_compared : (path : List ℕ) → is_plain_path path ≡ true → IsComparedAs all_stay path path
+pub plain_compared : (path : List ℕ) → is_plain_path path ≡ true → IsPlainPath all_stay path
 plain_compared path plain =
     let (odd, more) = and_parts (not (list_any is_odd_octet (front_of path))) _ plain in
     let (even, dollar) = and_parts (not (has_odd_escape (front_of path))) _ more in
@@ -82,6 +82,5 @@ plain_compared path plain =
     record {
       normal = subst (λ front. normal_from (in_rule all_stay) false front ≡ escaped front) same
           (plain_from false (front_of path) (not-true _ odd) (not-true _ dollar) (not-true _ even));
-      ended = refl;
       dollar = subst (λ front. has_dollar front ≡ false) same (not-true _ dollar);
     }

@@ -6,9 +6,8 @@ use Rattle.std.proofs.lemmas.{Bool.ne_eqb, List.Elements.filter-append}
 use Rattle.texting_robots.specs.Line.{is_raw, LineValue, nul_as_lf, without_front}
 use Rattle.texting_robots.specs.{Cut.cr, Cut.lf, Executable.file_bodies, Executable.file_lines, Laws.Same}
 use Rattle.rfc9309_laws.specs.Rfc9309.{IsLastNl, IsNl, IsBom}
-use Rattle.texting_robots.proofs.CrLfLemmas.{body_byte, body_return, body_step, step}
-use Rattle.texting_robots.proofs.{LawLemmas.raw_changes_nothing, CutFromFront.bodies_nil}
-use Rattle.texting_robots.proofs.{CutLemmas.byte_cases, LineLemmas.line_without_kind}
+use Rattle.texting_robots.proofs.Shared.{body_byte, body_return, body_step, step, raw_changes_nothing}
+use Rattle.texting_robots.proofs.Shared.{bodies_nil, byte_cases, line_without_kind}
 use Rattle.rfc9309_laws.proofs.Sources.{Source, is_not_raw, source_of, written}
 use Rattle.rfc9309_laws.proofs.SyntaxLemmas.{each_weaker}
 use Rattle.std.specs.List.{AllByRecursion as Each}

@@ -5,9 +5,8 @@ use Rattle.std.proofs.Common.{inl, inr, ℕ, List, [], refl, sym, subst, append-
 use Rattle.texting_robots.specs.Executable.{delay_for, file_lines, placed_rules, rules_for}
 use Rattle.texting_robots.specs.Robot.{IsFileRejected, IsRobotOf, IsRobotOfFile, RobotValue, file_limit}
 use Rattle.texting_robots.specs.{Line.AreFileLinesOf, Trim.IsTrimOf}
-use Rattle.texting_robots.proofs.GivenLemmas.{delay_is_computed, sitemaps_are_computed}
-use Rattle.texting_robots.proofs.MainTheoremLemmas.{rejection_is_computed, rules_are_computed, of_lines}
-use Rattle.texting_robots.proofs.{LineLemmas.each_text_has_its_lines}
+use Rattle.texting_robots.proofs.Shared.{delay_is_computed, sitemaps_are_computed, rejection_is_computed}
+use Rattle.texting_robots.proofs.Shared.{rules_are_computed, of_lines, each_text_has_its_lines}
 use Rattle.rfc9309_laws.proofs.GroupLemmas.{delay_written, rules_written}
 use Rattle.rfc9309_laws.proofs.ReadLemmas.{file_same, file_sources, lines_in}
 use Rattle.rfc9309_laws.proofs.FileLemmas.{FileRead, file_read, file_with, groups_written, has_delays}

@@ -3,7 +3,7 @@ use Rattle.std.proofs.Common.{◌≡◌, Bool, true, List, [], ◌∷◌, ◌++�
 use Rattle.std.specs.List.{AllByRecursion as Each, list_all}
 use Rattle.rfc9309_laws.specs.Rfc9309.{IsMany, RepeatUnit, Repeats}
 use Rattle.std.proofs.lemmas.{Bool.and_parts, Grind.flat_map-append}
-use Rattle.texting_robots.proofs.TrimLemmas.{each_append}
+use Rattle.texting_robots.proofs.Shared.{each_append}
 
 pub each_weaker : {X : Type 0} (P Q : X → Type 0) → ((x : X) → P x → Q x) → (xs : List X)
     → Each P xs → Each Q xs

@@ -13,8 +13,8 @@ use Rattle.std.proofs.lemmas.Str.{IsUtf8-past_char, IsUtf8-take, char_from_byte}
 use Rattle.texting_robots.specs.{Statement.field_names, Statement.IsBlank, Trim.IsSpaces, Trim.IsTrimOf}
 use Rattle.std.specs.Str.{IsUtf8, encode_utf8_all}
 use Rattle.std.proofs.Math.{Seq.drop-nil, Seq.take-nil, Utf8.scalars}
-use Rattle.texting_robots.proofs.TrimLemmas.{trailing_blanks, graphic_trim, same_trim, trimmed_is_trim}
-use Rattle.texting_robots.proofs.TrimLemmas.{white_scalar}
+use Rattle.texting_robots.proofs.Shared.{trailing_blanks, graphic_trim, same_trim, trimmed_is_trim}
+use Rattle.texting_robots.proofs.Shared.{white_scalar}
 use Rattle.rfc9309_laws.proofs.{SyntaxLemmas.passing}
 use Rattle.texting_robots.specs.declared.parser.statement.{Kind.Kind}
 use Rattle.rfc9309_laws.specs.{HasForm.is_identifier_byte}

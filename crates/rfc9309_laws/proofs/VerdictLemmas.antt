@@ -1,20 +1,19 @@
 -- The verdict of rules that are read from rules of the grammar is that of the standard.
 use Rattle.std.proofs.Common.{◌≡◌, ◌≢◌, ◌↔◌, ◌⊎◌, ℕ, zero, suc, ◌<◌, Bool, true, false, inl, inr, List, []}
 use Rattle.std.proofs.Common.{◌∷◌, refl, codes, length, ◌+◌, if◌then◌else◌, sym, ap, ◌∙◌, arith, subst, take}
-use Rattle.std.proofs.{Common.length-append, lemmas.Bool.both_ways}
+use Rattle.std.proofs.{Common.length-append}
 use Rattle.std.specs.List.{AllByRecursion as Each, AllZip, Contains, list_any}
 use Rattle.std.proofs.lemmas.List.Elements.{All-contains, All-from_recursion}
 use Rattle.texting_robots.specs.Callers.{IsDenied, IsRobotOfFile, IsVerdict, Matches, RobotValue, Rule}
 use Rattle.texting_robots.specs.Callers.{escaped, file_limit, unplaced}
 use Rattle.texting_robots.specs.{Escape.is_escaped, Trim.IsTrimOf}
-use Rattle.texting_robots.proofs.{NormalizedLemmas.plain_stays, TrimLemmas.is_trimmed}
-use Rattle.texting_robots.proofs.{VerdictLemmas.same_verdicts}
+use Rattle.texting_robots.proofs.Shared.{plain_stays, is_trimmed, same_verdicts}
 use Rattle.rfc9309_laws.specs.{StandardRobot.IsReadAs, StandardRobot.IsFileWith, Comparable.AreComparable}
-use Rattle.rfc9309_laws.specs.Comparable.{HasTwin, IsComparedAs, IsPathOf, IsPlainPath, has_odd_escape}
+use Rattle.rfc9309_laws.specs.Comparable.{IsPathOf, IsPlainPath}
 use Rattle.rfc9309_laws.specs.Matching.{IsDisallowed, IsMatch, IsRfcVerdict, Reading, is_ended, normal_uri}
 use Rattle.rfc9309_laws.specs.Matching.{octets, without_end}
 use Rattle.rfc9309_laws.proofs.{FileLemmas.file_with, RobotLemmas.robot_as}
-use Rattle.rfc9309_laws.proofs.NormalLemmas.{end_of, escaped_parts, matches_so, never_matches, no_odd_escape}
+use Rattle.rfc9309_laws.proofs.NormalLemmas.{end_of, escaped_parts, matches_so}
 use Rattle.rfc9309_laws.specs.Rfc9309 as rfc
 
 zip_swap : {A B : Type 0} (R : A → B → Type 0) (xs : List A) (ys : List B) → AllZip R xs ys
@@ -55,11 +54,11 @@ pattern_of rule other e = ap (λ (r : Rule). r.0) e
 pub each_contains : {X : Type 0} (P : X → Type 0) (xs : List X) (x : X) → Each P xs → Contains xs x → P x
 each_contains P xs x all has = All-contains P xs x (All-from_recursion P xs all) has
 
-pub octets_are : (stays : Reading) (path spelling : List ℕ) → IsComparedAs stays path spelling
-    → length (escaped spelling) ≡ octets stays path
-octets_are stays path spelling is =
-    rw (is.ended, is.normal) (ap length (escaped_parts spelling) ∙ length-append _ _
-    ∙ ap (λ n. length (escaped (without_end spelling)) + n) (size (is_ended spelling)))
+pub octets_are : (stays : Reading) (path : List ℕ) → IsPlainPath stays path
+    → length (escaped path) ≡ octets stays path
+octets_are stays path is =
+    rw is.normal (ap length (escaped_parts path) ∙ length-append _ _
+    ∙ ap (λ n. length (escaped (without_end path)) + n) (size (is_ended path)))
   where
     size : (ended : Bool) → length (end_of ended) ≡ (if ended then 1 else 0)
     size true = refl
@@ -68,33 +67,16 @@ octets_are stays path spelling is =
 pub octets_written : (stays : Reading) (path : List ℕ) → IsPlainPath stays path
     → list_any is_escaped path ≡ false → length path ≡ octets stays path
 octets_written stays path is plain =
-    ap (λ (p : List ℕ). length p) (sym (plain_stays _ plain)) ∙ octets_are _ _ _ is
+    ap (λ (p : List ℕ). length p) (sym (plain_stays _ plain)) ∙ octets_are _ _ is
 
 module _ (stays : Reading) (count : List ℕ → ℕ) (members : List rfc.Member) (rules : List Rule)
     (uri : List ℕ) (zip : AllZip IsReadAs members rules)
     (are : AreComparable stays count members uri) where
-  abbrev IsFitBy : (List ℕ → rfc.Member) → List ℕ → Type 0
-  IsFitBy kind path = IsPlainPath stays path ⊎ HasTwin stays (λ twin. Contains members (kind twin)) path
+  matching : (path : List ℕ) → IsPathOf members path → Matches (escaped path) uri ↔ IsMatch stays path uri
+  matching path listed = matches_so stays path uri are.normal (are.plain path listed)
 
-  matching : (path spelling : List ℕ) → IsComparedAs stays path spelling
-      → Matches (escaped spelling) uri ↔ IsMatch stays path uri
-  matching path spelling is = matches_so stays path spelling uri are.normal is
-
-  counts : (path spelling : List ℕ) → IsPathOf members path → IsComparedAs stays path spelling
-      → count path ≡ length (escaped spelling)
-  counts path spelling listed is = are.counted path listed ∙ sym (octets_are stays path spelling is)
-
-  compared : (kind : List ℕ → rfc.Member) (path : List ℕ) → Contains members (kind path) → IsFitBy kind path
-      → (spelling : List ℕ) × Contains members (kind spelling) × IsComparedAs stays path spelling
-  compared kind path listed (inl plain) = (path, listed, plain)
-  compared kind path listed (inr twin) = (twin.twin, twin.listed, twin.same)
-
-  plain : (kind : List ℕ → rfc.Member) (path : List ℕ) → Matches (escaped path) uri → IsFitBy kind path
-      → IsPlainPath stays path
-  plain kind path matches (inl is) = is
-  plain kind path matches (inr twin) =
-      absurd (both_ways (has_odd_escape path)
-      (never_matches path uri (no_odd_escape stays uri are.normal) matches) twin.odd)
+  counts : (path : List ℕ) → IsPathOf members path → count path ≡ length (escaped path)
+  counts path listed = are.counted path listed ∙ sym (octets_are stays path (are.plain path listed))
 
   own : (path value : List ℕ) → IsPathOf members path → IsTrimOf value path → value ≡ path
   own path value listed trim = sym (is_trimmed path _ trim) ∙ is_trimmed _ _ (are.trimmed _ listed)
@@ -134,80 +116,66 @@ module _ (stays : Reading) (count : List ℕ → ℕ) (members : List rfc.Member
       let (member, at, as_read) = zip_has IsReadAs members rules (pattern, false) zip has in
       let (path, listed, some, written) =
       disallow_of pattern member at (read_of member (pattern, false) at as_read) in
-      let here : Matches (escaped path) uri = rw written at matches in
-      let is = plain rfc.Disallow path here (are.fit (rfc.Disallow path) listed) in
       record {
         other = rw (are.normal, are.robots) differs;
         path = path;
         listed = listed;
         some = some;
-        is_match = (matching path path is).0 here;
-        most = λ allowed has_allowed allows.
-            let (spelling, has_spelling, same) =
-            compared rfc.Allow allowed has_allowed (are.fit (rfc.Allow allowed) has_allowed) in
-            let less = longest (escaped spelling) (read_listed (rfc.Allow spelling) has_spelling)
-            ((matching allowed spelling same).1 allows) in
+        is_match = (matching path (inr listed)).0 (rw written at matches);
+        most = λ allowed has allows.
+            let less =
+            longest (escaped allowed) (read_listed (rfc.Allow allowed) has)
+            ((matching allowed (inl has)).1 allows) in
             let size = ap length written in
-            let one = counts allowed spelling (inl has_allowed) same in
-            let two = counts path path (inr listed) is in
+            let one = counts allowed (inl has) in
+            let two = counts path (inr listed) in
             omega arith;
       }
 
-  to_denied : IsDisallowed stays count members uri → IsDenied rules uri
-  to_denied is =
-      let (spelling, listed, same) =
-      compared rfc.Disallow is.path is.listed (are.fit (rfc.Disallow is.path) is.listed) in (
-        λ e. is.other (ap (λ text. normal_uri stays text) e),
-        escaped spelling,
-        disallow_listed spelling listed (octets_are stays is.path spelling same),
-        (matching is.path spelling same).1 is.is_match,
-        shorter spelling same,
-      )
-    where
-      -- an empty Disallow isn't a twin, since it has too few octets
-      disallow_listed : (spelling : List ℕ) → Contains members (rfc.Disallow spelling)
-          → length (escaped spelling) ≡ octets stays is.path → Contains rules (escaped spelling, false)
-      disallow_listed [] listed size =
-          let longer = are.empty listed is.path is.listed is.some in absurd (omega arith)
-      disallow_listed (b ∷ spelling) listed size = read_listed (rfc.Disallow (b ∷ spelling)) listed
+  denied : (path : List ℕ) → Contains members (rfc.Disallow path) → path ≢ []
+      → Contains rules (escaped path, false)
+  denied [] listed some = absurd (some refl)
+  denied (b ∷ path) listed some = read_listed (rfc.Disallow (b ∷ path)) listed
 
-      shorter : (spelling : List ℕ) → IsComparedAs stays is.path spelling → (pattern : List ℕ)
-          → Contains rules (pattern, true) → Matches pattern uri
-          → length pattern < length (escaped spelling)
-      shorter spelling same pattern has matches =
-          let (member, at, as_read) = zip_has IsReadAs members rules (pattern, true) zip has in
-          elim (allow_of pattern member at as_read) [
-            | inl (path, listed, written) ↦
-                let here : Matches (escaped path) uri = rw written at matches in
-                let plain_path = plain rfc.Allow path here (are.fit (rfc.Allow path) listed) in
-                let less = is.most path listed ((matching path path plain_path).0 here) in
-                let size = ap length written in
-                let one = counts path path (inl listed) plain_path in
-                let two = counts is.path spelling (inr is.listed) same in
-                omega arith
-            | inr (empty, root) ↦
-                let size = ap length root in
-                let one = octets_are stays is.path spelling same in
-                let longer = are.empty empty is.path is.listed is.some in
-                omega arith
-          ]
+  to_denied : IsDisallowed stays count members uri → IsDenied rules uri
+  to_denied is = (
+    λ e. is.other (ap (λ text. normal_uri stays text) e),
+    escaped is.path,
+    denied is.path is.listed is.some,
+    (matching is.path (inr is.listed)).1 is.is_match,
+    λ pattern has matches.
+        let (member, at, as_read) = zip_has IsReadAs members rules (pattern, true) zip has in
+        let two = counts is.path (inr is.listed) in
+        elim (allow_of pattern member at as_read) [
+          | inl (path, listed, written) ↦
+              let less = is.most path listed ((matching path (inl listed)).0 (rw written at matches)) in
+              let size = ap length written in
+              let one = counts path (inl listed) in
+              omega arith
+          | inr (empty, root) ↦
+              let size = ap length root in
+              let one = are.counted is.path (inr is.listed) in
+              let longer = are.empty empty is.path is.listed is.some in
+              omega arith
+        ],
+  )
 
   pub verdicts_agree : (answer : Bool)
       → IsVerdict rules uri answer ↔ IsRfcVerdict stays count members uri answer
   verdicts_agree true = (λ allowed is. allowed (to_denied is), λ allowed is. allowed (to_disallowed is))
   verdicts_agree false = (to_disallowed, to_denied)
 
-pub robot_agrees : (stays : Reading) (count : List ℕ → ℕ) (agent file uri : List ℕ) (groups : List rfc.Group)
+pub robot_agrees : (stays : Reading) (count : List ℕ → ℕ) (agent text uri : List ℕ) (groups : List rfc.Group)
     (numbers : List (List ℕ)) (robot : RobotValue) (answer : Bool)
-    → IsFileWith numbers groups (take file_limit file) → IsRobotOfFile agent (take file_limit file) robot
+    → IsFileWith numbers groups text → IsRobotOfFile agent text robot
     → AreComparable stays count (rfc.rules_for agent (rfc.merged groups)) uri
     → IsVerdict (unplaced robot.rules) uri answer
     ↔ IsRfcVerdict stays count (rfc.rules_for agent (rfc.merged groups)) uri answer
-robot_agrees stays count agent file uri groups numbers robot answer written is fit =
-    let (addresses, lists) = (file_with (take file_limit file) numbers groups written).lists in
+robot_agrees stays count agent text uri groups numbers robot answer written is fit =
+    let (addresses, lists) = (file_with text numbers groups written).lists in
     let members = rfc.rules_for agent (rfc.merged groups) in
     let (placed, same, zip) =
-    (robot_as agent (take file_limit file) groups numbers addresses robot written lists is).rules in
+    (robot_as agent text groups numbers addresses robot written lists is).rules in
     let alike = same_verdicts placed robot.rules same uri answer in
     let agree = verdicts_agree stays count members (unplaced placed) uri zip fit answer in
     (λ v. agree.0 (alike.0 v), λ v. alike.1 (agree.1 v))

@@ -1,8 +1,8 @@
 -- Conditions on rules and on a URI under which the verdict of this library is that of the standard.
-use Rattle.std.specs.Prelude.{◌≡◌, ◌≢◌, ◌⊎◌, ℕ, ◌+◌, ◌*◌, ◌<◌, ◌==◌, ◌&&◌, ◌||◌, not, Bool, true, false, List}
+use Rattle.std.specs.Prelude.{◌≡◌, ◌≢◌, ◌⊎◌, ℕ, ◌+◌, ◌*◌, ◌<◌, ◌==◌, ◌&&◌, ◌||◌, not, Bool, false, List}
 use Rattle.std.specs.Prelude.{[], ◌∷◌, Contains, codes, slice_index}
 use Rattle.std.specs.{Char.digit_value, Char.is_ascii_lowercase, List.list_all, Str.byte}
-use Rattle.rfc9309_laws.specs.Matching.{Reading, has_dollar, is_ended, is_escape, is_one_of, is_unreserved}
+use Rattle.rfc9309_laws.specs.Matching.{Reading, has_dollar, is_escape, is_one_of, is_unreserved}
 use Rattle.rfc9309_laws.specs.Matching.{normal_path, normal_uri, octets, without_end}
 use Rattle.texting_robots.specs.{Escape.escaped, Trim.IsTrimOf}
 use Rattle.rfc9309_laws.specs.Rfc9309 as rfc
@@ -28,32 +28,11 @@ is_uri_octet b = is_unreserved b || (is_one_of (codes ":/?[]@!&'()+,;=") b || b 
 abbrev pub is_normal : List ℕ → Bool
 is_normal uri = list_all is_uri_octet uri && not (has_odd_escape uri)
 
--- What this library compares for the spelling is what the standard compares for the path: the normal form of
--- the path. A dollar is only at the end.
-pub record IsComparedAs (stays : Reading) (path spelling : List ℕ) : Type 0 where
-  pub normal : normal_path stays path ≡ escaped (without_end spelling)
-  pub ended : is_ended path ≡ is_ended spelling
-  pub dollar : has_dollar (without_end spelling) ≡ false
-
--- a rule's path that this library compares in its normal form
-abbrev pub IsPlainPath : Reading → List ℕ → Type 0
-IsPlainPath stays path = IsComparedAs stays path path
-
--- A path that matches no URI in normal form here, since it has an odd escape; but another rule of the same
--- kind has a spelling of it that is compared in its place, such as `/b` for `/%62`.
-pub record HasTwin (stays : Reading) (IsListed : List ℕ → Type 0) (path : List ℕ) : Type 0 where
-  pub odd : has_odd_escape path ≡ true
-  pub twin : List ℕ
-  pub listed : IsListed twin
-  pub same : IsComparedAs stays path twin
-
--- the path of the rule is plain, or has a twin among these rules
-abbrev pub IsFit : Reading → List rfc.Member → rfc.Member → Type 0
-IsFit stays members (rfc.Allow path) =
-    IsPlainPath stays path ⊎ HasTwin stays (λ twin. Contains members (rfc.Allow twin)) path
-IsFit stays members (rfc.Disallow path) =
-    IsPlainPath stays path ⊎ HasTwin stays (λ twin. Contains members (rfc.Disallow twin)) path
-IsFit stays members (rfc.Delay number) = Unit {0}
+-- What this library compares for a rule's path is what the standard compares, its normal form. A dollar is
+-- only at the end.
+pub record IsPlainPath (stays : Reading) (path : List ℕ) : Type 0 where
+  pub normal : normal_path stays path ≡ escaped (without_end path)
+  pub dollar : has_dollar (without_end path) ≡ false
 
 -- some rule has the path
 abbrev pub IsPathOf : List rfc.Member → List ℕ → Type 0
@@ -63,7 +42,7 @@ IsPathOf members path = Contains members (rfc.Allow path) ⊎ Contains members (
 -- - `normal`: the URI is in normal form;
 -- - `robots`: so is `/robots.txt`;
 -- - `trimmed`: no rule has white space to trim;
--- - `fit`: the rules are in normal form, when escaped, or have a twin that is;
+-- - `plain`: this library compares each rule in its normal form;
 -- - `counted`: the octets of a rule are counted in its normal form, or this count is the same;
 -- - `empty`: if there is an empty Disallow, which is an Allow of `/` here, each other rule has more than one
 --   octet, so it isn't `/` or `*`.
@@ -72,7 +51,7 @@ pub record AreComparable (stays : Reading) (count : List ℕ → ℕ) (members :
   pub normal : normal_uri stays uri ≡ uri
   pub robots : normal_uri stays (codes "/robots.txt") ≡ codes "/robots.txt"
   pub trimmed : (path : List ℕ) → IsPathOf members path → IsTrimOf path path
-  pub fit : (member : rfc.Member) → Contains members member → IsFit stays members member
+  pub plain : (path : List ℕ) → IsPathOf members path → IsPlainPath stays path
   pub counted : (path : List ℕ) → IsPathOf members path → count path ≡ octets stays path
   pub empty : Contains members (rfc.Disallow []) → (path : List ℕ) → Contains members (rfc.Disallow path)
       → path ≢ [] → 1 < octets stays path

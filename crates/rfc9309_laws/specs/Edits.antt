@@ -1,5 +1,5 @@
 -- Two files that differ only in a rule that doesn't apply to a crawler.
-use Rattle.std.specs.Prelude.{◌≡◌, ◌⊎◌, ℕ, List, ◌∷◌, ◌++◌, length, take}
+use Rattle.std.specs.Prelude.{◌≡◌, ◌⊎◌, ℕ, List, ◌∷◌, ◌++◌, codes, length, take}
 use Rattle.texting_robots.specs.Callers.{Allow, AreFileLinesOf, Disallow, IsCaptured, LineValue, file_limit}
 use Rattle.texting_robots.specs.Callers.{group_name}
 
@@ -20,3 +20,8 @@ pub record DifferInRule (agent file other : List ℕ) : Type 0 where
   pub other_rule : IsRule other_line
   pub uncaptured : ¬ IsCaptured (group_name agent (above ++ line ∷ below)) (above ++ line ∷ below)
       (length above)
+
+-- a rule of another crawler, and another kind of it
+abbrev pub example : Type 0
+example =
+    DifferInRule (codes "b") (codes "User-agent: a\nDisallow: /\n") (codes "User-agent: a\nAllow: /\n")

@@ -91,11 +91,10 @@ longest =
 
 -- ---- rules that meet all conditions
 
--- an empty Disallow, non-ASCII paths, stars, a dollar at the end, and a rule beside its standard spelling
+-- an empty Disallow, non-ASCII paths, stars, and a dollar at the end
 abbrev pub mixed_rules : List rfc.Member
 mixed_rules =
     rfc.Disallow [] ∷ rfc.Disallow (codes "/" ++ tsu ++ codes "*.gif$")
-    ∷ rfc.Allow (codes "/" ++ tsu ++ codes "/%62*.gif$")
     ∷ rfc.Allow (codes "/" ++ tsu ++ codes "/b*.gif$") ∷ []
 
 abbrev pub HasMixedVerdict : List ℕ → Bool → Type 0

@@ -1,26 +1,20 @@
 //! Whether a file is in the extended grammar, and whether each verdict on it is that of the standard; if not,
 //! because of which line.
-ghost use Rattle.std.specs.Prelude.{◌≡◌, ◌↔◌, ◌<◌, ◌≤◌, ◌==◌, ◌∷◌, ℕ, Bool, Contains, IfOk, List, codes};
-ghost use Rattle.std.specs.Prelude.{false};
-ghost use Rattle.std.specs.Prelude.{length, map, take, true};
-ghost use Rattle.texting_robots.specs.Callers.{IsFileRejected, IsRobotOfFile, IsVerdict, RobotValue};
-ghost use Rattle.texting_robots.specs.Callers.{agents_in};
-ghost use Rattle.texting_robots.specs.Callers.{lines_read, unplaced};
-ghost use Rattle.rfc9309_laws.specs.Matching.{IsRfcVerdict, all_stay, normal_uri, octets};
-ghost use Rattle.rfc9309_laws.specs.Rfc9309.{standard_rules};
-ghost use Rattle.std.specs.Char.{digit_value, is_ascii_hexdigit};
-ghost use Rattle.std.specs.List.{list_any, position_from};
-ghost use Rattle.texting_robots.specs.Callers.{by_value, escaped, file_bodies, file_limit, file_lines};
-ghost use Rattle.texting_robots.specs.Callers.{placed_rules};
-ghost use Rattle.rfc9309_laws.specs.{Comparable.begins_odd_escape, Comparable.has_odd_escape};
+ghost use Rattle.std.specs.Prelude.{◌≡◌, ◌↔◌, ◌<◌, ◌≤◌, ◌==◌, ◌∷◌, ℕ, Bool, Contains, IfOk, List, codes, map};
+ghost use Rattle.std.specs.Prelude.{false, length, take, true};
+ghost use Rattle.texting_robots.specs.Callers.{IsFileRejected, IsRobotOfFile, IsVerdict, RobotValue, escaped};
+ghost use Rattle.texting_robots.specs.Callers.{agents_in, lines_read, unplaced, by_value, file_bodies};
+ghost use Rattle.texting_robots.specs.Callers.{file_limit, file_lines, placed_rules};
+ghost use Rattle.rfc9309_laws.specs.Matching.{IsRfcVerdict, all_stay, normal_uri, octets, has_dollar};
+ghost use Rattle.rfc9309_laws.specs.Matching.{is_unreserved};
+ghost use Rattle.rfc9309_laws.specs.Rfc9309.{standard_rules, Group, IsFile};
+ghost use Rattle.std.specs.{Char.digit_value, Char.is_ascii_hexdigit, List.list_any, List.position_from};
+ghost use Rattle.rfc9309_laws.specs.Comparable.{begins_odd_escape, has_odd_escape};
 ghost use Rattle.rfc9309_laws.specs.Conformance.{by_lines, conformance_of, first_mixed, first_mixed_for};
-ghost use Rattle.rfc9309_laws.specs.Conformance.{first_other, front_of, line_apart};
-ghost use Rattle.rfc9309_laws.specs.Conformance.{first_split, has_mark_or_none, has_syntax, has_verdicts};
-ghost use Rattle.rfc9309_laws.specs.Conformance.{is_all};
-ghost use Rattle.rfc9309_laws.specs.Conformance.{is_apart, is_odd_octet, is_plain_path};
-ghost use Rattle.rfc9309_laws.specs.Conformance.{is_read_as_written, is_read_whole, next_above};
-ghost use Rattle.rfc9309_laws.specs.{Matching.has_dollar, Matching.is_unreserved, Rfc9309.Group};
-ghost use Rattle.rfc9309_laws.specs.{Rfc9309.IsFile};
+ghost use Rattle.rfc9309_laws.specs.Conformance.{first_other, front_of, line_apart, first_split, has_syntax};
+ghost use Rattle.rfc9309_laws.specs.Conformance.{has_mark_or_none, has_verdicts, is_all, is_apart};
+ghost use Rattle.rfc9309_laws.specs.Conformance.{is_odd_octet, is_plain_path, is_read_as_written, next_above};
+ghost use Rattle.rfc9309_laws.specs.Conformance.{is_read_whole};
 
 use crate::grammar::{is_agent_line, is_line_below, is_rule_line, value_in};
 use bstr::ByteSlice;
@@ -318,11 +312,12 @@ pub fn files_of_the_grammar_are_those()
 /// one that the file names, or of `*`, on each path and query in normal form, is the standard's (`verdicts`),
 /// and the file isn't rejected for it (`accepted`).
 pub fn verdicts_of_the_standard_are_those()
-    ensures verdicts { (file agent name uri : List ℕ) (groups : List Group) (robot : RobotValue)
-        (answer : Bool) → has_verdicts (conformance_of file) ≡ true → IsFile groups file
+    ensures verdicts { (file agent name : List ℕ) (groups : List Group)
+        → has_verdicts (conformance_of file) ≡ true → IsFile groups file
         → Contains (codes "*" ∷ agents_in (lines_read file)) name
         → placed_rules agent (lines_read file) ≡ placed_rules name (lines_read file)
-        → normal_uri all_stay uri ≡ uri → IsRobotOfFile agent (take file_limit file) robot
+        → (uri : List ℕ) (robot : RobotValue) (answer : Bool) → normal_uri all_stay uri ≡ uri
+        → IsRobotOfFile agent (take file_limit file) robot
         → IsVerdict (unplaced robot.rules) uri answer
         ↔ IsRfcVerdict all_stay (octets all_stay) (standard_rules agent groups) uri answer }
     ensures accepted { (file agent name : List ℕ) (groups : List Group)

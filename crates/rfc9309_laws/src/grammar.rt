@@ -2,14 +2,12 @@
 ghost use Rattle.std.specs.Prelude.{◌≡◌, ◌≤◌, ◌==◌, length, reverse};
 ghost use Rattle.std.specs.List.{list_all, list_any, position_or_len};
 ghost use Rattle.std.specs.Str.{is_utf8, str_eq_ignore_ascii_case};
-ghost use Rattle.rfc9309_laws.specs.{Conformance.is_line_below};
-ghost use Rattle.rfc9309_laws.specs.HasForm.{are_some, has_byte, has_form, is_blank, is_comment_byte};
-ghost use Rattle.rfc9309_laws.specs.HasForm.{is_comment_text};
-ghost use Rattle.rfc9309_laws.specs.HasForm.{is_digit, is_identifier_byte, is_keyed, is_number};
-ghost use Rattle.rfc9309_laws.specs.HasForm.{is_other_name, is_pattern};
-ghost use Rattle.rfc9309_laws.specs.HasForm.{is_product_token, is_value_byte, is_value_text, lower};
-ghost use Rattle.rfc9309_laws.specs.HasForm.{stripped, text_after};
-ghost use Rattle.rfc9309_laws.specs.HasForm.{text_before, text_from, value_in, without_leading};
+ghost use Rattle.rfc9309_laws.specs.Conformance.{is_line_below};
+ghost use Rattle.rfc9309_laws.specs.HasForm.{are_some, has_byte, has_form, is_blank, is_comment_byte, lower};
+ghost use Rattle.rfc9309_laws.specs.HasForm.{is_comment_text, is_digit, is_identifier_byte, is_keyed};
+ghost use Rattle.rfc9309_laws.specs.HasForm.{is_number, is_other_name, is_pattern, is_product_token};
+ghost use Rattle.rfc9309_laws.specs.HasForm.{is_value_byte, is_value_text, stripped, text_after, text_before};
+ghost use Rattle.rfc9309_laws.specs.HasForm.{text_from, value_in, without_leading};
 ghost use Rattle.rfc9309_laws.specs.LineForms.{Agent, Delay, Empty, Other, Rule, Sitemap};
 
 use memchr::memchr;
@@ -31,7 +29,7 @@ const NAMES: &[&str] = &[
     "crawldelay",
 ];
 
-#[tactic(auto, using(texting_robots::proofs::LaneLemmas::found_or_end))]
+#[tactic(auto, using(texting_robots::proofs::Shared::found_or_end))]
 fn place(stop: u8, text: &[u8]) -> usize
     ensures value { result ≡ position_or_len (λ b. b == stop) text.now }
     ensures within { result ≤ length text.now }

@@ -51,16 +51,19 @@ pub fn standard_files_are_read_so()
 pub fn standard_robots()
     ensures robot { (agent file : List ℕ) (groups : List rfc.Group) (numbers addresses : List (List ℕ))
         (robot : RobotValue) → IsFileWith numbers groups (take file_limit file)
-        → rfc.ListsSitemaps addresses (take file_limit file) → IsRobotOfFile agent (take file_limit file) robot
+        → rfc.ListsSitemaps addresses (take file_limit file)
+        → IsRobotOfFile agent (take file_limit file) robot
         → IsRobotAs agent (rfc.merged groups) numbers addresses robot }
-    ensures rejected { (agent file : List ℕ) (groups : List rfc.Group) → rfc.IsFile groups (take file_limit file)
+    ensures rejected { (agent file : List ℕ) (groups : List rfc.Group)
+        → rfc.IsFile groups (take file_limit file)
         → IsFileRejected agent (take file_limit file) → IsRejectedAs agent (rfc.merged groups) }
     ensures delays { (text : List ℕ) (groups : List rfc.Group) → rfc.IsFile groups text
         → (numbers : List (List ℕ)) × IsFileWith numbers groups text }
     ensures forms { (agent file : List ℕ) (forms : List Form) (robot : RobotValue)
         → AreForms forms (take file_limit file) → IsRobotOfFile agent (take file_limit file) robot
         → (groups : List rfc.Group) × (numbers : List (List ℕ)) × (addresses : List (List ℕ))
-        × IsFileWith numbers groups (take file_limit file) × rfc.ListsSitemaps addresses (take file_limit file)
+        × IsFileWith numbers groups (take file_limit file)
+        × rfc.ListsSitemaps addresses (take file_limit file)
         × IsRobotAs agent (rfc.merged groups) numbers addresses robot }
 {}
 
@@ -86,5 +89,6 @@ pub fn line_forms_make_files()
     ensures only { (text : List ℕ) (groups : List rfc.Group) → rfc.IsFile groups text
         → (forms : List Form) × AreForms forms text }
     ensures test { (form : Form) (body : List ℕ) → has_form form body ≡ true → HasForm form body }
-    ensures exact { (form : Form) (body : List ℕ) → All IsBodyByte body → HasForm form body → has_form form body ≡ true }
+    ensures exact { (form : Form) (body : List ℕ) → All IsBodyByte body → HasForm form body
+        → has_form form body ≡ true }
 {}

@@ -1,34 +1,29 @@
 //! Where the verdict of this library is that of RFC 9309, sections 2.2.2 and 2.2.3. Each theorem is the
 //! contract of an empty function.
 ghost use Rattle.std.specs.Prelude.{◌≡◌, ◌↔◌, ℕ, Bool, true, false, List, length, take};
-ghost use Rattle.std.specs.List.{AllZip, list_any};
-ghost use Rattle.rfc9309_laws.specs.Comparable.{AreComparable, IsComparedAs, IsPlainPath, has_odd_escape};
-ghost use Rattle.rfc9309_laws.specs.Comparable.{is_normal};
+ghost use Rattle.{std.specs.List.AllZip, std.specs.List.list_any, texting_robots.specs.Escape.is_escaped};
+ghost use Rattle.rfc9309_laws.specs.Comparable.{AreComparable, IsPlainPath, is_normal};
 ghost use Rattle.rfc9309_laws.specs.Matching.{IsMatch, IsRfcVerdict, Reading, all_stay, normal_uri, octets};
 ghost use Rattle.rfc9309_laws.specs.StandardRobot.{IsReadAs, IsFileWith};
 ghost use Rattle.texting_robots.specs.Callers.{IsRobotOfFile, IsVerdict, Matches, RobotValue, Rule, escaped};
 ghost use Rattle.texting_robots.specs.Callers.{file_limit, unplaced};
-ghost use Rattle.texting_robots.specs.Escape.{is_escaped};
 ghost use Rattle.rfc9309_laws.specs.Examples as example;
 ghost use Rattle.rfc9309_laws.specs.Rfc9309 as rfc;
 
 /// On normal forms, what a pattern of this library matches is what the standard's rule matches, whichever
 /// reserved octets are percent-encoded:
 ///
-/// - `matching`: a rule's path matches a URI by the standard exactly if this path, or that of its twin, does
-///   here when escaped.
+/// - `matching`: a rule's path matches a URI by the standard exactly if it does here
+///   when escaped.
 /// - `octets`: the octets of the rule are those of this pattern.
 /// - `written`: if nothing is escaped, these are the octets of the path as written.
-/// - `never`: a path with an odd escape matches nothing here.
 pub fn normal_paths_match_so()
-    ensures matching { (stays : Reading) (path spelling uri : List ℕ) → normal_uri stays uri ≡ uri
-        → IsComparedAs stays path spelling → Matches (escaped spelling) uri ↔ IsMatch stays path uri }
-    ensures octets { (stays : Reading) (path spelling : List ℕ) → IsComparedAs stays path spelling
-        → length (escaped spelling) ≡ octets stays path }
+    ensures matching { (stays : Reading) (path uri : List ℕ) → normal_uri stays uri ≡ uri
+        → IsPlainPath stays path → Matches (escaped path) uri ↔ IsMatch stays path uri }
+    ensures octets { (stays : Reading) (path : List ℕ) → IsPlainPath stays path
+        → length (escaped path) ≡ octets stays path }
     ensures written { (stays : Reading) (path : List ℕ) → IsPlainPath stays path
         → list_any is_escaped path ≡ false → length path ≡ octets stays path }
-    ensures never { (stays : Reading) (path uri : List ℕ) → normal_uri stays uri ≡ uri
-        → Matches (escaped path) uri → has_odd_escape path ≡ false }
 {}
 
 /// A URI is in normal form, if reserved octets stay, exactly if it contains only unreserved octets, reserved

@@ -13,9 +13,8 @@ use Rattle.texting_robots.specs.Callers.{lines_read, unplaced, IsCaptured, IsRej
 use Rattle.texting_robots.specs.Callers.{IsRejectionOf, is_agent_named, is_named, prepared}
 use Rattle.texting_robots.specs.declared.error.Rejection.{Rejection}
 use Rattle.texting_robots.specs.declared.error.Rejection.TheVariants as rejection
-use Rattle.texting_robots.proofs.{MainTheoremLemmas.deciding_line_holds_its_rule, CountLemmas.lines_within}
-use Rattle.texting_robots.proofs.{LineLemmas.each_text_has_its_lines, SiteOwnLemmas.same_robot}
-use Rattle.texting_robots.proofs.MainTheoremLemmas.{no_line_allows, of_lines, read_robot, has_lines}
+use Rattle.texting_robots.proofs.Shared.{deciding_line_holds_its_rule, lines_within, each_text_has_its_lines}
+use Rattle.texting_robots.proofs.Shared.{same_robot, no_line_allows, of_lines, read_robot, has_lines}
 use Rattle.robots_c.specs.{File.IsRobotOfSomeFile, File.IsSiteOfSomeFile, Status.IsWhyNoResult, Results.IsRow}
 use Rattle.robots_c.specs.Status.{IsWhyNoRobot, fault_of}
 use Rattle.robots_c.specs.Results.{IsResultOn, LinesFit, number_of, HasResult, AreRows, items_in, no_result}

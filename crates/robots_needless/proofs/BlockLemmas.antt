@@ -13,9 +13,8 @@ use Rattle.texting_robots.specs.Group.{group_name, is_agent, passes_at}
 use Rattle.texting_robots.specs.Executable.{captured_delays, captured_lines, delay_before_agents, placed_in}
 use Rattle.texting_robots.specs.Executable.{placed_rules, rules_for, sitemap_in, sitemaps_in}
 use Rattle.texting_robots.specs.Internal.Group.{from_captured, if_captured, start_of, step}
-use Rattle.texting_robots.proofs.CapturedLemmas.{at_front, captured_walked, only_agents}
-use Rattle.texting_robots.proofs.{LawLemmas.raw_changes_nothing}
-use Rattle.texting_robots.proofs.RulesLemmas.{before_agent, before_agents}
+use Rattle.texting_robots.proofs.Shared.{at_front, captured_walked, only_agents, raw_changes_nothing}
+use Rattle.texting_robots.proofs.Shared.{before_agent, before_agents}
 use Rattle.robots_needless.specs.{declared.blocks.Block.Block}
 use Rattle.robots_needless.specs.Blocks.{block_after, is_rule, keep_blocks_from, left_from, no_rule}
 use Rattle.robots_needless.specs.Blocks.{with_rule}

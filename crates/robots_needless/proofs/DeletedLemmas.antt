@@ -10,8 +10,7 @@ use Rattle.std.proofs.lemmas.List.Elements.{All-head, All-tail, recursion_from_A
 use Rattle.texting_robots.specs.Cut.{IsBodyByte, IsCut, IsLineEnd, Pair, cr, joined, lf}
 use Rattle.texting_robots.specs.Line.{LineValue, Raw, is_raw, nul_as_lf, without, without_front}
 use Rattle.texting_robots.specs.Internal.{Cut.bodies_of, Line.line_of, Statement.statement_of}
-use Rattle.texting_robots.proofs.CrLfLemmas.{body_byte, body_return, body_step, step}
-use Rattle.texting_robots.proofs.{CutLemmas.cut_nil}
+use Rattle.texting_robots.proofs.Shared.{body_byte, body_return, body_step, step, cut_nil}
 use Rattle.robots_needless.specs.{Blocks.left_from}
 
 abbrev pub pair_body : Pair → List ℕ

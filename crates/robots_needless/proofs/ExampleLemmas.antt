@@ -4,8 +4,7 @@ use Rattle.std.proofs.Common.{◌≡◌, ◌≢◌, ◌<◌, ◌↔◌, ◌⊎�
 use Rattle.std.proofs.Common.{◌∷◌, Contains, codes, get_or, refl, arith}
 use Rattle.std.proofs.lemmas.Bool.{false≢true}
 use Rattle.texting_robots.specs.{Rules.PlacedRule, Rules.Rule, Rules.unplaced, Verdict.IsVerdict}
-use Rattle.texting_robots.proofs.ExampleLemmas.{matching, not_matching}
-use Rattle.texting_robots.proofs.{BestLemmas.answered, VerdictLemmas.one_verdict}
+use Rattle.texting_robots.proofs.Shared.{matching, not_matching, answered, one_verdict}
 use Rattle.robots_needless.specs.Examples.{allow_at, deny_at, twice}
 use Rattle.robots_needless.specs.Internal.{fresh, generic}
 use Rattle.robots_needless.proofs.SettledLemmas.{covers_by, escaped_below, heads_apart}

@@ -12,11 +12,9 @@ use Rattle.texting_robots.specs.Callers.{placed_rules, rules_for, unplaced}
 use Rattle.texting_robots.specs.Cut.{IsLineEnd, Pair, joined}
 use Rattle.texting_robots.specs.{Laws.Same, Line.is_raw, Line.without_front}
 use Rattle.texting_robots.specs.Internal.{Cut.bodies_of, Cut.cut, Line.line_of}
-use Rattle.texting_robots.proofs.GivenLemmas.{delay_is_computed, sitemaps_are_computed}
-use Rattle.texting_robots.proofs.MainTheoremLemmas.{answers_computed, of_lines, rejection_is_computed}
-use Rattle.texting_robots.proofs.LineLemmas.{each_text_has_its_lines, front_is_end, front_read}
-use Rattle.texting_robots.proofs.{BestLemmas.placed_of, LawLemmas.raw_changes_nothing}
-use Rattle.texting_robots.proofs.CutLemmas.{is_cut, only_cut}
+use Rattle.texting_robots.proofs.Shared.{delay_is_computed, sitemaps_are_computed, answers_computed, of_lines}
+use Rattle.texting_robots.proofs.Shared.{rejection_is_computed, each_text_has_its_lines, front_is_end}
+use Rattle.texting_robots.proofs.Shared.{front_read, placed_of, raw_changes_nothing, is_cut, only_cut}
 use Rattle.robots_needless.specs.{declared.needless.NeedlessRule.NeedlessRule}
 use Rattle.robots_needless.specs.Blocks.{left_from, AreAlike, AreFoundIn, AreWholeLines, HaveSameRobot}
 use Rattle.robots_needless.specs.Blocks.{IsLeftOf, begin_with_mark}

@@ -17,7 +17,7 @@ use Rattle.std.proofs.lemmas.List.Elements.{Contains-append_right, Contains-push
 use Rattle.std.proofs.lemmas.List.Sorted.{IsPermutation-append_left, IsPermutation-refl, IsPermutation-trans}
 use Rattle.std.proofs.lemmas.List.Sorted.{sorted_far}
 use Rattle.texting_robots.specs.{Pattern.Matches, Pattern.MatchesWith, Rules.PlacedRule}
-use Rattle.texting_robots.proofs.{VerdictLemmas.cmp_less, VerdictLemmas.cmp_same, SegmentLemmas.in_front}
+use Rattle.texting_robots.proofs.Shared.{cmp_less, cmp_same, in_front}
 use Rattle.robots_needless.specs.Internal.{AreDescending, AreLeft, AreNear, IsAfter, IsNoRival, IsPlain}
 use Rattle.robots_needless.specs.Internal.{IsPlainByte, rule_cmp, IsReducing, Reasons}
 use Rattle.robots_needless.specs.Needless.{AreApart, rank_of}

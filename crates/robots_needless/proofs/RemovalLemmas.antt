@@ -4,7 +4,7 @@ use Rattle.std.proofs.Common.{◌≡◌, ◌≢◌, ◌<◌, ◌≤◌, ◌↔�
 use Rattle.std.proofs.Common.{sym, arith}
 use Rattle.std.specs.List.{Contains}
 use Rattle.texting_robots.specs.{Pattern.Matches, Rules.Rule, Verdict.IsDenied, Verdict.robots_file}
-use Rattle.texting_robots.proofs.{BestLemmas.matches, ExampleLemmas.matching, ExampleLemmas.not_matching}
+use Rattle.texting_robots.proofs.Shared.{matches, matching, not_matching}
 use Rattle.robots_needless.specs.Internal.{CanGo, HasNoRival, IsReplacedBy}
 use Rattle.robots_needless.specs.Needless.{rank_of}
 

@@ -9,7 +9,7 @@ use Rattle.std.proofs.lemmas.List.Elements.{All-head, All-tail, All-append, All-
 use Rattle.std.proofs.lemmas.List.Elements.{Contains-append_left, All-map, Contains-push, Contains-push_cases}
 use Rattle.texting_robots.specs.Pattern.{IsSuffix, Matches, MatchesWith, dollar, star}
 use Rattle.texting_robots.specs.Escape.{escaped}
-use Rattle.texting_robots.proofs.{SegmentLemmas.suffix_trans, BestLemmas.placed_of}
+use Rattle.texting_robots.proofs.Shared.{suffix_trans, placed_of, computed_are, rejection_is_computed}
 use Rattle.robots_needless.specs.Internal.{fresh, generic, HeadsDiffer, are_free, AreReasons, AreSettled}
 use Rattle.robots_needless.specs.Internal.{Grow, HasAll, IsSettled, Reasons, rule_at, AreAccepted}
 use Rattle.robots_needless.specs.Needless.{Covers, AreApart, MatchesNothing, AreFound, AreNeedless, IsFound}
@@ -21,7 +21,6 @@ use Rattle.std.proofs.lemmas.Map.{Lookups.exact_unsigned, Views.All-found, Views
 use Rattle.texting_robots.specs.Callers.{IsRejected, file_bodies, placed_rules, sitemaps_in}
 use Rattle.texting_robots.specs.Callers.{LineValue, PlacedRule, agents_in, delay_for, file_lines, rules_for}
 use Rattle.robots_needless.specs.declared.needless.{NeedlessRule.NeedlessRule, Reason.Reason}
-use Rattle.texting_robots.proofs.MainTheoremLemmas.{computed_are, rejection_is_computed}
 use Rattle.robots_needless.specs.Blocks.{KeepBlocks, is_found, keep_blocks_from, left_from, no_rule}
 use Rattle.robots_needless.specs.Blocks.{AreFoundIn, begin_with_mark}
 use Rattle.robots_needless.proofs.BlockLemmas.{among, deleted, keeps_rule, delays_stay, left_are}

@@ -22,7 +22,7 @@ use Rattle.robots_needless.specs.Needless.{AreDistinct, lines_of, without, AreNe
 use Rattle.std.proofs.lemmas.Map.Keys.{IsDistinct-IsPermutation, IsDistinct-from_apart, apart_from_distinct}
 use Rattle.std.specs.{Ordering.nat_cmp, BTreeMap.Updates, BTreeMap.get}
 use Rattle.texting_robots.specs.Verdict.{IsDenied, IsVerdict}
-use Rattle.texting_robots.proofs.{BestLemmas.placed_of, VerdictLemmas.same_verdicts}
+use Rattle.texting_robots.proofs.Shared.{placed_of, same_verdicts}
 use Rattle.robots_needless.specs.declared.needless.Reason.{Reason}
 use Rattle.robots_needless.specs.Internal.{AreAmong, CanGoInTurn, Goes, AreNear, CanReplace, HasNoRival}
 use Rattle.robots_needless.specs.Internal.{IsNoRival, HasLine, IsReducing, Reasons}

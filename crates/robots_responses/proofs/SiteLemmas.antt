@@ -9,8 +9,8 @@ use Rattle.texting_robots.specs.{Callers.IsOverlong, Pattern.MatchesWith}
 use Rattle.texting_robots.specs.Callers.{IsVerdict, Matches, PlacedRule, Rule, Disallow, UserAgent, unplaced}
 use Rattle.texting_robots.specs.Callers.{file_limit, group_name, lines_read, placed_rules, robots_file}
 use Rattle.texting_robots.specs.Internal.{Cut.cut, Delay.delay_of, Line.line_of, Statement.statement_of}
-use Rattle.texting_robots.proofs.{ExampleLemmas.any_overlong_decides, MainTheoremLemmas.rejection_is_computed}
-use Rattle.texting_robots.proofs.MainTheoremLemmas.{answers_computed, read_rejected, read_robot}
+use Rattle.texting_robots.proofs.Shared.{any_overlong_decides, rejection_is_computed, answers_computed}
+use Rattle.texting_robots.proofs.Shared.{read_rejected, read_robot}
 use Rattle.robots_responses.specs.{Responses.DecidesAll}
 use lib.Utf8.{encode}
 

@@ -7,10 +7,9 @@ use Rattle.texting_robots.specs.Callers.{IsMemoryErrorOr, IsRobotOf, RobotValue,
 use Rattle.texting_robots.specs.Callers.{placed_rules, rules_for, sitemaps_in}
 use Rattle.texting_robots.specs.declared.error.Error.{Error}
 use Rattle.texting_robots.specs.declared.error.Error.TheVariants as error
-use Rattle.texting_robots.proofs.{BestLemmas.Either, ExampleLemmas.any_overlong_decides}
-use Rattle.texting_robots.proofs.GivenLemmas.{delay_is_computed, sitemaps_are_computed}
-use Rattle.texting_robots.proofs.MainTheoremLemmas.{answers_computed, lines_are_read, read_rejected}
-use Rattle.texting_robots.proofs.MainTheoremLemmas.{rejection_is_computed}
+use Rattle.texting_robots.proofs.Shared.{Either, any_overlong_decides, delay_is_computed}
+use Rattle.texting_robots.proofs.Shared.{sitemaps_are_computed, answers_computed, lines_are_read}
+use Rattle.texting_robots.proofs.Shared.{read_rejected, rejection_is_computed}
 use Rattle.robots_io.specs.{declared.streams.ReadFault.ReadFault}
 use Rattle.robots_verdict.specs.{declared.fault.Fault.Fault, Fault.fault_of, Fault.fault_of_read}
 use Rattle.robots_verdict.specs.declared.fault.Fault.TheVariants.{HeaderNotUtf8, InvalidRule, Memory, Read}

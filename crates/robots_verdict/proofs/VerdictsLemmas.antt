@@ -6,8 +6,7 @@ use Rattle.std.specs.{List.AllZip}
 use Rattle.std.proofs.lemmas.List.{append-nil, map-append, take_more, Elements.AllZip-push}
 use Rattle.texting_robots.specs.Callers.{AnswerAlike, PlacedRule, prepared, unplaced}
 use Rattle.texting_robots.specs.{Decision.IsDecisionOn, declared.decision.Decision.Decision}
-use Rattle.texting_robots.proofs.{BestLemmas.each_text_answered}
-use Rattle.texting_robots.proofs.VerdictLemmas.{one_line_decides, one_verdict}
+use Rattle.texting_robots.proofs.Shared.{each_text_answered, one_line_decides, one_verdict}
 use Rattle.printable_text.specs.{Lines.ended}
 use Rattle.robots_verdict.specs.Report.{AddsVerdict, AddsVerdicts, IsVerdictLine, verdict_front}
 use Rattle.printable_text.proofs.{SanitizeLemmas.lines_added}

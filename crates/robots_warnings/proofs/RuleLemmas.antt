@@ -9,7 +9,7 @@ use Rattle.std.specs.{HashMap.Updates, HashMap.get_by_text, HashMap.hash_map_len
 use Rattle.std.specs.{Global.Global, Map.lookup, Option.option_or, String.string_eq, HashSet.contains_text}
 use Rattle.texting_robots.specs.Callers.{escaped, PlacedRule, by_value, label_by_value}
 use Rattle.texting_robots.specs.{Escape.is_escaped, declared.labels.LabeledLine.LabeledLine, Group.is_group}
-use Rattle.texting_robots.proofs.{RulesLemmas.option_or_none}
+use Rattle.texting_robots.proofs.Shared.{option_or_none}
 use Rattle.robots_warnings.proofs.ClosedLemmas.{differs, either}
 use Rattle.robots_warnings.specs.Conflicts.{allow_beside, compared, first_of}
 use Rattle.std.proofs.Math.Bool.{or-false, or-true}

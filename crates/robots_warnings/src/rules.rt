@@ -18,7 +18,7 @@ pub fn has(byte: u8, text: &[u8]) -> bool
     text.iter().any(|other| *other == byte)
 }
 
-#[tactic(auto, using(texting_robots::proofs::LaneLemmas::found_or_end))]
+#[tactic(auto, using(texting_robots::proofs::Shared::found_or_end))]
 pub(crate) fn place(byte: u8, text: &[u8]) -> usize
     ensures value { result ≡ position_or_len (λ b. b == byte) text.now }
     ensures within { result ≤ length text.now }

@@ -19,7 +19,8 @@ use Rattle.texting_robots.specs.{Internal.Captured.is_captured, declared.labels.
 use Rattle.texting_robots.specs.Group.{group_name, is_agent, is_group, IsCaptured, is_agent_named, passes_at}
 use Rattle.texting_robots.specs.Line.{Allow, Disallow, IsLineOf, LineValue, Raw, UserAgent}
 use Rattle.texting_robots.specs.Internal.Line.{line_of}
-use Rattle.texting_robots.specs.Labels.{is_own, label_at, labels_of, AreLabelsOf, AreOneRun, IsInGroup, Label, bodies_in, lines_in}
+use Rattle.texting_robots.specs.Labels.{is_own, label_at, labels_of, AreLabelsOf, AreOneRun, IsInGroup, Label}
+use Rattle.texting_robots.specs.Labels.{bodies_in, lines_in}
 use Rattle.texting_robots.specs.Labels.{IsInOwnGroup, HasMembership, next_group, membership_of}
 use Rattle.texting_robots.specs.declared.labels.Membership.TheVariants.{Own, Other, Ungrouped}
 use Rattle.texting_robots.specs.Executable.{placed_in, placed_rules, rule_in}

@@ -30,3 +30,4 @@ pub mod GivenLemmas
 pub mod MainTheoremLemmas
 pub mod BestLemmas
 pub mod ExampleLemmas
+pub mod Shared

@@ -19,7 +19,8 @@ use Rattle.texting_robots.specs.Executable.{captured_delays, captured_lines, fil
 use Rattle.texting_robots.specs.Executable.{placed_rules, delay_before_agents}
 use Rattle.texting_robots.proofs.{CapturedLemmas.captured_walked, GivenLemmas.delay_is_computed}
 use Rattle.texting_robots.proofs.{RulesLemmas.any_unplaced, SiteNameLemmas.drop_is}
-use Rattle.texting_robots.proofs.MainTheoremLemmas.{has_lines, rejected_of, rejection_is_computed, rules_are_computed}
+use Rattle.texting_robots.proofs.MainTheoremLemmas.{has_lines, rejected_of, rejection_is_computed}
+use Rattle.texting_robots.proofs.MainTheoremLemmas.{rules_are_computed}
 use Rattle.texting_robots.proofs.SiteLemmas.{delay_of_group, given_push, rule_of_group, none_later}
 use Rattle.texting_robots.specs.Line.{LineValue, UserAgent, delay_in}
 use Rattle.texting_robots.specs.Internal.Site.{Named, Tagged, delay_of, in_front, is_run_of, named, listed}
@@ -309,8 +310,8 @@ listed_more text sitemaps i d within =
 -- the rule of this line is the first that is too long, or memory ran out
 pub rejected_at : (agent file : List ℕ) (rule : PlacedRule) (taken left : List PlacedRule) (e : Error)
     → taken ++ rule ∷ left ≡ placed_rules agent (file_lines file)
-    → All (λ (other : PlacedRule). ¬ IsOverlong other.rule.0) taken → IsMemoryErrorOr (IsOverlong rule.rule.0) e
-    → IsRejectionOf agent file (rejection_at rule.line e)
+    → All (λ (other : PlacedRule). ¬ IsOverlong other.rule.0) taken
+    → IsMemoryErrorOr (IsOverlong rule.rule.0) e → IsRejectionOf agent file (rejection_at rule.line e)
 rejected_at agent file rule taken left error.InvalidRule whole accepted is =
     let first : IsFirstOverlong (placed_rules agent (file_lines file)) rule.line = record {
       front = taken;

@@ -19,8 +19,8 @@ pub use Rattle.texting_robots.specs.Labels.{
 }
 pub use Rattle.texting_robots.specs.Labels.{bodies_in, labels_of, lines_in}
 pub use Rattle.texting_robots.specs.Agents.{agents_in, each_once, is_among}
-pub use Rattle.texting_robots.specs.Executable.{parsed, file_lines, lines_read, file_bodies, bodies_read}
-pub use Rattle.texting_robots.specs.Executable.{IsRejectionOf, placed_rules, rules_for, delay_for, sitemaps_in}
+pub use Rattle.texting_robots.specs.Executable.{IsRejectionOf, parsed, placed_rules, sitemaps_in, file_lines}
+pub use Rattle.texting_robots.specs.Executable.{lines_read, file_bodies, bodies_read, rules_for, delay_for}
 pub use Rattle.texting_robots.specs.Pattern.{Matches, MatchesStars, IsOverlong, collapsed}
 pub use Rattle.texting_robots.specs.{Address.robots_address, Address.robots_address_of, Escape.escaped}
 pub use Rattle.texting_robots.specs.{Prepared.prepared, Prepared.target_of, Order.IsBefore, Order.pattern_cmp}

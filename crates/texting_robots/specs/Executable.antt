@@ -1,5 +1,5 @@
 -- The relations as functions, for contracts that are equations. Theorems state that both agree, such as
--- `each_text_has_one_cut`. No contract of a robot depends on these functions.
+-- `each_text_has_one_cut`. The contracts of a robot depend on none of them but those of `IsRejectionOf`.
 use Rattle.std.specs.Prelude.{⊤, ℕ, ◌+◌, Bool, true, false, List, Option, Some, None, filter, map, slice_get}
 use Rattle.std.specs.Prelude.{take, if◌then◌else◌}
 use Rattle.std.specs.List.{before_first, enumerate_from, filter_map, last_or, list_any}

@@ -19,9 +19,8 @@ use Rattle.robots_warnings.specs.Conflicts.{IsConflict, allow_beside, at_line, c
 use Rattle.robots_warnings.specs.Conflicts.{first_line, first_of, is_like, line_if}
 use Rattle.robots_warnings.specs.{Contents.is_cut_to_root, declared.closed.Reach.Reach, Crawlers.other_group}
 use Rattle.robots_warnings.proofs.{ClosedLemmas.whole_site_stays}
-use Rattle.texting_robots.proofs.{MainTheoremLemmas.computed_are, BestLemmas.placed_of}
+use Rattle.texting_robots.proofs.Shared.{computed_are, placed_of, in_front, plain_wildcards}
 use Rattle.robots_warnings.specs.declared.closed.Reach.TheVariants.{Everything, Nothing, Part}
-use Rattle.texting_robots.proofs.SegmentLemmas.{in_front, plain_wildcards}
 use Rattle.robots_needless.proofs.{TogetherLemmas.unplaced_of}
 use Rattle.warnings_laws.proofs.{WarningLemmas.without_path}
 

@@ -8,10 +8,12 @@ use Rattle.std.proofs.Common.{suc, sym, zero, ◌∙◌, ◌<◌, Contains, Opti
 use Rattle.std.proofs.lemmas.{Grind.common_steps, Option.option_and_then_some, Option.same_Some}
 use Rattle.std.proofs.lemmas.Slice.Zip.{AllZip-left, AllZip-right}
 use Rattle.texting_robots.specs.Callers.{Allow, AreLabelsOf, Disallow, IsLineOf, Label, LineValue, lines_read}
-use Rattle.texting_robots.specs.Callers.{bodies_in, bodies_read, escaped, placed_rules, unplaced, AreRulesFor, IsDenied}
+use Rattle.texting_robots.specs.Callers.{bodies_in, bodies_read, escaped, placed_rules, unplaced, AreRulesFor}
+use Rattle.texting_robots.specs.Callers.{IsDenied}
 use Rattle.texting_robots.specs.Callers.{IsVerdict, Matches, PlacedRule, Rule}
 use Rattle.texting_robots.specs.Internal.Statement.{kind_by, kind_with, skip_blanks, statement_of, tail_as}
-use Rattle.texting_robots.proofs.StatementLemmas.{one_statement, statement_found}
+use Rattle.texting_robots.proofs.Shared.{one_statement, statement_found, computed_are, lines_of_file_bodies}
+use Rattle.texting_robots.proofs.Shared.{placed_of}
 use Rattle.robots_warnings.specs.Conflicts.{IsEmptyDisallow, begins_with_d, is_empty_at, is_empty_disallow}
 use Rattle.robots_warnings.specs.Conflicts.{stated_rules, IsOverruled, at_line, compared, first_line, is_like}
 use Rattle.robots_warnings.specs.Conflicts.{overruled_by, overruled_for}
@@ -22,8 +24,6 @@ use Rattle.robots_needless.proofs.TogetherLemmas.{in_filter, to_filter, unplaced
 use Rattle.warnings_laws.proofs.ConflictLemmas.{first_found, first_some, like_found, like_holds, listed}
 use Rattle.warnings_laws.proofs.ConflictLemmas.{also_listed, if_found, path_wins, unless_found}
 use Rattle.std.specs.{Option.IsSomeAnd, Char.to_ascii_lowercase, List.AllZip, Str.byte}
-use Rattle.texting_robots.proofs.{MainTheoremLemmas.computed_are, LineLemmas.lines_of_file_bodies}
-use Rattle.texting_robots.proofs.{BestLemmas.placed_of}
 use Rattle.texting_robots.specs.declared.parser.statement.{Kind.Kind}
 use Rattle.texting_robots.specs.declared.parser.statement.Kind.TheVariants as kind
 
@@ -152,7 +152,8 @@ empty_disallows name file labels number are hold = (
       let (label, at, of_body) = left_at OfBody labels bodies i body pairs beside in
       let one = same_Some _ _ (sym beside ∙ there i label at) in
       at_found labels number i label at ((are.each i label at).0 ∙ sym is)
-      (subst (λ body. is_empty_disallow label.line body ≡ true) one (empty_holds label.line body of_body stated)),
+      (subst (λ body. is_empty_disallow label.line body ≡ true) one
+      (empty_holds label.line body of_body stated)),
 )
   where
     bodies : List (List ℕ)

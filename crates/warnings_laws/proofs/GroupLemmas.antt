@@ -13,8 +13,8 @@ use Rattle.texting_robots.specs.Callers.{group_name, AreRulesFor, HoldsRule, Pla
 use Rattle.texting_robots.specs.Executable.{captured_delays, delay_before_agents}
 use Rattle.texting_robots.specs.Group.{is_agent, is_agent_named, passes_at, is_group}
 use Rattle.texting_robots.specs.Internal.Group.{if_captured, start_of, step}
-use Rattle.texting_robots.proofs.CapturedLemmas.{delays_are, given_captured, only_agents, taken_decides}
-use Rattle.texting_robots.proofs.RulesLemmas.{before_agent, before_agents, first_more}
+use Rattle.texting_robots.proofs.Shared.{delays_are, given_captured, only_agents, taken_decides, before_agent}
+use Rattle.texting_robots.proofs.Shared.{before_agents, first_more, computed_are, one_list}
 use Rattle.robots_warnings.specs.Checks.{Check, position_checks}
 use Rattle.robots_warnings.specs.Positions.{are_different, first_delay, is_other_delay, last_group, sole_name}
 use Rattle.robots_warnings.specs.Positions.{preceding_with, begin_with_one}
@@ -24,7 +24,6 @@ use Rattle.warnings_laws.proofs.RepeatedLemmas.{first_or_later, labels_next}
 use Rattle.warnings_laws.proofs.{WarningLemmas.below_agent}
 use Rattle.std.proofs.lemmas.List.Folds.{Any-from_list_any, list_any-from_Any}
 use Rattle.texting_robots.specs.{Labels.AreOneRun, Labels.IsInOwnGroup, Line.delay_in}
-use Rattle.texting_robots.proofs.MainTheoremLemmas.{computed_are, one_list}
 use Rattle.robots_warnings.specs.declared.positions.Preceding.TheVariants.{Other}
 use Rattle.robots_warnings.specs.Closed.{denies, is_first_name, is_partial, is_replacing, lacks_all}
 use Rattle.robots_warnings.specs.Closed.{replacing, replacing_from, star_count, star_rules, is_whole_site}

@@ -24,19 +24,16 @@ use Rattle.audit_core.specs.Audit.{sitemaps_asked, warnings_found, warnings_requ
 use Rattle.audit_core.specs.{Request.RequestValue, Asked.asked_target}
 use Rattle.std.specs.{List.All, List.AllByRecursion as Each, List.AllZip, Bool.Decides}
 use Rattle.std.proofs.lemmas.List.Elements.{All-cons, All-nil, recursion_from_All}
-use Rattle.texting_robots.proofs.RulesLemmas.{none_unplaced, some_overlong}
-use Rattle.texting_robots.proofs.VerdictLemmas.{one_line_decides, one_verdict}
-use Rattle.texting_robots.proofs.{MainTheoremLemmas.rejection_is_computed, BestLemmas.each_text_answered}
-use Rattle.texting_robots.proofs.{ExampleLemmas.overlong_decides}
+use Rattle.texting_robots.proofs.Shared.{none_unplaced, some_overlong, one_line_decides, one_verdict}
+use Rattle.texting_robots.proofs.Shared.{rejection_is_computed, each_text_answered, overlong_decides}
 use Rattle.robots_needless.specs.{declared.needless.NeedlessRule.NeedlessRule}
 use Rattle.robots_warnings.specs.{Closed.reach_of, File.labels_for, Warnings.warnings, Message.WarningValue}
 use Rattle.robots_warnings.specs.Facts.{is_too_large, facts_of}
 use Rattle.rfc9309_laws.specs.{LineForms.AreForms, Matching.all_stay, Matching.normal_uri}
 use Rattle.rfc9309_laws.specs.Conformance.{conformance_of, has_syntax, has_verdicts}
 use Rattle.rfc9309_laws.specs.Rfc9309.{Group, IsFile, IsProductToken}
-use Rattle.rfc9309_laws.proofs.{ApartLemmas.accepted, ApartLemmas.verdict_is, DecidedLemmas.files_decided}
-use Rattle.rfc9309_laws.proofs.{DecidedLemmas.none_apart, LineFormLemmas.file_has_forms}
-use Rattle.rfc9309_laws.proofs.{RobotLemmas.forms_robot}
+use Rattle.rfc9309_laws.proofs.DecidedLemmas.{accepted_file, files_decided, verdicts_are}
+use Rattle.rfc9309_laws.proofs.{LineFormLemmas.file_has_forms, RobotLemmas.forms_robot}
 use Rattle.rfc9309_laws.proofs.MemberLemmas.{plain_text, token_plain}
 use Rattle.robots_needless.proofs.{CrawlerLemmas.star_or_named}
 use Rattle.texting_robots.specs.Callers.{IsFileRejected}
@@ -273,14 +270,26 @@ some_audit requested file =
       },
     )
 
+-- for each crawler, its name being UTF-8
+module _ (file agent : List ℕ) (groups : List Group) (utf8 : IsUtf8 agent) (written : IsFile groups file)
+    (has : has_verdicts (conformance_of file) ≡ true) where
+  pub verdicts_so : (uri : List ℕ) (robot : RobotValue) (answer : Bool) → normal_uri all_stay uri ≡ uri
+      → IsRobotOfFile agent (take file_limit file) robot
+      → IsVerdict (unplaced robot.rules) uri answer ↔ IsStandardVerdict groups agent uri answer
+  verdicts_so =
+      let (name, listed, same) = star_or_named agent (lines_read file) utf8 in
+      verdicts_are file agent name groups has written listed same
+
+  pub accepted_so : ¬ IsFileRejected agent (take file_limit file)
+  accepted_so =
+      let (name, listed, same) = star_or_named agent (lines_read file) utf8 in
+      accepted_file file agent name groups has written listed same
+
 module _ (requested : RequestValue) (file : List ℕ) (audit : AuditValue) (is : IsAuditOf requested file audit)
   where
     pub file_of_the_standard : (has_syntax audit.syntax ≡ true)
         ↔ ((length file ≤ file_limit) × ((groups : List Group) × IsFile groups file))
-    file_of_the_standard =
-        subst (λ syntax. (has_syntax syntax ≡ true)
-        ↔ ((length file ≤ file_limit) × ((groups : List Group) × IsFile groups file))) (sym is.syntax_is)
-        (files_decided file)
+    file_of_the_standard = rw is.syntax_is (files_decided file)
 
     pub robot_of_the_standard : has_syntax audit.syntax ≡ true → (agent : List ℕ) (robot : RobotValue)
         → IsRobotOfFile agent (take file_limit file) robot → IsRobotStated agent file robot
@@ -293,7 +302,7 @@ module _ (requested : RequestValue) (file : List ℕ) (audit : AuditValue) (is :
     module _ (standard : has_verdicts audit.syntax ≡ true) (agent : List ℕ) (groups : List Group)
         (token : IsProductToken agent) (written : IsFile groups file) where
       stated : has_verdicts (conformance_of file) ≡ true
-      stated = subst (λ syntax. has_verdicts syntax ≡ true) is.syntax_is standard
+      stated = rw is.syntax_is at standard
 
       utf8 : IsUtf8 agent
       utf8 = (plain_text agent (token_plain agent token)).0.utf8
@@ -301,15 +310,7 @@ module _ (requested : RequestValue) (file : List ℕ) (audit : AuditValue) (is :
       pub verdicts_of_the_standard : (uri : List ℕ) (robot : RobotValue) (answer : Bool)
           → normal_uri all_stay uri ≡ uri → IsRobotOfFile agent (take file_limit file) robot
           → IsVerdict (unplaced robot.rules) uri answer ↔ IsStandardVerdict groups agent uri answer
-      verdicts_of_the_standard uri robot answer normal of =
-          let (whole, near) = none_apart file stated in
-          let (name, listed, same) = star_or_named agent (lines_read file) utf8 in
-          verdict_is (take file_limit file) near groups (subst (IsFile groups) (sym whole) written) agent name
-          listed same file uri robot answer refl normal of
+      verdicts_of_the_standard = verdicts_so file agent groups utf8 written stated
 
       pub accepted_by_the_standard : ¬ IsFileRejected agent (take file_limit file)
-      accepted_by_the_standard =
-          let (whole, near) = none_apart file stated in
-          let (name, listed, same) = star_or_named agent (lines_read file) utf8 in
-          accepted (take file_limit file) near groups (subst (IsFile groups) (sym whole) written) agent name
-          listed same
+      accepted_by_the_standard = accepted_so file agent groups utf8 written stated

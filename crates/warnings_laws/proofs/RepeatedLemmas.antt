@@ -17,7 +17,7 @@ use Rattle.robots_warnings.specs.{File.lines_of, Spellings.is_rule_with}
 use Rattle.std.specs.{List.list_any}
 use Rattle.std.proofs.lemmas.List.{Elements.All-contains, Elements.Contains-push_cases}
 use Rattle.std.proofs.lemmas.List.{Folds.Any-from_list_any}
-use Rattle.texting_robots.proofs.{BestLemmas.placed_of, MainTheoremLemmas.computed_are}
+use Rattle.texting_robots.proofs.Shared.{placed_of, computed_are}
 
 pub record IsFrom (lines : List LineValue) (position : ℕ) (rest : List LineValue) : Type 0 where
   pub each : (i : ℕ) → slice_get lines (position + i) ≡ slice_get rest i

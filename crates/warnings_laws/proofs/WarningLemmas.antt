@@ -16,7 +16,7 @@ use Rattle.texting_robots.specs.{declared.labels.Membership.Membership, Internal
 use Rattle.robots_warnings.specs.{Closed.matches_no_path, Rules.begins_oddly, Rules.has_dollar_inside}
 use Rattle.robots_warnings.specs.Crawlers.{has_new_name, is_past_limit, names_past_limit}
 use Rattle.robots_warnings.specs.Positions.{is_above_agents, is_outside}
-use Rattle.texting_robots.proofs.{CapturedLemmas.some_passes, SegmentLemmas.only_wildcards_match}
+use Rattle.texting_robots.proofs.Shared.{some_passes, only_wildcards_match}
 use Rattle.texting_robots.specs.declared.parser.statement.Kind.TheVariants as kind
 
 pub named_agent : (name : List ℕ) (line : Option LineValue)

@@ -8,7 +8,8 @@ use Rattle.texting_robots.specs.Group.{is_agent, is_group}
 use Rattle.texting_robots.specs.{Line.LineValue, Line.UserAgent, Line.delay_in, Internal.Line.line_of}
 use Rattle.texting_robots.specs.Executable.{delay_before_agents, file_lines, sitemap_in, sitemaps_in}
 use Rattle.texting_robots.specs.declared.site.lines.{AgentLine.AgentLine, KeptLine.KeptLine, Span.Span}
-use Rattle.texting_robots.specs.declared.{site.own.Position.Position, error.Error.Error, error.Rejection.Rejection}
+use Rattle.texting_robots.specs.declared.{site.own.Position.Position, error.Error.Error}
+use Rattle.texting_robots.specs.declared.{error.Rejection.Rejection}
 use Rattle.texting_robots.specs.declared.error.Rejection.TheVariants.{Memory, Overlong}
 use Rattle.texting_robots.specs.declared.error.Error.TheVariants as error
 pub use Rattle.texting_robots.specs.OwnLines.{Tagged, delay_of, rule_of, tag_of}

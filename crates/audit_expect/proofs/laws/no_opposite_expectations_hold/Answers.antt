@@ -2,7 +2,7 @@ use Rattle.std.proofs.Common.{◌≡◌, ◌∙◌, ℕ, Bool, true, false, List
 use Rattle.std.proofs.lemmas.Bool.{not-false, not-true, or_parts}
 use Rattle.texting_robots.specs.Callers.{PlacedRule, bodies_read, lines_read, placed_rules, unplaced}
 use Rattle.texting_robots.specs.{declared.decision.Decision.Decision}
-use Rattle.texting_robots.proofs.VerdictLemmas.{one_verdict}
+use Rattle.texting_robots.proofs.Shared.{one_verdict}
 use Rattle.robots_needless.proofs.TogetherLemmas.{denied_same, of_map, to_map, verdicts}
 use Rattle.robots_warnings.specs.Targets.{normal_target, written_target}
 use Rattle.audit_expect.specs.OtherReading.{AreOthers, IsNormalDecision, normal_rule}

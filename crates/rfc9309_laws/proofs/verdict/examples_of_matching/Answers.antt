@@ -1,6 +1,6 @@
 use Rattle.std.proofs.Common.{◌≡◌, ◌++◌, ◌∷◌, List, [], ℕ, codes, false, true, refl}
 use Rattle.texting_robots.specs.{Escape.escaped}
-use Rattle.texting_robots.proofs.{BestLemmas.matches, ExampleLemmas.matching, ExampleLemmas.not_matching}
+use Rattle.texting_robots.proofs.Shared.{matches, matching, not_matching}
 use Rattle.rfc9309_laws.specs.Matching.{IsMatch, Reading, filled, normal_from, normal_path, normal_uri}
 use Rattle.rfc9309_laws.specs.Matching.{without_end}
 use Rattle.rfc9309_laws.specs.Examples as example

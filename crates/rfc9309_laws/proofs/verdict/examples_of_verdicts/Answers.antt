@@ -5,9 +5,8 @@ use Rattle.std.specs.{Char.is_ascii_graphic, Prelude.slice_index}
 use Rattle.std.proofs.lemmas.Bool.{and_parts, eqb-false, ltb-true}
 use Rattle.texting_robots.specs.{Escape.escaped, Rules.PlacedRule, Rules.unplaced, Trim.IsTrimOf}
 use Rattle.texting_robots.specs.Verdict.{IsVerdict}
-use Rattle.texting_robots.proofs.BestLemmas.{allowed_by, answered, deciding_rule}
-use Rattle.texting_robots.proofs.TrimLemmas.{graphic_trim, trimmed_is_trim}
-use Rattle.rfc9309_laws.specs.Comparable.{AreComparable, HasTwin, IsFit, IsPathOf, IsPlainPath}
+use Rattle.texting_robots.proofs.Shared.{allowed_by, answered, deciding_rule, graphic_trim, trimmed_is_trim}
+use Rattle.rfc9309_laws.specs.Comparable.{AreComparable, IsPathOf, IsPlainPath}
 use Rattle.rfc9309_laws.specs.Examples.{mixed_rules, page_rules, tsu}
 use Rattle.rfc9309_laws.specs.StandardRobot.{IsReadAs}
 use Rattle.rfc9309_laws.specs.Matching.{IsRfcVerdict, Reading, all_stay, as_in_table, filled, has_dollar}
@@ -38,6 +37,11 @@ read (rfc.Allow path) = record { rule = (escaped path, true); line = 0 }
 read (rfc.Disallow (b ∷ path)) = record { rule = (escaped (b ∷ path), false); line = 0 }
 read _ = record { rule = (codes "/", true); line = 0 }
 
+abbrev IsPlain : Reading → rfc.Member → Type 0
+IsPlain stays (rfc.Allow path) = IsPlainPath stays path
+IsPlain stays (rfc.Disallow path) = IsPlainPath stays path
+IsPlain stays (rfc.Delay number) = Unit {0}
+
 module _ (stays : Reading) (members : List rfc.Member) (uri : List ℕ)
     (usual : list_all (is_usual stays) members ≡ true) where
   are_usual : (member : rfc.Member) → Contains members member → is_usual stays member ≡ true
@@ -54,17 +58,21 @@ module _ (stays : Reading) (members : List rfc.Member) (uri : List ℕ)
   are_long [] has some = absurd (some refl)
   are_long (b ∷ path) has some = ltb-true 1 _ (and_parts _ _ (are_usual _ has)).1
 
+  are_plain : (path : List ℕ) → Each (IsPlain stays) members → IsPathOf members path → IsPlainPath stays path
+  are_plain path all (inl has) = each_contains (IsPlain stays) members (rfc.Allow path) all has
+  are_plain path all (inr has) = each_contains (IsPlain stays) members (rfc.Disallow path) all has
+
   agreed : (answer : Bool) → normal_uri stays uri ≡ uri
-      → normal_uri stays (codes "/robots.txt") ≡ codes "/robots.txt" → Each (IsFit stays members) members
+      → normal_uri stays (codes "/robots.txt") ≡ codes "/robots.txt" → Each (IsPlain stays) members
       → allowed_by (deciding_rule (map read members) uri) ≡ answer
       → AreComparable stays (octets stays) members uri
       × IsRfcVerdict stays (octets stays) members uri answer
-  agreed answer normal robots fit is =
+  agreed answer normal robots all is =
       let are : AreComparable stays _ members uri = record {
         normal = normal;
         robots = robots;
         trimmed = are_trimmed;
-        fit = λ member has. each_contains (IsFit stays members) members member fit has;
+        plain = λ path listed. are_plain path all listed;
         counted = λ path listed. refl;
         empty = λ has. are_long;
       } in
@@ -88,23 +96,13 @@ module _ (stays : Reading) (members : List rfc.Member) (uri : List ℕ)
 
 plain : (stays : Reading) (path : List ℕ) → normal_path stays path ≡ escaped (without_end path)
     → has_dollar (without_end path) ≡ false → IsPlainPath stays path
-plain stays path normal dollar = record { normal = normal; ended = refl; dollar = dollar }
+plain stays path normal dollar = record { normal = normal; dollar = dollar }
 
-mixed_twin : HasTwin all_stay (λ twin. Contains mixed_rules (rfc.Allow twin))
-    (codes "/" ++ tsu ++ codes "/%62*.gif$")
+mixed_plain : Each (IsPlain all_stay) mixed_rules
 unfolding normal_from without_end is_ended
-mixed_twin = record {
-  odd = refl;
-  twin = codes "/" ++ tsu ++ codes "/b*.gif$";
-  listed = (3, omega arith, refl);
-  same = record { normal = refl; ended = refl; dollar = refl };
-}
-
-mixed_fit : Each (IsFit all_stay mixed_rules) mixed_rules
-unfolding normal_from without_end is_ended
-mixed_fit = (
-  inl (plain all_stay [] refl refl),
-  (inl (plain all_stay _ refl refl), (inr mixed_twin, (inl (plain _ _ refl refl), tt))),
+mixed_plain = (
+  plain all_stay [] refl refl,
+  (plain all_stay _ refl refl, (plain _ _ refl refl, tt)),
 )
 
 pub returns : goal.returns
@@ -112,10 +110,10 @@ unfolding normal_from without_end is_ended filled
 returns c = record {
   longest =
       agreed _ page_rules _ refl false refl refl
-      (inl (plain as_in_table _ refl refl), (inl (plain _ _ refl refl), tt)) refl;
+      (plain as_in_table _ refl refl, (plain _ _ refl refl, tt)) refl;
   mixed = (
-    agreed all_stay mixed_rules _ refl false refl refl mixed_fit refl,
-    agreed _ _ _ refl true refl refl mixed_fit refl,
+    agreed all_stay mixed_rules _ refl false refl refl mixed_plain refl,
+    agreed _ _ _ refl true refl refl mixed_plain refl,
   );
   empty_disallow = (
     record {

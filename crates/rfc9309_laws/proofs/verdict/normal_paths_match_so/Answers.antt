@@ -1,4 +1,4 @@
-use Rattle.rfc9309_laws.proofs.NormalLemmas.{matches_so, never_matches, no_odd_escape}
+use Rattle.rfc9309_laws.proofs.NormalLemmas.{matches_so}
 use Rattle.rfc9309_laws.proofs.VerdictLemmas.{octets_are, octets_written}
 use Rattle.rfc9309_laws.proofs.verdict.normal_paths_match_so.Goals as goal
 
@@ -7,5 +7,4 @@ returns c = record {
   matching = matches_so;
   octets = octets_are;
   written = octets_written;
-  never = λ stays path uri same. never_matches path uri (no_odd_escape stays uri same);
 }

@@ -1,6 +1,6 @@
 use Rattle.std.proofs.Common.{◌≡◌, ◌∙◌, ap, arith, length, refl, string_bytes, subst}
 use Rattle.texting_robots.specs.Pattern.{IsOverlong}
-use Rattle.texting_robots.proofs.RulesLemmas.{rejected_wider}
+use Rattle.texting_robots.proofs.Shared.{rejected_wider}
 use Rattle.robots_needless.specs.Internal.{generic}
 use Rattle.robots_needless.proofs.SettledLemmas.{escaped_below}
 use Rattle.robots_needless.proofs.rule.prepared.Goals as goal

@@ -1,7 +1,6 @@
 use Rattle.std.proofs.{Common.append_assoc, lemmas.List.Elements.All-push}
 use Rattle.texting_robots.specs.{Pattern.IsOverlong, Rules.PlacedRule}
-use Rattle.texting_robots.proofs.{RulesLemmas.rejected_wider}
-use Rattle.texting_robots.proofs.SiteOwnLemmas.{any_between, file_rejected}
+use Rattle.texting_robots.proofs.Shared.{rejected_wider, any_between, file_rejected}
 use Rattle.robots_needless.proofs.rule.rules_for.Goals as goal
 
 pub loop-rule-preserved : goal.loop-rule-preserved

@@ -13,8 +13,8 @@ loop-segment-preserved c =
     let next =
     drop_more c.pattern.inside.segments.now c.loop-segment.segment-index no_segment
     c.loop-segment-test.true in
-    rw c.and-pairs.ensures (within_moved c.loop-segment.pairs.bits _ _ _ _ (rw c.part.ensures at c.end_pairs.ensures)
-    (rw next at c.loop-segment.invariant))
+    rw c.and-pairs.ensures (within_moved c.loop-segment.pairs.bits _ _ _ _
+    (rw c.part.ensures at c.end_pairs.ensures) (rw next at c.loop-segment.invariant))
 
 pub returns : goal.returns
 returns c =

@@ -17,8 +17,10 @@ pub returns : goal.returns
 returns c =
     let file = c.args.self.now in
     let all = map (λ text. text.now) c.loop-span.all.items in
-    let listed_are = rw (← c.deref-span-items.ensures.value, c.self.view_is) at c.self.invariant.sitemaps_are in
-    let whole = take_all c.loop-span.span-index c.deref-span-items.result.now (omega (arith, c.loop-span-test.false)) in
+    let listed_are =
+    rw (← c.deref-span-items.ensures.value, c.self.view_is) at c.self.invariant.sitemaps_are in
+    let whole =
+    take_all c.loop-span.span-index c.deref-span-items.result.now (omega (arith, c.loop-span-test.false)) in
     has_lines file (λ lines. AreSitemapsOf lines all)
     ((sitemaps_are_computed (file_lines file) all).1
     (c.loop-span.invariant ∙ ap (filter_map (listed file)) whole ∙ listed_are))
