@@ -13,6 +13,7 @@ import tempfile
 from pathlib import Path
 
 CRATES = Path(__file__).resolve().parent.parent / "crates"
+ROWS = dict(re.findall(r"^(\w+)[^:#\n]*:(.*)$", (CRATES.parent / "crates.txt").read_text(), re.M))
 TARGET = "wasm64-unknown-unknown"
 STACK = 8 << 20  # bytes, as on Linux
 NO_LIBRARY = [word for it in ("div-rem", "fp-convert") for word in ("-mllvm", f"-expand-{it}-bits=64")]  # for numbers of 128 bits
@@ -38,15 +39,21 @@ def without_compiler(work, kit):
     return folder
 
 
+def below(crate):
+    """The libraries of the repository that a crate uses, directly or through others."""
+    used = [it for it in ROWS[crate].split() if it in ROWS]
+    return {*used}.union(*map(below, used))
+
+
 def prove(work, kit):
     """The LLVM module of the program, which is written if each of its functions is proved."""
     module, out = work / "proved.bc", CRATES / "robots_audit/out"
-    below = re.search(r"^robots_audit: (.*)$", (CRATES.parent / "crates.txt").read_text(), re.M)[1].split()
+    rlibs = {name: CRATES / name / "out/rlib" for name in sorted(below("robots_audit"))}
     words = [kit / "bin/rattle", "build", "--crate-name", "robots_audit", "src/main.rt", "--cpu", "x86-64", "--backend", "llvm"]
-    for name in ["std", *below]:
-        ours = CRATES / f"{name}/out/rlib/{name}.rlib"
-        path = ours if (CRATES / name).is_dir() else kit / f"rlibs/{name}.rlib"
-        words += ["--extern", f"{name}={path}", "-L", f"dependency={path.parent}"]
+    for name in ["std", *ROWS["robots_audit"].split()]:
+        words += ["--extern", f"{name}={rlibs.get(name, kit / 'rlibs')}/{name}.rlib"]
+    for folder in [*rlibs.values(), kit / "rlibs"]:
+        words += ["-L", f"dependency={folder}"]
     words += ["--antt-project", kit / "rattle/logic/antt-project.json", "--logic-built", kit / "logic_built"]
     words += ["--incremental", out / "incremental", "--jobs", len(os.sched_getaffinity(0))]
     run(*words, "--toolchain", without_compiler(work, kit), "-o", module, cwd=out.parent)
