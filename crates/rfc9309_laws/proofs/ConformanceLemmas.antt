@@ -1,15 +1,17 @@
 -- The tests of lines, as the code makes them.
 use Rattle.std.proofs.Common.{◌≡◌, ℕ, ◌+◌, ◌-◌, ◌==◌, ◌||◌, Bool, true, false, inl, inr, List, [], ◌∷◌}
-use Rattle.std.proofs.Common.{◌++◌, ap}
-use Rattle.std.proofs.Common.{arith, bytes_eq, drop, length, refl, reverse, suc, subst, sym, take, ◌∙◌}
-use Rattle.std.specs.{List.position_or_len}
-use Rattle.std.proofs.lemmas.{Bool.Decides.nat_tests, Bool.cases_Bool, List.length-drop}
+use Rattle.std.proofs.Common.{◌++◌, None, ap, arith, bytes_eq, drop, filter, length, refl, reverse}
+use Rattle.std.proofs.Common.{subst, suc, sym, take, ◌∙◌}
+use Rattle.std.specs.List.{cons_option, enumerate_from, filter_map, list_any, position_or_len}
+use Rattle.std.proofs.lemmas.{Bool.Decides.nat_tests, Bool.cases_Bool, Bool.or_parts, List.length-drop}
 use Rattle.std.proofs.lemmas.{List.reverse-append}
 use Rattle.std.proofs.{lemmas.List.take_all}
-use Rattle.texting_robots.specs.Escape.{escaped, is_escaped}
+use Rattle.texting_robots.specs.Callers.{Allow, LineValue, PlacedRule, group_name}
+use Rattle.texting_robots.specs.{Escape.escaped, Escape.is_escaped}
+use Rattle.texting_robots.specs.Executable.{is_captured, placed_in}
 use Rattle.rfc9309_laws.specs.HasForm.{is_blank, kept_before, text_before, text_from, without_leading}
 use Rattle.rfc9309_laws.specs.HasForm.{without_trailing}
-use Rattle.rfc9309_laws.specs.Conformance.{is_all}
+use Rattle.rfc9309_laws.specs.Conformance.{allows_all, first_mixed_for, is_all, is_open}
 
 module _ (stop : ℕ) where
   abbrev place : List ℕ → ℕ
@@ -74,3 +76,26 @@ all_escaped (b ∷ value) = elim (cases_Bool (is_escaped b)) [
   | inl is ↦ let (slash, star) = not_all b is in rw (is, slash, star) refl
   | inr other ↦ rw (other, none_escaped value) refl
 ]
+
+open_rule : (position : ℕ) (line : LineValue) (rules : List PlacedRule) → is_open line ≡ false
+    → list_any allows_all (cons_option (placed_in (position, line)) rules) ≡ list_any allows_all rules
+open_rule position (Allow value) rules none = grind (arith, all_escaped)
+open_rule position line rules none = grind arith
+
+none_allowed : (test : ℕ × LineValue → Bool) (position : ℕ) (lines : List LineValue)
+    → list_any is_open lines ≡ false
+    → list_any allows_all (filter_map placed_in (filter test (enumerate_from position lines))) ≡ false
+none_allowed test position [] none = refl
+none_allowed test position (line ∷ lines) none =
+    let (here, later) = or_parts (is_open line) (list_any is_open lines) none in
+    elim (cases_Bool (test (position, line))) [
+      | inl is ↦ rw is (open_rule position line _ here ∙ none_allowed test (position + 1) lines later)
+      | inr isnt ↦ rw isnt (none_allowed test (position + 1) lines later)
+    ]
+
+pub none_mixed : (agents : List (List ℕ)) (lines : List LineValue) → list_any is_open lines ≡ false
+    → first_mixed_for agents lines ≡ None
+none_mixed [] lines none = refl
+none_mixed (agent ∷ agents) lines none =
+    rw (none_allowed (λ p. is_captured (group_name agent lines) lines p.0) 0 lines none)
+    (none_mixed agents lines none)

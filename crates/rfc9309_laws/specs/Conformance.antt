@@ -103,6 +103,11 @@ first_split above number (line ∷ lines) =
 abbrev pub is_all : List ℕ → Bool
 is_all pattern = bytes_eq pattern (codes "/") || bytes_eq pattern (codes "*")
 
+-- an Allow of everything, such as an empty Disallow
+abbrev pub is_open : LineValue → Bool
+is_open (Allow value) = is_all value
+is_open _ = false
+
 abbrev pub allows_all : PlacedRule → Bool
 allows_all placed = placed.rule.1 && is_all placed.rule.0
 

@@ -14,7 +14,7 @@ ghost use Rattle.rfc9309_laws.specs.Conformance.{by_lines, conformance_of, first
 ghost use Rattle.rfc9309_laws.specs.Conformance.{first_other, front_of, line_apart, first_split, has_syntax};
 ghost use Rattle.rfc9309_laws.specs.Conformance.{has_mark_or_none, has_verdicts, is_all, is_apart};
 ghost use Rattle.rfc9309_laws.specs.Conformance.{is_odd_octet, is_plain_path, is_read_as_written, next_above};
-ghost use Rattle.rfc9309_laws.specs.Conformance.{is_read_whole};
+ghost use Rattle.rfc9309_laws.specs.Conformance.{is_open, is_read_whole};
 
 use crate::grammar::{is_agent_line, is_line_below, is_rule_line, value_in};
 use bstr::ByteSlice;
@@ -177,11 +177,11 @@ fn is_read_as_written(path: &[u8]) -> bool
 fn is_apart(body: &[u8]) -> bool
     ensures { result ≡ is_apart body.now }
 {
-    if !is_rule_line(body) {
+    let path = value_in(body);
+    if is_plain_path(path) && is_read_as_written(path) {
         return false;
     }
-    let path = value_in(body);
-    !(is_plain_path(path) && is_read_as_written(path))
+    is_rule_line(body)
 }
 
 fn first_apart(bodies: &[&[u8]]) -> Option<usize>
@@ -220,6 +220,26 @@ fn first_split(lines: &[Line<'_>]) -> Option<usize>
     None
 }
 
+fn is_open(line: Line<'_>) -> bool
+    ensures { result ≡ is_open (by_value line.entry) }
+{
+    match line {
+        Line::Allow(value) => value == b"/".as_slice() || value == b"*".as_slice(),
+        _ => false,
+    }
+}
+
+fn is_any_open(lines: &[Line<'_>]) -> bool
+    ensures { result ≡ list_any is_open (map by_value lines.now) }
+{
+    for line in lines {
+        if is_open(*line) {
+            return true;
+        }
+    }
+    false
+}
+
 #[tactic(auto, using(crate::proofs::ConformanceLemmas::all_escaped))]
 fn is_all(value: &str) -> bool
     ensures { result ≡ is_all (escaped value.now) }
@@ -254,6 +274,25 @@ fn first_mixed_for(site: &Site, agents: &[&str]) -> Option<usize>
     None
 }
 
+fn first_mixed_of(
+    alloc: Global,
+    site: &Site,
+    lines: &[Line<'_>],
+) -> Result<Option<usize>, AllocError>
+    requires { map by_value lines.now ≡ file_lines site.now }
+    ensures { IfOk result (λ line. line
+        ≡ first_mixed_for (codes "*" ∷ agents_in (file_lines site.now)) (file_lines site.now)) }
+{
+    if !is_any_open(lines) {
+        return Ok(None);
+    }
+    let mixed = first_mixed(site, "*");
+    if mixed.is_some() {
+        return Ok(mixed);
+    }
+    Ok(first_mixed_for(site, &site.agents(alloc)?))
+}
+
 #[tactic(auto, unfolding(crate::specs::Conformance::line_apart))]
 fn line_apart(alloc: Global, site: &Site, bodies: &[&[u8]]) -> Result<Option<usize>, AllocError>
     requires { map (λ body. body.now) bodies.now ≡ file_bodies site.now }
@@ -268,11 +307,7 @@ fn line_apart(alloc: Global, site: &Site, bodies: &[&[u8]]) -> Result<Option<usi
     if split.is_some() {
         return Ok(split);
     }
-    let mixed = first_mixed(site, "*");
-    if mixed.is_some() {
-        return Ok(mixed);
-    }
-    Ok(first_mixed_for(site, &site.agents(alloc)?))
+    first_mixed_of(alloc, site, &lines)
 }
 
 fn by_lines(alloc: Global, site: &Site, bodies: &[&[u8]]) -> Result<Conformance, AllocError>

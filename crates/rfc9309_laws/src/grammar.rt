@@ -10,8 +10,6 @@ ghost use Rattle.rfc9309_laws.specs.HasForm.{is_value_byte, is_value_text, strip
 ghost use Rattle.rfc9309_laws.specs.HasForm.{text_from, value_in, without_leading};
 ghost use Rattle.rfc9309_laws.specs.LineForms.{Agent, Delay, Empty, Other, Rule, Sitemap};
 
-use memchr::memchr;
-
 /// The field names that are recognized.
 const NAMES: &[&str] = &[
     "user-agent",
@@ -29,12 +27,11 @@ const NAMES: &[&str] = &[
     "crawldelay",
 ];
 
-#[tactic(auto, using(texting_robots::proofs::Shared::found_or_end))]
 fn place(stop: u8, text: &[u8]) -> usize
     ensures value { result ≡ position_or_len (λ b. b == stop) text.now }
     ensures within { result ≤ length text.now }
 {
-    memchr(stop, text).unwrap_or(text.len())
+    text.iter().take_while(|byte| !(**byte == stop)).count()
 }
 
 #[tactic(auto, using(crate::proofs::ConformanceLemmas::before_place))]
