@@ -1,7 +1,7 @@
 -- States of the search. In a state, each rule has what is left of its pattern, as another rule.
 use Rattle.std.specs.Prelude.{◌≡◌, ℕ, zero, suc, ◌+◌, ◌*◌, ◌<◌, ◌≤◌, Bool, true, false, List, [], ◌∷◌}
 use Rattle.std.specs.Prelude.{◌++◌, ◌&&◌, ◌||◌, All}
-use Rattle.std.specs.Prelude.{Contains, codes, cond, drop, if◌then◌else◌, length, not, slice_index_or}
+use Rattle.std.specs.Prelude.{Contains, codes, cond, drop, if◌then◌else◌, length, not, slice_index_or, take}
 use Rattle.texting_robots.specs.{Pattern.star, Rules.Rule, Verdict.IsVerdict}
 use Rattle.texting_robots.proofs.BestLemmas.{matches}
 use Rattle.robots_same.specs.declared.compare.Comparison.{Comparison}
@@ -102,6 +102,27 @@ chosen all new (entry ∷ pool) =
 abbrev pub AgreeFrom : List ℕ → List Entry → Type 0
 AgreeFrom front pool = (text : List ℕ) → last_kind true (chosen true false pool) (front ++ text)
     ≡ last_kind true (chosen true true pool) (front ++ text)
+
+-- the rules of both lists
+abbrev pub in_either : List Entry → List Rule
+in_either [] = []
+in_either (entry ∷ pool) = if entry.old || entry.new then entry.item ∷ in_either pool else in_either pool
+
+-- the rules of one list, and from this position on those of the other one, too
+abbrev pub joined : Bool → List Entry → ℕ → List Rule
+joined new pool at = chosen true new (take at pool) ++ in_either (drop at pool)
+
+abbrev pub AgreeJoined : List ℕ → Bool → List Entry → ℕ → Type 0
+AgreeJoined front new pool at = (text : List ℕ) → last_kind true (chosen true new pool) (front ++ text)
+    ≡ last_kind true (joined new pool at) (front ++ text)
+
+abbrev pub AgreeNext : List ℕ → Bool → List Entry → ℕ → Type 0
+AgreeNext front new pool at = (text : List ℕ) → last_kind true (joined new pool (at + 1)) (front ++ text)
+    ≡ last_kind true (joined new pool at) (front ++ text)
+
+abbrev pub IfSame : Type 0 → Comparison → Type 0
+IfSame P Same = P
+IfSame P answer = Unit {0}
 
 -- the lists have different verdicts on this text
 abbrev pub Disagree : List ℕ → List Entry → Type 0

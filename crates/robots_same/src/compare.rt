@@ -2,12 +2,13 @@
 ghost use Rattle.std.specs.Prelude.{◌≡◌, ◌⊎◌, ◌<◌, ◌≤◌, ◌++◌, ◌∷◌, ◌||◌, IfOk, IsTrue, [], true, false};
 ghost use Rattle.std.specs.Prelude.{if◌then◌else◌, length, slice_index_or};
 ghost use Rattle.texting_robots.specs.Callers.{file_lines, placed_rules, unplaced};
-ghost use Rattle.robots_same.specs.Internal.{AreAscending, Decide, chosen, rank_of, robots_rule};
+ghost use Rattle.robots_same.specs.Internal.{AreAscending, Decide, IsAnswer, chosen, rank_of, robots_rule};
 ghost use Rattle.robots_same.specs.Same.{IsComparison};
 
+use crate::chain::compare_by_steps;
 use crate::item::Item;
 use crate::pool::Entry;
-use crate::refine::compare_pool;
+use crate::refine::{compare_pool, refined};
 use crate::rule::{Rule, rules_of};
 use std::alloc::{AllocError, Global};
 use std::cmp::Ordering;
@@ -150,6 +151,26 @@ fn merged<'a>(
     Ok(pool)
 }
 
+/// First with all rules of each list at once, and if that is undecided, by way of both lists together.
+fn compare_twice(
+    alloc: Global,
+    pool: &[Entry<'_>],
+    front: &[u8],
+    budget: usize,
+) -> Result<Comparison, AllocError>
+    ensures { IfOk result (IsAnswer front.now pool.now) }
+{
+    let copy = refined(alloc, pool, 0, b"", 0)?;
+    let mut left = budget / 2;
+    let first = compare_pool(alloc, copy, front, &mut left)?;
+    match first {
+        Comparison::Undecided => {}
+        answer => return Ok(answer),
+    }
+    let second = compare_by_steps(alloc, pool, front, budget / 2)?;
+    Ok(second)
+}
+
 /// Compares them on the texts that begin with `front`: `/` for the paths of URLs, or nothing for all texts.
 /// The budget is how many times a rule may be moved on by a byte.
 pub fn compare<'a>(
@@ -170,8 +191,7 @@ pub fn compare<'a>(
         return Ok(Comparison::Undecided);
     }
     let pool = merged(alloc, old_items.as_slice(), new_items.as_slice())?;
-    let mut left = budget;
-    let answer = compare_pool(alloc, pool, front, &mut left)?;
+    let answer = compare_twice(alloc, pool.as_slice(), front, budget)?;
     Ok(answer)
 }
 

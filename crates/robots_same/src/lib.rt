@@ -3,6 +3,7 @@
 //! [`compare`](compare::compare) answers for all match targets at once, where other tools try some of them.
 #![tactic(auto)]
 
+mod chain;
 mod closed;
 pub mod compare;
 mod item;
