@@ -84,9 +84,12 @@ pub same_answer : (front : List ℕ) (one other : List Entry) → chosen true fa
 same_answer front one other old new Same is = λ t.
     ap (λ (l : List Rule). last_kind true l (front ++ t)) (sym old) ∙ is t
     ∙ ap (λ (l : List Rule). last_kind true l (front ++ t)) new
-same_answer front one other old new (Differ text) is = λ same.
-    is (ap (λ (l : List Rule). last_kind true l text.items) old ∙ same
-    ∙ ap (λ (l : List Rule). last_kind true l text.items) (sym new))
+same_answer front one other old new (Differ text) (rest, begins, differ) = (
+  rest,
+  begins,
+  λ same. differ (ap (λ (l : List Rule). last_kind true l text.items) old ∙ same
+      ∙ ap (λ (l : List Rule). last_kind true l text.items) (sym new)),
+)
 same_answer front one other old new Undecided is = tt
 
 pub one_room : (b : Bool) (i n : ℕ) → i ≤ n → (b ≡ true → i < n) → i + (if b then 1 else 0) ≤ n

@@ -17,7 +17,7 @@ use Rattle.robots_same.specs.declared.pool.Entry.{Entry}
 use Rattle.robots_same.specs.declared.compare.Comparison.{Comparison}
 use Rattle.robots_same.specs.declared.compare.Comparison.TheVariants.{Differ, Same, Undecided}
 use Rattle.robots_same.specs.Same.{DifferOn, HaveSameVerdicts, IsComparison}
-use Rattle.robots_same.specs.Internal.{AgreeFrom, AreAscending, Decide, Disagree, IsAnswer, chosen}
+use Rattle.robots_same.specs.Internal.{AgreeFrom, AreAscending, Decide, IsAnswer, IsSameOn, chosen}
 use Rattle.robots_same.specs.Internal.{last_kind, rank_of, robots_rule}
 use Rattle.robots_same.proofs.SideLemmas.{last_kind_append}
 
@@ -227,7 +227,8 @@ module _ (old new sorted_old sorted_new : List Rule) (pool : List Entry) (old_is
             (agree rest ∙ one_verdict new text _ answer (new_verdict text) is) (old_verdict text),
       )
 
-  other_verdict : (text : List ℕ) → Disagree text pool → DifferOn text old new
+  other_verdict : (text : List ℕ) → ¬ IsSameOn text pool → (answer : Bool) → IsVerdict old text answer
+      → ¬ IsVerdict new text answer
   other_verdict text differ answer is is_too =
       differ (one_verdict old text _ answer (old_verdict text) is
       ∙ sym (one_verdict new text _ answer (new_verdict text) is_too))
@@ -235,5 +236,6 @@ module _ (old new sorted_old sorted_new : List Rule) (pool : List Entry) (old_is
   pub compared : (front : List ℕ) (answer : Comparison) → IsAnswer front pool answer
       → IsComparison front old new answer
   compared front Same is = same_verdicts front is
-  compared front (Differ text) is = other_verdict text.items is
+  compared front (Differ text) (rest, begins, differ) =
+      record { rest = rest; begins = begins; differ = other_verdict text.items differ }
   compared front Undecided is = tt

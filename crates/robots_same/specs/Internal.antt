@@ -98,10 +98,13 @@ chosen all new (entry ∷ pool) =
     if (all || not (is_shared entry)) && is_in new entry then entry.item ∷ chosen all new pool
     else chosen all new pool
 
+abbrev pub IsSameOn : List ℕ → List Entry → Type 0
+IsSameOn text pool =
+    last_kind true (chosen true false pool) text ≡ last_kind true (chosen true true pool) text
+
 -- both lists have the same verdict on every text that begins so
 abbrev pub AgreeFrom : List ℕ → List Entry → Type 0
-AgreeFrom front pool = (text : List ℕ) → last_kind true (chosen true false pool) (front ++ text)
-    ≡ last_kind true (chosen true true pool) (front ++ text)
+AgreeFrom front pool = (text : List ℕ) → IsSameOn (front ++ text) pool
 
 -- the rules of both lists
 abbrev pub in_either : List Entry → List Rule
@@ -124,22 +127,21 @@ abbrev pub IfSame : Type 0 → Comparison → Type 0
 IfSame P Same = P
 IfSame P answer = Unit {0}
 
--- the lists have different verdicts on this text
-abbrev pub Disagree : List ℕ → List Entry → Type 0
-Disagree text pool = ¬ (last_kind true (chosen true false pool) text ≡ last_kind true (chosen true true
-    pool) text)
+-- the text begins with `front`, and the lists have opposite verdicts on it
+abbrev pub Disagree : List ℕ → List ℕ → List Entry → Type 0
+Disagree front text pool = (rest : List ℕ) × (text ≡ front ++ rest) × (¬ IsSameOn text pool)
 
 abbrev pub IsAnswer : List ℕ → List Entry → Comparison → Type 0
 IsAnswer front pool Same = AgreeFrom front pool
-IsAnswer front pool (Differ text) = Disagree text.items pool
+IsAnswer front pool (Differ text) = Disagree front text.items pool
 IsAnswer front pool Undecided = Unit {0}
 
 abbrev pub StartsAgree : Bool → List ℕ → List Entry → Type 0
-StartsAgree start text pool = last_kind start (chosen false false pool) text ≡ last_kind start (chosen
-    false true pool) text
+StartsAgree start text pool =
+    last_kind start (chosen false false pool) text ≡ last_kind start (chosen false true pool) text
 
 -- above each shared rule, both lists agree if that rule matches
 abbrev pub LeavesAgree : List ℕ → List Entry → Type 0
 LeavesAgree text [] = Unit {0}
-LeavesAgree text (entry ∷ pool) = ((is_shared entry ≡ true) → StartsAgree entry.item.1 text pool) ×
-    LeavesAgree text pool
+LeavesAgree text (entry ∷ pool) =
+    (is_shared entry ≡ true → StartsAgree entry.item.1 text pool) × LeavesAgree text pool

@@ -89,7 +89,7 @@ fn tried(
 ) -> Result<Comparison, AllocError>
     ensures { IfOk result (IsAnswer front.now pool.now) }
 {
-    if differ_on(alloc, pool, text.as_slice())? {
+    if differ_on(alloc, pool, front, text.as_slice())? {
         return Ok(Comparison::Differ(text));
     }
     Ok(Comparison::Undecided)

@@ -1,6 +1,6 @@
-//! Whether two lists of rules have the same verdict on every text.
+//! Compares two lists of rules on every text that begins with a given one.
 ghost use Rattle.std.specs.Prelude.{◌≡◌, ◌⊎◌, ◌<◌, ◌≤◌, ◌++◌, ◌∷◌, ◌||◌, IfOk, IsTrue, [], true, false};
-ghost use Rattle.std.specs.Prelude.{if◌then◌else◌, length, slice_index_or};
+ghost use Rattle.std.specs.Prelude.{codes, if◌then◌else◌, length, slice_index_or};
 ghost use Rattle.texting_robots.specs.Callers.{file_lines, placed_rules, unplaced};
 ghost use Rattle.robots_same.specs.Internal.{AreAscending, Decide, IsAnswer, chosen, rank_of, robots_rule};
 ghost use Rattle.robots_same.specs.Same.{IsComparison};
@@ -17,11 +17,12 @@ use texting_robots::site::Site;
 /// How two lists of rules compare.
 #[derive(Debug, Drop)]
 pub enum Comparison {
-    /// They have the same verdict on every text.
+    /// They have the same verdict on every text that begins with `front`.
     Same,
-    /// They have different verdicts on this text.
+    /// They have opposite verdicts on this text, which begins with `front`. It is a match target, not a URL, and
+    /// may not be UTF-8.
     Differ(Vec<u8>),
-    /// It would take too long to tell.
+    /// Neither was found within the budget.
     Undecided,
 }
 
@@ -171,8 +172,8 @@ fn compare_twice(
     Ok(second)
 }
 
-/// Compares them on the texts that begin with `front`: `/` for the paths of URLs, or nothing for all texts.
-/// The budget is how many times a rule may be moved on by a byte.
+/// Compares them on the texts that begin with `front`: `/` for paths, or nothing for all texts. The budget is a
+/// rough bound of the search, in rules that are moved on by a byte; a check afterwards takes as long again.
 pub fn compare<'a>(
     alloc: Global,
     front: &[u8],
@@ -195,7 +196,10 @@ pub fn compare<'a>(
     Ok(answer)
 }
 
-/// Compares what two files mean for a crawler, on the match targets that begin with `/`.
+/// Compares the verdicts of two files for one crawler, on all match targets that begin with `/`. Only the bytes
+/// that each site has read count, and only rules that are UTF-8. Whether a file is rejected for the crawler,
+/// delays, sitemaps and deciding lines aren't compared: call `Site::robot` for the first. `/robots.txt` is always
+/// allowed.
 pub fn compare_sites(
     alloc: Global,
     old: &Site,
@@ -203,7 +207,7 @@ pub fn compare_sites(
     agent: &str,
     budget: usize,
 ) -> Result<Comparison, AllocError>
-    ensures { IfOk result (IsComparison (47 ∷ []) (unplaced (placed_rules agent.now (file_lines old.now)))
+    ensures { IfOk result (IsComparison (codes "/") (unplaced (placed_rules agent.now (file_lines old.now)))
         (unplaced (placed_rules agent.now (file_lines new.now)))) }
 {
     let old_rules = rules_of(alloc, old, agent)?;

@@ -14,10 +14,18 @@ use std::alloc::{AllocError, Global};
 /// After so many rounds it gives up. In each, twice as many rules may be tracked.
 const ROUNDS: usize = 40;
 
-/// The two lists have different verdicts on this text.
-pub(crate) fn differ_on(alloc: Global, pool: &[Entry<'_>], text: &[u8]) -> Result<bool, AllocError>
-    ensures { IfOk result (λ differ. IsTrue differ → Disagree text.now pool.now) }
+/// The text begins with `front`, and the two lists have opposite verdicts on it.
+pub(crate) fn differ_on(
+    alloc: Global,
+    pool: &[Entry<'_>],
+    front: &[u8],
+    text: &[u8],
+) -> Result<bool, AllocError>
+    ensures { IfOk result (λ differ. IsTrue differ → Disagree front.now text.now pool.now) }
 {
+    if !text.starts_with(front) {
+        return Ok(false);
+    }
     let whole = state_of(alloc, pool, true, true)?;
     let state = along(alloc, whole, text)?;
     if state.agrees_at_end() {
@@ -105,7 +113,7 @@ pub(crate) fn compare_pool<'a>(
             }
             End::Disagrees(at) => {
                 let (text, below) = found.path(alloc, front, at)?;
-                if differ_on(alloc, &pool, &text)? {
+                if differ_on(alloc, &pool, front, &text)? {
                     return Ok(Comparison::Differ(text));
                 }
                 pool = refined(alloc, &pool, below, &text, most)?;

@@ -115,5 +115,10 @@ pub(crate) fn other_byte(bytes: &[u8]) -> Option<u8>
             return Some(*byte);
         }
     }
+    for byte in 0..=u8::MAX {
+        if !bytes.contains(&byte) {
+            return Some(byte);
+        }
+    }
     None
 }

@@ -20,6 +20,12 @@ const FILES: &[(&str, &str, bool)] = &[
     ("Disallow: /\nAllow: /robots.txt$", "Disallow: /", true),
     // no path begins without a slash
     ("Disallow: a", "", true),
+    // another crawler's group
+    (
+        "User-agent: *\nDisallow: /a\nUser-agent: Other\nDisallow: /b",
+        "Disallow: /a",
+        true,
+    ),
 ];
 
 fn site_of(rt: &(impl Abort + AllocGlobal), file: &str) -> Site {
@@ -38,6 +44,14 @@ fn check_files(rt: &(impl Abort + AllocGlobal), old: &str, new: &str, same: bool
         }
         Comparison::Undecided => check(rt, old, false),
     }
+}
+
+/// Without a budget, nothing is decided.
+#[test]
+fn small_budgets_decide_nothing(rt: HostRuntime) {
+    let (old, new) = (site_of(&rt, "Disallow: /a"), site_of(&rt, ""));
+    let answer = compare_sites(rt.alloc(), &old, &new, BOB, 0).expect(&rt, "budget");
+    check(&rt, "budget", matches!(answer, Comparison::Undecided));
 }
 
 #[test]
