@@ -29,6 +29,8 @@ mod patterns;
 #[cfg(test)]
 mod printed;
 #[cfg(test)]
+mod same;
+#[cfg(test)]
 mod sites;
 #[cfg(test)]
 mod sizes;

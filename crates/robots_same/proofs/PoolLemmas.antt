@@ -1,0 +1,106 @@
+-- Rules that are chosen from a pool.
+use Rattle.std.proofs.Common.{◌≡◌, inl, inr, ℕ, ◌+◌, ◌<◌, ◌≤◌, Bool, true, false, not, ◌&&◌, ◌||◌, List}
+use Rattle.std.proofs.Common.{[], ◌∷◌, ◌++◌}
+use Rattle.std.specs.Prelude.{if◌then◌else◌}
+use Rattle.std.proofs.Common.{add-zero, arith, take, get_or, length, refl, sym, ap, ◌∙◌}
+use Rattle.std.proofs.{lemmas.Bool.cases_Bool, lemmas.List.append-nil, lemmas.List.take_all}
+use Rattle.std.proofs.{lemmas.List.take_more}
+use Rattle.texting_robots.specs.{Rules.Rule}
+use Rattle.robots_same.specs.declared.pool.Entry.{Entry}
+use Rattle.robots_same.specs.declared.compare.Comparison.{Comparison}
+use Rattle.robots_same.specs.declared.compare.Comparison.TheVariants.{Differ, Same, Undecided}
+use Rattle.robots_same.specs.Internal.{IsAnswer, chosen, is_in, is_shared, last_kind}
+use Rattle.robots_same.proofs.SideLemmas.{last_kind_append}
+
+pub chosen_append : (all new : Bool) (pool more : List Entry)
+    → chosen all new (pool ++ more) ≡ chosen all new pool ++ chosen all new more
+chosen_append all new [] more = refl
+chosen_append all new (entry ∷ pool) more =
+    elim (cases_Bool ((all || not (is_shared entry)) && is_in new entry)) [
+      | inl is ↦ rw is (ap (λ (l : List Rule). entry.item ∷ l) (chosen_append all new pool more))
+      | inr isnt ↦ rw isnt (chosen_append all new pool more)
+    ]
+
+chosen_more : (all new : Bool) (pool : List Entry) (i : ℕ) (d : Entry) → i < length pool
+    → chosen all new (take (i + 1) pool) ≡ chosen all new (take i pool) ++ chosen all new (get_or pool i d
+    ∷ [])
+chosen_more all new pool i d below =
+    ap (λ (l : List Entry). chosen all new l) (take_more pool i d below)
+    ∙ chosen_append all new (take i pool) (get_or pool i d ∷ [])
+
+-- one more entry of a loop that makes a side
+pub side_more : (all new start : Bool) (pool : List Entry) (i : ℕ) (entry : Entry) (t : List ℕ) (made more
+    : Bool)
+    → i < length pool → entry ≡ get_or pool i entry → made ≡ last_kind start (chosen all new (take i pool))
+    t
+    → more ≡ last_kind made (chosen all new (entry ∷ [])) t
+    → more ≡ last_kind start (chosen all new (take (i + 1) pool)) t
+side_more all new start pool i entry t made more below at kept is =
+    is ∙ ap (λ (v : Bool). last_kind v (chosen all new (entry ∷ [])) t) kept
+    ∙ ap (λ (e : Entry). last_kind (last_kind start (chosen all new (take i pool)) t) (chosen all new (e ∷
+    [])) t) at
+    ∙ sym (last_kind_append (chosen all new (take i pool)) (chosen all new (get_or pool i entry ∷ []))
+    start t)
+    ∙ ap (λ (l : List Rule). last_kind start l t) (sym (chosen_more all new pool i entry below))
+
+same_entry : (new : Bool) (one other : Entry) → one.item ≡ other.item → one.old ≡ other.old
+    → one.new ≡ other.new
+    → chosen true new (one ∷ []) ≡ chosen true new (other ∷ [])
+same_entry true one other item old is = rw (item, is) refl
+same_entry false one other item old is = rw (item, old) refl
+
+-- one more entry of a loop that copies them
+pub copy_more : (new : Bool) (pool made more : List Entry) (i : ℕ) (entry copy : Entry) → i < length pool
+    → entry ≡ get_or pool i entry → copy.item ≡ entry.item → copy.old ≡ entry.old → copy.new ≡ entry.new
+    → more ≡ made ++ copy ∷ [] → chosen true new made ≡ chosen true new (take i pool)
+    → chosen true new more ≡ chosen true new (take (i + 1) pool)
+copy_more new pool made more i entry copy below at item old is added kept =
+    ap (λ (l : List Entry). chosen true new l) added ∙ chosen_append true new made (copy ∷ [])
+    ∙ ap (λ (l : List Rule). l ++ chosen true new (copy ∷ [])) kept
+    ∙ ap (λ (l : List Rule). chosen true new (take i pool) ++ l) (same_entry new copy entry item old is
+    ∙ ap (λ (e : Entry). chosen true new (e ∷ [])) at)
+    ∙ sym (chosen_more true new pool i entry below)
+
+-- one more entry of a loop that merges two lists
+module _ (new : Bool) (pool more : List Entry) (entry : Entry) (added : more ≡ pool ++ entry ∷ []) where
+  pub appended : chosen true new more ≡ chosen true new pool ++ chosen true new (entry ∷ [])
+  appended = ap (λ (l : List Entry). chosen true new l) added ∙ chosen_append true new pool (entry ∷ [])
+
+  pub one_taken : (list : List Rule) (i : ℕ)
+      → (is_in new entry ≡ true → (i < length list) × (entry.item ≡ get_or list i entry.item))
+      → chosen true new pool ≡ take i list
+      → chosen true new more ≡ take (i + (if is_in new entry then 1 else 0)) list
+  one_taken list i at kept = elim (cases_Bool (is_in new entry)) [
+    | inl is ↦ rw is (appended ∙ rw is (ap (λ (l : List Rule). l ++ entry.item ∷ []) kept
+        ∙ ap (λ (r : Rule). take i list ++ r ∷ []) (at is).1 ∙ sym (take_more list i entry.item (at is).0)))
+    | inr isnt ↦ rw isnt (rw add-zero (appended ∙ rw isnt (append-nil (chosen true new pool) ∙ kept)))
+  ]
+
+-- an answer about other entries with the same rules
+pub same_answer : (front : List ℕ) (one other : List Entry) → chosen true false one ≡ chosen true false
+    other
+    → chosen true true one ≡ chosen true true other → (answer : Comparison) → IsAnswer front one answer
+    → IsAnswer front other answer
+same_answer front one other old new Same is = λ t.
+    ap (λ (l : List Rule). last_kind true l (front ++ t)) (sym old) ∙ is t
+    ∙ ap (λ (l : List Rule). last_kind true l (front ++ t)) new
+same_answer front one other old new (Differ text) (rest, begins, differ) = (
+  rest,
+  begins,
+  λ same. differ (ap (λ (l : List Rule). last_kind true l text.items) old ∙ same
+      ∙ ap (λ (l : List Rule). last_kind true l text.items) (sym new)),
+)
+same_answer front one other old new Undecided is = tt
+
+pub one_room : (b : Bool) (i n : ℕ) → i ≤ n → (b ≡ true → i < n) → i + (if b then 1 else 0) ≤ n
+one_room true i n most less = let below : i < n = less refl in omega arith
+one_room false i n most less = rw add-zero most
+
+-- the last entry of a pool
+pub last_added : (new : Bool) (pool more : List Entry) (last : Entry) → more ≡ pool ++ last ∷ []
+    → (list : List Rule) (i : ℕ) (rule : Rule) → is_in new last ≡ true → last.item ≡ rule → length list ≤ i
+    → chosen true new pool ≡ take i list → chosen true new more ≡ list ++ rule ∷ []
+last_added new pool more last added list i rule is item most kept =
+    appended new pool more last added
+    ∙ rw is (ap (λ (l : List Rule). l ++ last.item ∷ []) (kept ∙ take_all i list most)
+    ∙ ap (λ (r : Rule). list ++ r ∷ []) item)
