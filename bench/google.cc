@@ -36,14 +36,14 @@ template <typename Call> static double least(Call call) {
     return best / repeats;
 }
 
-static robots *opened(const std::string &agent, const std::string &file) {
-    robots *robot = nullptr;
+static robots_robot *opened(const std::string &agent, const std::string &file) {
+    robots_robot *robot = nullptr;
     size_t line;
     if (robots_open(agent.data(), agent.size(), file.data(), file.size(), &robot, &line) != ROBOTS_OK) exit(2);
     return robot;
 }
 
-static bool ours(const robots *robot, const std::string &url) {
+static bool ours(const robots_robot *robot, const std::string &url) {
     int64_t result;
     if (robots_query(robot, url.data(), url.size(), &result) != ROBOTS_OK) exit(2);
     return robots_may_fetch(result);
@@ -60,7 +60,7 @@ int main(int, char **arguments) {
         std::string file = contents(folder + "/" + number + ".robots.txt"), our, their;
         std::ifstream lines(folder + "/" + number + ".urls.txt");
         std::vector<std::string> same;
-        robots *robot = opened(agent, file);
+        robots_robot *robot = opened(agent, file);
         while (std::getline(lines, url)) {
             our += ours(robot, url) ? '1' : '0';
             their += theirs(agent, file, url) ? '1' : '0';
@@ -68,7 +68,7 @@ int main(int, char **arguments) {
         }
         if (same.empty()) exit(2);
         double their_time = least([&] { theirs(agent, file, same[0]); });
-        double our_first = least([&] { robots *one = opened(agent, file); ours(one, same[0]); robots_close(one); });
+        double our_first = least([&] { robots_robot *one = opened(agent, file); ours(one, same[0]); robots_close(one); });
         double our_later = least([&] { for (auto &it : same) ours(robot, it); }) / same.size();
         std::cout << number << '\t' << our << '\t' << their << '\t' << our_first << '\t' << their_time << '\t' << our_later << '\t'
                   << their_time << '\n';

@@ -25,7 +25,7 @@ static void print_lines(const char *word, const char *text, size_t len) {
 }
 
 /* Writes the verdict on each URL, and returns the exit status. */
-static int print_verdicts(const robots *robot, char **urls, int count) {
+static int print_verdicts(const robots_robot *robot, char **urls, int count) {
     int denied = 0;
     for (int i = 0; i < count; i++) {
         int64_t result;
@@ -48,24 +48,30 @@ int main(int argc, char **argv) {
         return fputs("usage: ask AGENT [URL..] < robots.txt\n", stderr), 2;
     size_t file_len = fread(file, 1, sizeof file, stdin), len, line = 0;
     uint64_t delay;
-    robots *robot = NULL;
+    robots_site *site = NULL;
+    robots_robot *robot = NULL;
 
     if (ferror(stdin)) /* the rest of the file is missing, perhaps with the rules that deny */
         return perror("ask: standard input"), 2;
     if (argc > 2 && robots_address(ROBOTS_STRING(argv[2]), text, sizeof text, &len) == ROBOTS_OK)
         printf("robots %.*s\n", (int)len, text);
-    int32_t status = robots_open(ROBOTS_STRING(argv[1]), file, file_len, &robot, &line);
-    if (status != ROBOTS_OK)
+    int32_t status = robots_site_open(file, file_len, &site);
+    if (status == ROBOTS_OK)
+        status = robots_site_robot(site, ROBOTS_STRING(argv[1]), &robot, &line);
+    if (status != ROBOTS_OK) {
+        robots_site_close(site);
         return report(status, line);
+    }
     if (robots_query_delay(robot, &delay) == ROBOTS_OK)
         printf("delay %" PRIu64 "\n", delay);
     else
         puts("delay none");
-    status = robots_sitemaps(file, file_len, text, sizeof text, &len);
+    status = robots_site_sitemaps(site, text, sizeof text, &len);
     if (status == ROBOTS_OK)
         print_lines("sitemap", text, len);
     int exit_status = status == ROBOTS_OK ? print_verdicts(robot, argv + 2, argc - 2) : report(status, 0);
     robots_close(robot);
+    robots_site_close(site);
     if (fflush(stdout) != 0 || ferror(stdout))
         return perror("ask: standard output"), 2;
     return exit_status;

@@ -7,7 +7,6 @@ The shared object is the one that ROBOTS_SO names, else librobots_c.so next to t
 
 import ctypes
 import os
-import threading
 import weakref
 from ctypes import POINTER, byref, c_char_p, c_int32, c_int64, c_size_t, c_uint64, c_void_p
 
@@ -23,10 +22,6 @@ LINE = [POINTER(c_size_t)]
 WRITTEN = [POINTER(ctypes.c_char), c_size_t, POINTER(c_size_t)]
 for name, arguments in {
     "robots_decide": TEXT * 3 + NUMBERS + LINE,
-    "robots_matrix": TEXT * 3 + NUMBERS,
-    "robots_delay": TEXT * 2 + [POINTER(c_uint64)],
-    "robots_sitemaps": TEXT + WRITTEN,
-    "robots_agents": TEXT + WRITTEN,
     "robots_address": TEXT + WRITTEN,
     "robots_open": TEXT * 2 + [POINTER(c_void_p)] + LINE,
     "robots_query": [c_void_p] + TEXT + [POINTER(c_int64)],
@@ -113,10 +108,8 @@ def decide(agent, file, urls):
 
 def matrix(agents, file, urls):
     """For each crawler the numbers of `decide`, or NO_RESULT for each URL if a rule for the crawler is too long."""
-    agents, urls = several(agents), several(urls)
-    if not agents or not urls:
-        return [[] for _ in agents]
-    return rows_of(lambda *out: library.robots_matrix(*joined(agents), *text(file), *joined(urls), *out), agents, urls)
+    with Site(file) as site:
+        return site.matrix(agents, urls)
 
 
 def rows_of(call, agents, urls):
@@ -128,17 +121,19 @@ def rows_of(call, agents, urls):
 
 def delay(agent, file):
     """How many microseconds the crawler waits between two requests, or None."""
-    out = c_uint64()
-    return delay_of(library.robots_delay(*text(agent), *text(file), byref(out)), out)
+    with Site(file) as site:
+        return site.delay(agent)
 
 
 def sitemaps(file):
-    return written(library.robots_sitemaps, *text(file)).split("\n")[:-1]
+    with Site(file) as site:
+        return site.sitemaps()
 
 
 def agents(file):
     """The crawlers that the file names, each once."""
-    return written(library.robots_agents, *text(file)).split("\n")[:-1]
+    with Site(file) as site:
+        return site.agents()
 
 
 def address(url):
@@ -146,11 +141,10 @@ def address(url):
 
 
 class Opened:
-    """What a call opens, for `with`. One call at a time uses it: threads take turns. A signal handler of Python runs between two calls of
-    its thread, so it may take the turn of its thread. What is closed is freed when no call uses it any more."""
+    """What a call opens, for `with`. Threads share it. What is closed is freed when no call uses it any more."""
 
     def __init__(self, handle, free):
-        self.handle, self.lock = handle, threading.RLock()
+        self.handle = handle
         # not at the end of the process, when a thread may still be in a call
         weakref.finalize(handle, free, c_void_p(handle.value)).atexit = False
 
@@ -175,8 +169,7 @@ class Robot(Opened):
     def __init__(self, agent, file):
         handle, line = c_void_p(), c_size_t()
         if isinstance(file, Site):
-            with file.lock:
-                status = library.robots_site_robot(file.open(), *text(agent), byref(handle), byref(line))
+            status = library.robots_site_robot(file.open(), *text(agent), byref(handle), byref(line))
         else:
             status = library.robots_open(*text(agent), *text(file), byref(handle), byref(line))
         check(status, line.value)
@@ -185,8 +178,7 @@ class Robot(Opened):
     def query(self, url):
         """The number of `decide` for one URL."""
         out = c_int64()
-        with self.lock:
-            check(library.robots_query(self.open(), *text(url), byref(out)))
+        check(library.robots_query(self.open(), *text(url), byref(out)))
         return out.value
 
     def query_many(self, urls):
@@ -195,14 +187,12 @@ class Robot(Opened):
         if not urls:
             return []
         out = (c_int64 * len(urls))()
-        with self.lock:
-            check(library.robots_query_many(self.open(), *joined(urls), out, len(out)))
+        check(library.robots_query_many(self.open(), *joined(urls), out, len(out)))
         return list(out)
 
     def delay(self):
         out = c_uint64()
-        with self.lock:
-            return delay_of(library.robots_query_delay(self.open(), byref(out)), out)
+        return delay_of(library.robots_query_delay(self.open(), byref(out)), out)
 
 
 class Site(Opened):
@@ -217,25 +207,20 @@ class Site(Opened):
         agents, urls = several(agents), several(urls)
         if not agents or not urls:
             return [[] for _ in agents]
-        with self.lock:
-            return rows_of(lambda *out: library.robots_site_matrix(self.open(), *joined(agents), *joined(urls), *out), agents, urls)
+        return rows_of(lambda *out: library.robots_site_matrix(self.open(), *joined(agents), *joined(urls), *out), agents, urls)
 
     def delay(self, agent):
         out = c_uint64()
-        with self.lock:
-            return delay_of(library.robots_site_delay(self.open(), *text(agent), byref(out)), out)
+        return delay_of(library.robots_site_delay(self.open(), *text(agent), byref(out)), out)
 
     def sitemaps(self):
-        with self.lock:
-            return written(library.robots_site_sitemaps, self.open()).split("\n")[:-1]
+        return written(library.robots_site_sitemaps, self.open()).split("\n")[:-1]
 
     def agents(self):
-        with self.lock:
-            return written(library.robots_site_agents, self.open()).split("\n")[:-1]
+        return written(library.robots_site_agents, self.open()).split("\n")[:-1]
 
     def is_named(self, agent):
         """Whether a user-agent line names the crawler."""
-        with self.lock:
-            named = library.robots_site_is_named(self.open(), *text(agent))
+        named = library.robots_site_is_named(self.open(), *text(agent))
         check(min(named, OK))
         return named == 1

@@ -86,6 +86,44 @@ static struct outcome results(int32_t status, const int64_t *out, size_t line) {
     return (struct outcome){status, right, all_are(out, 8 * (COUNT + 1), 0x77) && line == 7};
 }
 
+/* Calls that open a site for themselves. */
+static int32_t delay_in(const char *agent, size_t agent_len, const void *file, size_t file_len, uint64_t *out) {
+    robots_site *site = NULL;
+    int32_t status = robots_site_open(file, file_len, &site);
+    if (status == ROBOTS_OK)
+        status = robots_site_delay(site, agent, agent_len, out);
+    robots_site_close(site);
+    return status;
+}
+
+static int32_t sitemaps_in(const void *file, size_t file_len, char *out, size_t out_len, size_t *len) {
+    robots_site *site = NULL;
+    int32_t status = robots_site_open(file, file_len, &site);
+    if (status == ROBOTS_OK)
+        status = robots_site_sitemaps(site, out, out_len, len);
+    robots_site_close(site);
+    return status;
+}
+
+static int32_t agents_in(const void *file, size_t file_len, char *out, size_t out_len, size_t *len) {
+    robots_site *site = NULL;
+    int32_t status = robots_site_open(file, file_len, &site);
+    if (status == ROBOTS_OK)
+        status = robots_site_agents(site, out, out_len, len);
+    robots_site_close(site);
+    return status;
+}
+
+static int32_t matrix_in(const char *agents, size_t agents_len, const void *file, size_t file_len, const char *urls, size_t urls_len,
+                         int64_t *out, size_t room) {
+    robots_site *site = NULL;
+    int32_t status = robots_site_open(file, file_len, &site);
+    if (status == ROBOTS_OK)
+        status = robots_site_matrix(site, agents, agents_len, urls, urls_len, out, room);
+    robots_site_close(site);
+    return status;
+}
+
 static struct outcome decide_with(const char *agent, const char *these, size_t room) {
     int64_t out[COUNT + 1];
     size_t line = 7;
@@ -101,7 +139,7 @@ static struct outcome matrix_with(const robots_site *site, const char *agents, s
     int64_t out[2 * COUNT + 1];
     memset(out, 0x77, sizeof out);
     int32_t status = site ? robots_site_matrix(site, ROBOTS_STRING(agents), ROBOTS_STRING(urls), out, room)
-                          : robots_matrix(ROBOTS_STRING(agents), FILE_OF(file), ROBOTS_STRING(urls), out, room);
+                          : matrix_in(ROBOTS_STRING(agents), FILE_OF(file), ROBOTS_STRING(urls), out, room);
     bool rows = memcmp(out, verdicts, sizeof verdicts) == 0 && memcmp(out + COUNT, verdicts, sizeof verdicts) == 0;
     return (struct outcome){status, status == ROBOTS_OK && rows && all_are(out + 2 * COUNT, 8, 0x77), all_are(out, sizeof out, 0x77)};
 }
@@ -110,7 +148,7 @@ static struct outcome matrix(void) { return matrix_with(NULL, "Bot\nOther", 2 * 
 
 static struct outcome delay(void) {
     uint64_t out = 77;
-    int32_t status = robots_delay(ROBOTS_STRING("Bot"), FILE_OF(file), &out);
+    int32_t status = delay_in(ROBOTS_STRING("Bot"), FILE_OF(file), &out);
     return (struct outcome){status, status == ROBOTS_OK && out == 2500000, out == 77};
 }
 
@@ -126,7 +164,7 @@ static struct outcome list_sitemaps(const robots_site *site, size_t room) {
     char out[99];
     size_t len = 7;
     memset(out, 77, sizeof out);
-    int32_t status = site ? robots_site_sitemaps(site, out, room, &len) : robots_sitemaps(FILE_OF(file), out, room, &len);
+    int32_t status = site ? robots_site_sitemaps(site, out, room, &len) : sitemaps_in(FILE_OF(file), out, room, &len);
     return text_is(status, out, len, sitemaps, room);
 }
 
@@ -134,7 +172,7 @@ static struct outcome list_agents(const robots_site *site, size_t room) {
     char out[99];
     size_t len = 7;
     memset(out, 77, sizeof out);
-    int32_t status = site ? robots_site_agents(site, out, room, &len) : robots_agents(FILE_OF(file), out, room, &len);
+    int32_t status = site ? robots_site_agents(site, out, room, &len) : agents_in(FILE_OF(file), out, room, &len);
     return text_is(status, out, len, "*\nA\n", room);
 }
 
@@ -152,14 +190,14 @@ static struct outcome all_sitemaps(void) { return list_sitemaps(NULL, sizeof sit
 
 static struct outcome whole_address(void) { return find_address(page, sizeof address - 1); }
 
-static struct outcome query_with(const robots *robot, size_t room) {
+static struct outcome query_with(const robots_robot *robot, size_t room) {
     int64_t out[COUNT + 1];
     memset(out, 0x77, sizeof out);
     return results(robots_query_many(robot, ROBOTS_STRING(urls), out, room), out, 7);
 }
 
 /* The same URLs in a text without line feeds, and where each ends in it. */
-static struct outcome batch_with(const robots *robot) {
+static struct outcome batch_with(const robots_robot *robot) {
     char joined[sizeof urls];
     size_t ends[COUNT], length = 0, count = 0;
     int64_t out[COUNT + 1];
@@ -173,27 +211,18 @@ static struct outcome batch_with(const robots *robot) {
     return results(robots_query_batch(robot, joined, length, ends, count, out), out, 7);
 }
 
-/* Opens a robot and another handle on it, closes the first, and queries with the other. */
-static struct outcome keep_shared(void) {
-    robots *robot = NULL, *other = NULL;
-    robots_site *site = NULL, *same = NULL;
-    int32_t status = robots_open(ROBOTS_STRING("Bot"), FILE_OF(file), &robot, NULL);
+/* Opens a site and its robot, closes the site, and queries. */
+static struct outcome outlive_site(void) {
+    robots_robot *robot = NULL;
+    robots_site *site = NULL;
+    int32_t status = robots_site_open(FILE_OF(file), &site);
     if (status == ROBOTS_OK)
-        status = robots_share(robot, &other);
-    if (status == ROBOTS_OK)
-        status = robots_site_open(FILE_OF(file), &site);
-    if (status == ROBOTS_OK)
-        status = robots_site_share(site, &same);
-    robots_close(robot);
+        status = robots_site_robot(site, ROBOTS_STRING("Bot"), &robot, NULL);
     robots_site_close(site);
-    struct outcome outcome = {status, false, same == NULL};
-    if (status == ROBOTS_OK) {
-        bool known = other != robot && same != site && robots_site_is_named(same, "a", 1) == 1;
-        outcome = batch_with(other);
-        outcome.right &= known;
-    }
-    robots_close(other);
-    robots_site_close(same);
+    struct outcome outcome = {status, false, robot == NULL};
+    if (status == ROBOTS_OK)
+        outcome = batch_with(robot);
+    robots_close(robot);
     return outcome;
 }
 
@@ -243,7 +272,7 @@ static void try_batch(void) {
         {"a character in two URLs", "/\xC3\xA9", 3, 2, {2, 3}, ROBOTS_NOT_UTF8, {77, 77, 77, 77}},
         {"ends that are invalid before what isn't UTF-8", "\xFF/b", 3, 2, {1, 4}, ROBOTS_INVALID_ENDS, {77, 77, 77, 77}},
     };
-    robots *robot = NULL;
+    robots_robot *robot = NULL;
     bool opened = robots_open("Bot", 3, "Disallow: /*%0A\nAllow: /c\n", 26, &robot, NULL) == ROBOTS_OK;
     for (size_t i = 0; i < sizeof cases / sizeof *cases; i++) {
         int64_t out[4] = {77, 77, 77, 77};
@@ -276,7 +305,7 @@ static void try_costs(void) {
         {"User-agent: other\nDisallow: /b", 10, 0},
     };
     for (size_t i = 0; i < sizeof cases / sizeof *cases; i++) {
-        robots *robot = NULL;
+        robots_robot *robot = NULL;
         bool opened = robots_open("Bot", 3, ROBOTS_STRING(cases[i].file), &robot, NULL) == ROBOTS_OK;
         tell("a cost by the rules", opened && robots_cost(robot, cases[i].length) == cases[i].cost);
         robots_close(robot);
@@ -305,7 +334,7 @@ static void try_budgets(void) {
         size_t length;
         uint64_t cost;
     } costs[] = {{0, 2}, {1, 2}, {2, 8}, {4, 12}, {SIZE_MAX, UINT64_MAX}};
-    robots *robot = NULL;
+    robots_robot *robot = NULL;
     bool opened = robots_open("Bot", 3, FILE_OF("Disallow: /a*b\nAllow: /c$\n"), &robot, NULL) == ROBOTS_OK;
     for (size_t i = 0; i < sizeof cases / sizeof *cases; i++) {
         int64_t out = 77;
@@ -320,7 +349,7 @@ static void try_budgets(void) {
 
 /* Opens a robot, queries it, and closes it. What needs no memory is never reported as out of memory. */
 static struct outcome keep(void) {
-    robots *robot = NULL;
+    robots_robot *robot = NULL;
     int64_t out = 77, plain = 77, within = 77;
     uint64_t wait = 77;
     size_t line = 7;
@@ -348,7 +377,7 @@ static bool is(struct outcome outcome, int32_t status) {
 
 /* Opens a robot of a site, closes the site, and queries the robot. */
 static struct outcome keep_robot_of(robots_site *site) {
-    robots *robot = NULL;
+    robots_robot *robot = NULL;
     size_t line = 7;
     int32_t status = robots_site_robot(site, ROBOTS_STRING("Bot"), &robot, &line);
     robots_site_close(site);
@@ -383,7 +412,7 @@ static struct outcome keep_site(void) {
 static void try_site(void) {
     char text[5000] = "User-agent: Long\nDisallow: /$";
     robots_site *site = NULL;
-    robots *robot = NULL;
+    robots_robot *robot = NULL;
     uint64_t wait = 77;
     size_t line = 7, start = strlen(text);
     int64_t out[] = {77, 77, 77, 77};
@@ -418,7 +447,7 @@ static void try_null(void) {
     int64_t out = 77;
     uint64_t wait = 77;
     size_t length = 7;
-    robots *robot = NULL;
+    robots_robot *robot = NULL;
     robots_site *site = NULL;
     bool opened = robots_open(NULL, 0, NULL, 0, &robot, NULL) == ROBOTS_OK && robot != NULL;
     tell("a robot of empty texts", opened);
@@ -427,10 +456,10 @@ static void try_null(void) {
     tell("queries into an empty buffer", opened && robots_query_many(robot, NULL, 0, NULL, 0) == ROBOTS_BUFFER_TOO_SMALL);
     robots_close(robot);
     tell("verdicts of empty texts", robots_decide(NULL, 0, NULL, 0, NULL, 0, &out, 1, NULL) == ROBOTS_OK && out == 0);
-    tell("no delay of the empty text", robots_delay(NULL, 0, NULL, 0, &wait) == ROBOTS_NO_DELAY && wait == 77);
-    tell("sitemaps of the empty text", robots_sitemaps(NULL, 0, NULL, 0, &length) == ROBOTS_OK && length == 0);
+    tell("no delay of the empty text", delay_in(NULL, 0, NULL, 0, &wait) == ROBOTS_NO_DELAY && wait == 77);
+    tell("sitemaps of the empty text", sitemaps_in(NULL, 0, NULL, 0, &length) == ROBOTS_OK && length == 0);
     length = 7;
-    tell("crawlers of the empty text", robots_agents(NULL, 0, NULL, 0, &length) == ROBOTS_OK && length == 0);
+    tell("crawlers of the empty text", agents_in(NULL, 0, NULL, 0, &length) == ROBOTS_OK && length == 0);
     length = 7;
     tell("no address of the empty text", robots_address(NULL, 0, NULL, 0, &length) == ROBOTS_NO_ADDRESS && length == 7);
     opened = robots_site_open(NULL, 0, &site) == ROBOTS_OK && site != NULL;
@@ -452,12 +481,11 @@ static void try_null(void) {
 static void try_small_buffers(void) {
     int64_t out = 77;
     size_t line = 7;
-    robots *robot = NULL;
+    robots_robot *robot = NULL;
     robots_site *site = NULL;
     bool opened = robots_open("Bot", 3, FILE_OF(file), &robot, &line) == ROBOTS_OK && robots_site_open(FILE_OF(file), &site) == ROBOTS_OK;
     long before = allocations;
     tell("verdicts", robots_decide("Bot", 3, FILE_OF(file), "/a\n/b", 5, &out, 1, &line) == ROBOTS_BUFFER_TOO_SMALL && out == 77);
-    tell("a matrix", robots_matrix("A\nB", 3, FILE_OF(file), "/a", 2, &out, 1) == ROBOTS_BUFFER_TOO_SMALL && out == 77);
     tell("queries", opened && robots_query_many(robot, "/a\n/b", 5, &out, 1) == ROBOTS_BUFFER_TOO_SMALL && out == 77);
     tell("a matrix of a site", opened && robots_site_matrix(site, "A\nB", 3, "/a", 2, &out, 1) == ROBOTS_BUFFER_TOO_SMALL && out == 77);
     tell("nothing was allocated for them", allocations == before && line == 7);
@@ -469,7 +497,7 @@ static void try_examples(void) {
     int64_t out = 77;
     uint64_t wait = 77;
     size_t length = 7;
-    robots *robot = NULL;
+    robots_robot *robot = NULL;
     tell("verdicts with their lines", is(decide(), ROBOTS_OK));
     tell("verdicts with a number too little room", is(decide_with("Bot", urls, COUNT - 1), ROBOTS_BUFFER_TOO_SMALL));
     tell("verdicts, an agent that isn't UTF-8", is(decide_with("\xFF", urls, COUNT), ROBOTS_NOT_UTF8));
@@ -477,16 +505,16 @@ static void try_examples(void) {
     tell("NULL is an empty text", robots_decide(NULL, 0, NULL, 0, NULL, 0, &out, 1, &length) == ROBOTS_OK && out == 0);
     tell("NULL is an empty buffer", robots_decide(NULL, 0, NULL, 0, NULL, 0, NULL, 0, &length) == ROBOTS_BUFFER_TOO_SMALL && length == 7);
     tell("a delay", is(delay(), ROBOTS_OK));
-    tell("no delay", robots_delay("Bot", 3, "Disallow: /", 11, &wait) == ROBOTS_NO_DELAY && wait == 77);
+    tell("no delay", delay_in("Bot", 3, "Disallow: /", 11, &wait) == ROBOTS_NO_DELAY && wait == 77);
     tell("sitemaps", is(all_sitemaps(), ROBOTS_OK));
     tell("sitemaps with a byte too little room", is(list_sitemaps(NULL, sizeof sitemaps - 2), ROBOTS_BUFFER_TOO_SMALL));
-    tell("the length of sitemaps", robots_sitemaps(FILE_OF(file), NULL, 0, &length) == ROBOTS_BUFFER_TOO_SMALL && length == sizeof sitemaps - 1);
+    tell("the length of sitemaps", sitemaps_in(FILE_OF(file), NULL, 0, &length) == ROBOTS_BUFFER_TOO_SMALL && length == sizeof sitemaps - 1);
     tell("crawlers", is(all_agents(), ROBOTS_OK));
     tell("crawlers with a byte too little room", is(list_agents(NULL, 3), ROBOTS_BUFFER_TOO_SMALL));
     tell("a matrix", is(matrix(), ROBOTS_OK));
     tell("a matrix with a number too little room", is(matrix_with(NULL, "Bot\nOther", 2 * COUNT - 1), ROBOTS_BUFFER_TOO_SMALL));
     tell("a matrix, a crawler that isn't UTF-8", is(matrix_with(NULL, "Bot\n\xFF", 2 * COUNT), ROBOTS_NOT_UTF8));
-    tell("a matrix of empty texts", robots_matrix(NULL, 0, NULL, 0, NULL, 0, &out, 1) == ROBOTS_OK && out == 0);
+    tell("a matrix of empty texts", matrix_in(NULL, 0, NULL, 0, NULL, 0, &out, 1) == ROBOTS_OK && out == 0);
     try_null();
     tell("no result", !robots_may_fetch(ROBOTS_NO_RESULT) && robots_line(ROBOTS_NO_RESULT) == 0);
     tell("an address", is(whole_address(), ROBOTS_OK));
@@ -507,7 +535,7 @@ static void try_examples(void) {
     try_small_buffers();
     try_batch();
     try_budgets();
-    tell("handles on the same robot and site", is(keep_shared(), ROBOTS_OK));
+    tell("a robot that outlives its site", is(outlive_site(), ROBOTS_OK));
     tell("results and their lines", robots_may_fetch(0) == 1 && robots_may_fetch(3) == 1 && robots_may_fetch(-2) == 0
         && robots_line(0) == 0 && robots_line(3) == 3 && robots_line(-2) == 2);
     try_responses();
@@ -544,7 +572,7 @@ int main(void) {
         fail_each("an address", whole_address, all_later);
         fail_each("a robot", keep, all_later);
         fail_each("a site", keep_site, all_later);
-        fail_each("shared handles and a batch", keep_shared, all_later);
+        fail_each("a robot that outlives its site, and a batch", outlive_site, all_later);
     }
     printf("%d passed, %d failed\n", passed, failed);
     return failed != 0;

@@ -15,7 +15,7 @@ CRATES = ROOT / "crates"
 CC = os.environ.get("CC", "cc")
 SIZES = sorted({max(2**power + more, 1) for power in range(17) for more in (-1, 0, 1)})
 DOCUMENTS = {path.relative_to(ROOT).as_posix(): path.read_text() for path in [*sorted(ROOT.glob("*.md")), *sorted(ROOT.glob("docs/*.md"))]}
-PAGES = DOCUMENTS | {f"bindings/{it}/README.md": (ROOT / f"bindings/{it}/README.md").read_text() for it in ("python", "rust")}
+PAGES = DOCUMENTS | {f"bindings/{it}/README.md": (ROOT / f"bindings/{it}/README.md").read_text() for it in ("c", "python", "rust")}
 
 
 @dataclass

@@ -1,4 +1,4 @@
-"""Handles of the C library that share a robot or a site, URLs with the places where they end, and programs in C++ and Go."""
+"""Threads that share a robot or a site of the C library, URLs with the places where they end, and programs in C++ and Go."""
 
 import ctypes
 import os
@@ -14,16 +14,16 @@ from support import CC, ROOT, Result, compiled, run
 from test_c_library import STRICT, needs
 
 TOOLS = {
-    "sanitizer": ["-fsanitize=thread", "-DMAIN_CLOSES_LAST"],
+    "sanitizer": ["-fsanitize=thread"],
     "helgrind": ["valgrind", "-q", "--tool=helgrind", "--error-exitcode=9"],
+    "drd": ["valgrind", "-q", "--tool=drd", "--error-exitcode=9"],
     "memcheck": ["valgrind", "-q", "--error-exitcode=9", "--leak-check=full", "--errors-for-leak-kinds=all"],
 }
 
 
 @pytest.mark.parametrize("tool", TOOLS)
-def test_threads_query_through_handles_of_their_own(objects, tmp_path, tool):
-    """ThreadSanitizer sees what the program does, but not the count that decides who frees the data, so there the last handle is closed
-    after the threads have ended; helgrind and memcheck see what the library does too, and there handles are closed in any order."""
+def test_threads_share_one_robot_and_one_site(objects, tmp_path, tool):
+    """ThreadSanitizer sees what the program does, the others what the library does too."""
     under, sanitizer = (TOOLS[tool], []) if tool != "sanitizer" else ([], TOOLS[tool])
     needs(CC, *sanitizer, "-xc")
     if under and not shutil.which("valgrind"):
@@ -33,72 +33,67 @@ def test_threads_query_through_handles_of_their_own(objects, tmp_path, tool):
     assert run(Path(shutil.which(words[0])), words[1:]) == Result(0, b"", b"")
 
 
+def test_children_of_a_fork_use_what_threads_are_using(objects, tmp_path):
+    (tmp_path / "threads.c").write_text(THREADS)
+    program = compiled(tmp_path / "forks", *STRICT, "-DFORKS=20", "-pthread", tmp_path / "threads.c", *objects)
+    assert run(program) == Result(0, b"", b"")
+
+
 THREADS = r"""
 #include "robots.h"
 #include <pthread.h>
-#include <stdbool.h>
+#include <sys/wait.h>
+#include <unistd.h>
+#ifndef FORKS
+#define FORKS 0
+#endif
 #define FILE_TEXT "User-agent: *\nDisallow: /a\nCrawl-delay: 3\nSitemap: b"
 enum { COUNT = 16 };
-struct thread { robots *robot; robots_site *site; int number, right; pthread_t id; };
-static bool asks(const robots *robot, const robots_site *site) {
+struct thread { int right; pthread_t id; };
+static robots_robot *robot;
+static robots_site *site;
+static bool asks(void) {
     int64_t results[2];
     uint64_t delay;
     char text[2];
     size_t len, ends[] = {2, 5};
-    return robots_query_batch(robot, "/a/\xC3\xA9", 5, ends, 2, results) == ROBOTS_OK && results[0] == -2 && results[1] == 0
+    robots_robot *own = NULL;
+    bool right = robots_query_batch(robot, "/a/\xC3\xA9", 5, ends, 2, results) == ROBOTS_OK && results[0] == -2 && results[1] == 0
         && robots_query_many(robot, "/a\n/b", 5, results, 2) == ROBOTS_OK && results[0] == -2 && results[1] == 0
         && robots_query(robot, "/a", 2, results) == ROBOTS_OK && results[0] == -2
+        && robots_query_within(robot, "/a", 2, robots_cost(robot, 2), results) == ROBOTS_OK && results[0] == -2
         && robots_query_delay(robot, &delay) == ROBOTS_OK && delay == 3000000
         && robots_site_matrix(site, "A\nB", 3, "/a", 2, results, 2) == ROBOTS_OK && results[0] == -2 && results[1] == -2
         && robots_site_delay(site, "A", 1, &delay) == ROBOTS_OK && robots_site_is_named(site, "A", 1) == 0
-        && robots_site_sitemaps(site, text, 2, &len) == ROBOTS_OK && robots_site_agents(site, text, 2, &len) == ROBOTS_OK;
+        && robots_site_sitemaps(site, text, 2, &len) == ROBOTS_OK && robots_site_agents(site, text, 2, &len) == ROBOTS_OK
+        && robots_site_robot(site, "A", 1, &own, &len) == ROBOTS_OK && robots_bytes(own) == robots_bytes(robot) && robots_site_bytes(site) > 0;
+    robots_close(own);
+    return right;
 }
-/* Every other thread opens further handles and closes those that it was given before these; the others end one after another. */
 static void *query(void *given) {
-    struct thread *my = given;
-    robots *other = NULL;
-    robots_site *same = NULL;
-    for (int i = 0; i < 20; i++)
-        my->right += asks(my->robot, my->site);
-    if (my->number % 2 == 0) {
-        my->right += robots_share(my->robot, &other) == ROBOTS_OK && robots_site_share(my->site, &same) == ROBOTS_OK;
-        robots_close(my->robot);
-        robots_site_close(my->site);
-        my->right += asks(other, same);
-        robots_site_close(same);
-        robots_close(other);
-    } else {
-        for (int i = 0; i < my->number * 7 % COUNT; i++)
-            my->right -= !asks(my->robot, my->site);
-        my->right += 2;
-        robots_site_close(my->site);
-        robots_close(my->robot);
-    }
+    for (int i = 0; i < (FORKS ? 20000 : 20); i++)
+        ((struct thread *)given)->right += asks();
     return NULL;
 }
 int main(void) {
     struct thread threads[COUNT] = {{0}};
-    robots *robot = NULL;
-    robots_site *site = NULL;
     int32_t status = robots_site_open(FILE_TEXT, sizeof FILE_TEXT - 1, &site);
     status |= robots_site_robot(site, "Bot", 3, &robot, NULL);
-    for (int i = 0; i < COUNT; i++) {
-        threads[i].number = i;
-        status |= robots_share(robot, &threads[i].robot) | robots_site_share(site, &threads[i].site);
+    for (int i = 0; i < COUNT; i++)
         status |= pthread_create(&threads[i].id, NULL, query, &threads[i]);
+    for (int i = 0; i < FORKS; i++) {
+        int ended = 1;
+        pid_t child = fork();
+        if (child == 0)
+            _exit(!asks());
+        status |= waitpid(child, &ended, 0) != child || ended != 0;
     }
-#ifndef MAIN_CLOSES_LAST
-    robots_close(robot);
-    robots_site_close(site);
-#endif
     for (int i = 0; i < COUNT; i++) {
         status |= pthread_join(threads[i].id, NULL);
-        status |= threads[i].right != 22;
+        status |= threads[i].right != (FORKS ? 20000 : 20);
     }
-#ifdef MAIN_CLOSES_LAST
     robots_close(robot);
     robots_site_close(site);
-#endif
     return status != 0;
 }
 """
@@ -150,23 +145,18 @@ struct tried rattle_realloc(void *block, size_t used, size_t length, size_t alig
 int main(void) {
     static char file[100000];
     size_t length = fread(file, 1, sizeof file, stdin), before;
-    robots *robot, *own, *other;
+    robots_robot *robot, *own, *other;
     robots_site *site, *same;
     int64_t result;
     if (robots_open("Bot", 3, file, length, &robot, NULL) != ROBOTS_OK || robots_query(robot, "/\xC3\xA9", 3, &result) != ROBOTS_OK)
         return 2;
     printf("%zu %zu\n", before = held, robots_bytes(robot));
-    if (robots_share(robot, &other) != ROBOTS_OK || held != before + 8 || robots_bytes(other) != before)
-        return 3;
     fails = true; /* then nothing is written */
-    before = held;
-    robots *kept = other;
-    if (robots_share(robot, &other) != ROBOTS_OUT_OF_MEMORY || robots_open("Bot", 3, file, length, &other, NULL) != ROBOTS_OUT_OF_MEMORY
-        || other != kept || held != before)
+    robots_robot *kept = other = robot;
+    if (robots_open("Bot", 3, file, length, &other, NULL) != ROBOTS_OUT_OF_MEMORY || other != kept || held != before)
         return 7;
     fails = false;
     robots_close(robot);
-    robots_close(other);
     if (held != 0 || robots_site_open(file, length, &site) != ROBOTS_OK)
         return 4;
     before = held;
@@ -175,16 +165,13 @@ int main(void) {
     printf("%zu %zu\n", held - before, robots_bytes(own));
     robots_close(own);
     printf("%zu %zu\n", held, robots_site_bytes(site));
-    if (robots_site_share(site, &same) != ROBOTS_OK || held != before + 8 || robots_site_bytes(same) != before)
-        return 6;
     fails = true;
     before = held;
-    robots_site *whole = same;
-    if (robots_site_share(site, &same) != ROBOTS_OUT_OF_MEMORY || robots_site_open(file, length, &same) != ROBOTS_OUT_OF_MEMORY
-        || robots_site_robot(site, "Bot", 3, &other, NULL) != ROBOTS_OUT_OF_MEMORY || same != whole || other != kept || held != before)
+    robots_site *whole = same = site;
+    if (robots_site_open(file, length, &same) != ROBOTS_OUT_OF_MEMORY || robots_site_robot(site, "Bot", 3, &other, NULL) != ROBOTS_OUT_OF_MEMORY
+        || same != whole || other != kept || held != before)
         return 8;
     robots_site_close(site);
-    robots_site_close(same);
     return held != 0;
 }
 """
@@ -220,7 +207,7 @@ def test_null_is_reported_where_it_is_forbidden(tmp_path):
     assert len(calls) >= 18
     for name, parameters, numbers in calls:
         pointers = [number for number, it in enumerate(parameters.split(","), 1) if "*" in it]
-        outputs = {number for number in pointers if re.search(r"\*(robot|other|site|result|microseconds|len)$", parameters.split(",")[number - 1].strip())}
+        outputs = {number for number in pointers if re.search(r"\*(robot|site|result|microseconds|len)$", parameters.split(",")[number - 1].strip())}
         assert {int(it) for it in numbers.split(",")} == outputs, name
         source = tmp_path / f"{name}.c"
         zeros = ", ".join("0" for _ in parameters.split(","))
@@ -245,20 +232,18 @@ CPLUSPLUS = r"""
 #include <string>
 #include <thread>
 #include <vector>
-struct Close { void operator()(robots *robot) const { robots_close(robot); } };
-using Robot = std::unique_ptr<robots, Close>;
+namespace robots {
+using Robot = std::shared_ptr<const robots_robot>;
 static Robot opened(const std::string &agent, const std::string &file) {
-    robots *robot = nullptr;
-    return Robot(robots_open(agent.data(), agent.size(), file.data(), file.size(), &robot, nullptr) == ROBOTS_OK ? robot : nullptr);
+    robots_robot *robot = nullptr;
+    return Robot(robots_open(agent.data(), agent.size(), file.data(), file.size(), &robot, nullptr) == ROBOTS_OK ? robot : nullptr,
+                 [robot](const robots_robot *) { robots_close(robot); });
 }
-static Robot shared(const Robot &robot) {
-    robots *other = nullptr;
-    return Robot(robots_share(robot.get(), &other) == ROBOTS_OK ? other : nullptr);
 }
 int main() {
     robots_close(nullptr);
     if (robots_may_fetch(-1) || robots_version() != ROBOTS_VERSION) return 6;
-    Robot robot = opened("Bot", "User-agent: *\nDisallow: /a");
+    robots::Robot robot = robots::opened("Bot", "User-agent: *\nDisallow: /a");
     if (!robot) return 2;
     int64_t one = 0;
     std::vector<int64_t> many(2), batch(2);
@@ -266,7 +251,7 @@ int main() {
     const std::vector<std::size_t> ends = {2, 5};
     if (robots_query(robot.get(), "/b", 2, &one) != ROBOTS_OK) return 3;
     if (robots_query_many(robot.get(), urls.data(), urls.size(), many.data(), many.size()) != ROBOTS_OK) return 4;
-    Robot other = shared(robot);
+    robots::Robot other = robot;
     robot.reset();
     int32_t status = ROBOTS_OUT_OF_MEMORY;
     std::thread([&] { status = robots_query_batch(other.get(), joined.data(), joined.size(), ends.data(), ends.size(), batch.data()); }).join();
@@ -312,7 +297,7 @@ func must(status C.int32_t) {
 func main() {
 	agent, agentLen := text("Bot")
 	file, fileLen := text("User-agent: *\nDisallow: /a")
-	var robot, other *C.robots
+	var robot *C.robots_robot
 	must(C.robots_open(agent, agentLen, unsafe.Pointer(file), fileLen, &robot, nil))
 	var one C.int64_t
 	url, urlLen := text("/b")
@@ -320,16 +305,14 @@ func main() {
 	many := make([]C.int64_t, 2)
 	urls, urlsLen := text("/b\n/a")
 	must(C.robots_query_many(robot, urls, urlsLen, &many[0], 2))
-	must(C.robots_share(robot, &other))
-	C.robots_close(robot)
 	done := make(chan []C.int64_t)
 	go func() {
 		batch, ends := make([]C.int64_t, 2), []C.size_t{2, 4}
 		joined, joinedLen := text("/a/b")
-		must(C.robots_query_batch(other, unsafe.Pointer(joined), joinedLen, &ends[0], 2, &batch[0]))
-		C.robots_close(other)
+		must(C.robots_query_batch(robot, unsafe.Pointer(joined), joinedLen, &ends[0], 2, &batch[0]))
 		done <- batch
 	}()
 	fmt.Println(C.robots_may_fetch(one) == 1, C.robots_line(one), many, <-done)
+	C.robots_close(robot)
 }
 """

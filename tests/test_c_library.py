@@ -13,7 +13,7 @@ from decimal import Decimal
 from pathlib import Path
 
 import pytest
-from library import LIBRARY, archive, kit, make, random_case
+from library import LIBRARY, archive, make, random_case
 from support import CC, CRATES, ROOT, SIZES, Result, cases_of, compiled, input_of, program, run, shown, spelled, wanted_of
 
 STRICT = ["-Wpedantic", "-Werror", f"-I{LIBRARY}"]
@@ -36,57 +36,6 @@ def test_called_from_c(objects, tmp_path, sanitizers):
     assert re.search(r"^[1-9]\d* passed, 0 failed$", result.out.splitlines()[-1])
 
 
-@pytest.mark.parametrize("under", [[], ["valgrind", "-q", "--tool=helgrind", "--error-exitcode=9"]], ids=["sanitizer", "helgrind"])
-def test_many_threads_query_one_robot_and_one_site(objects, tmp_path, under):
-    """ThreadSanitizer sees what the program does, and helgrind what the library does too."""
-    sanitizer = [] if under else ["-fsanitize=thread"]
-    needs(CC, *sanitizer, "-xc")
-    if under and not shutil.which(under[0]):
-        pytest.skip("valgrind is missing")
-    (tmp_path / "threads.c").write_text(THREADS)
-    words = [*under, compiled(tmp_path / "threads", *STRICT, "-g", *sanitizer, "-pthread", tmp_path / "threads.c", *objects)]
-    assert run(Path(words[0]), words[1:]) == Result(0, b"", b"")
-
-
-THREADS = r"""
-#include "robots.h"
-#include <pthread.h>
-#include <stdbool.h>
-static robots *robot;
-static robots_site *site;
-static void *query(void *right) {
-    int64_t results[2];
-    uint64_t delay;
-    char text[2];
-    size_t len;
-    robots *own;
-    for (int i = 0; i < 250; i++)
-        *(int *)right += robots_query_many(robot, "/\xC3\xA9\n/a", 6, results, 2) == ROBOTS_OK && results[0] == 0
-            && robots_query(robot, "/a", 2, results) == ROBOTS_OK && results[0] == -1 && results[1] == -1
-            && robots_query_delay(robot, &delay) == ROBOTS_OK && delay == 3000000
-            && robots_site_matrix(site, "A\nB", 3, "/a", 2, results, 2) == ROBOTS_OK && results[0] == -1 && results[1] == -1
-            && robots_site_delay(site, "A", 1, &delay) == ROBOTS_OK && robots_site_is_named(site, "A", 1) == 0
-            && robots_site_sitemaps(site, text, 2, &len) == ROBOTS_OK && robots_site_agents(site, text, 2, &len) == ROBOTS_OK
-            && robots_site_robot(site, "A", 1, &own, &len) == ROBOTS_OK && (robots_close(own), true);
-    return NULL;
-}
-int main(void) {
-    pthread_t threads[4];
-    int right[4] = {0};
-    size_t line;
-    int32_t status = robots_site_open("Disallow: /a\nCrawl-delay: 3", 27, &site);
-    status |= robots_open("Bot", 3, "Disallow: /a\nCrawl-delay: 3", 27, &robot, &line);
-    for (int i = 0; i < 4; i++)
-        status |= pthread_create(&threads[i], NULL, query, &right[i]);
-    for (int i = 0; i < 4; i++)
-        status |= pthread_join(threads[i], NULL);
-    robots_close(robot);
-    robots_site_close(site);
-    return status != 0 || right[0] + right[1] + right[2] + right[3] != 1000;
-}
-"""
-
-
 def test_outputs_may_be_uninitialized(objects, tmp_path):
     """memcheck reports each decision on a value that nothing wrote, and each block that stays allocated."""
     if not shutil.which("valgrind"):
@@ -106,7 +55,7 @@ OUTPUTS = r"""
 static int wrong;
 static void is(int64_t value, int64_t wanted) { wrong += value != wanted; }
 int main(void) {
-    robots *robot, *own;
+    robots_robot *robot, *own;
     robots_site *site;
     int64_t result, *results = malloc(4 * sizeof *results);
     uint64_t delay;
@@ -125,13 +74,11 @@ int main(void) {
     is(robots_query_delay(robot, &delay), ROBOTS_OK);
     is((int64_t)delay, 1000000);
     is(robots_bytes(robot) > 64, 1);
-    is(robots_share(robot, &own), ROBOTS_OK);
-    robots_close(robot);
     free(results);
     results = malloc(4 * sizeof *results);
-    is(robots_query_batch(own, "/a/b", 4, (size_t[]){2, 4}, 2, results), ROBOTS_OK);
+    is(robots_query_batch(robot, "/a/b", 4, (size_t[]){2, 4}, 2, results), ROBOTS_OK);
     is(results[0] + results[1], -2);
-    robots_close(own);
+    robots_close(robot);
     is(robots_site_open(FILE, &site), ROBOTS_OK);
     is(robots_site_robot(site, "Bot", 3, &own, &line), ROBOTS_OK);
     is(robots_site_bytes(site) > 64, 1);
@@ -140,6 +87,7 @@ int main(void) {
     results = malloc(4 * sizeof *results);
     is(robots_site_matrix(site, "A\nB", 3, "/a", 2, results, 4), ROBOTS_OK);
     is(results[0] + results[1], -4);
+    is(robots_site_matrix(site, "A\nB", 3, "/a\n/b\n/c", 8, results, 4), ROBOTS_BUFFER_TOO_SMALL);
     is(robots_site_delay(site, "Bot", 3, &delay), ROBOTS_OK);
     is(robots_site_sitemaps(site, out, 64, &len), ROBOTS_OK);
     is((int64_t)len + out[0] + out[1], 2 + 'b' + '\n');
@@ -151,12 +99,6 @@ int main(void) {
     results = malloc(4 * sizeof *results);
     is(robots_decide("Bot", 3, FILE, "/a\n/b", 5, results, 4, &line), ROBOTS_OK);
     is(results[0] + results[1], -2);
-    is(robots_matrix("A\nB", 3, FILE, "/a", 2, results, 4), ROBOTS_OK);
-    is(robots_matrix("A\nB", 3, FILE, "/a\n/b\n/c", 8, results, 4), ROBOTS_BUFFER_TOO_SMALL);
-    is(robots_delay("Bot", 3, FILE, &delay), ROBOTS_OK);
-    is(robots_delay("Bot", 3, "", 0, &delay), ROBOTS_NO_DELAY);
-    is(robots_sitemaps(FILE, out, 64, &len), ROBOTS_OK);
-    is(robots_agents(FILE, out, 64, &len), ROBOTS_OK);
     is(robots_address(FILE_OF("https://example.com/a"), out, 64, &len), ROBOTS_OK);
     is(robots_address("mailto:a", 8, out, 64, &len), ROBOTS_NO_ADDRESS);
     free(results);
@@ -172,11 +114,21 @@ int main(void) {
 @pytest.mark.parametrize("name", ["job@2", "a,b", "a=b", "[a]", "a(b)", "\u00e9"])
 def test_library_packaged_in_a_folder_with_any_name(tmp_path, name):
     """Nothing is written outside of the folder, as `ar` does that is given such names in a script."""
-    archives = [tmp_path / name / "librobots_c.a", archive(), kit() / "c/liblibc_c.a"]
+    archives = [tmp_path / name / "librobots_c.a", archive()]
     ended = make(f"OUT={tmp_path / name}")
     assert (ended.returncode, ended.stderr, [*tmp_path.iterdir()]) == (0, "", [tmp_path / name])
     members = [subprocess.run(["ar", "t", it], capture_output=True, text=True).stdout.split() for it in archives]
-    assert sorted(members[0]) == sorted([*members[1], *members[2], "robots.o"]) and all(members)
+    assert sorted(members[0]) == sorted([*members[1], "heap.o", "robots.o"]) and all(members)
+
+
+EXPORTS = (ROOT / "bindings/c/exports").read_text()
+
+
+def test_a_shared_object_over_the_archive_exports_only_its_own_calls(installed, tmp_path):
+    (tmp_path / "own.c").write_text('#include "robots.h"\nint own(void) { return robots_may_fetch(0) + robots_decide(0, 0, 0, 0, 0, 0, 0, 0, 0); }\n')
+    own = compiled(tmp_path / "own.so", f"-I{LIBRARY}", "-shared", "-fPIC", tmp_path / "own.c", installed / "lib/librobots_c.a")
+    names = subprocess.run(["nm", "-D", "--defined-only", own], capture_output=True, text=True).stdout
+    assert re.findall(r"^\w+ [A-Z] (\w+)$", names, re.M) == ["own"]
 
 
 def test_each_call_of_the_header_is_exported(shared_object):
@@ -184,7 +136,8 @@ def test_each_call_of_the_header_is_exported(shared_object):
     header = re.sub(r"/\*.*?\*/", "", (LIBRARY / "robots.h").read_text(), flags=re.S)
     assert "inline" not in header
     names = subprocess.run(["nm", "-D", "--defined-only", shared_object], capture_output=True, text=True).stdout
-    assert sorted(re.findall(r"^\w+ T (\w+)", names, re.M)) == sorted(re.findall(r"\b(robots_\w+)\(", header))
+    calls = sorted(re.findall(r"\b(robots_\w+)\(", header))
+    assert sorted(re.findall(r"^\w+ T (\w+)@@ROBOTS_C_1.0$", names, re.M)) == calls == sorted(re.findall(r"\brobots_\w+(?=;)", EXPORTS))
 
 
 @pytest.fixture
@@ -196,13 +149,11 @@ def without_rt(tmp_path):
     return os.environ | {"PATH": f"{tmp_path}/bin:{os.environ['PATH']}"}
 
 
-@pytest.mark.parametrize(
-    "words, message",
-    [(["OUT={}/out"], "put `rt` on the PATH, or set HEAP"), (["OUT={}/out", "HEAP=/no/heap.a"], "/no/heap.a is missing"), (["OUT={}/a b"], "has a space")],
-)
-def test_make_says_why_it_cannot_package(objects, tmp_path, without_rt, words, message):
-    ended = make(*(word.format(tmp_path) for word in words), env=without_rt)
-    assert ended.returncode == 2 and message in ended.stderr
+def test_make_needs_no_toolchain_but_a_folder_without_a_space(objects, tmp_path, without_rt):
+    ended = make(f"OUT={tmp_path}/out", env=without_rt)
+    assert (ended.returncode, ended.stderr) == (0, "")
+    ended = make(f"OUT={tmp_path}/a b", env=without_rt)
+    assert ended.returncode == 2 and "has a space" in ended.stderr
 
 
 def test_installed_after_make_without_the_toolchain_and_uninstalled(installed, tmp_path, without_rt):
@@ -306,12 +257,12 @@ def test_each_status_has_to_be_used():
 
 
 def test_place_of_a_result_in_the_matrix(robots):
-    """As the comment of robots_matrix says."""
+    """As the comment of robots_site_matrix says."""
     place = re.search(r"the result of crawler i for URL j is results\[(.*?)\], counted from 0", (LIBRARY / "robots.h").read_text())[1]
     agents, urls, out = ["a", "b"], ["/a", "/b", "/c"], (ctypes.c_int64 * 6)()
     file = b"User-agent: a\nDisallow: /b\nUser-agent: b\nDisallow: /c\nAllow: /a"
-    words = *robots.joined(agents), *robots.text(file), *robots.joined(urls)
-    assert robots.library.robots_matrix(*words, out, 6) == robots.OK
+    with robots.Site(file) as site:
+        assert robots.library.robots_site_matrix(site.handle, *robots.joined(agents), *robots.joined(urls), out, 6) == robots.OK
     for i, agent in enumerate(agents):
         assert [out[eval(place, {"i": i, "j": j, "URLs": len(urls)})] for j in range(3)] == robots.decide(agent, file, urls)
 
@@ -536,7 +487,6 @@ def test_nothing_outside_of_the_texts_is_read(robots, at_end):
         assert robots.library.robots_open(*agent_text, *file_text, robot, line) == robots.OK
         assert robots.library.robots_query_many(robot, *urls_text, out, 9) == robots.OK
         robots.library.robots_close(robot)
-        assert robots.library.robots_delay(*agent_text, *file_text, number) in (robots.OK, robots.NO_DELAY)
         site = ctypes.c_void_p()
         assert robots.library.robots_site_open(*file_text, site) == robots.OK
         assert robots.library.robots_site_matrix(site, *agent_text, *urls_text, out, 9) == robots.OK
@@ -544,10 +494,9 @@ def test_nothing_outside_of_the_texts_is_read(robots, at_end):
         assert robots.library.robots_site_robot(site, *agent_text, robot, line) == robots.OK
         assert robots.library.robots_site_is_named(site, *agent_text) in (0, 1)
         robots.library.robots_close(robot)
+        assert robots.library.robots_site_sitemaps(site, None, 0, line) in (robots.OK, robots.BUFFER_TOO_SMALL)
+        assert robots.library.robots_site_agents(site, None, 0, line) in (robots.OK, robots.BUFFER_TOO_SMALL)
         robots.library.robots_site_close(site)
-        assert robots.library.robots_sitemaps(*file_text, None, 0, line) in (robots.OK, robots.BUFFER_TOO_SMALL)
-        assert robots.library.robots_agents(*file_text, None, 0, line) in (robots.OK, robots.BUFFER_TOO_SMALL)
-        assert robots.library.robots_matrix(*agent_text, *file_text, *urls_text, out, 9) == robots.OK
         *url_text, u = guarded(urls[0].encode(), at_end)
         assert robots.library.robots_address(*url_text, None, 0, line) in (robots.BUFFER_TOO_SMALL, robots.NO_ADDRESS)
 

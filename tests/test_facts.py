@@ -49,8 +49,6 @@ def test_the_limit_of_the_header():
     for name in ("LIFETIME", "REDIRECT_LIMIT"):
         assert re.findall(rf"#define ROBOTS_{name} (\d+) ", source("robots_c/robots.h")) == [str(constant(name))]
     assert constant("LIFETIME") == 24 * 60 * 60
-    (bytes_of_a_handle,) = re.findall(r"robots_share\n \* opens takes (\d+) more, for a pointer", source("robots_c/robots.h"))
-    assert f"held != before + {bytes_of_a_handle} " in (ROOT / "tests/test_c_handles.py").read_text()
     assert re.findall(r"#define ROBOTS_FILE_LIMIT (\d+)", source("robots_c/robots.h")) == [str(constant("FILE_LIMIT"))]
 
 

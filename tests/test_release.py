@@ -270,7 +270,7 @@ def test_c_library_through_pkg_config(tree, bare, tmp_path, linked):
 
 def test_c_library_as_the_guide_says(file, bare, tmp_path):
     shutil.copy(file("robots_c-*"), tmp_path)
-    lines = shown(section(DOCUMENTS["docs/GUIDE.md"], "From C").split("To build and install it")[0])
+    lines = shown(section((ROOT / "bindings/c/README.md").read_text(), "Install"))
     ended = subprocess.run(["bash", "-c", lines], cwd=tmp_path, env=bare, capture_output=True, text=True)
     assert Result(ended.returncode, ended.stdout, ended.stderr) == Result(1, "robots https://example.com/robots.txt\ndelay none\ndeny 1 https://example.com/a\n", "")
 

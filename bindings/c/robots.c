@@ -3,20 +3,16 @@
  * A buffer is passed as it is. */
 #include "robots.h"
 
-#define PROVED(name) extern __typeof__(name) proved_##name
+#define HIDDEN __attribute__((visibility("hidden")))
+#define PROVED(name) extern __typeof__(name) proved_##name HIDDEN
 PROVED(robots_version);
 PROVED(robots_open);
 PROVED(robots_query);
 PROVED(robots_query_within);
 PROVED(robots_query_many);
-PROVED(robots_share);
 PROVED(robots_query_delay);
 PROVED(robots_close);
 PROVED(robots_decide);
-PROVED(robots_matrix);
-PROVED(robots_delay);
-PROVED(robots_sitemaps);
-PROVED(robots_agents);
 PROVED(robots_site_open);
 PROVED(robots_site_robot);
 PROVED(robots_site_matrix);
@@ -24,7 +20,6 @@ PROVED(robots_site_delay);
 PROVED(robots_site_sitemaps);
 PROVED(robots_site_agents);
 PROVED(robots_site_is_named);
-PROVED(robots_site_share);
 PROVED(robots_site_close);
 PROVED(robots_address);
 PROVED(robots_response_meaning);
@@ -32,13 +27,13 @@ PROVED(robots_may_fetch);
 PROVED(robots_line);
 
 /* These proved functions write the number, and their status is 0. */
-extern int32_t proved_robots_cost(const robots *robot, size_t length, uint64_t *cost);
-extern int32_t proved_robots_bytes(const robots *robot, size_t *bytes);
-extern int32_t proved_robots_site_bytes(const robots_site *site, size_t *bytes);
+extern int32_t proved_robots_cost(const robots_robot *robot, size_t length, uint64_t *cost) HIDDEN;
+extern int32_t proved_robots_bytes(const robots_robot *robot, size_t *bytes) HIDDEN;
+extern int32_t proved_robots_site_bytes(const robots_site *site, size_t *bytes) HIDDEN;
 
 /* The proved function has a length for the results, too. */
-extern int32_t proved_robots_query_batch(const robots *robot, const void *urls, size_t urls_len, const size_t *ends, size_t n,
-                                         int64_t *results, size_t results_len);
+extern int32_t proved_robots_query_batch(const robots_robot *robot, const void *urls, size_t urls_len, const size_t *ends, size_t n,
+                                         int64_t *results, size_t results_len) HIDDEN;
 
 /* A text or a buffer, with an address in place of NULL if the length is 0, so that nothing is read or written there. */
 static int64_t nowhere;
@@ -65,8 +60,8 @@ static int32_t with_delay(int32_t status, uint64_t *microseconds, uint64_t delay
 
 uint32_t robots_version(void) { return proved_robots_version(); }
 
-int32_t robots_open(const char *agent, size_t agent_len, const void *file, size_t file_len, robots **robot, size_t *line) {
-    robots *opened = NULL;
+int32_t robots_open(const char *agent, size_t agent_len, const void *file, size_t file_len, robots_robot **robot, size_t *line) {
+    robots_robot *opened = NULL;
     size_t number = 0;
     int32_t status = proved_robots_open(AT(agent, agent_len), AT(file, file_len), &opened, &number);
     if (status == ROBOTS_OK)
@@ -74,7 +69,7 @@ int32_t robots_open(const char *agent, size_t agent_len, const void *file, size_
     return with_line(status, line, number);
 }
 
-int32_t robots_query(const robots *robot, const char *url, size_t url_len, int64_t *result) {
+int32_t robots_query(const robots_robot *robot, const char *url, size_t url_len, int64_t *result) {
     int64_t number = 0;
     int32_t status = proved_robots_query(robot, AT(url, url_len), &number);
     if (status == ROBOTS_OK)
@@ -82,7 +77,7 @@ int32_t robots_query(const robots *robot, const char *url, size_t url_len, int64
     return status;
 }
 
-int32_t robots_query_within(const robots *robot, const char *url, size_t url_len, uint64_t budget, int64_t *result) {
+int32_t robots_query_within(const robots_robot *robot, const char *url, size_t url_len, uint64_t budget, int64_t *result) {
     int64_t number = 0;
     int32_t status = proved_robots_query_within(robot, AT(url, url_len), budget, &number);
     if (status == ROBOTS_OK)
@@ -90,41 +85,33 @@ int32_t robots_query_within(const robots *robot, const char *url, size_t url_len
     return status;
 }
 
-uint64_t robots_cost(const robots *robot, size_t length) {
+uint64_t robots_cost(const robots_robot *robot, size_t length) {
     uint64_t cost = 0;
     proved_robots_cost(robot, length, &cost);
     return cost;
 }
 
-size_t robots_bytes(const robots *robot) {
+size_t robots_bytes(const robots_robot *robot) {
     size_t bytes = 0;
     proved_robots_bytes(robot, &bytes);
     return bytes;
 }
 
-int32_t robots_query_many(const robots *robot, const char *urls, size_t urls_len, int64_t *results, size_t results_len) {
+int32_t robots_query_many(const robots_robot *robot, const char *urls, size_t urls_len, int64_t *results, size_t results_len) {
     return proved_robots_query_many(robot, AT(urls, urls_len), AT(results, results_len));
 }
 
-int32_t robots_query_batch(const robots *robot, const void *urls, size_t urls_len, const size_t *ends, size_t n, int64_t *results) {
+int32_t robots_query_batch(const robots_robot *robot, const void *urls, size_t urls_len, const size_t *ends, size_t n, int64_t *results) {
     return proved_robots_query_batch(robot, AT(urls, urls_len), AT(ends, n), AT(results, n));
 }
 
-int32_t robots_query_delay(const robots *robot, uint64_t *microseconds) {
+int32_t robots_query_delay(const robots_robot *robot, uint64_t *microseconds) {
     uint64_t delay = 0;
     int32_t status = proved_robots_query_delay(robot, &delay);
     return with_delay(status, microseconds, delay);
 }
 
-int32_t robots_share(const robots *robot, robots **other) {
-    robots *opened = NULL;
-    int32_t status = proved_robots_share(robot, &opened);
-    if (status == ROBOTS_OK)
-        *other = opened;
-    return status;
-}
-
-void robots_close(robots *robot) { proved_robots_close(robot); }
+void robots_close(robots_robot *robot) { proved_robots_close(robot); }
 
 int32_t robots_decide(const char *agent, size_t agent_len, const void *file, size_t file_len, const char *urls, size_t urls_len,
                       int64_t *results, size_t results_len, size_t *line) {
@@ -132,29 +119,6 @@ int32_t robots_decide(const char *agent, size_t agent_len, const void *file, siz
     int32_t status =
         proved_robots_decide(AT(agent, agent_len), AT(file, file_len), AT(urls, urls_len), AT(results, results_len), &number);
     return with_line(status, line, number);
-}
-
-int32_t robots_matrix(const char *agents, size_t agents_len, const void *file, size_t file_len, const char *urls, size_t urls_len,
-                      int64_t *results, size_t results_len) {
-    return proved_robots_matrix(AT(agents, agents_len), AT(file, file_len), AT(urls, urls_len), AT(results, results_len));
-}
-
-int32_t robots_delay(const char *agent, size_t agent_len, const void *file, size_t file_len, uint64_t *microseconds) {
-    uint64_t delay = 0;
-    int32_t status = proved_robots_delay(AT(agent, agent_len), AT(file, file_len), &delay);
-    return with_delay(status, microseconds, delay);
-}
-
-int32_t robots_sitemaps(const void *file, size_t file_len, char *out, size_t out_len, size_t *len) {
-    size_t length = 0;
-    int32_t status = proved_robots_sitemaps(AT(file, file_len), AT(out, out_len), &length);
-    return with_length(status, len, length);
-}
-
-int32_t robots_agents(const void *file, size_t file_len, char *out, size_t out_len, size_t *len) {
-    size_t length = 0;
-    int32_t status = proved_robots_agents(AT(file, file_len), AT(out, out_len), &length);
-    return with_length(status, len, length);
 }
 
 int32_t robots_site_open(const void *file, size_t file_len, robots_site **site) {
@@ -165,8 +129,8 @@ int32_t robots_site_open(const void *file, size_t file_len, robots_site **site) 
     return status;
 }
 
-int32_t robots_site_robot(const robots_site *site, const char *agent, size_t agent_len, robots **robot, size_t *line) {
-    robots *opened = NULL;
+int32_t robots_site_robot(const robots_site *site, const char *agent, size_t agent_len, robots_robot **robot, size_t *line) {
+    robots_robot *opened = NULL;
     size_t number = 0;
     int32_t status = proved_robots_site_robot(site, AT(agent, agent_len), &opened, &number);
     if (status == ROBOTS_OK)
@@ -205,14 +169,6 @@ int32_t robots_site_agents(const robots_site *site, char *out, size_t out_len, s
 
 int32_t robots_site_is_named(const robots_site *site, const char *agent, size_t agent_len) {
     return proved_robots_site_is_named(site, AT(agent, agent_len));
-}
-
-int32_t robots_site_share(const robots_site *site, robots_site **other) {
-    robots_site *opened = NULL;
-    int32_t status = proved_robots_site_share(site, &opened);
-    if (status == ROBOTS_OK)
-        *other = opened;
-    return status;
 }
 
 void robots_site_close(robots_site *site) { proved_robots_site_close(site); }

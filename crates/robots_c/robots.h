@@ -1,6 +1,6 @@
 /* robots.h: what a robots.txt file means for a crawler: the URLs that it may fetch, its delay, and the sitemaps.
  *
- *     robots *robot = NULL;
+ *     robots_robot *robot = NULL;
  *     int64_t result;
  *     int32_t status = robots_open(ROBOTS_STRING("MyBot"), file, file_len, &robot, NULL);
  *     if (status != ROBOTS_OK)
@@ -39,22 +39,24 @@
  * MEMORY comes from malloc, realloc and free. A call frees what it allocates, except for a robot or a site that it opens. Another
  * allocator: define rattle_alloc, rattle_realloc and rattle_dealloc in your program, before the archive (docs/GUIDE.md).
  *
- * THREADS. A pointer to a robot or a site is a handle. The rule: each handle, one call at a time; different handles, also shared ones, may
- * be used at the same time. So give each thread its own handle: robots_share and robots_site_share open another one on the same data,
- * copy nothing and need no lock afterwards. If a handle goes from one thread to another, a lock, or the start or the end of a thread, is
- * between their calls. The library has no global state. No call may run in a signal handler, nor in the child of a fork if the process
- * had several threads.
+ * THREADS. A pointer to a robot or a site is a handle, and `const` means what it means in C++: any number of calls with a const handle may
+ * run at the same time, in any threads, also on one handle, without a lock and without copies: such calls only read what is open. After a
+ * fork they may in the child, too, if malloc may be called there, as that of the GNU C library. robots_close and robots_site_close run
+ * alone: after all other calls with the handle, as after the threads that made them were joined. The library has no global state. No call
+ * may run in a signal handler.
  *
  * PRECONDITIONS, which nothing checks: each pointer is valid for its length; the buffers that a call writes overlap none of its
- * other arguments; nobody writes to the texts during a call; a robot is one that robots_open, robots_site_robot or robots_share opened,
- * and a site one that robots_site_open or robots_site_share opened; each is closed once, when no call uses it, in any order. Robots and
- * sites don't need each other, nor the texts that they were opened with. No call keeps a pointer to a text.
+ * other arguments; nobody writes to the texts during a call; a robot is one that robots_open or robots_site_robot opened, and a site one
+ * that robots_site_open opened; each is closed once, in any order. Robots and sites don't need each other, nor the texts that they were
+ * opened with. No call keeps a pointer to a text.
  *
  * PROOF. crates/robots_c/src has a contract for each call, from the file's bytes to every number written; of robots_bytes and
  * robots_site_bytes it has only a lower bound, and tests compare them with malloc. That NULL and
  * uninitialized outputs are allowed isn't in the contracts: bindings/c/robots.c replaces NULL by an address, and single outputs by
- * variables of its own, and that is tested. docs/PROOFS.md states what is proved and what is tested. The compiled library is for Linux on
- * x86-64-v2 processors (SSE4.2, POPCNT). */
+ * variables of its own, and that is tested. Of threads it is proved that robots and sites can be shared between them (Send and Sync), and
+ * that several calls with one handle can have what each requires (robots_lent_to_two_calls); as the logic is one of sequential programs, that
+ * calls which overlap don't disturb each other is tested, by ThreadSanitizer, helgrind and DRD. docs/PROOFS.md states what is proved and
+ * what is tested. The compiled library is for Linux on x86-64-v2 processors (SSE4.2, POPCNT), and on arm64. */
 #ifndef ROBOTS_H
 #define ROBOTS_H
 #include <stdbool.h>
@@ -110,12 +112,12 @@ enum robots_meaning {
 #define ROBOTS_LIFETIME 86400   /* seconds for which a file is used, unless the next can't be reached (RFC 9309, 2.4) */
 
 /* A file as one crawler reads it: its rules and delay. */
-typedef struct robots robots;
+typedef struct robots_robot robots_robot;
 
 /* A file that is read once for all crawlers. */
 typedef struct robots_site robots_site;
 
-/* In the matrix of robots_matrix and robots_site_matrix: a rule for this crawler is too long. No result is this number. */
+/* In the matrix of robots_site_matrix: a rule for this crawler is too long. No result is this number. */
 #define ROBOTS_NO_RESULT INT64_MIN
 
 /* A C string as a pointer and a length. The string is evaluated twice. */
@@ -126,107 +128,85 @@ uint32_t robots_version(void);
 
 /* Reads a file for a crawler, and writes a new robot to *robot, which robots_close frees. If the status is ROBOTS_OVERLONG_RULE, and only
  * then, *line is written, unless `line` is NULL: the number of the first line with such a rule. */
-ROBOTS_CHECK int32_t robots_open(const char *agent, size_t agent_len, const void *file, size_t file_len, robots **robot,
+ROBOTS_CHECK int32_t robots_open(const char *agent, size_t agent_len, const void *file, size_t file_len, robots_robot **robot,
                                  size_t *line) ROBOTS_NONNULL(5);
 
 /* Writes the result for one URL. It doesn't allocate for the empty text, a path in which nothing has to be escaped, and most URLs. */
-ROBOTS_CHECK int32_t robots_query(const robots *robot, const char *url, size_t url_len, int64_t *result) ROBOTS_NONNULL(1, 4);
+ROBOTS_CHECK int32_t robots_query(const robots_robot *robot, const char *url, size_t url_len, int64_t *result) ROBOTS_NONNULL(1, 4);
 
 /* robots_query for a robot whose file may be hostile. Each rule that is tried costs one, and each comparison of a byte of the URL one, and
  * no more is spent than the budget. Before a rule that might cost more than is left, it gives up: the status is ROBOTS_TOO_COSTLY, and
  * there is no result. Otherwise the result is that of robots_query. Parsing the URL isn't counted. It allocates. */
-ROBOTS_CHECK int32_t robots_query_within(const robots *robot, const char *url, size_t url_len, uint64_t budget,
+ROBOTS_CHECK int32_t robots_query_within(const robots_robot *robot, const char *url, size_t url_len, uint64_t budget,
                                          int64_t *result) ROBOTS_NONNULL(1, 5);
 
 /* With so much as a budget, robots_query_within doesn't give up for any URL whose path, query and fragment, escaped, have this length. A
  * rule costs one; unless it has more bytes before its first '*' or '$' than this length, it also costs one for each of these bytes, or, if
  * a '*' follows them, two for each byte of the length. The sum is at most UINT64_MAX. It doesn't allocate. */
-uint64_t robots_cost(const robots *robot, size_t length) ROBOTS_NONNULL(1);
+uint64_t robots_cost(const robots_robot *robot, size_t length) ROBOTS_NONNULL(1);
 
-/* How many bytes of memory the robot takes: what robots_open or robots_site_robot allocated and didn't free. A handle that robots_share
- * opens takes 8 more, for a pointer. It doesn't allocate. */
-size_t robots_bytes(const robots *robot) ROBOTS_NONNULL(1);
+/* How many bytes of memory the robot takes: what robots_open or robots_site_robot allocated and didn't free. It doesn't allocate. */
+size_t robots_bytes(const robots_robot *robot) ROBOTS_NONNULL(1);
 
 /* Writes the results for many URLs, in their order. `urls` has one '\n' between one URL and the next, so n of them are n + 1 URLs, and the
  * empty text is one empty URL; for a URL that contains '\n' use robots_query. If there are more URLs than `results_len`, the status is
  * ROBOTS_BUFFER_TOO_SMALL. What is in `results` after the last result isn't touched. */
-ROBOTS_CHECK int32_t robots_query_many(const robots *robot, const char *urls, size_t urls_len, int64_t *results,
+ROBOTS_CHECK int32_t robots_query_many(const robots_robot *robot, const char *urls, size_t urls_len, int64_t *results,
                                        size_t results_len) ROBOTS_NONNULL(1);
 
 /* robots_query_many for URLs that follow one another in a text, without '\n': URL i is the bytes of `urls` from ends[i - 1], or from 0
  * for i = 0, up to but not including ends[i], so an array `large_string` of Arrow that isn't sliced needs no copy: pass its offsets without
  * the first one. A URL may contain '\n', too, and n may be 0. Bytes after the last end belong to no URL. `results` has room for n numbers.
  * If the ends decrease, or one is more than `urls_len`, the status is ROBOTS_INVALID_ENDS. */
-ROBOTS_CHECK int32_t robots_query_batch(const robots *robot, const void *urls, size_t urls_len, const size_t *ends, size_t n,
+ROBOTS_CHECK int32_t robots_query_batch(const robots_robot *robot, const void *urls, size_t urls_len, const size_t *ends, size_t n,
                                         int64_t *results) ROBOTS_NONNULL(1);
 
 /* Writes how many microseconds the crawler waits between two requests. A file may ask for UINT64_MAX: limit the number before you add
  * it to a time. It doesn't allocate: the status is ROBOTS_OK or ROBOTS_NO_DELAY. */
-ROBOTS_CHECK int32_t robots_query_delay(const robots *robot, uint64_t *microseconds) ROBOTS_NONNULL(1, 2);
-
-/* Opens another handle on the same robot for another thread, and writes it to *other, which robots_close frees too. It copies nothing:
- * the status is ROBOTS_OK or ROBOTS_OUT_OF_MEMORY. The last handle that is closed frees the data. */
-ROBOTS_CHECK int32_t robots_share(const robots *robot, robots **other) ROBOTS_NONNULL(1, 2);
+ROBOTS_CHECK int32_t robots_query_delay(const robots_robot *robot, uint64_t *microseconds) ROBOTS_NONNULL(1, 2);
 
 /* Frees a robot, or does nothing if `robot` is NULL. */
-void robots_close(robots *robot);
+void robots_close(robots_robot *robot);
 
 /* robots_open, robots_query_many and robots_close in one call. */
 ROBOTS_CHECK int32_t robots_decide(const char *agent, size_t agent_len, const void *file, size_t file_len, const char *urls,
                                    size_t urls_len, int64_t *results, size_t results_len, size_t *line);
-
-/* Writes the results of many crawlers for many URLs, reading the file once: a row for each crawler and in it a result for each URL, so
- * that the result of crawler i for URL j is results[i * URLs + j], counted from 0. `agents` and `urls` have one '\n' between one item and
- * the next, as in robots_query_many. The results are those of robots_decide; but in the row of a crawler with a rule that is too long
- * each is ROBOTS_NO_RESULT, which robots_may_fetch doesn't allow. If there are more results than `results_len`, the status is
- * ROBOTS_BUFFER_TOO_SMALL. All crawlers that the file doesn't name cost little more than one. */
-ROBOTS_CHECK int32_t robots_matrix(const char *agents, size_t agents_len, const void *file, size_t file_len, const char *urls,
-                                   size_t urls_len, int64_t *results, size_t results_len);
-
-/* robots_query_delay without a robot. No rule of the file matters, so it never returns ROBOTS_OVERLONG_RULE. */
-ROBOTS_CHECK int32_t robots_delay(const char *agent, size_t agent_len, const void *file, size_t file_len,
-                                  uint64_t *microseconds) ROBOTS_NONNULL(5);
-
-/* Writes the sitemaps, which are the same for every crawler, each with '\n' at its end, and their length in bytes to *len. At
- * ROBOTS_BUFFER_TOO_SMALL *len is the length that is needed: call with (NULL, 0, &len) to get it. A buffer of file_len bytes is
- * always large enough. An empty sitemap is written, and one that isn't UTF-8 is left out. No rule of the file matters. */
-ROBOTS_CHECK int32_t robots_sitemaps(const void *file, size_t file_len, char *out, size_t out_len, size_t *len) ROBOTS_NONNULL(5);
-
-/* Writes the names in the file's user-agent lines, as robots_sitemaps writes sitemaps: in the file's order, `*` like any other, and of
- * names that differ only in the case of ASCII letters the first. A name that isn't UTF-8 is left out. */
-ROBOTS_CHECK int32_t robots_agents(const void *file, size_t file_len, char *out, size_t out_len, size_t *len) ROBOTS_NONNULL(5);
 
 /* Reads a file for all crawlers, and writes a new site to *site, which robots_site_close frees. The status is ROBOTS_OK or
  * ROBOTS_OUT_OF_MEMORY: a rule that is too long is an error only for the crawlers that it applies to. */
 ROBOTS_CHECK int32_t robots_site_open(const void *file, size_t file_len, robots_site **site) ROBOTS_NONNULL(3);
 
 /* robots_open for a site, with the same robot, errors and line. The robot stays open when the site is closed. */
-ROBOTS_CHECK int32_t robots_site_robot(const robots_site *site, const char *agent, size_t agent_len, robots **robot,
+ROBOTS_CHECK int32_t robots_site_robot(const robots_site *site, const char *agent, size_t agent_len, robots_robot **robot,
                                        size_t *line) ROBOTS_NONNULL(1, 4);
 
-/* robots_matrix for a site. */
+/* Writes the results of many crawlers for many URLs: a row for each crawler and in it a result for each URL, so that the result of
+ * crawler i for URL j is results[i * URLs + j], counted from 0. `agents` and `urls` have one '\n' between one item and the next, as in
+ * robots_query_many. The results are those of the crawlers' robots; but in the row of a crawler with a rule that is too long each is
+ * ROBOTS_NO_RESULT, which robots_may_fetch doesn't allow. If there are more results than `results_len`, the status is
+ * ROBOTS_BUFFER_TOO_SMALL. All crawlers that the file doesn't name cost little more than one. */
 ROBOTS_CHECK int32_t robots_site_matrix(const robots_site *site, const char *agents, size_t agents_len, const char *urls,
                                         size_t urls_len, int64_t *results, size_t results_len) ROBOTS_NONNULL(1);
 
-/* robots_delay for a site. It doesn't allocate. */
+/* robots_query_delay for a site. No rule of the file matters, so it never returns ROBOTS_OVERLONG_RULE. It doesn't allocate. */
 ROBOTS_CHECK int32_t robots_site_delay(const robots_site *site, const char *agent, size_t agent_len,
                                        uint64_t *microseconds) ROBOTS_NONNULL(1, 4);
 
 /* robots_bytes for a site: what robots_site_open allocated and didn't free. It doesn't allocate. */
 size_t robots_site_bytes(const robots_site *site) ROBOTS_NONNULL(1);
 
-/* robots_sitemaps for a site. */
+/* Writes the sitemaps, which are the same for every crawler, each with '\n' at its end, and their length in bytes to *len. At
+ * ROBOTS_BUFFER_TOO_SMALL *len is the length that is needed: call with (NULL, 0, &len) to get it. A buffer as long as the file is
+ * always large enough. An empty sitemap is written, and one that isn't UTF-8 is left out. No rule of the file matters. */
 ROBOTS_CHECK int32_t robots_site_sitemaps(const robots_site *site, char *out, size_t out_len, size_t *len) ROBOTS_NONNULL(1, 4);
 
-/* robots_agents for a site. */
+/* Writes the names in the file's user-agent lines, as robots_site_sitemaps writes sitemaps: in the file's order, `*` like any other, and
+ * of names that differ only in the case of ASCII letters the first. A name that isn't UTF-8 is left out. */
 ROBOTS_CHECK int32_t robots_site_agents(const robots_site *site, char *out, size_t out_len, size_t *len) ROBOTS_NONNULL(1, 4);
 
 /* Returns 1 if a user-agent line names the crawler, 0 if none does, or ROBOTS_NOT_UTF8. All crawlers that none names have the robot of
  * `*`, so they can share it. It doesn't allocate. */
 ROBOTS_CHECK int32_t robots_site_is_named(const robots_site *site, const char *agent, size_t agent_len) ROBOTS_NONNULL(1);
-
-/* robots_share for a site; robots_site_close frees *other. */
-ROBOTS_CHECK int32_t robots_site_share(const robots_site *site, robots_site **other) ROBOTS_NONNULL(1, 2);
 
 /* Frees a site, or does nothing if `site` is NULL. */
 void robots_site_close(robots_site *site);

@@ -57,7 +57,7 @@ def run(words, **options):
 needs("cffi", "pip", "setuptools", "wheel")
 if not Path(sysconfig.get_path("include"), "Python.h").is_file():
     pytest.skip(f"{sys.executable} has no Python.h", allow_module_level=True)
-SOURCES = [archive(), PACKAGE.parent / "c/Makefile", PACKAGE.parent / "c/robots.c"]
+SOURCES = [archive(), *(PACKAGE.parent / "c" / name for name in ("Makefile", "robots.c", "heap.c"))]
 SOURCES += [PACKAGE / name for name in ("pyproject.toml", "setup.py", "README.md")]
 SOURCES += [*(PACKAGE / "native").iterdir(), *(PACKAGE / "src/texting_robots").glob("*.*")]
 with locked(PACKAGE):

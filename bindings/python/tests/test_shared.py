@@ -1,5 +1,4 @@
-"""native/shared.c, which lets threads share a file, called from C with sanitizers: each block is freed once, when its last user is gone, and
-each call that uses a site or a robot holds its lock."""
+"""native/shared.c, by which threads share a file, called from C with sanitizers: each block is freed once, when its last user is gone."""
 
 import subprocess
 from pathlib import Path
@@ -11,23 +10,45 @@ from support import CC, Result, compiled, run
 NATIVE = Path(__file__).resolve().parent.parent / "native"
 
 PROGRAM = r"""
+#include "shared.c"
 #include <pthread.h>
 #include <stdio.h>
-#include <string.h>
-static int locked, unlocked;
-static int lock(pthread_mutex_t *mutex) { return locked++, pthread_mutex_lock(mutex); }
-static int unlock(pthread_mutex_t *mutex) { return unlocked++, pthread_mutex_unlock(mutex); }
-#define pthread_mutex_lock lock
-#define pthread_mutex_unlock unlock
-#include "shared.c"
 
 static int failures;
 
-/* Says which condition doesn't hold, or that a call took another number of locks. */
-static void check(const char *name, int holds, int locks) {
-    if (!holds || locked != locks || unlocked != locks)
-        failures++, printf("%s: %s, %d locks\n", name, holds ? "right" : "wrong", locked);
-    locked = unlocked = 0;
+/* Says which condition doesn't hold. */
+static void check(const char *name, int holds) {
+    if (!holds)
+        failures++, printf("%s is wrong\n", name);
+}
+
+static void *use(void *given) {
+    struct site *site = given;
+    int64_t results[2];
+    size_t right = 0;
+    for (int i = 0; i < 200; i++) {
+        struct robot *one = robot_open(site, "one", 3), *own = robot_open(site, "own", 3);
+        right += robot_query(one, "/a", 2) == -2 && robot_query(own, "/a", 2) == 0 && robot_bytes(one) == 0 && robot_bytes(own) > 0
+            && site_bytes(site) > 0 && site_matrix(site, "x", 1, "/a", 2, results, 2) == ROBOTS_OK && results[0] == -2;
+        robot_close(one);
+        robot_close(own);
+    }
+    return right == 200 ? site : NULL;
+}
+
+static void share(void) {
+    const char file[] = "User-agent: *\nDisallow: /a\nUser-agent: own\nDisallow: /b";
+    struct site *site = site_open(file, sizeof file - 1);
+    pthread_t threads[16];
+    int right = 0;
+    for (int i = 0; i < 16; i++)
+        right += pthread_create(&threads[i], NULL, use, site) == 0;
+    for (int i = 0; i < 16; i++) {
+        void *used = NULL;
+        right += pthread_join(threads[i], &used) == 0 && used == site;
+    }
+    check("what threads share", right == 32);
+    site_close(site);
 }
 
 int main(void) {
@@ -35,43 +56,51 @@ int main(void) {
     memset(file + strlen(file), 'a', 4096);
     int64_t results[2];
     uint64_t delay = 0;
-    size_t length = 0;
+    size_t length = 0, ends[2] = {2, 4};
     struct site *site = site_open(file, strlen(file));
     struct robot *one = robot_open(site, "one", 3);
-    check("a robot", one != NULL, 1);
+    check("a robot", one != NULL);
     struct robot *two = robot_open(site, "two", 3);
-    check("the same for all that no line names", one == two, 1);
+    check("the same for all that no line names", one == two);
     robot_close(one);
     robot_close(two);
-    check("closed", 1, 0);
     one = robot_open(site, "one", 3);
-    check("again", one == two && robot_query(one, "/a", 2) == -2, 2);
-    check("many", robot_query_many(one, "/a\n/b", 5, results, 2) == ROBOTS_OK && results[0] == -2 && results[1] == 0, 1);
+    check("again", one == two && robot_query(one, "/a", 2) == -2);
+    check("many", robot_query_many(one, "/a\n/b", 5, results, 2) == ROBOTS_OK && results[0] == -2 && results[1] == 0);
+    check("a batch", robot_query_batch(one, "/b/a", 4, ends, 2, results) == ROBOTS_OK && results[0] == 0 && results[1] == -2);
+    check("the delay of a robot", robot_delay(one, &delay) == ROBOTS_OK && delay == 1000000);
     struct robot *own = robot_open(site, "long", 4);
-    check("a rule that is too long", own != one && robot_overlong_line(own) == 6, 1);
-    check("no query", robot_query(own, "/a", 2) == NO_RESULT - ROBOTS_OVERLONG_RULE, 0);
-    check("no queries", robot_query_many(own, "/a", 2, results, 2) == ROBOTS_OVERLONG_RULE, 0);
-    check("what isn't UTF-8", robot_query(one, "\xFF", 1) == NO_RESULT - ROBOTS_NOT_UTF8, 1);
-    check("a matrix", site_matrix(site, "x", 1, "/a", 2, results, 2) == ROBOTS_OK && results[0] == -2, 1);
-    check("a delay", site_delay(site, "x", 1, &delay) == ROBOTS_OK && delay == 1000000, 1);
-    check("sitemaps", site_sitemaps(site, text, 9, &length) == ROBOTS_OK && length == 2, 1);
-    check("agents", site_agents(site, text, 9, &length) == ROBOTS_OK && length == 7, 1);
-    check("named", site_is_named(site, "LONG", 4) == 1, 1);
-    check("not named", site_is_named(site, "Lon", 3) == 0, 1);
+    check("a rule that is too long", own != one && robot_overlong_line(own) == 6);
+    check("no query", robot_query(own, "/a", 2) == NO_RESULT - ROBOTS_OVERLONG_RULE);
+    check("no queries", robot_query_many(own, "/a", 2, results, 2) == ROBOTS_OVERLONG_RULE);
+    check("what isn't UTF-8", robot_query(one, "\xFF", 1) == NO_RESULT - ROBOTS_NOT_UTF8);
+    check("a matrix", site_matrix(site, "x", 1, "/a", 2, results, 2) == ROBOTS_OK && results[0] == -2);
+    check("a delay", site_delay(site, "x", 1, &delay) == ROBOTS_OK && delay == 1000000);
+    check("sitemaps", site_sitemaps(site, text, 9, &length) == ROBOTS_OK && length == 2);
+    check("agents", site_agents(site, text, 9, &length) == ROBOTS_OK && length == 7);
+    check("named", site_is_named(site, "LONG", 4) == 1);
+    check("not named", site_is_named(site, "Lon", 3) == 0);
     site_close(site);
-    check("without the site", robot_query(one, "/a", 2) == -2, 1);
+    check("without the site", robot_query(one, "/a", 2) == -2);
+    robot_close(one);
+    robot_close(own);
+    one = robot_of_file(file, strlen(file), "one", 3);
+    own = robot_of_file(file, strlen(file), "long", 4);
+    check("robots of a file", robot_query(one, "/a", 2) == -2 && robot_bytes(one) > 0 && robot_overlong_line(own) == 6);
     robot_close(one);
     robot_close(own);
     site_close(site_open("", 0));
+    share();
     return failures;
 }
 """
 
 
-def test_called_from_c(objects, tmp_path):
-    sanitizers = ["-g", "-fsanitize=address,undefined", "-fno-sanitize-recover=all"]
-    if subprocess.run([CC, *sanitizers, "-xc", "-", "-o", "/dev/null"], input="int main(void) { return 0; }", text=True, capture_output=True).returncode:
+@pytest.mark.parametrize("sanitizers", ["address,undefined", "thread"])
+def test_called_from_c(objects, tmp_path, sanitizers):
+    words = ["-g", f"-fsanitize={sanitizers}", "-fno-sanitize-recover=all"]
+    if subprocess.run([CC, *words, "-xc", "-", "-o", "/dev/null"], input="int main(void) { return 0; }", text=True, capture_output=True).returncode:
         pytest.skip("the compiler has no sanitizers")
     (tmp_path / "program.c").write_text(PROGRAM)
-    words = ["-Wno-unused-function", *sanitizers, f"-I{LIBRARY}", f"-I{NATIVE}", "-pthread", tmp_path / "program.c", *objects]
+    words += ["-Wno-unused-function", f"-I{LIBRARY}", f"-I{NATIVE}", "-pthread", tmp_path / "program.c", *objects]
     assert run(compiled(tmp_path / "program", *words)) == Result(0, "", "")

@@ -109,9 +109,10 @@ def test_a_library_that_is_not_where_robots_c_says(tmp_path):
 
 
 def test_another_platform():
-    words = f"import platform, runpy; platform.machine = lambda: 'aarch64'; runpy.run_path('{package.PACKAGE}/native/build.py')"
+    words = f"import runpy, sysconfig; sysconfig.get_platform = lambda: 'macosx-14.0-arm64'; runpy.run_path('{package.PACKAGE}/native/build.py')"
     ended = subprocess.run([sys.executable, "-c", words], env=package.WITH_PACKAGE, capture_output=True, text=True)
-    assert (ended.returncode, ended.stderr) == (1, "the C library robots_c is for Linux on x86-64 only\n")
+    message = "texting_robots can't be installed here: its C library is for Linux on x86_64 and aarch64, and this is macosx-14.0-arm64\n"
+    assert (ended.returncode, ended.stderr) == (1, message)
 
 
 def test_a_source_distribution_is_built_with_an_installed_library(installed, tmp_path):

@@ -38,7 +38,7 @@ fn ask() -> Result<bool, Box<dyn error::Error>> {
         Some(delay) => println!("delay {}", delay.as_micros()),
         None => println!("delay none"),
     }
-    for sitemap in &robot.sitemaps {
+    for sitemap in robot.sitemaps.iter() {
         println!("sitemap {sitemap}");
     }
     let mut denied = false;

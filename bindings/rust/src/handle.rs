@@ -2,38 +2,36 @@
 
 use std::os::raw::c_char;
 use std::ptr::{self, NonNull};
-use std::sync::{Mutex, MutexGuard, PoisonError};
 
 use texting_robots_c_sys as sys;
 
 use crate::error::{check, Error};
 
 /// A robot that is open until this value is dropped.
-pub(crate) struct Robot(Handle<sys::robots>);
+pub(crate) struct Robot(Handle<sys::robots_robot>);
 
 /// A site that is open until this value is dropped.
 pub(crate) struct Site(Handle<sys::robots_site>);
 
-/// A handle of the C library, whose lock keeps its rule for threads: each handle, one call at a time.
-struct Handle<T>(Mutex<NonNull<T>>);
+/// A handle of the C library.
+struct Handle<T>(NonNull<T>);
 
-// SAFETY: a handle belongs to no thread, and the lock is between the calls of two threads, as robots.h asks.
+// SAFETY: a handle belongs to no thread, and any number of calls that only read what is open may run at the same time, as robots.h says.
 unsafe impl<T> Send for Handle<T> {}
 unsafe impl<T> Sync for Handle<T> {}
 
 impl<T> Handle<T> {
     fn new(opened: *mut T) -> Handle<T> {
-        Handle(Mutex::new(NonNull::new(opened).expect("robots.h: what is open isn't NULL")))
+        Handle(NonNull::new(opened).expect("robots.h: what is open isn't NULL"))
     }
 
-    /// Until the guard is dropped, at the end of the statement, no other call uses this handle.
-    fn lock(&self) -> MutexGuard<'_, NonNull<T>> {
-        self.0.lock().unwrap_or_else(PoisonError::into_inner)
+    fn as_ptr(&self) -> *mut T {
+        self.0.as_ptr()
     }
 }
 
 // SAFETY, of each call below: each text is a slice, so its pointer is valid for its length; what is written is a variable or a buffer of
-// this module, which overlaps nothing; and what is open is borrowed, so that nobody closes it during the call, and locked.
+// this module, which overlaps nothing; and what is open is borrowed, so that nobody closes it during the call.
 
 impl Site {
     pub(crate) fn open(txt: &[u8]) -> Result<Site, Error> {
@@ -45,17 +43,10 @@ impl Site {
     pub(crate) fn robot(&self, agent: &str) -> Result<Robot, Error> {
         let (mut robot, mut line) = (ptr::null_mut(), 0);
         let status = unsafe {
-            sys::robots_site_robot(self.0.lock().as_ptr(), agent.as_ptr().cast(), agent.len(), &mut robot, &mut line)
+            sys::robots_site_robot(self.0.as_ptr(), agent.as_ptr().cast(), agent.len(), &mut robot, &mut line)
         };
         check(status, line)?;
         Ok(Robot(Handle::new(robot)))
-    }
-
-    /// Another handle on the same site.
-    pub(crate) fn share(&self) -> Result<Site, Error> {
-        let mut other = ptr::null_mut();
-        check(unsafe { sys::robots_site_share(self.0.lock().as_ptr(), &mut other) }, 0)?;
-        Ok(Site(Handle::new(other)))
     }
 
     /// The results for texts with a line feed between one item and the next.
@@ -64,7 +55,7 @@ impl Site {
             let (agents, agents_len, urls, urls_len) =
                 (agents.as_ptr().cast(), agents.len(), urls.as_ptr().cast(), urls.len());
             sys::robots_site_matrix(
-                self.0.lock().as_ptr(),
+                self.0.as_ptr(),
                 agents,
                 agents_len,
                 urls,
@@ -78,33 +69,33 @@ impl Site {
 
     pub(crate) fn delay(&self, agent: &str) -> Option<u64> {
         let mut delay = 0;
-        let status = unsafe { sys::robots_site_delay(self.0.lock().as_ptr(), agent.as_ptr().cast(), agent.len(), &mut delay) };
+        let status = unsafe { sys::robots_site_delay(self.0.as_ptr(), agent.as_ptr().cast(), agent.len(), &mut delay) };
         (status == sys::ROBOTS_OK).then_some(delay)
     }
 
     pub(crate) fn bytes(&self) -> usize {
-        unsafe { sys::robots_site_bytes(self.0.lock().as_ptr()) }
+        unsafe { sys::robots_site_bytes(self.0.as_ptr()) }
     }
 
     pub(crate) fn is_named(&self, agent: &str) -> bool {
-        unsafe { sys::robots_site_is_named(self.0.lock().as_ptr(), agent.as_ptr().cast(), agent.len()) == 1 }
+        unsafe { sys::robots_site_is_named(self.0.as_ptr(), agent.as_ptr().cast(), agent.len()) == 1 }
     }
 
     /// The length of the file is enough room, so one call suffices.
     pub(crate) fn sitemaps(&self, room: usize) -> Result<Vec<String>, Error> {
         Ok(lines(&written(room, |out, room, len| unsafe {
-            sys::robots_site_sitemaps(self.0.lock().as_ptr(), out, room, len)
+            sys::robots_site_sitemaps(self.0.as_ptr(), out, room, len)
         })?))
     }
 
     pub(crate) fn agents(&self) -> Result<Vec<String>, Error> {
-        Ok(lines(&written(1024, |out, room, len| unsafe { sys::robots_site_agents(self.0.lock().as_ptr(), out, room, len) })?))
+        Ok(lines(&written(1024, |out, room, len| unsafe { sys::robots_site_agents(self.0.as_ptr(), out, room, len) })?))
     }
 }
 
 impl Drop for Site {
     fn drop(&mut self) {
-        unsafe { sys::robots_site_close(self.0.lock().as_ptr()) }
+        unsafe { sys::robots_site_close(self.0.as_ptr()) }
     }
 }
 
@@ -112,44 +103,37 @@ impl Robot {
     /// 0, the line that allows the URL, or minus the line that denies it.
     pub(crate) fn query(&self, url: &str) -> Result<i64, Error> {
         let mut result = 0;
-        check(unsafe { sys::robots_query(self.0.lock().as_ptr(), url.as_ptr().cast(), url.len(), &mut result) }, 0)?;
+        check(unsafe { sys::robots_query(self.0.as_ptr(), url.as_ptr().cast(), url.len(), &mut result) }, 0)?;
         Ok(result)
     }
 
     pub(crate) fn query_within(&self, url: &str, budget: u64) -> Result<i64, Error> {
         let mut result = 0;
         let status = unsafe {
-            sys::robots_query_within(self.0.lock().as_ptr(), url.as_ptr().cast(), url.len(), budget, &mut result)
+            sys::robots_query_within(self.0.as_ptr(), url.as_ptr().cast(), url.len(), budget, &mut result)
         };
         check(status, 0)?;
         Ok(result)
     }
 
     pub(crate) fn cost(&self, len: usize) -> u64 {
-        unsafe { sys::robots_cost(self.0.lock().as_ptr(), len) }
+        unsafe { sys::robots_cost(self.0.as_ptr(), len) }
     }
 
     pub(crate) fn bytes(&self) -> usize {
-        unsafe { sys::robots_bytes(self.0.lock().as_ptr()) }
-    }
-
-    /// Another handle on the same robot.
-    pub(crate) fn share(&self) -> Result<Robot, Error> {
-        let mut other = ptr::null_mut();
-        check(unsafe { sys::robots_share(self.0.lock().as_ptr(), &mut other) }, 0)?;
-        Ok(Robot(Handle::new(other)))
+        unsafe { sys::robots_bytes(self.0.as_ptr()) }
     }
 
     /// In microseconds.
     pub(crate) fn delay(&self) -> Option<u64> {
         let mut delay = 0;
-        (unsafe { sys::robots_query_delay(self.0.lock().as_ptr(), &mut delay) } == sys::ROBOTS_OK).then_some(delay)
+        (unsafe { sys::robots_query_delay(self.0.as_ptr(), &mut delay) } == sys::ROBOTS_OK).then_some(delay)
     }
 }
 
 impl Drop for Robot {
     fn drop(&mut self) {
-        unsafe { sys::robots_close(self.0.lock().as_ptr()) }
+        unsafe { sys::robots_close(self.0.as_ptr()) }
     }
 }
 

@@ -2,8 +2,10 @@
 #![deny(missing_docs, unsafe_op_in_unsafe_fn)]
 
 use std::fmt;
+use std::sync::Arc;
 use std::time::Duration;
 
+pub mod compat;
 mod error;
 mod handle;
 mod response;
@@ -36,15 +38,16 @@ impl Decision {
 
 /// A robots.txt file as one crawler reads it.
 ///
-/// Threads can share it, and then wait for each other's calls. So give each thread a clone: it has the same rules, not a copy of them, and
-/// no thread waits.
+/// Threads can share it, and none waits for another. A clone has the same rules and sitemaps, not copies.
+#[derive(Clone)]
 pub struct Robot {
     /// How long the crawler waits between two requests, if the file specifies that. It may be half a million years, so limit it before
     /// you add it to a time.
     pub delay: Option<Duration>,
-    /// The sitemaps that the file lists, in its order: also empty ones, but none that isn't UTF-8. They are the same for every crawler.
-    pub sitemaps: Vec<String>,
-    rules: handle::Robot,
+    /// The sitemaps that the file lists, in its order: also empty ones, but none that isn't UTF-8. They are the same for every crawler,
+    /// and all robots of a site share them.
+    pub sitemaps: Arc<[String]>,
+    rules: Arc<handle::Robot>,
 }
 
 impl Robot {
@@ -55,12 +58,11 @@ impl Robot {
     ///
     /// [`Error::OverlongRule`] and [`Error::OutOfMemory`].
     pub fn new(agent: &str, txt: &[u8]) -> Result<Robot, Error> {
-        let Site { sitemaps, lines } = Site::new(txt)?;
-        Ok(Robot::of(lines.robot(agent)?, sitemaps))
+        Site::new(txt)?.robot(agent)
     }
 
-    fn of(rules: handle::Robot, sitemaps: Vec<String>) -> Robot {
-        Robot { delay: rules.delay().map(Duration::from_micros), sitemaps, rules }
+    fn of(rules: handle::Robot, sitemaps: Arc<[String]>) -> Robot {
+        Robot { delay: rules.delay().map(Duration::from_micros), sitemaps, rules: Arc::new(rules) }
     }
 
     /// Whether the crawler may fetch this: an absolute URL or a path. Any other text, such as `example.com/a`, is compared with the rules
@@ -110,18 +112,6 @@ impl Robot {
     }
 }
 
-impl Clone for Robot {
-    /// The same rules for another thread. They aren't copied; the sitemaps are.
-    ///
-    /// # Panics
-    ///
-    /// If an allocation fails.
-    fn clone(&self) -> Robot {
-        let rules = self.rules.share().expect("memory for a handle");
-        Robot { delay: self.delay, sitemaps: self.sitemaps.clone(), rules }
-    }
-}
-
 impl fmt::Debug for Robot {
     fn fmt(&self, f: &mut fmt::Formatter<'_>) -> fmt::Result {
         f.debug_struct("Robot").field("delay", &self.delay).field("sitemaps", &self.sitemaps).finish_non_exhaustive()
@@ -130,12 +120,12 @@ impl fmt::Debug for Robot {
 
 /// A robots.txt file that is read once for many crawlers.
 ///
-/// Threads can share it, and then wait for each other's calls. So give each thread a clone: it has the same file, not a copy of it, and no
-/// thread waits.
+/// Threads can share it, and none waits for another. A clone has the same file and sitemaps, not copies.
+#[derive(Clone)]
 pub struct Site {
     /// The sitemaps that the file lists, in its order: also empty ones, but none that isn't UTF-8.
-    pub sitemaps: Vec<String>,
-    lines: handle::Site,
+    pub sitemaps: Arc<[String]>,
+    lines: Arc<handle::Site>,
 }
 
 impl Site {
@@ -146,7 +136,7 @@ impl Site {
     /// [`Error::OutOfMemory`].
     pub fn new(txt: &[u8]) -> Result<Site, Error> {
         let lines = handle::Site::open(txt)?;
-        Ok(Site { sitemaps: lines.sitemaps(txt.len().min(FILE_LIMIT))?, lines })
+        Ok(Site { sitemaps: lines.sitemaps(txt.len().min(FILE_LIMIT))?.into(), lines: Arc::new(lines) })
     }
 
     /// A file that allows everything to every crawler.
@@ -227,17 +217,6 @@ impl Site {
     /// Whether a user-agent line names this crawler. All that none names have the same robot, so they can share it.
     pub fn is_named(&self, agent: &str) -> bool {
         self.lines.is_named(agent)
-    }
-}
-
-impl Clone for Site {
-    /// The same file for another thread. It isn't copied; the sitemaps are.
-    ///
-    /// # Panics
-    ///
-    /// If an allocation fails.
-    fn clone(&self) -> Site {
-        Site { sitemaps: self.sitemaps.clone(), lines: self.lines.share().expect("memory for a handle") }
     }
 }
 

@@ -1,6 +1,6 @@
 //! Links the C library. A release has it in the folder `c` of this crate. ROBOTS_C names a folder where `make install` of bindings/c has
-//! put another one, its PREFIX. In the repository, `rt lib` proves and builds it first if that hasn't been done. With DOCS_RS, as on docs.rs,
-//! nothing is linked, so `cargo doc` works on every platform.
+//! put another one, its PREFIX. In the repository, `rt lib` proves and builds it first if that hasn't been done. Where there is none for the
+//! platform, and with DOCS_RS, as on docs.rs, nothing is linked, so `cargo check` and `cargo doc` work, and a warning says why linking fails.
 
 use std::env;
 use std::path::{Path, PathBuf};
@@ -12,15 +12,16 @@ fn main() {
     if env::var_os("DOCS_RS").is_some() {
         return;
     }
-    let [arch, os] = ["ARCH", "OS"].map(|it| env::var(format!("CARGO_CFG_TARGET_{it}")).unwrap());
-    if (&*arch, &*os) != ("x86_64", "linux") {
-        fail(&format!("the C library robots_c is for Linux on x86_64 only, and not for {os} on {arch}"));
+    let [arch, os, abi] = ["ARCH", "OS", "ENV"].map(|it| env::var(format!("CARGO_CFG_TARGET_{it}")).unwrap_or_default());
+    if os != "linux" || abi != "gnu" || !["x86_64", "aarch64"].contains(&&*arch) {
+        return warn(&format!("there is no C library robots_c for {os} on {arch}, only for Linux with the GNU C library on x86_64 and aarch64"));
     }
-    let packed = Path::new(&env::var_os("CARGO_MANIFEST_DIR").unwrap()).join("c/librobots_c.a");
+    let packed = Path::new(&env::var_os("CARGO_MANIFEST_DIR").unwrap()).join(format!("c/{arch}/librobots_c.a"));
     let archive = match env::var_os("ROBOTS_C") {
         Some(installed) => Path::new(&installed).join("lib/librobots_c.a"),
         None if packed.is_file() => packed,
-        None => from_repository(),
+        None if arch == "x86_64" => from_repository(),
+        None => return warn("for aarch64, set ROBOTS_C to the absolute PREFIX of `make install` in bindings/c of the repository"),
     };
     if !archive.is_file() {
         fail(&format!(
@@ -42,7 +43,9 @@ fn from_repository() -> PathBuf {
     }
     let proved = library.join("out/librobots_c.a");
     println!("cargo:rerun-if-changed={}", proved.display());
-    println!("cargo:rerun-if-changed={}", root.join("bindings/c/robots.c").display());
+    for source in ["robots.c", "heap.c"] {
+        println!("cargo:rerun-if-changed={}", root.join("bindings/c").join(source).display());
+    }
     if !proved.is_file() {
         run(Command::new("rt").arg("lib").current_dir(library));
     }
@@ -62,6 +65,11 @@ fn run(command: &mut Command) {
         Ok(status) if status.success() => {}
         ended => fail(&format!("{command:?} failed: {ended:?}")),
     }
+}
+
+/// Says why nothing is linked: only linking fails then.
+fn warn(message: &str) {
+    println!("cargo:warning=texting_robots_c-sys: nothing can be linked: {message}");
 }
 
 fn fail(message: &str) -> ! {

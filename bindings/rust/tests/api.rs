@@ -1,5 +1,6 @@
 //! Each call: its results, its errors, and files of any bytes.
 
+use std::sync::Arc;
 use std::time::Duration;
 
 use texting_robots_c::{
@@ -90,18 +91,18 @@ fn delays() {
 #[test]
 fn sitemaps_and_agents() {
     let sitemaps = ["https://example.com/one.xml", "https://example.com/zwölf.xml"];
-    assert_eq!(robot("FerrisBot", SHOP).sitemaps, sitemaps);
+    assert_eq!(*robot("FerrisBot", SHOP).sitemaps, sitemaps);
     let site =
         Site::new(&[SHOP.as_bytes(), b"User-agent: SLOWBOT\nUser-agent: b\xC3\xB6tbot\nUser-agent: \xFF"].concat())
             .unwrap();
-    assert_eq!(site.sitemaps, sitemaps);
-    assert_eq!(site.robot("x").unwrap().sitemaps, sitemaps);
+    assert_eq!(*site.sitemaps, sitemaps);
+    assert!(Arc::ptr_eq(&site.sitemaps, &site.robot("x").unwrap().clone().sitemaps));
     assert_eq!(site.agents().unwrap(), ["*", "SlowBot", "bötbot"]);
     let (named, many): (String, Vec<String>) =
         (0..1000).map(|n| (format!("User-agent: {n}\nSitemap: {n}\n"), n.to_string())).unzip();
     let site = Site::new(named.as_bytes()).unwrap();
-    assert_eq!((&site.sitemaps, &site.agents().unwrap()), (&many, &many));
-    assert_eq!(robot("x", "Sitemap:\nSitemap: a b\nSitemap:").sitemaps, ["", "a b", ""]);
+    assert_eq!((&*site.sitemaps, site.agents().unwrap()), (&*many, many.clone()));
+    assert_eq!(*robot("x", "Sitemap:\nSitemap: a b\nSitemap:").sitemaps, ["", "a b", ""]);
     assert_eq!(Site::new(b"User-agent:\nUser-agent: a b").unwrap().agents().unwrap(), ["", "a b"]);
     assert!(site.is_named("999") && !site.is_named("1000") && !site.is_named(""));
     assert!(Site::new(b"").unwrap().sitemaps.is_empty() && Site::new(b"").unwrap().agents().unwrap().is_empty());
@@ -149,7 +150,7 @@ fn a_rule_that_is_too_long() {
     assert_eq!(site.delay("FerrisBot"), Some(Duration::from_secs(1)));
     assert_eq!(site.matrix(&["FerrisBot", "Other"], &["/a"]), Ok(vec![vec![None], vec![Some(denied(7))]]));
     assert_eq!(site.matrix(&["FerrisBot", "Other"], &["/\n"]), Ok(vec![vec![None], vec![Some(denied(7))]]));
-    assert_eq!(site.sitemaps, ["x"]);
+    assert_eq!(*site.sitemaps, ["x"]);
 }
 
 #[test]

@@ -12,7 +12,7 @@ fn is_right(robot: &Robot, site: &Site, own: bool) -> bool {
     let agent = if own { "own" } else { "other" };
     let rows = site.matrix(&["other", "own"], &["/a", "/o"]).unwrap();
     let of_site = site.robot(agent).unwrap();
-    [robot, &of_site].iter().all(|it| it.allowed("/a") == own && it.allowed("/o") != own && it.sitemaps == ["s"])
+    [robot, &of_site].iter().all(|it| it.allowed("/a") == own && it.allowed("/o") != own && *it.sitemaps == ["s"])
         && rows.iter().flatten().map(|it| it.unwrap().line).eq([Some(2), None, None, Some(7)])
         && site.delay("other").map(|delay| delay.as_secs()) == Some(3)
         && (site.is_named("own"), site.agents().unwrap().len()) == (true, 2)
@@ -24,7 +24,7 @@ fn threads_share_robots_and_a_site() {
         (Site::new(FILE).unwrap(), Robot::new("other", FILE).unwrap(), Robot::new("own", FILE).unwrap());
     let right = AtomicUsize::new(0);
     thread::scope(|scope| {
-        for _ in 0..4 {
+        for _ in 0..16 {
             scope.spawn(|| {
                 for _ in 0..250 {
                     let both = is_right(&other, &site, false) && is_right(&own, &site, true);
@@ -33,7 +33,7 @@ fn threads_share_robots_and_a_site() {
             });
         }
     });
-    assert_eq!(right.into_inner(), 1000);
+    assert_eq!(right.into_inner(), 4000);
 }
 
 #[test]

@@ -8,24 +8,29 @@ use Rattle.texting_robots.proofs.robot.Robot.TheLaws as Robot-laws
 use Rattle.texting_robots.proofs.site.Site.TheLaws as Site-laws
 use Rattle.texting_robots.specs.contracts.robot.Robot as Robot-type
 use Rattle.texting_robots.specs.contracts.site.Site as Site-type
-use Rattle.robots_c.proofs.shared.Shared.TheLaws as Shared-laws
+use Rattle.robots_c.specs.Kept as kept
+use denote.SharingLaws.{contraction}
+use denote.Struct.Lending.{lent_at_shr_laws}
 use seplogic.Ra.Ura.{Ura}
 use lib.Dec.{T as IsT}
-use base.Fml.{Fml, Lft, Share, ftrue, fsep, feq, Incl, Incl-refl}
+use base.Share
+use base.Fml.{Fml, Lft, Share, ftrue, fat, fsep, feq, Incl, Incl-refl}
 use base.Logic.{SProp, emp, ent, ex, fst∗, snd∗, guard, id⊢, never, sep, via, never_e, wand}
 use contract.Monad.{fact_use}
 use mir.Syntax.{Callee, Fn, Place, Opd as Operand, Body, Ty, call, named, seq, ty_int, ty_ptr, w32, w64}
+use mir.Syntax.{addr_of, copy, deref, place as local_place, rv_opd}
 use mir.Val.{Val, WT, has_ty, vint, vptr}
 use mir.ValLaws.{of_z_fits}
 use prog.Model.{Model}
-use prog.Wp.{Closed, Env, WpFn}
+use prog.Wp.{Closed, Env, WpFn, spot_of}
 use contract.Running.{MachineTables, Running, tables, tables_of}
 use sound.WpLaws.{WpFn-mono}
 use types.Logic.{Logic, sem}
 use types.Kit.{⋆, suffices, Goal, Item, Post, Seq, given, later, some, await, check, by, drop, fjoin, frame}
 use types.Kit.{fsplit, join, lands, learn, move, now, pick, prop, runs, show, split, updating, use1, use0, Go}
 use types.Kit.{use2, assume, fpick}
-use types.Run.{Opds}
+use types.Run.{Opds, Rv}
+use types.ByLocal.{at}
 use denote.Builtin.{i32}
 use denote.Laws.{Are, Is, Ises, Typed, owns_show, shows, showss}
 use denote.Memory.{hidden_shr, shared_of}
@@ -160,6 +165,24 @@ heap 𝓛 g vs is = record {
   is = (heap_typed 𝓛 g vs is).0;
   good = (heap_typed 𝓛 g vs is).1;
 }
+
+-- ---- steps: the next argument is a local; a local; a reference in a local, taken again
+
+module _ {M : Type 1} {𝓤 : Ura M} {𝓛 : Logic 𝓤} {K : Type 0} {Γ : List (Item 𝓤)} {E : Env 𝓤 𝓛.H} {i : ℕ}
+    {s : Share} where
+  pub arg : K → {v : Val} {xs : List Operand} {vs : List Val}
+      → at 𝓛 i Γ ≡ ‵ (fat s (spot_of 𝓤 𝓛.H E i).0 (spot_of 𝓤 𝓛.H E i).1 zero v) → Opds K 𝓛 Γ E xs vs
+      → Opds K 𝓛 Γ E (copy (local_place i []) ∷ xs) (v ∷ vs)
+  arg t is more = and_then t (get t is) more
+
+  pub local : K → {v : Val} → at 𝓛 i Γ ≡ ‵ (fat s (spot_of 𝓤 𝓛.H E i).0 (spot_of 𝓤 𝓛.H E i).1 zero v)
+      → Rv K 𝓛 Γ E (rv_opd (copy (local_place i []))) v
+  local t is = of_opd t (get t is)
+
+  pub again : K → {b o : ℕ} {τ : Ty}
+      → at 𝓛 i Γ ≡ ‵ (fat s (spot_of 𝓤 𝓛.H E i).0 (spot_of 𝓤 𝓛.H E i).1 zero (vptr b o))
+      → Rv K 𝓛 Γ E (addr_of (local_place i (deref τ ∷ []))) (vptr b o)
+  again t is = addr t (through t is (stop t))
 
 -- ---- formulas
 
@@ -371,17 +394,38 @@ module _ {M : Type 1} {𝓤 : Ura M} (𝓛 : Logic 𝓤) where
         check ! is $ show ! (Lent 𝓛 R at x) α $ frame ! $ frame ! $ assume ! (‵ (flft κ full_share)) $
         updating ! $ lft_end ! tt $ lent_back ! tt $ now ! $ fjoin ! $ by ! (closable at x))))
 
-  -- what `robots_open`, `robots_site_robot` and `robots_share` give
+  -- what `robots_open` and `robots_site_robot` give
   pub robots_can_be_lent : (P : Robots.Denot → Type 0) (at : Ptr)
       → ent 𝓤 (sem 𝓛 (opened_at Robots P at)) (CanBeLent 𝓛 Robots P at)
-  robots_can_be_lent = can_be_lent Robots
-      (Shared-laws.the_row_laws Robot-type.the_row Robot-laws.the_row_laws) refl
+  robots_can_be_lent = can_be_lent Robots Robot-laws.the_row_laws refl
 
-  -- what `robots_site_open` and `robots_site_share` give
+  -- what `robots_site_open` gives
   pub sites_can_be_lent : (P : Sites.Denot → Type 0) (at : Ptr)
       → ent 𝓤 (sem 𝓛 (opened_at Sites P at)) (CanBeLent 𝓛 Sites P at)
-  sites_can_be_lent = can_be_lent Sites
-      (Shared-laws.the_row_laws Site-type.the_row Site-laws.the_row_laws) refl
+  sites_can_be_lent = can_be_lent Sites Site-laws.the_row_laws refl
+
+-- What a call requires of a handle suffices for two calls on it at the same time: each gets half of the
+-- token, and the halves that both give back are the whole one. So it suffices for any number of calls.
+abbrev pub LentToTwoCalls : {M : Type 1} {𝓤 : Ura M} → Logic 𝓤 → RattleType → Type 1
+LentToTwoCalls {𝓤 = 𝓤} 𝓛 R = (at : Ptr) (x : R.Denot) (κ : Lft) (q : Share)
+    → let one : Share → SProp 𝓤 = λ s. sem 𝓛 (kept.lends R at (κ, s, x)) in
+    let token : Share → SProp 𝓤 = λ s. sem 𝓛 (flft κ s) in let l = Share.left q in let r = Share.right q in
+    ent 𝓤 (one q) (sep 𝓤 (one l) (sep 𝓤 (one r) (wand 𝓤 (sep 𝓤 (token l) (token r)) (token q))))
+
+module _ {M : Type 1} {𝓤 : Ura M} (𝓛 : Logic 𝓤) where
+  lent_twice : (R : RattleType) → Laws R → LentToTwoCalls 𝓛 R
+  lent_twice R L at x κ q = let l = ‵ (flft κ (Share.left q)) in let r = ‵ (flft κ (Share.right q)) in
+      qed 𝓛 (‵ (kept.lends R at (κ, q, x)) ∷ []) ∵ fsplit ! $
+      use1 𝓛 (‵ (lent_at R at x κ) ⊛ ‵ (lent_at R at x κ))
+      (contraction 𝓛 (lent_at R at x) (lent_at_shr_laws R L.shr_laws at x) κ) $ split ! $ move ! (2 ∷ []) $
+      use1 𝓛 (l ⊛ r) (𝓛.lfts.lft_split κ q) $ split ! $ move ! (2 ∷ 0 ∷ []) $ fjoin ! $ frame ! $
+      move ! (1 ∷ 0 ∷ []) $ fjoin ! $ frame ! $ assume ! (l ⊛ r) $ by ! (𝓛.lfts.lft_join κ q)
+
+  pub robots_lent_to_two_calls : LentToTwoCalls 𝓛 Robots
+  robots_lent_to_two_calls = lent_twice Robots Robot-laws.the_row_laws
+
+  pub sites_lent_to_two_calls : LentToTwoCalls 𝓛 Sites
+  sites_lent_to_two_calls = lent_twice Sites Site-laws.the_row_laws
 
 -- and such a robot is one that the queries take
 pub queries_take_it : (agent file : List ℕ) (x : Robots.Denot) → IsRobotFor agent (bytes_read file) x

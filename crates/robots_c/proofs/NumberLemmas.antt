@@ -5,7 +5,7 @@ use Rattle.std.proofs.Common.{SFits, of_z, take, to_z, w64, ◌-◌, ◌∙◌, 
 use Rattle.std.proofs.Common.{Err, IfErr, Ok, Result, codes, cond, inl, inr}
 use Rattle.std.specs.{Result.IsErrAnd, List.AllZip, List.All, List.list_any, Str.str_to_ascii_lowercase}
 use Rattle.std.proofs.lemmas.{Int.to_z-of_z, Option.slice_get_within, Slice.Zip.AllZip-long}
-use Rattle.std.proofs.lemmas.List.{length-map, length-take, take_more, append_assoc, drop_more, length-append}
+use Rattle.std.proofs.lemmas.List.{length-map, length-take, take_more, append_assoc, length-append}
 use Rattle.std.proofs.lemmas.List.{length-replicate, map_push}
 use Rattle.texting_robots.specs.Callers.{HasLines, IsDecidingLine, IsRobotWithoutSitemaps, IsVerdict}
 use Rattle.texting_robots.specs.Callers.{LineValue, PlacedRule, RobotValue, file_limit, file_lines, nul_as_lf}
@@ -101,11 +101,6 @@ line_below rules text (Some line) fit decides = (fit text line decides).1
 
 -- ---- URLs in one text, each with the place where it ends: what a loop over these places keeps.
 
-pub left_at : (ends : List ℕ) (at end : ℕ) → (at < length ends) × (end ≡ slice_index_or ends at end)
-    → drop at ends ≡ end ∷ drop (at + 1) ends
-left_at ends at end (below, here) =
-    drop_more ends at end below ∙ ap (λ e. e ∷ drop (at + 1) ends) (sym here)
-
 -- these places ascend if and only if all do
 pub record SameAscent (ends : List ℕ) (limit least : ℕ) (left : List ℕ) : Type 0 where
   pub all : Ascend least left limit → Ascend 0 ends limit
@@ -115,9 +110,6 @@ pub record SameUtf8 (text ends : List ℕ) (start : ℕ) (left : List ℕ) : Typ
   pub ascend : Ascend start left (length text)
   pub all : All IsUtf8 (pieces text start left) → All IsUtf8 (pieces text 0 ends)
   pub these : All IsUtf8 (pieces text 0 ends) → All IsUtf8 (pieces text start left)
-
-pub all_left : (text ends : List ℕ) → Ascend 0 ends (length text) → SameUtf8 text ends 0 ends
-all_left text ends are = record { ascend = are; all = λ all. all; these = λ all. all }
 
 pub next_utf8 : (text ends : List ℕ) (start end : ℕ) (left : List ℕ) → SameUtf8 text ends start (end ∷ left)
     → IsUtf8 (take (end - start) (drop start text)) → SameUtf8 text ends end left

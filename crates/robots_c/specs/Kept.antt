@@ -10,13 +10,12 @@ use Rattle.std.specs.contracts.impls.GlobalAllocator.{TheImpl.ghosts}
 use Rattle.std_alloc.specs.Box.{Ownership.box_owns}
 use Rattle.texting_robots.specs.contracts.robot.Robot as Robot-type
 use Rattle.texting_robots.specs.contracts.site.Site as Site-type
-use Rattle.robots_c.specs.contracts.shared.Shared as Shared-type
 
 abbrev pub Robots : RattleType
-Robots = Shared-type.the_row Robot-type.the_row
+Robots = Robot-type.the_row
 
 abbrev pub Sites : RattleType
-Sites = Shared-type.the_row Site-type.the_row
+Sites = Site-type.the_row
 
 -- handles of the heap have no content, so all are equal to this one
 abbrev pub heap : Global

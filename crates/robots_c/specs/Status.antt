@@ -53,9 +53,9 @@ IsWhyNoRobot agent site Memory = IsUtf8 agent
 IsWhyNoRobot agent site (Overlong line) = IsUtf8 agent × IsOverlongLine agent site line
 IsWhyNoRobot agent site _ = ⊥
 
--- making a site, or another handle on what is open
-abbrev pub IsWhyNoHandle : Fault → Type 0
-IsWhyNoHandle fault = fault ≡ Memory
+-- making a site
+abbrev pub IsWhyNoSite : Fault → Type 0
+IsWhyNoSite fault = fault ≡ Memory
 
 -- the results for the URLs in a string, with this capacity for numbers
 abbrev pub IsWhyNoResults : List ℕ → ℕ → Fault → Type 0
@@ -100,15 +100,11 @@ abbrev pub IsWhyNone : Option ℕ → Fault → Type 0
 IsWhyNone delay NoDelay = delay ≡ None
 IsWhyNone delay _ = ⊥
 
--- the delay from a site, which needs no allocation
-abbrev pub IsWhyNoDelayOf : List ℕ → List ℕ → Fault → Type 0
-IsWhyNoDelayOf agent site NotUtf8 = ¬ IsUtf8 agent
-IsWhyNoDelayOf agent site NoDelay = HasDelay agent site None
-IsWhyNoDelayOf agent site _ = ⊥
-
--- the delay from a file, which is read first
+-- the delay of a crawler, which needs no allocation
 abbrev pub IsWhyNoDelay : List ℕ → List ℕ → Fault → Type 0
-IsWhyNoDelay agent site fault = IsWhyNoDelayOf agent site fault ⊎ (IsUtf8 agent × (fault ≡ Memory))
+IsWhyNoDelay agent site NotUtf8 = ¬ IsUtf8 agent
+IsWhyNoDelay agent site NoDelay = HasDelay agent site None
+IsWhyNoDelay agent site _ = ⊥
 
 -- the robots.txt address for the site of a URL that is UTF-8
 abbrev pub IsAddress : List ℕ → List ℕ → Type 0

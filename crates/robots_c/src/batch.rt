@@ -6,7 +6,6 @@ ghost use Rattle.robots_c.specs.{File.IsRobotOfSomeFile, Results.HasResult, Stat
 
 use crate::fault::Fault;
 use crate::file::text_of;
-use crate::shared::Shared;
 use crate::urls::result_for;
 use std::alloc::Global;
 use texting_robots::Robot;
@@ -85,7 +84,7 @@ fn results_at(
 /// Each URL ends at one of these places.
 pub(crate) fn query_batch(
     alloc: Global,
-    robot: &Shared<Robot>,
+    robot: &Robot,
     text: &[u8],
     ends: &[usize],
     out: &mut [i64],
@@ -95,7 +94,7 @@ pub(crate) fn query_batch(
     ensures kept { result ≢ pos 0 → out.new ≡ out.old }
     ensures why { HasFault (IsWhyNoBatch text.now ends.now (length out.old)) result }
 {
-    match results_at(alloc, robot.get(), text, ends, out.len()) {
+    match results_at(alloc, robot, text, ends, out.len()) {
         Ok(numbers) => {
             out[..numbers.len()].copy_from_slice(&numbers);
             0

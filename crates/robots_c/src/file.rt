@@ -1,7 +1,7 @@
 //! What a file means for a crawler.
 ghost use Rattle.std.specs.Prelude.{◌≡◌, IfErr, IfOk, IsUtf8, Some};
 ghost use Rattle.robots_c.specs.File.{HasDelay, IsRobotFor, bytes_read};
-ghost use Rattle.robots_c.specs.Status.{IsWhyNoDelay, IsWhyNoDelayOf, IsWhyNoRobot};
+ghost use Rattle.robots_c.specs.Status.{IsWhyNoDelay, IsWhyNoRobot};
 
 use crate::fault::Fault;
 use std::alloc::Global;
@@ -40,21 +40,10 @@ pub(crate) fn robot_of(alloc: Global, agent: &[u8], file: &[u8]) -> Result<Robot
 /// In microseconds. Rules that are too long don't matter, and it doesn't allocate.
 pub(crate) fn delay_in(site: &Site, agent: &[u8]) -> Result<u64, Fault>
     ensures ok { IfOk result (λ delay. HasDelay agent.now site.now (Some delay)) }
-    ensures fault { IfErr result (IsWhyNoDelayOf agent.now site.now) }
+    ensures fault { IfErr result (IsWhyNoDelay agent.now site.now) }
 {
     match site.delay(text_of(agent)?) {
         Some(delay) => Ok(delay),
         None => Err(Fault::NoDelay),
     }
-}
-
-/// The same from a file.
-pub(crate) fn delay_of(alloc: Global, agent: &[u8], file: &[u8]) -> Result<u64, Fault>
-    ensures ok { IfOk result (λ delay. HasDelay agent.now (bytes_read file.now) (Some delay)) }
-    ensures fault { IfErr result (IsWhyNoDelay agent.now (bytes_read file.now)) }
-{
-    text_of(agent)?;
-    let site = Site::new(alloc, file)?;
-    let delay = delay_in(&site, agent)?;
-    Ok(delay)
 }

@@ -1,30 +1,28 @@
 //! A robot that C keeps between calls.
 ghost use Rattle.std.specs.Prelude.{◌≡◌, ◌≢◌, ◌≤◌, ◌*◌, Some, None, IfErr, IfOk, length, pos};
 ghost use Rattle.robots_c.specs.File.{GivesRobot, IsRobotFor, bytes_read};
-ghost use Rattle.robots_c.specs.Status.{HasFault, HasFaultAt, IsWhyNoHandle, IsWhyNoRobot, IsWhyNone};
+ghost use Rattle.robots_c.specs.Status.{HasFault, HasFaultAt, IsWhyNoRobot, IsWhyNone};
 ghost use Rattle.texting_robots.specs.Callers.{cost_of, seen_of};
 
 use crate::fault::Fault;
 use crate::file::robot_of;
 use crate::kept::{Handle, Kept};
-use crate::shared::{HANDLE_BYTES, Shared};
-use std::alloc::{AllocError, Global};
+use std::alloc::Global;
 use texting_robots::Robot;
 
-pub(crate) fn close(robot: Handle<Shared<Robot>>) {
+pub(crate) fn close(robot: Handle<Robot>) {
     drop(robot.into_box());
 }
 
 /// Compiles only for a type whose values can be sent to other threads and shared between them.
 pub(crate) fn for_any_thread<T: Send + Sync>(_: &T) {}
 
-/// The type in the box can be sent to other threads and shared between them; for what C may do, see
-/// `robots.h`.
-fn open(alloc: Global, agent: &[u8], file: &[u8]) -> Result<Box<Shared<Robot>>, Fault>
+/// For what threads of C may do, see `robots.h`.
+fn open(alloc: Global, agent: &[u8], file: &[u8]) -> Result<Box<Robot>, Fault>
     ensures ok { IfOk result (λ robot. IsRobotFor agent.now (bytes_read file.now) robot.value) }
     ensures fault { IfErr result (IsWhyNoRobot agent.now (bytes_read file.now)) }
 {
-    let robot = Shared::boxed(alloc, robot_of(alloc, agent, file)?)?;
+    let robot = Box::new(alloc, robot_of(alloc, agent, file)?)?;
     for_any_thread(&*robot);
     Ok(robot)
 }
@@ -34,9 +32,9 @@ pub(crate) fn opened(
     alloc: Global,
     agent: &[u8],
     file: &[u8],
-    at: *mut Shared<Robot>,
+    at: *mut Robot,
     line: &mut usize,
-) -> Kept<Shared<Robot>>
+) -> Kept<Robot>
     ensures opened { result.status ≡ pos 0
         → GivesRobot agent.now (bytes_read file.now) (λ robot. result.value ≡ Some robot) }
     ensures kept { result.status ≢ pos 0 → result.at ≡ at }
@@ -48,28 +46,12 @@ pub(crate) fn opened(
     }
 }
 
-/// If that fails, the pointer is `at`.
-pub(crate) fn shared(
-    alloc: Global,
-    robot: &Shared<Robot>,
-    at: *mut Shared<Robot>,
-) -> Kept<Shared<Robot>>
-    ensures opened { result.status ≡ pos 0 → result.value ≡ Some robot.now }
-    ensures kept { result.status ≢ pos 0 → result.at ≡ at }
-    ensures why { HasFault IsWhyNoHandle result.status }
-{
-    match robot.boxed_again(alloc) {
-        Ok(robot) => Kept::boxed(0, robot),
-        Err(AllocError) => Kept::nothing(Fault::Memory.status(), at),
-    }
-}
-
-pub(crate) fn query_delay(robot: &Shared<Robot>, out: &mut u64) -> i32
+pub(crate) fn query_delay(robot: &Robot, out: &mut u64) -> i32
     ensures written { result ≡ pos 0 → robot.now.delay ≡ Some out.new }
     ensures kept { result ≢ pos 0 → out.new ≡ out.old }
     ensures why { HasFault (IsWhyNone robot.now.delay) result }
 {
-    match robot.get().delay {
+    match robot.delay {
         Some(delay) => {
             *out = delay;
             0
@@ -78,18 +60,18 @@ pub(crate) fn query_delay(robot: &Shared<Robot>, out: &mut u64) -> i32
     }
 }
 
-pub(crate) fn cost(robot: &Shared<Robot>, length: usize, out: &mut u64) -> i32
+pub(crate) fn cost(robot: &Robot, length: usize, out: &mut u64) -> i32
     ensures status { result ≡ pos 0 }
     ensures written { out.new ≡ seen_of (cost_of robot.now.rules length) }
 {
-    *out = robot.get().cost(length);
+    *out = robot.cost(length);
     0
 }
 
-pub(crate) fn bytes(robot: &Shared<Robot>, out: &mut usize) -> i32
+pub(crate) fn bytes(robot: &Robot, out: &mut usize) -> i32
     ensures status { result ≡ pos 0 }
     ensures written { seen_of (64 * length robot.now.rules) ≤ out.new }
 {
-    *out = robot.get().bytes().saturating_add(HANDLE_BYTES);
+    *out = robot.bytes();
     0
 }

@@ -2,14 +2,13 @@
 ghost use Rattle.std.specs.Prelude.{◌≡◌, ◌≢◌, ◌<◌, ◌≤◌, ◌*◌, IfErr, IfOk, IfSome, IsUtf8, MatchBool, codes, length, map, pos};
 ghost use Rattle.std.specs.Prelude.{string_bytes};
 ghost use Rattle.std.specs.List.{AllZip};
-ghost use Rattle.robots_c.specs.File.{IsSiteOfSomeFile, bytes_read};
+ghost use Rattle.robots_c.specs.File.{IsSiteOfSomeFile};
 ghost use Rattle.robots_c.specs.Results.{AreRows, HasMatrix, IsMatrixPutIn, IsResultOn, IsRow, LinesFit, items_in};
 ghost use Rattle.robots_c.specs.Status.{HasFault, IsWhyNoMatrix};
 ghost use Rattle.texting_robots.specs.Callers.{prepared};
 
 use crate::fault::Fault;
 use crate::file::text_of;
-use crate::shared::Shared;
 use crate::urls::{count_items, number_on, target_of};
 use std::alloc::{AllocError, Global};
 use texting_robots::{Rejection, Robot, Site};
@@ -137,23 +136,6 @@ fn texts_of<'a>(
     Ok((agents, urls))
 }
 
-pub(crate) fn matrix_of(
-    alloc: Global,
-    agents: &[u8],
-    file: &[u8],
-    urls: &[u8],
-    capacity: usize,
-) -> Result<Vec<i64>, Fault>
-    ensures ok { IfOk result (λ numbers. HasMatrix (bytes_read file.now) agents.now urls.now numbers.items) }
-    ensures capacity { IfOk result (λ numbers. length numbers.items ≤ capacity) }
-    ensures fault { IfErr result (IsWhyNoMatrix agents.now urls.now capacity) }
-{
-    let (agents, urls) = texts_of(agents, urls, capacity)?;
-    let site = Site::new(alloc, file)?;
-    let numbers = matrix(alloc, &site, agents, urls)?;
-    Ok(numbers)
-}
-
 fn matrix_in(
     alloc: Global,
     site: &Site,
@@ -173,7 +155,7 @@ fn matrix_in(
 
 pub(crate) fn matrix_by(
     alloc: Global,
-    site: &Shared<Site>,
+    site: &Site,
     agents: &[u8],
     urls: &[u8],
     out: &mut [i64],
@@ -183,7 +165,7 @@ pub(crate) fn matrix_by(
     ensures kept { result ≢ pos 0 → out.new ≡ out.old }
     ensures why { HasFault (IsWhyNoMatrix agents.now urls.now (length out.old)) result }
 {
-    match matrix_in(alloc, site.get(), agents, urls, out.len()) {
+    match matrix_in(alloc, site, agents, urls, out.len()) {
         Ok(numbers) => {
             out[..numbers.len()].copy_from_slice(&numbers);
             0

@@ -1,7 +1,7 @@
 //! A site that C keeps between calls: a file that is read once for all crawlers.
 ghost use Rattle.std.specs.Prelude.{◌≡◌, ◌≢◌, ◌≤◌, ◌⊎◌, Some, IfErr, IfOk, length, pos};
 ghost use Rattle.robots_c.specs.File.{AreAgents, AreSitemaps, GivesRobot, HasDelay, IsRobotFor, bytes_read};
-ghost use Rattle.robots_c.specs.Status.{HasFault, HasFaultAt, IsWhyNoDelayOf, IsWhyNoHandle, IsWhyNoRobot};
+ghost use Rattle.robots_c.specs.Status.{HasFault, HasFaultAt, IsWhyNoDelay, IsWhyNoSite, IsWhyNoRobot};
 ghost use Rattle.robots_c.specs.Status.{SaysNamed, status_of};
 ghost use Rattle.robots_c.specs.Text.{IsTooLong, IsWritten};
 
@@ -9,31 +9,28 @@ use crate::fault::Fault;
 use crate::file::{delay_in, text_of};
 use crate::handle::for_any_thread;
 use crate::kept::{Handle, Kept};
-use crate::shared::{HANDLE_BYTES, Shared};
 use crate::texts::{agents_in, put, sitemaps_in};
 use std::alloc::{AllocError, Global};
 use texting_robots::{Robot, Site};
 
-pub(crate) fn close(site: Handle<Shared<Site>>) {
+pub(crate) fn close(site: Handle<Site>) {
     drop(site.into_box());
 }
 
-/// The type in the box can be sent to other threads and shared between them; for what C may do, see
-/// `robots.h`.
-fn open(alloc: Global, file: &[u8]) -> Result<Box<Shared<Site>>, Fault>
+fn open(alloc: Global, file: &[u8]) -> Result<Box<Site>, Fault>
     ensures ok { IfOk result (λ site. site.value ≡ bytes_read file.now) }
-    ensures fault { IfErr result IsWhyNoHandle }
+    ensures fault { IfErr result IsWhyNoSite }
 {
-    let site = Shared::boxed(alloc, Site::new(alloc, file)?)?;
+    let site = Box::new(alloc, Site::new(alloc, file)?)?;
     for_any_thread(&*site);
     Ok(site)
 }
 
 /// If that fails, the pointer is `at`.
-pub(crate) fn opened(alloc: Global, file: &[u8], at: *mut Shared<Site>) -> Kept<Shared<Site>>
+pub(crate) fn opened(alloc: Global, file: &[u8], at: *mut Site) -> Kept<Site>
     ensures opened { result.status ≡ pos 0 → result.value ≡ Some (bytes_read file.now) }
     ensures kept { result.status ≢ pos 0 → result.at ≡ at }
-    ensures why { HasFault IsWhyNoHandle result.status }
+    ensures why { HasFault IsWhyNoSite result.status }
 {
     match open(alloc, file) {
         Ok(site) => Kept::boxed(0, site),
@@ -41,54 +38,39 @@ pub(crate) fn opened(alloc: Global, file: &[u8], at: *mut Shared<Site>) -> Kept<
     }
 }
 
-pub(crate) fn shared(
-    alloc: Global,
-    site: &Shared<Site>,
-    at: *mut Shared<Site>,
-) -> Kept<Shared<Site>>
-    ensures opened { result.status ≡ pos 0 → result.value ≡ Some site.now }
-    ensures kept { result.status ≢ pos 0 → result.at ≡ at }
-    ensures why { HasFault IsWhyNoHandle result.status }
-{
-    match site.boxed_again(alloc) {
-        Ok(site) => Kept::boxed(0, site),
-        Err(AllocError) => Kept::nothing(Fault::Memory.status(), at),
-    }
-}
-
-fn robot(alloc: Global, site: &Site, agent: &[u8]) -> Result<Box<Shared<Robot>>, Fault>
+fn robot(alloc: Global, site: &Site, agent: &[u8]) -> Result<Box<Robot>, Fault>
     ensures ok { IfOk result (λ robot. IsRobotFor agent.now site.now robot.value) }
     ensures fault { IfErr result (IsWhyNoRobot agent.now site.now) }
 {
     let agent = text_of(agent)?;
     let robot = site.robot_without_sitemaps(alloc, agent)?;
-    Ok(Shared::boxed(alloc, robot)?)
+    Ok(Box::new(alloc, robot)?)
 }
 
 /// If that fails, the pointer is `at`, and the line of a rule that is too long is written.
 pub(crate) fn robot_opened(
     alloc: Global,
-    site: &Shared<Site>,
+    site: &Site,
     agent: &[u8],
-    at: *mut Shared<Robot>,
+    at: *mut Robot,
     line: &mut usize,
-) -> Kept<Shared<Robot>>
+) -> Kept<Robot>
     ensures opened { result.status ≡ pos 0 → GivesRobot agent.now site.now (λ robot. result.value ≡ Some robot) }
     ensures kept { result.status ≢ pos 0 → result.at ≡ at }
     ensures why { HasFaultAt (IsWhyNoRobot agent.now site.now) result.status line.old line.new }
 {
-    match robot(alloc, site.get(), agent) {
+    match robot(alloc, site, agent) {
         Ok(robot) => Kept::boxed(0, robot),
         Err(fault) => Kept::nothing(fault.status_at(line), at),
     }
 }
 
-pub(crate) fn delay(site: &Shared<Site>, agent: &[u8], out: &mut u64) -> i32
+pub(crate) fn delay(site: &Site, agent: &[u8], out: &mut u64) -> i32
     ensures written { result ≡ pos 0 → HasDelay agent.now site.now (Some out.new) }
     ensures kept { result ≢ pos 0 → out.new ≡ out.old }
-    ensures why { HasFault (IsWhyNoDelayOf agent.now site.now) result }
+    ensures why { HasFault (IsWhyNoDelay agent.now site.now) result }
 {
-    match delay_in(site.get(), agent) {
+    match delay_in(site, agent) {
         Ok(delay) => {
             *out = delay;
             0
@@ -97,45 +79,45 @@ pub(crate) fn delay(site: &Shared<Site>, agent: &[u8], out: &mut u64) -> i32
     }
 }
 
-pub(crate) fn bytes(site: &Shared<Site>, out: &mut usize) -> i32
+pub(crate) fn bytes(site: &Site, out: &mut usize) -> i32
     ensures status { result ≡ pos 0 }
     ensures written { length site.now ≤ out.new }
 {
-    *out = site.get().bytes().saturating_add(HANDLE_BYTES);
+    *out = site.bytes();
     0
 }
 
-pub(crate) fn sitemaps(alloc: Global, site: &Shared<Site>, out: &mut [u8], len: &mut usize) -> i32
+pub(crate) fn sitemaps(alloc: Global, site: &Site, out: &mut [u8], len: &mut usize) -> i32
     ensures written { result ≡ pos 0 → IsWritten (AreSitemaps site.now) out.old out.new len.new }
     ensures buffer_too_small { result ≡ status_of Fault.BufferTooSmall → IsTooLong (AreSitemaps site.now) (length out.old) len.new }
     ensures length_kept { result ≢ pos 0 → result ≢ status_of Fault.BufferTooSmall → len.new ≡ len.old }
     ensures kept { result ≢ pos 0 → out.new ≡ out.old }
     ensures why { (result ≡ pos 0) ⊎ ((result ≡ status_of Fault.BufferTooSmall) ⊎ (result ≡ status_of Fault.Memory)) }
 {
-    match sitemaps_in(alloc, site.get()) {
+    match sitemaps_in(alloc, site) {
         Ok(text) => put(&text, out, len),
         Err(AllocError) => Fault::Memory.status(),
     }
 }
 
-pub(crate) fn agents(alloc: Global, site: &Shared<Site>, out: &mut [u8], len: &mut usize) -> i32
+pub(crate) fn agents(alloc: Global, site: &Site, out: &mut [u8], len: &mut usize) -> i32
     ensures written { result ≡ pos 0 → IsWritten (AreAgents site.now) out.old out.new len.new }
     ensures buffer_too_small { result ≡ status_of Fault.BufferTooSmall → IsTooLong (AreAgents site.now) (length out.old) len.new }
     ensures length_kept { result ≢ pos 0 → result ≢ status_of Fault.BufferTooSmall → len.new ≡ len.old }
     ensures kept { result ≢ pos 0 → out.new ≡ out.old }
     ensures why { (result ≡ pos 0) ⊎ ((result ≡ status_of Fault.BufferTooSmall) ⊎ (result ≡ status_of Fault.Memory)) }
 {
-    match agents_in(alloc, site.get()) {
+    match agents_in(alloc, site) {
         Ok(text) => put(&text, out, len),
         Err(AllocError) => Fault::Memory.status(),
     }
 }
 
-pub(crate) fn is_named(site: &Shared<Site>, agent: &[u8]) -> i32
+pub(crate) fn is_named(site: &Site, agent: &[u8]) -> i32
     ensures { SaysNamed agent.now site.now result }
 {
     match text_of(agent) {
-        Ok(agent) => i32::from(site.get().is_named(agent)),
+        Ok(agent) => i32::from(site.is_named(agent)),
         Err(fault) => fault.status(),
     }
 }

@@ -5,13 +5,12 @@ ghost use base.Fml.{Lft, Share, flft};
 ghost use Rattle.robots_c.specs.{File.AreAgents, Results.IsMatrixPutIn, Text.IsTooLong, Text.IsWritten};
 ghost use Rattle.robots_c.specs.File.{AreSitemaps, HasDelay, IsRobotFor, IsSiteOfSomeFile, bytes_read};
 ghost use Rattle.robots_c.specs.Kept.{Robots, Sites, lends, opens, owned_or_null};
-ghost use Rattle.robots_c.specs.Status.{HasFault, HasFaultAt, IsWhyNoDelayOf, IsWhyNoHandle, IsWhyNoMatrix};
+ghost use Rattle.robots_c.specs.Status.{HasFault, HasFaultAt, IsWhyNoDelay, IsWhyNoSite, IsWhyNoMatrix};
 ghost use Rattle.robots_c.specs.Status.{IsWhyNoRobot, SaysNamed, status_of};
 
 use crate::fault::Fault;
 use crate::kept::{Handle, Kept};
 use crate::matrix::matrix_by;
-use crate::shared::Shared;
 use crate::site;
 use std::alloc::Global;
 use texting_robots::{Robot, Site};
@@ -21,9 +20,9 @@ use texting_robots::{Robot, Site};
 pub extern "C" fn robots_site_open(alloc: Global, file: &[u8], out: &mut *mut u8) -> i32
     ensures* opened { sem 𝓛 (opens Sites (λ site. site ≡ bytes_read file.now) result out.new) }
     ensures kept { result ≢ pos 0 → out.new ≡ out.old }
-    ensures why { HasFault IsWhyNoHandle result }
+    ensures why { HasFault IsWhyNoSite result }
 {
-    let Kept { status, at } = site::opened(alloc, file, *out as *mut Shared<Site>);
+    let Kept { status, at } = site::opened(alloc, file, *out as *mut Site);
     *out = at as *mut u8;
     status
 }
@@ -47,16 +46,18 @@ pub unsafe extern "C" fn robots_site_robot(
 {
     let Kept { status, at } = site::robot_opened(
         alloc,
-        &*(site as *const Shared<Site>),
+        &*(site as *const Site),
         agent,
-        *out as *mut Shared<Robot>,
+        *out as *mut Robot,
         line,
     );
     *out = at as *mut u8;
     status
 }
 
-/// Writes a matrix of numbers, as `robots_matrix` does.
+/// Writes a matrix of numbers: a row for each crawler with a number for each URL, as `robots_decide` does.
+/// The crawlers are one string, and the URLs another, separated by LF. In the row of a crawler for which the
+/// file is rejected, each number is the least `i64`.
 #[unsafe(no_mangle)]
 pub unsafe extern "C" fn robots_site_matrix(
     alloc: Global,
@@ -73,10 +74,10 @@ pub unsafe extern "C" fn robots_site_matrix(
     ensures kept { result ≢ pos 0 → out.new ≡ out.old }
     ensures why { HasFault (IsWhyNoMatrix agents.now urls.now (length out.old)) result }
 {
-    matrix_by(alloc, &*(site as *const Shared<Site>), agents, urls, out)
+    matrix_by(alloc, &*(site as *const Site), agents, urls, out)
 }
 
-/// Writes a crawler's delay, as `robots_delay` does. It doesn't allocate.
+/// Writes a crawler's delay in microseconds. It doesn't allocate.
 #[unsafe(no_mangle)]
 pub unsafe extern "C" fn robots_site_delay(site: *const u8, agent: &[u8], out: &mut u64) -> i32
     ghost g: { Lft × Share × List ℕ }
@@ -84,9 +85,9 @@ pub unsafe extern "C" fn robots_site_delay(site: *const u8, agent: &[u8], out: &
     ensures* lent { sem 𝓛 (flft g.0 g.1) }
     ensures written { result ≡ pos 0 → HasDelay agent.now g.2 (Some out.new) }
     ensures kept { result ≢ pos 0 → out.new ≡ out.old }
-    ensures why { HasFault (IsWhyNoDelayOf agent.now g.2) result }
+    ensures why { HasFault (IsWhyNoDelay agent.now g.2) result }
 {
-    site::delay(&*(site as *const Shared<Site>), agent, out)
+    site::delay(&*(site as *const Site), agent, out)
 }
 
 /// Writes how many bytes of memory the site takes with this handle. It doesn't allocate.
@@ -98,10 +99,11 @@ pub unsafe extern "C" fn robots_site_bytes(site: *const u8, out: &mut usize) -> 
     ensures status { result ≡ pos 0 }
     ensures written { length g.2 ≤ out.new }
 {
-    site::bytes(&*(site as *const Shared<Site>), out)
+    site::bytes(&*(site as *const Site), out)
 }
 
-/// Writes the sitemaps, as `robots_sitemaps` does.
+/// Writes the sitemaps that the file lists, each followed by LF, and their total length. If the buffer is too
+/// small, it writes only the length.
 #[unsafe(no_mangle)]
 pub unsafe extern "C" fn robots_site_sitemaps(
     alloc: Global,
@@ -118,10 +120,10 @@ pub unsafe extern "C" fn robots_site_sitemaps(
     ensures kept { result ≢ pos 0 → out.new ≡ out.old }
     ensures why { (result ≡ pos 0) ⊎ ((result ≡ status_of Fault.BufferTooSmall) ⊎ (result ≡ status_of Fault.Memory)) }
 {
-    site::sitemaps(alloc, &*(site as *const Shared<Site>), out, len)
+    site::sitemaps(alloc, &*(site as *const Site), out, len)
 }
 
-/// Writes the names in user-agent lines, as `robots_agents` does.
+/// The same for the names in the file's user-agent lines, each once.
 #[unsafe(no_mangle)]
 pub unsafe extern "C" fn robots_site_agents(
     alloc: Global,
@@ -138,7 +140,7 @@ pub unsafe extern "C" fn robots_site_agents(
     ensures kept { result ≢ pos 0 → out.new ≡ out.old }
     ensures why { (result ≡ pos 0) ⊎ ((result ≡ status_of Fault.BufferTooSmall) ⊎ (result ≡ status_of Fault.Memory)) }
 {
-    site::agents(alloc, &*(site as *const Shared<Site>), out, len)
+    site::agents(alloc, &*(site as *const Site), out, len)
 }
 
 /// 1 if a user-agent line names the crawler, 0 if none does, so that it has the robot of `*`, and -1 if its
@@ -150,29 +152,10 @@ pub unsafe extern "C" fn robots_site_is_named(site: *const u8, agent: &[u8]) -> 
     ensures* lent { sem 𝓛 (flft g.0 g.1) }
     ensures named { SaysNamed agent.now g.2 result }
 {
-    site::is_named(&*(site as *const Shared<Site>), agent)
+    site::is_named(&*(site as *const Site), agent)
 }
 
-/// Writes a pointer to another handle on the same site, which C owns from then on.
-#[unsafe(no_mangle)]
-pub unsafe extern "C" fn robots_site_share(alloc: Global, site: *const u8, out: &mut *mut u8) -> i32
-    ghost g: { Lft × Share × List ℕ }
-    requires* lent { sem 𝓛 (lends Sites site g) }
-    ensures* lent { sem 𝓛 (flft g.0 g.1) }
-    ensures* opened { sem 𝓛 (opens Sites (λ other. other ≡ g.2) result out.new) }
-    ensures kept { result ≢ pos 0 → out.new ≡ out.old }
-    ensures why { HasFault IsWhyNoHandle result }
-{
-    let Kept { status, at } = site::shared(
-        alloc,
-        &*(site as *const Shared<Site>),
-        *out as *mut Shared<Site>,
-    );
-    *out = at as *mut u8;
-    status
-}
-
-/// Frees what `robots_site_open` or `robots_site_share` opened. A null pointer is ignored.
+/// Frees what `robots_site_open` opened. A null pointer is ignored.
 #[unsafe(no_mangle)]
 pub unsafe extern "C" fn robots_site_close(alloc: Global, site: *mut u8)
     ghost value: { List ℕ }
@@ -182,7 +165,7 @@ pub unsafe extern "C" fn robots_site_close(alloc: Global, site: *mut u8)
         return;
     }
     site::close(Handle {
-        at: site as *mut Shared<Site>,
+        at: site as *mut Site,
         alloc,
     })
 }

@@ -2,7 +2,7 @@
 ghost use Rattle.std.specs.Prelude.{◌≡◌, ◌≢◌, ◌<◌, ◌⊎◌, IfErr, IfOk, length, map, pos, string_bytes};
 ghost use Rattle.printable_text.specs.Lines.{ended};
 ghost use Rattle.robots_c.specs.Status.{IsAddress, IsWhyNoAddress, status_of};
-ghost use Rattle.robots_c.specs.{File.AreAgents, File.AreSitemaps, File.bytes_read, Text.IsPutIn};
+ghost use Rattle.robots_c.specs.{File.AreAgents, File.AreSitemaps, Text.IsPutIn};
 
 use crate::fault::Fault;
 use crate::file::text_of;
@@ -28,25 +28,11 @@ pub(crate) fn sitemaps_in(alloc: Global, site: &Site) -> Result<String, AllocErr
     lines_of(alloc, &sitemaps)
 }
 
-pub(crate) fn sitemaps_of(alloc: Global, file: &[u8]) -> Result<String, AllocError>
-    ensures { IfOk result (λ text. AreSitemaps (bytes_read file.now) (string_bytes text)) }
-{
-    let site = Site::new(alloc, file)?;
-    sitemaps_in(alloc, &site)
-}
-
 pub(crate) fn agents_in(alloc: Global, site: &Site) -> Result<String, AllocError>
     ensures { IfOk result (λ text. AreAgents site.now (string_bytes text)) }
 {
     let agents = site.agents(alloc)?;
     lines_of(alloc, &agents)
-}
-
-pub(crate) fn agents_of(alloc: Global, file: &[u8]) -> Result<String, AllocError>
-    ensures { IfOk result (λ text. AreAgents (bytes_read file.now) (string_bytes text)) }
-{
-    let site = Site::new(alloc, file)?;
-    agents_in(alloc, &site)
 }
 
 pub(crate) fn address(alloc: Global, url: &[u8]) -> Result<String, Fault>

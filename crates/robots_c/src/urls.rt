@@ -8,7 +8,6 @@ ghost use Rattle.texting_robots.specs.Callers.{IsAllocationFree, prepared};
 
 use crate::fault::Fault;
 use crate::file::{robot_of, text_of};
-use crate::shared::Shared;
 use std::alloc::{AllocError, Global};
 use texting_robots::view::View;
 use texting_robots::{Decision, Error, Robot, TooCostly};
@@ -145,13 +144,13 @@ fn results_of(alloc: Global, robot: &Robot, urls: &[u8], capacity: usize) -> Res
     Ok(numbers)
 }
 
-pub(crate) fn query(alloc: Global, robot: &Shared<Robot>, url: &[u8], out: &mut i64) -> i32
+pub(crate) fn query(alloc: Global, robot: &Robot, url: &[u8], out: &mut i64) -> i32
     requires { IsRobotOfSomeFile robot.now }
     ensures written { result ≡ pos 0 → HasResult robot.now.rules url.now out.new }
     ensures kept { result ≢ pos 0 → out.new ≡ out.old }
     ensures why { HasFault (IsWhyNoResult url.now) result }
 {
-    match result_for(alloc, robot.get(), url) {
+    match result_for(alloc, robot, url) {
         Ok(number) => {
             *out = number;
             0
@@ -162,7 +161,7 @@ pub(crate) fn query(alloc: Global, robot: &Shared<Robot>, url: &[u8], out: &mut 
 
 pub(crate) fn query_within(
     alloc: Global,
-    robot: &Shared<Robot>,
+    robot: &Robot,
     url: &[u8],
     budget: u64,
     out: &mut i64,
@@ -172,7 +171,7 @@ pub(crate) fn query_within(
     ensures kept { result ≢ pos 0 → out.new ≡ out.old }
     ensures why { HasFault (IsWhyNotWithin robot.now.rules url.now budget) result }
 {
-    match result_within(alloc, robot.get(), url, budget) {
+    match result_within(alloc, robot, url, budget) {
         Ok(number) => {
             *out = number;
             0
@@ -181,13 +180,13 @@ pub(crate) fn query_within(
     }
 }
 
-pub(crate) fn query_many(alloc: Global, robot: &Shared<Robot>, urls: &[u8], out: &mut [i64]) -> i32
+pub(crate) fn query_many(alloc: Global, robot: &Robot, urls: &[u8], out: &mut [i64]) -> i32
     requires { IsRobotOfSomeFile robot.now }
     ensures written { result ≡ pos 0 → ArePutIn robot.now.rules urls.now out.old out.new }
     ensures kept { result ≢ pos 0 → out.new ≡ out.old }
     ensures why { HasFault (IsWhyNoResults urls.now (length out.old)) result }
 {
-    match results_of(alloc, robot.get(), urls, out.len()) {
+    match results_of(alloc, robot, urls, out.len()) {
         Ok(numbers) => {
             out[..numbers.len()].copy_from_slice(&numbers);
             0

@@ -9,7 +9,7 @@ from typing import TYPE_CHECKING, Final, NamedTuple, Union
 from ._native import ffi, lib
 
 if TYPE_CHECKING:
-    from _typeshed import ReadableBuffer  # collections.abc.Buffer, which Python has from 3.12 on
+    from _typeshed import ReadableBuffer, WriteableBuffer  # collections.abc.Buffer, which Python has from 3.12 on
     from typing_extensions import Self
 
     from ._native import CData
@@ -31,12 +31,19 @@ _MAY_BE: Final = {
     "user_agent": "a str, such as 'FerrisBot/1.0'",
     "urls": "several str, for example in a list",
     "agents": "several str, for example in a list",
-    "body": "bytes or another buffer, or for a Robots a str",
+    "body": "bytes or another buffer, or for a Robots or a Robot a str",
+    "column": "an array of strings of Arrow without nulls, or a buffer with `ends`",
+    "results": "a buffer of 64-bit integers that can be written to, with room for each URL",
+    "ends": "a buffer of 64-bit integers, which don't decrease, up to the length of the URLs",
 }
 """What an argument may be, for the error about another type."""
 _query: Final = lib.robot_query
 _NO_RESULT: Final = lib.NO_RESULT
 _LAST_FAILURE: Final = _NO_RESULT - lib.ROBOTS_OVERLONG_RULE
+_MISFITS: Final = {
+    lib.ROBOTS_INVALID_ENDS: "the ends decrease, or one is after the end of the URLs",
+    lib.ROBOTS_NOT_UTF8: "a URL isn't UTF-8",
+}
 
 
 class RobotsError(Exception):
@@ -103,6 +110,117 @@ def robots_url(url: str) -> str:
     return _written(lambda *out: lib.robots_address(text, len(text), *out), 256, url)
 
 
+class Robot:
+    """What a robots.txt file says to one crawler. It takes about half the memory of a `Robots`, as it keeps no file.
+
+    ``body`` and ``agent`` are those of a `Robots`, and so are the methods and their errors, but that the constructor already raises
+    `OverlongRuleError`. Threads share it without a lock. It can't be pickled: keep the bytes.
+    """
+
+    __slots__ = ("__weakref__", "_opened")
+
+    def __init__(self, body: _Body, agent: str) -> None:
+        file, name = _file(body), _name(agent)
+        self._open(lib.robot_of_file(file, len(file), name, len(name)))
+        if lib.robot_overlong_line(self._opened):
+            _check(lib.ROBOTS_OVERLONG_RULE, self._opened)
+
+    def _open(self, opened: CData) -> Robot:
+        self._opened = _opened(opened, lib.robot_close)
+        return self
+
+    def allowed(self, url: str) -> bool:
+        """Whether the crawler may fetch the URL."""
+        return self._result(url) >= 0
+
+    def verdict(self, url: str) -> Verdict:
+        """Whether the crawler may fetch the URL, and the line that decides it."""
+        return _verdict(self._result(url))
+
+    def verdict_within(self, url: str, budget: int) -> Verdict:
+        """As that of `Robots`."""
+        text, result = _encoded(url, "url"), ffi.new("int64_t *")
+        _check(lib.robot_query_within(self._opened, text, len(text), budget, result), self._opened)
+        return _verdict(result[0])
+
+    def cost(self, length: int) -> int:
+        """As that of `Robots`."""
+        cost = ffi.new("uint64_t *")
+        _check(lib.robot_cost(self._opened, length, cost), self._opened)
+        return int(cost[0])
+
+    def verdicts(self, urls: Iterable[str]) -> list[Verdict]:
+        """The verdict for each URL, in their order: faster than one by one."""
+        urls = _several(urls, "urls")
+        text = _joined(urls, "urls")
+        if text is None:
+            return [self.verdict(url) for url in urls]
+        results = ffi.new("int64_t[]", len(urls))
+        _check(lib.robot_query_many(self._opened, text, len(text), results, len(urls)), self._opened)
+        numbers = ffi.unpack(results, len(urls))
+        verdicts = {number: _verdict(number) for number in set(numbers)}
+        return [verdicts[number] for number in numbers]
+
+    def decide(self, urls: ReadableBuffer | object, results: WriteableBuffer, ends: ReadableBuffer | None = None) -> None:
+        """Writes a number for each URL of a column to ``results``, such as an ``int64`` array of NumPy: 0 if no line decides, the line that
+        allows the URL, or minus the line that denies it. It copies no URL, and makes no object for one.
+
+        ``urls`` is an array of strings of Arrow (by ``__arrow_c_array__``), or, with ``ends``, a buffer in which the URLs follow one
+        another, in UTF-8: each ends at one of these places, and begins at the end of the one before. Nobody may write to a buffer
+        meanwhile.
+        """
+        room, opened = _numbers(results, "results", "int64_t[]"), self._opened
+        if ends is None:
+            schema, array, _kept = _arrow(urls)
+            count = lib.array_length(schema, array)
+            if count < 0:
+                raise _wrong("column", urls, "urls")
+        else:
+            places = _numbers(ends, "ends", "size_t[]")
+            count = len(places)
+            try:
+                text = ffi.from_buffer(urls)
+            except (TypeError, BufferError):
+                raise _wrong("column", urls, "urls") from None
+        if count > len(room):
+            raise ValueError("results has less room than there are URLs")
+        if ends is None:
+            status = lib.robot_query_array(opened, schema, array, room)
+        else:
+            status = lib.robot_query_batch(opened, text, len(text), places, count, room)
+        if status in _MISFITS:
+            raise ValueError(_MISFITS[status])
+        _check(status, opened)
+
+    @property
+    def delay(self) -> float | None:
+        """How many seconds the crawler waits between two requests, or None: up to 1.8e13, so limit it before you sleep."""
+        microseconds = self.delay_microseconds
+        return None if microseconds is None else microseconds / 1_000_000
+
+    @property
+    def delay_microseconds(self) -> int | None:
+        """The delay in microseconds, exactly, or None."""
+        microseconds = ffi.new("uint64_t *")
+        return _delay(lib.robot_delay(self._opened, microseconds), microseconds)
+
+    @property
+    def size(self) -> int:
+        """How many bytes of memory it takes."""
+        return lib.robot_bytes(self._opened)
+
+    def _result(self, url: str) -> int:
+        """0 or the line that allows the URL, or minus the line that denies it."""
+        try:
+            text = str.encode(url)
+        except TypeError:
+            raise _wrong("url", url) from None
+        result = _query(self._opened, text, len(text))
+        if result <= _LAST_FAILURE:
+            _check(_NO_RESULT - result, self._opened)
+        return result
+
+
 class Robots:
     """A robots.txt file, which is parsed once for all crawlers.
 
@@ -110,8 +228,7 @@ class Robots:
     ``str`` is encoded as UTF-8; what ``surrogateescape`` made of other bytes becomes these again. A ``url`` is a whole URL, or a path. An
     ``agent`` is a product token without a version (see `product_token`).
 
-    It can be shared by threads, which take turns, and pickled, as its bytes and the attributes of a subclass. Don't use it in the child
-    of a fork if the process had other threads.
+    Threads share it without a lock. It can be pickled, as its bytes and the attributes of a subclass.
 
     The methods raise `OverlongRuleError` if the file can't be used for the agent, and `AgentError`, also a TypeError and a ValueError,
     for an agent with ``/``: each is a `RobotsError`. What isn't a ``str``, and one ``str`` in place of several, is a TypeError, a lone
@@ -119,7 +236,7 @@ class Robots:
     """
 
     def __init__(self, body: _Body) -> None:
-        self._site = _Site(_file(str.encode(body, "utf-8", "surrogateescape") if isinstance(body, str) else body))
+        self._site = _Site(_file(body))
 
     @classmethod
     def parse(cls, body: _Body) -> Self:
@@ -138,43 +255,28 @@ class Robots:
 
     def allowed(self, url: str, agent: str) -> bool:
         """Whether the crawler may fetch the URL."""
-        return self._result(url, agent) >= 0
+        return self._site.robot(agent).allowed(url)
 
     can_fetch = allowed
     """Protego's name. (The one of urllib.robotparser has the agent first.)"""
 
     def verdict(self, url: str, agent: str) -> Verdict:
         """Whether the crawler may fetch the URL, and the line that decides it."""
-        return _verdict(self._result(url, agent))
+        return self._site.robot(agent).verdict(url)
 
     def verdict_within(self, url: str, agent: str, budget: int) -> Verdict:
         """The verdict for a URL, for a file that may be hostile. Each rule that is tried costs one, and each comparison of a byte of the URL
         one; before a rule that might cost more than is left of the budget, from 0 to 2**64 - 1, it raises `TooCostlyError`."""
-        robot = self._site.robot(agent)
-        text, result = _encoded(url, "url"), ffi.new("int64_t *")
-        _check(lib.robot_query_within(robot, text, len(text), budget, result), robot)
-        return _verdict(result[0])
+        return self._site.robot(agent).verdict_within(url, budget)
 
     def cost(self, length: int, agent: str) -> int:
         """With so much as a budget, `verdict_within` raises no `TooCostlyError` for any URL whose path, query and fragment, escaped, have
         this length. It is at most 2**64 - 1."""
-        robot = self._site.robot(agent)
-        cost = ffi.new("uint64_t *")
-        _check(lib.robot_cost(robot, length, cost), robot)
-        return int(cost[0])
+        return self._site.robot(agent).cost(length)
 
     def verdicts(self, urls: Iterable[str], agent: str) -> list[Verdict]:
         """The verdict for each URL, in their order: faster than one by one."""
-        urls = _several(urls, "urls")
-        robot = self._site.robot(agent)
-        text = _joined(urls, "urls")
-        if text is None:
-            return [self.verdict(url, agent) for url in urls]
-        results = ffi.new("int64_t[]", len(urls))
-        _check(lib.robot_query_many(robot, text, len(text), results, len(urls)), robot)
-        numbers = ffi.unpack(results, len(urls))
-        verdicts = {number: _verdict(number) for number in set(numbers)}
-        return [verdicts[number] for number in numbers]
+        return self._site.robot(agent).verdicts(urls)
 
     def matrix(self, urls: Iterable[str], agents: Iterable[str]) -> list[list[Verdict | None]]:
         """The verdicts of many crawlers: for each agent a list with the verdict for each URL, or with None, which doesn't allow either,
@@ -203,11 +305,7 @@ class Robots:
     def delay_microseconds(self, agent: str) -> int | None:
         """The delay in microseconds, exactly, or None."""
         name, microseconds = _name(agent), ffi.new("uint64_t *")
-        status = lib.site_delay(self._site.opened, name, len(name), microseconds)
-        if status == lib.ROBOTS_NO_DELAY:
-            return None
-        _check(status)
-        return int(microseconds[0])
+        return _delay(lib.site_delay(self._site.opened, name, len(name), microseconds), microseconds)
 
     @property
     def sitemaps(self) -> list[str]:
@@ -224,24 +322,12 @@ class Robots:
     def size(self) -> int:
         """How many bytes of memory it takes: the file twice, what its lines are, and the rules for the agents that were asked about."""
         site = self._site
-        return len(site.body) + lib.site_bytes(site.opened) + sum(map(lib.robot_bytes, list(site.robots.values())))
+        return len(site.body) + lib.site_bytes(site.opened) + sum(robot.size for robot in list(site.robots.values()))
 
     def is_named(self, agent: str) -> bool:
         """Whether a user-agent line names the crawler. All crawlers that none names have the rules and the delay of ``*``."""
         name = _name(agent)
         return lib.site_is_named(self._site.opened, name, len(name)) == 1
-
-    def _result(self, url: str, agent: str) -> int:
-        """0 or the line that allows the URL, or minus the line that denies it."""
-        robot = self._site.robot(agent)
-        try:
-            text = str.encode(url)
-        except TypeError:
-            raise _wrong("url", url) from None
-        result = _query(robot, text, len(text))
-        if result <= _LAST_FAILURE:
-            _check(_NO_RESULT - result, robot)
-        return result
 
     def _verdict_or_none(self, url: str, agent: str) -> Verdict | None:
         try:
@@ -264,16 +350,16 @@ class _Site:
     def __init__(self, body: bytes) -> None:
         self.body = body
         self.opened = _opened(lib.site_open(body, len(body)), lib.site_close)
-        self.robots: dict[str, CData] = {}
+        self.robots: dict[str, Robot] = {}
 
-    def robot(self, agent: str) -> CData:
+    def robot(self, agent: str) -> Robot:
         """What the file says to an agent. A `str` of another type may have its own equality, so its robot isn't looked up."""
         return (type(agent) is str and self.robots.get(agent)) or self._open(agent)
 
-    def _open(self, agent: str) -> CData:
+    def _open(self, agent: str) -> Robot:
         """Opens a robot. The library shares it among all agents that no line names."""
         name = _name(agent)
-        robot = _opened(lib.robot_open(self.opened, name, len(name)), lib.robot_close)
+        robot = Robot.__new__(Robot)._open(lib.robot_open(self.opened, name, len(name)))
         if len(self.robots) >= _AGENTS_KEPT:
             self.robots.clear()
         self.robots[str(name, "utf-8")] = robot
@@ -286,7 +372,7 @@ class _Site:
 class Matrix:
     """The same URLs and agents for many files: what `Robots.matrix` decides, in one call of the library for each file.
 
-    It can be shared by threads, which don't take turns. The constructor raises what `Robots.matrix` raises, and ValueError without URLs
+    Threads share it without a lock. The constructor raises what `Robots.matrix` raises, and ValueError without URLs
     or agents, or for a line feed in one.
     """
 
@@ -306,9 +392,11 @@ class Matrix:
         """Each agent with each URL that the file denies it, and the number of the line that does, or None if the file can't be used for
         the agent: agent by agent, in the order of the constructor's arguments. ``body`` is the file, as received: a ``bytes``, or any
         other buffer, which is copied."""
+        if isinstance(body, str):
+            raise _wrong("body", body)
         file, length = _file(body), len(self._pairs)
         results = ffi.new("int64_t[]", length)
-        _check(lib.robots_matrix(self._agents, len(self._agents), file, len(file), self._urls, len(self._urls), results, length))
+        _check(lib.file_matrix(self._agents, len(self._agents), file, len(file), self._urls, len(self._urls), results, length))
         return [
             (agent, url, None if result == _NO_RESULT else -result)
             for (agent, url), result in zip(self._pairs, ffi.unpack(results, length))
@@ -320,8 +408,10 @@ class Matrix:
 # make such a bytes and such a str of any str.
 
 
-def _file(body: ReadableBuffer) -> bytes:
+def _file(body: _Body) -> bytes:
     """The bytes of a file that count, however they lie in memory; copied, since another thread may write to a buffer."""
+    if isinstance(body, str):
+        body = str.encode(body, "utf-8", "surrogateescape")
     if type(body) is bytes:
         return body[:FILE_LIMIT]
     try:
@@ -370,8 +460,42 @@ def _name(agent: str) -> bytes:
     return name
 
 
+def _numbers(buffer: ReadableBuffer, argument: str, kind: str) -> CData:
+    """A buffer of 64-bit integers, which can be written to if it is for results."""
+    try:
+        with memoryview(buffer) as view:
+            fits = view.format.strip("@=<") in tuple("lqLQnN") and view.itemsize == 8 and view.c_contiguous
+        if fits:
+            return ffi.from_buffer(kind, buffer, argument == "results")
+    except (TypeError, BufferError):
+        pass
+    raise _wrong(argument, buffer)
+
+
+def _arrow(column: object) -> tuple[CData, CData, object]:
+    """The type and the content of an array of Arrow, and what both belong to."""
+    try:
+        kept = column.__arrow_c_array__()  # type: ignore[attr-defined]
+    except AttributeError:
+        raise _wrong("column", column, "urls") from None
+    from ctypes import c_char_p, c_void_p, py_object, pythonapi
+
+    pointer = pythonapi.PyCapsule_GetPointer
+    pointer.restype, pointer.argtypes = c_void_p, [py_object, c_char_p]
+    schema, array = (pointer(capsule, name) for capsule, name in zip(kept, (b"arrow_schema", b"arrow_array")))
+    return ffi.cast("struct ArrowSchema *", schema), ffi.cast("struct ArrowArray *", array), kept
+
+
 def _verdict(result: int) -> Verdict:
     return Verdict(result >= 0, abs(result) or None)
+
+
+def _delay(status: int, microseconds: CData) -> int | None:
+    """What a call that returned this status wrote."""
+    if status == lib.ROBOTS_NO_DELAY:
+        return None
+    _check(status)
+    return int(microseconds[0])
 
 
 def _opened(opened: CData, close: Callable[[CData], None]) -> CData:

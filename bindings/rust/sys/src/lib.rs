@@ -29,7 +29,7 @@ pub const ROBOTS_NO_RESULT: i64 = i64::MIN;
 
 /// A file as one crawler reads it: its rules and delay.
 #[repr(C)]
-pub struct robots {
+pub struct robots_robot {
     _private: [u8; 0],
     _marker: PhantomData<(*mut u8, PhantomPinned)>,
 }
@@ -46,32 +46,25 @@ extern "C" {
     pub fn robots_version() -> u32;
 
     pub fn robots_open(agent: *const c_char, agent_len: usize, file: *const c_void, file_len: usize,
-                       robot: *mut *mut robots, line: *mut usize) -> i32;
-    pub fn robots_query(robot: *const robots, url: *const c_char, url_len: usize, result: *mut i64) -> i32;
-    pub fn robots_query_within(robot: *const robots, url: *const c_char, url_len: usize, budget: u64,
+                       robot: *mut *mut robots_robot, line: *mut usize) -> i32;
+    pub fn robots_query(robot: *const robots_robot, url: *const c_char, url_len: usize, result: *mut i64) -> i32;
+    pub fn robots_query_within(robot: *const robots_robot, url: *const c_char, url_len: usize, budget: u64,
                                result: *mut i64) -> i32;
-    pub fn robots_cost(robot: *const robots, length: usize) -> u64;
-    pub fn robots_bytes(robot: *const robots) -> usize;
-    pub fn robots_query_many(robot: *const robots, urls: *const c_char, urls_len: usize,
+    pub fn robots_cost(robot: *const robots_robot, length: usize) -> u64;
+    pub fn robots_bytes(robot: *const robots_robot) -> usize;
+    pub fn robots_query_many(robot: *const robots_robot, urls: *const c_char, urls_len: usize,
                              results: *mut i64, results_len: usize) -> i32;
-    pub fn robots_query_batch(robot: *const robots, urls: *const c_void, urls_len: usize, ends: *const usize, n: usize,
+    pub fn robots_query_batch(robot: *const robots_robot, urls: *const c_void, urls_len: usize, ends: *const usize, n: usize,
                               results: *mut i64) -> i32;
-    pub fn robots_query_delay(robot: *const robots, microseconds: *mut u64) -> i32;
-    pub fn robots_share(robot: *const robots, other: *mut *mut robots) -> i32;
-    pub fn robots_close(robot: *mut robots);
+    pub fn robots_query_delay(robot: *const robots_robot, microseconds: *mut u64) -> i32;
+    pub fn robots_close(robot: *mut robots_robot);
 
     pub fn robots_decide(agent: *const c_char, agent_len: usize, file: *const c_void, file_len: usize,
                          urls: *const c_char, urls_len: usize, results: *mut i64, results_len: usize, line: *mut usize) -> i32;
-    pub fn robots_matrix(agents: *const c_char, agents_len: usize, file: *const c_void, file_len: usize,
-                         urls: *const c_char, urls_len: usize, results: *mut i64, results_len: usize) -> i32;
-    pub fn robots_delay(agent: *const c_char, agent_len: usize, file: *const c_void, file_len: usize,
-                        microseconds: *mut u64) -> i32;
-    pub fn robots_sitemaps(file: *const c_void, file_len: usize, out: *mut c_char, out_len: usize, len: *mut usize) -> i32;
-    pub fn robots_agents(file: *const c_void, file_len: usize, out: *mut c_char, out_len: usize, len: *mut usize) -> i32;
 
     pub fn robots_site_open(file: *const c_void, file_len: usize, site: *mut *mut robots_site) -> i32;
     pub fn robots_site_robot(site: *const robots_site, agent: *const c_char, agent_len: usize,
-                             robot: *mut *mut robots, line: *mut usize) -> i32;
+                             robot: *mut *mut robots_robot, line: *mut usize) -> i32;
     pub fn robots_site_matrix(site: *const robots_site, agents: *const c_char, agents_len: usize,
                               urls: *const c_char, urls_len: usize, results: *mut i64, results_len: usize) -> i32;
     pub fn robots_site_delay(site: *const robots_site, agent: *const c_char, agent_len: usize,
@@ -80,7 +73,6 @@ extern "C" {
     pub fn robots_site_sitemaps(site: *const robots_site, out: *mut c_char, out_len: usize, len: *mut usize) -> i32;
     pub fn robots_site_agents(site: *const robots_site, out: *mut c_char, out_len: usize, len: *mut usize) -> i32;
     pub fn robots_site_is_named(site: *const robots_site, agent: *const c_char, agent_len: usize) -> i32;
-    pub fn robots_site_share(site: *const robots_site, other: *mut *mut robots_site) -> i32;
     pub fn robots_site_close(site: *mut robots_site);
 
     pub fn robots_address(url: *const c_char, url_len: usize, out: *mut c_char, out_len: usize, len: *mut usize) -> i32;

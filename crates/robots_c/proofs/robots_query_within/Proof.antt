@@ -1,77 +1,36 @@
 -- `robots_query_within` reads a borrowed robot.
-use Rattle.robots_c.proofs.Borrowing.{
-  ℕ,
-  [],
-  ◌∷◌,
-  refl,
-  raw,
-  ◌$◌,
-  ◌∵◌,
-  !,
-  qed,
-  done,
-  of_opd,
-  addr,
-  stop,
-  no_more,
-  and_then,
-  returns,
-  enter,
-  alloc_all,
-  pass_all,
-  free_all,
-  look_at,
-  get,
-  through,
-  sets,
-  lands_as,
-  Lfts,
-  lasts,
-  Args,
-  goods,
-  hands_on,
-  meets,
-  place,
-  reference,
-  borrows,
-  heap,
-  number,
-  slice,
-  fact,
-  lent_place,
-  context,
-  ensured_by,
-}
+use Rattle.robots_c.proofs.Borrowing.{ℕ, [], ◌∷◌, refl, ◌$◌, ◌∵◌, ! }
+use Rattle.robots_c.proofs.Borrowing as m
 use Rattle.robots_c.specs.Kept.{Robots}
 use Rattle.robots_c.specs.File.{IsRobotOfSomeFile}
 use Rattle.robots_c.specs.contracts.urls.query_within as callee
-use Rattle.robots_c.proofs.urls.query_within.Met.{met}
+use Rattle.robots_c.proofs.{urls.query_within.Met.met, robots_query_within.Statement.statement}
 use Rattle.robots_c.specs.contracts.robots_query_within as self
-use Rattle.robots_c.proofs.robots_query_within.Statement.{statement}
 use Rattle.robots_c.proofs.robots_query_within.Code as code
 
 pub robots_query_within_spec : {M : Type 1} → statement M
 robots_query_within_spec 𝓤 𝓛 𝓜 𝓡 wired =
     let S = self.signature in
-    meets 𝓛 𝓜 𝓡 S (self.spec 𝓛 𝓜.mem 𝓡.returns) self.Key.name code.function (code.unfolded 𝓤 𝓛.H 𝓜 𝓡 wired)
+    m.meets 𝓛 𝓜 𝓡 S (self.spec 𝓛 𝓜.mem 𝓡.returns) self.Key.name code.function (code.unfolded 𝓤 𝓛.H 𝓜 𝓡 wired)
     (λ z are.
     let a = z.0.3 in let vs = z.0.4 in let κ = z.1.0 in let q = z.1.1 in let x = z.1.2 in
-    let κs : Lfts 3 = (κ, z.0.0) in
-    let given_at : ℕ → ℕ → Args callee.signature κs = λ b o. (a.0, (reference x b o, a.1.1)) in
-    qed 𝓛 (context 𝓛 Robots a.1.0 x κ q S z.0 (raw (fact 𝓤 (IsRobotOfSomeFile x)) ∷ [])) ∵
-    borrows 𝓛 𝓜 𝓡 Robots a.1.0 x κ q (_ ∷ []) _ _ _ (lasts callee.ended κs (given_at 0 0))
-    (ensured_by callee.ended (callee.clauses 𝓛 𝓜.mem 𝓡.returns) κs (given_at 0 0) tt) _ (λ b o e.
-    let ws = heap 𝓛 a.0 vs.0 are.0 ∷ lent_place are.1.0 e ∷ slice are.1.1.0.0
-    ∷ number are.1.1.1.0 ∷ place are.1.1.1.1.0.0 ∷ [] in (
+    let κs : m.Lfts 3 = (κ, z.0.0) in
+    let given_at : ℕ → ℕ → m.Args callee.signature κs = λ b o. (a.0, (m.reference x b o, a.1.1)) in
+    m.qed 𝓛 (m.context 𝓛 Robots a.1.0 x κ q S z.0 (m.raw (m.fact 𝓤 (IsRobotOfSomeFile x)) ∷ [])) ∵
+    m.borrows 𝓛 𝓜 𝓡 Robots a.1.0 x κ q (_ ∷ []) _ _ _
+    (m.lasts callee.ended κs (given_at 0 0))
+    (m.ensured_by callee.ended (callee.clauses 𝓛 𝓜.mem 𝓡.returns) κs (given_at 0 0) tt) _ (λ b o e.
+    let ws = m.heap 𝓛 a.0 vs.0 are.0 ∷ m.lent_place are.1.0 e ∷ m.slice are.1.1.0.0
+    ∷ m.number are.1.1.1.0 ∷ m.place are.1.1.1.1.0.0 ∷ [] in (
       ws,
       refl,
-      λ X Q given. enter ! _ _ _ _ _ $ alloc_all ! (λ l. pass_all ! refl (goods ws) $
-          sets ! (of_opd ! (get ! refl)) refl (tt, tt) $
-          sets ! (addr ! (through ! refl (stop !))) refl (tt, tt) $
-          sets ! (addr ! (through ! refl (stop !))) refl (tt, tt) $
-          hands_on 𝓛 𝓜 𝓡 ! given (and_then ! (get ! refl) (and_then ! (get ! refl) (and_then ! (get ! refl)
-          (and_then ! (get ! refl) (and_then ! (get ! refl) (no_more !)))))) (λ v r good.
-          lands_as ! refl refl good $ returns ! (look_at ! 0 refl) $ free_all ! refl $ done !)),
+      λ X Q given. m.enter ! _ _ _ _ _ $ m.alloc_all ! (λ l. m.pass_all ! refl (m.goods ws) $
+          m.sets ! (m.local ! refl) refl (tt, tt) $
+          m.sets ! (m.again ! refl) refl (tt, tt) $
+          m.sets ! (m.again ! refl) refl (tt, tt) $
+          m.hands_on 𝓛 𝓜 𝓡 ! given (m.arg ! refl (m.arg ! refl (m.arg ! refl (m.arg ! refl (m.arg ! refl
+          (m.no_more !)))))) (λ v r good.
+          m.lands_as ! refl refl good $ m.returns ! (m.look_at ! 0 refl) $ m.free_all ! refl $ m.done !)),
     ))
     (λ b o. met 𝓤 𝓛 𝓜 𝓡 (code.calls-robots_c::urls::query_within 𝓡.env wired)
     ((κs, (q, z.0.1), tt, given_at b o, vs), tt)))
