@@ -9,7 +9,7 @@ use Rattle.std.proofs.lemmas.Bool.{cases_Bool, false≢true}
 use Rattle.std.proofs.lemmas.Bool.Decides.{Decides-eqb, not_from_Decides}
 use Rattle.std.proofs.lemmas.List.{Elements.All-contains, append-nil}
 use Rattle.texting_robots.specs.{Rules.Rule}
-use Rattle.texting_robots.proofs.BestLemmas.{matches}
+use Rattle.texting_robots.proofs.Shared.{matches}
 use Rattle.robots_same.specs.declared.pool.Entry.{Entry}
 use Rattle.robots_same.specs.Internal.{Agrees, AreAlike, IsChecked, IsFollowed, LeavesAgree, SideValue}
 use Rattle.robots_same.specs.Internal.{StartsAgree, StateValue}

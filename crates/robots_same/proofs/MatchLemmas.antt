@@ -8,7 +8,7 @@ use Rattle.std.proofs.Math.{ListN.drop_of_length-le, Seq.drop-cons}
 use Rattle.std.proofs.lemmas.Bool.{cases_Bool, cases_lt, ne_eqb}
 use Rattle.std.proofs.lemmas.Bool.Decides.{Decides-eqb, not_from_Decides}
 use Rattle.texting_robots.specs.Pattern.{dollar, star}
-use Rattle.texting_robots.proofs.BestLemmas.{matches}
+use Rattle.texting_robots.proofs.Shared.{matches}
 use Rattle.robots_same.specs.Internal.{passed}
 
 or_again : (a b : Bool) → ((a || b) || b) ≡ (a || b)

@@ -5,7 +5,7 @@ use Rattle.std.proofs.Common.{List, [], ◌∷◌, ◌++◌, Contains, append_as
 use Rattle.std.proofs.Common.{refl, sym, ap, ◌∙◌, add-one, arith}
 use Rattle.std.proofs.{Math.Seq.drop-cons, lemmas.List.take_all, lemmas.List.take_more}
 use Rattle.texting_robots.specs.{Rules.Rule}
-use Rattle.texting_robots.proofs.BestLemmas.{matches}
+use Rattle.texting_robots.proofs.Shared.{matches}
 use Rattle.robots_same.specs.Internal.{Adds, AreAlike, IsAfter, StateValue, last_kind, verdict}
 
 pub last_kind_append : (items more : List Rule) (start : Bool) (t : List ℕ)

@@ -3,7 +3,7 @@ use Rattle.std.specs.Prelude.{◌≡◌, ℕ, zero, suc, ◌+◌, ◌*◌, ◌<�
 use Rattle.std.specs.Prelude.{◌++◌, ◌&&◌, ◌||◌, All}
 use Rattle.std.specs.Prelude.{Contains, codes, cond, drop, if◌then◌else◌, length, not, slice_index_or, take}
 use Rattle.texting_robots.specs.{Pattern.star, Rules.Rule, Verdict.IsVerdict}
-use Rattle.texting_robots.proofs.BestLemmas.{matches}
+use Rattle.texting_robots.proofs.Shared.{matches}
 use Rattle.robots_same.specs.declared.compare.Comparison.{Comparison}
 use Rattle.robots_same.specs.declared.compare.Comparison.TheVariants.{Differ, Same, Undecided}
 use Rattle.robots_same.specs.declared.pool.Entry.{Entry}

@@ -2,7 +2,7 @@
 ghost use Rattle.std.specs.Prelude.{◌≡◌, ◌≢◌, ◌≤◌, ◌<◌, ◌∷◌, IsTrue, List, [], length, slice_index, ℕ};
 ghost use Rattle.std.specs.Prelude.{Contains, OnOk, true};
 ghost use Rattle.texting_robots.specs.Pattern.{star};
-ghost use Rattle.texting_robots.proofs.BestLemmas.{matches};
+ghost use Rattle.texting_robots.proofs.Shared.{matches};
 ghost use Rattle.robots_same.specs.Internal.{Adds, passed};
 
 use std::alloc::AllocError;

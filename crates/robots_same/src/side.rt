@@ -2,7 +2,7 @@
 ghost use Rattle.std.specs.Prelude.{◌≡◌, ◌≢◌, ◌<◌, ◌∷◌, Bool, IfOk, IsTrue, List, OnOk, [], cond};
 ghost use Rattle.std.specs.Prelude.{length, slice_index, true, ℕ};
 ghost use Rattle.texting_robots.specs.Pattern.{star};
-ghost use Rattle.texting_robots.proofs.BestLemmas.{matches};
+ghost use Rattle.texting_robots.proofs.Shared.{matches};
 ghost use Rattle.robots_same.specs.Internal.{Adds, AreAlike, last_kind, verdict};
 
 use crate::item::{Item, add_next_byte, matches_all, matches_end, stars};

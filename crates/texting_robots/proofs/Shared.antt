@@ -20,15 +20,15 @@ pub use Rattle.texting_robots.proofs.SiteOwnLemmas.{any_between, file_rejected, 
 pub use Rattle.texting_robots.proofs.SegmentLemmas.{in_front, only_wildcards_match, plain_wildcards}
 pub use Rattle.texting_robots.proofs.SegmentLemmas.{suffix_trans}
 pub use Rattle.texting_robots.proofs.VerdictLemmas.{cmp_less, cmp_same, one_line_decides, one_verdict}
-pub use Rattle.texting_robots.proofs.VerdictLemmas.{same_verdicts}
+pub use Rattle.texting_robots.proofs.VerdictLemmas.{order_changes_nothing, same_verdicts}
 pub use Rattle.texting_robots.proofs.MainTheoremLemmas.{answers_computed, computed_are}
 pub use Rattle.texting_robots.proofs.MainTheoremLemmas.{deciding_line_holds_its_rule, has_lines}
 pub use Rattle.texting_robots.proofs.MainTheoremLemmas.{lines_are_read, no_line_allows, not_rejected}
 pub use Rattle.texting_robots.proofs.MainTheoremLemmas.{of_lines, one_list, read_rejected, read_robot}
 pub use Rattle.texting_robots.proofs.MainTheoremLemmas.{rejection_is_computed, rules_are_computed}
 pub use Rattle.texting_robots.proofs.BestLemmas.{Either, allowed_by, answered, deciding_rule}
-pub use Rattle.texting_robots.proofs.BestLemmas.{each_text_answered, matches, none_denies, placed_of}
-pub use Rattle.texting_robots.proofs.BestLemmas.{verdict_by}
+pub use Rattle.texting_robots.proofs.BestLemmas.{each_text_answered, matches, matches_decides, none_denies}
+pub use Rattle.texting_robots.proofs.BestLemmas.{placed_of, verdict_by}
 pub use Rattle.texting_robots.proofs.ExampleLemmas.{any_overlong_decides, matching, not_matching}
 pub use Rattle.texting_robots.proofs.ExampleLemmas.{overlong_decides}
 pub use Rattle.texting_robots.proofs.{CutFromFront.bodies_nil, CountLemmas.lines_within}

@@ -1,5 +1,5 @@
 use Rattle.std.proofs.Common.{◌≡◌, List, true, ℕ}
-use Rattle.texting_robots.proofs.BestLemmas.{matches}
+use Rattle.texting_robots.proofs.Shared.{matches}
 use Rattle.robots_same.specs.Internal.{passed}
 use Rattle.robots_same.proofs.item.stars.Given as goal
 
