@@ -46,12 +46,6 @@ module _ {X : Type 0} (given : LineValue → Option X) (wanted : Member → Bool
         → Gives member found → AreFound members rest → AreFound (member ∷ members) (cons_option found rest)
     one_found member found members rest h h2 = grind arith
 
-    -- a line that isn't in a group gives nothing
-    pub line_found : (group : Bool) (member : Member) (found : Option X) (members : List Member)
-        (rest : List X) → (group ≡ true → Gives member found) → (group ≡ false → found ≡ None)
-        → AreFound members rest → AreFound (cond group (member ∷ members) members) (cons_option found rest)
-    line_found group member found members rest h h2 h3 = grind (arith, one_found)
-
 pub rules_given : IsGiven rule_in is_rule IsReadAs
 rules_given = grind (arith, allowed_in, member_in)
 
