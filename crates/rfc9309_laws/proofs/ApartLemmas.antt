@@ -1,16 +1,16 @@
 -- If no line is apart (`line_apart`), each verdict is that of the standard.
-use Rattle.std.proofs.Common.{◌≡◌, ◌≢◌, ◌≤◌, ◌<◌, ◌↔◌, ◌⊎◌, ℕ, ◌+◌, ◌-◌, ◌*◌, ◌==◌, ◌&&◌, ◌||◌, Bool}
+use Rattle.std.proofs.Common.{◌≡◌, ◌≢◌, ◌≤◌, ◌<◌, ◌↔◌, ℕ, ◌+◌, ◌-◌, ◌*◌, ◌==◌, ◌||◌, Bool}
 use Rattle.std.proofs.Common.{true, false, not, inl, inr, List, [], ◌∷◌, ◌++◌, Any, Contains, Option}
 use Rattle.std.proofs.Common.{None, Some, ap, arith, codes, bytes_eq, filter, flat_map, if◌then◌else◌}
-use Rattle.std.proofs.Common.{length, map, nat_eq, nat_le, refl, suc, subst, sym, take, zero, ◌∙◌}
-use Rattle.std.specs.{List.AllByRecursion as Each, List.AllZip, List.ends_with, List.list_all}
-use Rattle.std.specs.{List.list_any, List.position_from, Option.option_or, Fmt.digit_glyph}
+use Rattle.std.proofs.Common.{length, map, nat_eq, nat_le, refl, suc, subst, sym, zero, ◌∙◌}
+use Rattle.std.specs.{List.AllByRecursion as Each, List.AllZip, List.ends_with}
+use Rattle.std.specs.{List.list_any, List.position_from, Option.option_or}
 use Rattle.std.proofs.lemmas.Bool.{and_parts, both_ways, cases_Bool, eqb-true, Decides.nat_tests}
-use Rattle.std.proofs.lemmas.Bool.{false≢true, not-false, not-true, leb-true, or_cases}
+use Rattle.std.proofs.lemmas.Bool.{not-false, not-true, leb-true, or_cases}
 use Rattle.std.proofs.lemmas.List.Folds.{list_any-from_Any}
-use Rattle.std.proofs.lemmas.{Grind.common_steps, Simd.map-map, Slice.Eq.bytes_eq-Decides}
+use Rattle.std.proofs.lemmas.{Simd.map-map, Slice.Eq.bytes_eq-Decides}
 use Rattle.texting_robots.specs.Callers.{IsRobotOfFile, IsVerdict, PlacedRule, RobotValue, Rule, escaped}
-use Rattle.texting_robots.specs.Callers.{IsFileRejected, IsOverlong, agents_in, file_limit, placed_rules}
+use Rattle.texting_robots.specs.Callers.{IsFileRejected, IsOverlong, agents_in, placed_rules}
 use Rattle.texting_robots.specs.Callers.{unplaced}
 use Rattle.texting_robots.specs.{Trim.IsTrimOf, Cut.IsBodyByte, Cut.lf}
 use Rattle.texting_robots.specs.Executable.{file_bodies, file_lines, rules_for}
@@ -20,11 +20,11 @@ use Rattle.rfc9309_laws.specs.Comparable.{AreComparable, IsPathOf, has_odd_escap
 use Rattle.rfc9309_laws.specs.Conformance.{allows_all, denies_all, first_denying, first_mixed}
 use Rattle.rfc9309_laws.specs.Conformance.{first_mixed_for, first_split, front_of, is_all, is_apart}
 use Rattle.rfc9309_laws.specs.Conformance.{is_odd_octet, is_plain_path, is_read_as_written, line_apart}
-use Rattle.rfc9309_laws.specs.HasForm.{has_form, is_pattern, value_in}
+use Rattle.rfc9309_laws.specs.HasForm.{is_pattern, value_in}
 use Rattle.rfc9309_laws.specs.LineForms.{Form, HasForm, Agent, Delay, Empty, Other}
 use Rattle.rfc9309_laws.specs.Matching.{IsRfcVerdict, all_stay, has_dollar, normal_from, normal_uri}
 use Rattle.rfc9309_laws.specs.Matching.{octets}
-use Rattle.rfc9309_laws.specs.StandardRobot.{IsFileWith, IsReadAs}
+use Rattle.rfc9309_laws.specs.StandardRobot.{IsReadAs}
 use Rattle.rfc9309_laws.proofs.DelayLemmas.{is_unsplit, rules_unsplit, unsplit}
 use Rattle.rfc9309_laws.proofs.{NormalLemmas.escaped_plain, PlainLemmas.plain_compared, ReadLemmas.lines_in}
 use Rattle.rfc9309_laws.proofs.{RobotLemmas.rejected_as}
@@ -35,11 +35,10 @@ use Rattle.rfc9309_laws.proofs.LineFormLemmas.{bodies_bytes, file_has_forms}
 use Rattle.rfc9309_laws.proofs.MemberLemmas.{delay_line, sitemap_line, token_line}
 use Rattle.rfc9309_laws.proofs.OtherLemmas.{before_end, empty_line, form_tested, other_line}
 use Rattle.rfc9309_laws.proofs.Sources.{Parts, Source, allowed_in, is_not_raw, member_in, parts_in}
-use Rattle.rfc9309_laws.proofs.Sources.{parts_of, put_both, source_of, with_source, written}
+use Rattle.rfc9309_laws.proofs.Sources.{parts_of, source_of, with_source, written}
 use Rattle.rfc9309_laws.proofs.VerdictLemmas.{each_contains, octets_are, robot_agrees, zip_has, zip_right}
 use Rattle.texting_robots.specs.Line.{Allow, CrawlDelay, Disallow, LineValue, Raw, Sitemap, UserAgent}
 use Rattle.texting_robots.specs.Line.{nul_as_lf, without_front}
-use Rattle.rfc9309_laws.specs.declared.conformance.Above.{Above}
 use Rattle.rfc9309_laws.specs.declared.conformance.Above.TheVariants as over
 use Rattle.rfc9309_laws.specs.LineForms as shape
 use Rattle.rfc9309_laws.specs.Rfc9309 as rfc
@@ -52,10 +51,7 @@ pub record IsFine (path : List ℕ) : Type 0 where
   pub is_pattern : is_pattern path ≡ true
 
 fine_trim : (path : List ℕ) → IsFine path → IsTrimOf path path
-fine_trim path fine =
-    let (same, short) = and_parts (bytes_eq (trimmed path) path) _ fine.written in
-    subst (λ value. IsTrimOf value path) ((bytes_eq-Decides (trimmed path) path).0 same)
-    (trimmed_is_trim path)
+fine_trim path fine = grind (arith, and_parts, bytes_eq-Decides, trimmed_is_trim)
 
 abbrev IsFineMember : rfc.Member → Type 0
 IsFineMember (rfc.Allow path) = IsFine path
@@ -72,35 +68,20 @@ HasNone sources = Each (λ source. IsNoRule source.0) sources
 
 none_kept : (line : LineValue) (text : List ℕ) (sources : List Source)
     → filter is_not_raw ((line, text) ∷ []) ≡ sources → HasNone sources → IsNoRule line
-none_kept (Allow value) text sources same none = (subst HasNone (sym same) none).0
-none_kept (Disallow value) text sources same none = (subst HasNone (sym same) none).0
-none_kept line text sources same none = tt
+none_kept line text sources h h2 = grind arith
 
 delay_source : (number : List ℕ) (source : Source)
     → (with_source source (parts_of [] [])).ungrouped ≡ rfc.Delay number ∷ [] → IsNoRule source.0
-delay_source number (Allow value, text) same = allowed text value same
-  where
-    allowed : (text value : List ℕ) → allowed_in text value ∷ [] ≡ rfc.Delay number ∷ [] → ⊥
-    allowed [] [] same = cc
-    allowed [] (b ∷ value) same = cc
-    allowed (b ∷ text) value same = cc
-delay_source number (Disallow value, text) same = cc
-delay_source number (line, text) same = tt
+delay_source number source h = grind (arith, allowed_in)
 
 allowed_fine : (text value : List ℕ) → IsFine text → IsFineMember (allowed_in text value)
-allowed_fine [] [] fine = fine
-allowed_fine [] (b ∷ value) fine = fine
-allowed_fine (b ∷ text) value fine = fine
+allowed_fine text value h = grind arith
 
 rule_fine : (line : LineValue) (text : List ℕ) → IsFine text → IsFineMember (member_in line text)
-rule_fine (Allow value) text fine = allowed_fine text value fine
-rule_fine (Disallow value) text fine = fine
-rule_fine _ text fine = tt
+rule_fine line text h = grind (arith, allowed_fine)
 
 other_fine : (line : LineValue) (text : List ℕ) → IsNoRule line → IsFineMember (member_in line text)
-other_fine (Allow value) text none = absurd none
-other_fine (Disallow value) text none = absurd none
-other_fine _ text none = tt
+other_fine line text h = grind arith
 
 -- the line with this content is none of a rule
 module _ (body : List ℕ) (bytes : Each IsBodyByte body) where
@@ -161,21 +142,15 @@ HaveFine groups = Each (λ (group : rfc.Group). Each IsFineMember group.members)
 
 put_fine : (tokens : List (List ℕ)) (members : List rfc.Member) (groups : List rfc.Group)
     → Each IsFineMember members → HaveFine groups → HaveFine (rfc.put_before tokens members groups)
-put_fine tokens [] [] above below = (tt, tt)
-put_fine tokens [] (next ∷ later) above below = below
-put_fine tokens (member ∷ members) groups above below = (above, below)
+put_fine tokens members groups h h2 = grind arith
 
 parts_fine : (sources : List Source) → Each IsFineSource sources
     → Each IsFineMember (parts_in sources).ungrouped × HaveFine (parts_in sources).groups
 parts_fine [] all = (tt, tt)
-parts_fine ((UserAgent token, text) ∷ sources) (here, all) =
-    let (above, below) = parts_fine sources all in (tt, put_fine (token ∷ []) _ _ above below)
-parts_fine ((Allow value, text) ∷ sources) (here, all) =
-    let (above, below) = parts_fine sources all in ((here, above), below)
-parts_fine ((Disallow value, text) ∷ sources) (here, all) =
-    let (above, below) = parts_fine sources all in ((here, above), below)
-parts_fine ((CrawlDelay delay, text) ∷ sources) (here, all) =
-    let (above, below) = parts_fine sources all in ((here, above), below)
+parts_fine ((UserAgent token, text) ∷ sources) (here, all) = grind (arith, put_fine, parts_fine sources all)
+parts_fine ((Allow value, text) ∷ sources) (here, all) = grind (arith, parts_fine sources all)
+parts_fine ((Disallow value, text) ∷ sources) (here, all) = grind (arith, parts_fine sources all)
+parts_fine ((CrawlDelay delay, text) ∷ sources) (here, all) = grind (arith, parts_fine sources all)
 parts_fine ((_, text) ∷ sources) (here, all) = parts_fine sources all
 
 each_filter : {X : Type 0} (P : X → Type 0) (test : X → Bool) (xs : List X) → Each P xs
@@ -191,14 +166,7 @@ members_fine (group ∷ groups) (here, all) =
 
 rules_fine : (agent : List ℕ) (groups : List rfc.Group) → HaveFine groups
     → Each IsFineMember (rfc.rules_for agent groups)
-rules_fine agent groups all =
-    each_filter IsFineMember rfc.is_rule _ (members_fine (rfc.groups_for agent groups)
-    (by (list_any (rfc.has_token agent) groups)))
-  where
-    by : (named : Bool) → HaveFine (if named then filter (rfc.has_token agent) groups
-        else filter (rfc.has_token (codes "*")) groups)
-    by true = each_filter _ (rfc.has_token agent) groups all
-    by false = each_filter _ (rfc.has_token (codes "*")) groups all
+rules_fine agent groups all = grind (arith, each_filter, members_fine)
 
 raw_parts : (sources : List Source) → parts_in (filter is_not_raw sources) ≡ parts_in sources
 raw_parts [] = refl
@@ -211,10 +179,8 @@ none_denied : (rules : List PlacedRule) (placed : PlacedRule) → Contains rules
     → denies_all placed ≡ true → first_denying rules ≡ None → ⊥
 none_denied [] placed (k, low, at) is none = omega arith
 none_denied (rule ∷ rules) placed (zero, low, at) is none = let e = rw (at, is) at none in cc
-none_denied (rule ∷ rules) placed (suc k, low, at) is none = elim (cases_Bool (denies_all rule)) [
-  | inl denies ↦ let e = rw denies at none in cc
-  | inr other ↦ none_denied rules placed (k, omega arith, at) is (rw other at none)
-]
+none_denied (rule ∷ rules) placed (suc k, low, at) is none =
+    grind (arith, cases_Bool, none_denied rules placed)
 
 escaped_longer : (text : List ℕ) → length text ≤ length (escaped text)
 escaped_longer [] = omega arith
@@ -256,8 +222,7 @@ read_fits : (member : rfc.Member) (rule : Rule) → IsFineMember member → IsRe
     → ¬ IsOverlong rule.0
 read_fits (rfc.Allow path) rule fine (value, trim, e) long =
     pattern_fits path value rule fine trim (ap (λ (rule : Rule). rule.0) e) long
-read_fits (rfc.Disallow []) rule fine e long =
-    root_fits (subst IsOverlong (ap (λ (rule : Rule). rule.0) e) long)
+read_fits (rfc.Disallow []) rule fine e long = grind (arith, root_fits)
 read_fits (rfc.Disallow (b ∷ path)) rule fine (value, trim, e) long =
     pattern_fits (b ∷ path) value rule fine trim (ap (λ (rule : Rule). rule.0) e) long
 read_fits (rfc.Delay number) rule fine e long = absurd e
@@ -270,16 +235,12 @@ none_long members rules fine zip (k, rule, below, at, long) =
     read_fits member rule (fine member has) as_read long
 
 both_none : (one other : Option ℕ) → option_or one other ≡ None → (one ≡ None) × (other ≡ None)
-both_none None other none = (refl, none)
-both_none (Some line) other none = absurd cc
+both_none one other h = grind arith
 
 mixed_none : (agents : List (List ℕ)) (lines : List LineValue) → first_mixed_for agents lines ≡ None
     → Each (λ agent. first_mixed (placed_rules agent lines) ≡ None) agents
 mixed_none [] lines none = tt
-mixed_none (agent ∷ agents) lines none =
-    let (here, later) =
-    both_none (first_mixed (placed_rules agent lines)) (first_mixed_for agents lines) none in
-    (here, mixed_none agents lines later)
+mixed_none (agent ∷ agents) lines none = grind (arith, both_none, mixed_none agents lines)
 
 not_mixed : (rules : List PlacedRule) → first_mixed rules ≡ None → list_any allows_all rules ≡ true
     → first_denying rules ≡ None
@@ -296,10 +257,7 @@ module _ (text : List ℕ) (near : line_apart text ≡ None) (groups : List rfc.
   reasons : (position_from is_apart 1 (file_bodies text) ≡ None) × (first_split over.Rule 1 lines ≡ None)
       × (first_mixed_for (codes "*" ∷ agents_in lines) lines ≡ None)
   unfolding line_apart
-  reasons =
-      let (apart, more) = both_none (position_from is_apart 1 (file_bodies text)) _ near in
-      let (split, mixed) = both_none (first_split over.Rule 1 lines) _ more in
-      (apart, split, mixed)
+  reasons = grind (arith, both_none)
 
   abbrev numbers : List (List ℕ)
   numbers = (has_delays text groups is).0
@@ -323,7 +281,7 @@ module _ (text : List ℕ) (near : line_apart text ≡ None) (groups : List rfc.
       (rules_fine agent (rfc.merged groups) (subst HaveFine groups_are (parts_fine sources all).1)) has
 
   lines_same : lines_in sources ≡ lines
-  lines_same = map-map (λ (source : Source). source.0) source_of (file_bodies text)
+  lines_same = grind (arith, map-map, source_of)
 
   whole_groups : (agent : List ℕ) → members agent ≡ rfc.standard_rules agent groups
   whole_groups agent =

@@ -1,14 +1,14 @@
 -- The tests of lines, as the code makes them.
-use Rattle.std.proofs.Common.{◌≡◌, ℕ, ◌+◌, ◌-◌, ◌==◌, ◌||◌, Bool, true, false, inl, inr, List, [], ◌∷◌}
+use Rattle.std.proofs.Common.{◌≡◌, ℕ, ◌+◌, ◌-◌, ◌==◌, Bool, true, false, inl, inr, List, [], ◌∷◌}
 use Rattle.std.proofs.Common.{◌++◌, None, ap, arith, bytes_eq, drop, filter, length, refl, reverse}
 use Rattle.std.proofs.Common.{subst, suc, sym, take, ◌∙◌}
 use Rattle.std.specs.List.{cons_option, enumerate_from, filter_map, list_any, position_or_len}
 use Rattle.std.proofs.lemmas.{Bool.Decides.nat_tests, Bool.cases_Bool, Bool.or_parts, List.length-drop}
 use Rattle.std.proofs.lemmas.{List.reverse-append}
 use Rattle.std.proofs.{lemmas.List.take_all}
-use Rattle.texting_robots.specs.Callers.{Allow, LineValue, PlacedRule, group_name}
+use Rattle.texting_robots.specs.Callers.{LineValue, PlacedRule}
 use Rattle.texting_robots.specs.{Escape.escaped, Escape.is_escaped}
-use Rattle.texting_robots.specs.Executable.{is_captured, placed_in}
+use Rattle.texting_robots.specs.Executable.{placed_in}
 use Rattle.rfc9309_laws.specs.HasForm.{is_blank, kept_before, text_before, text_from, without_leading}
 use Rattle.rfc9309_laws.specs.HasForm.{without_trailing}
 use Rattle.rfc9309_laws.specs.Conformance.{allows_all, first_mixed_for, is_all, is_open}
@@ -22,23 +22,15 @@ module _ (stop : ℕ) where
 
   pub before_place : (text : List ℕ) → text_before stop text ≡ take (place text) text
   before_place [] = refl
-  before_place (b ∷ text) = elim (cases_Bool (b == stop)) [
-    | inl is ↦ rw is refl
-    | inr other ↦ rw (other, next_place text) (ap (λ t. b ∷ t) (before_place text))
-  ]
+  before_place (b ∷ text) = grind (arith, cases_Bool, next_place, before_place text)
 
   pub from_place : (text : List ℕ) → text_from stop text ≡ drop (place text) text
   from_place [] = refl
-  from_place (b ∷ text) = elim (cases_Bool (b == stop)) [
-    | inl is ↦ rw is refl
-    | inr other ↦ rw (other, next_place text) (from_place text)
-  ]
+  from_place (b ∷ text) = grind (arith, cases_Bool, next_place, from_place text)
 
   pub from_whole : (text : List ℕ)
       → take (length text - place text) (drop (place text) text) ≡ text_from stop text
-  from_whole text =
-      take_all (length text - place text) (drop (place text) text)
-      (omega (arith, length-drop (place text) text)) ∙ sym (from_place text)
+  from_whole text = grind (arith, from_place, length-drop, take_all)
 
 kept_some : (b c : ℕ) (text : List ℕ) → kept_before b (text ++ c ∷ []) ≡ b ∷ (text ++ c ∷ [])
 kept_some b c [] = refl
@@ -62,40 +54,27 @@ trailing_reversed (b ∷ text) =
 
 none_escaped : (text : List ℕ) → bytes_eq (escaped text) [] ≡ bytes_eq text []
 none_escaped [] = refl
-none_escaped (b ∷ text) = elim (cases_Bool (is_escaped b)) [
-  | inl is ↦ rw is refl
-  | inr other ↦ rw other refl
-]
+none_escaped (b ∷ text) = grind (arith, cases_Bool)
 
 not_all : (b : ℕ) → is_escaped b ≡ true → ((b == 47) ≡ false) × ((b == 42) ≡ false)
 not_all b is = grind (arith, nat_tests)
 
 pub all_escaped : (value : List ℕ) → is_all (escaped value) ≡ is_all value
 all_escaped [] = refl
-all_escaped (b ∷ value) = elim (cases_Bool (is_escaped b)) [
-  | inl is ↦ let (slash, star) = not_all b is in rw (is, slash, star) refl
-  | inr other ↦ rw (other, none_escaped value) refl
-]
+all_escaped (b ∷ value) = grind (arith, cases_Bool, none_escaped, not_all)
 
 open_rule : (position : ℕ) (line : LineValue) (rules : List PlacedRule) → is_open line ≡ false
     → list_any allows_all (cons_option (placed_in (position, line)) rules) ≡ list_any allows_all rules
-open_rule position (Allow value) rules none = grind (arith, all_escaped)
-open_rule position line rules none = grind arith
+open_rule position line rules h = grind (arith, all_escaped)
 
 none_allowed : (test : ℕ × LineValue → Bool) (position : ℕ) (lines : List LineValue)
     → list_any is_open lines ≡ false
     → list_any allows_all (filter_map placed_in (filter test (enumerate_from position lines))) ≡ false
 none_allowed test position [] none = refl
 none_allowed test position (line ∷ lines) none =
-    let (here, later) = or_parts (is_open line) (list_any is_open lines) none in
-    elim (cases_Bool (test (position, line))) [
-      | inl is ↦ rw is (open_rule position line _ here ∙ none_allowed test (position + 1) lines later)
-      | inr isnt ↦ rw isnt (none_allowed test (position + 1) lines later)
-    ]
+    grind (arith, cases_Bool, open_rule, or_parts, none_allowed test (position + 1) lines)
 
 pub none_mixed : (agents : List (List ℕ)) (lines : List LineValue) → list_any is_open lines ≡ false
     → first_mixed_for agents lines ≡ None
 none_mixed [] lines none = refl
-none_mixed (agent ∷ agents) lines none =
-    rw (none_allowed (λ p. is_captured (group_name agent lines) lines p.0) 0 lines none)
-    (none_mixed agents lines none)
+none_mixed (agent ∷ agents) lines none = grind (arith, none_allowed, none_mixed agents lines none)

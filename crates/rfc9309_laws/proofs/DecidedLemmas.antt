@@ -1,9 +1,9 @@
 -- The tests of lines find the first line that isn't in the extended grammar, and only then one.
-use Rattle.std.proofs.Common.{◌≡◌, ◌≢◌, ◌≤◌, ◌↔◌, ℕ, ◌+◌, ◌==◌, ◌&&◌, ◌||◌, Bool, true, false, not, inl}
+use Rattle.std.proofs.Common.{◌≡◌, ◌≢◌, ◌≤◌, ◌↔◌, ℕ, ◌+◌, ◌==◌, ◌&&◌, Bool, true, false, not, inl}
 use Rattle.std.proofs.Common.{inr, List, [], ◌∷◌, ◌++◌, All, Contains, Option, None, Some, ap, arith, codes}
-use Rattle.std.proofs.Common.{if◌then◌else◌, length, map, nat_eq, nat_le, refl, ◌⊎◌, subst, sym, take, ◌∙◌}
+use Rattle.std.proofs.Common.{if◌then◌else◌, length, map, nat_eq, nat_le, refl, ◌⊎◌, subst, sym, take}
 use Rattle.std.specs.List.{AllByRecursion as Each, AllZip, list_any, starts_with}
-use Rattle.std.proofs.lemmas.Bool.{and_from, and_parts, both_ways, cases_Bool, eqb-true, false≢true, le-leb}
+use Rattle.std.proofs.lemmas.Bool.{and_from, and_parts, both_ways, eqb-true, false≢true, le-leb}
 use Rattle.std.proofs.lemmas.Bool.{leb-true, not-true, or_cases, or_left, or_right}
 use Rattle.std.proofs.lemmas.{Grind.common_steps, List.Elements.recursion_from_All, List.take_all}
 use Rattle.texting_robots.specs.{Cut.IsBodyByte, Cut.lf, Executable.file_bodies, Line.nul_as_lf}
@@ -11,7 +11,7 @@ use Rattle.texting_robots.specs.{Line.without, Line.without_front}
 use Rattle.texting_robots.specs.Callers.{IsFileRejected, IsRobotOfFile, IsVerdict, RobotValue, agents_in}
 use Rattle.texting_robots.specs.Callers.{file_limit, lines_read, placed_rules, unplaced}
 use Rattle.rfc9309_laws.specs.HasForm.{has_form}
-use Rattle.rfc9309_laws.specs.LineForms.{AreForms, Form, HasForm, Agent, Delay, Empty, Other, Rule, Sitemap}
+use Rattle.rfc9309_laws.specs.LineForms.{Form, HasForm, Agent, Delay, Empty, Other, Rule, Sitemap}
 use Rattle.rfc9309_laws.specs.Conformance.{by_lines, conformance_of, first_other, has_mark_or_none}
 use Rattle.rfc9309_laws.specs.Conformance.{has_syntax, has_verdicts}
 use Rattle.rfc9309_laws.specs.Conformance.{is_line_below, is_read_whole, line_apart, mark}
@@ -63,16 +63,12 @@ module _ (below : Bool) (body : List ℕ) (bodies : List (List ℕ)) (rest : Are
 step_none : (agent other : Bool) (number : ℕ) (below above : Option ℕ)
     → (if agent then below else if other then above else Some number) ≡ None
     → ((agent ≡ true) × (below ≡ None)) ⊎ ((agent ≡ false) × (other ≡ true) × (above ≡ None))
-step_none true other number below above none = inl (refl, none)
-step_none false true number below above none = inr (refl, refl, none)
-step_none false false number below above none = absurd cc
+step_none agent other number below above h = grind arith
 
 none_step : (agent other : Bool) (number : ℕ) (below above : Option ℕ) → (agent ≡ true → below ≡ None)
     → (agent ≡ false → (other ≡ true) × (above ≡ None))
     → (if agent then below else if other then above else Some number) ≡ None
-none_step true other number below above one two = one refl
-none_step false true number below above one two = (two refl).1
-none_step false false number below above one two = absurd (false≢true (two refl).0)
+none_step agent other number below above h h2 = grind arith
 
 lines_formed : (below : Bool) (number : ℕ) (bodies : List (List ℕ)) → first_other below number bodies ≡ None
     → AreFormed below bodies
@@ -90,29 +86,14 @@ lines_formed below number (body ∷ bodies) none =
 other_tested : (below : Bool) (form : Form) (body : List ℕ) → has_form form body ≡ true
     → has_form Agent body ≡ false → (form ≡ Rule → below ≡ true) → is_line_below below body ≡ true
 unfolding is_line_below
-other_tested below Agent body tested isnt rule = absurd (both_ways (has_form Agent body) isnt tested)
-other_tested below Rule body tested isnt rule =
-    or_left _ (has_form Other body) (or_left _ (has_form Delay body) (or_left _ (has_form Sitemap body)
-    (or_left _ (has_form Empty body) (and_from below (has_form Rule body) (rule refl) tested))))
-other_tested below Empty body tested isnt rule =
-    or_left _ (has_form Other body) (or_left _ (has_form Delay body) (or_left _ (has_form Sitemap body)
-    (or_right (below && has_form Rule body) _ tested)))
-other_tested below Sitemap body tested isnt rule =
-    or_left _ (has_form Other body) (or_left _ (has_form Delay body)
-    (or_right _ (has_form Sitemap body) tested))
-other_tested below Delay body tested isnt rule =
-    or_left _ (has_form Other body) (or_right _ (has_form Delay body) tested)
-other_tested below Other body tested isnt rule = or_right _ (has_form Other body) tested
+other_tested below form body h h2 h3 = grind (arith, and_from, both_ways, or_left, or_right)
 
 later_free : (form : Form) (forms : List Form) → form ≢ Agent → AreFree (form ∷ forms) → AreFree forms
-later_free Agent forms isnt free = absurd (isnt refl)
-later_free Rule forms isnt free = absurd free
-later_free form forms isnt free = free
+later_free form forms h h2 = grind arith
 
 rule_below : (below : Bool) (form : Form) (forms : List Form) → (below ≡ false → AreFree (form ∷ forms))
     → form ≡ Rule → below ≡ true
-rule_below true form forms free is = refl
-rule_below false form forms free is = absurd (subst (λ f. AreFree (f ∷ forms)) is (free refl))
+rule_below below form forms h h2 = grind arith
 
 none_other : (below : Bool) (number : ℕ) (forms : List Form) (bodies : List (List ℕ))
     → Each (Each IsBodyByte) bodies → AllZip HasForm forms bodies → (below ≡ false → AreFree forms)
@@ -154,18 +135,13 @@ whole_mark (a ∷ b ∷ c ∷ text) is =
 
 no_mark : (text : List ℕ) → list_any (λ b. starts_with nat_eq text (b ∷ [])) mark ≡ false
     → without_front text ≡ text
-no_mark [] none = refl
-no_mark (a ∷ text) none = grind (arith, common_steps)
+no_mark text h = grind arith
 
 marked : (text : List ℕ) → has_mark_or_none text ≡ true → HasMark text
-marked text is = elim (or_cases (starts_with nat_eq text mark) _ is) [
-  | inl whole ↦ whole_mark text whole
-  | inr none ↦ ([], inl refl, sym (no_mark text (not-true _ none)))
-]
+marked text is = grind (arith, no_mark, not-true, or_cases, whole_mark)
 
 shorter : (b : ℕ) (text : List ℕ) → length (without b text) ≤ length text
-shorter b [] = omega arith
-shorter b (a ∷ text) = grind arith
+shorter b text = grind arith
 
 none_skipped : (text : List ℕ) → text ≡ without_front text
     → not (list_any (λ b. starts_with nat_eq text (b ∷ [])) mark) ≡ true
@@ -175,12 +151,7 @@ none_skipped (a ∷ text) same =
     grind (arith, common_steps, shorter)
 
 test_passed : (text : List ℕ) → HasMark text → has_mark_or_none text ≡ true
-test_passed text (bom, inl none, whole) =
-    or_right (starts_with nat_eq text mark) _
-    (none_skipped text (whole ∙ ap (λ bom. bom ++ without_front text) none))
-test_passed text (bom, inr is, whole) =
-    subst (λ text. has_mark_or_none text ≡ true)
-    (sym (whole ∙ ap (λ bom. bom ++ without_front text) is)) refl
+test_passed text h = grind (arith, none_skipped, or_right)
 
 no_nul : (text : List ℕ) → list_any (λ b. b == 0) text ≡ false → All (λ b. b ≢ 0) text
 no_nul text none = grind (arith, common_steps)
@@ -196,30 +167,20 @@ IsInGrammar file = (length file ≤ file_limit) × ((groups : List rfc.Group) ×
 
 has_syntax_by : (whole : Bool) (other apart : Option ℕ)
     → has_syntax (if whole then by_lines other apart else OtherFile) ≡ true → (whole ≡ true) × (other ≡ None)
-has_syntax_by true None apart is = (refl, refl)
-has_syntax_by true (Some line) apart is = absurd (false≢true is)
-has_syntax_by false other apart is = absurd (false≢true is)
+has_syntax_by whole other apart h = grind arith
 
 by_has_syntax : (whole : Bool) (other apart : Option ℕ) → whole ≡ true → other ≡ None
     → has_syntax (if whole then by_lines other apart else OtherFile) ≡ true
-by_has_syntax true None None is none = refl
-by_has_syntax true None (Some line) is none = refl
-by_has_syntax true (Some line) apart is none = absurd cc
-by_has_syntax false other apart is none = absurd (false≢true is)
+by_has_syntax whole other apart h h2 = grind arith
 
 has_verdicts_by : (whole : Bool) (other apart : Option ℕ)
     → has_verdicts (if whole then by_lines other apart else OtherFile) ≡ true
     → (whole ≡ true) × (apart ≡ None)
-has_verdicts_by true None None is = (refl, refl)
-has_verdicts_by true None (Some line) is = absurd (false≢true is)
-has_verdicts_by true (Some line) apart is = absurd (false≢true is)
-has_verdicts_by false other apart is = absurd (false≢true is)
+has_verdicts_by whole other apart h = grind arith
 
 -- the whole file is read
 read_whole : (file : List ℕ) → is_read_whole file ≡ true → length file ≤ file_limit
-read_whole file is =
-    leb-true (length file) file_limit
-    (and_parts (nat_le (length file) file_limit) _ (and_parts _ (has_mark_or_none file) is).0).0
+read_whole file is = grind (arith, and_parts, leb-true)
 
 none_apart : (file : List ℕ) → has_verdicts (conformance_of file) ≡ true
     → (take file_limit file ≡ file) × (line_apart (take file_limit file) ≡ None)

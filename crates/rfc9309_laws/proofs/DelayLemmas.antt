@@ -46,15 +46,11 @@ twice (member ∷ members) = grind (arith, twice members)
 
 bare_put : (tokens : List (List ℕ)) (members : List Member) (groups : List Group)
     → bare (put_before tokens members groups) ≡ put_before tokens (filter is_rule members) (bare groups)
-bare_put tokens [] [] = refl
-bare_put tokens [] (next ∷ later) = sym (put_both _ _ _ _)
-bare_put tokens (member ∷ members) groups = refl
+bare_put tokens members groups = grind (arith, put_both)
 
 bare_merged : (groups : List Group) → bare (merged groups) ≡ bare groups
 bare_merged [] = refl
-bare_merged (group ∷ later) =
-    bare_put _ group.members _
-    ∙ ap (put_before _ _) (bare_merged later)
+bare_merged (group ∷ later) = grind (arith, bare_put, bare_merged later)
 
 module _ (name : List ℕ) where
   any_put : (tokens : List (List ℕ)) (members : List Member) (groups : List Group)
@@ -71,10 +67,7 @@ module _ (name : List ℕ) where
 
   held_rules : (groups : List Group) → filter is_rule (theirs name groups) ≡ held groups
   held_rules [] = refl
-  held_rules (group ∷ later) = elim (cases_Bool (has name group)) [
-    | inl is ↦ rw (is, filter-append is_rule group.members _, held_rules later)
-    | inr isnt ↦ rw isnt (held_rules later)
-  ]
+  held_rules (group ∷ later) = grind (arith, cases_Bool, filter-append, has, held_rules later)
 
   held_put_none : (groups : List Group) → held (put_before [] [] groups) ≡ held groups
   held_put_none groups = grind arith
@@ -105,10 +98,7 @@ module _ (name : List ℕ) where
       rw (cond_same {X = List Member} (has name group) [], put_both _ _ [] others)
       (same _ is)
   held_step above group (rule ∷ rules) later others is same all =
-      let both = and_parts _ _ is in
-      rw (named_too above group both.0, all)
-      (ap (λ more. cond (has name group) (rule ∷ rules) [] ++ more)
-      (sym (held_put_none others) ∙ same [] both.1))
+      grind (arith, and_parts, has, held_put_none, named_too)
 
   held_bare : (above : List (List ℕ)) (groups : List Group) → is_unsplit above groups ≡ true
       → held (put_before above [] (bare groups)) ≡ held groups
@@ -134,7 +124,7 @@ all_bare agent groups is =
 
 pub rules_unsplit : (agent : List ℕ) (groups : List Group) → is_unsplit [] (merged groups) ≡ true
     → rules_for agent (merged groups) ≡ standard_rules agent groups
-rules_unsplit agent groups is = all_bare agent (merged groups) is ∙ ap (rules_for agent) (bare_merged groups)
+rules_unsplit agent groups is = grind (arith, all_bare, bare_merged)
 
 -- ---- lines: no rule is below user-agent lines with delays between them (`first_split`)
 
@@ -146,9 +136,7 @@ below_token : (tokens : List (List ℕ)) (token text : List ℕ) (sources : List
 below_token tokens token text sources = put_both tokens (token ∷ []) _ _
 
 rule_allowed : (text value : List ℕ) → is_rule (allowed_in text value) ≡ true
-rule_allowed [] [] = refl
-rule_allowed [] (b ∷ value) = refl
-rule_allowed (b ∷ text) value = refl
+rule_allowed text value = grind arith
 
 abbrev are_bare : List Group → Bool
 are_bare groups = list_all (λ (group : Group). not (has_rule group.members)) groups
@@ -157,22 +145,16 @@ bare_unsplit : (tokens : List (List ℕ)) (groups : List Group) → are_bare gro
     → is_unsplit tokens groups ≡ true
 bare_unsplit tokens [] bare = refl
 bare_unsplit tokens (group ∷ groups) bare =
-    let (none, later) = and_parts (not (has_rule group.members)) (are_bare groups) bare in
-    rw (not-true _ none) (bare_unsplit (tokens ++ group.tokens) groups later)
+    grind (arith, and_parts, not-true, bare_unsplit (tokens ++ group.tokens) groups)
 
 bare_after : (rule : Bool) (tokens : List (List ℕ)) (groups : List Group) → are_bare groups ≡ true
     → ((not rule || true) && is_unsplit (if rule then [] else tokens) groups) ≡ true
-bare_after true tokens groups bare = bare_unsplit [] groups bare
-bare_after false tokens groups bare = bare_unsplit tokens groups bare
+bare_after rule tokens groups h = grind (arith, bare_unsplit)
 
 bare_parts : (tokens : List (List ℕ)) (members : List Member) (groups : List Group)
     → are_bare (put_before tokens members groups) ≡ true
     → (has_rule members ≡ false) × (are_bare groups ≡ true)
-bare_parts tokens [] [] bare = (refl, refl)
-bare_parts tokens [] (next ∷ later) bare = (refl, bare)
-bare_parts tokens (member ∷ members) groups bare =
-    let (none, later) = and_parts (not (has_rule (member ∷ members))) (are_bare groups) bare in
-    (not-true _ none, later)
+bare_parts tokens members groups h = grind (arith, and_parts, not-true)
 
 -- what is so of the groups below a line, if no rule there is below groups that are split
 abbrev Holds : Above → List Source → Type 0
@@ -186,9 +168,7 @@ Holds over.Split sources = (tokens : List (List ℕ)) → are_bare (below tokens
 after_delay : (number : List ℕ) (sources : List Source) → Holds over.Delay sources → (tokens : List (List ℕ))
     → is_unsplit [] (put_before tokens (Delay number ∷ (parts_in sources).ungrouped)
     (parts_in sources).groups) ≡ true
-after_delay number sources (inl (rule, whole)) tokens = rw rule whole
-after_delay number sources (inr bare) tokens =
-    bare_after (has_rule (parts_in sources).ungrouped) tokens (parts_in sources).groups bare
+after_delay number sources h tokens = grind (arith, bare_after, parts_in)
 
 pub unsplit : (above : Above) (number : ℕ) (sources : List Source)
     → first_split above number (lines_in sources) ≡ None → Holds above sources
@@ -199,13 +179,11 @@ unsplit over.Split number [] none = λ tokens. refl
 unsplit over.Rule number ((UserAgent token, text) ∷ sources) none =
     unsplit over.Agent (number + 1) sources none (token ∷ [])
 unsplit over.Agent number ((UserAgent token, text) ∷ sources) none =
-    λ tokens. subst (λ groups. is_unsplit [] groups ≡ true) (sym (below_token tokens token text sources))
-    (unsplit over.Agent (number + 1) sources none (tokens ++ token ∷ []))
+    grind (arith, below_token, unsplit over.Agent (number + 1) sources none)
 unsplit over.Delay number ((UserAgent token, text) ∷ sources) none =
     inr (unsplit over.Split (number + 1) sources none (token ∷ []))
 unsplit over.Split number ((UserAgent token, text) ∷ sources) none =
-    λ tokens. subst (λ groups. are_bare groups ≡ true) (sym (below_token tokens token text sources))
-    (unsplit over.Split (number + 1) sources none (tokens ++ token ∷ []))
+    grind (arith, below_token, unsplit over.Split (number + 1) sources none)
 unsplit over.Agent number ((Allow value, text) ∷ sources) none =
     λ tokens. rw (rule_allowed text value) (unsplit over.Rule (number + 1) sources none)
 unsplit over.Delay number ((Allow value, text) ∷ sources) none =

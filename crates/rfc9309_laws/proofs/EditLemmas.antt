@@ -1,5 +1,5 @@
 -- A rule that isn't captured for a crawler has no effect on its robot.
-use Rattle.std.proofs.Common.{◌≡◌, inl, inr, ℕ, suc, ◌+◌, Bool, false, true, List, [], ◌∷◌, ◌++◌, Option}
+use Rattle.std.proofs.Common.{◌≡◌, ℕ, suc, ◌+◌, Bool, false, true, List, [], ◌∷◌, ◌++◌, Option}
 use Rattle.std.proofs.Common.{None, length, drop, take, if◌then◌else◌, codes, sym, refl, ap, ◌∙◌, subst}
 use Rattle.std.proofs.Common.{arith, zero-add}
 use Rattle.std.specs.List.{Any, Sorted.IsPermutation, filter_map, list_any}
@@ -28,8 +28,7 @@ record Facts (line : LineValue) : Type 0 where
   sitemap : sitemap_in line ≡ None
 
 facts : (line : LineValue) → IsRule line → Facts line
-facts line (value, inl is) = grind arith
-facts line (value, inr is) = grind arith
+facts line h = grind arith
 
 record AreSame (agent : List ℕ) (lines others : List LineValue) : Type 0 where
   rules : placed_rules agent lines ≡ placed_rules agent others
@@ -69,7 +68,7 @@ module _ (line other : LineValue) (is : Facts line) (too : Facts other) (back : 
       others = front ++ other ∷ back
 
       agents : list_any is_agent lines ≡ list_any is_agent others
-      agents = any_same is_agent (is.agent ∙ sym too.agent) front
+      agents = grind (arith, any_same)
 
       found : {X : Type 0} (given : ℕ × LineValue → Option X)
           → filter_map given (captured_lines (group_name agent lines) lines)

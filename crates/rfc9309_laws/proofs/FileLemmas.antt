@@ -1,5 +1,6 @@
 -- A text built from the standard's productions consists of lines. A file of the grammar consists of the lines
 -- of its groups, and its sitemaps are those of its sitemap lines.
+use Rattle.std.proofs.Common.{arith}
 use Rattle.std.proofs.Common.{◌≡◌, ◌≢◌, inl, inr, ℕ, List, [], ◌∷◌, ◌++◌, append-nil, append_assoc, ap, map}
 use Rattle.std.proofs.Common.{filter, flat_map, refl, subst, sym, ◌∙◌}
 use Rattle.std.specs.List.{AllByRecursion as Each, AllZip}
@@ -39,18 +40,11 @@ joined lines = flat_map (λ (line : Line). line.text) lines
 
 pub line_bodies : (line : Line) (rest : List ℕ)
     → IsBefore line.is.body (bodies_of (line.text ++ rest)) (bodies_of rest)
-line_bodies line rest =
-    let is = line.is in
-    subst (λ text. IsBefore is.body (bodies_of text) (bodies_of rest))
-    (sym (ap (λ text. text ++ rest) is.whole ∙ append_assoc _ _ rest))
-    (line_before _ _ _ is.bare is.is_nl)
+line_bodies line rest = grind (arith, append_assoc, line_before)
 
 lines_read : (lines : List Line) → sources_of (joined lines) ≡ sources_from lines
 lines_read [] = ap sources_in bodies_nil
-lines_read (line ∷ lines) =
-    before_sources _ _ _ (line_bodies line (joined lines))
-    ∙ ap (λ sources. sources ++ sources_of (joined lines)) line.is.sourced
-    ∙ ap (λ sources. line.sources ++ sources) (lines_read lines)
+lines_read (line ∷ lines) = grind (arith, before_sources, line_bodies, sources_of, lines_read lines)
 
 pub each_read : (lines : List Line) → Each IsRead (sources_from lines)
 each_read [] = tt
@@ -60,15 +54,11 @@ abbrev AreBytes : List ℕ → Type 0
 AreBytes text = Each (λ b. b ≢ 0) text × BeginsLow text
 
 bytes_append : (text later : List ℕ) → AreBytes text → AreBytes later → AreBytes (text ++ later)
-bytes_append text later is also = (each_append (λ b. b ≢ 0) _ _ is.0 also.0, low_append _ _ is.1 also.1)
+bytes_append text later is also = grind (arith, each_append, low_append)
 
 lines_bytes : (lines : List Line) → AreBytes (joined lines)
 lines_bytes [] = (tt, tt)
-lines_bytes (line ∷ lines) =
-    let is = line.is in
-    let body : AreBytes _ = (bare_no_nul _ is.bare, is.low) in
-    let bytes = bytes_append _ _ body (end_bytes _ is.is_nl) in
-    bytes_append _ _ (subst AreBytes (sym is.whole) bytes) (lines_bytes lines)
+lines_bytes (line ∷ lines) = grind (arith, bare_no_nul, bytes_append, end_bytes, lines_bytes lines)
 
 pub lines_free : (lines : List Line) → HasNoRule (sources_from lines) → AreFree (forms_of lines)
 lines_free [] none = tt
@@ -161,10 +151,10 @@ module _ {Content : List ℕ → Type 0} {text : List ℕ} (file : rfc.IsFileOf 
   no_nul = each_front (λ b. b ≢ 0) _ _ bytes.0
 
   pub after_front : without_front (map nul_as_lf (file.bom ++ file.rest)) ≡ file.rest
-  after_front = after_bom file.bom file.rest file.is_bom no_nul (low_of_front file.rest file.nl bytes.1)
+  after_front = grind (arith, after_bom, bytes, low_of_front, no_nul)
 
   pub bodies_are : file_bodies text ≡ bodies_of file.rest
-  bodies_are = ap file_bodies file.whole ∙ ap bodies_of after_front
+  bodies_are = grind (arith, after_front)
 
   pub sources_are : file_sources text ≡ sources_from lines
   sources_are =
@@ -224,15 +214,7 @@ numbered (unit ∷ units) all =
 
 with_content : {Content Other : List ℕ → Type 0} {text : List ℕ} (file : rfc.IsFileOf Content text)
     → Other (file.rest ++ file.nl) → rfc.IsFileOf Other text
-with_content file content = record {
-  bom = file.bom;
-  rest = file.rest;
-  nl = file.nl;
-  whole = file.whole;
-  is_bom = file.is_bom;
-  is_nl = file.is_nl;
-  is_content = content;
-}
+with_content file content = grind arith
 
 pub has_delays : (text : List ℕ) (groups : List rfc.Group) → rfc.IsFile groups text
     → (numbers : List (List ℕ)) × IsFileWith numbers groups text
@@ -293,7 +275,7 @@ file_read text groups file =
 
 pub groups_written : (text : List ℕ) (numbers : List (List ℕ)) (groups : List rfc.Group)
     → FileRead numbers groups text → (parts_in (file_sources text)).groups ≡ rfc.merged groups
-groups_written text numbers groups is = ap (λ (p : Parts). p.groups) is.parts
+groups_written text numbers groups is = grind arith
 
 abbrev Lists : (List (List ℕ) → List (List ℕ)) → List ℕ → Type 0
 Lists make text = Makes with_address make text

@@ -1,19 +1,19 @@
 -- A crawler gets the rules and the delay that the source lines define for it.
 use Rattle.std.proofs.Common.{◌≡◌, ℕ, Bool, true, false, not, ◌||◌, List, [], ◌∷◌, ◌++◌, Option, Some, None}
-use Rattle.std.proofs.Common.{flat_map, filter, cond, bytes_eq, sym, refl, ap, ◌∙◌, subst, append-nil, ◌&&◌}
+use Rattle.std.proofs.Common.{flat_map, filter, cond, bytes_eq, sym, refl, subst, append-nil, ◌&&◌}
 use Rattle.std.proofs.Common.{slice_get, arith}
 use Rattle.std.specs.List.{AllZip, AllByRecursion as Each, list_any, cons_option, filter_map, last_or}
 use Rattle.texting_robots.specs.Executable.{rule_in, rules_for, captured_delays, delay_for}
-use Rattle.texting_robots.specs.Line.{LineValue, UserAgent, Allow, CrawlDelay, Disallow, delay_in}
+use Rattle.texting_robots.specs.Line.{LineValue, UserAgent, delay_in}
 use Rattle.texting_robots.specs.Group.{group_name, is_agent, is_agent_named, is_group}
 use Rattle.texting_robots.proofs.Shared.{cond_same, given_captured, rules_are, delays_are, before_agent}
 use Rattle.texting_robots.proofs.Shared.{before_agents, option_or_none}
 use Rattle.rfc9309_laws.specs.Rfc9309.{Group, Member, put_before, is_rule, has_token, groups_for}
-use Rattle.rfc9309_laws.proofs.Sources.{GivesRuleOf, IsRead, Source, allowed_in, member_in, parts_in}
+use Rattle.rfc9309_laws.proofs.Sources.{IsRead, Source, allowed_in, member_in, parts_in}
 use Rattle.rfc9309_laws.specs.StandardRobot.{IsDelayAs, IsDelayOf, delay_among, is_delay, IsReadAs}
 use Rattle.std.specs.{Str.str_to_ascii_lowercase, Option.option_or}
 use Rattle.std.proofs.lemmas.List.{Elements.filter-append}
-use Rattle.texting_robots.specs.{declared.groups.GroupTracker.GroupTracker, Rules.Rule}
+use Rattle.texting_robots.specs.{declared.groups.GroupTracker.GroupTracker}
 use Rattle.texting_robots.specs.Internal.{Group.start_of}
 use Rattle.rfc9309_laws.proofs.{ReadLemmas.lines_in}
 use Rattle.rfc9309_laws.specs.Rfc9309 as rfc
@@ -44,35 +44,10 @@ module _ {X : Type 0} (given : LineValue → Option X) (wanted : Member → Bool
 
     pub one_found : (member : Member) (found : Option X) (members : List Member) (rest : List X)
         → Gives member found → AreFound members rest → AreFound (member ∷ members) (cons_option found rest)
-    one_found member None members rest none all = rw none all
-    one_found member (Some x) members rest is all = rw is.0 (is.1, all)
-
-    -- a line that isn't in a group gives nothing
-    pub line_found : (group : Bool) (member : Member) (found : Option X) (members : List Member)
-        (rest : List X) → (group ≡ true → Gives member found) → (group ≡ false → found ≡ None)
-        → AreFound members rest → AreFound (cond group (member ∷ members) members) (cons_option found rest)
-    line_found true member found members rest gives none all = one_found _ _ _ _ (gives refl) all
-    line_found false member found members rest gives none all = rw (none refl) all
+    one_found member found members rest h h2 = grind arith
 
 pub rules_given : IsGiven rule_in is_rule IsReadAs
-rules_given = record { none = none; some = some }
-  where
-    gives : (member : Member) (found : Option Rule) → GivesRuleOf member found
-        → Gives rule_in is_rule IsReadAs member found
-    gives member None none = none
-    gives (rfc.Allow pattern) (Some rule) is = (refl, is)
-    gives (rfc.Disallow pattern) (Some rule) is = (refl, is)
-    gives (rfc.Delay number) (Some rule) is = absurd is
-
-    none : (line : LineValue) → is_group line ≡ false → rule_in line ≡ None
-    none line is = grind arith
-
-    some : (line : LineValue) (text : List ℕ) → is_group line ≡ true → IsRead (line, text)
-        → Gives rule_in is_rule IsReadAs (member_in line text) (rule_in line)
-    some (Allow value) text is read = gives (allowed_in text value) (rule_in (Allow value)) read
-    some (Disallow value) text is read = gives (rfc.Disallow text) _ read
-    some (CrawlDelay delay) text is read = refl
-    some line text is read = cc
+rules_given = grind (arith, allowed_in, member_in)
 
 abbrev pub members_in : List Group → List Member
 members_in groups = flat_map (λ group. group.members) groups
@@ -112,8 +87,7 @@ module _ (name : List ℕ) where
   any_named : (sources : List Source)
       → list_any (is_agent_named name) (lines_in sources) ≡ list_any has (parts_in sources).groups
   any_named [] = refl
-  any_named ((UserAgent token, text) ∷ sources) =
-      rw (any_named sources) (any_put token (parts_in sources).ungrouped (parts_in sources).groups)
+  any_named ((UserAgent token, text) ∷ sources) = grind (arith, any_put, parts_in, any_named sources)
   any_named (_ ∷ sources) = any_named sources
 
 module _ {X : Type 0} (given : LineValue → Option X) (wanted : Member → Bool) (R : Member → X → Type 0)
@@ -128,13 +102,7 @@ module _ {X : Type 0} (given : LineValue → Option X) (wanted : Member → Bool
       (rest : List X) → Gives given wanted R member o
       → Found (captured name (closed is) members groups) rest
       → Found (cond is (member ∷ members) [] ++ theirs name groups) (cons_option (cond is o None) rest)
-  member_found is member o members groups rest gives all =
-      at is (rw (captured_closed name is members _) at all)
-    where
-      at : (is : Bool) → Found (cond is members [] ++ theirs name groups) rest
-          → Found (cond is (member ∷ members) [] ++ theirs name groups) (cons_option (cond is o None) rest)
-      at true all = one_found given wanted R member o (members ++ theirs name groups) rest gives all
-      at false all = all
+  member_found is member o members groups rest gives all = grind arith
 
   abbrev after : Bool → GroupTracker → GroupTracker
   after group walk = record { captured = walk.captured; named = not group && walk.named }
@@ -145,10 +113,7 @@ module _ {X : Type 0} (given : LineValue → Option X) (wanted : Member → Bool
       → Found (captured name (after group walk) members groups) rest
       → Found (captured name walk (cond group (member ∷ members) members) groups)
       (cons_option (cond walk.captured o None) rest)
-  captured_found true walk member o members groups rest gives none all =
-      member_found _ _ o _ groups rest (gives refl) all
-  captured_found false walk member o members groups rest gives none all =
-      rw (none refl, cond_same {X = Option X} walk.captured None) all
+  captured_found group walk member o members groups rest h h2 h3 = grind (arith, cond_same, member_found)
 
   -- the `GroupTracker` finds what the members that apply mean
   pub walk_finds : (walk : GroupTracker) (sources : List Source) → Each IsRead sources
@@ -173,8 +138,7 @@ named_groups : (agent : List ℕ) (groups : List Group) (lines : List LineValue)
     → list_any (is_agent_named (str_to_ascii_lowercase agent)) lines ≡ some
     → list_any (has_token agent) groups ≡ some
     → filter (has (group_name agent lines)) groups ≡ groups_for agent groups
-named_groups agent groups lines true named has = rw (named, has)
-named_groups agent groups lines false named has = rw (named, has)
+named_groups agent groups lines some h h2 = grind arith
 
 pub groups_with_name : (agent : List ℕ) (sources : List Source)
     → filter (has (group_name agent (lines_in sources))) (parts_in sources).groups
@@ -192,17 +156,7 @@ module _ (agent : List ℕ) (sources : List Source)
       filter is_rule
       (captured own_name (start_of (lines_in sources)) (parts_in sources).ungrouped (parts_in sources).groups)
       ≡ rfc.rules_for agent (parts_in sources).groups
-  rules_captured =
-      let parts = parts_in sources in
-      let is = not _ in
-      ap (filter is_rule) (captured_closed own_name is parts.ungrouped _)
-      ∙ grouped is _
-      ∙ ap (λ groups. filter is_rule (members_in groups)) (groups_with_name agent sources)
-    where
-      grouped : (is : Bool) (members : List Member)
-          → filter is_rule (cond is (parts_in sources).ungrouped [] ++ members) ≡ filter is_rule members
-      grouped true members = rw (filter-append is_rule (parts_in sources).ungrouped members, none)
-      grouped false members = refl
+  rules_captured = grind (arith, filter-append, groups_with_name, parts_in)
 
   pub rules_written : Each IsRead sources → AllZip IsReadAs (rfc.rules_for agent (parts_in sources).groups)
       (rules_for agent (lines_in sources))
@@ -213,21 +167,7 @@ module _ (agent : List ℕ) (sources : List Source)
       rules_captured (walk_finds rule_in is_rule IsReadAs rules_given own_name (start_of lines) sources all))
 
 delays_given : IsGiven delay_in is_delay IsDelayOf
-delays_given = record { none = none; some = some }
-  where
-    none : (line : LineValue) → is_group line ≡ false → delay_in line ≡ None
-    none line is = grind arith
-
-    allowed : (text value : List ℕ) → is_delay (allowed_in text value) ≡ false
-    allowed text value = grind arith
-
-    some : (line : LineValue) (text : List ℕ) → is_group line ≡ true → IsRead (line, text)
-        → Gives delay_in is_delay IsDelayOf (member_in line text) (delay_in line)
-    some (Allow value) text is read = allowed text value
-    some (Disallow value) text is read = refl
-    some (CrawlDelay None) text is read = absurd read
-    some (CrawlDelay (Some delay)) text is read = (refl, read)
-    some line text is read = cc
+delays_given = grind (arith, allowed_in, member_in)
 
 first_as : (members : List Member) (delays : List ℕ) → AllZip IsDelayOf members delays
     → IsDelayAs (slice_get members 0) (slice_get delays 0)
@@ -246,8 +186,7 @@ last_as member delay (m ∷ members) (d ∷ delays) is all = last_as _ _ members
 
 or_as : (member other : Option Member) (delay more : Option ℕ) → IsDelayAs member delay
     → IsDelayAs other more → IsDelayAs (option_or member other) (option_or delay more)
-or_as None other delay more is also = rw is also
-or_as (Some member) other delay more (micros, is, same) also = rw same (micros, is, refl)
+or_as member other delay more h h2 = grind arith
 
 above_found : (sources : List Source) → Each IsRead sources
     → AllZip IsDelayOf (filter is_delay (parts_in sources).ungrouped)
@@ -255,9 +194,7 @@ above_found : (sources : List Source) → Each IsRead sources
 above_found [] all = tt
 above_found ((UserAgent token, text) ∷ sources) (is, all) = tt
 above_found ((line, text) ∷ sources) (is, all) =
-    line_found delay_in is_delay IsDelayOf _ (member_in line text) _
-    (parts_in sources).ungrouped _
-    (λ group. delays_given.some line text group is) (delays_given.none line) (above_found sources all)
+    grind (arith, delays_given, member_in, parts_in, above_found sources all)
 
 abbrev has_any : List Group → Bool
 has_any [] = false
@@ -269,8 +206,7 @@ put_some tokens members groups = grind arith
 
 any_group : (sources : List Source) → list_any is_agent (lines_in sources) ≡ has_any (parts_in sources).groups
 any_group [] = refl
-any_group ((UserAgent token, text) ∷ sources) =
-    put_some _ (parts_in sources).ungrouped (parts_in sources).groups
+any_group ((UserAgent token, text) ∷ sources) = grind (arith, parts_in, put_some)
 any_group (_ ∷ sources) = any_group sources
 
 chosen : (agent name : List ℕ) (groups : List Group) (above : List Member) (found lead : List ℕ) (is : Bool)
@@ -280,17 +216,8 @@ chosen : (agent name : List ℕ) (groups : List Group) (above : List Member) (fo
     → filter (has name) groups ≡ groups_for agent groups
     → IsDelayAs (delay_among agent groups (filter is_delay above))
     (option_or (slice_get found 0) (cond is (last_or None lead) None))
-chosen agent name [] above found lead true same all leads named = cc
-chosen agent name [] above found lead false same all leads named =
-    let first = first_as _ found (rw append-nil at all) in
-    rw (option_or_none (slice_get found 0)) first
-chosen agent name (group ∷ groups) above found lead false same all leads named = cc
-chosen agent name (group ∷ groups) above found lead true same all leads named =
-    or_as _ _
-    (slice_get found 0) (last_or None lead)
-    (first_as _ found
-    (subst (λ theirs. AllZip IsDelayOf (filter is_delay (members_in theirs)) found) named all))
-    (last_as None None (filter is_delay above) lead refl leads)
+chosen agent name groups above found lead is h h2 h3 h4 =
+    grind (arith, append-nil, first_as, last_as, option_or_none, or_as)
 
 pub delay_written : (agent : List ℕ) (sources : List Source) → Each IsRead sources
     → IsDelayAs (delay_among agent (parts_in sources).groups (filter is_delay (parts_in sources).ungrouped))

@@ -5,7 +5,7 @@ use Rattle.std.specs.List.{AllByRecursion as Each, list_all, Contains, list_any}
 use Rattle.std.specs.{Char.encode_utf8, Str.IsUtf8, Str.encode_utf8_all, Str.is_utf8}
 use Rattle.std.proofs.lemmas.List.Folds.{list_all-append, list_any-from_Any}
 use Rattle.std.proofs.lemmas.Bool.{Decides.nat_tests, and_parts, cases_lt, le-ltb, lt-ltb, cases_Bool}
-use Rattle.std.proofs.lemmas.Bool.{eqb-true, false≢true, not-true, or_cases}
+use Rattle.std.proofs.lemmas.Bool.{eqb-true, not-true, or_cases}
 use Rattle.std.proofs.{lemmas.List.drop_all, Common.append_assoc, lemmas.Slice.Eq.bytes_eq-Decides}
 use Rattle.std.proofs.lemmas.Str.{IsUtf8-append, IsUtf8-encode, IsUtf8-nil, IsUtf8-from_is_utf8, encode_ascii}
 use Rattle.bstr.specs.Utf8.{code_of_2, code_of_3, code_of_4, continues, decoded, good, second}
@@ -20,7 +20,7 @@ use Rattle.bstr.proofs.{lemmas.SoundLemmas.SpellsChar-decoded}
 use Rattle.texting_robots.proofs.Shared.{each_append}
 use Rattle.rfc9309_laws.specs.LineForms.{Form, IsLine, Empty, Agent, Rule, Delay, Sitemap, Other}
 use Rattle.rfc9309_laws.specs.Rfc9309 as rfc
-use lib.Utf8.{scalar, scalar_cases, scalars}
+use lib.Utf8.{scalar, scalars}
 
 -- ---- The characters of the standard's grammar are UTF-8, and none of their bytes is `#`, a space or lower
 -- than that. UTF-8 consists of such characters, if its bytes are in order.
@@ -88,10 +88,7 @@ four (a ∷ b ∷ c ∷ d ∷ []) is =
 four _ is = absurd is
 
 pub char_text : (bytes : List ℕ) → rfc.IsUtf8CharNoctl bytes → IsCharText bytes
-char_text bytes (inl is) = one bytes is
-char_text bytes (inr (inl is)) = two bytes is
-char_text bytes (inr (inr (inl is))) = three bytes is
-char_text bytes (inr (inr (inr is))) = four bytes is
+char_text bytes h = grind (arith, four, one, three, two)
 
 pub text_append : (text later : List ℕ) → IsCharText text → IsCharText later → IsCharText (text ++ later)
 text_append text later is also = record {
@@ -104,38 +101,18 @@ chars_text = many (record { bytes = tt; utf8 = IsUtf8-nil }) text_append char_te
 
 wide : (c : ℕ) → scalar c ≡ true → 128 ≤ c → rfc.IsUtf8CharNoctl (encode_utf8 c)
 unfolding encode_utf8
-wide c is low =
-    let cases = scalar_cases c is in
-    rw (le-ltb c 128 low) (elim (cases_lt c 2048) [
-      | inl two_bytes ↦ rw (lt-ltb c 2048 two_bytes) (inr (inl (grind arith)))
-      | inr more ↦ rw (le-ltb c 2048 more) (elim (cases_lt c 65536) [
-        | inl three_bytes ↦ rw (lt-ltb c 65536 three_bytes) (inr (inr (inl (grind arith))))
-        | inr rest ↦ rw (le-ltb c 65536 rest) (inr (inr (inr (grind arith))))
-      ])
-    ])
+wide c is low = grind (arith, cases_lt, le-ltb, lt-ltb)
 
 value_unit : (c : ℕ) → scalar c ≡ true → list_all is_value_byte (encode_utf8 c) ≡ true
     → rfc.IsUtf8CharNoctl (encode_utf8 c)
-value_unit c is all = elim (cases_lt c 128) [
-  | inl small ↦ let one = rw (encode_ascii c small) at all in
-      rw (encode_ascii c small) (inl (grind (arith, nat_tests)))
-  | inr large ↦ wide c is large
-]
+value_unit c is all = grind (arith, cases_lt, encode_ascii, wide)
 
 comment_byte : (c : ℕ) → is_comment_byte c ≡ true → rfc.IsWs c ⊎ ((c ≡ 0x23) ⊎ (is_value_byte c ≡ true))
 comment_byte c is = grind (arith, nat_tests)
 
 comment_unit : (c : ℕ) → scalar c ≡ true → list_all is_comment_byte (encode_utf8 c) ≡ true
     → rfc.IsCommentUnit (encode_utf8 c)
-comment_unit c is all = elim (cases_lt c 128) [
-  | inl small ↦ let one = rw (encode_ascii c small) at all in
-      rw (encode_ascii c small) (elim (comment_byte c (and_parts _ _ one).0) [
-        | inl blank ↦ inr (inl (c, blank, refl))
-        | inr (inl hash) ↦ inr (inr (ap (λ b. b ∷ []) hash))
-        | inr (inr value) ↦ inl (inl (grind (arith, nat_tests)))
-      ])
-  | inr large ↦ inl (wide c is large)
-]
+comment_unit c is all = grind (arith, and_parts, cases_lt, comment_byte, encode_ascii, wide)
 
 module _ (test : ℕ → Bool) (Part : List ℕ → Type 0)
     (unit : (c : ℕ) → scalar c ≡ true → list_all test (encode_utf8 c) ≡ true → Part (encode_utf8 c)) where
@@ -228,41 +205,26 @@ around text =
 
 named : (body : List ℕ) → has_byte colon body ≡ true → body ≡ (around (text_before colon body)).front
     ++ (name_in body ++ ((around (text_before colon body)).back ++ colon ∷ text_after colon body))
-named body has =
-    split colon body ∙ ap (λ t. text_before colon body ++ t) (found colon body has)
-    ∙ ap (λ t. t ++ (colon ∷ text_after colon body)) (around _).whole
-    ∙ simp append_assoc
+named body has = grind (arith, append_assoc, around, found, split)
 
 identifier : (word : List ℕ) → are_some is_identifier_byte word ≡ true → rfc.IsIdentifier word
-identifier [] is = cc
-identifier (b ∷ word) is = passing rfc.IsIdentifierByte is_identifier_byte identifier_byte (b ∷ word) is
+identifier word h = grind (arith, identifier_byte, passing)
 
 product_token : (value : List ℕ) → is_product_token value ≡ true → rfc.IsProductToken value
-product_token value is = elim (or_cases _ _ is) [
-  | inl word ↦ inl (identifier _ word)
-  | inr star ↦ inr ((bytes_eq-Decides _ _).0 star)
-]
+product_token value is = grind (arith, bytes_eq-Decides, identifier, or_cases)
 
 pub pattern_with : (b c : ℕ) (text : List ℕ) → (b == c) ≡ true → is_value_text text ≡ true
     → rfc.IsPatternWith (c ∷ []) (b ∷ text)
-pattern_with b c text same chars =
-    record { text = text; is_text = value_text _ chars; whole = ap (λ d. d ∷ text) (eqb-true b c same) }
+pattern_with b c text same chars = grind (arith, eqb-true, value_text)
 
 pattern : (value : List ℕ) → is_pattern value ≡ true → rfc.IsPattern value value ⊎ rfc.IsStarPattern value
-pattern [] is = inl (inr (tt, refl))
-pattern (b ∷ text) is =
-    let (first, chars) = and_parts _ _ is in
-    elim (or_cases _ _ first) [
-      | inl slash ↦ inl (inl (pattern_with b 0x2F text slash chars, refl))
-      | inr star ↦ inr (pattern_with b 0x2A text star chars)
-    ]
+pattern value h = grind (arith, and_parts, or_cases, pattern_with)
 
 digit : (b : ℕ) → is_digit b ≡ true → rfc.IsDigitByte b
 digit b is = grind (arith, nat_tests)
 
 digits : (text : List ℕ) → are_some is_digit text ≡ true → rfc.IsDigits text
-digits [] is = cc
-digits (b ∷ text) is = passing _ _ digit (b ∷ text) is
+digits text h = grind (arith, digit, passing)
 
 number : (value : List ℕ) → is_number value ≡ true → rfc.IsNumber value
 number value is = elim (or_cases _ _ is) [
@@ -281,26 +243,12 @@ number value is = elim (or_cases _ _ is) [
 
 not_listed : (name : List ℕ) (names : List (List ℕ)) → list_any (bytes_eq name) names ≡ false
     → Contains names name → ⊥
-not_listed name names none (k, within, is) =
-    let same = (bytes_eq-Decides name name).1 refl in
-    false≢true (sym none ∙ list_any-from_Any (bytes_eq name) names (k, name, within, is, same))
+not_listed name names none (k, within, is) = grind (arith, bytes_eq-Decides, list_any-from_Any)
 
 module _ (end : List ℕ) (nl : rfc.IsNl end) where
   eol : (blanks text : List ℕ) → Each rfc.IsWs blanks → is_comment_text (text_after hash text) ≡ true
       → rfc.IsEol (blanks ++ (text_from hash text ++ end))
-  eol blanks text all is = record {
-    blanks = blanks;
-    comment = text_from hash text;
-    nl = end;
-    whole = refl;
-    are_blanks = all;
-    is_comment = elim (begins hash text) [
-      | inl none ↦ inl none
-      | inr some ↦ inr
-          (record { text = text_after hash text; is_text = comment_text _ is; whole = some })
-    ];
-    is_nl = nl;
-  }
+  eol blanks text all is = grind (arith, begins, comment_text)
 
   pub keyed_passes : (word body : List ℕ) → is_keyed word body ≡ true
       → rfc.IsKeyed word (value_in body) (body ++ end)
@@ -330,15 +278,11 @@ module _ (end : List ℕ) (nl : rfc.IsNl end) where
 
   pub agent_passes : (body : List ℕ) → has_form Agent body ≡ true
       → rfc.IsStartGroupLine (value_in body) (body ++ end)
-  agent_passes body is =
-      let (key, value) = and_parts _ _ is in
-      (product_token _ value, keyed_passes _ body key)
+  agent_passes body is = grind (arith, and_parts, keyed_passes, product_token)
 
   pub delay_passes : (body : List ℕ) → has_form Delay body ≡ true
       → rfc.IsDelayLine (rfc.Delay (value_in body)) (body ++ end)
-  delay_passes body is =
-      let (key, value) = and_parts _ _ is in
-      (number _ value, keyed_passes _ body key)
+  delay_passes body is = grind (arith, and_parts, keyed_passes, number)
 
   rule : (word body : List ℕ) → is_keyed word body ≡ true → is_pattern (value_in body) ≡ true
       → rfc.IsRuleWith word (value_in body) (body ++ end)

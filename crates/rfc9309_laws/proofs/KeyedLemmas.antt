@@ -17,10 +17,10 @@ use Rattle.rfc9309_laws.proofs.Sources.{IsRead, Source, is_not_raw, parts_in, so
 use Rattle.rfc9309_laws.proofs.SyntaxLemmas.{each_weaker, many}
 use Rattle.rfc9309_laws.proofs.ReadLemmas.{BeginsLow, IsBare}
 use Rattle.rfc9309_laws.specs.HasForm.{colon, has_byte, hash, is_blank, is_comment_byte, is_comment_text}
-use Rattle.rfc9309_laws.specs.HasForm.{is_value_byte, is_value_text, kept_before, name_in, stripped, has_form}
+use Rattle.rfc9309_laws.specs.HasForm.{is_value_byte, is_value_text, name_in, stripped, has_form}
 use Rattle.rfc9309_laws.specs.HasForm.{text_after, text_before, text_from, without_leading, without_trailing}
 use Rattle.rfc9309_laws.specs.HasForm.{is_identifier_byte, is_keyed, is_number, is_pattern, is_product_token}
-use Rattle.rfc9309_laws.specs.HasForm.{lower, value_in}
+use Rattle.rfc9309_laws.specs.HasForm.{value_in}
 use Rattle.rfc9309_laws.specs.LineForms.{Form, Agent, Delay, Rule, Sitemap}
 use Rattle.std.specs.{Str.IsUtf8}
 use Rattle.std.proofs.{lemmas.Bool.Decides.nat_tests, lemmas.Slice.Eq.bytes_eq-Decides}
@@ -49,8 +49,7 @@ blank_front : (b : ℕ) → IsBlank b → IsFrontByte b
 blank_front b is = grind arith
 
 pub blanks_low : (blanks : List ℕ) → Each IsBlank blanks → BeginsLow blanks
-blanks_low [] all = tt
-blanks_low (b ∷ blanks) all = let is = all.0 in omega arith
+blanks_low blanks h = grind arith
 
 pub passes : (P : ℕ → Type 0) (test : ℕ → Bool) → ((b : ℕ) → P b → test b ≡ true) → (text : List ℕ)
     → Each P text → list_all test text ≡ true
@@ -64,10 +63,7 @@ pub record ArePartsAt (stop : ℕ) (front rest text : List ℕ) : Type 0 where
 parts : (stop : ℕ) (front rest : List ℕ) → Each (λ b. b ≢ stop) front
     → ArePartsAt stop [] rest rest → ArePartsAt stop front rest (front ++ rest)
 parts stop [] rest all is = is
-parts stop (b ∷ front) rest all is =
-    let other = ne_eqb b stop all.0 in
-    let later = parts stop front rest all.1 is in
-    record { before = rw (other, later.before); from = rw other later.from }
+parts stop (b ∷ front) rest all is = grind (arith, ne_eqb, parts stop front rest all.1 is)
 
 pub parts_at : (stop : ℕ) (front rest : List ℕ) → Each (λ b. b ≢ stop) front
     → ArePartsAt stop front (stop ∷ rest) (front ++ stop ∷ rest)
@@ -94,20 +90,14 @@ trailing_gone : (kept back : List ℕ) → Each IsSolid kept → Each rfc.IsWs b
     → without_trailing (kept ++ back) ≡ kept
 trailing_gone [] [] all after = refl
 trailing_gone [] (b ∷ back) all after = rw (trailing_gone [] back tt after.1, blank_passes b after.0)
-trailing_gone (b ∷ kept) back all after = rw (trailing_gone kept back all.1 after) (last kept)
-  where
-    last : (kept : List ℕ) → kept_before b kept ≡ b ∷ kept
-    last [] = rw all.0
-    last (c ∷ kept) = refl
+trailing_gone (b ∷ kept) back all after = grind (arith, trailing_gone kept back all.1 after)
 
 pub stripped_is : (front kept back : List ℕ) → Each rfc.IsWs front → Each IsSolid kept
     → Each rfc.IsWs back → stripped (front ++ (kept ++ back)) ≡ kept
 stripped_is front [] back before all after =
     ap without_trailing (leading_gone front back before
     ∙ rw append-nil at (leading_gone back [] after))
-stripped_is front (b ∷ kept) back before all after =
-    ap without_trailing (leading_gone front (b ∷ (kept ++ back)) before)
-    ∙ rw all.0 (trailing_gone (b ∷ kept) back all after)
+stripped_is front (b ∷ kept) back before all after = grind (arith, leading_gone, trailing_gone)
 
 pub solid_char : (b : ℕ) → IsCharByte b → IsSolid b
 solid_char b is = grind (arith, nat_tests)
@@ -116,25 +106,17 @@ abbrev pub IsNameByte : ℕ → Type 0
 IsNameByte b = IsFrontByte b × IsSolid b
 
 pub identifier_name : (word : List ℕ) → Each rfc.IsIdentifierByte word → Each IsNameByte word
-identifier_name = each_weaker _ _ (λ b is.
-    let bounds = identifier_bounds b is in
-    grind (arith, nat_tests))
+identifier_name = grind (arith, each_weaker, identifier_bounds)
 
 -- a byte whose lower case is an identifier byte may occur in a name
 name_letter : (b : ℕ) → rfc.IsIdentifierByte (to_ascii_lowercase b) → IsNameByte b
-name_letter b is =
-    let bounds = identifier_bounds _ is in (
-      (inr (grind (arith, nat_tests)), grind (arith, nat_tests), λ e. bounds.2 (ap to_ascii_lowercase e)),
-      false_from_ne_true _ (λ yes. blank_no_letter b (blank b yes) is),
-    )
+name_letter b is = grind (arith, blank, blank_no_letter, false_from_ne_true, identifier_bounds)
 
 pub name_letters : (key word : List ℕ) → map to_ascii_lowercase key ≡ word → Each rfc.IsIdentifierByte word
     → Each IsNameByte key
 name_letters [] word e all = tt
 name_letters (b ∷ key) [] e all = cc
-name_letters (b ∷ key) (c ∷ word) e all =
-    let same : to_ascii_lowercase b ≡ c = cc in
-    (name_letter b (subst rfc.IsIdentifierByte (sym same) all.0), name_letters key word (cc) all.1)
+name_letters (b ∷ key) (c ∷ word) e all = grind (arith, name_letter, name_letters key word)
 
 -- the line has this name before its first colon, and this text after it
 pub record IsNamed (key rest body : List ℕ) : Type 0 where
@@ -174,9 +156,7 @@ pub char_passes : (b : ℕ) → IsCharByte b → is_value_byte b ≡ true
 char_passes b is = grind (arith, nat_tests)
 
 pub value_passes : (text : List ℕ) → IsCharText text → is_value_text text ≡ true
-value_passes text is =
-    and_from _ _ (is_utf8-from_IsUtf8 text is.utf8)
-    (passes _ _ char_passes text is.bytes)
+value_passes text is = grind (arith, and_from, char_passes, is_utf8-from_IsUtf8, passes)
 
 ascii_utf8 : (b : ℕ) → b < 128 → IsUtf8 (b ∷ [])
 ascii_utf8 b small = subst IsUtf8 (encode_ascii b small) (IsUtf8-encode b (low_scalar b (omega arith)))
@@ -262,12 +242,10 @@ abbrev pub word_of : Kind → List ℕ
 word_of kind = get_or (field_names kind) 0 []
 
 word_letters : (kind : Kind) → list_all is_identifier_byte (word_of kind) ≡ true
-word_letters kind.UserAgent = refl
-word_letters _ = refl
+word_letters kind = grind arith
 
 word_written : (kind : Kind) → Contains (field_names kind) (word_of kind)
-word_written kind.UserAgent = (0, omega arith, refl)
-word_written _ = (0, omega arith, refl)
+word_written kind = grind arith
 
 abbrev pub form_of : Kind → Form × (List ℕ → Bool)
 form_of kind.UserAgent = (Agent, is_product_token)
@@ -277,11 +255,7 @@ form_of _ = (Rule, is_pattern)
 
 form_passes : (kind : Kind) (body : List ℕ) → is_keyed (word_of kind) body ≡ true
     → (form_of kind).1 (value_in body) ≡ true → has_form (form_of kind).0 body ≡ true
-form_passes kind.Allow body key value =
-    and_from _ (is_pattern (value_in body)) (or_left (is_keyed (codes "allow") body) _ key) value
-form_passes kind.Disallow body key value =
-    and_from _ (is_pattern (value_in body)) (or_right (is_keyed (codes "allow") body) _ key) value
-form_passes kind body key value = and_from (is_keyed (word_of kind) body) _ key value
+form_passes kind body h h2 = grind (arith, and_from, or_left, or_right)
 
 -- a line with the kind's field name and a value of characters, whose trimmed value is `read`
 module _ (kind : Kind) (value read text : List ℕ) (line : rfc.IsKeyed (word_of kind) value text)
@@ -318,21 +292,14 @@ module _ (kind : Kind) (value read text : List ℕ) (line : rfc.IsKeyed (word_of
   at_hash = rw named_key.after (parts_comment _ _ no_hash comment.is)
 
   value_is : value_in body ≡ value
-  value_is =
-      ap stripped at_hash.before
-      ∙ stripped_is line.gap value eol.blanks line.gap_blank
-      (each_weaker IsCharByte _ solid_char _ chars.bytes) eol.are_blanks
+  value_is = grind (arith, at_hash, each_weaker, solid_char, stripped_is)
 
   value_written : written body ≡ value
   unfolding written
   value_written = value_is
 
   keyed_passes : is_keyed (word_of kind) body ≡ true
-  keyed_passes =
-      let is_word =
-      (bytes_eq-Decides (lower (name_in body)) (word_of kind)).1 (ap lower named_key.name ∙ line.is_key) in
-      and_from _ _ (and_from (has_byte colon body) _ named_key.has is_word)
-      (ap (λ t. is_comment_text (drop 1 t)) at_hash.from ∙ comment.passes)
+  keyed_passes = grind (arith, and_from, at_hash, bytes_eq-Decides, comment, named_key)
 
   states : IsStatement kind read body
   states = record {

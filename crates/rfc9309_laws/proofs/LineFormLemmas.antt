@@ -41,8 +41,7 @@ new_line end bodies text is are = (tt, (end, [], text, refl, is, tt, are))
 
 byte_before : (b : ℕ) (body : List ℕ) (bodies : List (List ℕ)) (text : List ℕ) → IsBodyByte b
     → AreEnded (body ∷ bodies) text → AreEnded ((b ∷ body) ∷ bodies) (b ∷ text)
-byte_before b body bodies text is (bytes, (end, ends, rest, whole, is_end, are_ends, line)) =
-    ((is, bytes), (end, ends, rest, ap (λ t. b ∷ t) whole, is_end, are_ends, line))
+byte_before b body bodies text is (bytes, (end, ends, rest, whole, is_end, are_ends, line)) = grind arith
 
 -- a CR before terminators is one more byte of them
 return_before : (bodies : List (List ℕ)) (text : List ℕ) → AreEnded ([] ∷ bodies) text
@@ -52,7 +51,7 @@ return_before bodies text (bytes, (end, ends, rest, whole, is_end, are_ends, lin
 
 after_return : (bodies : List (List ℕ)) (text : List ℕ) → IsCompleted bodies text
     → IsCompleted (body_step cr bodies) (cr ∷ text)
-after_return [] text (nl, is, are) = (nl, is, new_line cr [] (text ++ nl) (inl refl) are)
+after_return [] text (nl, is, are) = grind (arith, new_line)
 after_return ([] ∷ bodies) text (nl, is, are) = (nl, is, return_before bodies (text ++ nl) are)
 after_return ((b ∷ body) ∷ bodies) text (nl, is, are) =
     (nl, is, new_line cr ((b ∷ body) ∷ bodies) (text ++ nl) (inl refl) are)
@@ -70,9 +69,7 @@ after_byte b [] text other (nl, is, are) =
     nothing : (text nl : List ℕ) → text ++ nl ≡ [] → text ≡ []
     nothing [] nl e = refl
     nothing (c ∷ text) nl e = cc
-after_byte b (body ∷ bodies) text other (nl, is, are) =
-    rw (ne_eqb b lf other.1, ne_eqb b cr other.0)
-    (nl, is, byte_before b _ _ _ other are)
+after_byte b (body ∷ bodies) text other (nl, is, are) = grind (arith, byte_before, ne_eqb)
 
 after_step : (b : ℕ) (bodies : List (List ℕ)) (text : List ℕ) → IsCompleted bodies text
     → IsCompleted (body_step b bodies) (b ∷ text)
@@ -96,8 +93,7 @@ pub bodies_bytes : (text : List ℕ) → Each (Each IsBodyByte) (bodies_of text)
 bodies_bytes text = let (nl, last, are) = completed text in ended_bytes (bodies_of text) (text ++ nl) are
 
 past : (form : Form) (above : List Form) → form ≢ Agent → Contains (form ∷ above) Agent → Contains above Agent
-past form above isnt (zero, within, is) = absurd (isnt is)
-past form above isnt (suc k, within, is) = (k, omega arith, is)
+past form above h h2 = grind arith
 
 later : (form : Form) (forms : List Form) → form ≢ Agent → AreRulesBelowAgents (form ∷ forms)
     → AreRulesBelowAgents forms
@@ -276,9 +272,7 @@ forms_make_file text forms are =
 
 free_next : (form : Form) (forms others : List Form) → (AreFree forms → AreFree others)
     → AreFree (form ∷ forms) → AreFree (form ∷ others)
-free_next Agent forms others more free = tt
-free_next Rule forms others more free = absurd free
-free_next form forms others more free = more free
+free_next form forms others h h2 = grind arith
 
 -- no rule is above the first user-agent line if that is so in the others
 record AreFormed (others : List Form) (bodies : List (List ℕ)) : Type 0 where
@@ -341,8 +335,7 @@ free_below forms (Rule ∷ above) below free e = absurd (rw e at free)
 free_below forms (form ∷ above) below free e = contains_next _ _ (free_below _ above _ (rw e at free) refl)
 
 bom_no_nul : (bom : List ℕ) → rfc.IsBom bom → Each (λ b. b ≢ 0) bom
-bom_no_nul bom (inl none) = rw none tt
-bom_no_nul bom (inr is) = rw is (grind arith)
+bom_no_nul bom h = grind arith
 
 pub file_has_forms : (text : List ℕ) (groups : List rfc.Group) → rfc.IsFile groups text
     → (forms : List Form) × AreForms forms text

@@ -29,30 +29,19 @@ identifier_plain : (b : ℕ) → rfc.IsIdentifierByte b → IsPlain b
 identifier_plain b is = grind arith
 
 pub token_plain : (token : List ℕ) → rfc.IsProductToken token → Each IsPlain token
-token_plain [] is = tt
-token_plain (b ∷ token) (inl is) = each_weaker _ _ identifier_plain (b ∷ token) is
-token_plain (b ∷ token) (inr is) = subst (Each _) (sym is) (grind arith)
+token_plain token h = grind (arith, each_weaker, identifier_plain)
 
 pub plain_text : (bytes : List ℕ) → Each IsPlain bytes → IsCharText bytes × IsTrimOf bytes bytes
-plain_text bytes plain =
-    let visible = each_weaker _ _ (λ b is. is.0) bytes plain in (
-      record {
-        bytes = each_weaker _ _ (λ b is. (is.0.0, is.1)) bytes plain;
-        utf8 = visible_utf8 bytes visible;
-      },
-      visible_trim _ visible,
-    )
+plain_text bytes plain = grind (arith, each_weaker, visible_trim, visible_utf8)
 
 identifier_passes : (b : ℕ) → rfc.IsIdentifierByte b → is_identifier_byte b ≡ true
 identifier_passes b is = grind (arith, nat_tests)
 
 pub name_passes : (name : List ℕ) → rfc.IsIdentifier name → are_some is_identifier_byte name ≡ true
-name_passes [] is = absurd is
-name_passes (b ∷ name) is = passes _ _ identifier_passes (b ∷ name) is
+name_passes name h = grind (arith, identifier_passes, passes)
 
 token_passes : (token : List ℕ) → rfc.IsProductToken token → is_product_token token ≡ true
-token_passes token (inl is) = rw (name_passes _ is)
-token_passes token (inr is) = or_right _ _ ((bytes_eq-Decides _ _).1 is)
+token_passes token h = grind (arith, bytes_eq-Decides, name_passes, or_right)
 
 pub token_line : (token text : List ℕ) → rfc.IsStartGroupLine token text
     → IsLineOf Agent ((UserAgent token, token) ∷ []) text
@@ -68,8 +57,7 @@ pub record MemberRead (form : Form) (member : rfc.Member) (text : List ℕ) : Ty
   pub unlisted : (following : List (List ℕ)) → with_address source following ≡ following
 
 disallowed : (read body : List ℕ) → read ≢ [] → line_with kind.Disallow read body ≡ Disallow read
-disallowed [] body some = absurd (some refl)
-disallowed (b ∷ read) body some = refl
+disallowed read body h = grind arith
 
 pub trim_is_utf8 : (text : List ℕ) → IsCharText text → is_utf8 (trimmed text) ≡ true
 trim_is_utf8 text chars = is_utf8-from_IsUtf8 _ (trim_utf8 _ _ chars.utf8 (trimmed_is_trim _))
@@ -193,12 +181,10 @@ digit_passes : (b : ℕ) → rfc.IsDigitByte b → is_digit b ≡ true
 digit_passes b is = grind (arith, nat_tests)
 
 digits_pass : (digits : List ℕ) → rfc.IsDigits digits → are_some is_digit digits ≡ true
-digits_pass [] is = absurd is
-digits_pass (b ∷ digits) is = passes _ _ digit_passes (b ∷ digits) is
+digits_pass digits h = grind (arith, digit_passes, passes)
 
 no_point : (digits : List ℕ) → rfc.IsDigits digits → Each (λ b. b ≢ 0x2E) digits
-no_point [] is = tt
-no_point (b ∷ digits) is = each_weaker _ (λ b. b ≢ 0x2E) (λ b digit e. omega arith) (b ∷ digits) is
+no_point digits h = grind (arith, each_weaker)
 
 record Numbered (number : List ℕ) : Type 0 where
   delay : ℕ
@@ -272,9 +258,7 @@ parts_numbered (d ∷ ds) fraction is following =
     (ap (λ t. are_some is_digit (drop 1 t)) parts.from ∙ digits_pass fraction following))))
 
 numbered : (number : List ℕ) → rfc.IsNumber number → Numbered number
-numbered number (inl is) = whole_numbered number is
-numbered number (inr is) =
-    subst Numbered (sym is.whole) (parts_numbered is.units is.fraction is.are_units is.is_fraction)
+numbered number h = grind (arith, parts_numbered, whole_numbered)
 
 pub delay_line : (member : rfc.Member) (text : List ℕ) → rfc.IsDelayLine member text
     → MemberRead Delay member text
@@ -296,9 +280,7 @@ delay_line (rfc.Delay number) text (is, line) =
 
 pub member_line : (member : rfc.Member) (text : List ℕ) → rfc.IsMemberLine member text
     → (form : Form) × MemberRead form member text
-member_line member text (inl is) = (Rule, rule_line member text (inl is))
-member_line member text (inr (inl is)) = (Rule, rule_line member text (inr is))
-member_line member text (inr (inr is)) = (Delay, delay_line member text is)
+member_line member text h = grind (arith, delay_line, rule_line)
 
 pub sitemap_line : (address text : List ℕ) → rfc.IsSitemapLine address text
     → IsLineOf Sitemap ((library.Sitemap (trimmed address), address) ∷ []) text

@@ -5,9 +5,9 @@ use Rattle.std.proofs.Common.{List, [], ◌∷◌, ◌++◌, refl, sym, ap, ◌�
 use Rattle.std.specs.{Char.digit_value, Char.is_ascii_alphanumeric, Char.is_ascii_hexdigit, List.list_all}
 use Rattle.std.specs.{Char.is_ascii_lowercase, Char.to_ascii_uppercase, Fmt.digit_glyph}
 use Rattle.std.proofs.lemmas.Bool.{agree_below, agree_below_at, and_parts, and_right, both_ways, cases_Bool}
-use Rattle.std.proofs.lemmas.Bool.{eqb-true, lt-ltb, ltb-true, not-true, or_parts, Decides.nat_tests}
+use Rattle.std.proofs.lemmas.Bool.{eqb-true, ltb-true, not-true, or_parts, Decides.nat_tests}
 use Rattle.std.proofs.lemmas.{List.append-nil}
-use Rattle.texting_robots.specs.Escape.{escaped, escape_byte, is_escaped}
+use Rattle.texting_robots.specs.Escape.{escaped}
 use Rattle.texting_robots.specs.Pattern.{Matches, MatchesWith, dollar, star}
 use Rattle.rfc9309_laws.specs.Comparable.{has_odd_escape, is_normal, is_uri_octet, IsPlainPath}
 use Rattle.rfc9309_laws.specs.Matching.{Reading, all_stay, in_uri, is_escape, is_kept, is_unreserved, IsMatch}
@@ -23,10 +23,7 @@ hex_octet b is = let letter : is_ascii_alphanumeric b ≡ true = grind (arith, n
 pub hex_not : (test : ℕ → Bool) (b : ℕ)
     → agree_below (λ c. is_ascii_hexdigit c && test c) (λ c. false) 128 ≡ true
     → is_ascii_hexdigit b ≡ true → test b ≡ false
-hex_not test b none is =
-    let e : (is_ascii_hexdigit b && test b) ≡ false =
-    agree_below_at (λ c. is_ascii_hexdigit c && test c) (λ c. false) 128 b none (hex_low b is) in
-    rw is at e
+hex_not test b none is = grind (arith, agree_below_at, hex_low)
 
 abbrev pub begins_escape : List ℕ → Bool
 begins_escape text = is_escape (slice_index text 0) (slice_index text 1) (slice_index text 2)
@@ -39,10 +36,8 @@ module _ (P : Bool → List ℕ → Type 0) (none : (in_query : Bool) → P in_q
     → is_ascii_hexdigit low ≡ true → P in_query text → P in_query (37 ∷ high ∷ low ∷ text)) where
   pub by_escapes : (in_query : Bool) (text : List ℕ) → P in_query text
   by_escapes in_query [] = none in_query
-  by_escapes in_query (b ∷ []) = octet in_query b [] (and_right (b == 37) _ refl) (none _)
-  by_escapes in_query (b ∷ c ∷ []) =
-      octet in_query b (c ∷ []) (and_right (b == 37) _ (and_right (is_ascii_hexdigit c) false refl))
-      (by_escapes (in_query || b == 63) (c ∷ []))
+  by_escapes in_query (b ∷ []) = grind (arith, and_right)
+  by_escapes in_query (b ∷ c ∷ []) = grind (arith, and_right, by_escapes (in_query || b == 63) (c ∷ []))
   by_escapes in_query (b ∷ high ∷ low ∷ text) = elim (cases_Bool (is_escape b high low)) [
     | inl is ↦
         let (percent, digits) = and_parts _ _ is in
@@ -136,10 +131,7 @@ fixed =
 
 pub escape_same : (high low : ℕ) → has_odd_digits high low ≡ false
     → normal_escape high low ≡ 37 ∷ high ∷ low ∷ []
-escape_same high low even =
-    let (lower, needed) = or_parts _ _ even in
-    let (one, two) = or_parts _ _ lower in
-    rw (needed, uppercase high one, uppercase low two)
+escape_same high low even = grind (arith, or_parts, uppercase)
 
 normal_same : (in_query : Bool) (uri : List ℕ) → list_all is_uri_octet uri ≡ true
     → has_odd_escape uri ≡ false → normal_from (in_uri all_stay) in_query uri ≡ uri
@@ -158,16 +150,13 @@ normal_same =
     ∙ rw (escape_same high low digits) (ap (λ t. 37 ∷ high ∷ low ∷ t) (later rest no_more)))
 
 pub normal_uris : (uri : List ℕ) → (normal_uri all_stay uri ≡ uri) ↔ (is_normal uri ≡ true)
-normal_uris uri = (
-  λ same. let (octets, even) = fixed false uri same in rw (octets, even),
-  λ is. let (octets, even) = and_parts _ _ is in normal_same false uri octets (not-true _ even),
-)
+normal_uris uri = grind (arith, and_parts, fixed, normal_same, not-true)
 
 filling : (q tail t : List ℕ) → has_dollar q ≡ false → MatchesWith true (q ++ tail) t
     ↔ ((strings : List (List ℕ)) × (rest : List ℕ) × (t ≡ filled q strings ++ rest)
     × MatchesWith true tail rest)
 unfolding MatchesWith filled
-filling [] tail t free = (λ m. ([], t, refl, m), λ (strings, rest, e, m). rw e m)
+filling [] tail t free = grind arith
 filling (b ∷ q) tail t free =
     let (not_end, no_later) = or_parts _ _ free in
     elim (cases_Bool (b == star)) [
@@ -201,17 +190,12 @@ end_of false = []
 pub escaped_parts : (path : List ℕ) → escaped path ≡ escaped (without_end path) ++ end_of (is_ended path)
 unfolding is_ended without_end
 escaped_parts [] = refl
-escaped_parts (b ∷ []) = elim (cases_Bool (b == dollar)) [
-  | inl is ↦ rw is (ap (λ c. escaped (c ∷ [])) (eqb-true b dollar is))
-  | inr other ↦ rw other (sym (append-nil _))
-]
-escaped_parts (b ∷ c ∷ path) =
-    ap (λ t. escape_byte b ++ t) (escaped_parts (c ∷ path)) ∙ sym (append_assoc (escape_byte b) _ _)
+escaped_parts (b ∷ []) = grind (arith, append-nil, cases_Bool, eqb-true)
+escaped_parts (b ∷ c ∷ path) = grind (arith, append_assoc, escaped_parts (c ∷ path))
 
 restricts : (ended : Bool) (rest : List ℕ) → MatchesWith true (end_of ended) rest ↔ (ended ≡ true → rest ≡ [])
 unfolding MatchesWith
-restricts true rest = (λ (s, (e, gone), m) _. e, λ none. ([], (none refl, refl), tt))
-restricts false rest = (λ m is. cc, λ _. tt)
+restricts ended rest = grind arith
 
 glyph_plain : (d : ℕ) → (digit_glyph true d == dollar) ≡ false
 glyph_plain d = grind (arith, nat_tests)
@@ -222,22 +206,4 @@ escaped_plain (b ∷ q) free = grind (arith, glyph_plain, escaped_plain q)
 
 pub matches_so : (stays : Reading) (path uri : List ℕ) → normal_uri stays uri ≡ uri
     → IsPlainPath stays path → Matches (escaped path) uri ↔ IsMatch stays path uri
-matches_so stays path uri same plain =
-    let ended = is_ended path in
-    let both = filling _ (end_of ended) uri (escaped_plain (without_end path) plain.dollar) in
-    rw (escaped_parts _) (
-      λ m.
-          let (strings, rest, e, n) = both.0 m in
-          record {
-            strings = strings;
-            rest = rest;
-            whole = rw (same, plain.normal) e;
-            end = λ is. (restricts ended rest).0 n is;
-          },
-      λ is. both.1 (
-        is.strings,
-        is.rest,
-        rw (same, plain.normal) at is.whole,
-        (restricts ended is.rest).1 is.end,
-      ),
-    )
+matches_so stays path uri same plain = grind (arith, escaped_parts, escaped_plain, filling, restricts)

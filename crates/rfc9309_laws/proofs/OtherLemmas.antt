@@ -1,6 +1,6 @@
 -- Empty lines, comments, and records that the library ignores; and what all lines have in common.
-use Rattle.std.proofs.Common.{◌≡◌, ◌⊎◌, inl, inr, ℕ, true, false, not, List, [], ◌∷◌, ◌++◌, Option, Some, ap}
-use Rattle.std.proofs.Common.{None, append-nil, append_assoc, arith, bytes_eq, drop, filter, get_or, refl}
+use Rattle.std.proofs.Common.{◌≡◌, ◌⊎◌, inl, inr, ℕ, true, false, List, [], ◌∷◌, ◌++◌, Option, Some, ap}
+use Rattle.std.proofs.Common.{None, append-nil, append_assoc, arith, bytes_eq, drop, filter, refl}
 use Rattle.std.proofs.Common.{subst, sym, ◌∙◌, ◌≢◌}
 use Rattle.std.specs.List.{AllByRecursion as Each, Contains, list_all, list_any}
 use Rattle.std.proofs.lemmas.Bool.{and_from, false_from_ne_true, Decides.nat_tests}
@@ -27,8 +27,7 @@ use Rattle.rfc9309_laws.proofs.SyntaxLemmas.{each_back, each_weaker}
 use Rattle.rfc9309_laws.specs.Rfc9309 as rfc
 
 comment_no_key : (comment : List ℕ) → IsOptionalComment comment → kind_by (skip_blanks comment) ≡ None
-comment_no_key comment (inl none) = rw none
-comment_no_key comment (inr (text, is)) = rw is
+comment_no_key comment h = grind arith
 
 pub empty_line : (text : List ℕ) → rfc.IsEol text → IsLineOf Empty [] text
 empty_line text eol =
@@ -74,12 +73,10 @@ Begins [] = ⊥
 Begins (b ∷ text) = rfc.IsIdentifierByte b
 
 word_begins : (word rest : List ℕ) → rfc.IsIdentifier word → Begins (word ++ rest)
-word_begins [] rest is = absurd is
-word_begins (b ∷ word) rest is = is.0
+word_begins word rest h = grind arith
 
 written_begins : (spelling : List ℕ) → IsWritten spelling → Begins spelling
-written_begins spelling (inl (is, has)) = subst Begins (append-nil spelling) (word_begins spelling [] is)
-written_begins spelling (inr two) = subst Begins (sym two.whole) (word_begins two.word _ two.is_word)
+written_begins spelling h = grind (arith, append-nil, word_begins)
 
 word_plain : (word rest : List ℕ) → Begins (lower word) → NoBlank (word ++ rest)
 word_plain [] rest is = absurd is
@@ -90,22 +87,16 @@ colon_stops [] text all = λ letter. (identifier_bounds 58 letter).2 refl
 colon_stops (b ∷ blanks) text all = blank_no_letter b all.0
 
 tail_stops : (tail rest : List ℕ) → IsAfterColon tail rest ⊎ IsAfterBlanks tail rest → Stops (lower rest)
-tail_stops tail rest (inl (blanks, all, whole)) = subst Stops (sym (ap lower whole)) (colon_stops _ tail all)
+tail_stops tail rest (inl (blanks, all, whole)) = grind (arith, colon_stops)
 tail_stops tail rest (inr ([], all, some, whole, plain)) = absurd (some refl)
-tail_stops tail rest (inr (b ∷ blanks, all, some, whole, plain)) =
-    subst Stops (sym (ap lower whole)) (blank_no_letter b all.0)
+tail_stops tail rest (inr (b ∷ blanks, all, some, whole, plain)) = grind (arith, blank_no_letter)
 
 -- spaces or tabs and a colon aren't a space and an identifier byte
 no_letter : (blanks text more : List ℕ) (b : ℕ) → Each rfc.IsWs blanks → rfc.IsIdentifierByte b
     → lower (blanks ++ 58 ∷ text) ≡ 32 ∷ b ∷ more → ⊥
-no_letter [] text more b all letter e =
-    let wrong : ◌≡◌ {A = ℕ} 58 32 = ap (λ (l : List ℕ). get_or l 0 0) e in
-    omega (arith, wrong)
-no_letter (c ∷ []) text more b all letter e =
-    (identifier_bounds b letter).2 (sym (ap (λ (l : List ℕ). get_or l 1 0) e))
-no_letter (c ∷ d ∷ blanks) text more b all letter e =
-    blank_no_letter d all.1.0
-    (subst rfc.IsIdentifierByte (sym (ap (λ (l : List ℕ). get_or l 1 0) e)) letter)
+no_letter [] text more b all letter e = grind arith
+no_letter (c ∷ []) text more b all letter e = grind (arith, identifier_bounds)
+no_letter (c ∷ d ∷ blanks) text more b all letter e = grind (arith, blank_no_letter)
 
 unlisted : (name : List ℕ) → (Contains rfc.names_read name → ⊥)
     → list_any (bytes_eq name) rfc.names_read ≡ false
@@ -168,7 +159,7 @@ module _ (text : List ℕ) (o : rfc.IsOtherLine text) where
   no_statement (Some (kind, value)) e = absurd (unstated kind value (found_statement kind value body e))
 
   other_passes : is_other_name o.name ≡ true
-  other_passes = and_from _ _ (name_passes o.name o.is_name) (ap not (unlisted (lower o.name) o.is_other))
+  other_passes = grind (arith, and_from, name_passes, unlisted)
 
   pub other_line : IsLineOf Other [] text
   other_line =
@@ -222,10 +213,10 @@ module _ (body : List ℕ) (bytes : Each IsBodyByte body) (form : Form) (is : Ha
   line = line_of form (body ++ lf ∷ []) is
 
   content : line.1.body ≡ body
-  content = before_end body line.1.body line.1.nl bytes line.1.is_nl line.1.whole
+  content = grind (arith, before_end)
 
   pub form_tested : has_form form body ≡ true
-  form_tested = subst (λ b. has_form form b ≡ true) content line.1.tested
+  form_tested = grind (arith, content)
 
 pub only_empty : (form : Form) → HasForm form [] → form ≡ Empty
 only_empty form is = at form (form_tested [] tt form is)

@@ -1,8 +1,8 @@
 -- A plain path (`is_plain_path`) is compared here as the standard does.
 use Rattle.std.proofs.Common.{◌≡◌, ◌≤◌, ℕ, ◌+◌, ◌-◌, ◌==◌, ◌||◌, Bool, true, false, not, inl, inr, List}
-use Rattle.std.proofs.Common.{[], ◌∷◌, ◌++◌, ap, ap₂, arith, codes, if◌then◌else◌, length, nat_eq, refl}
-use Rattle.std.proofs.Common.{suc, subst, sym, take, ◌∙◌}
-use Rattle.std.specs.{List.ends_with, List.list_any}
+use Rattle.std.proofs.Common.{[], ◌∷◌, ◌++◌, ap, ap₂, arith, if◌then◌else◌, refl}
+use Rattle.std.proofs.Common.{sym, ◌∙◌}
+use Rattle.std.specs.{List.list_any}
 use Rattle.std.proofs.lemmas.Bool.{agree_below_at, and_parts, cases_Bool, cases_lt, Decides.nat_tests}
 use Rattle.std.proofs.lemmas.Bool.{le-ltb, not-true, or_from, or_parts}
 use Rattle.texting_robots.specs.Callers.{escaped}
@@ -59,14 +59,10 @@ plain_from =
 
 if_cons : (ended : Bool) (b : ℕ) (front text : List ℕ)
     → (if ended then b ∷ front else b ∷ text) ≡ b ∷ (if ended then front else text)
-if_cons true b front text = refl
-if_cons false b front text = refl
+if_cons ended b front text = grind arith
 
 next_front : (b c : ℕ) (path : List ℕ) → front_of (b ∷ c ∷ path) ≡ b ∷ front_of (c ∷ path)
-next_front b c path =
-    let next : length (b ∷ c ∷ path) - 1 ≡ suc (length (c ∷ path) - 1) = omega arith in
-    rw next (if_cons (ends_with nat_eq (c ∷ path) (codes "$")) b (take (length (c ∷ path) - 1) (c ∷ path))
-    (c ∷ path))
+next_front b c path = grind (arith, if_cons)
 
 front_same : (path : List ℕ) → front_of path ≡ without_end path
 unfolding without_end
@@ -75,12 +71,4 @@ front_same (b ∷ []) = grind (arith, nat_tests)
 front_same (b ∷ c ∷ path) = next_front b c path ∙ ap (λ t. b ∷ t) (front_same (c ∷ path))
 
 pub plain_compared : (path : List ℕ) → is_plain_path path ≡ true → IsPlainPath all_stay path
-plain_compared path plain =
-    let (odd, more) = and_parts (not (list_any is_odd_octet (front_of path))) _ plain in
-    let (even, dollar) = and_parts (not (has_odd_escape (front_of path))) _ more in
-    let same = front_same path in
-    record {
-      normal = subst (λ front. normal_from (in_rule all_stay) false front ≡ escaped front) same
-          (plain_from false (front_of path) (not-true _ odd) (not-true _ dollar) (not-true _ even));
-      dollar = subst (λ front. has_dollar front ≡ false) same (not-true _ dollar);
-    }
+plain_compared path plain = grind (arith, and_parts, front_same, not-true, plain_from)

@@ -1,10 +1,10 @@
 -- The source lines of a text that consists of lines. Ignored lines have none. The last line may lack a
 -- terminator, and a byte order mark may come first.
 use Rattle.std.proofs.Common.{◌≡◌, ◌≢◌, ◌⊎◌, inl, inr, ℕ, ◌<◌, ◌≤◌, List, [], ◌∷◌, ◌++◌, map, filter, cond}
-use Rattle.std.proofs.Common.{not, sym, refl, ap, ◌∙◌, append-nil, arith, Bool}
+use Rattle.std.proofs.Common.{not, refl, ap, ◌∙◌, append-nil, arith, Bool}
 use Rattle.std.proofs.lemmas.{Bool.ne_eqb, List.Elements.filter-append}
 use Rattle.texting_robots.specs.Line.{is_raw, LineValue, nul_as_lf, without_front}
-use Rattle.texting_robots.specs.{Cut.cr, Cut.lf, Executable.file_bodies, Executable.file_lines, Laws.Same}
+use Rattle.texting_robots.specs.{Executable.file_bodies, Executable.file_lines, Laws.Same}
 use Rattle.rfc9309_laws.specs.Rfc9309.{IsLastNl, IsNl, IsBom}
 use Rattle.texting_robots.proofs.Shared.{body_byte, body_return, body_step, step, raw_changes_nothing}
 use Rattle.texting_robots.proofs.Shared.{bodies_nil, byte_cases, line_without_kind}
@@ -20,9 +20,7 @@ abbrev pub sources_of : List ℕ → List Source
 sources_of text = sources_in (bodies_of text)
 
 pub empty_adds_none : (bodies : List (List ℕ)) → sources_in ([] ∷ bodies) ≡ sources_in bodies
-empty_adds_none bodies =
-    ap (λ line. cond (not (is_raw line)) ((line, written []) ∷ sources_in bodies) (sources_in bodies))
-    (line_without_kind [] [] refl refl)
+empty_adds_none bodies = grind (arith, line_without_kind, written)
 
 abbrev pub IsBare : ℕ → Type 0
 IsBare byte = (byte ≡ 9) ⊎ (32 ≤ byte)
@@ -32,16 +30,13 @@ BeginsLow [] = Unit {0}
 BeginsLow (byte ∷ text) = byte < 128
 
 pub low_append : (xs ys : List ℕ) → BeginsLow xs → BeginsLow ys → BeginsLow (xs ++ ys)
-low_append [] ys low more = more
-low_append (x ∷ xs) ys low more = low
+low_append xs ys h h2 = grind arith
 
 pub bare_no_nul : (body : List ℕ) → Each IsBare body → Each (λ byte. byte ≢ 0) body
-bare_no_nul = each_weaker _ (λ byte. byte ≢ 0) (λ byte is e. omega arith)
+bare_no_nul = grind (arith, each_weaker)
 
 pub end_bytes : (nl : List ℕ) → IsNl nl → Each (λ byte. byte ≢ 0) nl × BeginsLow nl
-end_bytes nl (inl is) = rw is (grind arith)
-end_bytes nl (inr (inl is)) = rw is (grind arith)
-end_bytes nl (inr (inr is)) = rw is (grind arith)
+end_bytes nl h = grind arith
 
 -- an empty content may have been the first of the others
 pub record IsBefore (body : List ℕ) (bodies others : List (List ℕ)) : Type 0 where
@@ -50,41 +45,21 @@ pub record IsBefore (body : List ℕ) (bodies others : List (List ℕ)) : Type 0
   pub same : (later ≡ others) ⊎ (others ≡ [] ∷ later)
 
 after_return : (bodies : List (List ℕ)) → IsBefore [] (body_return bodies) bodies
-after_return [] = record { later = []; whole = refl; same = inl refl }
-after_return ([] ∷ bodies) = record { later = bodies; whole = refl; same = inr refl }
-after_return ((b ∷ body) ∷ bodies) = record { later = (b ∷ body) ∷ bodies; whole = refl; same = inl refl }
+after_return bodies = grind arith
 
 end_before : (nl rest : List ℕ) → IsNl nl → IsBefore [] (bodies_of (nl ++ rest)) (bodies_of rest)
-end_before nl rest (inl is) = rw (is, step cr _) (after_return _)
-end_before nl rest (inr (inl is)) =
-    rw (is, step lf _) (record { later = bodies_of rest; whole = refl; same = inl refl })
-end_before nl rest (inr (inr is)) =
-    rw (is, step cr _, step lf _)
-    (record { later = bodies_of rest; whole = refl; same = inl refl })
+end_before nl rest h = grind (arith, after_return, step)
 
 pub line_before : (body nl rest : List ℕ) → Each IsBare body → IsNl nl
     → IsBefore body (bodies_of (body ++ (nl ++ rest))) (bodies_of rest)
 line_before [] nl rest bare is = end_before nl rest is
 line_before (b ∷ body) nl rest bare is =
-    let byte = bare.0 in
-    let later = line_before body nl rest bare.1 is in
-    record {
-      later = later.later;
-      whole =
-          step b _ ∙ ap (body_step b) later.whole
-          ∙ rw (ne_eqb b lf (λ e. omega arith), ne_eqb b cr (λ e. omega arith));
-      same = later.same;
-    }
+    grind (arith, body_step, ne_eqb, step, line_before body nl rest bare.1 is)
 
 pub before_sources : (body : List ℕ) (bodies others : List (List ℕ)) → IsBefore body bodies others
     → sources_in bodies ≡ filter is_not_raw (source_of body ∷ []) ++ sources_in others
 before_sources body bodies others line =
-    let later : sources_in line.later ≡ sources_in others = elim line.same [
-      | inl same ↦ ap sources_in same
-      | inr more ↦ sym (ap sources_in more ∙ empty_adds_none line.later)
-    ] in
-    ap sources_in line.whole ∙ filter-append is_not_raw (source_of body ∷ []) (map source_of line.later)
-    ∙ ap (λ sources. filter is_not_raw (source_of body ∷ []) ++ sources) later
+    grind (arith, empty_adds_none, filter-append, is_not_raw, source_of)
 
 abbrev pub IsSameOrMore : List (List ℕ) → List (List ℕ) → Type 0
 IsSameOrMore bodies others = (bodies ≡ others) ⊎ (bodies ≡ others ++ [] ∷ [])
@@ -94,19 +69,10 @@ return_more bodies = grind arith
 
 byte_more : (b : ℕ) (bodies : List (List ℕ))
     → IsSameOrMore (body_step b (bodies ++ [] ∷ [])) (body_step b bodies)
-byte_more b bodies = elim (byte_cases b) [
-  | inl feed ↦ rw feed (inr refl)
-  | inr (inl return) ↦ rw return (return_more _)
-  | inr (inr other) ↦ rw (ne_eqb b lf other.1, ne_eqb b cr other.0) (at bodies)
-]
-  where
-    at : (bodies : List (List ℕ)) → IsSameOrMore (body_byte b (bodies ++ [] ∷ [])) (body_byte b bodies)
-    at bodies = grind arith
+byte_more b bodies = grind (arith, body_byte, byte_cases, ne_eqb, return_more)
 
 one_end : (nl : List ℕ) → IsNl nl → bodies_of nl ≡ [] ∷ []
-one_end nl (inl is) = rw (is, step cr [], bodies_nil)
-one_end nl (inr (inl is)) = rw (is, step lf [], bodies_nil)
-one_end nl (inr (inr is)) = rw (is, step cr _, step lf [], bodies_nil)
+one_end nl h = grind (arith, bodies_nil, step)
 
 pub end_more : (text nl : List ℕ) → IsLastNl nl → IsSameOrMore (bodies_of (text ++ nl)) (bodies_of text)
 end_more text nl (inl none) = rw (none, append-nil) (inl refl)
@@ -135,23 +101,14 @@ nothing_replaced [] all = refl
 nothing_replaced (b ∷ text) all = rw (ne_eqb b 0 all.0, nothing_replaced text all.1)
 
 low_front : (text : List ℕ) → BeginsLow text → without_front text ≡ text
-low_front [] low = refl
-low_front (b ∷ text) low =
-    rw (
-      ne_eqb b 0xEF (λ e. omega arith),
-      ne_eqb b 0xBB (λ e. omega arith),
-      ne_eqb b 0xBF (λ e. omega arith),
-    )
-    refl
+low_front text h = grind (arith, ne_eqb)
 
 pub after_bom : (bom text : List ℕ) → IsBom bom → Each (λ byte. byte ≢ 0) text → BeginsLow text
     → without_front (map nul_as_lf (bom ++ text)) ≡ text
-after_bom bom text (inl none) all low = rw (none, nothing_replaced text all) (low_front text low)
-after_bom bom text (inr is) all low = rw (is, nothing_replaced text all)
+after_bom bom text h h2 h3 = grind (arith, low_front, nothing_replaced)
 
 pub low_of_front : (text more : List ℕ) → BeginsLow (text ++ more) → BeginsLow text
-low_of_front [] more low = tt
-low_of_front (b ∷ text) more low = low
+low_of_front text more h = grind arith
 
 -- without the byte order mark
 abbrev pub file_sources : List ℕ → List Source

@@ -1,7 +1,8 @@
 -- The robot of a file in the standard's grammar has the rules, the delay and the sitemaps that the file
 -- states. A file in the standard's own grammar is also one in the extended grammar.
+use Rattle.std.proofs.Common.{arith}
 use Rattle.std.specs.Prelude.{take}
-use Rattle.std.proofs.Common.{inl, inr, ℕ, List, [], refl, sym, subst, append-nil, ◌≡◌, ◌∷◌, filter, map, ◌∙◌}
+use Rattle.std.proofs.Common.{inl, ℕ, List, [], refl, sym, subst, append-nil, ◌≡◌, ◌∷◌, filter, map, ◌∙◌}
 use Rattle.texting_robots.specs.Executable.{delay_for, file_lines, placed_rules, rules_for}
 use Rattle.texting_robots.specs.Robot.{IsFileRejected, IsRobotOf, IsRobotOfFile, RobotValue, file_limit}
 use Rattle.texting_robots.specs.{Line.AreFileLinesOf, Trim.IsTrimOf}
@@ -23,37 +24,10 @@ IsWeaker {X} P Q = (x : X) (text : List ℕ) → P x text → Q x text
 
 pub repeats_weaker : {X : Type 0} (P Q : X → List ℕ → Type 0) → IsWeaker P Q
     → IsWeaker (rfc.Repeats (rfc.IsOneOr P rfc.IsEmptyLine)) (rfc.Repeats (rfc.IsOneOr Q rfc.IsSkipped))
-repeats_weaker P Q weaker items text is = record {
-  units = is.units;
-  each =
-      each_weaker (λ unit. rfc.IsOneOr P rfc.IsEmptyLine unit.items unit.bytes)
-      (λ unit. rfc.IsOneOr Q rfc.IsSkipped unit.items unit.bytes)
-      (λ unit. one_or unit.items unit.bytes) _ is.each;
-  written = is.written;
-  whole = is.whole;
-}
-  where
-    one_or : IsWeaker (rfc.IsOneOr P rfc.IsEmptyLine) (rfc.IsOneOr Q rfc.IsSkipped)
-    one_or items text (inl (item, is, same)) = inl (item, weaker item text is, same)
-    one_or items text (inr (is, none)) = inr (inl is, none)
+repeats_weaker P Q weaker items text is = grind (arith, each_weaker)
 
 pub group_is_wide : IsWeaker rfc.IsGroup rfc.IsWideGroup
-group_is_wide group text is = record {
-  token = is.token;
-  tokens = is.tokens;
-  start = is.start;
-  agents = is.agents;
-  lines = is.lines;
-  whole = is.whole;
-  is_start = is.is_start;
-  are_agents =
-      repeats_weaker _ _ (λ token text is. is) _ _
-      is.are_agents;
-  written = is.written;
-  are_members =
-      repeats_weaker _ _ (λ member text is. inl is) _ _
-      is.are_members;
-}
+group_is_wide group text is = grind (arith, repeats_weaker)
 
 pub robotstxt_is_file : (text : List ℕ) (groups : List rfc.Group) → rfc.IsRobotstxt groups text
     → rfc.IsFile groups text

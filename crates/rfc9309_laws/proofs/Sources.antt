@@ -1,7 +1,7 @@
 -- Source lines: the line as the library reads it, with its value as written. They give back the groups,
 -- merged.
 use Rattle.std.proofs.Common.{◌≡◌, ℕ, Bool, false, not, List, [], ◌∷◌, Option, Some, None, ◌++◌, refl, ap}
-use Rattle.std.proofs.Common.{◌∙◌, append-nil, append_assoc, arith, if◌then◌else◌, map}
+use Rattle.std.proofs.Common.{append-nil, append_assoc, arith, if◌then◌else◌, map}
 use Rattle.texting_robots.specs.Line.{LineValue, UserAgent, Allow, CrawlDelay, Disallow, Sitemap, is_raw}
 use Rattle.texting_robots.specs.{Executable.rule_in, Executable.sitemap_in, Delay.IsDelay, Group.is_group}
 use Rattle.texting_robots.specs.{Trim.IsTrimOf, Rules.Rule, Internal.Line.line_of}
@@ -105,9 +105,7 @@ put_both tokens more members later = grind (arith, append_assoc)
 tokens_put : (token : List ℕ) (tokens : List (List ℕ)) (parts : Parts)
     → onto with_token (token ∷ tokens) parts ≡ with_tokens (token ∷ tokens) parts
 tokens_put token [] parts = refl
-tokens_put token (next ∷ tokens) parts =
-    ap (with_token _) (tokens_put next tokens _)
-    ∙ ap (parts_of []) (put_both _ _ _ _)
+tokens_put token (next ∷ tokens) parts = grind (arith, put_both, tokens_put next tokens)
 
 pub group_put : (token : List ℕ) (tokens : List (List ℕ)) (group : rfc.Group) (parts : Parts)
     → group.tokens ≡ token ∷ tokens
@@ -119,9 +117,7 @@ group_put token tokens group parts same =
 pub groups_put : (groups : List rfc.Group)
     → onto with_group groups (parts_of [] []) ≡ parts_of [] (rfc.merged groups)
 groups_put [] = refl
-groups_put (group ∷ later) =
-    ap (with_group _) (groups_put later)
-    ∙ ap (λ m. with_tokens group.tokens (parts_of m _)) (append-nil group.members)
+groups_put (group ∷ later) = grind (arith, append-nil, groups_put later)
 
 pub delays_put : (numbers : List (List ℕ)) (parts : Parts)
     → onto with_delay numbers parts ≡ parts_of (map rfc.Delay numbers ++ parts.ungrouped) parts.groups

@@ -1,7 +1,8 @@
 -- Properties of each item of a list, and concatenating texts that repeat a production.
-use Rattle.std.proofs.Common.{◌≡◌, Bool, true, List, [], ◌∷◌, ◌++◌, ℕ, flat_map, sym, refl, append-nil}
+use Rattle.std.proofs.Common.{arith}
+use Rattle.std.proofs.Common.{◌≡◌, Bool, true, List, [], ◌∷◌, ◌++◌, ℕ, flat_map, sym, append-nil}
 use Rattle.std.specs.List.{AllByRecursion as Each, list_all}
-use Rattle.rfc9309_laws.specs.Rfc9309.{IsMany, RepeatUnit, Repeats}
+use Rattle.rfc9309_laws.specs.Rfc9309.{IsMany, Repeats}
 use Rattle.std.proofs.lemmas.{Bool.and_parts, Grind.flat_map-append}
 use Rattle.texting_robots.proofs.Shared.{each_append}
 
@@ -22,12 +23,11 @@ pub passing : {X : Type 0} (P : X → Type 0) (test : X → Bool) → ((x : X) �
     → (xs : List X) → list_all test xs ≡ true
     → Each P xs
 passing P test is [] all = tt
-passing P test is (x ∷ xs) all =
-    let (first, rest) = and_parts _ _ all in (is x first, passing P test is xs rest)
+passing P test is (x ∷ xs) all = grind (arith, and_parts, passing P test is xs)
 
 module _ {X : Type 0} (P : List X → List ℕ → Type 0) where
   pub repeats_none : Repeats P [] []
-  repeats_none = record { units = []; each = tt; written = refl; whole = refl }
+  repeats_none = grind arith
 
   pub repeats_one : (items : List X) (text : List ℕ) → P items text → Repeats P items text
   repeats_one items text is = record {
@@ -41,15 +41,7 @@ pub repeats_both : {X : Type 0} {P : List X → List ℕ → Type 0} {items more
     {text later : List ℕ}
     → Repeats P items text → Repeats P more later
     → Repeats P (items ++ more) (text ++ later)
-repeats_both {X} is also =
-    let written = flat_map-append (λ (unit : RepeatUnit X). unit.items) is.units also.units in
-    let whole = flat_map-append (λ (unit : RepeatUnit X). unit.bytes) is.units also.units in
-    record {
-      units = is.units ++ also.units;
-      each = each_append _ is.units _ is.each also.each;
-      written = cc;
-      whole = cc;
-    }
+repeats_both {X} is also = grind (arith, each_append, flat_map-append)
 
 -- a property of the parts that concatenation preserves
 pub many : {P Q : List ℕ → Type 0} → Q [] → ((text later : List ℕ) → Q text → Q later → Q (text ++ later))

@@ -31,25 +31,17 @@ IsWordBefore word rest = Each rfc.IsIdentifierByte word × Stops rest
 pub same_word : (word other rest more : List ℕ) → IsWordBefore word rest → IsWordBefore other more
     → word ++ rest ≡ other ++ more → (word ≡ other) × (rest ≡ more)
 same_word [] [] rest more is also e = (refl, e)
-same_word (b ∷ word) (c ∷ other) rest more is also e =
-    let next = same_word word _ _ _ (is.0.1, is.1) (also.0.1, also.1) (cc) in
-    let first : b ≡ c = cc in
-    let words = next.0 in
-    (cc, next.1)
+same_word (b ∷ word) (c ∷ other) rest more is also e = grind (arith, same_word word)
 same_word [] (c ∷ other) [] more is also e = cc
-same_word [] (c ∷ other) (d ∷ rest) more is also e =
-    let first : c ≡ d = cc in
-    absurd (is.1 (subst rfc.IsIdentifierByte first also.0.0))
+same_word [] (c ∷ other) (d ∷ rest) more is also e = grind arith
 same_word (b ∷ word) [] rest [] is also e = cc
-same_word (b ∷ word) [] rest (d ∷ more) is also e =
-    let first : b ≡ d = cc in
-    absurd (also.1 (subst rfc.IsIdentifierByte first is.0.0))
+same_word (b ∷ word) [] rest (d ∷ more) is also e = grind arith
 
 pub identifier_bounds : (b : ℕ) → rfc.IsIdentifierByte b → (44 < b) × (b < 123) × (b ≢ 58)
 identifier_bounds b is = grind arith
 
 pub blank_no_letter : (b : ℕ) → rfc.IsWs b → rfc.IsIdentifierByte (to_ascii_lowercase b) → ⊥
-blank_no_letter b is letter = let bounds = identifier_bounds _ letter in grind (arith, nat_tests)
+blank_no_letter b is letter = grind (arith, identifier_bounds)
 
 pub identifier_byte : (b : ℕ) → is_identifier_byte b ≡ true → rfc.IsIdentifierByte b
 identifier_byte b is = grind (arith, nat_tests)

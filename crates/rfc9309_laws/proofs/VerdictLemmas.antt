@@ -1,17 +1,17 @@
 -- The verdict of rules that are read from rules of the grammar is that of the standard.
-use Rattle.std.proofs.Common.{◌≡◌, ◌≢◌, ◌↔◌, ◌⊎◌, ℕ, zero, suc, ◌<◌, Bool, true, false, inl, inr, List, []}
-use Rattle.std.proofs.Common.{◌∷◌, refl, codes, length, ◌+◌, if◌then◌else◌, sym, ap, ◌∙◌, arith, subst, take}
+use Rattle.std.proofs.Common.{◌≡◌, ◌≢◌, ◌↔◌, ◌⊎◌, ℕ, zero, suc, Bool, true, false, inl, inr, List, []}
+use Rattle.std.proofs.Common.{◌∷◌, refl, codes, length, sym, ap, ◌∙◌, arith, subst}
 use Rattle.std.proofs.{Common.length-append}
 use Rattle.std.specs.List.{AllByRecursion as Each, AllZip, Contains, list_any}
 use Rattle.std.proofs.lemmas.List.Elements.{All-contains, All-from_recursion}
 use Rattle.texting_robots.specs.Callers.{IsDenied, IsRobotOfFile, IsVerdict, Matches, RobotValue, Rule}
-use Rattle.texting_robots.specs.Callers.{escaped, file_limit, unplaced}
+use Rattle.texting_robots.specs.Callers.{escaped, unplaced}
 use Rattle.texting_robots.specs.{Escape.is_escaped, Trim.IsTrimOf}
 use Rattle.texting_robots.proofs.Shared.{plain_stays, is_trimmed, same_verdicts}
 use Rattle.rfc9309_laws.specs.{StandardRobot.IsReadAs, StandardRobot.IsFileWith, Comparable.AreComparable}
 use Rattle.rfc9309_laws.specs.Comparable.{IsPathOf, IsPlainPath}
-use Rattle.rfc9309_laws.specs.Matching.{IsDisallowed, IsMatch, IsRfcVerdict, Reading, is_ended, normal_uri}
-use Rattle.rfc9309_laws.specs.Matching.{octets, without_end}
+use Rattle.rfc9309_laws.specs.Matching.{IsDisallowed, IsMatch, IsRfcVerdict, Reading, normal_uri}
+use Rattle.rfc9309_laws.specs.Matching.{octets}
 use Rattle.rfc9309_laws.proofs.{FileLemmas.file_with, RobotLemmas.robot_as}
 use Rattle.rfc9309_laws.proofs.NormalLemmas.{end_of, escaped_parts, matches_so}
 use Rattle.rfc9309_laws.specs.Rfc9309 as rfc
@@ -28,7 +28,7 @@ pub zip_has : {A B : Type 0} (R : A → B → Type 0) (xs : List A) (ys : List B
 zip_has R [] [] y zip (k, below, at) = absurd (omega arith)
 zip_has R [] (z ∷ ys) y zip has = absurd zip
 zip_has R (x ∷ xs) [] y zip has = absurd zip
-zip_has R (x ∷ xs) (z ∷ ys) y (is, zip) (zero, below, at) = (x, (0, omega arith, refl), subst (R x) at is)
+zip_has R (x ∷ xs) (z ∷ ys) y (is, zip) (zero, below, at) = grind arith
 zip_has R (x ∷ xs) (z ∷ ys) y (is, zip) (suc k, below, at) =
     let (other, (j, low, here), also) = zip_has R xs ys y zip (k, omega arith, at) in
     (other, (suc j, omega arith, here), also)
@@ -56,18 +56,11 @@ each_contains P xs x all has = All-contains P xs x (All-from_recursion P xs all)
 
 pub octets_are : (stays : Reading) (path : List ℕ) → IsPlainPath stays path
     → length (escaped path) ≡ octets stays path
-octets_are stays path is =
-    rw is.normal (ap length (escaped_parts path) ∙ length-append _ _
-    ∙ ap (λ n. length (escaped (without_end path)) + n) (size (is_ended path)))
-  where
-    size : (ended : Bool) → length (end_of ended) ≡ (if ended then 1 else 0)
-    size true = refl
-    size false = refl
+octets_are stays path is = grind (arith, end_of, escaped_parts, length-append)
 
 pub octets_written : (stays : Reading) (path : List ℕ) → IsPlainPath stays path
     → list_any is_escaped path ≡ false → length path ≡ octets stays path
-octets_written stays path is plain =
-    ap (λ (p : List ℕ). length p) (sym (plain_stays _ plain)) ∙ octets_are _ _ is
+octets_written stays path is plain = grind (arith, octets_are, plain_stays)
 
 module _ (stays : Reading) (count : List ℕ → ℕ) (members : List rfc.Member) (rules : List Rule)
     (uri : List ℕ) (zip : AllZip IsReadAs members rules)
@@ -76,7 +69,7 @@ module _ (stays : Reading) (count : List ℕ → ℕ) (members : List rfc.Member
   matching path listed = matches_so stays path uri are.normal (are.plain path listed)
 
   counts : (path : List ℕ) → IsPathOf members path → count path ≡ length (escaped path)
-  counts path listed = are.counted path listed ∙ sym (octets_are stays path (are.plain path listed))
+  counts path listed = grind (arith, octets_are)
 
   own : (path value : List ℕ) → IsPathOf members path → IsTrimOf value path → value ≡ path
   own path value listed trim = sym (is_trimmed path _ trim) ∙ is_trimmed _ _ (are.trimmed _ listed)
@@ -98,18 +91,13 @@ module _ (stays : Reading) (count : List ℕ → ℕ) (members : List rfc.Member
   disallow_of : (pattern : List ℕ) (member : rfc.Member) → Contains members member
       → ◌≡◌ {A = Rule} (pattern, false) (read member)
       → (path : List ℕ) × Contains members (rfc.Disallow path) × (path ≢ []) × (pattern ≡ escaped path)
-  disallow_of pattern (rfc.Disallow (b ∷ path)) listed e = (b ∷ path, listed, (λ e. cc), pattern_of _ _ e)
-  disallow_of pattern _ listed e = cc (kind_of _ _ e)
+  disallow_of pattern member h h2 = grind (arith, kind_of, pattern_of)
 
   allow_of : (pattern : List ℕ) (member : rfc.Member) → Contains members member
       → IsReadAs member (pattern, true)
       → ((path : List ℕ) × Contains members (rfc.Allow path) × (pattern ≡ escaped path))
       ⊎ (Contains members (rfc.Disallow []) × (pattern ≡ codes "/"))
-  allow_of pattern (rfc.Allow path) listed is =
-      inl (path, listed, pattern_of _ _ (read_of (rfc.Allow path) (pattern, true) listed is))
-  allow_of pattern (rfc.Disallow []) listed e = inr (listed, pattern_of _ _ e)
-  allow_of pattern (rfc.Disallow (b ∷ path)) listed (value, trim, e) = cc (kind_of _ _ e)
-  allow_of pattern (rfc.Delay number) listed e = absurd e
+  allow_of pattern member h h2 = grind (arith, kind_of, pattern_of, read_of)
 
   to_disallowed : IsDenied rules uri → IsDisallowed stays count members uri
   to_disallowed (differs, pattern, has, matches, longest) =
@@ -162,8 +150,7 @@ module _ (stays : Reading) (count : List ℕ → ℕ) (members : List rfc.Member
 
   pub verdicts_agree : (answer : Bool)
       → IsVerdict rules uri answer ↔ IsRfcVerdict stays count members uri answer
-  verdicts_agree true = (λ allowed is. allowed (to_denied is), λ allowed is. allowed (to_disallowed is))
-  verdicts_agree false = (to_disallowed, to_denied)
+  verdicts_agree answer = grind (arith, to_denied, to_disallowed)
 
 pub robot_agrees : (stays : Reading) (count : List ℕ → ℕ) (agent text uri : List ℕ) (groups : List rfc.Group)
     (numbers : List (List ℕ)) (robot : RobotValue) (answer : Bool)

@@ -44,8 +44,8 @@ IsPathOf members path = Contains members (rfc.Allow path) ⊎ Contains members (
 -- - `trimmed`: no rule has white space to trim;
 -- - `plain`: this library compares each rule in its normal form;
 -- - `counted`: the octets of a rule are counted in its normal form, or this count is the same;
--- - `empty`: if there is an empty Disallow, which is an Allow of `/` here, each other rule has more than one
---   octet, so it isn't `/` or `*`.
+-- - `empty`: if there is an empty Disallow, which is an Allow of `/` here, each other Disallow has more than
+--   one octet, so it isn't `/` or `*`.
 pub record AreComparable (stays : Reading) (count : List ℕ → ℕ) (members : List rfc.Member) (uri : List ℕ)
     : Type 0 where
   pub normal : normal_uri stays uri ≡ uri

@@ -1,5 +1,6 @@
--- Whether a file is in the extended grammar (`IsFile`), decided line by line, and whether each verdict on it
--- is that of the standard; if not, because of which line.
+-- Whether a file is in the extended grammar (`IsFile`), decided line by line, and whether verdicts on it, for
+-- paths and queries in normal form, are those of the standard, if reserved octets stay; if not, because of
+-- which line.
 use Rattle.std.specs.Prelude.{ℕ, ◌+◌, ◌-◌, ◌==◌, ◌&&◌, ◌||◌, not, nat_eq, nat_le, Bool, true, false}
 use Rattle.std.specs.Prelude.{List, [], ◌∷◌, Option, Some, None, bytes_eq, codes, if◌then◌else◌, length}
 use Rattle.std.specs.Prelude.{take}
@@ -62,7 +63,7 @@ is_plain_path path =
     let front = front_of path in
     not (list_any is_odd_octet front) && (not (has_odd_escape front) && not (has_dollar front))
 
--- no white space of Unicode is trimmed, and the rule isn't too long: an escape has three bytes
+-- no white space of Unicode is trimmed, and the rule can't be too long: an escape has three bytes
 abbrev pub is_read_as_written : List ℕ → Bool
 is_read_as_written path =
     bytes_eq (trimmed path) path && (not (ends_with nat_eq path (codes "$")) || nat_le (length path) 1365)
@@ -154,7 +155,7 @@ has_syntax (Syntax line) = true
 has_syntax Verdicts = true
 has_syntax _ = false
 
--- and each verdict is that of the standard
+-- and each verdict on a path and query in normal form is that of the standard, if reserved octets stay
 abbrev pub has_verdicts : Conformance → Bool
 has_verdicts Verdicts = true
 has_verdicts _ = false

@@ -1,5 +1,5 @@
--- The form of a line as a test of its content: a content that passes `has_form` has the form (`HasForm`),
--- unless it contains a line terminator.
+-- The form of a line as a test of its content: a content that passes `has_form` has the form (`HasForm`); one
+-- with the form passes, unless it contains a line terminator.
 use Rattle.std.specs.Prelude.{ℕ, ◌==◌, ◌&&◌, ◌||◌, not, nat_le, nat_lt, Bool, true, false, List, [], ◌∷◌}
 use Rattle.std.specs.Prelude.{bytes_eq, codes, drop, if◌then◌else◌, map}
 use Rattle.std.specs.{Char.to_ascii_lowercase, List.list_all, List.list_any, Str.is_utf8}

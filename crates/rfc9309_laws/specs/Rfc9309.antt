@@ -1,6 +1,6 @@
 -- The grammar of a robots.txt file in RFC 9309, section 2.2, as relations between the bytes of a production
 -- and the items that they contain, such as groups. The names are those of the productions; the items come
--- before the bytes. Nothing here refers to the specification of this library.
+-- before the bytes. Nothing here but `names_read` refers to this library.
 --
 -- `IsRobotstxt` is exactly the standard's grammar. `IsFile` extends it by a leading byte order mark, a last
 -- line without a line end, a pattern that begins with a star, and the lines that the standard leaves to
@@ -310,7 +310,7 @@ pub record IsWideFile (groups : List Group) (text : List ℕ) : Type 0 where
 abbrev pub IsBom : List ℕ → Type 0
 IsBom bytes = (bytes ≡ []) ⊎ (bytes ≡ 0xEF ∷ 0xBB ∷ 0xBF ∷ [])
 
--- NL, or nothing, which the standard's grammar doesn't have
+-- what the text lacks at its end: nothing, or NL
 abbrev pub IsLastNl : List ℕ → Type 0
 IsLastNl bytes = (bytes ≡ []) ⊎ IsNl bytes
 

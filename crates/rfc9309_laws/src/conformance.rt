@@ -1,5 +1,5 @@
-//! Whether a file is in the extended grammar, and whether each verdict on it is that of the standard; if not,
-//! because of which line.
+//! Whether a file is in the extended grammar, and whether verdicts on it, for paths and queries in normal
+//! form, are those of the standard, if reserved octets stay; if not, because of which line.
 ghost use Rattle.std.specs.Prelude.{◌≡◌, ◌↔◌, ◌<◌, ◌≤◌, ◌==◌, ◌∷◌, ℕ, Bool, Contains, IfOk, List, codes, map};
 ghost use Rattle.std.specs.Prelude.{false, length, take, true};
 ghost use Rattle.texting_robots.specs.Callers.{IsFileRejected, IsRobotOfFile, IsVerdict, RobotValue, escaped};
@@ -32,7 +32,7 @@ pub enum Conformance {
     OtherLine(usize),
     /// The file is in the grammar; because of this line, verdicts may not be the standard's.
     Syntax(usize),
-    /// And each verdict is the standard's.
+    /// And the verdict on each path and query in normal form is the standard's, if reserved octets stay.
     Verdicts,
 }
 
@@ -344,8 +344,8 @@ pub fn files_of_the_grammar_are_those()
 {}
 
 /// If no line is found because of which verdicts may differ, the verdict for each crawler with the rules of
-/// one that the file names, or of `*`, on each path and query in normal form, is the standard's (`verdicts`),
-/// and the file isn't rejected for it (`accepted`).
+/// one that the file names, or of `*`, on each path and query in normal form, is the standard's, if reserved
+/// octets stay (`verdicts`), and the file isn't rejected for it (`accepted`).
 pub fn verdicts_of_the_standard_are_those()
     ensures verdicts { (file agent name : List ℕ) (groups : List Group)
         → has_verdicts (conformance_of file) ≡ true → IsFile groups file

@@ -27,8 +27,8 @@ pub fn normal_paths_match_so()
 {}
 
 /// A URI is in normal form, if reserved octets stay, exactly if it contains only unreserved octets, reserved
-/// ones other than `*`, `$` and `#`, and `%`, and each escape has uppercase digits and is that of another
-/// octet.
+/// ones other than `*`, `$` and `#`, and `%`, and each escape has uppercase digits and isn't that of an
+/// unreserved octet.
 pub fn normal_uris_are_those()
     ensures { (uri : List ℕ) → (normal_uri all_stay uri ≡ uri) ↔ (is_normal uri ≡ true) }
 {}
@@ -36,7 +36,8 @@ pub fn normal_uris_are_those()
 /// The verdict of this library is that of the standard:
 ///
 /// - `rules`: for rules that are read from rules of the grammar.
-/// - `robot`: for the robot of a file that follows the extended grammar, as `Robot::new` makes it.
+/// - `robot`: for the robot of a file that follows the extended grammar, as `Robot::new` makes it, and the
+///   rules of its groups, where a Crawl-delay ends a list of user-agent lines, unlike in the standard.
 pub fn verdicts_agree()
     ensures rules { (stays : Reading) (count : List ℕ → ℕ) (members : List rfc.Member) (rules : List Rule)
         (uri : List ℕ) (answer : Bool) → AllZip IsReadAs members rules

@@ -95,13 +95,11 @@ first_some f xs x (k, below, at) is =
 
 pub if_found : (a : Bool) (x : Option ℕ) (n : ℕ) → (if a then x else None) ≡ Some n
     → (a ≡ true) × (x ≡ Some n)
-if_found true x n is = (refl, is)
-if_found false x n is = cc
+if_found a x n h = grind arith
 
 pub unless_found : (a : Bool) (x : Option ℕ) (n : ℕ) → (if a then None else x) ≡ Some n
     → (a ≡ false) × (x ≡ Some n)
-unless_found true x n is = cc
-unless_found false x n is = (refl, is)
+unless_found a x n h = grind arith
 
 kind_is : (is_allow kind : Bool) → (if is_allow then kind else not kind) ≡ true → kind ≡ is_allow
 kind_is true kind is = is

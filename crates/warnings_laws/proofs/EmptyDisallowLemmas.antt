@@ -28,12 +28,10 @@ use Rattle.texting_robots.specs.declared.parser.statement.{Kind.Kind}
 use Rattle.texting_robots.specs.declared.parser.statement.Kind.TheVariants as kind
 
 skipped : (body : List ℕ) → without_front body ≡ skip_blanks body
-skipped [] = refl
-skipped (b ∷ body) = grind (arith, common_steps)
+skipped body = grind arith
 
 d_selects : (text : List ℕ) → begins_with_d text ≡ true → kind_by text ≡ Some kind.Disallow
-d_selects [] is = cc
-d_selects (b ∷ text) is = grind (arith, common_steps)
+d_selects text h = grind arith
 
 lower_d : (b : ℕ) → to_ascii_lowercase b ≡ 100 → (b == byte "d" || b == byte "D") ≡ true
 lower_d b is = grind (arith, common_steps)
@@ -87,8 +85,7 @@ labels_zip (label ∷ labels) [] all = absurd all
 labels_zip (label ∷ labels) (body ∷ bodies) all = (all.0, labels_zip labels bodies all.1)
 
 some_there : {Y : Type 0} (o : Option Y) (P : Y → Type 0) → IsSomeAnd o P → (y : Y) × (o ≡ Some y) × P y
-some_there None P is = absurd is
-some_there (Some y) P is = (y, refl, is)
+some_there o P h = grind arith
 
 right_at : {X Y : Type 0} (R : X → Y → Type 0) (xs : List X) (ys : List Y) (i : ℕ) (x : X)
     → AllZip R xs ys → slice_get xs i ≡ Some x → (y : Y) × (slice_get ys i ≡ Some y) × R x y
@@ -202,8 +199,7 @@ overruled_is is_empty lines number other agent holds =
     }
 
 some_or_none : (a : Option ℕ) → is_some a ≡ true → (n : ℕ) × (a ≡ Some n)
-some_or_none None is = cc
-some_or_none (Some n) is = (n, refl)
+some_or_none a h = grind arith
 
 pub overruled_holds : (is_empty : ℕ → Bool) (lines : List LineValue) (number other : ℕ) (agent : List ℕ)
     → IsOverruled is_empty agent lines number other
@@ -249,8 +245,7 @@ module _ (agent file : List ℕ) (rules : List PlacedRule)
 
   value_of : (b : Bool) (value : List ℕ) → (if b then Allow value else Disallow value) ≡ Allow root
       → (b ≡ true) × (value ≡ root)
-  value_of true value same = (refl, cc)
-  value_of false value same = cc
+  value_of b value h = grind arith
 
   pub rule_there : (placed : PlacedRule) → Contains rules placed → IsEmptyDisallow bodies placed.line
       → placed.rule ≡ (root, true)

@@ -1,13 +1,13 @@
 -- Every file has an audit, and without `--needless` only one. Needless rules can be deleted together. What a
 -- report tells about the syntax of a file and its verdicts is so.
-use Rattle.std.specs.Prelude.{flat_map, is_some, zip, ◌||◌}
+use Rattle.std.specs.Prelude.{flat_map, zip}
 use Rattle.std.proofs.{lemmas.Grind.common_steps, Common.rules}
-use Rattle.std.proofs.Common.{false, true, ◌++◌, ap, None, Option, Some, if◌then◌else◌, is_none, ◌≡◌, ◌≢◌}
+use Rattle.std.proofs.Common.{false, true, ◌++◌, ap, None, Option, Some, ◌≡◌, ◌≢◌}
 use Rattle.std.proofs.Common.{ℕ}
 use Rattle.std.proofs.Common.{◌≤◌, ◌↔◌, Bool, inl, inr, List, [], ◌∷◌, Contains, IsUtf8, arith, codes}
 use Rattle.std.proofs.Common.{length}
-use Rattle.std.proofs.Common.{ltb-false, refl, subst, subst₂, sym, take, take_all, ◌⊎◌, suc, map, ◌==◌}
-use Rattle.std.proofs.lemmas.Bool.{false_from_ne_true, false≢true, ne_eqb, not-false, or_parts}
+use Rattle.std.proofs.Common.{ltb-false, refl, subst, subst₂, sym, take, take_all, ◌⊎◌, suc, map}
+use Rattle.std.proofs.lemmas.Bool.{false_from_ne_true, false≢true}
 use Rattle.texting_robots.specs.Callers.{IsVerdict, Label, LineValue, PlacedRule, agents_in, placed_rules}
 use Rattle.texting_robots.specs.Callers.{file_limit, rules_for, IsFirstOverlong, IsOverlong, IsRejected}
 use Rattle.texting_robots.specs.Callers.{Rule}
@@ -18,17 +18,17 @@ use Rattle.robots_needless.specs.Needless.{AreFound, AreNeedless, lines_without,
 use Rattle.robots_needless.proofs.{LeftLemmas.left_within, LeftLemmas.same_robot}
 use Rattle.robots_needless.proofs.{SettledLemmas.nothing_found}
 use Rattle.audit_core.specs.Audit.{AgentValue, AreOfSitemaps, AuditValue, IsAgentAudit, IsAuditOf, IsRuling}
-use Rattle.audit_core.specs.Audit.{IsVerdictOn, VerdictValue, agents_requested, group_of, labeling_agent}
-use Rattle.audit_core.specs.Audit.{labels_requested, naming_line, rejects_some, sitemap_warning}
-use Rattle.audit_core.specs.Audit.{sitemaps_asked, warnings_found, warnings_requested}
+use Rattle.audit_core.specs.Audit.{IsVerdictOn, VerdictValue, agents_requested, group_of}
+use Rattle.audit_core.specs.Audit.{labels_requested, naming_line, sitemap_warning}
+use Rattle.audit_core.specs.Audit.{sitemaps_asked, warnings_requested}
 use Rattle.audit_core.specs.{Request.RequestValue, Asked.asked_target}
 use Rattle.std.specs.{List.All, List.AllByRecursion as Each, List.AllZip, Bool.Decides}
 use Rattle.std.proofs.lemmas.List.Elements.{All-cons, All-nil, recursion_from_All}
 use Rattle.texting_robots.proofs.Shared.{none_unplaced, some_overlong, one_line_decides, one_verdict}
 use Rattle.texting_robots.proofs.Shared.{rejection_is_computed, each_text_answered, overlong_decides}
 use Rattle.robots_needless.specs.{declared.needless.NeedlessRule.NeedlessRule}
-use Rattle.robots_warnings.specs.{Closed.reach_of, File.labels_for, Warnings.warnings, Message.WarningValue}
-use Rattle.robots_warnings.specs.Facts.{is_too_large, facts_of}
+use Rattle.robots_warnings.specs.{Closed.reach_of, Warnings.warnings, Message.WarningValue}
+use Rattle.robots_warnings.specs.Facts.{is_too_large}
 use Rattle.rfc9309_laws.specs.{LineForms.AreForms, Matching.all_stay, Matching.normal_uri}
 use Rattle.rfc9309_laws.specs.Conformance.{conformance_of, has_syntax, has_verdicts}
 use Rattle.rfc9309_laws.specs.Rfc9309.{Group, IsFile, IsProductToken}

@@ -1,8 +1,8 @@
 -- A match target without `url-not-normal` is in normal form, and that of what is written.
-use Rattle.std.proofs.Common.{◌≡◌, ℕ, ◌+◌, ◌*◌, ◌<◌, ◌&&◌, ◌||◌, Bool, true, false, inl, inr, List}
+use Rattle.std.proofs.Common.{◌≡◌, ℕ, ◌+◌, ◌<◌, ◌&&◌, ◌||◌, Bool, true, false, inl, inr, List}
 use Rattle.std.proofs.Common.{◌∷◌, ◌++◌, ap, ap₂, not, arith, codes, refl, sym}
 use Rattle.std.proofs.Common.{◌∙◌, nat_eq}
-use Rattle.std.specs.Char.{digit_value, is_ascii_hexdigit, to_ascii_uppercase}
+use Rattle.std.specs.Char.{is_ascii_hexdigit, to_ascii_uppercase}
 use Rattle.std.specs.List.{starts_with}
 use Rattle.std.proofs.lemmas.{Bool.Decides.nat_tests, Slice.Eq.bytes_eq-Decides}
 use Rattle.std.proofs.lemmas.Bool.{agree_below_at, and_parts, cases_Bool, cases_lt}
@@ -15,13 +15,11 @@ use Rattle.rfc9309_laws.specs.Matching.{is_unreserved}
 use Rattle.rfc9309_laws.specs.Matching.{normal_escape, normal_from, normal_octet, normal_uri}
 use Rattle.rfc9309_laws.proofs.NormalLemmas.{begins_escape, by_escapes, escape_first}
 use Rattle.rfc9309_laws.proofs.NormalLemmas.{hex_not, octet_first}
-use Rattle.robots_warnings.specs.Targets.{asked_target, has_dot_segment, has_odd_target, normal_target}
+use Rattle.robots_warnings.specs.Targets.{asked_target, has_odd_target, normal_target}
 use Rattle.robots_warnings.specs.Targets.{written_target}
 use Rattle.robots_warnings.specs.{declared.targets.TheConstants.IN_TARGETS}
 use Rattle.robots_warnings.specs.{Urls.begins_as_url, Urls.is_unparsable, Spellings.spelled}
 use Rattle.robots_warnings.specs.declared.spellings.Spelling.{TheVariants.Standard}
-use Rattle.robots_warnings.specs.Rules.{begins_lone_percent}
-use Rattle.robots_warnings.specs.Rules.{somewhere}
 
 octet_spelled : (b : ℕ) (text : List ℕ) → begins_escape (b ∷ text) ≡ false
     → spelled Standard (b ∷ text) ≡ b ∷ spelled Standard text
@@ -65,11 +63,7 @@ digit_kept b is = hex_not (λ c. should_percent_encode IN_TARGETS (to_ascii_uppe
 escape_kept : (high low : ℕ) → is_ascii_hexdigit high ≡ true → is_ascii_hexdigit low ≡ true
     → percent_encode IN_TARGETS (normal_escape high low) ≡ normal_escape high low
 unfolding percent_encode
-escape_kept high low one two =
-    elim (cases_Bool (is_unreserved (digit_value high * 16 + digit_value low))) [
-      | inl is ↦ rw (is, unreserved_kept (digit_value high * 16 + digit_value low) is)
-      | inr isnt ↦ rw (isnt, percent_kept, digit_kept high one, digit_kept low two)
-    ]
+escape_kept high low one two = grind (arith, cases_Bool, digit_kept, percent_kept, unreserved_kept)
 
 normal_so : (in_query : Bool) (text : List ℕ)
     → normal_target text ≡ normal_from (in_uri all_stay) in_query text
@@ -93,10 +87,4 @@ pub target_normal : (text : List ℕ)
     → has_odd_target text ≡ false
     → (normal_uri all_stay (asked_target text) ≡ asked_target text)
     × (normal_uri all_stay (written_target text) ≡ asked_target text)
-target_normal text asked quiet =
-    let (same, _) = and_parts _ (not (has_dot_segment (asked_target text)
-    || somewhere begins_lone_percent (asked_target text))) (not-false _ (rw asked at quiet)) in
-    let (written, normal) = and_parts _ _ same in (
-      sym (normal_so false _) ∙ sym ((bytes_eq-Decides _ _).0 normal),
-      sym (normal_so false _) ∙ sym ((bytes_eq-Decides _ _).0 written),
-    )
+target_normal text asked quiet = grind (arith, and_parts, bytes_eq-Decides, normal_so, not-false)

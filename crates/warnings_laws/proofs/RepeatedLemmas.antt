@@ -150,8 +150,7 @@ is_repeat {lines} {labels} are everywhere number = repeat_from everywhere lines 
 
 captured_above : {lines : List LineValue} {position : ℕ} {line : Option LineValue} (name : List ℕ)
     (is : IsAbove lines position line) → IsCaptured name lines position → IsCaptured name lines is.other
-captured_above name is (inl none) = inl none
-captured_above {lines} name is (inr (j, below, named, alone)) = grind (arith, common_steps)
+captured_above name is h = grind arith
 
 rule_above : {agent : List ℕ} {lines : List LineValue} {rules : List PlacedRule}
     → AreRulesFor agent lines rules → (placed : PlacedRule) → Contains rules placed

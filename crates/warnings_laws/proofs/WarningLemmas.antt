@@ -126,8 +126,7 @@ dollar_inside_matches_nothing (b ∷ value) text inside m = elim (cases_Bool (b 
 pub odd_start_matches_no_path : (value text : List ℕ) → begins_oddly value ≡ true
     → ¬ Matches (escaped value) (byte "/" ∷ text)
 unfolding MatchesWith
-odd_start_matches_no_path [] text odd m = cc
-odd_start_matches_no_path (b ∷ value) text odd m = grind (arith, common_steps)
+odd_start_matches_no_path value text h = grind arith
 
 other_than_wildcards : (pattern : List ℕ)
     → list_any (λ b. not (b == star || b == dollar)) pattern ≡ true → list_all is_wildcard pattern ≡ false
@@ -150,8 +149,7 @@ inside_matches_nothing (b ∷ pattern) text inside m = elim (cases_Bool (b == do
 odd_matches_nothing : (pattern text : List ℕ) → begins_oddly pattern ≡ true
     → ¬ Matches pattern (byte "/" ∷ text)
 unfolding MatchesWith
-odd_matches_nothing [] text odd m = cc
-odd_matches_nothing (b ∷ pattern) text odd m = grind (arith, common_steps)
+odd_matches_nothing pattern text h = grind arith
 
 pub without_path : (pattern text : List ℕ) → matches_no_path pattern ≡ true
     → ¬ Matches pattern (byte "/" ∷ text)

@@ -77,7 +77,8 @@ pub fn needless_lines_can_be_deleted()
 
 /// A report says that the file has RFC 9309 syntax exactly if it has at most 512,000 bytes, all of which
 /// follow the standard's grammar with the extensions of `rfc9309_laws` (`syntax`). Then each crawler for
-/// which it isn't rejected gets the rules, the delay and the sitemaps that it states (`robot`).
+/// which it isn't rejected gets the rules, the delay and the sitemaps that it states, where a Crawl-delay
+/// ends a list of user-agent lines (`robot`).
 pub fn syntax_is_that_of_the_standard()
     ensures syntax { (requested : RequestValue) (file : List ℕ) (audit : AuditValue)
         → IsAuditOf requested file audit
@@ -90,8 +91,8 @@ pub fn syntax_is_that_of_the_standard()
 {}
 
 /// If a report says that verdicts are those of RFC 9309, the verdict of each crawler with a product token, on
-/// each path and query in normal form, is the standard's (`verdicts`), and the file isn't rejected for it
-/// (`accepted`).
+/// each path and query in normal form, is the standard's, if reserved octets stay (`verdicts`), and the file
+/// isn't rejected for it (`accepted`).
 pub fn verdicts_are_those_of_the_standard()
     ensures verdicts { (requested : RequestValue) (file : List ℕ) (audit : AuditValue)
         → IsAuditOf requested file audit → has_verdicts audit.syntax ≡ true → (agent : List ℕ)
@@ -105,7 +106,7 @@ pub fn verdicts_are_those_of_the_standard()
         → ¬ IsFileRejected agent (take file_limit file) }
 {}
 
-/// The same of this library's answer about a file: on a path and query in normal form it is the standard's.
+/// The same of this library's answer about a file, for the product token `agent`, whatever its bytes.
 pub fn allowed_by_the_standard(
     alloc: Global,
     agent: &str,

@@ -1,9 +1,10 @@
+use Rattle.std.proofs.Common.{arith}
 use Rattle.std.proofs.{Common.sym, lemmas.Bool.false_from_ne_true, lemmas.Str.IsUtf8-from_is_utf8}
 use Rattle.std.proofs.{lemmas.Str.is_utf8-from_IsUtf8}
 use Rattle.rfc9309_laws.proofs.grammar.is_utf8.Goals as goal
 
 pub returns-in-Ok : goal.returns-in-Ok
-returns-in-Ok c = sym (is_utf8-from_IsUtf8 c.args.text.now c.in-Ok.ensures.cases.1)
+returns-in-Ok c = grind (arith, is_utf8-from_IsUtf8)
 
 pub returns-in-Err : goal.returns-in-Err
 returns-in-Err c =

@@ -1,3 +1,4 @@
+use Rattle.std.proofs.Common.{arith}
 use Rattle.std.proofs.Common.{◌≡◌, ◌++◌, ◌∷◌, List, [], ℕ, codes, false, true, refl}
 use Rattle.texting_robots.specs.{Escape.escaped}
 use Rattle.texting_robots.proofs.Shared.{matches, matching, not_matching}
@@ -14,8 +15,7 @@ whole stays path uri strings e = record { strings = strings; rest = []; whole = 
 only : (stays : Reading) (path uri : List ℕ) (strings : List (List ℕ))
     → normal_uri stays uri ≡ filled (normal_path stays path) strings ++ []
     → matches true (escaped path) uri ≡ false → example.OnlyByStandard stays path uri
-only stays path uri strings e other =
-    record { standard = whole _ _ uri _ e; here = not_matching _ _ uri other }
+only stays path uri strings e other = grind (arith, not_matching, whole)
 
 pub returns : goal.returns
 unfolding normal_from without_end filled

@@ -1,4 +1,4 @@
-use Rattle.std.proofs.Common.{◌≡◌, ◌≢◌, ◌<◌, ◌++◌, ◌∷◌, ◌&&◌, Bool, true, false, inl, inr, List, [], ℕ, codes}
+use Rattle.std.proofs.Common.{◌≡◌, ◌≢◌, ◌<◌, ◌∷◌, ◌&&◌, Bool, true, false, inl, inr, List, [], ℕ, codes}
 use Rattle.std.proofs.Common.{get_or, length, map, nat_lt, refl, ap, arith, subst}
 use Rattle.std.specs.List.{AllByRecursion as Each, AllZip, Contains, list_all}
 use Rattle.std.specs.{Char.is_ascii_graphic, Prelude.slice_index}
@@ -7,7 +7,7 @@ use Rattle.texting_robots.specs.{Escape.escaped, Rules.PlacedRule, Rules.unplace
 use Rattle.texting_robots.specs.Verdict.{IsVerdict}
 use Rattle.texting_robots.proofs.Shared.{allowed_by, answered, deciding_rule, graphic_trim, trimmed_is_trim}
 use Rattle.rfc9309_laws.specs.Comparable.{AreComparable, IsPathOf, IsPlainPath}
-use Rattle.rfc9309_laws.specs.Examples.{mixed_rules, page_rules, tsu}
+use Rattle.rfc9309_laws.specs.Examples.{mixed_rules, page_rules}
 use Rattle.rfc9309_laws.specs.StandardRobot.{IsReadAs}
 use Rattle.rfc9309_laws.specs.Matching.{IsRfcVerdict, Reading, all_stay, as_in_table, filled, has_dollar}
 use Rattle.rfc9309_laws.specs.Matching.{is_ended, normal_from, normal_path, normal_uri, octets, without_end}
@@ -96,14 +96,11 @@ module _ (stays : Reading) (members : List rfc.Member) (uri : List ℕ)
 
 plain : (stays : Reading) (path : List ℕ) → normal_path stays path ≡ escaped (without_end path)
     → has_dollar (without_end path) ≡ false → IsPlainPath stays path
-plain stays path normal dollar = record { normal = normal; dollar = dollar }
+plain stays path normal dollar = grind arith
 
 mixed_plain : Each (IsPlain all_stay) mixed_rules
 unfolding normal_from without_end is_ended
-mixed_plain = (
-  plain all_stay [] refl refl,
-  (plain all_stay _ refl refl, (plain _ _ refl refl, tt)),
-)
+mixed_plain = grind (arith, plain)
 
 pub returns : goal.returns
 unfolding normal_from without_end is_ended filled

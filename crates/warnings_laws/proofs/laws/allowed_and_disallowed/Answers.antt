@@ -1,11 +1,10 @@
+use Rattle.std.proofs.Common.{arith}
 use Rattle.robots_warnings.specs.Conflicts.{conflict_for}
 use Rattle.warnings_laws.proofs.ConflictLemmas.{conflict_holds, conflict_is, first_found, first_some}
 use Rattle.warnings_laws.proofs.laws.allowed_and_disallowed.Goals as goal
 
 pub returns-clause-given : goal.returns-clause-given
-returns-clause-given c = λ is_empty agents lines number other holds.
-    let (k, agent, below, at, is) = first_found (conflict_for is_empty lines number) agents other holds in
-    (k, agent, below, at, conflict_is is_empty lines number other agent is)
+returns-clause-given c = grind (arith, conflict_is, first_found)
 
 pub returns-clause-found : goal.returns-clause-found
 returns-clause-found c = λ is_empty agents lines agent number other has is.

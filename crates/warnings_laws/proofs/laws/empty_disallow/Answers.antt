@@ -1,12 +1,11 @@
+use Rattle.std.proofs.Common.{arith}
 use Rattle.robots_warnings.specs.Conflicts.{overruled_for}
 use Rattle.warnings_laws.proofs.ConflictLemmas.{first_found, first_some}
 use Rattle.warnings_laws.proofs.EmptyDisallowLemmas.{overruled_holds, overruled_is}
 use Rattle.warnings_laws.proofs.laws.empty_disallow.Goals as goal
 
 pub returns-clause-given : goal.returns-clause-given
-returns-clause-given c = λ is_empty agents lines number other holds.
-    let (k, agent, below, at, is) = first_found (overruled_for is_empty lines number) agents other holds in
-    (k, agent, below, at, overruled_is is_empty lines number other agent is)
+returns-clause-given c = grind (arith, first_found, overruled_is)
 
 pub returns-clause-found : goal.returns-clause-found
 returns-clause-found c = λ is_empty agents lines agent number other has is.

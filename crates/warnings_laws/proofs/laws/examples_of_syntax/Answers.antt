@@ -9,4 +9,4 @@ use Rattle.warnings_laws.proofs.laws.examples_of_syntax.Goals as goal
 pub returns : goal.returns
 unfolding cut delay_of line_of statement_of kept_end kept_start pieces_from spans_from is_utf8 chars encode
     is_line_below line_apart
-returns c = (refl, (refl, (refl, (refl, (refl, refl)))))
+returns c = (refl, refl, refl, refl, refl, refl)
