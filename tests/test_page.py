@@ -161,7 +161,7 @@ SMALL = """<!DOCTYPE html><html lang="en"><head><meta charset="utf-8"/>
 <dt>Date</dt><dd>27 &amp; 28 November</dd>
 <dt>Group</dt><dd>* (Ferris has no group of its own), <a href="#L1">line 1</a></dd>
 <dt>Rules</dt><dd>1</dd><dt>Crawl delay</dt><dd>none</dd><dt>May fetch</dt><dd class="see rules">see rules</dd>
-<dt>Sitemaps</dt><dd><ul></ul></dd>
+<dt>Sitemaps</dt><dd><ul></ul></dd><dt>Syntax</dt><dd>not RFC 9309 syntax: line 2</dd>
 <dt>Warnings</dt><dd>1 error<ul><li><a href="#L2">line 2</a>: {warning}</li></ul></dd></dl>
 <h2>URLs</h2><table class="urls"><caption>May the crawler fetch it?</caption>
 <thead><tr><th scope="col">URL</th><th scope="col">Verdict</th></tr></thead>

@@ -27,8 +27,11 @@ use Rattle.audit_core.specs.Rows.{comment_of, has_value, kind_of, line_value, me
 use Rattle.audit_core.specs.Audit.{AgentValue, AuditValue, VerdictValue}
 use Rattle.audit_core.specs.Findings.{Found, found_value, warning_finding, all_found, findings, message_of}
 use Rattle.audit_core.proofs.FindingLemmas.{in_quotes, message_printable, name_printable}
+use Rattle.rfc9309_laws.specs.declared.conformance.Conformance.{Conformance}
+use Rattle.rfc9309_laws.specs.declared.conformance.Conformance.TheVariants.{OtherFile, OtherLine, Syntax}
+use Rattle.rfc9309_laws.specs.declared.conformance.Conformance.TheVariants.{Verdicts}
 use Rattle.audit_json.specs.Json.{finding_json, findings_json, findings_text, sanitized_json, text_json}
-use Rattle.audit_json.specs.Json.{agent_json, audit_json, group_word, number_json, verdict_json, warning_json}
+use Rattle.audit_json.specs.Json.{agent_json, audit_json, fault_json, group_word, number_json, verdict_json, warning_json}
 use Rattle.audit_json.specs.Json.{json_text, known_json, line_json, list_json, value_json, word_json}
 use Rattle.std.specs.Str.{IsUtf8, all_scalars, chars, encode_utf8_all}
 use Rattle.std.proofs.lemmas.Str.{chars-encodes, encodes-append, scalars-chars}
@@ -203,10 +206,17 @@ known_plain : (is_known : Bool) → IsPlain (known_json is_known)
 known_plain true = tt
 known_plain false = tt
 
+fault_plain : (syntax : Conformance) → IsPlain (fault_json syntax)
+fault_plain OtherFile = tt
+fault_plain (OtherLine line) = tt
+fault_plain (Syntax line) = tt
+fault_plain Verdicts = tt
+
 pub audit_plain : (has_rows : Bool) (audit : AuditValue) → IsPlain (audit_json has_rows audit)
 audit_plain has_rows audit = search (
   list_plain agent_json agent_plain,
   known_plain,
+  fault_plain,
   list_plain line_json line_plain,
   list_plain sanitized_json sanitized_printable,
   list_plain warning_json (λ warning. found_plain (warning_finding warning)),

@@ -8,6 +8,8 @@ use Rattle.printable_text.specs.{Lines.lf, Text.level_word, Sanitize.sanitized}
 use Rattle.audit_core.specs.{declared.group.Group.Group, Audit.AgentValue, Audit.AuditValue, Texts.may_fetch}
 use Rattle.audit_core.specs.{Audit.VerdictValue}
 use Rattle.rfc9309_laws.specs.{Conformance.has_syntax, Conformance.has_verdicts}
+use Rattle.rfc9309_laws.specs.declared.conformance.Conformance.{Conformance}
+use Rattle.rfc9309_laws.specs.declared.conformance.Conformance.TheVariants.{OtherLine, Syntax}
 use Rattle.audit_core.specs.declared.group.Group.TheVariants.{Everyone, Named, Nobody, Star}
 use Rattle.audit_core.specs.Rows.{comment_of, has_value, kind_text, line_value_text, membership_word}
 use Rattle.audit_core.specs.Findings.{FindingValue, found_value, warning_finding}
@@ -93,16 +95,23 @@ warning_json warning = finding_json (found_value (warning_finding warning))
 abbrev pub known_json : Bool → Data
 known_json is_known = if is_known then boolean true else null
 
--- what the file means for each crawler, its syntax and verdicts, the lines if there are rows, the sitemaps,
--- the warnings
+-- the line that keeps a file from the grammar, or else from verdicts that are the standard's
+abbrev pub fault_json : Conformance → Data
+fault_json (OtherLine line) = number (unsigned line)
+fault_json (Syntax line) = number (unsigned line)
+fault_json _ = null
+
+-- what the file means for each crawler, its syntax and verdicts, the lines if there are rows, the line at
+-- fault, the sitemaps, the warnings
 abbrev pub audit_json : Bool → AuditValue → Data
 audit_json has_rows audit = object
     (member (codes "agents") (list_json agent_json audit.agents)
     (member (codes "has_rfc_9309_syntax") (known_json (has_syntax audit.syntax))
     (member (codes "has_rfc_9309_verdicts") (known_json (has_verdicts audit.syntax))
     (member (codes "lines") (rows_json has_rows audit.labels)
+    (member (codes "rfc_9309_line") (fault_json audit.syntax)
     (member (codes "sitemaps") (list_json sanitized_json (sitemaps_in (lines_of audit.labels)))
-    (member (codes "warnings") (list_json warning_json audit.warnings) no_members))))))
+    (member (codes "warnings") (list_json warning_json audit.warnings) no_members)))))))
 
 abbrev pub json_line : Data → List ℕ
 json_line value = compact_text value ++ lf ∷ []

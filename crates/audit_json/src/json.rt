@@ -4,8 +4,8 @@ ghost use Rattle.serde_json.specs.{View.view, Written.has_float};
 ghost use Rattle.texting_robots.specs.Callers.{by_value, label_by_value, sitemaps_in};
 ghost use Rattle.audit_json.specs.Json.{agent_json, audit_json, finding_json, findings_json};
 ghost use Rattle.audit_json.specs.Json.{findings_text, group_word, json_line, json_text};
-ghost use Rattle.audit_json.specs.Json.{known_json, line_json, list_json, number_json, rows_json, sanitized_json};
-ghost use Rattle.audit_json.specs.Json.{text_json, value_json, verdict_json, warning_json, word_json};
+ghost use Rattle.audit_json.specs.Json.{fault_json, known_json, line_json, list_json, number_json, rows_json, sanitized_json};
+ghost use Rattle.audit_json.specs.Json.{text_json, value_json, warning_json, word_json};
 ghost use Rattle.audit_core.specs.{Findings.finding_value, Rows.membership_word};
 ghost use Rattle.robots_warnings.specs.File.{lines_of};
 
@@ -16,6 +16,7 @@ use audit_core::rows::{comment_of, has_value, kind_text, membership_word, push_v
 use audit_core::sitemaps::sitemaps_of;
 use audit_core::texts::may_fetch;
 use printable_text::sanitize::push_sanitized;
+use rfc9309_laws::conformance::Conformance;
 use robots_warnings::warning::{Warning, push_warning_text};
 use serde_json::{Value, json};
 use std::alloc::{AllocError, Global};
@@ -86,12 +87,6 @@ fn group_word(group: Group) -> &'static str
     }
 }
 
-fn verdicts_json(alloc: Global, verdicts: &[Verdict<'_>]) -> Result<Value, AllocError>
-    ensures { IfOk result (λ value. view value ≡ list_json verdict_json verdicts.now) }
-{
-    list_json(alloc, verdicts)
-}
-
 fn word_json(alloc: Global, word: Option<&str>) -> Result<Value, AllocError>
     ensures { IfOk result (λ value. view value ≡ word_json (option_map (λ word. word.now) word.entry)) }
 {
@@ -127,7 +122,7 @@ impl<'a> Json for AgentAudit<'a> {
             "may_fetch": word_json(alloc, may_fetch(self.rejected, self.reach))?,
             "rejected": line_number(self.rejected),
             "rules": self.rules,
-            "verdicts": verdicts_json(alloc, &self.verdicts)?,
+            "verdicts": list_json(alloc, &self.verdicts)?,
         })
     }
 }
@@ -245,16 +240,28 @@ fn known_json(is_known: bool) -> Value
     }
 }
 
+/// The line that keeps a file from the grammar, or else from verdicts that are the standard's.
+fn fault_json(syntax: Conformance) -> Value
+    ensures { view result ≡ fault_json syntax }
+{
+    match syntax {
+        Conformance::OtherLine(line) | Conformance::Syntax(line) => line_number(Some(line)),
+        Conformance::OtherFile | Conformance::Verdicts => Value::Null,
+    }
+}
+
 fn audit_json(alloc: Global, has_rows: bool, audit: &Audit<'_>) -> Result<Value, AllocError>
     ensures { IfOk result (λ value. view value ≡ audit_json has_rows audit.now) }
 {
     let syntax = known_json(audit.syntax.has_syntax());
     let verdicts = known_json(audit.syntax.has_verdicts());
+    let line = fault_json(audit.syntax);
     json!(in alloc; {
         "agents": agents_json(alloc, &audit.agents)?,
         "has_rfc_9309_syntax": syntax,
         "has_rfc_9309_verdicts": verdicts,
         "lines": rows_json(alloc, has_rows, &audit.labels)?,
+        "rfc_9309_line": line,
         "sitemaps": sitemaps_json(alloc, &audit.labels)?,
         "warnings": warnings_json(alloc, &audit.warnings)?,
     })
