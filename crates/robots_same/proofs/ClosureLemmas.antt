@@ -4,7 +4,6 @@ use Rattle.std.proofs.Common.{List, [], ◌∷◌, ◌++◌}
 use Rattle.std.proofs.Common.{All, Contains, add-one, ap, arith, drop, get_or, length, refl, subst, sym}
 use Rattle.std.proofs.Common.{◌∙◌, ◌≤◌}
 use Rattle.std.proofs.Math.{ListN.drop_of_length-le, Seq.drop-cons}
-use Rattle.std.specs.Bool.{Decides}
 use Rattle.std.proofs.lemmas.Bool.{cases_Bool, false≢true}
 use Rattle.std.proofs.lemmas.Bool.Decides.{Decides-eqb, not_from_Decides}
 use Rattle.std.proofs.lemmas.List.{Elements.All-contains, append-nil}

@@ -1,9 +1,8 @@
 -- What one more item does to a side, and a step by a byte.
-use Rattle.std.proofs.Common.{◌≡◌, ◌≢◌, inl, inr, ℕ, zero, suc, ◌+◌, ◌<◌, ◌≤◌, cond, Bool, true, false}
-use Rattle.std.proofs.Common.{◌||◌}
-use Rattle.std.proofs.Common.{List, [], ◌∷◌, ◌++◌, Contains, append_assoc, drop, take, get_or, length}
-use Rattle.std.proofs.Common.{refl, sym, ap, ◌∙◌, add-one, arith}
-use Rattle.std.proofs.{Math.Seq.drop-cons, lemmas.List.take_all, lemmas.List.take_more}
+use Rattle.std.proofs.Common.{◌≡◌, ℕ, zero, suc, ◌+◌, ◌<◌, ◌≤◌, cond, Bool, true, false}
+use Rattle.std.proofs.Common.{List, [], ◌∷◌, ◌++◌, Contains, append_assoc, take, get_or, length}
+use Rattle.std.proofs.Common.{refl, sym, ap, ◌∙◌, arith}
+use Rattle.std.proofs.{lemmas.List.take_all, lemmas.List.take_more}
 use Rattle.texting_robots.specs.{Rules.Rule}
 use Rattle.texting_robots.proofs.Shared.{matches}
 use Rattle.robots_same.specs.Internal.{Adds, AreAlike, IsAfter, StateValue, last_kind, verdict}

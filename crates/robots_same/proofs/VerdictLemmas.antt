@@ -1,12 +1,11 @@
 -- The last matching rule decides, if the rules are in ascending order.
-use Rattle.std.proofs.Common.{◌≡◌, ◌≢◌, ◌⊎◌, inl, inr, ℕ, zero, suc, ◌+◌, ◌-◌, ◌<◌, ◌≤◌, cond, Bool, true}
-use Rattle.std.proofs.Common.{false, ◌==◌, ◌&&◌, ◌||◌}
+use Rattle.std.proofs.Common.{◌≡◌, ◌≢◌, ◌⊎◌, inl, inr, ℕ, suc, ◌+◌, ◌-◌, ◌<◌, ◌≤◌, Bool, true}
+use Rattle.std.proofs.Common.{false, ◌==◌, ◌&&◌}
 use Rattle.std.proofs.Common.{List, [], ◌∷◌, ◌++◌, All, Contains, IsPermutation, get_or, not, length, refl}
 use Rattle.std.proofs.Common.{sym, ap, subst, ◌∙◌, arith, add-one}
-use Rattle.std.specs.Bool.{Decides}
 use Rattle.std.proofs.lemmas.Bool.{cases_Bool, cases_lt, false≢true}
 use Rattle.std.proofs.lemmas.List.{get_or_default}
-use Rattle.std.proofs.lemmas.Bool.Decides.{Decides-eqb, nat_tests, not_from_Decides}
+use Rattle.std.proofs.lemmas.Bool.Decides.{Decides-eqb, not_from_Decides}
 use Rattle.std.proofs.lemmas.List.Elements.{All-cons, All-contains, All-nil}
 use Rattle.std.proofs.{lemmas.List.Sorted.IsPermutation-sym}
 use Rattle.texting_robots.specs.{Pattern.Matches, Pattern.dollar, Pattern.star, Rules.Rule}
@@ -16,7 +15,7 @@ use Rattle.texting_robots.proofs.Shared.{one_verdict, order_changes_nothing}
 use Rattle.robots_same.specs.declared.pool.Entry.{Entry}
 use Rattle.robots_same.specs.declared.compare.Comparison.{Comparison}
 use Rattle.robots_same.specs.declared.compare.Comparison.TheVariants.{Differ, Same, Undecided}
-use Rattle.robots_same.specs.Same.{DifferOn, HaveSameVerdicts, IsComparison}
+use Rattle.robots_same.specs.Same.{HaveSameVerdicts, IsComparison}
 use Rattle.robots_same.specs.Internal.{AgreeFrom, AreAscending, Decide, IsAnswer, IsSameOn, chosen}
 use Rattle.robots_same.specs.Internal.{last_kind, rank_of, robots_rule}
 use Rattle.robots_same.proofs.SideLemmas.{last_kind_append}

@@ -162,7 +162,7 @@ fn compare_twice(
     ensures { IfOk result (IsAnswer front.now pool.now) }
 {
     let copy = refined(alloc, pool, 0, b"", 0)?;
-    let mut left = budget / 2;
+    let mut left = budget / 8;
     let first = compare_pool(alloc, copy, front, &mut left)?;
     match first {
         Comparison::Undecided => {}

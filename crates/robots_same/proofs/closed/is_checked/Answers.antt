@@ -1,6 +1,6 @@
 use Rattle.std.proofs.Common.{Contains, rules}
 use Rattle.std.specs.{List.All}
-use Rattle.robots_same.specs.Internal.{AreAlike, IsFollowed}
+use Rattle.robots_same.specs.Internal.{IsFollowed}
 use Rattle.robots_same.proofs.closed.is_checked.Goals as goal
 use Rattle.robots_same.proofs.ClosureLemmas.{all_followed}
 
