@@ -204,7 +204,7 @@ def test_null_is_reported_where_it_is_forbidden(tmp_path):
     needs(CC, "-xc")
     header = re.sub(r"/\*.*?\*/", "", (LIBRARY / "robots.h").read_text(), flags=re.S)
     calls = re.findall(r"\b(robots_\w+)\(([^)]*)\)\s+ROBOTS_NONNULL\(([\d, ]+)\)", header)
-    assert len(calls) >= 18
+    assert len(calls) >= 17
     for name, parameters, numbers in calls:
         pointers = [number for number, it in enumerate(parameters.split(","), 1) if "*" in it]
         outputs = {number for number in pointers if re.search(r"\*(robot|site|result|microseconds|len)$", parameters.split(",")[number - 1].strip())}
@@ -237,7 +237,7 @@ using Robot = std::shared_ptr<const robots_robot>;
 static Robot opened(const std::string &agent, const std::string &file) {
     robots_robot *robot = nullptr;
     return Robot(robots_open(agent.data(), agent.size(), file.data(), file.size(), &robot, nullptr) == ROBOTS_OK ? robot : nullptr,
-                 [robot](const robots_robot *) { robots_close(robot); });
+                 [](const robots_robot *it) { robots_close(const_cast<robots_robot *>(it)); });
 }
 }
 int main() {

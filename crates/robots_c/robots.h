@@ -180,10 +180,10 @@ ROBOTS_CHECK int32_t robots_site_open(const void *file, size_t file_len, robots_
 ROBOTS_CHECK int32_t robots_site_robot(const robots_site *site, const char *agent, size_t agent_len, robots_robot **robot,
                                        size_t *line) ROBOTS_NONNULL(1, 4);
 
-/* Writes the results of many crawlers for many URLs: a row for each crawler and in it a result for each URL, so that the result of
- * crawler i for URL j is results[i * URLs + j], counted from 0. `agents` and `urls` have one '\n' between one item and the next, as in
- * robots_query_many. The results are those of the crawlers' robots; but in the row of a crawler with a rule that is too long each is
- * ROBOTS_NO_RESULT, which robots_may_fetch doesn't allow. If there are more results than `results_len`, the status is
+/* Writes the results of many crawlers for many URLs: a row for each crawler and in it a result for each URL, so
+ * that the result of crawler i for URL j is results[i * URLs + j], counted from 0. `agents` and `urls` have one '\n' between one item and
+ * the next, as in robots_query_many. The results are those of the crawlers' robots; but in the row of a crawler with a rule that is too
+ * long each is ROBOTS_NO_RESULT, which robots_may_fetch doesn't allow. If there are more results than `results_len`, the status is
  * ROBOTS_BUFFER_TOO_SMALL. All crawlers that the file doesn't name cost little more than one. */
 ROBOTS_CHECK int32_t robots_site_matrix(const robots_site *site, const char *agents, size_t agents_len, const char *urls,
                                         size_t urls_len, int64_t *results, size_t results_len) ROBOTS_NONNULL(1);

@@ -194,7 +194,7 @@ def test_agents_that_are_not_named_share_the_group_of_all():
     for agent in ["", "*", "OtherBot", "Ferris", "bötbot"]:
         assert robots.verdicts(["/all", "/ferris"], agent) == [Verdict(False, 2), Verdict(True, None)]
     assert robots.verdicts(["/all", "/ferris"], "FERRISBOT") == [Verdict(True, None), Verdict(False, 4)]
-    kept = robots._site.robots
+    kept = {agent: robot._opened for agent, robot in robots._site.robots.items()}
     assert kept[""] == kept["OtherBot"] == kept["Ferris"] != kept["FERRISBOT"]
 
 

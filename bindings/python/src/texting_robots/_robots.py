@@ -131,7 +131,12 @@ class Robot:
 
     def allowed(self, url: str) -> bool:
         """Whether the crawler may fetch the URL."""
-        return self._result(url) >= 0
+        try:
+            text = str.encode(url)
+        except TypeError:
+            raise _wrong("url", url) from None
+        result = _query(self._opened, text, len(text))
+        return result >= 0 or (result <= _LAST_FAILURE and self._fails(result))
 
     def verdict(self, url: str) -> Verdict:
         """Whether the crawler may fetch the URL, and the line that decides it."""
@@ -211,14 +216,15 @@ class Robot:
 
     def _result(self, url: str) -> int:
         """0 or the line that allows the URL, or minus the line that denies it."""
-        try:
-            text = str.encode(url)
-        except TypeError:
-            raise _wrong("url", url) from None
+        text = _encoded(url, "url")
         result = _query(self._opened, text, len(text))
         if result <= _LAST_FAILURE:
-            _check(_NO_RESULT - result, self._opened)
+            self._fails(result)
         return result
+
+    def _fails(self, result: int) -> bool:
+        _check(_NO_RESULT - result, self._opened)
+        return False
 
 
 class Robots:
