@@ -34,7 +34,7 @@ literals =
     (codes "/path/file-with-a-%2A.html")
     × HaveForm (codes "/path/foo-%24") (codes "/path/foo-$") (codes "/path/foo-%24")
 
--- ---- where this library matches otherwise: each condition is needed
+-- ---- where this library matches otherwise
 
 -- the standard's rule matches the URI, and this library's doesn't
 pub record OnlyByStandard (stays : Reading) (path uri : List ℕ) : Type 0 where
