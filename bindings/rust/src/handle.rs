@@ -109,9 +109,8 @@ impl Robot {
 
     pub(crate) fn query_within(&self, url: &str, budget: u64) -> Result<i64, Error> {
         let mut result = 0;
-        let status = unsafe {
-            sys::robots_query_within(self.0.as_ptr(), url.as_ptr().cast(), url.len(), budget, &mut result)
-        };
+        let status =
+            unsafe { sys::robots_query_within(self.0.as_ptr(), url.as_ptr().cast(), url.len(), budget, &mut result) };
         check(status, 0)?;
         Ok(result)
     }

@@ -12,17 +12,21 @@ fn main() {
     if env::var_os("DOCS_RS").is_some() {
         return;
     }
-    let [arch, os, abi] = ["ARCH", "OS", "ENV"].map(|it| env::var(format!("CARGO_CFG_TARGET_{it}")).unwrap_or_default());
+    let [arch, os, abi] =
+        ["ARCH", "OS", "ENV"].map(|it| env::var(format!("CARGO_CFG_TARGET_{it}")).unwrap_or_default());
     if os != "linux" || abi != "gnu" || !["x86_64", "aarch64"].contains(&&*arch) {
         return warn(&format!("there is no C library robots_c for {os} on {arch}, only for Linux with the GNU C library on x86_64 and aarch64"));
     }
     let packed = Path::new(&env::var_os("CARGO_MANIFEST_DIR").unwrap()).join(format!("c/{arch}/librobots_c.a"));
-    let archive = match env::var_os("ROBOTS_C") {
-        Some(installed) => Path::new(&installed).join("lib/librobots_c.a"),
-        None if packed.is_file() => packed,
-        None if arch == "x86_64" => from_repository(),
-        None => return warn("for aarch64, set ROBOTS_C to the absolute PREFIX of `make install` in bindings/c of the repository"),
-    };
+    let archive =
+        match env::var_os("ROBOTS_C") {
+            Some(installed) => Path::new(&installed).join("lib/librobots_c.a"),
+            None if packed.is_file() => packed,
+            None if arch == "x86_64" => from_repository(),
+            None => return warn(
+                "for aarch64, set ROBOTS_C to the absolute PREFIX of `make install` in bindings/c of the repository",
+            ),
+        };
     if !archive.is_file() {
         fail(&format!(
             "{} is missing: ROBOTS_C is the absolute PREFIX of `make install` in bindings/c, run without LIBDIR",

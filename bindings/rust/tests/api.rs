@@ -75,7 +75,9 @@ fn bytes_of_memory() {
     let file = ["User-agent: *\n", &"Disallow: /a\n".repeat(60), &"Sitemap: /s\n".repeat(99)].concat();
     // a rule takes 74 bytes, and the bytes of a file are kept once
     let (site, robot) = (Site::new(file.as_bytes()).unwrap(), robot("FerrisBot", &file));
-    assert!((60 * 74..60 * 74 + 400).contains(&robot.bytes()) && robot.bytes() == site.robot("FerrisBot").unwrap().bytes());
+    assert!(
+        (60 * 74..60 * 74 + 400).contains(&robot.bytes()) && robot.bytes() == site.robot("FerrisBot").unwrap().bytes()
+    );
     let comment = "#".repeat(1000);
     assert_eq!(Site::new(comment.as_bytes()).unwrap().bytes(), Site::allow_all().unwrap().bytes() + 1000);
 }

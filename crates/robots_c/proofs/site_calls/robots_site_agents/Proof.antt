@@ -29,8 +29,8 @@ robots_site_agents_spec 𝓤 𝓛 𝓜 𝓡 wired =
           m.sets ! (m.addr ! (m.from ! (m.fld ! refl (m.hop ! (m.look_in_at ! 3 (m.sub ! 0 refl (m.whole !)))
           (m.stop !))))) refl (tt, tt) $
           m.sets ! (m.agg ! (m.and_then ! (m.get ! refl) (m.and_then ! (m.get_in ! (m.fld ! refl (m.stop !))
-          (m.sub ! 1 refl (m.whole !))) (m.no_more !)))) refl (tt, (tt, (record { fits = are.1.1.0.0.1.0 },
-          tt))) $
+          (m.sub ! 1 refl (m.whole !))) (m.no_more !)))) refl
+          (tt, (tt, (record { fits = are.1.1.0.0.1.0 }, tt))) $
           m.sets ! (m.again ! refl) refl (tt, tt) $
           m.hands_on 𝓛 𝓜 𝓡 ! given (m.arg ! refl (m.arg ! refl (m.arg ! refl (m.arg ! refl (m.no_more !)))))
           (λ v r good. m.lands_as ! refl refl good $
