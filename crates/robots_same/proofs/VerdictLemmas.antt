@@ -10,8 +10,7 @@ use Rattle.std.proofs.lemmas.List.Elements.{All-cons, All-contains, All-nil}
 use Rattle.std.proofs.{lemmas.List.Sorted.IsPermutation-sym}
 use Rattle.texting_robots.specs.{Pattern.Matches, Pattern.dollar, Pattern.star, Rules.Rule}
 use Rattle.texting_robots.specs.Verdict.{IsDenied, IsVerdict, robots_file}
-use Rattle.texting_robots.proofs.Shared.{matches, matches_decides}
-use Rattle.texting_robots.proofs.Shared.{one_verdict, order_changes_nothing}
+use Rattle.texting_robots.proofs.Shared.{matches, matches_decides, one_verdict, order_changes_nothing}
 use Rattle.robots_same.specs.declared.pool.Entry.{Entry}
 use Rattle.robots_same.specs.declared.compare.Comparison.{Comparison}
 use Rattle.robots_same.specs.declared.compare.Comparison.TheVariants.{Differ, Same, Undecided}
