@@ -19,8 +19,8 @@ use texting_robots::site::Site;
 pub enum Comparison {
     /// They have the same verdict on every text that begins with `front`.
     Same,
-    /// They have opposite verdicts on this text, which begins with `front`. It is a match target, not a URL, and
-    /// may not be UTF-8.
+    /// They have opposite verdicts on this text, which begins with `front`. It is a match target, not a URL,
+    /// and may not be UTF-8.
     Differ(Vec<u8>),
     /// Neither was found within the budget.
     Undecided,
@@ -172,8 +172,8 @@ fn compare_twice(
     Ok(second)
 }
 
-/// Compares them on the texts that begin with `front`: `/` for paths, or nothing for all texts. The budget is a
-/// rough bound of the search, in rules that are moved on by a byte; a check afterwards takes as long again.
+/// Compares them on the texts that begin with `front`: `/` for paths, or nothing for all texts. The budget is
+/// a rough bound of the search, in rules that are moved on by a byte; a check afterwards takes as long again.
 pub fn compare<'a>(
     alloc: Global,
     front: &[u8],
@@ -196,10 +196,10 @@ pub fn compare<'a>(
     Ok(answer)
 }
 
-/// Compares the verdicts of two files for one crawler, on all match targets that begin with `/`. Only the bytes
-/// that each site has read count, and only rules that are UTF-8. Whether a file is rejected for the crawler,
-/// delays, sitemaps and deciding lines aren't compared: call `Site::robot` for the first. `/robots.txt` is always
-/// allowed.
+/// Compares the verdicts of two files for one crawler, on all match targets that begin with `/`. Only the
+/// bytes that each site has read count, and only rules that are UTF-8. Whether a file is rejected for the
+/// crawler, delays, sitemaps and deciding lines aren't compared: call `Site::robot` for the first.
+/// `/robots.txt` is always allowed.
 pub fn compare_sites(
     alloc: Global,
     old: &Site,
