@@ -152,8 +152,23 @@ fn merged<'a>(
     Ok(pool)
 }
 
-/// First with all rules of each list at once, and if that is undecided, by way of both lists together.
-fn compare_twice(
+/// If more rules are in one list alone, steps come first.
+const FEW: usize = 5;
+
+fn are_few(pool: &[Entry<'_>]) -> bool {
+    let mut left = FEW;
+    for entry in pool {
+        if entry.old != entry.new {
+            if left == 0 {
+                return false;
+            }
+            left -= 1;
+        }
+    }
+    true
+}
+
+fn compare_at_once(
     alloc: Global,
     pool: &[Entry<'_>],
     front: &[u8],
@@ -162,13 +177,36 @@ fn compare_twice(
     ensures { IfOk result (IsAnswer front.now pool.now) }
 {
     let copy = refined(alloc, pool, 0, b"", 0)?;
-    let mut left = budget / 8;
-    let first = compare_pool(alloc, copy, front, &mut left)?;
+    let mut left = budget;
+    let answer = compare_pool(alloc, copy, front, &mut left)?;
+    Ok(answer)
+}
+
+/// With all rules of each list at once, and if that is undecided, by way of both lists together; or in the
+/// other order.
+fn compare_twice(
+    alloc: Global,
+    pool: &[Entry<'_>],
+    front: &[u8],
+    budget: usize,
+) -> Result<Comparison, AllocError>
+    ensures { IfOk result (IsAnswer front.now pool.now) }
+{
+    if are_few(pool) {
+        let first = compare_at_once(alloc, pool, front, budget / 2)?;
+        match first {
+            Comparison::Undecided => {}
+            answer => return Ok(answer),
+        }
+        let second = compare_by_steps(alloc, pool, front, budget / 2)?;
+        return Ok(second);
+    }
+    let first = compare_by_steps(alloc, pool, front, budget / 2)?;
     match first {
         Comparison::Undecided => {}
         answer => return Ok(answer),
     }
-    let second = compare_by_steps(alloc, pool, front, budget / 2)?;
+    let second = compare_at_once(alloc, pool, front, budget / 2)?;
     Ok(second)
 }
 
